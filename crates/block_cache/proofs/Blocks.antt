@@ -17,8 +17,8 @@ use Rattle.vm_file.specs.declared.member.Member.{Member}
 use Rattle.block_cache.specs.State.{residents_without}
 use Rattle.block_cache.specs.Frames.{frame_of, residents, overlay, frames_without, IsFrameOf, AreFramesOf}
 use Rattle.block_cache.specs.declared.frame.Frame.{Frame}
-use Rattle.block_cache.proofs.Overlay.{cover, heap_by, get-overlay, overlay_map, same_document, cover_by, body_by}
-use Rattle.block_cache.proofs.Seats.{residents-remove}
+use Rattle.block_cache.proofs.DocumentUnderFrames.{cover, heap_by, get-overlay, overlay_map, same_document, cover_by, body_by}
+use Rattle.block_cache.proofs.OrderOfUse.{residents-remove}
 
 -- a block that isn't in memory is put into the file
 module _ (es : List (ℕ × Frame)) (d : Document) (h : ℕ) (b : Block) (away : frame_of es h ≡ None) where

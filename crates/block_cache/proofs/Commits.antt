@@ -14,7 +14,7 @@ use Rattle.vm_file.proofs.PassingLemmas.{KeepsCommitted-fails, SameUnlessCorrupt
 use Rattle.vm_file.proofs.ResultLemmas.{either_way, any_way}
 use Rattle.block_cache.specs.Frames.{overlay, with_frames, AreFramesOf, KeepsOverlay}
 use Rattle.block_cache.specs.declared.frame.Frame.{Frame}
-use Rattle.block_cache.proofs.Overlay.{kept_drifts, overlay_drifts}
+use Rattle.block_cache.proofs.DocumentUnderFrames.{kept_drifts, overlay_drifts}
 
 module _ {S : Type 0} (facts : S → StoreFacts) where
   -- a file that has committed, or not, with the same frames over it

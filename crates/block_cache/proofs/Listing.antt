@@ -10,7 +10,7 @@ use Rattle.geos_model.specs.Document.{Block, Document, next_handle, vm_handles}
 use Rattle.geos_model.specs.Reply.{found}
 use Rattle.block_cache.specs.Frames.{frame_of, overlay, AreFramesOf}
 use Rattle.block_cache.specs.declared.frame.Frame.{Frame}
-use Rattle.block_cache.proofs.Overlay.{cover, block_by, get-overlay, overlay_live, attributes_by}
+use Rattle.block_cache.proofs.DocumentUnderFrames.{cover, block_by, get-overlay, overlay_live, attributes_by}
 
 -- a handle with its user ID
 abbrev name : ℕ × Block → ℕ × ℕ

@@ -17,7 +17,7 @@ use Rattle.lru.specs.LruCache.{promoted}
 use Rattle.block_cache.specs.State.{ResidentBlock, is_resident, is_locked, locks_of, locked_count, all_locked, victim, evicted, KeepsLocks}
 use Rattle.block_cache.specs.Frames.{frame_of, residents, IsFrameOf, AreFramesOf}
 use Rattle.block_cache.specs.declared.frame.Frame.{Frame}
-use Rattle.block_cache.proofs.Seats.{lookup-residents, fewer_locked}
+use Rattle.block_cache.proofs.OrderOfUse.{lookup-residents, fewer_locked}
 
 pub keys-residents : (es : List (ℕ × Frame)) → keys_of (residents es) ≡ keys_of es
 keys-residents [] = refl

@@ -8,8 +8,8 @@ use Rattle.vm_file.proofs.PassingLemmas.{SameUnlessCorrupt-trans}
 use Rattle.block_cache.specs.State.{Marks}
 use Rattle.block_cache.specs.Frames.{overlay, AreClean, KeepsOverlay}
 use Rattle.block_cache.specs.declared.frame.Frame.{Frame}
-use Rattle.block_cache.proofs.Overlay.{bare}
-use Rattle.block_cache.proofs.Steps.{state}
+use Rattle.block_cache.proofs.DocumentUnderFrames.{bare}
+use Rattle.block_cache.proofs.CallAfterCall.{state}
 
 -- where no document is marked, none is after calls that commit nothing
 pub none_marked : (honest : Bool) (old new : Option Document) → old ≡ None → MarkSameUnlessCorrupt honest old new → new ≡ None

@@ -14,8 +14,8 @@ use Rattle.vm_file.proofs.PassingLemmas.{KeepsCommitted-refl, KeepsCommitted-tra
 use Rattle.block_cache.specs.SavingAs.{IsSavedAs, IsNotSavedAs}
 use Rattle.block_cache.specs.Frames.{overlay, with_frames, is_changed_in, AreFramesOf, KeepsOverlay}
 use Rattle.block_cache.specs.declared.frame.Frame.{Frame}
-use Rattle.block_cache.proofs.Steps.{moves_live}
-use Rattle.block_cache.proofs.Overlay.{kept_drifts, overlay_drifts, overlay_live, clean_overlay}
+use Rattle.block_cache.proofs.CallAfterCall.{moves_live}
+use Rattle.block_cache.proofs.DocumentUnderFrames.{kept_drifts, overlay_drifts, overlay_live, clean_overlay}
 
 -- what is less honest
 

@@ -11,7 +11,7 @@ use Rattle.block_cache.specs.Bodies.{body_value}
 use Rattle.block_cache.specs.Frames.{frame_of, overlay, IsFrameOf, AreFramesOf}
 use Rattle.block_cache.specs.declared.body.BlockBody.{BlockBody}
 use Rattle.block_cache.specs.declared.frame.Frame.{Frame}
-use Rattle.block_cache.proofs.Overlay.{cover, attributes_by, heap_by, heap_body, get-overlay, overlay_map, same_document, block_by, body_by, cover_by}
+use Rattle.block_cache.proofs.DocumentUnderFrames.{cover, attributes_by, heap_by, heap_body, get-overlay, overlay_map, same_document, block_by, body_by, cover_by}
 
 -- another map block
 

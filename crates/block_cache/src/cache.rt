@@ -428,7 +428,7 @@ impl<S: Store> Cache<S> {
     }
 
     /// Makes the target a file of its own of the document as it is now, and goes on in that, with the same blocks in memory. The
-    /// file so far goes back to its saved document, and its store comes back. Where it is refused the file stays, and the target
+    /// old file goes back to its saved document, and its store comes back. Where it is refused the file stays, and the target
     /// comes back, with any bytes; nothing is committed then, but where the store of the old file fails. Worn, before anything
     /// is written; Damaged where what is read is no image, which an honest store never gives; Memory, File.
     pub fn save_as(&mut self, target: S) -> Result<S, Refused<S>>

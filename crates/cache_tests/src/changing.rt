@@ -85,7 +85,7 @@ fn go_on(alloc: Global, cache: &mut Cache<Fused>) -> Result<Fused, Mismatch> {
     Ok(so_far)
 }
 
-// The file so far and the other file.
+// The old file and the other file.
 fn both_files(alloc: Global) -> Result<(Fused, Fused), Mismatch> {
     let mut cache = created(alloc, fused(alloc, u64::MAX), 1).map_err(Mismatch::NoCache)?;
     let so_far = go_on(alloc, &mut cache);

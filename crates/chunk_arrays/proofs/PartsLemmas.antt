@@ -15,6 +15,15 @@ use Rattle.geos_model.proofs.Arrays.{joined, same_bytes-is, same_bytes-refl, len
 use Rattle.chunk_arrays.specs.Parts.{AreBytes, place_at, IsPlaceTable, HasElements, HasParts}
 use Rattle.chunk_arrays.proofs.CutLemmas.{word_at-lt, rejoin, word_rejoin, words_rejoin, word_in_words, length-cut_at, length-cut_evenly, even-cut_evenly, joined-cut_evenly, cut_from, places-cut, joined-cut, length-cut_at_le, place-next, place-le}
 
+-- places that rise
+pub rising_le : (g : ℕ → ℕ) (n i d : ℕ) → ((k : ℕ) → k + 1 < n → g k ≤ g (k + 1)) → i + d < n → g i ≤ g (i + d)
+rising_le g n i zero rising l = let same : i + 0 ≡ i = omega arith in subst (λ (k : ℕ). g i ≤ g k) (sym same) (omega arith)
+rising_le g n i (suc d) rising l =
+    let next : i + suc d ≡ i + d + 1 = omega arith in
+    let one = rising (i + d) (omega arith) in
+    let rest = rising_le g n i d rising (omega arith) in
+    subst (λ (k : ℕ). g i ≤ g k) (sym next) (omega (arith, one, rest))
+
 module _ (bytes : List ℕ) where
   -- the numbers of the header
   abbrev count_of : ℕ

@@ -17,5 +17,9 @@ elements_of (Some e) = bytes_of e ∷ []
 abbrev pub extra_after : Array → List ℕ → List ℕ
 extra_after a first = first ++ drop (length first) a.extra
 
+-- the elements with that one, or none, in the place of some
+abbrev pub elements_after : Array → ℕ → ℕ → Option NewElement → List (List ℕ)
+elements_after a from to new = splice a.elements from to (elements_of new)
+
 abbrev pub rewritten : Array → List ℕ → ℕ → ℕ → Option NewElement → Array
-rewritten a extra from to new = record a { extra = extra; elements = splice a.elements from to (elements_of new) }
+rewritten a extra from to new = record a { extra = extra; elements = elements_after a from to new }

@@ -1,12 +1,12 @@
 //! The patch that leaves an array with other extra bytes, and with an element or none in the place of some.
 ghost use Rattle.std.specs.Prelude.{◌≡◌, ◌≤◌, ◌<◌, ◌+◌, ◌-◌, ◌*◌, ◌^◌, ◌++◌, [], true, IsSome, MatchResult, IfOk, length, take, drop, min, ◌==◌, if◌then◌else◌};
-ghost use Rattle.std.specs.List.{splice, flat_map};
+ghost use Rattle.std.specs.List.{flat_map};
 ghost use Rattle.geos_model.specs.Words.{word};
 ghost use Rattle.geos_model.specs.Array.{array_bytes, array_start, is_even, place_table};
 ghost use Rattle.geos_model.specs.Heap.{longest_chunk};
 ghost use Rattle.chunk_arrays.specs.Drafting.{Adds};
 ghost use Rattle.chunk_arrays.specs.Reading.{element_place, words_from};
-ghost use Rattle.chunk_arrays.specs.Rewriting.{elements_of, extra_after, rewritten};
+ghost use Rattle.chunk_arrays.specs.Rewriting.{elements_after, elements_of, extra_after, rewritten};
 ghost use Rattle.chunk_arrays.specs.Replacing.{Replaces, RefusesToReplace};
 
 use crate::View;
@@ -80,7 +80,7 @@ fn length_after(view: &View<'_>, from: usize, to: usize, new: Option<NewElement<
 fn count_after(view: &View<'_>, from: usize, to: usize, new: Option<NewElement<'_>>) -> usize
     requires order { from ≤ to }
     requires within { to ≤ length view.now.array.elements }
-    ensures { result ≡ min (length (splice view.now.array.elements from to (elements_of new.entry))) (2 ^ 64 - 1) }
+    ensures { result ≡ min (length (elements_after view.now.array from to new.entry)) (2 ^ 64 - 1) }
 {
     let left = from + (view.count() - to);
     match new {
@@ -226,13 +226,13 @@ fn draft_elements(
     // Which elements go, and what comes.
     requires order { from ≤ to }
     requires within { to ≤ length view.now.array.elements }
-    requires short { length (flat_map (λ x. x) (splice view.now.array.elements from to (elements_of new))) ≤ longest_chunk }
+    requires short { length (flat_map (λ x. x) (elements_after view.now.array from to new)) ≤ longest_chunk }
     // What the draft has room for.
     requires room { draft.old.kept + longest_chunk < 2 ^ 32 }
     // What the elements become.
     ensures { IfOk result
         (λ _. Adds draft.old draft.new (flat_map (λ x. x) view.now.array.elements)
-        (flat_map (λ x. x) (splice view.now.array.elements from to (elements_of new.entry)))) }
+        (flat_map (λ x. x) (elements_after view.now.array from to new.entry))) }
 {
     draft.keep(view.run(0, from));
     let bytes = new_bytes(alloc, new)?;

@@ -107,12 +107,13 @@ fn has_table(bytes: &[u8], count: usize, start: usize) -> bool
     }
     for i in 1..count {
         let next = word(bytes, start + 2 * i);
-        if next < last || len < next {
+        if next < last {
             return false;
         }
         last = next;
     }
-    true
+    // none of the others is greater
+    last <= len
 }
 
 impl<'a> View<'a> {
@@ -174,8 +175,22 @@ impl<'a> View<'a> {
         &self.bytes[self.start + 2 * from..self.start + 2 * to]
     }
 
-    /// Where an element begins, or where the last one ends. A table of places gives only places that words can hold.
-    pub(crate) fn place(&self, i: usize) -> usize
+    /// The bytes of an element that begins at this place, and where the next one begins, or where the last one ends. A walk
+    /// over the elements looks each place up but once.
+    pub fn element_from(&self, i: usize, place: usize) -> (&'a [u8], usize)
+        requires within { i < length self.now.array.elements }
+        requires place { place ≡ element_place self.now.array i }
+        ensures bytes { result.0.now ≡ get_or self.now.array.elements i [] }
+        ensures next { result.1 ≡ element_place self.now.array (i + 1) }
+    {
+        let next = self.place(i + 1);
+        let bytes = &self.bytes[place..next];
+        (bytes, next)
+    }
+
+    /// Where an element begins among the array's bytes, or where the last one ends. A table of places gives only places that
+    /// words can hold.
+    pub fn place(&self, i: usize) -> usize
         requires { i ≤ length self.now.array.elements }
         ensures place { result ≡ element_place self.now.array i }
         ensures near { self.now.array.size ≡ 0 → i < length self.now.array.elements → result < 2 ^ 16 }

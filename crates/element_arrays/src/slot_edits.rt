@@ -64,12 +64,7 @@ impl<'a> SlotView<'a> {
 
     /// The patch that brings a new element of one reference and these bytes, in two parts, and its token: the newest free
     /// one, else the next. Full where the array would be longer than any chunk.
-    pub fn with_new(
-        &self,
-        alloc: Global,
-        head: &[u8],
-        tail: &[u8],
-    ) -> Result<(Patch, Token), Fault>
+    pub fn with_new(&self, alloc: Global, head: &[u8], tail: &[u8]) -> Result<(Patch, Token), Fault>
         requires { is_missized self.now.slots.size (head.now ++ tail.now) ≡ false }
         ensures { MatchResult result
             (λ made. GivesSlots self.now (with_new self.now.slots (head.now ++ tail.now)).0 made.0 ×

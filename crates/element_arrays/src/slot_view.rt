@@ -1,11 +1,12 @@
 //! The slots of an element array or a name array, read where they lie.
-ghost use Rattle.std.specs.Prelude.{◌≡◌, ◌==◌, ◌≤◌, ◌+◌, None, Some, [], true, false, is_some, MatchOption, MatchResult, count_by, length, drop, get_or};
+ghost use Rattle.std.specs.Prelude.{◌≡◌, ◌==◌, ◌≤◌, ◌<◌, ◌+◌, None, Some, [], true, false, is_some, MatchOption, MatchResult, count_by, length, drop, get_or};
 ghost use Rattle.std.specs.List.{list_all};
 ghost use Rattle.std.specs.Option.{option_map};
 ghost use Rattle.geos_model.specs.Bytes.{same_bytes};
 ghost use Rattle.geos_model.specs.Words.{word_at};
-ghost use Rattle.geos_model.specs.ElementArray.{slots_of, slots_read, element_at, is_sound};
+ghost use Rattle.geos_model.specs.ElementArray.{slots_of, slots_read, slot_read, element_at, is_sound};
 ghost use Rattle.geos_model.specs.ElementEdits.{token_of};
+ghost use Rattle.chunk_arrays.specs.Reading.{element_place};
 ghost use Rattle.element_arrays.specs.Slotted.{slotted_array, slotted_bytes};
 ghost use Rattle.element_arrays.specs.Tested.{is_freed, is_freed_at, is_slot, is_walk};
 ghost use Rattle.element_arrays.specs.Used.{used_element};
@@ -93,8 +94,10 @@ fn count_free(view: &View<'_>, size: usize) -> Option<usize>
         (free ≡ count_by is_freed view.now.array.elements)) }
 {
     let mut free = 0;
+    let mut place = view.place(0);
     for i in 0..view.count() {
-        let bytes = view.element(i);
+        let (bytes, next) = view.element_from(i, place);
+        place = next;
         if !is_slot(bytes, size) {
             return None;
         }
@@ -203,14 +206,26 @@ impl<'a> SlotView<'a> {
         if self.view.count() <= i {
             return None;
         }
-        let bytes = self.view.element(i);
-        if bytes[2] == FREE {
-            return None;
-        }
-        Some(Used {
-            count: LittleEndian::read_u24(bytes),
-            bytes: &bytes[3..],
-        })
+        used_in(self.view.element(i))
+    }
+
+    /// The element of a token that begins at this place, if it is used, and where the next one begins, or where the last one
+    /// ends. A walk over the tokens looks each place up but once.
+    pub fn element_from(&self, token: Token, place: usize) -> (Option<Used<'a>>, usize)
+        requires within { token.0 < length self.now.slots.slots }
+        requires place { place ≡ element_place (slotted_array self.now) token.0 }
+        ensures used { option_map used_element result.0 ≡ element_at self.now.slots token.0 }
+        ensures next { result.1 ≡ element_place (slotted_array self.now) (token.0 + 1) }
+    {
+        let (bytes, next) = self.view.element_from(usize::from(token.0), place);
+        (used_in(bytes), next)
+    }
+
+    /// Where the element of the first token begins among the array's bytes, or where they end without tokens.
+    pub fn first_place(&self) -> usize
+        ensures { result ≡ element_place (slotted_array self.now) 0 }
+    {
+        self.view.place(0)
     }
 
     /// The lowest token whose element has these bytes behind its first `skip` ones.
@@ -218,9 +233,12 @@ impl<'a> SlotView<'a> {
         ensures { option_map (λ t. t.0) result ≡
             token_of (λ e. same_bytes (drop skip e.bytes) bytes.now) self.now.slots }
     {
+        let mut place = self.first_place();
         for t in 0..self.len() {
-            if let Some(used) = self.element(Token(t))
-                && behind(used.bytes, skip) == bytes
+            let (element, next) = self.element_from(Token(t), place);
+            place = next;
+            if let Some(used) = element
+                && are_same(behind(used.bytes, skip), bytes)
             {
                 return Some(Token(t));
             }
@@ -234,4 +252,33 @@ fn behind(bytes: &[u8], skip: usize) -> &[u8]
     ensures { result.now ≡ drop skip bytes.now }
 {
     &bytes[skip.min(bytes.len())..]
+}
+
+/// The used element in the bytes of a slot.
+fn used_in(bytes: &[u8]) -> Option<Used<'_>>
+    requires { 3 ≤ length bytes.now }
+    ensures { option_map used_element result ≡ slot_read bytes.now }
+{
+    if bytes[2] == FREE {
+        return None;
+    }
+    Some(Used {
+        count: LittleEndian::read_u24(bytes),
+        bytes: &bytes[3..],
+    })
+}
+
+/// Whether these are the same bytes. Of most that aren't, the length or the last byte is another: so it is with numbered
+/// names.
+fn are_same(bytes: &[u8], others: &[u8]) -> bool
+    ensures { result ≡ same_bytes bytes.now others.now }
+{
+    let len = bytes.len();
+    if len != others.len() {
+        return false;
+    }
+    if len > 0 && bytes[len - 1] != others[len - 1] {
+        return false;
+    }
+    bytes == others
 }

@@ -1,13 +1,14 @@
 -- Rows of the script's table: what is made of the words behind a name is what they mean.
-use Rattle.std.proofs.Common.{◌≡◌, ◌∙◌, ap, sym, subst, refl, ℕ, Bool, true, false, List, ◌∷◌, drop, map, Bor, Option, Some, None, Result, Ok, Err, inl, inr, if◌then◌else◌}
-use Rattle.std.specs.Prelude.{unwrap_or, IsSomeAnd, IsTrue, ◌⊎◌}
-use Rattle.geos_model.specs.Script.{by_name, bytes, commands_by_name, same_bytes, with_none, with_1, with_2, with_3, with_4}
+use Rattle.std.proofs.Common.{◌≡◌, ◌∙◌, ap, sym, subst, refl, ℕ, Bool, true, false, List, [], ◌∷◌, drop, map, Bor, Option, Some, None, Result, Ok, Err, inl, inr, if◌then◌else◌}
+use Rattle.std.specs.Prelude.{unwrap_or, IsTrue}
+use Rattle.std.specs.Option.{option_and_then, option_map}
+use Rattle.geos_model.specs.Script.{by_name, commands_by_name, operand, same_bytes, with_none, with_1, with_2, with_3, with_4}
 use Rattle.geos_model.proofs.Arrays.{same_bytes-is}
 use Rattle.geos_model.specs.declared.command.Command.{Command}
 use Rattle.geos_model.specs.declared.fault.Fault.{Fault}
 use Rattle.geos_model.specs.declared.fault.Fault.TheVariants as faults
-use Rattle.geos_shell.specs.Making.{MakesCommand, ReadsRows, Makes0, Makes1, Makes2, Makes3, Makes4, Keeps1, Keeps2, Keeps3, named_from}
-use Rattle.geos_shell.specs.Reading.{FailsToRead, ReadsAs, command_has_bytes, has_bytes}
+use Rattle.geos_shell.specs.Making.{Makes, MakesCommand, ReadsRows, named_from, nothing, operand_then}
+use Rattle.geos_shell.specs.Reading.{ReadsAs, command_has_bytes}
 
 -- the row with the name
 pub at_row : {R : Type 0} (from : ℕ) (name text : List ℕ) (operands : List (List ℕ)) (as_command : R → Command) (meant : Option Command) (result : Result R Fault)
@@ -26,70 +27,69 @@ unfolding named_from
 passed from to name text operands f is other =
     ap (by_name name operands) is ∙ ap (λ b. if b then f operands else by_name name operands (drop to commands_by_name)) (sym other)
 
--- of bytes for which there is no memory
-lacks : (o : Option Command) (fault : Fault) (c : Command) (b : Bool) → fault ≡ faults.Memory → o ≡ Some c → IsTrue b → b ≡ command_has_bytes c → FailsToRead command_has_bytes o fault
-lacks o fault c b memory is kept same =
-    inr (memory, subst (λ x. IsSomeAnd x (λ y. IsTrue (command_has_bytes y))) (sym is) (subst IsTrue same kept))
+-- what is made of what words spell is what they mean
+made : {T R : Type 0} (is_kept : T → Bool) (made_by : T → R → Type 0) (as_command : R → Command) (to : T → Command) (spelled : Option T) (result : Result R Fault)
+    → Makes is_kept made_by spelled result → ((t : T) (x : R) → made_by t x → as_command x ≡ to t) → ((t : T) → is_kept t ≡ command_has_bytes (to t))
+    → MakesCommand as_command (option_map to spelled) result
+made is_kept made_by as_command to None (Ok x) m same has = absurd m
+made is_kept made_by as_command to (Some t) (Ok x) m same has = ap Some (sym (same t x m))
+made is_kept made_by as_command to None (Err fault) (inl bad) same has = inl (bad.0, refl)
+made is_kept made_by as_command to None (Err fault) (inr memory) same has = absurd (memory.1)
+made is_kept made_by as_command to (Some t) (Err fault) (inl bad) same has = cc (bad.1)
+made is_kept made_by as_command to (Some t) (Err fault) (inr memory) same has = inr (memory.0, subst IsTrue (has t) memory.1)
 
--- what is made of so many words is what they mean
-pub made_0 : {R : Type 0} (made : R) (as_command : R → Command) (ws : List (Bor (List ℕ))) (result : Result R Fault) → Makes0 made (map (λ w. w.now) ws) result
-    → MakesCommand as_command (with_none (as_command made) (map (λ w. w.now) ws)) result
-made_0 made as_command ws (Ok x) m = let t = m (as_command made) in t.0 ∙ ap (λ y. Some (as_command y)) (sym t.1)
-made_0 made as_command ws (Err fault) m = inl (m (as_command made))
+-- what no word means
+nothing_is : (to : Unit {0} → Command) (ws : List (List ℕ)) → with_none (to tt) ws ≡ option_map to (nothing ws)
+nothing_is to [] = refl
+nothing_is to (w ∷ ws) = refl
 
-pub made_1 : {A R : Type 0} (p : List ℕ → Option A) (made : A → R → Type 0) (as_command : R → Command) (to : A → Command) (ws : List (Bor (List ℕ))) (result : Result R Fault)
-    → Makes1 p made (map (λ w. w.now) ws) result → ((a : A) (x : R) → made a x → as_command x ≡ to a)
+-- what an operand and those behind it mean
+operand_is : {A T : Type 0} (p : List ℕ → Option A) (f : A → List (List ℕ) → Option Command) (others : List (List ℕ) → Option T) (to : A × T → Command)
+    → ((a : A) (ws : List (List ℕ)) → f a ws ≡ option_map (λ t. to (a, t)) (others ws)) → (ws : List (List ℕ)) → operand p f ws ≡ option_map to (operand_then p others ws)
+operand_is p f others to each [] = refl
+operand_is {A} {T} p f others to each (w ∷ ws) = read (p w)
+  where
+    mapped : (a : A) (o : Option T) → option_map (λ t. to (a, t)) o ≡ option_map to (option_map (λ t. (a, t)) o)
+    mapped a None = refl
+    mapped a (Some t) = refl
+
+    read : (o : Option A) → option_and_then (λ a. f a ws) o ≡ option_map to (option_and_then (λ a. option_map (λ t. (a, t)) (others ws)) o)
+    read None = refl
+    read (Some a) = each a ws ∙ mapped a (others ws)
+
+pub made_0 : {R : Type 0} (made_by : Unit {0} → R → Type 0) (as_command : R → Command) (to : Command) (ws : List (Bor (List ℕ))) (result : Result R Fault)
+    → Makes (λ _. false) made_by (nothing (map (λ w. w.now) ws)) result → ((x : R) → made_by tt x → as_command x ≡ to) → false ≡ command_has_bytes to
+    → MakesCommand as_command (with_none to (map (λ w. w.now) ws)) result
+made_0 made_by as_command to ws result m same has =
+    rw (nothing_is (λ _. to) (map (λ w. w.now) ws)) (made (λ _. false) made_by as_command (λ _. to) _ result m (λ t. same) (λ t. has))
+
+pub made_1 : {A R : Type 0} (p : List ℕ → Option A) (is_kept : A × Unit {0} → Bool) (made_by : A × Unit {0} → R → Type 0) (as_command : R → Command) (to : A → Command) (ws : List (Bor (List ℕ))) (result : Result R Fault)
+    → Makes is_kept made_by (operand_then p nothing (map (λ w. w.now) ws)) result → ((a : A) (x : R) → made_by (a, tt) x → as_command x ≡ to a) → ((a : A) → is_kept (a, tt) ≡ command_has_bytes (to a))
     → MakesCommand as_command (with_1 p to (map (λ w. w.now) ws)) result
-made_1 p made as_command to ws (Ok x) m same = let t = m to in t.1 ∙ ap Some (sym (same t.0 x t.2))
-made_1 p made as_command to ws (Err fault) m same = inl (m to)
+made_1 p is_kept made_by as_command to ws result m same has =
+    let means = operand_is p (λ a. with_none (to a)) nothing (λ t. to t.0) (λ a. nothing_is (λ _. to a)) (map (λ w. w.now) ws) in
+    rw means (made is_kept made_by as_command (λ t. to t.0) _ result m (λ t. same t.0) (λ t. has t.0))
 
-pub made_2 : {A B R : Type 0} (p : List ℕ → Option A) (q : List ℕ → Option B) (made : A → B → R → Type 0) (as_command : R → Command) (to : A → B → Command) (ws : List (Bor (List ℕ))) (result : Result R Fault)
-    → Makes2 p q made (map (λ w. w.now) ws) result → ((a : A) (b : B) (x : R) → made a b x → as_command x ≡ to a b)
+pub made_2 : {A B R : Type 0} (p : List ℕ → Option A) (q : List ℕ → Option B) (is_kept : A × (B × Unit {0}) → Bool) (made_by : A × (B × Unit {0}) → R → Type 0) (as_command : R → Command) (to : A → B → Command) (ws : List (Bor (List ℕ))) (result : Result R Fault)
+    → Makes is_kept made_by (operand_then p (operand_then q nothing) (map (λ w. w.now) ws)) result → ((a : A) (b : B) (x : R) → made_by (a, (b, tt)) x → as_command x ≡ to a b) → ((a : A) (b : B) → is_kept (a, (b, tt)) ≡ command_has_bytes (to a b))
     → MakesCommand as_command (with_2 p q to (map (λ w. w.now) ws)) result
-made_2 p q made as_command to ws (Ok x) m same = let t = m to in t.2 ∙ ap Some (sym (same t.0 t.1 x t.3))
-made_2 p q made as_command to ws (Err fault) m same = inl (m to)
+made_2 p q is_kept made_by as_command to ws result m same has =
+    let means = operand_is p (λ a. with_1 q (to a)) (operand_then q nothing) (λ t. to t.0 t.1.0) (λ a. operand_is q (λ b. with_none (to a b)) nothing (λ t. to a t.0) (λ b. nothing_is (λ _. to a b))) (map (λ w. w.now) ws) in
+    rw means (made is_kept made_by as_command (λ t. to t.0 t.1.0) _ result m (λ t. same t.0 t.1.0) (λ t. has t.0 t.1.0))
 
-pub made_3 : {A B C R : Type 0} (p : List ℕ → Option A) (q : List ℕ → Option B) (r : List ℕ → Option C) (made : A → B → C → R → Type 0) (as_command : R → Command) (to : A → B → C → Command) (ws : List (Bor (List ℕ))) (result : Result R Fault)
-    → Makes3 p q r made (map (λ w. w.now) ws) result → ((a : A) (b : B) (c : C) (x : R) → made a b c x → as_command x ≡ to a b c)
+pub made_3 : {A B C R : Type 0} (p : List ℕ → Option A) (q : List ℕ → Option B) (r : List ℕ → Option C) (is_kept : A × (B × (C × Unit {0})) → Bool) (made_by : A × (B × (C × Unit {0})) → R → Type 0) (as_command : R → Command) (to : A → B → C → Command) (ws : List (Bor (List ℕ))) (result : Result R Fault)
+    → Makes is_kept made_by (operand_then p (operand_then q (operand_then r nothing)) (map (λ w. w.now) ws)) result → ((a : A) (b : B) (c : C) (x : R) → made_by (a, (b, (c, tt))) x → as_command x ≡ to a b c) → ((a : A) (b : B) (c : C) → is_kept (a, (b, (c, tt))) ≡ command_has_bytes (to a b c))
     → MakesCommand as_command (with_3 p q r to (map (λ w. w.now) ws)) result
-made_3 p q r made as_command to ws (Ok x) m same = let t = m to in t.3 ∙ ap Some (sym (same t.0 t.1 t.2 x t.4))
-made_3 p q r made as_command to ws (Err fault) m same = inl (m to)
+made_3 p q r is_kept made_by as_command to ws result m same has =
+    let means = operand_is p (λ a. with_2 q r (to a)) (operand_then q (operand_then r nothing)) (λ t. to t.0 t.1.0 t.1.1.0) (λ a. operand_is q (λ b. with_1 r (to a b)) (operand_then r nothing) (λ t. to a t.0 t.1.0) (λ b. operand_is r (λ c. with_none (to a b c)) nothing (λ t. to a b t.0) (λ c. nothing_is (λ _. to a b c)))) (map (λ w. w.now) ws) in
+    rw means (made is_kept made_by as_command (λ t. to t.0 t.1.0 t.1.1.0) _ result m (λ t. same t.0 t.1.0 t.1.1.0) (λ t. has t.0 t.1.0 t.1.1.0))
 
-pub made_4 : {A B C D R : Type 0} (p : List ℕ → Option A) (q : List ℕ → Option B) (r : List ℕ → Option C) (s : List ℕ → Option D) (made : A → B → C → D → R → Type 0) (as_command : R → Command) (to : A → B → C → D → Command) (ws : List (Bor (List ℕ))) (result : Result R Fault)
-    → Makes4 p q r s made (map (λ w. w.now) ws) result → ((a : A) (b : B) (c : C) (d : D) (x : R) → made a b c d x → as_command x ≡ to a b c d)
+pub made_4 : {A B C D R : Type 0} (p : List ℕ → Option A) (q : List ℕ → Option B) (r : List ℕ → Option C) (s : List ℕ → Option D) (is_kept : A × (B × (C × (D × Unit {0}))) → Bool) (made_by : A × (B × (C × (D × Unit {0}))) → R → Type 0) (as_command : R → Command) (to : A → B → C → D → Command) (ws : List (Bor (List ℕ))) (result : Result R Fault)
+    → Makes is_kept made_by (operand_then p (operand_then q (operand_then r (operand_then s nothing))) (map (λ w. w.now) ws)) result → ((a : A) (b : B) (c : C) (d : D) (x : R) → made_by (a, (b, (c, (d, tt)))) x → as_command x ≡ to a b c d) → ((a : A) (b : B) (c : C) (d : D) → is_kept (a, (b, (c, (d, tt)))) ≡ command_has_bytes (to a b c d))
     → MakesCommand as_command (with_4 p q r s to (map (λ w. w.now) ws)) result
-made_4 p q r s made as_command to ws (Ok x) m same = let t = m to in t.4 ∙ ap Some (sym (same t.0 t.1 t.2 t.3 x t.5))
-made_4 p q r s made as_command to ws (Err fault) m same = inl (m to)
-
-pub kept_1 : {A R : Type 0} (p : List ℕ → Option A) (made : A → List ℕ → R → Type 0) (as_command : R → Command) (to : A → List ℕ → Command) (ws : List (Bor (List ℕ))) (result : Result R Fault)
-    → Keeps1 p made (map (λ w. w.now) ws) result → ((a : A) (bs : List ℕ) (x : R) → made a bs x → as_command x ≡ to a bs)
-    → ((a : A) (bs : List ℕ) → has_bytes bs ≡ command_has_bytes (to a bs))
-    → MakesCommand as_command (with_2 p bytes to (map (λ w. w.now) ws)) result
-kept_1 p made as_command to ws (Ok x) m same has = let t = m to in t.2 ∙ ap Some (sym (same t.0 t.1 x t.3))
-kept_1 p made as_command to ws (Err fault) m same has = elim (m to) [
-  | inl bad ↦ inl bad
-  | inr t ↦ lacks _ fault (to t.1 t.2) (has_bytes t.2) t.0 t.3 t.4 (has t.1 t.2)
-]
-
-pub kept_2 : {A B R : Type 0} (p : List ℕ → Option A) (q : List ℕ → Option B) (made : A → B → List ℕ → R → Type 0) (as_command : R → Command) (to : A → B → List ℕ → Command) (ws : List (Bor (List ℕ))) (result : Result R Fault)
-    → Keeps2 p q made (map (λ w. w.now) ws) result → ((a : A) (b : B) (bs : List ℕ) (x : R) → made a b bs x → as_command x ≡ to a b bs)
-    → ((a : A) (b : B) (bs : List ℕ) → has_bytes bs ≡ command_has_bytes (to a b bs))
-    → MakesCommand as_command (with_3 p q bytes to (map (λ w. w.now) ws)) result
-kept_2 p q made as_command to ws (Ok x) m same has = let t = m to in t.3 ∙ ap Some (sym (same t.0 t.1 t.2 x t.4))
-kept_2 p q made as_command to ws (Err fault) m same has = elim (m to) [
-  | inl bad ↦ inl bad
-  | inr t ↦ lacks _ fault (to t.1 t.2 t.3) (has_bytes t.3) t.0 t.4 t.5 (has t.1 t.2 t.3)
-]
-
-pub kept_3 : {A B C R : Type 0} (p : List ℕ → Option A) (q : List ℕ → Option B) (r : List ℕ → Option C) (made : A → B → C → List ℕ → R → Type 0) (as_command : R → Command) (to : A → B → C → List ℕ → Command) (ws : List (Bor (List ℕ))) (result : Result R Fault)
-    → Keeps3 p q r made (map (λ w. w.now) ws) result → ((a : A) (b : B) (c : C) (bs : List ℕ) (x : R) → made a b c bs x → as_command x ≡ to a b c bs)
-    → ((a : A) (b : B) (c : C) (bs : List ℕ) → has_bytes bs ≡ command_has_bytes (to a b c bs))
-    → MakesCommand as_command (with_4 p q r bytes to (map (λ w. w.now) ws)) result
-kept_3 p q r made as_command to ws (Ok x) m same has = let t = m to in t.4 ∙ ap Some (sym (same t.0 t.1 t.2 t.3 x t.5))
-kept_3 p q r made as_command to ws (Err fault) m same has = elim (m to) [
-  | inl bad ↦ inl bad
-  | inr t ↦ lacks _ fault (to t.1 t.2 t.3 t.4) (has_bytes t.4) t.0 t.5 t.6 (has t.1 t.2 t.3 t.4)
-]
+made_4 p q r s is_kept made_by as_command to ws result m same has =
+    let means = operand_is p (λ a. with_3 q r s (to a)) (operand_then q (operand_then r (operand_then s nothing))) (λ t. to t.0 t.1.0 t.1.1.0 t.1.1.1.0) (λ a. operand_is q (λ b. with_2 r s (to a b)) (operand_then r (operand_then s nothing)) (λ t. to a t.0 t.1.0 t.1.1.0) (λ b. operand_is r (λ c. with_1 s (to a b c)) (operand_then s nothing) (λ t. to a b t.0 t.1.0) (λ c. operand_is s (λ d. with_none (to a b c d)) nothing (λ t. to a b c t.0) (λ d. nothing_is (λ _. to a b c d))))) (map (λ w. w.now) ws) in
+    rw means (made is_kept made_by as_command (λ t. to t.0 t.1.0 t.1.1.0 t.1.1.1.0) _ result m (λ t. same t.0 t.1.0 t.1.1.0 t.1.1.1.0) (λ t. has t.0 t.1.0 t.1.1.0 t.1.1.1.0))
 
 -- behind the last row there is none
 pub last_rows : (name : List ℕ) (operands : List (List ℕ)) (found : Option (Result Command Fault)) (result : Result Command Fault) → ReadsRows (λ c. c) 42 70 name operands found

@@ -4,6 +4,7 @@
 mod answering;
 mod command_line;
 mod files;
+mod hex_text;
 mod host_files;
 mod operands;
 mod outcome;

@@ -1,13 +1,11 @@
 //! What a word spells, where an operand of some kind is wanted.
-ghost use Rattle.std.specs.Prelude.{◌≡◌, is_some, ok_or, List, ℕ, Option};
-ghost use Rattle.std.specs.List.{list_all};
-ghost use Rattle.hex.specs.Hex.{is_hex_digit};
+ghost use Rattle.std.specs.Prelude.{◌≡◌, Bool, false, is_some, ok_or, List, ℕ, Option};
 ghost use Rattle.geos_model.specs.Script as script;
 ghost use Rattle.geos_model.specs.declared.fault.Fault.TheVariants as faults;
 ghost use Rattle.geos_shell.specs.Reading.{ReadsAs, has_bytes};
 
+use crate::hex_text::{are_digits, byte_of, decode_into};
 use geos_model::{Bytes, ChunkHandle, Fault, Token, VmHandle};
-use hex::FromHex;
 use std::alloc::Global;
 
 /// What a word may spell.
@@ -52,10 +50,12 @@ impl Operand for u16 {
 fn handle(word: &[u8]) -> Result<u16, Fault>
     ensures { result ≡ ok_or (script.handle word.now) faults.BadCommand }
 {
-    match <[u8; 2]>::from_hex(word) {
-        Ok(bytes) => Ok(u16::from_be_bytes(bytes)),
-        Err(_) => Err(Fault::BadCommand),
+    if word.len() != 4 || !are_digits(word) {
+        return Err(Fault::BadCommand);
     }
+    let high = byte_of(word[0], word[1]);
+    let low = byte_of(word[2], word[3]);
+    Ok(256 * u16::from(high) + u16::from(low))
 }
 
 impl Operand for VmHandle {
@@ -97,12 +97,6 @@ impl Operand for bool {
     }
 }
 
-fn are_digits(word: &[u8]) -> bool
-    ensures { result ≡ list_all is_hex_digit word.now }
-{
-    word.iter().all(|digit| digit.is_ascii_hexdigit())
-}
-
 /// Whether a word spells bytes, which is told without memory.
 pub(crate) fn spells_bytes(word: &[u8]) -> bool
     ensures { result ≡ is_some (script.bytes word.now) }
@@ -110,18 +104,41 @@ pub(crate) fn spells_bytes(word: &[u8]) -> bool
     word == b"-".as_slice() || (!word.is_empty() && word.len() % 2 == 0 && are_digits(word))
 }
 
+/// What the last word of a command may spell: for it there may be no memory.
+pub(crate) trait LastOperand: Drop {
+    ghost spelled_last: { List ℕ → Option Self };
+
+    ghost is_kept: { Self → Bool };
+
+    fn read_last(alloc: Global, word: &[u8]) -> Result<Self, Fault>
+        ensures { ReadsAs is_kept (spelled_last word.now) result };
+}
+
+impl<T: Operand> LastOperand for T {
+    ghost spelled_last = { T.spelled };
+
+    ghost is_kept = { λ _. false };
+
+    fn read_last(_alloc: Global, word: &[u8]) -> Result<T, Fault> {
+        T::read(word)
+    }
+}
+
 /// Bytes in hexadecimal digits, or a dash for none.
-pub(crate) fn bytes(alloc: Global, word: &[u8]) -> Result<Bytes, Fault>
-    ensures { ReadsAs has_bytes (script.bytes word.now) result }
-{
-    if !spells_bytes(word) {
-        return Err(Fault::BadCommand);
-    }
-    if word == b"-".as_slice() {
-        return Ok(Bytes::from_vec(Vec::new(alloc)));
-    }
-    match hex::decode(alloc, word) {
-        Ok(items) => Ok(Bytes::from_vec(items)),
-        Err(_) => Err(Fault::Memory),
+impl LastOperand for Bytes {
+    ghost spelled_last = { script.bytes };
+
+    ghost is_kept = { has_bytes };
+
+    fn read_last(alloc: Global, word: &[u8]) -> Result<Bytes, Fault> {
+        if !spells_bytes(word) {
+            return Err(Fault::BadCommand);
+        }
+        if word == b"-".as_slice() {
+            return Ok(Bytes::from_vec(Vec::new(alloc)));
+        }
+        let mut items = vec![in alloc; 0; word.len() / 2]?;
+        decode_into(word, items.as_mut_slice());
+        Ok(Bytes::from_vec(items))
     }
 }

@@ -1,17 +1,13 @@
 //! A line of a script as a command: its words, the first of which is a name.
-ghost use Rattle.std.specs.Prelude.{◌≡◌, ◌⊎◌, ◌↔◌, None, Some, IfOk, IfErr, IsSomeAnd, IsTrue, List, ℕ, map, take};
+ghost use Rattle.std.specs.Prelude.{◌≡◌, ◌⊎◌, ◌↔◌, ◌<◌, ◌≤◌, None, Some, IfOk, IfErr, IsSomeAnd, IsTrue, List, ℕ, length, map, not, slice_index, take};
 ghost use Rattle.geos_model.specs.Script.{command};
 ghost use Rattle.geos_model.specs.Script as script;
 ghost use Rattle.geos_shell.specs.Reading.{ReadsAs, command_has_bytes};
 
 use crate::verbs::command_of;
 use arrayvec::ArrayVec;
-use bstr::ByteSlice;
 use geos_model::{Command, Fault};
 use std::alloc::Global;
-
-/// The bytes that part the words of a line.
-const BLANKS: &[u8; 3] = b" \t\r";
 
 /// A line of more bytes is no command.
 const LONGEST_LINE: usize = 140_000;
@@ -47,20 +43,37 @@ fn command_of_words(alloc: Global, first: &[&[u8]]) -> Result<Command, Fault>
     command_of(alloc, name, operands)
 }
 
+/// How many bytes at the front are blanks, or how many are none.
+#[inline(always)]
+fn run_of(blank: bool, text: &[u8]) -> usize
+    ensures within { result ≤ length text.now }
+    ensures before { (k : ℕ) → k < result → script.is_blank (slice_index text.now k) ≡ blank }
+    ensures ends { result < length text.now → script.is_blank (slice_index text.now result) ≡ not blank }
+{
+    text.iter()
+        .position(|byte| is_blank(*byte) != blank)
+        .unwrap_or(text.len())
+}
+
+/// Whether a byte parts the words of a line.
+#[inline(always)]
+fn is_blank(byte: u8) -> bool
+    ensures { result ≡ script.is_blank byte }
+{
+    byte == b' ' || byte == b'\t' || byte == b'\r'
+}
+
 /// The first of the longest runs of bytes that aren't blanks, at most so many.
 fn first_words<'a>(line: &'a [u8]) -> ArrayVec<&'a [u8], MOST_WORDS>
     ensures { map (λ w. w.now) result.items ≡ take MOST_WORDS (script.words line.now) }
 {
     let mut words = ArrayVec::new();
-    let mut rest = line;
-    while let Some(start) = rest.find_not_byteset(BLANKS) {
-        if words.is_full() {
-            return words;
-        }
-        let tail = &rest[start..];
-        let end = tail.find_byteset(BLANKS).unwrap_or(tail.len());
-        words.push(&tail[..end]);
-        rest = &tail[end..];
+    let mut rest = &line[run_of(true, line)..];
+    while !rest.is_empty() && !words.is_full() {
+        let end = run_of(false, rest);
+        words.push(&rest[..end]);
+        let tail = &rest[end..];
+        rest = &tail[run_of(true, tail)..];
     }
     words
 }

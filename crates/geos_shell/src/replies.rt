@@ -15,9 +15,9 @@ use vm_store::Store;
 
 // Puts the reply behind `out` that the row of what is asked makes. Each row does so itself, since the session may have lent it bytes.
 macro_rules! push_reply_to {
-    ($alloc:expr, $out:expr, $asked:expr; $($row:pat => $reply:expr),*; $other:pat => $rest:expr) => {
+    ($out:expr, $asked:expr; $($row:pat => $reply:expr),*; $other:pat => $rest:expr) => {
         match $asked {
-            $($row => push_reply($alloc, $out, $reply),)*
+            $($row => push_reply($out, $reply),)*
             $other => $rest,
         }
     };
@@ -25,7 +25,6 @@ macro_rules! push_reply_to {
 
 // Puts the reply to a look-up into a chunk behind `out`, without its line feed.
 fn push_chunk_look_up<S: Store>(
-    alloc: Global,
     session: &mut Session<S>,
     look_up: &Command,
     out: &mut Vec<u8>,
@@ -34,18 +33,14 @@ fn push_chunk_look_up<S: Store>(
     ensures told { Told result S.facts session.old look_up.now session.new out.old.items out.new.items }
     ensures err { OnErr result (Extends out.old.items out.new.items) }
 {
-    push_reply_to! { alloc, out, look_up;
+    push_reply_to! { out, look_up;
         Command::Read(block, chunk) => session.read_chunk(*block, *chunk).map(Reply::Bytes),
-        Command::ArrayCount(block, chunk) =>
-            session.array_count(*block, *chunk).map(|n| Reply::Number(n as u64)),
-        Command::ArrayElement(block, chunk, i) =>
-            session.array_element(*block, *chunk, *i).map(Reply::Bytes),
+        Command::ArrayCount(block, chunk) => session.array_count(*block, *chunk).map(|n| Reply::Number(n as u64)),
+        Command::ArrayElement(block, chunk, i) => session.array_element(*block, *chunk, *i).map(Reply::Bytes),
         Command::ElementReferences(block, chunk, token) =>
             session.element_refs(*block, *chunk, *token).map(|n| Reply::Number(u64::from(n))),
-        Command::ElementBytes(block, chunk, token) =>
-            session.element_bytes(*block, *chunk, *token).map(Reply::Bytes),
-        Command::ElementsUsed(block, chunk) =>
-            session.elements_used(*block, *chunk).map(|n| Reply::Number(n as u64)),
+        Command::ElementBytes(block, chunk, token) => session.element_bytes(*block, *chunk, *token).map(Reply::Bytes),
+        Command::ElementsUsed(block, chunk) => session.elements_used(*block, *chunk).map(|n| Reply::Number(n as u64)),
         Command::TokenOfUsed(block, chunk, k) =>
             session.token_of_used(*block, *chunk, *k).map(|token| Reply::Token(token)),
         Command::UsedOfToken(block, chunk, token) =>
@@ -54,17 +49,14 @@ fn push_chunk_look_up<S: Store>(
             session.name_find(*block, *chunk, name).map(|token| Reply::Token(token)),
         Command::NameReferences(block, chunk, token) =>
             session.name_refs(*block, *chunk, *token).map(|n| Reply::Number(u64::from(n))),
-        Command::NameText(block, chunk, token) =>
-            session.name_text(*block, *chunk, *token).map(Reply::Bytes),
-        Command::NamePart(block, chunk, token) =>
-            session.name_part(*block, *chunk, *token).map(Reply::Bytes);
+        Command::NameText(block, chunk, token) => session.name_text(*block, *chunk, *token).map(Reply::Bytes),
+        Command::NamePart(block, chunk, token) => session.name_part(*block, *chunk, *token).map(Reply::Bytes);
         _ => unreachable!()
     }
 }
 
 // Puts the reply to a look-up behind `out`, without its line feed.
 fn push_look_up<S: Store>(
-    alloc: Global,
     session: &mut Session<S>,
     look_up: &Command,
     out: &mut Vec<u8>,
@@ -74,23 +66,21 @@ fn push_look_up<S: Store>(
     ensures stays { asks_no_body look_up.now ≡ true → session.new ≡ session.old }
     ensures err { OnErr result (Extends out.old.items out.new.items) }
 {
-    push_reply_to! { alloc, out, look_up;
+    push_reply_to! { out, look_up;
         Command::Info(block) => session.info(*block).map(|info| Reply::Info(info)),
         Command::HeapType(block) => session.heap_type(*block).map(|n| Reply::Number(u64::from(n))),
         Command::List => session.list().map(|blocks| Reply::Blocks(blocks)),
-        Command::Find(user_id, start) =>
-            Ok(Reply::Block(session.find(*user_id, *start).unwrap_or(VmHandle(0)))),
+        Command::Find(user_id, start) => Ok(Reply::Block(session.find(*user_id, *start).unwrap_or(VmHandle(0)))),
         Command::MapBlock => Ok(Reply::Block(session.map_block())),
         Command::ReadRaw(block) => session.read_raw(*block).map(Reply::Bytes),
         Command::Chunks(block) => session.chunks(*block).map(|chunks| Reply::Chunks(chunks)),
         Command::Locks(block) => session.locks(*block).map(|n| Reply::Number(u64::from(n))),
         Command::Walk(root) => session.walk(*root).map(|blocks| Reply::Blocks(blocks)),
         Command::ChainSize(root) => session.chain_size(*root).map(|n| Reply::Number(u64::from(n))),
-        Command::ChainEqual(first, second) =>
-            session.chain_equal(*first, *second).map(|equal| Reply::Equal(equal)),
+        Command::ChainEqual(first, second) => session.chain_equal(*first, *second).map(|equal| Reply::Equal(equal)),
         Command::Undos => Ok(Reply::Number(session.undo_count() as u64)),
         Command::Redos => Ok(Reply::Number(session.redo_count() as u64));
-        chunk_look_up => push_chunk_look_up(alloc, session, chunk_look_up, out)
+        chunk_look_up => push_chunk_look_up(session, chunk_look_up, out)
     }
 }
 
@@ -127,21 +117,16 @@ fn save_as<S: Store>(
     }
 }
 
-fn push_accepted(
-    alloc: Global,
-    out: &mut Vec<u8>,
-    done: Result<(), Fault>,
-) -> Result<(), AllocError>
+fn push_accepted(out: &mut Vec<u8>, done: Result<(), Fault>) -> Result<(), AllocError>
     ensures ok { OnOk result (out.new.items ≡ out.old.items ++ reply_text (reply_by (λ _. Accepted) done)) }
     ensures err { OnErr result (Extends out.old.items out.new.items) }
 {
-    push_reply(alloc, out, done.map(|()| Reply::Accepted))
+    push_reply(out, done.map(|()| Reply::Accepted))
 }
 
 // Carries out a command that gets a reply, and puts the reply's text behind `out`. Where memory runs out, a part of it may stand
 // there.
 fn push_response<S: Store>(
-    alloc: Global,
     session: &mut Session<S>,
     target: &mut Option<S>,
     former: &mut Option<S>,
@@ -158,21 +143,21 @@ fn push_response<S: Store>(
     match command {
         Command::Edit(edit) => {
             let reply = session.edit(edit).map(|done| Reply::from(done));
-            push_reply(alloc, out, reply)
+            push_reply(out, reply)
         }
-        Command::Undo => push_accepted(alloc, out, session.undo()),
-        Command::Redo => push_accepted(alloc, out, session.redo()),
-        Command::Begin => push_accepted(alloc, out, session.begin()),
-        Command::End => push_accepted(alloc, out, session.end()),
-        Command::Abandon => push_accepted(alloc, out, session.abandon()),
-        Command::Update => push_accepted(alloc, out, session.update()),
-        Command::Save => push_accepted(alloc, out, session.save()),
-        Command::Revert => push_accepted(alloc, out, session.revert()),
-        Command::SaveAs => push_accepted(alloc, out, save_as(session, target, former)),
-        Command::Lock(block) => push_accepted(alloc, out, session.lock(*block)),
-        Command::Unlock(block) => push_accepted(alloc, out, session.unlock(*block)),
-        Command::Dirty(block) => push_accepted(alloc, out, session.dirty(*block)),
-        look_up => push_look_up(alloc, session, look_up, out),
+        Command::Undo => push_accepted(out, session.undo()),
+        Command::Redo => push_accepted(out, session.redo()),
+        Command::Begin => push_accepted(out, session.begin()),
+        Command::End => push_accepted(out, session.end()),
+        Command::Abandon => push_accepted(out, session.abandon()),
+        Command::Update => push_accepted(out, session.update()),
+        Command::Save => push_accepted(out, session.save()),
+        Command::Revert => push_accepted(out, session.revert()),
+        Command::SaveAs => push_accepted(out, save_as(session, target, former)),
+        Command::Lock(block) => push_accepted(out, session.lock(*block)),
+        Command::Unlock(block) => push_accepted(out, session.unlock(*block)),
+        Command::Dirty(block) => push_accepted(out, session.dirty(*block)),
+        look_up => push_look_up(session, look_up, out),
     }
 }
 
@@ -196,11 +181,11 @@ fn push_answer<S: Store>(
     match parse(alloc, line) {
         Ok(Command::Blank) => Ok(()),
         Ok(command) => {
-            push_response(alloc, session, target, former, &command, out)?;
+            push_response(session, target, former, &command, out)?;
             Ok(out.push(b'\n')?)
         }
         Err(Fault::BadCommand) => {
-            push_reply(alloc, out, Err(Fault::BadCommand))?;
+            push_reply(out, Err(Fault::BadCommand))?;
             Ok(out.push(b'\n')?)
         }
         // The line found no memory.

@@ -9,17 +9,19 @@ ghost use Rattle.geos_model.specs.Script.{four_digits, hex_text, listed, reply_t
 ghost use Rattle.geos_shell.specs.Replies.{Extends};
 
 use geos_model::{ChunkHandle, Fault, Info, Reply, VmHandle};
-use std::alloc::{AllocError, Global};
+use std::alloc::AllocError;
 
-fn push_number(alloc: Global, out: &mut Vec<u8>, number: u64) -> Result<(), AllocError>
-    ensures ok { OnOk result (out.new.items ≡ out.old.items ++ decimal number) }
+// A lead, and the digits.
+fn push_number(out: &mut Vec<u8>, lead: &[u8], number: u64) -> Result<(), AllocError>
+    ensures ok { OnOk result (out.new.items ≡ out.old.items ++ (lead.now ++ decimal number)) }
     ensures err { OnErr result (Extends out.old.items out.new.items) }
 {
-    let digits = number.to_string(alloc)?;
-    out.extend_from_slice(digits.as_bytes())
+    out.extend_from_slice(lead)?;
+    out.extend_from_slice(itoa::Buffer::new().format(number).as_bytes())
 }
 
-// A lead, and always four digits.
+// A lead, and always four digits. Inlined, since the lead is a text of a known length.
+#[inline(always)]
 fn push_handle(out: &mut Vec<u8>, lead: &[u8], handle: u16) -> Result<(), AllocError>
     ensures ok { OnOk result (out.new.items ≡ out.old.items ++ (lead.now ++ four_digits handle)) }
     ensures err { OnErr result (Extends out.old.items out.new.items) }
@@ -62,9 +64,10 @@ fn push_bytes(out: &mut Vec<u8>, bytes: &[u8]) -> Result<(), AllocError>
 }
 
 fn push_blocks(out: &mut Vec<u8>, blocks: &[VmHandle]) -> Result<(), AllocError>
-    ensures ok { OnOk result (out.new.items ≡ out.old.items ++ listed (map (λ h. h.0) blocks.now)) }
+    ensures ok { OnOk result (out.new.items ≡ out.old.items ++ (codes "blocks" ++ listed (map (λ h. h.0) blocks.now))) }
     ensures err { OnErr result (Extends out.old.items out.new.items) }
 {
+    out.extend_from_slice(b"blocks")?;
     for block in blocks {
         push_handle(out, b" ", block.0)?;
     }
@@ -72,16 +75,17 @@ fn push_blocks(out: &mut Vec<u8>, blocks: &[VmHandle]) -> Result<(), AllocError>
 }
 
 fn push_chunks(out: &mut Vec<u8>, chunks: &[ChunkHandle]) -> Result<(), AllocError>
-    ensures ok { OnOk result (out.new.items ≡ out.old.items ++ listed (map (λ h. h.0) chunks.now)) }
+    ensures ok { OnOk result (out.new.items ≡ out.old.items ++ (codes "chunks" ++ listed (map (λ h. h.0) chunks.now))) }
     ensures err { OnErr result (Extends out.old.items out.new.items) }
 {
+    out.extend_from_slice(b"chunks")?;
     for chunk in chunks {
         push_handle(out, b" ", chunk.0)?;
     }
     Ok(())
 }
 
-fn push_info(alloc: Global, out: &mut Vec<u8>, info: Info) -> Result<(), AllocError>
+fn push_info(out: &mut Vec<u8>, info: Info) -> Result<(), AllocError>
     ensures ok { OnOk result (out.new.items ≡ out.old.items ++ reply_text (info_is info)) }
     ensures err { OnErr result (Extends out.old.items out.new.items) }
 {
@@ -89,24 +93,21 @@ fn push_info(alloc: Global, out: &mut Vec<u8>, info: Info) -> Result<(), AllocEr
         Info::Raw(user_id, size) => (b"raw ".as_slice(), user_id, size),
         Info::Heap(user_id, size) => (b"heap ".as_slice(), user_id, size),
     };
-    out.extend_from_slice(name)?;
-    push_number(alloc, out, u64::from(user_id))?;
-    out.push(b' ')?;
-    push_number(alloc, out, u64::from(size))
+    push_number(out, name, u64::from(user_id))?;
+    push_number(out, b" ", u64::from(size))
 }
 
-fn push_refusal(alloc: Global, out: &mut Vec<u8>, fault: Fault) -> Result<(), AllocError>
+fn push_refusal(out: &mut Vec<u8>, fault: Fault) -> Result<(), AllocError>
     ensures ok { OnOk result (out.new.items ≡ out.old.items ++ reply_text (Refused fault)) }
     ensures err { OnErr result (Extends out.old.items out.new.items) }
 {
-    out.extend_from_slice(b"no ")?;
-    push_number(alloc, out, u64::from(fault.number()))?;
+    push_number(out, b"no ", u64::from(fault.number()))?;
     out.push(b' ')?;
     out.extend_from_slice(fault.name().as_bytes())
 }
 
 // What an accepted command answers.
-fn push_accepted(alloc: Global, out: &mut Vec<u8>, reply: Reply) -> Result<(), AllocError>
+fn push_accepted(out: &mut Vec<u8>, reply: Reply) -> Result<(), AllocError>
     ensures ok { OnOk result (out.new.items ≡ out.old.items ++ reply_text (reply_of reply.entry)) }
     ensures err { OnErr result (Extends out.old.items out.new.items) }
 {
@@ -115,35 +116,22 @@ fn push_accepted(alloc: Global, out: &mut Vec<u8>, reply: Reply) -> Result<(), A
         Reply::Block(block) => push_handle(out, b"block ", block.0),
         Reply::Chunk(chunk) => push_handle(out, b"chunk ", chunk.0),
         Reply::Token(token) => push_handle(out, b"token ", token.0),
-        Reply::Number(number) => {
-            out.extend_from_slice(b"number ")?;
-            push_number(alloc, out, number)
-        }
+        Reply::Number(number) => push_number(out, b"number ", number),
         Reply::Bytes(bytes) => push_bytes(out, bytes),
-        Reply::Blocks(blocks) => {
-            out.extend_from_slice(b"blocks")?;
-            push_blocks(out, &blocks)
-        }
-        Reply::Chunks(chunks) => {
-            out.extend_from_slice(b"chunks")?;
-            push_chunks(out, &chunks)
-        }
-        Reply::Info(info) => push_info(alloc, out, info),
+        Reply::Blocks(blocks) => push_blocks(out, &blocks),
+        Reply::Chunks(chunks) => push_chunks(out, &chunks),
+        Reply::Info(info) => push_info(out, info),
         Reply::Equal(true) => out.extend_from_slice(b"same"),
         Reply::Equal(false) => out.extend_from_slice(b"differ"),
     }
 }
 
-pub(crate) fn push_reply(
-    alloc: Global,
-    out: &mut Vec<u8>,
-    reply: Result<Reply, Fault>,
-) -> Result<(), AllocError>
+pub(crate) fn push_reply(out: &mut Vec<u8>, reply: Result<Reply, Fault>) -> Result<(), AllocError>
     ensures ok { OnOk result (out.new.items ≡ out.old.items ++ reply_text (reply_by reply_of reply.entry)) }
     ensures err { OnErr result (Extends out.old.items out.new.items) }
 {
     match reply {
-        Ok(reply) => push_accepted(alloc, out, reply),
-        Err(fault) => push_refusal(alloc, out, fault),
+        Ok(reply) => push_accepted(out, reply),
+        Err(fault) => push_refusal(out, fault),
     }
 }

@@ -6,9 +6,9 @@ ghost use Rattle.geos_model.specs.declared.command.Edit.TheVariants as edits;
 ghost use Rattle.geos_shell.specs.Making.{MakesCommand, ReadsRows, named_from};
 ghost use Rattle.geos_shell.specs.Reading.{ReadsAs, command_has_bytes};
 
-use crate::operands::{Operand, bytes, spells_bytes};
-use crate::shapes::{four, none, one, one_and_bytes, three, three_and_bytes, two, two_and_bytes};
-use geos_model::{ChunkHandle, Command, Edit, Fault, VmHandle};
+use crate::operands::{LastOperand, Operand, spells_bytes};
+use crate::shapes::{four, none, one, three, two};
+use geos_model::{Bytes, ChunkHandle, Command, Edit, Fault, VmHandle};
 use std::alloc::Global;
 
 /// The command that a name and its operands are.
@@ -34,6 +34,8 @@ macro_rules! row_of {
     };
 }
 
+// Inlined, so that a name costs a compare or two of its length and its first bytes.
+#[inline(always)]
 fn is(name: &[u8], text: &[u8]) -> bool
     ensures { result ≡ same_bytes name.now text.now }
 {
@@ -46,39 +48,39 @@ fn edit(alloc: Global, name: &[u8], words: &[&[u8]]) -> Option<Result<Edit, Faul
     ensures { ReadsRows commands.Edit 0 33 name.now (map (λ w. w.now) words.now) result }
 {
     row_of! { name;
-        b"newraw" => two(words, Edit::NewRaw),
-        b"newheap" => one(words, Edit::NewHeap),
-        b"vfree" => one(words, Edit::FreeBlock),
-        b"vcopy" => one(words, Edit::CopyBlock),
-        b"vwrite" => two_and_bytes(alloc, words, Edit::WriteRaw),
-        b"attach" => one_and_bytes(alloc, words, Edit::Attach),
-        b"uid" => two(words, Edit::SetUserId),
-        b"settype" => two(words, Edit::SetType),
-        b"map" => one(words, Edit::SetMap),
-        b"alloc" => two(words, Edit::Alloc),
-        b"free" => two(words, Edit::Free),
-        b"resize" => three(words, Edit::Resize),
-        b"insert" => four(words, Edit::Insert),
-        b"delete" => four(words, Edit::Delete),
-        b"write" => three_and_bytes(alloc, words, Edit::Write),
-        b"acreate" => three(words, Edit::CreateArray),
-        b"ainsert" => three_and_bytes(alloc, words, Edit::InsertElement),
-        b"aset" => three_and_bytes(alloc, words, Edit::SetElement),
-        b"aresize" => four(words, Edit::ResizeElement),
-        b"adelete" => four(words, Edit::DeleteElements),
-        b"azero" => two(words, Edit::ZeroArray),
-        b"ecreate" => two(words, Edit::CreateElementArray),
-        b"eadd" => two_and_bytes(alloc, words, Edit::AddElement),
-        b"eref" => three(words, Edit::AddReference),
-        b"eunref" => three(words, Edit::RemoveReference),
-        b"edelete" => three(words, Edit::DeleteElement),
-        b"echange" => three_and_bytes(alloc, words, Edit::ChangeElement),
-        b"ncreate" => two(words, Edit::CreateNameArray),
+        b"newraw" => two(alloc, words, Edit::NewRaw),
+        b"newheap" => one(alloc, words, Edit::NewHeap),
+        b"vfree" => one(alloc, words, Edit::FreeBlock),
+        b"vcopy" => one(alloc, words, Edit::CopyBlock),
+        b"vwrite" => three(alloc, words, Edit::WriteRaw),
+        b"attach" => two(alloc, words, Edit::Attach),
+        b"uid" => two(alloc, words, Edit::SetUserId),
+        b"settype" => two(alloc, words, Edit::SetType),
+        b"map" => one(alloc, words, Edit::SetMap),
+        b"alloc" => two(alloc, words, Edit::Alloc),
+        b"free" => two(alloc, words, Edit::Free),
+        b"resize" => three(alloc, words, Edit::Resize),
+        b"insert" => four(alloc, words, Edit::Insert),
+        b"delete" => four(alloc, words, Edit::Delete),
+        b"write" => four(alloc, words, Edit::Write),
+        b"acreate" => three(alloc, words, Edit::CreateArray),
+        b"ainsert" => four(alloc, words, Edit::InsertElement),
+        b"aset" => four(alloc, words, Edit::SetElement),
+        b"aresize" => four(alloc, words, Edit::ResizeElement),
+        b"adelete" => four(alloc, words, Edit::DeleteElements),
+        b"azero" => two(alloc, words, Edit::ZeroArray),
+        b"ecreate" => two(alloc, words, Edit::CreateElementArray),
+        b"eadd" => three(alloc, words, Edit::AddElement),
+        b"eref" => three(alloc, words, Edit::AddReference),
+        b"eunref" => three(alloc, words, Edit::RemoveReference),
+        b"edelete" => three(alloc, words, Edit::DeleteElement),
+        b"echange" => four(alloc, words, Edit::ChangeElement),
+        b"ncreate" => two(alloc, words, Edit::CreateNameArray),
         b"nadd" => add_name(alloc, words),
-        b"nname" => three_and_bytes(alloc, words, Edit::ChangeName),
-        b"nunref" => three(words, Edit::RemoveName),
-        b"chcopy" => one(words, Edit::CopyChain),
-        b"chfree" => one(words, Edit::FreeChain),
+        b"nname" => four(alloc, words, Edit::ChangeName),
+        b"nunref" => three(alloc, words, Edit::RemoveName),
+        b"chcopy" => one(alloc, words, Edit::CopyChain),
+        b"chfree" => one(alloc, words, Edit::FreeChain),
     }
 }
 
@@ -106,32 +108,32 @@ fn look_up(alloc: Global, name: &[u8], words: &[&[u8]]) -> Option<Result<Command
     ensures { ReadsRows (λ c. c) 42 70 name.now (map (λ w. w.now) words.now) result }
 {
     row_of! { name;
-        b"info" => one(words, Command::Info),
-        b"gettype" => one(words, Command::HeapType),
+        b"info" => one(alloc, words, Command::Info),
+        b"gettype" => one(alloc, words, Command::HeapType),
         b"list" => none(words, Command::List),
-        b"find" => two(words, Command::Find),
+        b"find" => two(alloc, words, Command::Find),
         b"mapblock" => none(words, Command::MapBlock),
-        b"vread" => one(words, Command::ReadRaw),
-        b"chunks" => one(words, Command::Chunks),
-        b"read" => two(words, Command::Read),
-        b"acount" => two(words, Command::ArrayCount),
-        b"aget" => three(words, Command::ArrayElement),
-        b"ecount" => three(words, Command::ElementReferences),
-        b"edata" => three(words, Command::ElementBytes),
-        b"eused" => two(words, Command::ElementsUsed),
-        b"etoken" => three(words, Command::TokenOfUsed),
-        b"eindex" => three(words, Command::UsedOfToken),
-        b"nfind" => two_and_bytes(alloc, words, Command::NameFind),
-        b"ncount" => three(words, Command::NameReferences),
-        b"ntext" => three(words, Command::NameText),
-        b"ndata" => three(words, Command::NamePart),
-        b"walk" => one(words, Command::Walk),
-        b"chsize" => one(words, Command::ChainSize),
-        b"chequal" => two(words, Command::ChainEqual),
-        b"lock" => one(words, Command::Lock),
-        b"unlock" => one(words, Command::Unlock),
-        b"dirty" => one(words, Command::Dirty),
-        b"locks" => one(words, Command::Locks),
+        b"vread" => one(alloc, words, Command::ReadRaw),
+        b"chunks" => one(alloc, words, Command::Chunks),
+        b"read" => two(alloc, words, Command::Read),
+        b"acount" => two(alloc, words, Command::ArrayCount),
+        b"aget" => three(alloc, words, Command::ArrayElement),
+        b"ecount" => three(alloc, words, Command::ElementReferences),
+        b"edata" => three(alloc, words, Command::ElementBytes),
+        b"eused" => two(alloc, words, Command::ElementsUsed),
+        b"etoken" => three(alloc, words, Command::TokenOfUsed),
+        b"eindex" => three(alloc, words, Command::UsedOfToken),
+        b"nfind" => three(alloc, words, Command::NameFind),
+        b"ncount" => three(alloc, words, Command::NameReferences),
+        b"ntext" => three(alloc, words, Command::NameText),
+        b"ndata" => three(alloc, words, Command::NamePart),
+        b"walk" => one(alloc, words, Command::Walk),
+        b"chsize" => one(alloc, words, Command::ChainSize),
+        b"chequal" => two(alloc, words, Command::ChainEqual),
+        b"lock" => one(alloc, words, Command::Lock),
+        b"unlock" => one(alloc, words, Command::Unlock),
+        b"dirty" => one(alloc, words, Command::Dirty),
+        b"locks" => one(alloc, words, Command::Locks),
         b"undos" => none(words, Command::Undos),
         b"redos" => none(words, Command::Redos),
     }
@@ -154,6 +156,7 @@ fn add_name(alloc: Global, words: &[&[u8]]) -> Result<Edit, Fault>
     if !spells_bytes(part) {
         return Err(Fault::BadCommand);
     }
-    let name = bytes(alloc, name)?;
-    Ok(Edit::AddName(block, chunk, name, bytes(alloc, part)?, replace))
+    let name = Bytes::read_last(alloc, name)?;
+    let part = Bytes::read_last(alloc, part)?;
+    Ok(Edit::AddName(block, chunk, name, part, replace))
 }

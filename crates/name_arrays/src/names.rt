@@ -73,8 +73,11 @@ fn are_names(slots: &SlotView<'_>, part: usize) -> bool
 fn have_names(slots: &SlotView<'_>, part: usize) -> bool
     ensures { result ≡ list_all (is_named part) slots.now.slots.slots }
 {
+    let mut place = slots.first_place();
     for t in 0..slots.len() {
-        if let Some(used) = slots.element(Token(t))
+        let (element, next) = slots.element_from(Token(t), place);
+        place = next;
+        if let Some(used) = element
             && !is_named(used.bytes, part)
         {
             return false;

@@ -1,6 +1,6 @@
 -- A run of bytes that is moved a block at a time.
-use Rattle.std.proofs.Common.{◌≡◌, ℕ, ◌+◌, ◌-◌, ◌≤◌, List, [], ◌++◌, length, take, drop, take-add, arith, sym, ap, ◌∙◌, append_assoc, length-append, slice_range}
-use Rattle.std.proofs.lemmas.List.{take-append-drop, drop-drop}
+use Rattle.std.proofs.Common.{◌≡◌, ℕ, ◌+◌, ◌-◌, ◌≤◌, List, [], ◌++◌, length, take, drop, take-add, arith, sym, refl, ap, ap₂, ◌∙◌, append_assoc, length-append, slice_range}
+use Rattle.std.proofs.lemmas.List.{take-append-drop, take-append-le, drop-append-le, take_at, drop_at, drop-drop}
 use Rattle.std.proofs.lemmas.List.Edits.{length-between}
 use borrow.Rule.Slice.PartMut.{put_mid}
 use Rattle.raw_region.specs.Bytes.{put}
@@ -15,6 +15,19 @@ slice_join xs i j k low high =
 -- what is left of a list that a slice was written over
 pub put_part : (xs ws : List ℕ) (at k : ℕ) → at + length ws ≤ length xs → k ≡ length ws → put_mid at k xs ws ≡ put xs at ws
 put_part xs ws at k le e = ap (λ (l : List ℕ). take at xs ++ (ws ++ l)) (drop-drop k at xs ∙ ap (λ (m : ℕ). drop (at + m) xs) e) ∙ sym (put_is xs ws at le)
+
+-- a slice is written over a run of the first of two parts, or over the beginning of the second
+pub put_in_front : (f b ws : List ℕ) (at : ℕ) → at + length ws ≤ length f → put (f ++ b) at ws ≡ put f at ws ++ b
+put_in_front f b ws at le =
+    let both = length-append f b in
+    let parts : take at f ++ (ws ++ (drop (at + length ws) f ++ b)) ≡ (take at f ++ (ws ++ drop (at + length ws) f)) ++ b = simp append_assoc in
+    put_is (f ++ b) ws at (omega (arith, le, both)) ∙ (ap₂ (λ (x y : List ℕ). x ++ (ws ++ y)) (take-append-le at f b (omega (arith, le))) (drop-append-le (at + length ws) f b le) ∙ (parts ∙ ap (λ (l : List ℕ). l ++ b) (sym (put_is f ws at le))))
+
+pub put_in_back : (f b ws : List ℕ) → length ws ≤ length b → put (f ++ b) (length f) ws ≡ f ++ (ws ++ drop (length ws) b)
+put_in_back f b ws le =
+    let both = length-append f b in
+    put_is (f ++ b) ws (length f) (omega (arith, le, both))
+    ∙ ap₂ (λ (x y : List ℕ). x ++ (ws ++ y)) (take_at f b (length f) refl) (sym (drop-drop (length ws) (length f) (f ++ b)) ∙ ap (drop (length ws)) (drop_at f b (length f) refl))
 
 -- nothing is written
 put_none : (xs : List ℕ) (at : ℕ) → at ≤ length xs → put xs at [] ≡ xs

@@ -13,3 +13,5 @@ pub mod CommitSteps
 pub mod SavingAs
 pub mod Beginnings
 pub mod Groups
+pub mod Moving
+pub mod Rooms

@@ -10,10 +10,6 @@ use Rattle.undo_log.specs.declared.entry.LogEntry.{LogEntry}
 pub newest_first : {A : Type 0} (from from' : List A) (e : A) → from ≡ from' ++ e ∷ [] → reverse from ≡ e ∷ reverse from'
 newest_first from from' e is = ap reverse is ∙ reverse-append from' (e ∷ [])
 
--- one pushed on a list is its newest
-pub pushed_first : {A : Type 0} (old new : List A) (e : A) → new ≡ old ++ e ∷ [] → reverse new ≡ e ∷ reverse old
-pushed_first old new e is = newest_first new old e is
-
 -- the first of a list goes before the others of another
 pub reverse_onto : {A : Type 0} (e : A) (es to : List A) → reverse (e ∷ es) ++ to ≡ reverse es ++ (e ∷ to)
 reverse_onto e es to = ap (λ (xs : List _). xs ++ to) (reverse-append (e ∷ []) es) ∙ append_assoc (reverse es) (e ∷ []) to

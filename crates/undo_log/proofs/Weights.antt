@@ -13,6 +13,7 @@ use Rattle.vm_blocks.specs.declared.change.Content.{Content}
 use Rattle.vm_blocks.specs.declared.change.Content.TheVariants as contents
 use Rattle.vm_blocks.specs.declared.change.PartChange.{PartChange}
 use Rattle.vm_blocks.specs.declared.change.PartChange.TheVariants as parts
+use Rattle.chunk_edits.proofs.PatchingLemmas.{held_le}
 use Rattle.chunk_edits.specs.declared.direction.Direction.{Direction}
 use Rattle.chunk_edits.specs.declared.direction.Direction.TheVariants.{Forwards, Backwards}
 use Rattle.doc_edits.specs.Planning.{part_cost, change_cost}
@@ -29,6 +30,7 @@ content_weight-le (contents.Zeros n) = omega arith
 part_weight-le : (part : PartChange) → part_weight part ≤ part_cost part
 part_weight-le (parts.Raw s) = omega arith
 part_weight-le (parts.Chunk c s) = omega arith
+part_weight-le (parts.Patch c ps) = held_le ps
 part_weight-le (parts.ChunkIn c content) = content_weight-le content
 part_weight-le (parts.ChunkOut c content) = content_weight-le content
 
@@ -96,10 +98,10 @@ cut_sums : (r s a b w g u v most : ℕ) → r ≡ min (s + w) most → s ≡ min
 cut_sums r s a b w g u v most e f h i j = grind (arith, e, f, h, i, j)
 
 pub log_weighs : (undo redo : List LogEntry) (cs : List Change) (r s a b w : ℕ) → r ≡ min (s + w) (2 ^ 64 - 1) → s ≡ min (a + b) (2 ^ 64 - 1) → a ≡ min (total_weight cs) (2 ^ 64 - 1)
-    → b ≡ min (sum_by entry_weight undo) (2 ^ 64 - 1) → w ≡ min (sum_by entry_weight redo) (2 ^ 64 - 1) → r ≡ min (total_weight (cs ++ all_changes (reverse undo)) + total_weight (all_changes (reverse redo))) (2 ^ 64 - 1)
+    → b ≡ min (sum_by entry_weight undo) (2 ^ 64 - 1) → w ≡ min (sum_by entry_weight redo) (2 ^ 64 - 1) → r ≡ min (total_weight (cs ++ all_changes (reverse undo)) + total_weight (all_changes redo)) (2 ^ 64 - 1)
 log_weighs undo redo cs r s a b w e f h i j =
     let sums = cut_sums r s a b w (total_weight cs) (sum_by entry_weight undo) (sum_by entry_weight redo) (2 ^ 64 - 1) e f h i j in
     let all = weight-append cs (all_changes (reverse undo)) in
     let first = reverse_weights undo in
-    let second = reverse_weights redo in
+    let second = all_weights redo in
     sums ∙ ap (λ (n : ℕ). min n (2 ^ 64 - 1)) (omega (arith, all, first, second))

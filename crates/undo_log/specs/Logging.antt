@@ -1,5 +1,5 @@
 -- What is kept of steps that can be undone or made again, and what a call makes of it.
-use Rattle.std.specs.Prelude.{◌≡◌, ℕ, Bool, List, [], ◌∷◌, ◌++◌, length, reverse, map, Option, Some, None}
+use Rattle.std.specs.Prelude.{◌≡◌, ℕ, Bool, List, [], ◌∷◌, ◌++◌, drop, length, reverse, map, take, Option, Some, None}
 use Rattle.std.specs.List.{sum_by}
 use Rattle.geos_model.specs.Document.{Document}
 use Rattle.geos_model.specs.Machine.{OpenGroup, UndoStep}
@@ -29,6 +29,14 @@ all_changes (entries.Group cs ∷ es) = cs ++ all_changes es
 abbrev pub turned_over : LogEntry → LogEntry
 turned_over (entries.One c) = entries.One c
 turned_over (entries.Group cs) = entries.Group (reverse cs)
+
+-- the entry at a place is turned over
+pub record TurnsOverAt (place : ℕ) (old new : List LogEntry) : Type 0 where
+  pub entry : LogEntry
+  pub others : List LogEntry
+  pub was : drop place old ≡ entry ∷ others
+  pub is : drop place new ≡ turned_over entry ∷ others
+  pub before : take place new ≡ take place old
 
 abbrev pub kind_of_entry : LogEntry → Kind
 kind_of_entry (entries.One c) = kind_of_change c

@@ -6,7 +6,7 @@ abbrev pub waiting : Option (ℕ × ℕ) → ℕ
 waiting None = 0
 waiting (Some (length, capacity)) = min 1 length
 
--- there is room for one change more, in the group that is open if one is
-abbrev pub has_room : ℕ → ℕ → ℕ → Option (ℕ × ℕ) → Bool
-has_room entries undo redo None = nat_lt entries undo && nat_lt entries redo
-has_room entries undo redo (Some (length, capacity)) = nat_lt entries undo && (nat_lt entries redo && nat_lt length capacity)
+-- there is room for one change more, in the group that is open if one is: entries that can be made again give way to it
+abbrev pub has_room : ℕ → ℕ → Option (ℕ × ℕ) → Bool
+has_room done entries None = nat_lt done entries
+has_room done entries (Some (length, capacity)) = nat_lt done entries && nat_lt length capacity

@@ -2,6 +2,7 @@
 #![tactic(auto)]
 
 mod entry;
+mod growing;
 mod log;
 mod making;
 mod session;

@@ -1,9 +1,10 @@
 //! The log: what can be undone, what can be made again, and the group that is open.
-ghost use Rattle.std.specs.Prelude.{◌≡◌, ◌+◌, ◌-◌, ◌^◌, [], true, Some, None, OnOk, MatchOption, is_some, length, min, reverse};
+ghost use Rattle.std.specs.Prelude.{◌≡◌, ◌<◌, ◌+◌, ◌-◌, ◌^◌, [], true, Some, None, OnOk, MatchOption, is_some, length, min, reverse};
 ghost use Rattle.std.specs.Option.{option_map};
-ghost use Rattle.undo_log.specs.Logging.{AreExclusive, IsHead, empty_log, open_changes, newest_redone, to_redo, to_undo, total_weight, newest_undone, with_change, with_group_closed};
+ghost use Rattle.undo_log.specs.Logging.{AreExclusive, IsHead, TurnsOverAt, empty_log, open_changes, newest_redone, to_redo, to_undo, total_weight, newest_undone, with_change, with_group_closed};
 
 use crate::entry::{Changes, LogEntry};
+use crate::growing::reserve_one;
 use crate::weighing::{entries_weight, total_weight};
 use std::alloc::{AllocError, Global};
 use std::marker::Model;
@@ -12,10 +13,11 @@ use vm_blocks::Change;
 /// What is kept of the steps that can be undone or made again, and of the group that is open.
 #[derive(Drop)]
 pub struct UndoLog {
-    // The newest entry is the last. There is room for the entries of both lists, and for the group that is open.
-    undo: Vec<LogEntry>,
-    // The next entry to make again is the last. There is room for as many.
-    redo: Vec<LogEntry>,
+    // Those that can be undone, the newest last, and then those that can be made again, the next first. There is room for the group
+    // that is open behind the first ones.
+    entries: Vec<LogEntry>,
+    // How many of them can be undone.
+    done: usize,
     // The newest change of the open group is the last. While it has some, nothing is left to make again.
     group: Option<Vec<Change>>,
 }
@@ -30,24 +32,24 @@ impl Model for UndoLog {
 
     ghost coded = { log_state_code };
 
-    ghost use Rattle.std.specs.Prelude.{◌+◌, ◌≤◌, reverse, vec_len, vec_capacity};
+    ghost use Rattle.std.specs.Prelude.{◌+◌, ◌≤◌, drop, reverse, take, vec_len, vec_capacity};
     ghost use Rattle.std.specs.Option.{option_map};
 
     ghost view = { λ l. record {
       lists = record {
-        undo = reverse l.undo.items;
-        redo = reverse l.redo.items;
+        undo = reverse (take l.done l.entries.items);
+        redo = drop l.done l.entries.items;
         group = option_map (λ changes. reverse changes.items) l.group;
       };
-      room = has_room (vec_len l.undo + vec_len l.redo) (vec_capacity l.undo) (vec_capacity l.redo)
+      room = has_room l.done (vec_capacity l.entries)
           (option_map (λ changes. (vec_len changes, vec_capacity changes)) l.group);
     } };
 
-    ghost invariant = { λ l. (vec_len l.undo + vec_len l.redo + waiting
-        (option_map (λ changes. (vec_len changes, vec_capacity changes)) l.group) ≤ vec_capacity l.undo)
-        × (vec_len l.undo + vec_len l.redo + waiting
-        (option_map (λ changes. (vec_len changes, vec_capacity changes)) l.group) ≤ vec_capacity l.redo)
-        × AreExclusive (open_changes (option_map (λ changes. reverse changes.items) l.group)) (reverse l.redo.items) };
+    ghost invariant = { λ l. (l.done ≤ vec_len l.entries)
+        × (l.done + waiting (option_map (λ changes. (vec_len changes, vec_capacity changes)) l.group)
+        ≤ vec_capacity l.entries)
+        × AreExclusive (open_changes (option_map (λ changes. reverse changes.items) l.group))
+        (drop l.done l.entries.items) };
 }
 
 impl UndoLog {
@@ -56,8 +58,8 @@ impl UndoLog {
         ensures { result.lists ≡ empty_log }
     {
         UndoLog {
-            undo: Vec::new(alloc),
-            redo: Vec::new(alloc),
+            entries: Vec::new(alloc),
+            done: 0,
             group: None,
         }
     }
@@ -67,10 +69,12 @@ impl UndoLog {
         ensures lists { self.new.lists ≡ self.old.lists }
         ensures room { OnOk result (self.new.room ≡ true) }
     {
-        self.undo.reserve(self.redo.len() + 1)?;
-        self.redo.reserve(self.undo.len() + 1)?;
+        // An entry that could be made again gives its place to the change.
+        if self.done == self.entries.len() {
+            reserve_one(&mut self.entries)?;
+        }
         if let Some(changes) = &mut self.group {
-            changes.reserve(1)?;
+            reserve_one(changes)?;
         }
         Ok(())
     }
@@ -81,10 +85,13 @@ impl UndoLog {
         ensures { self.new.lists ≡ with_change change self.old.lists }
     {
         // Nothing is left to make again, in a group too.
-        self.redo.clear();
+        self.entries.truncate(self.done);
         match &mut self.group {
             Some(changes) => changes.push_reserved(change),
-            None => self.undo.push_reserved(LogEntry::One(change)),
+            None => {
+                self.entries.push_reserved(LogEntry::One(change));
+                self.done = self.entries.len();
+            }
         }
     }
 
@@ -92,14 +99,14 @@ impl UndoLog {
     pub(crate) fn newest_undo(&self) -> Option<&LogEntry>
         ensures { MatchOption result (self.now.lists.undo ≡ []) (λ entry. IsHead entry.now self.now.lists.undo) }
     {
-        self.undo.last()
+        self.made().last()
     }
 
     /// The next entry that can be made again.
     pub(crate) fn newest_redo(&self) -> Option<&LogEntry>
         ensures { MatchOption result (self.now.lists.redo ≡ []) (λ entry. IsHead entry.now self.now.lists.redo) }
     {
-        self.redo.last()
+        self.undone().first()
     }
 
     /// The newest entry, if there is one, was undone: it is the next that can be made again.
@@ -107,9 +114,9 @@ impl UndoLog {
         requires { self.old.lists.group ≡ None }
         ensures { self.new.lists ≡ newest_undone self.old.lists }
     {
-        if let Some(mut entry) = self.undo.pop() {
-            entry.turn_over();
-            self.redo.push_reserved(entry);
+        if self.done > 0 {
+            self.done -= 1;
+            turn_over_at(self.entries.as_mut_slice(), self.done);
         }
     }
 
@@ -118,9 +125,9 @@ impl UndoLog {
         requires { self.old.lists.group ≡ None }
         ensures { self.new.lists ≡ newest_redone self.old.lists }
     {
-        if let Some(mut entry) = self.redo.pop() {
-            entry.turn_over();
-            self.undo.push_reserved(entry);
+        if self.done < self.entries.len() {
+            turn_over_at(self.entries.as_mut_slice(), self.done);
+            self.done += 1;
         }
     }
 
@@ -138,8 +145,9 @@ impl UndoLog {
     {
         if let Some(changes) = self.group.take() {
             if !changes.is_empty() {
-                self.undo
+                self.entries
                     .push_reserved(LogEntry::Group(Changes::new(changes)));
+                self.done = self.entries.len();
             }
         }
     }
@@ -155,8 +163,8 @@ impl UndoLog {
     pub(crate) fn clear(&mut self)
         ensures { self.new.lists ≡ empty_log }
     {
-        self.undo.clear();
-        self.redo.clear();
+        self.entries.clear();
+        self.done = 0;
         self.group = None;
     }
 
@@ -181,14 +189,14 @@ impl UndoLog {
     pub(crate) fn undo_count(&self) -> usize
         ensures { result ≡ length self.now.lists.undo }
     {
-        self.undo.len()
+        self.made().len()
     }
 
     /// How many entries can be made again.
     pub(crate) fn redo_count(&self) -> usize
         ensures { result ≡ length self.now.lists.redo }
     {
-        self.redo.len()
+        self.undone().len()
     }
 
     /// How many content bytes it holds, 2^64 - 1 where these are more.
@@ -197,8 +205,8 @@ impl UndoLog {
             ≡ min (total_weight (to_undo self.now.lists) + total_weight (to_redo self.now.lists)) (2 ^ 64 - 1) }
     {
         self.group_weight()
-            .saturating_add(entries_weight(self.undo.as_slice()))
-            .saturating_add(entries_weight(self.redo.as_slice()))
+            .saturating_add(entries_weight(self.made()))
+            .saturating_add(entries_weight(self.undone()))
     }
 
     // How many those of the open group hold.
@@ -211,10 +219,32 @@ impl UndoLog {
         }
     }
 
+    // The entries that can be undone, the newest last.
+    fn made(&self) -> &[LogEntry]
+        ensures { reverse result.now ≡ self.now.lists.undo }
+    {
+        &self.entries.as_slice()[..self.done]
+    }
+
+    // The entries that can be made again, the next first.
+    fn undone(&self) -> &[LogEntry]
+        ensures { result.now ≡ self.now.lists.redo }
+    {
+        &self.entries.as_slice()[self.done..]
+    }
+
     /// It does nothing: its caller learns that nothing is left to make again while the open group has changes.
     pub(crate) fn validity(&self)
         ensures { AreExclusive (open_changes self.now.lists.group) self.now.lists.redo }
     {
         let _group = &self.group;
     }
+}
+
+// The entry at a place is turned over.
+fn turn_over_at(entries: &mut [LogEntry], place: usize)
+    requires { place < length entries.old }
+    ensures { TurnsOverAt place entries.old entries.new }
+{
+    entries[place].turn_over();
 }

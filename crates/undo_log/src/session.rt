@@ -1,45 +1,41 @@
 //! A document that is edited, with what undo needs.
-ghost use Rattle.std.specs.Prelude.{◌≡◌, ◌↔◌, ◌≢◌, ◌+◌, ◌-◌, ◌^◌, ◌≤◌, ◌<◌, ◌||◌, ◌⊎◌, ℕ, Bool, true, false, List, [], Some, None, Ok, Err, IsTrue, IsOk, IfOk, IfErr, OnOk, OnErr, MatchOption, MatchResult, is_some, length, min, nat_lt};
+ghost use Rattle.std.specs.Prelude.{◌≡◌, ◌↔◌, ◌≢◌, ◌+◌, ◌-◌, ◌^◌, ◌≤◌, ◌<◌, ◌||◌, ◌⊎◌, ℕ, Bool, true, false, [], Some, None, Ok, Err, IsTrue, IsOk, IfOk, IfErr, OnOk, OnErr, MatchOption, MatchResult, is_some, length, min, nat_lt};
 ghost use Rattle.std.specs.Result.{IsErrAnd};
-ghost use Rattle.std.specs.Borrow.{sem};
 ghost use Rattle.std.specs.FinMap.{get};
 ghost use Rattle.std.specs.Option.{option_map, option_map_or};
-ghost use Rattle.geos_model.specs.Document.{Document, is_raw};
+ghost use Rattle.geos_model.specs.Document.{Document};
 ghost use Rattle.geos_model.specs.File.{stands};
 ghost use Rattle.geos_model.specs.Meaning.{conditions};
-ghost use Rattle.geos_model.specs.Reply.{Accepted, Refused as RefusedWith, AreEqual, BytesAre, NumberIs, TokenIs, reply_by, reply_of_done, info_is, blocks_are, chunks_are, found};
+ghost use Rattle.geos_model.specs.Reply.{Accepted, Refused as RefusedWith, NumberIs, reply_by, reply_of_done};
 ghost use Rattle.geos_model.specs.Machine.{AreValidLocks, IsValidMachine, Step, edit_needs, empty_machine, has_locks as machine_has_locks, is_barred, kind_of, locked_chunk, locked_raw, opened_machine};
 ghost use Rattle.geos_model.specs.declared.command.Command.TheVariants as commands;
 ghost use Rattle.geos_model.specs.declared.command.Kind.TheVariants.{In, Made};
 ghost use Rattle.vm_file.specs.Calls.{last_sequence};
 ghost use Rattle.vm_file.specs.Disk.{IsFileDocument, IsCrashConsistent, KeepsCommitted};
 ghost use Rattle.vm_file.specs.Documents.{sequence_in};
-ghost use Rattle.vm_file.specs.Effects.{IsCommit, Fails, IsWorn};
+ghost use Rattle.vm_file.specs.Effects.{Fails, IsWorn};
 ghost use Rattle.block_cache.specs.Bodies.{body_value};
 ghost use Rattle.block_cache.specs.State.{locks_of, locked_count};
 ghost use Rattle.vm_blocks.specs.Committing.{IsSavedAs};
-ghost use Rattle.vm_blocks.specs.Keeping.{IsHonest, IsEnvironmentFault, is_full, is_loaded};
-ghost use Rattle.vm_blocks.specs.Kinds.{IsWrongBlock};
+ghost use Rattle.vm_blocks.specs.Keeping.{IsEnvironmentFault, is_loaded};
 ghost use Rattle.vm_blocks.specs.Locking.{CantLock, GainsLock, HasNoLock, LosesLock};
 ghost use Rattle.vm_blocks.specs.Opening.{IsOpenedFrom, IsNotOpened, IsMadeIn, IsNotMade};
 ghost use Rattle.chunk_edits.specs.declared.direction.Direction.TheVariants.{Backwards, Forwards};
-ghost use Rattle.vm_chains.specs.Answers.{IsWrongRoot};
-ghost use Rattle.doc_edits.specs.LookUps.{AfterLoan, LooksUp, answer_of};
 ghost use Rattle.doc_edits.specs.Planning.{IsChainEditFault, RefusesEdit};
-ghost use Rattle.doc_edits.specs.Room.{has_no_room, IsChainRefusal, ReadsNothing};
+ghost use Rattle.doc_edits.specs.Room.{has_no_room, ReadsNothing};
 ghost use Rattle.undo_log.specs.Editing.{EditsInMemory};
 ghost use Rattle.undo_log.specs.Locking.{IsBarred};
 ghost use Rattle.undo_log.specs.Committing.{IsBusy, IsSaveAsRefused, IsSessionCommit};
 ghost use Rattle.undo_log.specs.Logging.{AreExclusive, empty_log, open_changes, to_redo, to_undo, total_weight, with_group_closed};
-ghost use Rattle.undo_log.specs.Sessions.{cache_of, file_of, has_locks, machine_of, failed_since, total_cost, IsExact, IsStep, KeepsSession, AnswersLookUp, PushesEdit};
+ghost use Rattle.undo_log.specs.Sessions.{cache_of, file_of, has_locks, machine_of, failed_since, total_cost, IsExact, IsStep, KeepsSession, PushesEdit};
 ghost use Rattle.undo_log.specs.Turning.{Abandons, IsNotAbandoned, IsRefusedUndoOrRedo, IsSure, MovesEntry, abandon_fault, newest_made, busy_fault};
-ghost use Rattle.undo_log.specs.contracts.session.Session.{the_row};
+
+mod look_ups;
 
 use crate::log::UndoLog;
 use crate::making::{is_barred, make};
 use crate::turning::{make_entry, take_back};
-use doc_edits::look_ups;
-use geos_model::{Bytes, ChunkHandle, Done, Edit, Fault, Info, Token, VmHandle};
+use geos_model::{ChunkHandle, Done, Edit, Fault, VmHandle};
 use std::alloc::Global;
 use std::marker::Model;
 use vm_blocks::{BlockBody, Direction, FileBlocks};
@@ -205,7 +201,7 @@ impl<S: Store> Session<S> {
     }
 
     /// Makes another store a file of its own, with the document as it is now as its updated and its saved one, and goes on in that. The
-    /// file so far goes back to its saved document, and its store comes back. Where it is refused the session stays in its file, and the
+    /// old file goes back to its saved document, and its store comes back. Where it is refused the session stays in its file, and the
     /// target comes back, with any bytes; in the old file nothing is committed then, but where its store fails. GroupOpen while a group
     /// is open, and then Locked where any block is, before all else, and Worn where the sequence number of the old file can't rise,
     /// before anything is written; over a store that isn't honest what is read may be no image, which is Damaged; Memory, File.
@@ -608,271 +604,5 @@ impl<S: Store> Session<S> {
         ensures { result ≡ is_loaded (cache_of self.now) block.0 }
     {
         self.blocks.is_resident(block)
-    }
-
-    /// The live blocks, rising.
-    pub fn list(&self) -> Result<Vec<VmHandle>, Fault>
-        ensures { (target : Bool) → Step false (machine_of target self.now) (Some commands.List)
-            (reply_by (λ handles. blocks_are handles.items) result) (machine_of target self.now) }
-    {
-        Ok(self.blocks.list()?)
-    }
-
-    /// The least live handle above `start` whose block has this user ID.
-    pub fn find(&self, user_id: u16, start: VmHandle) -> Option<VmHandle>
-        ensures { option_map (λ h. h.0) result ≡ found self.now.document user_id start.0 }
-    {
-        self.blocks.find(user_id, start)
-    }
-
-    /// The map block, 0 if there is none.
-    pub fn map_block(&self) -> VmHandle
-        ensures { result.0 ≡ self.now.document.map_block }
-    {
-        self.blocks.map_block()
-    }
-
-    /// The type of a heap. NoBlock, WrongKind.
-    pub fn heap_type(&self, block: VmHandle) -> Result<u16, Fault>
-        ensures { (target : Bool) → Step false (machine_of target self.now) (Some (commands.HeapType block))
-            (reply_by NumberIs result) (machine_of target self.now) }
-    {
-        if !self.blocks.is_live(block) {
-            return Err(Fault::NoBlock);
-        }
-        if !self.blocks.is_heap(block) {
-            return Err(Fault::WrongKind);
-        }
-        Ok(self.blocks.attributes(block).heap_type)
-    }
-
-    /// A block's user ID and size.
-    pub fn info(&mut self, block: VmHandle) -> Result<Info, Fault>
-        ensures { AnswersLookUp S.facts self.old self.new (commands.Info block) (reply_by info_is result) }
-    {
-        self.blocks.validity();
-        look_ups::info(&mut self.blocks, block)
-    }
-
-    /// The bytes of a raw block.
-    pub fn read_raw(&mut self, block: VmHandle) -> Result<&[u8], Fault>
-        ensures* leaves { sem 𝓛 (AfterLoan (the_row S.row S.Store) self.entry (λ new. AnswersLookUp S.facts self.old new
-            (commands.ReadRaw block) (reply_by (λ bytes. BytesAre bytes.now) result))) }
-    {
-        self.blocks.validity();
-        look_ups::read_raw(&mut self.blocks, block)
-    }
-
-    /// The live chunks of a heap, rising.
-    pub fn chunks(&mut self, block: VmHandle) -> Result<Vec<ChunkHandle>, Fault>
-        ensures { AnswersLookUp S.facts self.old self.new (commands.Chunks block)
-            (reply_by (λ handles. chunks_are handles.items) result) }
-    {
-        self.blocks.validity();
-        look_ups::chunks(&mut self.blocks, block)
-    }
-
-    /// The bytes of a chunk.
-    pub fn read_chunk(&mut self, block: VmHandle, chunk: ChunkHandle) -> Result<&[u8], Fault>
-        ensures* leaves { sem 𝓛 (AfterLoan (the_row S.row S.Store) self.entry (λ new. AnswersLookUp S.facts self.old new
-            (commands.Read block chunk) (reply_by (λ bytes. BytesAre bytes.now) result))) }
-    {
-        self.blocks.validity();
-        look_ups::read_chunk(&mut self.blocks, block, chunk)
-    }
-
-    /// How many elements the array in a chunk has.
-    pub fn array_count(&mut self, block: VmHandle, chunk: ChunkHandle) -> Result<usize, Fault>
-        ensures { AnswersLookUp S.facts self.old self.new (commands.ArrayCount block chunk) (reply_by NumberIs result) }
-    {
-        self.blocks.validity();
-        look_ups::array_count(&mut self.blocks, block, chunk)
-    }
-
-    /// The bytes of an element of the array in a chunk.
-    pub fn array_element(
-        &mut self,
-        block: VmHandle,
-        chunk: ChunkHandle,
-        i: u32,
-    ) -> Result<&[u8], Fault>
-        ensures* leaves { sem 𝓛 (AfterLoan (the_row S.row S.Store) self.entry (λ new. AnswersLookUp S.facts self.old new
-            (commands.ArrayElement block chunk i) (reply_by (λ bytes. BytesAre bytes.now) result))) }
-    {
-        self.blocks.validity();
-        look_ups::array_element(&mut self.blocks, block, chunk, i)
-    }
-
-    /// How many references an element of the element array in a chunk has.
-    pub fn element_refs(
-        &mut self,
-        block: VmHandle,
-        chunk: ChunkHandle,
-        token: Token,
-    ) -> Result<u32, Fault>
-        ensures { AnswersLookUp S.facts self.old self.new (commands.ElementReferences block chunk token)
-            (reply_by NumberIs result) }
-    {
-        self.blocks.validity();
-        look_ups::element_refs(&mut self.blocks, block, chunk, token)
-    }
-
-    /// The bytes of an element of the element array in a chunk.
-    pub fn element_bytes(
-        &mut self,
-        block: VmHandle,
-        chunk: ChunkHandle,
-        token: Token,
-    ) -> Result<&[u8], Fault>
-        ensures* leaves { sem 𝓛 (AfterLoan (the_row S.row S.Store) self.entry (λ new. AnswersLookUp S.facts self.old new
-            (commands.ElementBytes block chunk token) (reply_by (λ bytes. BytesAre bytes.now) result))) }
-    {
-        self.blocks.validity();
-        look_ups::element_bytes(&mut self.blocks, block, chunk, token)
-    }
-
-    /// How many elements of the element array in a chunk are used.
-    pub fn elements_used(&mut self, block: VmHandle, chunk: ChunkHandle) -> Result<usize, Fault>
-        ensures { AnswersLookUp S.facts self.old self.new (commands.ElementsUsed block chunk)
-            (reply_by NumberIs result) }
-    {
-        self.blocks.validity();
-        look_ups::elements_used(&mut self.blocks, block, chunk)
-    }
-
-    /// The token of the used element that has this number, from 0 on, in the element array in a chunk.
-    pub fn token_of_used(
-        &mut self,
-        block: VmHandle,
-        chunk: ChunkHandle,
-        k: u32,
-    ) -> Result<Token, Fault>
-        ensures { AnswersLookUp S.facts self.old self.new (commands.TokenOfUsed block chunk k)
-            (reply_by (λ token. TokenIs token.0) result) }
-    {
-        self.blocks.validity();
-        look_ups::token_of_used(&mut self.blocks, block, chunk, k)
-    }
-
-    /// How many used tokens of the element array in a chunk are lower than this one.
-    pub fn used_of_token(
-        &mut self,
-        block: VmHandle,
-        chunk: ChunkHandle,
-        token: Token,
-    ) -> Result<usize, Fault>
-        ensures { AnswersLookUp S.facts self.old self.new (commands.UsedOfToken block chunk token)
-            (reply_by NumberIs result) }
-    {
-        self.blocks.validity();
-        look_ups::used_of_token(&mut self.blocks, block, chunk, token)
-    }
-
-    /// The token of a name in the name array in a chunk, the lowest that has it.
-    pub fn name_find(
-        &mut self,
-        block: VmHandle,
-        chunk: ChunkHandle,
-        name: &Bytes,
-    ) -> Result<Token, Fault>
-        ensures { AnswersLookUp S.facts self.old self.new (commands.NameFind block chunk name.now)
-            (reply_by (λ token. TokenIs token.0) result) }
-    {
-        self.blocks.validity();
-        look_ups::name_find(&mut self.blocks, block, chunk, name)
-    }
-
-    /// How many references a name of the name array in a chunk has.
-    pub fn name_refs(
-        &mut self,
-        block: VmHandle,
-        chunk: ChunkHandle,
-        token: Token,
-    ) -> Result<u32, Fault>
-        ensures { AnswersLookUp S.facts self.old self.new (commands.NameReferences block chunk token)
-            (reply_by NumberIs result) }
-    {
-        self.blocks.validity();
-        look_ups::name_refs(&mut self.blocks, block, chunk, token)
-    }
-
-    /// The name of a token of the name array in a chunk.
-    pub fn name_text(
-        &mut self,
-        block: VmHandle,
-        chunk: ChunkHandle,
-        token: Token,
-    ) -> Result<&[u8], Fault>
-        ensures* leaves { sem 𝓛 (AfterLoan (the_row S.row S.Store) self.entry (λ new. AnswersLookUp S.facts self.old new
-            (commands.NameText block chunk token) (reply_by (λ bytes. BytesAre bytes.now) result))) }
-    {
-        self.blocks.validity();
-        look_ups::name_text(&mut self.blocks, block, chunk, token)
-    }
-
-    /// What stands before the name of a token of the name array in a chunk.
-    pub fn name_part(
-        &mut self,
-        block: VmHandle,
-        chunk: ChunkHandle,
-        token: Token,
-    ) -> Result<&[u8], Fault>
-        ensures* leaves { sem 𝓛 (AfterLoan (the_row S.row S.Store) self.entry (λ new. AnswersLookUp S.facts self.old new
-            (commands.NamePart block chunk token) (reply_by (λ bytes. BytesAre bytes.now) result))) }
-    {
-        self.blocks.validity();
-        look_ups::name_part(&mut self.blocks, block, chunk, token)
-    }
-
-    /// The blocks of a chain, each before those that it links to, branches in order.
-    pub fn walk(&mut self, root: VmHandle) -> Result<Vec<VmHandle>, Fault>
-        ensures keeps { KeepsSession S.facts self.old self.new }
-        ensures step { IsStep S.facts self.old self.new (commands.Walk root)
-            (reply_by (λ handles. blocks_are handles.items) result) }
-        ensures value { IsHonest S.facts self.old.disk.store
-            → LooksUp (IsEnvironmentFault S.facts self.old.disk.store self.new.disk.store) (is_full (cache_of self.old))
-            (commands.Walk root) self.new.document (reply_by (λ handles. blocks_are handles.items) result) }
-        ensures shut { is_full (cache_of self.old) ≡ true → (self.new ≡ self.old) × (answer_of true
-            (commands.Walk root) self.old.document ≡ Some (reply_by (λ handles. blocks_are handles.items) result)) }
-        ensures refusals { IfErr result
-            (IsChainRefusal (IsEnvironmentFault S.facts self.old.disk.store self.new.disk.store)
-            (IsWrongBlock is_raw self.old.document root.0) (is_full (cache_of self.old))) }
-    {
-        self.blocks.validity();
-        look_ups::walk(self.alloc, &mut self.blocks, root)
-    }
-
-    /// How many bytes the blocks of a chain have.
-    pub fn chain_size(&mut self, root: VmHandle) -> Result<u32, Fault>
-        ensures keeps { KeepsSession S.facts self.old self.new }
-        ensures step { IsStep S.facts self.old self.new (commands.ChainSize root) (reply_by NumberIs result) }
-        ensures value { IsHonest S.facts self.old.disk.store
-            → LooksUp (IsEnvironmentFault S.facts self.old.disk.store self.new.disk.store)
-            (is_full (cache_of self.old)) (commands.ChainSize root) self.new.document (reply_by NumberIs result) }
-        ensures shut { is_full (cache_of self.old) ≡ true → (self.new ≡ self.old)
-            × (answer_of true (commands.ChainSize root) self.old.document ≡ Some (reply_by NumberIs result)) }
-        ensures refusals { IfErr result
-            (IsChainRefusal (IsEnvironmentFault S.facts self.old.disk.store self.new.disk.store)
-            (IsWrongBlock is_raw self.old.document root.0) (is_full (cache_of self.old))) }
-    {
-        self.blocks.validity();
-        look_ups::chain_size(self.alloc, &mut self.blocks, root)
-    }
-
-    /// Whether two chains are equal, but for handles and user IDs.
-    pub fn chain_equal(&mut self, first: VmHandle, second: VmHandle) -> Result<bool, Fault>
-        ensures keeps { KeepsSession S.facts self.old self.new }
-        ensures step { IsStep S.facts self.old self.new (commands.ChainEqual first second) (reply_by AreEqual result) }
-        ensures value { IsHonest S.facts self.old.disk.store
-            → LooksUp (IsEnvironmentFault S.facts self.old.disk.store self.new.disk.store) (is_full (cache_of self.old))
-            (commands.ChainEqual first second) self.new.document (reply_by AreEqual result) }
-        ensures shut { is_full (cache_of self.old) ≡ true → (self.new ≡ self.old)
-            × (answer_of true (commands.ChainEqual first second) self.old.document ≡ Some (reply_by AreEqual result)) }
-        ensures refusals { IfErr result
-            (IsChainRefusal (IsEnvironmentFault S.facts self.old.disk.store self.new.disk.store)
-            (IsWrongRoot self.old.document first.0 second.0) (is_full (cache_of self.old))) }
-    {
-        self.blocks.validity();
-        look_ups::chain_equal(self.alloc, &mut self.blocks, first, second)
     }
 }

@@ -413,7 +413,7 @@ impl<S: Store> VmFile<S> {
     /// Makes another store a new file of the document as it is now, updated and saved, whatever was in it. What is read
     /// and isn't an image, which an honest store never gives, is Damaged; Memory, File.
     pub fn copy_to(&mut self, target: S) -> Result<VmFile<S>, Refused<S>>
-        // The file so far.
+        // The file that is copied.
         ensures reads { OnlyReads S.facts self.old self.new }
         // The target.
         ensures target { MatchResult result

@@ -9,7 +9,7 @@ use Rattle.vm_file.specs.Effects.{IsCommit, NoFault, IsWorn}
 use Rattle.vm_file.proofs.EffectsLemmas.{refused, unworn, Fails-as}
 use Rattle.block_cache.specs.Frames.{with_frames}
 use Rattle.block_cache.proofs.Commits.{not_committed}
-use Rattle.block_cache.proofs.Steps.{moves_none}
+use Rattle.block_cache.proofs.CallAfterCall.{moves_none}
 use Rattle.block_cache.proofs.committing.begin.Goals as goal
 
 pub returns-then-is_worn-clause-moves : goal.returns-then-is_worn-clause-moves

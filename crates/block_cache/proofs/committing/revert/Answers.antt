@@ -7,7 +7,7 @@ use Rattle.lru.specs.LruCache.{LruCache}
 use Rattle.block_cache.specs.Frames.{with_frames, AreFramesOf}
 use Rattle.block_cache.specs.declared.frame.Frame.{Frame}
 use Rattle.block_cache.proofs.Commits.{kept_after, refused_under, accepted_bare}
-use Rattle.block_cache.proofs.Overlay.{bare_kept}
+use Rattle.block_cache.proofs.DocumentUnderFrames.{bare_kept}
 use Rattle.block_cache.proofs.committing.revert.Goals as goal
 
 pub returns-in_err-commit_revert-clause-commit : goal.returns-in_err-commit_revert-clause-commit

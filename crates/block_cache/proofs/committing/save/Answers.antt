@@ -6,7 +6,7 @@ use Rattle.vm_file.proofs.EffectsLemmas.{Fails-after, Fails-as}
 use Rattle.vm_file.proofs.ResultLemmas.{any_way}
 use Rattle.block_cache.specs.Frames.{overlay, with_frames}
 use Rattle.block_cache.proofs.Commits.{kept_after, committed_under}
-use Rattle.block_cache.proofs.Overlay.{clean_overlay}
+use Rattle.block_cache.proofs.DocumentUnderFrames.{clean_overlay}
 use Rattle.block_cache.proofs.committing.save.Goals as goal
 
 pub returns-in_err-begin-clause-commit : goal.returns-in_err-begin-clause-commit

@@ -1,6 +1,6 @@
 use Rattle.std.proofs.Common.{sym, ◌∙◌, arith}
 use Rattle.block_cache.specs.Frames.{residents}
-use Rattle.block_cache.proofs.Seats.{residents-length, fewer_locked, victim_free, some_free, none_free}
+use Rattle.block_cache.proofs.OrderOfUse.{residents-length, fewer_locked, victim_free, some_free, none_free}
 use Rattle.block_cache.proofs.frame.all_locked.Goals as goal
 
 pub returns-then-len-get : goal.returns-then-len-get

@@ -2,7 +2,7 @@ use Rattle.std.proofs.Common.{◌≡◌, Some, None, unwrap_or, sym, ap, ◌∙�
 use Rattle.std.specs.Option.{option_map, option_copied}
 use Rattle.block_cache.specs.Frames.{frame_of}
 use Rattle.block_cache.specs.declared.frame.Frame.{Frame}
-use Rattle.block_cache.proofs.Seats.{lookup-residents}
+use Rattle.block_cache.proofs.OrderOfUse.{lookup-residents}
 use Rattle.block_cache.proofs.frame.locks_of.Goals as goal
 
 pub returns-in-Some : goal.returns-in-Some

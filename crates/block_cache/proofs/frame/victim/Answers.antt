@@ -7,7 +7,7 @@ use Rattle.std.proofs.lemmas.List.{reverse-append}
 use Rattle.std.proofs.lemmas.Iterator.Consumers.{YieldsList-from_shown}
 use Rattle.std.proofs.lemmas.Iterator.Search.{find_from_yields_List}
 use Rattle.block_cache.specs.declared.frame.Frame.{Frame}
-use Rattle.block_cache.proofs.Seats.{victim_is}
+use Rattle.block_cache.proofs.OrderOfUse.{victim_is}
 use Rattle.block_cache.proofs.frame.victim.Goals as goal
 
 pub returns-in-Some : goal.returns-in-Some

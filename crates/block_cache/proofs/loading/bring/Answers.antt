@@ -3,8 +3,8 @@ use Rattle.std.specs.Prelude.{Err}
 use Rattle.std.proofs.lemmas.Result.{err_from_is_err_and}
 use Rattle.vm_file.specs.Effects.{Fails, NoFault, IsDamage}
 use Rattle.vm_file.proofs.EffectsLemmas.{Fails-after, Fails-as}
-use Rattle.block_cache.proofs.Seats.{still_absent}
-use Rattle.block_cache.proofs.Steps.{moves_both, moves_live}
+use Rattle.block_cache.proofs.OrderOfUse.{still_absent}
+use Rattle.block_cache.proofs.CallAfterCall.{moves_both, moves_live}
 use Rattle.block_cache.proofs.loading.bring.Goals as goal
 
 pub fetch-requires-clause-live : goal.fetch-requires-clause-live

@@ -6,8 +6,8 @@ use Rattle.vm_file.specs.Effects.{NoFault}
 use Rattle.vm_file.proofs.EffectsLemmas.{Fails-as}
 use Rattle.block_cache.specs.Frames.{KeepsOverlay}
 use Rattle.block_cache.specs.declared.frame.Frame.{Frame}
-use Rattle.block_cache.proofs.Overlay.{bare_kept, bare}
-use Rattle.block_cache.proofs.Steps.{moves_frames, moves_both}
+use Rattle.block_cache.proofs.DocumentUnderFrames.{bare_kept, bare}
+use Rattle.block_cache.proofs.CallAfterCall.{moves_frames, moves_both}
 use Rattle.block_cache.proofs.loading.drop_all.Goals as goal
 
 pub returns-in_err-flush-clause-fails : goal.returns-in_err-flush-clause-fails

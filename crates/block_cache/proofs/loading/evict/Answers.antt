@@ -7,9 +7,9 @@ use Rattle.lru.specs.LruCache.{LruCache}
 use Rattle.block_cache.specs.State.{victim}
 use Rattle.block_cache.specs.Frames.{frame_of, residents}
 use Rattle.block_cache.specs.declared.frame.Frame.{Frame}
-use Rattle.block_cache.proofs.Seats.{residents-remove, residents-length, resident_is, victim_there, length-removed}
-use Rattle.block_cache.proofs.Steps.{moves_frames, moves_both}
-use Rattle.block_cache.proofs.Overlay.{dropped, dropped_kept}
+use Rattle.block_cache.proofs.OrderOfUse.{residents-remove, residents-length, resident_is, victim_there, length-removed}
+use Rattle.block_cache.proofs.CallAfterCall.{moves_frames, moves_both}
+use Rattle.block_cache.proofs.DocumentUnderFrames.{dropped, dropped_kept}
 use Rattle.block_cache.proofs.loading.evict.Goals as goal
 
 pub unwrap-frame-requires : goal.unwrap-frame-requires

@@ -4,9 +4,9 @@ use Rattle.lru.specs.LruCache.{LruCache}
 use Rattle.block_cache.specs.Bodies.{body_value}
 use Rattle.block_cache.specs.Frames.{residents, KeepsOverlay}
 use Rattle.block_cache.specs.declared.frame.Frame.{Frame}
-use Rattle.block_cache.proofs.Seats.{put_new}
-use Rattle.block_cache.proofs.Steps.{moves_drift, moves_frames, moves_both}
-use Rattle.block_cache.proofs.Overlay.{fetched, kept_more}
+use Rattle.block_cache.proofs.OrderOfUse.{put_new}
+use Rattle.block_cache.proofs.CallAfterCall.{moves_drift, moves_frames, moves_both}
+use Rattle.block_cache.proofs.DocumentUnderFrames.{fetched, kept_more}
 use Rattle.block_cache.proofs.loading.fetch.Goals as goal
 
 pub returns-in_err-body-clause-moves : goal.returns-in_err-body-clause-moves

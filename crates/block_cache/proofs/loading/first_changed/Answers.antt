@@ -5,7 +5,7 @@ use Rattle.std.specs.Map.Iter.{deref_pair}
 use Rattle.std.proofs.lemmas.Iterator.Consumers.{YieldsList-from_rest}
 use Rattle.std.proofs.lemmas.Iterator.Search.{find_from_yields_List}
 use Rattle.block_cache.specs.declared.frame.Frame.{Frame}
-use Rattle.block_cache.proofs.Seats.{find_passes, none_changed, found_held}
+use Rattle.block_cache.proofs.OrderOfUse.{find_passes, none_changed, found_held}
 use Rattle.block_cache.proofs.loading.first_changed.Goals as goal
 
 pub returns-in-Some : goal.returns-in-Some

@@ -1,5 +1,5 @@
 use Rattle.std.proofs.Common.{refl, ◌∙◌}
-use Rattle.block_cache.proofs.Steps.{moves_both, moves_none}
+use Rattle.block_cache.proofs.CallAfterCall.{moves_both, moves_none}
 use Rattle.block_cache.proofs.loading.flush.Goals as goal
 
 pub loop-block-init : goal.loop-block-init

@@ -1,7 +1,7 @@
 use Rattle.std.proofs.Common.{◌≤◌, length, arith}
 use Rattle.block_cache.specs.Frames.{residents}
-use Rattle.block_cache.proofs.Seats.{has_victim, residents-length}
-use Rattle.block_cache.proofs.Steps.{moves_none}
+use Rattle.block_cache.proofs.OrderOfUse.{has_victim, residents-length}
+use Rattle.block_cache.proofs.CallAfterCall.{moves_none}
 use Rattle.block_cache.proofs.loading.make_room.Goals as goal
 
 pub returns-in_err-new-clause-moves : goal.returns-in_err-new-clause-moves

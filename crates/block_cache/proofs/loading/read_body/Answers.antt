@@ -2,8 +2,8 @@ use Rattle.std.proofs.Common.{◌≡◌, refl, sym, ap, ◌∙◌, inr}
 use Rattle.std.specs.FinMap.{get}
 use Rattle.geos_model.specs.Document.{block_at, is_heap, is_heap_body}
 use Rattle.block_cache.specs.Bodies.{body_value}
-use Rattle.block_cache.proofs.Loaded.{body_is, no_image, unread, kinds_differ}
-use Rattle.block_cache.proofs.Overlay.{heap_body}
+use Rattle.block_cache.proofs.ReadImages.{body_is, no_image, unread, kinds_differ}
+use Rattle.block_cache.proofs.DocumentUnderFrames.{heap_body}
 use Rattle.block_cache.proofs.loading.read_body.Goals as goal
 
 pub returns-then-is_heap-clause-same : goal.returns-then-is_heap-clause-same

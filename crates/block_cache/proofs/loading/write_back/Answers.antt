@@ -9,9 +9,9 @@ use Rattle.block_cache.specs.Bodies.{body_value}
 use Rattle.block_cache.specs.Frames.{frame_of, residents, with_frame, some_changed}
 use Rattle.block_cache.specs.declared.body.BlockBody.{BlockBody}
 use Rattle.block_cache.specs.declared.frame.Frame.{Frame}
-use Rattle.block_cache.proofs.Seats.{seats_kept, fewer_changed}
-use Rattle.block_cache.proofs.Steps.{moves_drift, moves_none, kept_passes}
-use Rattle.block_cache.proofs.Overlay.{written, written_kept, held-with_frame}
+use Rattle.block_cache.proofs.OrderOfUse.{seats_kept, fewer_changed}
+use Rattle.block_cache.proofs.CallAfterCall.{moves_drift, moves_none, kept_passes}
+use Rattle.block_cache.proofs.DocumentUnderFrames.{written, written_kept, held-with_frame}
 use Rattle.block_cache.proofs.loading.write_back.Goals as goal
 
 pub put_of-requires : goal.put_of-requires

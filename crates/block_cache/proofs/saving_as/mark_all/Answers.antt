@@ -7,8 +7,8 @@ use Rattle.lru.specs.LruCache.{LruCache}
 use Rattle.block_cache.specs.Bodies.{body_value}
 use Rattle.block_cache.specs.Frames.{frame_of, residents, overlay, with_frame, AreFramesOf}
 use Rattle.block_cache.specs.declared.frame.Frame.{Frame}
-use Rattle.block_cache.proofs.Overlay.{block_by, overlay_valid, overlay_with_frame, kept_with_frame, held-with_frame}
-use Rattle.block_cache.proofs.Seats.{seats_same}
+use Rattle.block_cache.proofs.DocumentUnderFrames.{block_by, overlay_valid, overlay_with_frame, kept_with_frame, held-with_frame}
+use Rattle.block_cache.proofs.OrderOfUse.{seats_same}
 use Rattle.block_cache.proofs.saving_as.mark_all.Goals as goal
 
 abbrev marked : Frame → Frame

@@ -1,6 +1,6 @@
 use Rattle.std.proofs.Common.{◌∙◌}
 use Rattle.chunk_arrays.specs.Rewriting.{elements_of}
-use Rattle.chunk_arrays.proofs.TableLemmas.{elements-added}
+use Rattle.chunk_arrays.proofs.RewrittenLemmas.{elements-added}
 use Rattle.chunk_arrays.proofs.rewriting.draft_elements.Goals as goal
 
 pub returns : goal.returns

@@ -4,7 +4,7 @@ use Rattle.std.proofs.lemmas.List.{take_rest}
 use Rattle.geos_model.specs.Words.{word}
 use Rattle.chunk_arrays.specs.Drafting.{Adds}
 use Rattle.chunk_arrays.proofs.DraftingLemmas.{adds-as}
-use Rattle.chunk_arrays.proofs.TableLemmas.{head-added}
+use Rattle.chunk_arrays.proofs.RewrittenLemmas.{head-added}
 use Rattle.chunk_arrays.proofs.rewriting.draft_head.Goals as goal
 
 pub slice_bounds-put-end : goal.slice_bounds-put-end

@@ -39,15 +39,15 @@ returns-in_err-name c =
     (no_name _ c.args.words.now c.in-len5.len_at_least c.in-len5.len_below _ _ part.0 _ _ (spelled _ _ (sym c.in_ok-block.was ∙ c.read.ensures)) (spelled _ _ (sym c.in_ok-chunk.was ∙ c.read-2.ensures))
     part.1 (spelled _ _ (sym c.in_ok-replace.was ∙ c.read-3.ensures)) c.in_err-name.ensures)
 
-pub returns-in_err-bytes : goal.returns-in_err-bytes
-returns-in_err-bytes c =
-    let r = c.from_residual-in_err-bytes in
+pub returns-in_err-part : goal.returns-in_err-part
+returns-in_err-part c =
+    let r = c.from_residual-in_err-part in
     let p = err_from_is_err_and r.result r.ensures.1 in
     rw (p.1, p.2)
     (no_part _ c.args.words.now c.in-len5.len_at_least c.in-len5.len_below _ _ _ _ _ (spelled _ _ (sym c.in_ok-block.was ∙ c.read.ensures)) (spelled _ _ (sym c.in_ok-chunk.was ∙ c.read-2.ensures))
-    c.in_ok-name.ensures (spelled _ _ (sym c.in_ok-replace.was ∙ c.read-3.ensures)) c.in_err-bytes.ensures)
+    c.in_ok-name.ensures (spelled _ _ (sym c.in_ok-replace.was ∙ c.read-3.ensures)) c.in_err-part.ensures)
 
 pub returns : goal.returns
 returns c =
     all_five _ c.args.words.now c.in-len5.len_at_least c.in-len5.len_below _ _ _ _ _ (spelled _ _ (sym c.in_ok-block.was ∙ c.read.ensures)) (spelled _ _ (sym c.in_ok-chunk.was ∙ c.read-2.ensures))
-    c.in_ok-name.ensures c.in_ok-bytes.ensures (spelled _ _ (sym c.in_ok-replace.was ∙ c.read-3.ensures))
+    c.in_ok-name.ensures c.in_ok-part.ensures (spelled _ _ (sym c.in_ok-replace.was ∙ c.read-3.ensures))

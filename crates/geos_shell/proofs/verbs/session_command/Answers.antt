@@ -4,31 +4,31 @@ use Rattle.geos_shell.proofs.Rows.{at_row, passed, made_0}
 use Rattle.geos_shell.proofs.verbs.session_command.Goals as goal
 
 pub returns-then-is : goal.returns-then-is
-returns-then-is c = at_row 33 _ (codes "undo") _ (λ c. c) _ _ c.if-is.ensures refl (made_0 _ (λ c. c) c.args.words.now _ c.none.ensures)
+returns-then-is c = at_row 33 _ (codes "undo") _ (λ c. c) _ _ c.if-is.ensures refl (made_0 _ (λ c. c) commands.Undo c.args.words.now _ c.none.ensures (λ x h. h) refl)
 
 pub returns-then-is-2 : goal.returns-then-is-2
-returns-then-is-2 c = at_row 33 _ (codes "redo") _ (λ c. c) _ _ c.if-is-2.ensures refl (made_0 _ (λ c. c) c.args.words.now _ c.none-then-is-2.ensures)
+returns-then-is-2 c = at_row 33 _ (codes "redo") _ (λ c. c) _ _ c.if-is-2.ensures refl (made_0 _ (λ c. c) commands.Redo c.args.words.now _ c.none-then-is-2.ensures (λ x h. h) refl)
 
 pub returns-then-is-3 : goal.returns-then-is-3
-returns-then-is-3 c = at_row 33 _ (codes "begin") _ (λ c. c) _ _ c.if-is-3.ensures refl (made_0 _ (λ c. c) c.args.words.now _ c.none-then-is-3.ensures)
+returns-then-is-3 c = at_row 33 _ (codes "begin") _ (λ c. c) _ _ c.if-is-3.ensures refl (made_0 _ (λ c. c) commands.Begin c.args.words.now _ c.none-then-is-3.ensures (λ x h. h) refl)
 
 pub returns-then-is-4 : goal.returns-then-is-4
-returns-then-is-4 c = at_row 33 _ (codes "end") _ (λ c. c) _ _ c.if-is-4.ensures refl (made_0 _ (λ c. c) c.args.words.now _ c.none-then-is-4.ensures)
+returns-then-is-4 c = at_row 33 _ (codes "end") _ (λ c. c) _ _ c.if-is-4.ensures refl (made_0 _ (λ c. c) commands.End c.args.words.now _ c.none-then-is-4.ensures (λ x h. h) refl)
 
 pub returns-then-is-5 : goal.returns-then-is-5
-returns-then-is-5 c = at_row 33 _ (codes "abandon") _ (λ c. c) _ _ c.if-is-5.ensures refl (made_0 _ (λ c. c) c.args.words.now _ c.none-then-is-5.ensures)
+returns-then-is-5 c = at_row 33 _ (codes "abandon") _ (λ c. c) _ _ c.if-is-5.ensures refl (made_0 _ (λ c. c) commands.Abandon c.args.words.now _ c.none-then-is-5.ensures (λ x h. h) refl)
 
 pub returns-then-is-6 : goal.returns-then-is-6
-returns-then-is-6 c = at_row 33 _ (codes "update") _ (λ c. c) _ _ c.if-is-6.ensures refl (made_0 _ (λ c. c) c.args.words.now _ c.none-then-is-6.ensures)
+returns-then-is-6 c = at_row 33 _ (codes "update") _ (λ c. c) _ _ c.if-is-6.ensures refl (made_0 _ (λ c. c) commands.Update c.args.words.now _ c.none-then-is-6.ensures (λ x h. h) refl)
 
 pub returns-then-is-7 : goal.returns-then-is-7
-returns-then-is-7 c = at_row 33 _ (codes "save") _ (λ c. c) _ _ c.if-is-7.ensures refl (made_0 _ (λ c. c) c.args.words.now _ c.none-then-is-7.ensures)
+returns-then-is-7 c = at_row 33 _ (codes "save") _ (λ c. c) _ _ c.if-is-7.ensures refl (made_0 _ (λ c. c) commands.Save c.args.words.now _ c.none-then-is-7.ensures (λ x h. h) refl)
 
 pub returns-then-is-8 : goal.returns-then-is-8
-returns-then-is-8 c = at_row 33 _ (codes "revert") _ (λ c. c) _ _ c.if-is-8.ensures refl (made_0 _ (λ c. c) c.args.words.now _ c.none-then-is-8.ensures)
+returns-then-is-8 c = at_row 33 _ (codes "revert") _ (λ c. c) _ _ c.if-is-8.ensures refl (made_0 _ (λ c. c) commands.Revert c.args.words.now _ c.none-then-is-8.ensures (λ x h. h) refl)
 
 pub returns-then-is-9 : goal.returns-then-is-9
-returns-then-is-9 c = at_row 33 _ (codes "saveas") _ (λ c. c) _ _ c.if-is-9.ensures refl (made_0 _ (λ c. c) c.args.words.now _ c.none-then-is-9.ensures)
+returns-then-is-9 c = at_row 33 _ (codes "saveas") _ (λ c. c) _ _ c.if-is-9.ensures refl (made_0 _ (λ c. c) commands.SaveAs c.args.words.now _ c.none-then-is-9.ensures (λ x h. h) refl)
 
 pub returns : goal.returns
 returns c =

@@ -8,4 +8,4 @@ loop-done-init c = (omega arith, no_block c.args.bytes.now c.args.to c.args.from
 pub loop-done-preserved : goal.loop-done-preserved
 loop-done-preserved c =
     let within : c.loop-done.done + c.min-k.result ≤ c.args.n = search rules in
-    (within, block_down c.args.bytes.now c.loop-done.bytes c.copy_block.new.bytes c.args.from c.args.to c.loop-done.done c.min-k.result c.requires.down (omega (arith, within, c.requires.source)) c.loop-done.invariant.1 c.copy_block.ensures)
+    (within, block_down c.args.bytes.now c.loop-done.bytes c.move_block.new.bytes c.args.from c.args.to c.loop-done.done c.min-k.result c.requires.down (omega (arith, within, c.requires.source)) c.loop-done.invariant.1 c.move_block.ensures)

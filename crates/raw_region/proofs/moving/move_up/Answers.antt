@@ -8,4 +8,4 @@ loop-left-init c = (omega arith, no_block c.args.bytes.now (c.args.to + c.args.n
 pub loop-left-preserved : goal.loop-left-preserved
 loop-left-preserved c =
     let left = c.loop-left.left in let k = c.min-k.result in let at = left - k in let step : k ≤ left = search rules in let within = c.loop-left.invariant.0 in
-    (omega (arith, within), block_up c.args.bytes.now c.loop-left.bytes c.copy_block.new.bytes c.args.from c.args.to c.args.n left at k c.requires.up c.requires.target (omega (arith, step)) within c.loop-left.invariant.1 c.copy_block.ensures)
+    (omega (arith, within), block_up c.args.bytes.now c.loop-left.bytes c.move_block.new.bytes c.args.from c.args.to c.args.n left at k c.requires.up c.requires.target (omega (arith, step)) within c.loop-left.invariant.1 c.move_block.ensures)

@@ -1,6 +1,6 @@
 use Rattle.std.proofs.Common.{◌≡◌, sym, ap, ◌∙◌}
 use Rattle.geos_model.specs.Document.{is_live, attributes_of}
-use Rattle.block_cache.proofs.Overlay.{overlay_live, overlay_attributes}
+use Rattle.block_cache.proofs.DocumentUnderFrames.{overlay_live, overlay_attributes}
 use Rattle.block_cache.proofs.cache.Cache.attributes.Goals as goal
 
 pub unwrap-requires : goal.unwrap-requires

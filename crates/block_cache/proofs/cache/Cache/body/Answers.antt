@@ -4,7 +4,7 @@ use Rattle.std.specs.FinMap.{get}
 use Rattle.geos_model.specs.Document.{Block}
 use Rattle.block_cache.specs.Bodies.{body_value}
 use Rattle.block_cache.specs.State.{CacheState, is_resident}
-use Rattle.block_cache.proofs.Seats.{resident_is}
+use Rattle.block_cache.proofs.OrderOfUse.{resident_is}
 use Rattle.block_cache.proofs.Tables.{body_under}
 use Rattle.block_cache.proofs.cache.Cache.body.Goals as goal
 

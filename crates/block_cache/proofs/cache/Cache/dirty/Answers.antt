@@ -2,8 +2,8 @@ use Rattle.std.proofs.Common.{◌≡◌, ℕ, true, refl, ap, sym, ◌∙◌}
 use Rattle.lru.specs.LruCache.{LruCache}
 use Rattle.block_cache.specs.Frames.{residents, overlay, AreFramesOf}
 use Rattle.block_cache.specs.declared.frame.Frame.{Frame}
-use Rattle.block_cache.proofs.Seats.{seats_same}
-use Rattle.block_cache.proofs.Overlay.{overlay_with_frame, kept_with_frame}
+use Rattle.block_cache.proofs.OrderOfUse.{seats_same}
+use Rattle.block_cache.proofs.DocumentUnderFrames.{overlay_with_frame, kept_with_frame}
 use Rattle.std.proofs.Common.{subst}
 use Rattle.block_cache.proofs.cache.Cache.dirty.Goals as goal
 

@@ -2,7 +2,7 @@ use Rattle.std.proofs.Common.{ap, subst, ◌∙◌}
 use Rattle.std.proofs.lemmas.Result.{on_err_weaker}
 use Rattle.vm_file.specs.Effects.{Fails, NoFault}
 use Rattle.block_cache.specs.State.{CacheState, KeepsDocument}
-use Rattle.block_cache.proofs.Steps.{stays_by, state}
+use Rattle.block_cache.proofs.CallAfterCall.{stays_by, state}
 use Rattle.block_cache.proofs.cache.Cache.drop_frames.Goals as goal
 
 pub returns-clause-stays : goal.returns-clause-stays

@@ -1,6 +1,6 @@
 use Rattle.std.proofs.Common.{◌≡◌, sym, ap, ◌∙◌}
 use Rattle.geos_model.specs.Document.{is_heap, is_live}
-use Rattle.block_cache.proofs.Overlay.{overlay_kind, overlay_live}
+use Rattle.block_cache.proofs.DocumentUnderFrames.{overlay_kind, overlay_live}
 use Rattle.block_cache.proofs.cache.Cache.is_heap.Goals as goal
 
 pub unwrap-requires : goal.unwrap-requires

@@ -1,6 +1,6 @@
 use Rattle.std.proofs.Common.{sym, ap, ◌∙◌}
 use Rattle.geos_model.specs.Document.{is_live}
-use Rattle.block_cache.proofs.Overlay.{overlay_live}
+use Rattle.block_cache.proofs.DocumentUnderFrames.{overlay_live}
 use Rattle.block_cache.proofs.cache.Cache.is_live.Goals as goal
 
 pub returns : goal.returns

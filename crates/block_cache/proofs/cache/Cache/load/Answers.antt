@@ -11,10 +11,10 @@ use Rattle.lru.specs.LruCache.{LruCache, promoted}
 use Rattle.block_cache.specs.State.{CacheState, KeepsLocks, locked_count, KeepsDocument, is_resident, after_load, evicted, all_locked}
 use Rattle.block_cache.specs.Frames.{frame_of, residents, overlay}
 use Rattle.block_cache.specs.declared.frame.Frame.{Frame}
-use Rattle.block_cache.proofs.Seats.{none_held, resident_is, lookup-residents, residents-promoted, held-promoted}
-use Rattle.block_cache.proofs.Overlay.{overlay_same, kept_same, overlay_live}
+use Rattle.block_cache.proofs.OrderOfUse.{none_held, resident_is, lookup-residents, residents-promoted, held-promoted}
+use Rattle.block_cache.proofs.DocumentUnderFrames.{overlay_same, kept_same, overlay_live}
 use Rattle.block_cache.proofs.Locks.{keys-residents, count_promoted, keeps_either}
-use Rattle.block_cache.proofs.Steps.{moves_frames, stays_by, state}
+use Rattle.block_cache.proofs.CallAfterCall.{moves_frames, stays_by, state}
 use Rattle.block_cache.proofs.cache.Cache.load.Goals as goal
 
 pub invariant_of-self : goal.invariant_of-self

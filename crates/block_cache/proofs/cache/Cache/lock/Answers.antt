@@ -5,8 +5,8 @@ use Rattle.lru.specs.LruCache.{LruCache}
 use Rattle.block_cache.specs.State.{CacheState, ResidentBlock, locks_of, is_resident}
 use Rattle.block_cache.specs.Frames.{frame_of, residents, overlay, AreFramesOf}
 use Rattle.block_cache.specs.declared.frame.Frame.{Frame}
-use Rattle.block_cache.proofs.Seats.{residents-with_frame, lookup-residents, resident_is, frame_by, locks_below, locks_under}
-use Rattle.block_cache.proofs.Overlay.{overlay_with_frame, kept_with_frame}
+use Rattle.block_cache.proofs.OrderOfUse.{residents-with_frame, lookup-residents, resident_is, frame_by, locks_below, locks_under}
+use Rattle.block_cache.proofs.DocumentUnderFrames.{overlay_with_frame, kept_with_frame}
 use Rattle.block_cache.proofs.cache.Cache.lock.Goals as goal
 
 locks_is : (h : ℕ) (after_load : List ResidentBlock) (es : List (ℕ × Frame)) → residents es ≡ after_load → locks_of after_load h ≡ unwrap_or (option_map (λ (f : Frame). f.locks) (frame_of es h)) 0

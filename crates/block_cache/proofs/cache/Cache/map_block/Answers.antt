@@ -1,5 +1,5 @@
 use Rattle.std.proofs.Common.{sym, ap, ◌∙◌}
-use Rattle.block_cache.proofs.Overlay.{overlay_map}
+use Rattle.block_cache.proofs.DocumentUnderFrames.{overlay_map}
 use Rattle.block_cache.proofs.cache.Cache.map_block.Goals as goal
 
 pub returns : goal.returns

@@ -2,7 +2,7 @@ use Rattle.std.proofs.Common.{◌≡◌, None, ap, sym, subst, ◌∙◌}
 use Rattle.vm_file.specs.Disk.{FileState}
 use Rattle.block_cache.specs.State.{CacheState, Marks, KeepsDocument}
 use Rattle.block_cache.proofs.Marking.{marks_by, on_err_always}
-use Rattle.block_cache.proofs.Steps.{stays_by, state}
+use Rattle.block_cache.proofs.CallAfterCall.{stays_by, state}
 use Rattle.block_cache.proofs.cache.Cache.mark.Goals as goal
 
 pub returns-clause-ok : goal.returns-clause-ok

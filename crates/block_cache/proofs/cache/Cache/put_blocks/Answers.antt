@@ -6,8 +6,8 @@ use Rattle.vm_file.specs.Effects.{LeavesDocument}
 use Rattle.block_cache.specs.Frames.{frame_of, with_frames}
 use Rattle.block_cache.specs.State.{CacheState, as_file, is_resident}
 use Rattle.block_cache.proofs.Blocks.{IsAway}
-use Rattle.block_cache.proofs.Seats.{none_held, resident_is}
-use Rattle.block_cache.proofs.PutUnder.{puts_under, puts_kept}
+use Rattle.block_cache.proofs.OrderOfUse.{none_held, resident_is}
+use Rattle.block_cache.proofs.BlocksPutUnderFrames.{puts_under, puts_kept}
 use Rattle.block_cache.proofs.cache.Cache.put_blocks.Goals as goal
 
 pub invariant_of-self : goal.invariant_of-self

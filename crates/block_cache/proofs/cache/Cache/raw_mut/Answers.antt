@@ -8,9 +8,9 @@ use Rattle.block_cache.specs.LendsFrame.{with_changed}
 use Rattle.block_cache.specs.State.{CacheState, is_resident}
 use Rattle.block_cache.specs.declared.body.BlockBody.TheVariants.{Raw}
 use Rattle.block_cache.specs.declared.frame.Frame.{Frame}
-use Rattle.block_cache.proofs.Lent.{is_lent, state_lent, kept_lent}
-use Rattle.block_cache.proofs.Overlay.{overlay_kind}
-use Rattle.block_cache.proofs.Seats.{resident_is}
+use Rattle.block_cache.proofs.LentBodies.{is_lent, state_lent, kept_lent}
+use Rattle.block_cache.proofs.DocumentUnderFrames.{overlay_kind}
+use Rattle.block_cache.proofs.OrderOfUse.{resident_is}
 use Rattle.block_cache.proofs.Tables.{body_under}
 use Rattle.block_cache.proofs.cache.Cache.raw_mut.Goals as goal
 

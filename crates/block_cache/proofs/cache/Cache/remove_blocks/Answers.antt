@@ -6,7 +6,7 @@ use Rattle.block_cache.specs.State.{CacheState, residents_without}
 use Rattle.block_cache.specs.Frames.{residents, overlay, AreFramesOf}
 use Rattle.block_cache.specs.declared.frame.Frame.{Frame}
 use Rattle.block_cache.proofs.Blocks.{overlay_without, kept_without, residents-without}
-use Rattle.block_cache.proofs.Overlay.{overlay_map}
+use Rattle.block_cache.proofs.DocumentUnderFrames.{overlay_map}
 use Rattle.block_cache.proofs.cache.Cache.remove_blocks.Goals as goal
 
 pub put_blocks-removed-requires-clause-removals : goal.put_blocks-removed-requires-clause-removals

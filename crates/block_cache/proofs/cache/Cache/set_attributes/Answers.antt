@@ -3,7 +3,7 @@ use Rattle.geos_model.specs.Document.{Document, is_heap, is_live, with_attribute
 use Rattle.vm_file.specs.Disk.{FileState}
 use Rattle.block_cache.specs.State.{CacheState}
 use Rattle.block_cache.specs.Frames.{residents, overlay, AreFramesOf}
-use Rattle.block_cache.proofs.Overlay.{overlay_kind, overlay_live}
+use Rattle.block_cache.proofs.DocumentUnderFrames.{overlay_kind, overlay_live}
 use Rattle.block_cache.proofs.Tables.{overlay_set_attributes, kept_set_attributes}
 use Rattle.block_cache.proofs.cache.Cache.set_attributes.Goals as goal
 

@@ -3,7 +3,7 @@ use Rattle.geos_model.specs.Document.{Document, is_live}
 use Rattle.vm_file.specs.Disk.{FileState}
 use Rattle.block_cache.specs.State.{CacheState}
 use Rattle.block_cache.specs.Frames.{residents, overlay, AreFramesOf}
-use Rattle.block_cache.proofs.Overlay.{overlay_live}
+use Rattle.block_cache.proofs.DocumentUnderFrames.{overlay_live}
 use Rattle.block_cache.proofs.Tables.{overlay_set_map, kept_set_map}
 use Rattle.block_cache.proofs.cache.Cache.set_map.Goals as goal
 

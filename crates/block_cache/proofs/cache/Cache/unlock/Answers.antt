@@ -5,8 +5,8 @@ use Rattle.lru.specs.LruCache.{LruCache}
 use Rattle.block_cache.specs.State.{CacheState, locks_of, is_resident}
 use Rattle.block_cache.specs.Frames.{frame_of, residents, overlay, AreFramesOf}
 use Rattle.block_cache.specs.declared.frame.Frame.{Frame}
-use Rattle.block_cache.proofs.Seats.{residents-with_frame, lookup-residents, resident_is, frame_by, locked_there, locks_some}
-use Rattle.block_cache.proofs.Overlay.{overlay_with_frame, kept_with_frame}
+use Rattle.block_cache.proofs.OrderOfUse.{residents-with_frame, lookup-residents, resident_is, frame_by, locked_there, locks_some}
+use Rattle.block_cache.proofs.DocumentUnderFrames.{overlay_with_frame, kept_with_frame}
 use Rattle.block_cache.proofs.cache.Cache.unlock.Goals as goal
 
 pub unlock-requires : goal.unlock-requires

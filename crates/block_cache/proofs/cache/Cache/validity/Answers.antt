@@ -4,8 +4,8 @@ use Rattle.geos_model.specs.ElementArray.{all_distinct}
 use Rattle.vm_file.specs.Disk.{IsFileDocument, IsCrashConsistent}
 use Rattle.block_cache.specs.State.{CacheState, is_resident, locks_of}
 use Rattle.block_cache.proofs.Locks.{seats_apart, few_locks}
-use Rattle.block_cache.proofs.Overlay.{overlay_live, listed_under}
-use Rattle.block_cache.proofs.Seats.{frame_by, resident_is}
+use Rattle.block_cache.proofs.DocumentUnderFrames.{overlay_live, listed_under}
+use Rattle.block_cache.proofs.OrderOfUse.{frame_by, resident_is}
 use Rattle.block_cache.proofs.cache.Cache.validity.Goals as goal
 
 pub returns-clause-crash_consistent : goal.returns-clause-crash_consistent

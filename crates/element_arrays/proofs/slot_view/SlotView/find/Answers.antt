@@ -12,12 +12,12 @@ returns-in-loop-t c =
     let slots : List (Option Element) = c.args.self.now.slots.slots in
     let low : c.loop-t.t < length slots = omega arith in
     let passes : Option Element → Bool = λ slot. option_map_or (λ e. same_bytes (drop c.args.skip e.bytes) c.args.bytes.now) slot false in
-    let slot : get_or slots c.loop-t.t None ≡ Some (used_element c.in-Some.used) = sym c.element.ensures ∙ ap (option_map used_element) c.in-Some.is in
+    let slot : get_or slots c.loop-t.t None ≡ Some (used_element c.in-Some.used) = sym c.element_from-next.ensures.used ∙ ap (option_map used_element) c.in-Some.is in
     let same : same_bytes (drop c.args.skip c.in-Some.used.bytes.now) c.args.bytes.now ≡ true =
-    ap (λ (l : List ℕ). same_bytes l c.args.bytes.now) (sym c.behind.ensures) ∙ sym c.eq.ensures ∙ c.if-eq.true in
-    sym (position_at passes slots c.loop-t.t None low c.loop-t.invariant (ap passes slot ∙ same))
+    ap (λ (l : List ℕ). same_bytes l c.args.bytes.now) (sym c.behind.ensures) ∙ sym c.are_same.ensures ∙ c.if-are_same.true in
+    sym (position_at passes slots c.loop-t.t None low c.loop-t.invariant.none (ap passes slot ∙ same))
 
 pub returns : goal.returns
 returns c =
     let slots : List (Option Element) = c.args.self.now.slots.slots in
-    sym (position_none (λ slot. option_map_or (λ e. same_bytes (drop c.args.skip e.bytes) c.args.bytes.now) slot false) slots None (λ k l. c.loop-t.invariant k (omega arith)))
+    sym (position_none (λ slot. option_map_or (λ e. same_bytes (drop c.args.skip e.bytes) c.args.bytes.now) slot false) slots None (λ k l. c.loop-t.invariant.none k (omega arith)))

@@ -12,7 +12,7 @@ use Rattle.undo_log.specs.Turning.{IsRefusedUndoOrRedo, IsSure, newest_made, bus
 use Rattle.undo_log.proofs.Groups.{redo_listed, redone_invariant}
 use Rattle.undo_log.proofs.Keeping.{Holds, keeps_refl, kept_invariant}
 use Rattle.undo_log.proofs.LookUps.{session_with}
-use Rattle.undo_log.proofs.Turns.{cant_take, never_refused, newest_can, none_open, some_newest, sure_turns, redo_can, redo_held, redo_refused, redo_taken}
+use Rattle.undo_log.proofs.Turns.{cant_take, never_refused, newest_can, newest_is, none_open, some_newest, sure_turns, redo_can, redo_held, redo_refused, redo_taken}
 use Rattle.undo_log.proofs.session.Session.redo.Goals as goal
 
 pub returns-in-Some-clause-err : goal.returns-in-Some-clause-err
@@ -81,3 +81,13 @@ returns-in_ok-make_entry-in-Some-newest_redo-clause-step g c =
     let new = session_with c.make_entry.new.blocks c.move_redone.new.self.lists in
     subst (λ (s : SessionState g.row.S.Denot). IsStep facts s new commands.Redo Accepted) c.self.view_is
     (redo_taken facts old new c.in-Some-newest_redo.entry.now (ap busy_fault c.self.view_is ∙ sym c.in_default.ensures.is) c.in-Some-newest_redo.ensures c.move_redone.ensures c.in_ok-make_entry-in-Some-newest_redo.ensures.ok)
+
+pub returns-in_ok-make_entry-in-Some-newest_redo-clause-sure : goal.returns-in_ok-make_entry-in-Some-newest_redo-clause-sure
+returns-in_ok-make_entry-in-Some-newest_redo-clause-sure g c =
+    let facts = g.S.Store.facts in let entry = c.in-Some-newest_redo.entry.now in let first = c.in-Some-newest_redo.ensures in
+    let old = session_with c.self.inside.blocks c.self.inside.log.lists in
+    let new = session_with c.make_entry.new.blocks c.move_redone.new.self.lists in
+    subst (λ (s : SessionState g.row.S.Denot). busy_fault s ≡ None → IsSure facts s Forwards s.log.redo → IsOk (Ok tt) × (new.disk ≡ s.disk) × (new.document ≡ newest_made Forwards s.log.redo s.document)) c.self.view_is
+    (λ free sure.
+      let made = c.make_entry.ensures.sure (sure_turns facts old Forwards entry old.log.redo first (redo_can facts old) sure) in
+      (refl, made.2.0, made.2.1 ∙ newest_is facts Forwards entry old.log.redo old.document first))

@@ -12,7 +12,7 @@ use Rattle.undo_log.specs.Turning.{IsRefusedUndoOrRedo, IsSure, newest_made, bus
 use Rattle.undo_log.proofs.Groups.{undo_listed, undone_invariant}
 use Rattle.undo_log.proofs.Keeping.{Holds, keeps_refl, kept_invariant}
 use Rattle.undo_log.proofs.LookUps.{session_with}
-use Rattle.undo_log.proofs.Turns.{cant_take, never_refused, newest_can, none_open, some_newest, sure_turns, undo_can, undo_held, undo_refused, undo_taken}
+use Rattle.undo_log.proofs.Turns.{cant_take, never_refused, newest_can, newest_is, none_open, some_newest, sure_turns, undo_can, undo_held, undo_refused, undo_taken}
 use Rattle.undo_log.proofs.session.Session.undo.Goals as goal
 
 pub returns-in-Some-clause-err : goal.returns-in-Some-clause-err
@@ -81,3 +81,13 @@ returns-in_ok-make_entry-in-Some-newest_undo-clause-step g c =
     let new = session_with c.make_entry.new.blocks c.move_undone.new.self.lists in
     subst (λ (s : SessionState g.row.S.Denot). IsStep facts s new commands.Undo Accepted) c.self.view_is
     (undo_taken facts old new c.in-Some-newest_undo.entry.now (ap busy_fault c.self.view_is ∙ sym c.in_default.ensures.is) c.in-Some-newest_undo.ensures c.move_undone.ensures c.in_ok-make_entry-in-Some-newest_undo.ensures.ok)
+
+pub returns-in_ok-make_entry-in-Some-newest_undo-clause-sure : goal.returns-in_ok-make_entry-in-Some-newest_undo-clause-sure
+returns-in_ok-make_entry-in-Some-newest_undo-clause-sure g c =
+    let facts = g.S.Store.facts in let entry = c.in-Some-newest_undo.entry.now in let first = c.in-Some-newest_undo.ensures in
+    let old = session_with c.self.inside.blocks c.self.inside.log.lists in
+    let new = session_with c.make_entry.new.blocks c.move_undone.new.self.lists in
+    subst (λ (s : SessionState g.row.S.Denot). busy_fault s ≡ None → IsSure facts s Backwards s.log.undo → IsOk (Ok tt) × (new.disk ≡ s.disk) × (new.document ≡ newest_made Backwards s.log.undo s.document)) c.self.view_is
+    (λ free sure.
+      let made = c.make_entry.ensures.sure (sure_turns facts old Backwards entry old.log.undo first (undo_can facts old free) sure) in
+      (refl, made.2.0, made.2.1 ∙ newest_is facts Backwards entry old.log.undo old.document first))

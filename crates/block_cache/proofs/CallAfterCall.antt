@@ -7,7 +7,7 @@ use Rattle.vm_file.proofs.PassingLemmas.{KeepsCommitted-refl, KeepsCommitted-tra
 use Rattle.block_cache.specs.State.{CacheState, KeepsDocument}
 use Rattle.block_cache.specs.Frames.{residents, overlay, AreFramesOf, KeepsOverlay}
 use Rattle.block_cache.specs.declared.frame.Frame.{Frame}
-use Rattle.block_cache.proofs.Overlay.{kept_drifts, overlay_drifts, overlay_live}
+use Rattle.block_cache.proofs.DocumentUnderFrames.{kept_drifts, overlay_drifts, overlay_live}
 
 module _ {S : Type 0} (facts : S → StoreFacts) where
   pub kept_passes : (a b : FileState S) (fs : List (ℕ × Frame)) → KeepsCommitted facts a.disk b.disk → AreFramesOf (facts a.disk.store).honest b.document fs → AreFramesOf (facts b.disk.store).honest b.document fs

@@ -10,8 +10,8 @@ use Rattle.vm_file.specs.declared.member.Member.{Member}
 use Rattle.block_cache.specs.Frames.{overlay, with_frames, AreFramesOf}
 use Rattle.block_cache.specs.declared.frame.Frame.{Frame}
 use Rattle.block_cache.proofs.Blocks.{IsAway, overlay_puts, kept_puts}
-use Rattle.block_cache.proofs.Overlay.{kept_drifts, overlay_drifts}
-use Rattle.block_cache.proofs.Steps.{kept_passes}
+use Rattle.block_cache.proofs.DocumentUnderFrames.{kept_drifts, overlay_drifts}
+use Rattle.block_cache.proofs.CallAfterCall.{kept_passes}
 
 module _ {S : Type 0} (facts : S → StoreFacts) (a b : FileState S) (es : List (ℕ × Frame)) (puts : List Member) where
   pub puts_kept : (r : Result (Unit {0}) Fault) → All (IsAway es) puts → AreFramesOf (facts a.disk.store).honest a.document es

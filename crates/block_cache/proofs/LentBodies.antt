@@ -14,8 +14,8 @@ use Rattle.vm_file.specs.Disk.{Disk}
 use Rattle.block_cache.specs.Frames.{frame_of, overlay, residents, IsFrameOf, AreFramesOf}
 use Rattle.block_cache.specs.declared.frame.Frame.{Frame}
 use Rattle.block_cache.specs.State.{CacheState}
-use Rattle.block_cache.proofs.Overlay.{cover, get-overlay, overlay_map, overlay_attributes, same_document}
-use Rattle.block_cache.proofs.Seats.{seats_kept}
+use Rattle.block_cache.proofs.DocumentUnderFrames.{cover, get-overlay, overlay_map, overlay_attributes, same_document}
+use Rattle.block_cache.proofs.OrderOfUse.{seats_kept}
 
 pub is_lent : (o : Option (MutBor Frame)) → is_some (option_copied_mut o) ≡ true → IsSome o
 is_lent None is = absurd (cc is)
