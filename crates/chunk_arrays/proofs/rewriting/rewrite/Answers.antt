@@ -7,7 +7,6 @@ use Rattle.chunk_arrays.specs.Rewriting.{elements_of, extra_after, rewritten}
 use Rattle.chunk_arrays.specs.declared.rewriting.NewElement.{NewElement}
 use Rattle.chunk_arrays.proofs.RewritingLemmas.{cut, head_room, length-extra_after, length-other_extra}
 use Rattle.chunk_arrays.proofs.ReplacingLemmas.{refused-long, accepted-short}
-use Rattle.chunk_arrays.proofs.TableLemmas.{place_table-le}
 use Rattle.chunk_arrays.proofs.RewrittenLemmas.{length-head_after, rewritten_leads}
 use Rattle.chunk_arrays.proofs.rewriting.rewrite.Goals as goal
 
