@@ -32,12 +32,7 @@ impl Model for Splice {
 
 impl Splice {
     /// The splice that puts bytes in the place of a part that begins at `at`.
-    pub(crate) fn of(
-        alloc: Global,
-        at: u32,
-        old: &[u8],
-        new: &[u8],
-    ) -> Result<Splice, AllocError>
+    pub(crate) fn of(alloc: Global, at: u32, old: &[u8], new: &[u8]) -> Result<Splice, AllocError>
         requires old { length old.now < 2 ^ 32 }
         requires new { length new.now < 2 ^ 32 }
         ensures { IfOk result (λ s. s ≡ record { at = at; old = old.now; new = new.now }) }
@@ -53,12 +48,7 @@ impl Splice {
     }
 
     /// The splice that puts `n` zeros in the place of a part that begins at `at`.
-    pub(crate) fn of_zeros(
-        alloc: Global,
-        at: u32,
-        old: &[u8],
-        n: u32,
-    ) -> Result<Splice, AllocError>
+    pub(crate) fn of_zeros(alloc: Global, at: u32, old: &[u8], n: u32) -> Result<Splice, AllocError>
         requires { length old.now < 2 ^ 32 }
         ensures { IfOk result (λ s. s ≡ record { at = at; old = old.now; new = replicate n 0 }) }
     {

@@ -57,9 +57,7 @@ fn size_after(bytes: &[u8], part: &PartChange) -> usize
     ensures { result ≡ length (chunk_after part.now bytes.now) }
 {
     match part {
-        PartChange::Chunk(_, splice) => {
-            bytes.len() - splice.old().len() + splice.new().len()
-        }
+        PartChange::Chunk(_, splice) => { bytes.len() - splice.old().len() + splice.new().len() }
         PartChange::Patch(_, patch) => patch.size_before(Direction::Backwards),
         PartChange::Raw(_) | PartChange::ChunkIn(_, _) | PartChange::ChunkOut(_, _) => {
             unreachable!()

@@ -11,11 +11,13 @@ loop-rest-preserved c =
     let done : List ℕ = c.loop-rest.invariant.0 in
     let part : List ℕ = c.split_at.result.0.now in let behind : List ℕ = c.split_at.result.1.now in
     let parts : part ++ behind ≡ c.loop-rest.rest.now =
-    ap₂ (λ (x y : List ℕ). x ++ y) c.split_at.ensures.front c.split_at.ensures.back ∙ take-append-drop c.min.result c.loop-rest.rest.now in
-    (done ++ part, (
-      c.loop-rest.invariant.1.0 ∙ (ap (λ (l : List ℕ). done ++ l) (sym parts) ∙ sym (append_assoc done part behind)),
-      adds-then c.args.self.now c.loop-rest.self c.replace.new.self done [] part [] c.loop-rest.invariant.1.1 c.in_ok-replace.ensures (omega arith),
-    ))
+    ap₂ (λ (x y : List ℕ). x ++ y) c.split_at.ensures.front c.split_at.ensures.back ∙ take-append-drop c.min.result c.loop-rest.rest.now in (
+      done ++ part,
+      (
+        c.loop-rest.invariant.1.0 ∙ (ap (λ (l : List ℕ). done ++ l) (sym parts) ∙ sym (append_assoc done part behind)),
+        adds-then c.args.self.now c.loop-rest.self c.replace.new.self done [] part [] c.loop-rest.invariant.1.1 c.in_ok-replace.ensures (omega arith),
+      ),
+    )
 
 pub returns : goal.returns
 returns c =

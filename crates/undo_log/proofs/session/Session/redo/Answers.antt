@@ -89,5 +89,5 @@ returns-in_ok-make_entry-in-Some-newest_redo-clause-sure g c =
     let new = session_with c.make_entry.new.blocks c.move_redone.new.self.lists in
     subst (λ (s : SessionState g.row.S.Denot). busy_fault s ≡ None → IsSure facts s Forwards s.log.redo → IsOk (Ok tt) × (new.disk ≡ s.disk) × (new.document ≡ newest_made Forwards s.log.redo s.document)) c.self.view_is
     (λ free sure.
-      let made = c.make_entry.ensures.sure (sure_turns facts old Forwards entry old.log.redo first (redo_can facts old) sure) in
-      (refl, made.2.0, made.2.1 ∙ newest_is facts Forwards entry old.log.redo old.document first))
+    let made = c.make_entry.ensures.sure (sure_turns facts old Forwards entry old.log.redo first (redo_can facts old) sure) in
+    (refl, made.2.0, made.2.1 ∙ newest_is facts Forwards entry old.log.redo old.document first))

@@ -89,5 +89,5 @@ returns-in_ok-make_entry-in-Some-newest_undo-clause-sure g c =
     let new = session_with c.make_entry.new.blocks c.move_undone.new.self.lists in
     subst (λ (s : SessionState g.row.S.Denot). busy_fault s ≡ None → IsSure facts s Backwards s.log.undo → IsOk (Ok tt) × (new.disk ≡ s.disk) × (new.document ≡ newest_made Backwards s.log.undo s.document)) c.self.view_is
     (λ free sure.
-      let made = c.make_entry.ensures.sure (sure_turns facts old Backwards entry old.log.undo first (undo_can facts old free) sure) in
-      (refl, made.2.0, made.2.1 ∙ newest_is facts Backwards entry old.log.undo old.document first))
+    let made = c.make_entry.ensures.sure (sure_turns facts old Backwards entry old.log.undo first (undo_can facts old free) sure) in
+    (refl, made.2.0, made.2.1 ∙ newest_is facts Backwards entry old.log.undo old.document first))
