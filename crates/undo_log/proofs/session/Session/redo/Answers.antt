@@ -1,8 +1,9 @@
-use Rattle.std.proofs.Common.{◌≡◌, None, Err, IsOk, inr, refl, ap, sym, subst, ◌∙◌}
+use Rattle.std.proofs.Common.{◌≡◌, None, Ok, Err, IsOk, inr, refl, ap, sym, subst, ◌∙◌}
 use Rattle.std.specs.Prelude.{IfErr}
 use Rattle.std.proofs.lemmas.Result.{err_from_is_err_and}
 use Rattle.geos_model.specs.Reply.{Accepted, reply_by}
 use Rattle.geos_model.specs.declared.command.Command.TheVariants as commands
+use Rattle.geos_model.specs.declared.fault.Fault.{Fault}
 use Rattle.geos_model.specs.declared.fault.Fault.TheVariants.{NothingToRedo}
 use Rattle.vm_file.specs.Disk.{KeepsCommitted}
 use Rattle.chunk_edits.specs.declared.direction.Direction.TheVariants.{Forwards}
@@ -87,7 +88,7 @@ returns-in_ok-make_entry-in-Some-newest_redo-clause-sure g c =
     let facts = g.S.Store.facts in let entry = c.in-Some-newest_redo.entry.now in let first = c.in-Some-newest_redo.ensures in
     let old = session_with c.self.inside.blocks c.self.inside.log.lists in
     let new = session_with c.make_entry.new.blocks c.move_redone.new.self.lists in
-    subst (λ (s : SessionState g.row.S.Denot). busy_fault s ≡ None → IsSure facts s Forwards s.log.redo → IsOk (Ok tt) × (new.disk ≡ s.disk) × (new.document ≡ newest_made Forwards s.log.redo s.document)) c.self.view_is
+    subst (λ (s : SessionState g.row.S.Denot). busy_fault s ≡ None → IsSure facts s Forwards s.log.redo → IsOk {E = Fault} (Ok (tt {0})) × (new.disk ≡ s.disk) × (new.document ≡ newest_made Forwards s.log.redo s.document)) c.self.view_is
     (λ free sure.
     let made = c.make_entry.ensures.sure (sure_turns facts old Forwards entry old.log.redo first (redo_can facts old) sure) in
-    (refl, made.2.0, made.2.1 ∙ newest_is facts Forwards entry old.log.redo old.document first))
+    (refl, made.1, made.2 ∙ newest_is facts Forwards entry old.log.redo old.document first))
