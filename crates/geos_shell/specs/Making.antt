@@ -1,10 +1,10 @@
 -- What is made of the words behind a name.
-use Rattle.std.specs.Prelude.{◌≡◌, ℕ, Bool, List, [], ◌∷◌, drop, Option, Some, None, IsSomeAnd, Result, MatchOption, MatchResult}
+use Rattle.std.specs.Prelude.{ℕ, Bool, List, [], ◌∷◌, drop, Option, Some, None, IsSomeAnd, Result, MatchResult}
 use Rattle.std.specs.Option.{option_and_then, option_map}
 use Rattle.geos_model.specs.Script.{by_name, commands_by_name}
 use Rattle.geos_model.specs.declared.fault.Fault.{Fault}
 use Rattle.geos_model.specs.declared.command.Command.{Command}
-use Rattle.geos_shell.specs.Reading.{FailsToRead, command_has_bytes}
+use Rattle.geos_shell.specs.Reading.{FailsToRead}
 
 -- What words spell, one after another. Behind the last there is no word.
 
@@ -23,12 +23,3 @@ Makes is_kept made spelled result = MatchResult result (λ x. IsSomeAnd spelled 
 -- what a name and its operands mean by the rows of the script's table from one on
 unfoldable pub named_from : ℕ → List ℕ → List (List ℕ) → Option Command
 named_from row name operands = by_name name operands (drop row commands_by_name)
-
--- what is made of a name and its operands, which mean this
-abbrev pub MakesCommand : {R : Type 0} → (R → Command) → Option Command → Result R Fault → Type 0
-MakesCommand as_command meant result = MatchResult result (λ x. meant ≡ Some (as_command x)) (FailsToRead command_has_bytes meant)
-
--- Of the rows from one on and before another, that with the name makes this of the operands; or none of them has the name.
-abbrev pub ReadsRows : {R : Type 0} → (R → Command) → ℕ → ℕ → List ℕ → List (List ℕ) → Option (Result R Fault) → Type 0
-ReadsRows as_command from to name operands found =
-    MatchOption found (named_from from name operands ≡ named_from to name operands) (MakesCommand as_command (named_from from name operands))

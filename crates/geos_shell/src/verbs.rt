@@ -3,7 +3,7 @@ ghost use Rattle.std.specs.Prelude.{◌≡◌, map};
 ghost use Rattle.geos_model.specs.Script.{block, bytes as spelled_bytes, chunk, is_set, same_bytes, with_5};
 ghost use Rattle.geos_model.specs.declared.command.Command.TheVariants as commands;
 ghost use Rattle.geos_model.specs.declared.command.Edit.TheVariants as edits;
-ghost use Rattle.geos_shell.specs.Making.{MakesCommand, ReadsRows, named_from};
+ghost use Rattle.geos_shell.specs.Making.{named_from};
 ghost use Rattle.geos_shell.specs.Reading.{ReadsAs, command_has_bytes};
 
 use crate::operands::{LastOperand, Operand, spells_bytes};
@@ -15,22 +15,17 @@ use std::alloc::Global;
 pub(crate) fn command_of(alloc: Global, name: &[u8], words: &[&[u8]]) -> Result<Command, Fault>
     ensures { ReadsAs command_has_bytes (named_from 0 name.now (map (λ w. w.now) words.now)) result }
 {
-    if let Some(edit) = edit(alloc, name, words) {
-        return edit.map(Command::Edit);
-    }
-    if let Some(command) = session_command(name, words) {
-        return command;
-    }
-    look_up(alloc, name, words).unwrap_or(Err(Fault::BadCommand))
+    edit(alloc, name, words)
 }
 
-/// What the row with the name makes, if there is one.
+// What the row with the name makes, or else what the rows behind these make. A row is returned as it is made, so that
+// all rows share one place on the stack, which is set up for each name.
 macro_rules! row_of {
-    ($name:expr; $($text:literal => $made:expr,)*) => {
+    ($name:expr; $($text:literal => $made:expr,)* else $others:expr) => {
         $(if is($name, $text) {
-            return Some($made);
+            return $made;
         })*
-        None
+        $others
     };
 }
 
@@ -42,10 +37,10 @@ fn is(name: &[u8], text: &[u8]) -> bool
     name == text
 }
 
-/// Edits of blocks, of chunks and of arrays of each kind, and of chains.
+/// Edits of blocks, of chunks and of arrays of each kind, and of chains, or a row behind them.
 #[tactic(none)]
-fn edit(alloc: Global, name: &[u8], words: &[&[u8]]) -> Option<Result<Edit, Fault>>
-    ensures { ReadsRows commands.Edit 0 33 name.now (map (λ w. w.now) words.now) result }
+fn edit(alloc: Global, name: &[u8], words: &[&[u8]]) -> Result<Command, Fault>
+    ensures { ReadsAs command_has_bytes (named_from 0 name.now (map (λ w. w.now) words.now)) result }
 {
     row_of! { name;
         b"newraw" => two(alloc, words, Edit::NewRaw),
@@ -81,13 +76,14 @@ fn edit(alloc: Global, name: &[u8], words: &[&[u8]]) -> Option<Result<Edit, Faul
         b"nunref" => three(alloc, words, Edit::RemoveName),
         b"chcopy" => one(alloc, words, Edit::CopyChain),
         b"chfree" => one(alloc, words, Edit::FreeChain),
+        else session_command(alloc, name, words)
     }
 }
 
-/// Steps and commits.
+/// Steps and commits, or a row behind them.
 #[tactic(none)]
-fn session_command(name: &[u8], words: &[&[u8]]) -> Option<Result<Command, Fault>>
-    ensures { ReadsRows (λ c. c) 33 42 name.now (map (λ w. w.now) words.now) result }
+fn session_command(alloc: Global, name: &[u8], words: &[&[u8]]) -> Result<Command, Fault>
+    ensures { ReadsAs command_has_bytes (named_from 33 name.now (map (λ w. w.now) words.now)) result }
 {
     row_of! { name;
         b"undo" => none(words, Command::Undo),
@@ -99,13 +95,14 @@ fn session_command(name: &[u8], words: &[&[u8]]) -> Option<Result<Command, Fault
         b"save" => none(words, Command::Save),
         b"revert" => none(words, Command::Revert),
         b"saveas" => none(words, Command::SaveAs),
+        else look_up(alloc, name, words)
     }
 }
 
 /// Look-ups of blocks, chunks, arrays of any kind and chains, and locks and counts.
 #[tactic(none)]
-fn look_up(alloc: Global, name: &[u8], words: &[&[u8]]) -> Option<Result<Command, Fault>>
-    ensures { ReadsRows (λ c. c) 42 70 name.now (map (λ w. w.now) words.now) result }
+fn look_up(alloc: Global, name: &[u8], words: &[&[u8]]) -> Result<Command, Fault>
+    ensures { ReadsAs command_has_bytes (named_from 42 name.now (map (λ w. w.now) words.now)) result }
 {
     row_of! { name;
         b"info" => one(alloc, words, Command::Info),
@@ -136,12 +133,13 @@ fn look_up(alloc: Global, name: &[u8], words: &[&[u8]]) -> Option<Result<Command
         b"locks" => one(alloc, words, Command::Locks),
         b"undos" => none(words, Command::Undos),
         b"redos" => none(words, Command::Redos),
+        else Err(Fault::BadCommand)
     }
 }
 
 /// A name, what stands before it, and whether that replaces what stands there.
-fn add_name(alloc: Global, words: &[&[u8]]) -> Result<Edit, Fault>
-    ensures { MakesCommand commands.Edit
+fn add_name(alloc: Global, words: &[&[u8]]) -> Result<Command, Fault>
+    ensures { ReadsAs command_has_bytes
         (with_5 block chunk spelled_bytes spelled_bytes is_set
         (λ b c name part replace. commands.Edit (edits.AddName b c name part replace))
         (map (λ w. w.now) words.now)) result }
@@ -158,5 +156,5 @@ fn add_name(alloc: Global, words: &[&[u8]]) -> Result<Edit, Fault>
     }
     let name = Bytes::read_last(alloc, name)?;
     let part = Bytes::read_last(alloc, part)?;
-    Ok(Edit::AddName(block, chunk, name, part, replace))
+    Ok(Command::Edit(Edit::AddName(block, chunk, name, part, replace)))
 }

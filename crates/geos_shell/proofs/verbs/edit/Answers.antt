@@ -2,111 +2,112 @@ use Rattle.std.proofs.Common.{ap, refl, ◌∙◌, codes}
 use Rattle.geos_model.specs.declared.command.Edit.TheVariants as edits
 use Rattle.geos_model.specs.Script.{block, bytes, number, user_id, chunk, token}
 use Rattle.geos_model.specs.declared.command.Command.TheVariants as commands
-use Rattle.geos_shell.proofs.Rows.{at_row, passed, made_1, made_2, made_3, made_4}
+use Rattle.geos_shell.proofs.Rows.{at_row, behind, passed, made_1, made_2, made_3, made_4}
 use Rattle.geos_shell.proofs.verbs.edit.Goals as goal
 
 pub returns-then-is : goal.returns-then-is
-returns-then-is c = at_row 0 _ (codes "newraw") _ commands.Edit _ _ c.if-is.ensures refl (made_2 user_id number _ _ commands.Edit (λ u n. commands.Edit (edits.NewRaw u n)) c.args.words.now _ c.two.ensures (λ a b x h. ap commands.Edit h) (λ a b. refl))
+returns-then-is c = at_row 0 _ (codes "newraw") _ _ _ c.if-is.ensures refl (made_2 user_id number _ _ (λ u n. commands.Edit (edits.NewRaw u n)) c.args.words.now _ c.two.ensures (λ a b x h. h.2 ∙ ap commands.Edit h.1) (λ a b. refl))
 
 pub returns-then-is-2 : goal.returns-then-is-2
-returns-then-is-2 c = at_row 0 _ (codes "newheap") _ commands.Edit _ _ c.if-is-2.ensures refl (made_1 user_id _ _ commands.Edit (λ u. commands.Edit (edits.NewHeap u)) c.args.words.now _ c.one.ensures (λ a x h. ap commands.Edit h) (λ a. refl))
+returns-then-is-2 c = at_row 0 _ (codes "newheap") _ _ _ c.if-is-2.ensures refl (made_1 user_id _ _ (λ u. commands.Edit (edits.NewHeap u)) c.args.words.now _ c.one.ensures (λ a x h. h.2 ∙ ap commands.Edit h.1) (λ a. refl))
 
 pub returns-then-is-3 : goal.returns-then-is-3
-returns-then-is-3 c = at_row 0 _ (codes "vfree") _ commands.Edit _ _ c.if-is-3.ensures refl (made_1 block _ _ commands.Edit (λ b. commands.Edit (edits.FreeBlock b)) c.args.words.now _ c.one-then-is-3.ensures (λ a x h. ap commands.Edit h) (λ a. refl))
+returns-then-is-3 c = at_row 0 _ (codes "vfree") _ _ _ c.if-is-3.ensures refl (made_1 block _ _ (λ b. commands.Edit (edits.FreeBlock b)) c.args.words.now _ c.one-then-is-3.ensures (λ a x h. h.2 ∙ ap commands.Edit h.1) (λ a. refl))
 
 pub returns-then-is-4 : goal.returns-then-is-4
-returns-then-is-4 c = at_row 0 _ (codes "vcopy") _ commands.Edit _ _ c.if-is-4.ensures refl (made_1 block _ _ commands.Edit (λ b. commands.Edit (edits.CopyBlock b)) c.args.words.now _ c.one-then-is-4.ensures (λ a x h. ap commands.Edit h) (λ a. refl))
+returns-then-is-4 c = at_row 0 _ (codes "vcopy") _ _ _ c.if-is-4.ensures refl (made_1 block _ _ (λ b. commands.Edit (edits.CopyBlock b)) c.args.words.now _ c.one-then-is-4.ensures (λ a x h. h.2 ∙ ap commands.Edit h.1) (λ a. refl))
 
 pub returns-then-is-5 : goal.returns-then-is-5
-returns-then-is-5 c = at_row 0 _ (codes "vwrite") _ commands.Edit _ _ c.if-is-5.ensures refl (made_3 block number bytes _ _ commands.Edit (λ b at bs. commands.Edit (edits.WriteRaw b at bs)) c.args.words.now _ c.three.ensures (λ a b bs x h. ap commands.Edit h) (λ a b bs. refl))
+returns-then-is-5 c = at_row 0 _ (codes "vwrite") _ _ _ c.if-is-5.ensures refl (made_3 block number bytes _ _ (λ b at bs. commands.Edit (edits.WriteRaw b at bs)) c.args.words.now _ c.three.ensures (λ a b bs x h. h.2 ∙ ap commands.Edit h.1) (λ a b bs. refl))
 
 pub returns-then-is-6 : goal.returns-then-is-6
-returns-then-is-6 c = at_row 0 _ (codes "attach") _ commands.Edit _ _ c.if-is-6.ensures refl (made_2 block bytes _ _ commands.Edit (λ b bs. commands.Edit (edits.Attach b bs)) c.args.words.now _ c.two-then-is-6.ensures (λ a bs x h. ap commands.Edit h) (λ a bs. refl))
+returns-then-is-6 c = at_row 0 _ (codes "attach") _ _ _ c.if-is-6.ensures refl (made_2 block bytes _ _ (λ b bs. commands.Edit (edits.Attach b bs)) c.args.words.now _ c.two-then-is-6.ensures (λ a bs x h. h.2 ∙ ap commands.Edit h.1) (λ a bs. refl))
 
 pub returns-then-is-7 : goal.returns-then-is-7
-returns-then-is-7 c = at_row 0 _ (codes "uid") _ commands.Edit _ _ c.if-is-7.ensures refl (made_2 block user_id _ _ commands.Edit (λ b u. commands.Edit (edits.SetUserId b u)) c.args.words.now _ c.two-then-is-7.ensures (λ a b x h. ap commands.Edit h) (λ a b. refl))
+returns-then-is-7 c = at_row 0 _ (codes "uid") _ _ _ c.if-is-7.ensures refl (made_2 block user_id _ _ (λ b u. commands.Edit (edits.SetUserId b u)) c.args.words.now _ c.two-then-is-7.ensures (λ a b x h. h.2 ∙ ap commands.Edit h.1) (λ a b. refl))
 
 pub returns-then-is-8 : goal.returns-then-is-8
-returns-then-is-8 c = at_row 0 _ (codes "settype") _ commands.Edit _ _ c.if-is-8.ensures refl (made_2 block user_id _ _ commands.Edit (λ b t. commands.Edit (edits.SetType b t)) c.args.words.now _ c.two-then-is-8.ensures (λ a b x h. ap commands.Edit h) (λ a b. refl))
+returns-then-is-8 c = at_row 0 _ (codes "settype") _ _ _ c.if-is-8.ensures refl (made_2 block user_id _ _ (λ b t. commands.Edit (edits.SetType b t)) c.args.words.now _ c.two-then-is-8.ensures (λ a b x h. h.2 ∙ ap commands.Edit h.1) (λ a b. refl))
 
 pub returns-then-is-9 : goal.returns-then-is-9
-returns-then-is-9 c = at_row 0 _ (codes "map") _ commands.Edit _ _ c.if-is-9.ensures refl (made_1 block _ _ commands.Edit (λ b. commands.Edit (edits.SetMap b)) c.args.words.now _ c.one-then-is-9.ensures (λ a x h. ap commands.Edit h) (λ a. refl))
+returns-then-is-9 c = at_row 0 _ (codes "map") _ _ _ c.if-is-9.ensures refl (made_1 block _ _ (λ b. commands.Edit (edits.SetMap b)) c.args.words.now _ c.one-then-is-9.ensures (λ a x h. h.2 ∙ ap commands.Edit h.1) (λ a. refl))
 
 pub returns-then-is-10 : goal.returns-then-is-10
-returns-then-is-10 c = at_row 0 _ (codes "alloc") _ commands.Edit _ _ c.if-is-10.ensures refl (made_2 block number _ _ commands.Edit (λ b n. commands.Edit (edits.Alloc b n)) c.args.words.now _ c.two-then-is-10.ensures (λ a b x h. ap commands.Edit h) (λ a b. refl))
+returns-then-is-10 c = at_row 0 _ (codes "alloc") _ _ _ c.if-is-10.ensures refl (made_2 block number _ _ (λ b n. commands.Edit (edits.Alloc b n)) c.args.words.now _ c.two-then-is-10.ensures (λ a b x h. h.2 ∙ ap commands.Edit h.1) (λ a b. refl))
 
 pub returns-then-is-11 : goal.returns-then-is-11
-returns-then-is-11 c = at_row 0 _ (codes "free") _ commands.Edit _ _ c.if-is-11.ensures refl (made_2 block chunk _ _ commands.Edit (λ b c. commands.Edit (edits.Free b c)) c.args.words.now _ c.two-then-is-11.ensures (λ a b x h. ap commands.Edit h) (λ a b. refl))
+returns-then-is-11 c = at_row 0 _ (codes "free") _ _ _ c.if-is-11.ensures refl (made_2 block chunk _ _ (λ b c. commands.Edit (edits.Free b c)) c.args.words.now _ c.two-then-is-11.ensures (λ a b x h. h.2 ∙ ap commands.Edit h.1) (λ a b. refl))
 
 pub returns-then-is-12 : goal.returns-then-is-12
-returns-then-is-12 c = at_row 0 _ (codes "resize") _ commands.Edit _ _ c.if-is-12.ensures refl (made_3 block chunk number _ _ commands.Edit (λ b c n. commands.Edit (edits.Resize b c n)) c.args.words.now _ c.three-then-is-12.ensures (λ a b c x h. ap commands.Edit h) (λ a b c. refl))
+returns-then-is-12 c = at_row 0 _ (codes "resize") _ _ _ c.if-is-12.ensures refl (made_3 block chunk number _ _ (λ b c n. commands.Edit (edits.Resize b c n)) c.args.words.now _ c.three-then-is-12.ensures (λ a b c x h. h.2 ∙ ap commands.Edit h.1) (λ a b c. refl))
 
 pub returns-then-is-13 : goal.returns-then-is-13
-returns-then-is-13 c = at_row 0 _ (codes "insert") _ commands.Edit _ _ c.if-is-13.ensures refl (made_4 block chunk number number _ _ commands.Edit (λ b c at n. commands.Edit (edits.Insert b c at n)) c.args.words.now _ c.four.ensures (λ a b c d x h. ap commands.Edit h) (λ a b c d. refl))
+returns-then-is-13 c = at_row 0 _ (codes "insert") _ _ _ c.if-is-13.ensures refl (made_4 block chunk number number _ _ (λ b c at n. commands.Edit (edits.Insert b c at n)) c.args.words.now _ c.four.ensures (λ a b c d x h. h.2 ∙ ap commands.Edit h.1) (λ a b c d. refl))
 
 pub returns-then-is-14 : goal.returns-then-is-14
-returns-then-is-14 c = at_row 0 _ (codes "delete") _ commands.Edit _ _ c.if-is-14.ensures refl (made_4 block chunk number number _ _ commands.Edit (λ b c at n. commands.Edit (edits.Delete b c at n)) c.args.words.now _ c.four-then-is-14.ensures (λ a b c d x h. ap commands.Edit h) (λ a b c d. refl))
+returns-then-is-14 c = at_row 0 _ (codes "delete") _ _ _ c.if-is-14.ensures refl (made_4 block chunk number number _ _ (λ b c at n. commands.Edit (edits.Delete b c at n)) c.args.words.now _ c.four-then-is-14.ensures (λ a b c d x h. h.2 ∙ ap commands.Edit h.1) (λ a b c d. refl))
 
 pub returns-then-is-15 : goal.returns-then-is-15
-returns-then-is-15 c = at_row 0 _ (codes "write") _ commands.Edit _ _ c.if-is-15.ensures refl (made_4 block chunk number bytes _ _ commands.Edit (λ b c at bs. commands.Edit (edits.Write b c at bs)) c.args.words.now _ c.four-then-is-15.ensures (λ a b c bs x h. ap commands.Edit h) (λ a b c bs. refl))
+returns-then-is-15 c = at_row 0 _ (codes "write") _ _ _ c.if-is-15.ensures refl (made_4 block chunk number bytes _ _ (λ b c at bs. commands.Edit (edits.Write b c at bs)) c.args.words.now _ c.four-then-is-15.ensures (λ a b c bs x h. h.2 ∙ ap commands.Edit h.1) (λ a b c bs. refl))
 
 pub returns-then-is-16 : goal.returns-then-is-16
-returns-then-is-16 c = at_row 0 _ (codes "acreate") _ commands.Edit _ _ c.if-is-16.ensures refl (made_3 block number number _ _ commands.Edit (λ b e x. commands.Edit (edits.CreateArray b e x)) c.args.words.now _ c.three-then-is-16.ensures (λ a b c x h. ap commands.Edit h) (λ a b c. refl))
+returns-then-is-16 c = at_row 0 _ (codes "acreate") _ _ _ c.if-is-16.ensures refl (made_3 block number number _ _ (λ b e x. commands.Edit (edits.CreateArray b e x)) c.args.words.now _ c.three-then-is-16.ensures (λ a b c x h. h.2 ∙ ap commands.Edit h.1) (λ a b c. refl))
 
 pub returns-then-is-17 : goal.returns-then-is-17
-returns-then-is-17 c = at_row 0 _ (codes "ainsert") _ commands.Edit _ _ c.if-is-17.ensures refl (made_4 block chunk number bytes _ _ commands.Edit (λ b c i bs. commands.Edit (edits.InsertElement b c i bs)) c.args.words.now _ c.four-then-is-17.ensures (λ a b c bs x h. ap commands.Edit h) (λ a b c bs. refl))
+returns-then-is-17 c = at_row 0 _ (codes "ainsert") _ _ _ c.if-is-17.ensures refl (made_4 block chunk number bytes _ _ (λ b c i bs. commands.Edit (edits.InsertElement b c i bs)) c.args.words.now _ c.four-then-is-17.ensures (λ a b c bs x h. h.2 ∙ ap commands.Edit h.1) (λ a b c bs. refl))
 
 pub returns-then-is-18 : goal.returns-then-is-18
-returns-then-is-18 c = at_row 0 _ (codes "aset") _ commands.Edit _ _ c.if-is-18.ensures refl (made_4 block chunk number bytes _ _ commands.Edit (λ b c i bs. commands.Edit (edits.SetElement b c i bs)) c.args.words.now _ c.four-then-is-18.ensures (λ a b c bs x h. ap commands.Edit h) (λ a b c bs. refl))
+returns-then-is-18 c = at_row 0 _ (codes "aset") _ _ _ c.if-is-18.ensures refl (made_4 block chunk number bytes _ _ (λ b c i bs. commands.Edit (edits.SetElement b c i bs)) c.args.words.now _ c.four-then-is-18.ensures (λ a b c bs x h. h.2 ∙ ap commands.Edit h.1) (λ a b c bs. refl))
 
 pub returns-then-is-19 : goal.returns-then-is-19
-returns-then-is-19 c = at_row 0 _ (codes "aresize") _ commands.Edit _ _ c.if-is-19.ensures refl (made_4 block chunk number number _ _ commands.Edit (λ b c i n. commands.Edit (edits.ResizeElement b c i n)) c.args.words.now _ c.four-then-is-19.ensures (λ a b c d x h. ap commands.Edit h) (λ a b c d. refl))
+returns-then-is-19 c = at_row 0 _ (codes "aresize") _ _ _ c.if-is-19.ensures refl (made_4 block chunk number number _ _ (λ b c i n. commands.Edit (edits.ResizeElement b c i n)) c.args.words.now _ c.four-then-is-19.ensures (λ a b c d x h. h.2 ∙ ap commands.Edit h.1) (λ a b c d. refl))
 
 pub returns-then-is-20 : goal.returns-then-is-20
-returns-then-is-20 c = at_row 0 _ (codes "adelete") _ commands.Edit _ _ c.if-is-20.ensures refl (made_4 block chunk number number _ _ commands.Edit (λ b c i k. commands.Edit (edits.DeleteElements b c i k)) c.args.words.now _ c.four-then-is-20.ensures (λ a b c d x h. ap commands.Edit h) (λ a b c d. refl))
+returns-then-is-20 c = at_row 0 _ (codes "adelete") _ _ _ c.if-is-20.ensures refl (made_4 block chunk number number _ _ (λ b c i k. commands.Edit (edits.DeleteElements b c i k)) c.args.words.now _ c.four-then-is-20.ensures (λ a b c d x h. h.2 ∙ ap commands.Edit h.1) (λ a b c d. refl))
 
 pub returns-then-is-21 : goal.returns-then-is-21
-returns-then-is-21 c = at_row 0 _ (codes "azero") _ commands.Edit _ _ c.if-is-21.ensures refl (made_2 block chunk _ _ commands.Edit (λ b c. commands.Edit (edits.ZeroArray b c)) c.args.words.now _ c.two-then-is-21.ensures (λ a b x h. ap commands.Edit h) (λ a b. refl))
+returns-then-is-21 c = at_row 0 _ (codes "azero") _ _ _ c.if-is-21.ensures refl (made_2 block chunk _ _ (λ b c. commands.Edit (edits.ZeroArray b c)) c.args.words.now _ c.two-then-is-21.ensures (λ a b x h. h.2 ∙ ap commands.Edit h.1) (λ a b. refl))
 
 pub returns-then-is-22 : goal.returns-then-is-22
-returns-then-is-22 c = at_row 0 _ (codes "ecreate") _ commands.Edit _ _ c.if-is-22.ensures refl (made_2 block number _ _ commands.Edit (λ b e. commands.Edit (edits.CreateElementArray b e)) c.args.words.now _ c.two-then-is-22.ensures (λ a b x h. ap commands.Edit h) (λ a b. refl))
+returns-then-is-22 c = at_row 0 _ (codes "ecreate") _ _ _ c.if-is-22.ensures refl (made_2 block number _ _ (λ b e. commands.Edit (edits.CreateElementArray b e)) c.args.words.now _ c.two-then-is-22.ensures (λ a b x h. h.2 ∙ ap commands.Edit h.1) (λ a b. refl))
 
 pub returns-then-is-23 : goal.returns-then-is-23
-returns-then-is-23 c = at_row 0 _ (codes "eadd") _ commands.Edit _ _ c.if-is-23.ensures refl (made_3 block chunk bytes _ _ commands.Edit (λ b c bs. commands.Edit (edits.AddElement b c bs)) c.args.words.now _ c.three-then-is-23.ensures (λ a b bs x h. ap commands.Edit h) (λ a b bs. refl))
+returns-then-is-23 c = at_row 0 _ (codes "eadd") _ _ _ c.if-is-23.ensures refl (made_3 block chunk bytes _ _ (λ b c bs. commands.Edit (edits.AddElement b c bs)) c.args.words.now _ c.three-then-is-23.ensures (λ a b bs x h. h.2 ∙ ap commands.Edit h.1) (λ a b bs. refl))
 
 pub returns-then-is-24 : goal.returns-then-is-24
-returns-then-is-24 c = at_row 0 _ (codes "eref") _ commands.Edit _ _ c.if-is-24.ensures refl (made_3 block chunk token _ _ commands.Edit (λ b c t. commands.Edit (edits.AddReference b c t)) c.args.words.now _ c.three-then-is-24.ensures (λ a b c x h. ap commands.Edit h) (λ a b c. refl))
+returns-then-is-24 c = at_row 0 _ (codes "eref") _ _ _ c.if-is-24.ensures refl (made_3 block chunk token _ _ (λ b c t. commands.Edit (edits.AddReference b c t)) c.args.words.now _ c.three-then-is-24.ensures (λ a b c x h. h.2 ∙ ap commands.Edit h.1) (λ a b c. refl))
 
 pub returns-then-is-25 : goal.returns-then-is-25
-returns-then-is-25 c = at_row 0 _ (codes "eunref") _ commands.Edit _ _ c.if-is-25.ensures refl (made_3 block chunk token _ _ commands.Edit (λ b c t. commands.Edit (edits.RemoveReference b c t)) c.args.words.now _ c.three-then-is-25.ensures (λ a b c x h. ap commands.Edit h) (λ a b c. refl))
+returns-then-is-25 c = at_row 0 _ (codes "eunref") _ _ _ c.if-is-25.ensures refl (made_3 block chunk token _ _ (λ b c t. commands.Edit (edits.RemoveReference b c t)) c.args.words.now _ c.three-then-is-25.ensures (λ a b c x h. h.2 ∙ ap commands.Edit h.1) (λ a b c. refl))
 
 pub returns-then-is-26 : goal.returns-then-is-26
-returns-then-is-26 c = at_row 0 _ (codes "edelete") _ commands.Edit _ _ c.if-is-26.ensures refl (made_3 block chunk token _ _ commands.Edit (λ b c t. commands.Edit (edits.DeleteElement b c t)) c.args.words.now _ c.three-then-is-26.ensures (λ a b c x h. ap commands.Edit h) (λ a b c. refl))
+returns-then-is-26 c = at_row 0 _ (codes "edelete") _ _ _ c.if-is-26.ensures refl (made_3 block chunk token _ _ (λ b c t. commands.Edit (edits.DeleteElement b c t)) c.args.words.now _ c.three-then-is-26.ensures (λ a b c x h. h.2 ∙ ap commands.Edit h.1) (λ a b c. refl))
 
 pub returns-then-is-27 : goal.returns-then-is-27
-returns-then-is-27 c = at_row 0 _ (codes "echange") _ commands.Edit _ _ c.if-is-27.ensures refl (made_4 block chunk token bytes _ _ commands.Edit (λ b c t bs. commands.Edit (edits.ChangeElement b c t bs)) c.args.words.now _ c.four-then-is-27.ensures (λ a b c bs x h. ap commands.Edit h) (λ a b c bs. refl))
+returns-then-is-27 c = at_row 0 _ (codes "echange") _ _ _ c.if-is-27.ensures refl (made_4 block chunk token bytes _ _ (λ b c t bs. commands.Edit (edits.ChangeElement b c t bs)) c.args.words.now _ c.four-then-is-27.ensures (λ a b c bs x h. h.2 ∙ ap commands.Edit h.1) (λ a b c bs. refl))
 
 pub returns-then-is-28 : goal.returns-then-is-28
-returns-then-is-28 c = at_row 0 _ (codes "ncreate") _ commands.Edit _ _ c.if-is-28.ensures refl (made_2 block number _ _ commands.Edit (λ b d. commands.Edit (edits.CreateNameArray b d)) c.args.words.now _ c.two-then-is-28.ensures (λ a b x h. ap commands.Edit h) (λ a b. refl))
+returns-then-is-28 c = at_row 0 _ (codes "ncreate") _ _ _ c.if-is-28.ensures refl (made_2 block number _ _ (λ b d. commands.Edit (edits.CreateNameArray b d)) c.args.words.now _ c.two-then-is-28.ensures (λ a b x h. h.2 ∙ ap commands.Edit h.1) (λ a b. refl))
 
 pub returns-then-is-29 : goal.returns-then-is-29
-returns-then-is-29 c = at_row 0 _ (codes "nadd") _ commands.Edit _ _ c.if-is-29.ensures refl c.add_name.ensures
+returns-then-is-29 c = at_row 0 _ (codes "nadd") _ _ _ c.if-is-29.ensures refl c.add_name.ensures
 
 pub returns-then-is-30 : goal.returns-then-is-30
-returns-then-is-30 c = at_row 0 _ (codes "nname") _ commands.Edit _ _ c.if-is-30.ensures refl (made_4 block chunk token bytes _ _ commands.Edit (λ b c t name. commands.Edit (edits.ChangeName b c t name)) c.args.words.now _ c.four-then-is-30.ensures (λ a b c bs x h. ap commands.Edit h) (λ a b c bs. refl))
+returns-then-is-30 c = at_row 0 _ (codes "nname") _ _ _ c.if-is-30.ensures refl (made_4 block chunk token bytes _ _ (λ b c t name. commands.Edit (edits.ChangeName b c t name)) c.args.words.now _ c.four-then-is-30.ensures (λ a b c bs x h. h.2 ∙ ap commands.Edit h.1) (λ a b c bs. refl))
 
 pub returns-then-is-31 : goal.returns-then-is-31
-returns-then-is-31 c = at_row 0 _ (codes "nunref") _ commands.Edit _ _ c.if-is-31.ensures refl (made_3 block chunk token _ _ commands.Edit (λ b c t. commands.Edit (edits.RemoveName b c t)) c.args.words.now _ c.three-then-is-31.ensures (λ a b c x h. ap commands.Edit h) (λ a b c. refl))
+returns-then-is-31 c = at_row 0 _ (codes "nunref") _ _ _ c.if-is-31.ensures refl (made_3 block chunk token _ _ (λ b c t. commands.Edit (edits.RemoveName b c t)) c.args.words.now _ c.three-then-is-31.ensures (λ a b c x h. h.2 ∙ ap commands.Edit h.1) (λ a b c. refl))
 
 pub returns-then-is-32 : goal.returns-then-is-32
-returns-then-is-32 c = at_row 0 _ (codes "chcopy") _ commands.Edit _ _ c.if-is-32.ensures refl (made_1 block _ _ commands.Edit (λ b. commands.Edit (edits.CopyChain b)) c.args.words.now _ c.one-then-is-32.ensures (λ a x h. ap commands.Edit h) (λ a. refl))
+returns-then-is-32 c = at_row 0 _ (codes "chcopy") _ _ _ c.if-is-32.ensures refl (made_1 block _ _ (λ b. commands.Edit (edits.CopyChain b)) c.args.words.now _ c.one-then-is-32.ensures (λ a x h. h.2 ∙ ap commands.Edit h.1) (λ a. refl))
 
 pub returns-then-is-33 : goal.returns-then-is-33
-returns-then-is-33 c = at_row 0 _ (codes "chfree") _ commands.Edit _ _ c.if-is-33.ensures refl (made_1 block _ _ commands.Edit (λ b. commands.Edit (edits.FreeChain b)) c.args.words.now _ c.one-then-is-33.ensures (λ a x h. ap commands.Edit h) (λ a. refl))
+returns-then-is-33 c = at_row 0 _ (codes "chfree") _ _ _ c.if-is-33.ensures refl (made_1 block _ _ (λ b. commands.Edit (edits.FreeChain b)) c.args.words.now _ c.one-then-is-33.ensures (λ a x h. h.2 ∙ ap commands.Edit h.1) (λ a. refl))
 
 pub returns : goal.returns
 returns c =
-    passed 0 1 c.args.name.now (codes "newraw") _ _ refl c.if-is.ensures
+    behind 0 33 _ _ _
+    (passed 0 1 c.args.name.now (codes "newraw") _ _ refl c.if-is.ensures
     ∙ passed 1 2 c.args.name.now (codes "newheap") _ _ refl c.if-is-2.ensures
     ∙ passed 2 3 c.args.name.now (codes "vfree") _ _ refl c.if-is-3.ensures
     ∙ passed 3 4 c.args.name.now (codes "vcopy") _ _ refl c.if-is-4.ensures
@@ -138,4 +139,5 @@ returns c =
     ∙ passed 29 30 c.args.name.now (codes "nname") _ _ refl c.if-is-30.ensures
     ∙ passed 30 31 c.args.name.now (codes "nunref") _ _ refl c.if-is-31.ensures
     ∙ passed 31 32 c.args.name.now (codes "chcopy") _ _ refl c.if-is-32.ensures
-    ∙ passed 32 33 c.args.name.now (codes "chfree") _ _ refl c.if-is-33.ensures
+    ∙ passed 32 33 c.args.name.now (codes "chfree") _ _ refl c.if-is-33.ensures)
+    c.session_command.ensures
