@@ -5,9 +5,6 @@ ghost use Rattle.raw_region.specs.Bytes.{put};
 /// How many bytes are copied aside at once.
 const BLOCK: usize = 1_024;
 
-/// From this distance on bytes are copied straight to where they go, as many at once as the distance is.
-const FAR: usize = 128;
-
 /// Moves up to a block of bytes, copied aside first.
 fn copy_block(bytes: &mut [u8], from: usize, to: usize, n: usize)
     requires small { n ≤ BLOCK }
@@ -56,12 +53,12 @@ fn move_block(bytes: &mut [u8], from: usize, to: usize, n: usize)
     }
 }
 
-/// How many bytes are moved at once over a distance.
+/// How many bytes are moved at once over a distance: a block, or as many as don't reach where they go.
 fn step_over(distance: usize) -> usize
     ensures some { 0 < result }
     ensures short { (result ≤ BLOCK) ⊎ (result ≡ distance) }
 {
-    if distance < FAR { BLOCK } else { distance }
+    distance.max(BLOCK)
 }
 
 /// Moves bytes down, the first block first: what a block is written over was moved before it.
