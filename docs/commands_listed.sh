@@ -1,6 +1,6 @@
 #!/bin/sh
-# Compares the commands that SCRIPT.md lists, and how many operands each has there, with the rows of the program's tables. It prints what
-# stands in one of the two alone: "<" in SCRIPT.md, ">" in the tables.
+# Compares the commands that SCRIPT.md lists, and their operands there, with the rows of the program's table, which its parser and its
+# help read. It prints what stands in one of the two alone: "<" in SCRIPT.md, ">" in the table.
 #
 #     sh docs/commands_listed.sh
 set -eu
@@ -9,11 +9,11 @@ folder=$(mktemp -d)
 trap 'rm -rf "$folder"' EXIT
 
 # In the first cell of a row stands a command, or several.
-sed -n '/^| Command |/,/^$/s/^| \(`[^|]*\) |.*/\1/p' docs/SCRIPT.md | grep -o '`[^`]*`' | tr -d '`' \
-    | awk '{ print $1, NF - 1 }' | sort > "$folder/listed"
+sed -n '/^| Command |/,/^$/s/^| \(`[^|]*`\) |.*/\1/p' docs/SCRIPT.md | grep -o '`[^`]*`' | tr -d '`' | sort > "$folder/listed"
 
-sed -n 's/^ *b"\([a-z]*\)" => \([a-z_]*\)(.*/\1 \2/p' crates/geos_shell/src/verbs.rt \
-    | sed 's/ none$/ 0/; s/ one$/ 1/; s/ two$/ 2/; s/ three$/ 3/; s/ four$/ 4/; s/ add_name$/ 5/' | sort > "$folder/rows"
+# In a cell of SCRIPT.md no bar can stand.
+sed -n 's/^ *"\([a-z]*\)" => .*/\1/p; s/^ *"\([a-z]*\)" "\([^"]*\)" => .*/\1 \2/p' crates/geos_shell/src/commands.rt \
+    | sed 's/ keep|set$/ keep/' | sort > "$folder/rows"
 
 diff "$folder/listed" "$folder/rows"
 echo "$(wc -l < "$folder/rows") commands are listed"

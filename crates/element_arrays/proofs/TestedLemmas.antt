@@ -1,14 +1,14 @@
 -- An array passes the tests of slots exactly where it is one of slots.
-use Rattle.std.proofs.Common.{◌≡◌, ℕ, zero, suc, ◌+◌, ◌*◌, ◌-◌, ◌/◌, ◌%◌, ◌<◌, ◌≤◌, ◌⊎◌, Bool, true, false, ◌&&◌, ◌||◌, ◌==◌, nat_lt, nat_le, if◌then◌else◌, List, [], ◌∷◌, ◌++◌, map, length, drop, replicate, get_or, Option, Some, None, is_none, is_some, count_by, cond, refl, sym, ap, ap₂, subst, ◌∙◌, arith, inl, inr, eqb-true, eq-eqb, ltb-true, lt-ltb, le-ltb, leb-true, le-leb, ne_eqb, length-drop}
-use Rattle.std.proofs.lemmas.Bool.{cases_Bool, and_parts, and_from, and_left, or_left, or_right, cond-true, cond-false, eqb-false, false≢true}
-use Rattle.std.proofs.lemmas.List.{get_or-map, length-map, length-replicate}
+use Rattle.std.proofs.Common.{◌≡◌, ℕ, zero, suc, ◌+◌, ◌*◌, ◌-◌, ◌/◌, ◌%◌, ◌<◌, ◌≤◌, ◌⊎◌, Bool, true, false, ◌&&◌, ◌||◌, ◌==◌, nat_lt, nat_le, if◌then◌else◌, List, [], ◌∷◌, ◌++◌, map, length, drop, replicate, get_or, Option, Some, None, is_none, is_some, count_by, cond, refl, sym, ap, ap₂, subst, ◌∙◌, arith, inl, inr, eqb-true, eq-eqb, ltb-true, lt-ltb, le-ltb, leb-true, le-leb, ne_eqb, length-drop, drop-drop}
+use Rattle.std.proofs.lemmas.Bool.{cases_Bool, and_parts, and_from, and_cases, and_left, and_right, or_left, or_right, cond-true, cond-false, eqb-false, false≢true, true≢false}
+use Rattle.std.proofs.lemmas.List.{get_or-map, get_or-drop, length-map, length-replicate}
 use Rattle.std.proofs.lemmas.List.Sums.{count_by-le-length, sum_by-cons, position_or_len_is}
 use Rattle.std.proofs.lemmas.List.Folds.{list_all-map}
 use Rattle.std.proofs.lemmas.List.FromFn.{length-enumerate_from, get_or-enumerate_from}
 use Rattle.std.specs.List.{list_all, enumerate_from, position, position_or_len}
 use Rattle.byteorder.specs.Endian.{little_bytes, little_number}
 use Rattle.geos_model.specs.Words.{word, word_at}
-use Rattle.geos_model.specs.Array.{Array}
+use Rattle.geos_model.specs.Array.{Array, array_bytes}
 use Rattle.geos_model.specs.ElementArray.{Element, Slots, greatest_count, first_token, token_after, slot_bytes, slots_array, is_free, is_good_slot, is_sound, slot_read, free_read, slots_read, same_array, slots_of}
 use Rattle.geos_model.proofs.Images.{word-reads_back}
 use Rattle.geos_model.proofs.Arrays.{head_of, table_of, joined, array_bytes-spelled, all_even}
@@ -16,7 +16,10 @@ use Rattle.geos_model.proofs.FreeLists.{links, are_tokens, distinct_walk, all_fr
 use Rattle.geos_model.proofs.ElementArrays.{IsSound, sound_parts, sound_from, same_array-is, same_array-refl, size_read_le, elements_from, link_in, first_token-lt, links-token_after, links-same, free_read-walked, free_tokens, link-slots, all-weaker}
 use Rattle.chunk_arrays.specs.Parts.{AreBytes}
 use Rattle.chunk_arrays.specs.Viewed.{Viewed}
-use Rattle.element_arrays.specs.Tested.{is_freed, is_freed_at, is_slot, is_walk}
+use Rattle.chunk_arrays.proofs.PlaceLemmas.{place-step, place-within, one-is}
+use Rattle.geos_model.specs.Bytes.{same_bytes}
+use Rattle.geos_model.proofs.Arrays.{same_bytes-is}
+use Rattle.element_arrays.specs.Tested.{is_freed, is_freed_at, is_slot, is_slot_within, are_slots_within, has_length, has_bytes, is_walk}
 
 bytes_left : (xs ys : List ℕ) (i : ℕ) → AreBytes (xs ++ ys) → get_or xs i 0 < 256
 bytes_left [] ys i h = omega arith
@@ -389,6 +392,78 @@ none_from (Some s) h = cc
 
 pub slots_none : (extra : ℕ) (a : Array) → is_some (slots_of extra a) ≡ false → slots_of extra a ≡ None
 slots_none extra a none = none_from (slots_of extra a) none
+
+-- With bounds on the lengths of used elements.
+
+and_swap : (p q r t : Bool) → ((p && q) && (r && t)) ≡ ((p && r) && (q && t))
+and_swap true q true t = refl
+and_swap true q false t = and_right q false refl
+and_swap false q r t = refl
+
+-- one test of each element is two
+pub within_split : (size least most : ℕ) (xs : List (List ℕ)) → list_all (is_slot_within size least most) xs ≡ (list_all (is_slot size) xs && list_all (has_length least most) (map slot_read xs))
+within_split size least most [] = refl
+within_split size least most (x ∷ xs) =
+    ap (λ (b : Bool). is_slot_within size least most x && b) (within_split size least most xs)
+    ∙ and_swap (is_slot size x) (has_length least most (slot_read x)) (list_all (is_slot size) xs) (list_all (has_length least most) (map slot_read xs))
+
+-- a free slot has any length, and so has a used one no longer than the greatest
+length-freed : (least most : ℕ) (x : List ℕ) → is_freed x ≡ true → has_length least most (slot_read x) ≡ true
+length-freed least most x so = ap (has_length least most) (cond-true (is_freed x) _ _ so)
+
+pub length-used : (least most : ℕ) (x : List ℕ) → is_freed x ≡ false → has_length least most (slot_read x) ≡ (nat_le least (length x - 3) && nat_le (length x - 3) most)
+length-used least most x other = ap (has_length least most) (cond-false (is_freed x) _ _ other) ∙ ap (λ (n : ℕ). nat_le least n && nat_le n most) (length-drop 3 x)
+
+length-short : (most : ℕ) (x : List ℕ) → length x ≤ most → has_length 0 most (slot_read x) ≡ true
+length-short most x short = elim (cases_Bool (is_freed x)) [
+  | inl so ↦ length-freed 0 most x so
+  | inr other ↦ length-used 0 most x other ∙ and_from _ _ (le-leb 0 (length x - 3) (omega arith)) (le-leb (length x - 3) most (omega (arith, short)))
+]
+
+-- no element is longer than the array
+pub any_length : (a : Array) (most : ℕ) → most ≡ length (array_bytes a) → list_all (has_length 0 most) (slots_read a).slots ≡ true
+any_length a most is =
+    list_all-map (has_length 0 most) slot_read a.elements
+    ∙ all_pass (λ x. has_length 0 most (slot_read x)) a.elements [] (λ i l.
+    let step = place-step a i (i + 1) (omega arith) in
+    let one = ap length (one-is a.elements i l) in
+    let within = place-within a (i + 1) (omega (arith, l)) in
+    length-short most (get_or a.elements i []) (omega (arith, is, step, one, within)))
+
+-- What is tested of an array of slots so, one by one.
+pub within_passed : (extra least most : ℕ) (a : Array) → is_some (slots_of extra a) ≡ true → list_all (has_length least most) (slots_read a).slots ≡ true → are_slots_within extra least most a ≡ true
+within_passed extra least most a some all = and_from _ _ some all
+
+pub within_refused : (extra least most : ℕ) (a : Array) → is_some (slots_of extra a) ≡ false → are_slots_within extra least most a ≡ false
+within_refused extra least most a none = and_left _ _ none
+
+-- all used elements have so many bytes, so that no slots are refused for these
+pub none_within : (extra most : ℕ) (a : Array) → most ≡ length (array_bytes a) → are_slots_within extra 0 most a ≡ false → slots_of extra a ≡ None
+none_within extra most a is refused = elim (and_cases (is_some (slots_of extra a)) (list_all (has_length 0 most) (slots_read a).slots) refused) [
+  | inl none ↦ slots_none extra a none
+  | inr other ↦ absurd (true≢false (sym (any_length a most is) ∙ other))
+]
+
+-- A slot that can't end in some bytes has others.
+pub other_end : (skip : ℕ) (slot bytes : List ℕ) → ((n : ℕ) → same_bytes (drop n slot) bytes ≡ false) → has_bytes skip bytes (slot_read slot) ≡ false
+other_end skip slot bytes other = elim (cases_Bool (is_freed slot)) [
+  | inl so ↦ ap (has_bytes skip bytes) (cond-true (is_freed slot) _ _ so)
+  | inr used ↦ ap (has_bytes skip bytes) (cond-false (is_freed slot) _ _ used) ∙ ap (λ (l : List ℕ). same_bytes l bytes) (drop-drop skip 3 slot) ∙ other (3 + skip)
+]
+
+-- the last byte of some that end in others
+last_of : (xs ys : List ℕ) (n : ℕ) → 0 < length ys → drop n xs ≡ ys → get_or xs (length xs - 1) 0 ≡ get_or ys (length ys - 1) 0
+last_of xs ys n some is =
+    let cut = length-drop n xs in
+    let long = ap length is in
+    let at : length xs - 1 ≡ n + (length ys - 1) = omega (arith, cut, long, some) in
+    ap (λ (k : ℕ). get_or xs k 0) at ∙ sym (get_or-drop n xs (length ys - 1) 0) ∙ ap (λ (l : List ℕ). get_or l (length ys - 1) 0) is
+
+pub other_last : (xs ys : List ℕ) → 0 < length ys → (get_or xs (length xs - 1) 0 ≡ get_or ys (length ys - 1) 0 → ⊥) → (n : ℕ) → same_bytes (drop n xs) ys ≡ false
+other_last xs ys some other n = elim (cases_Bool (same_bytes (drop n xs) ys)) [
+  | inl so ↦ absurd (other (last_of xs ys n some (same_bytes-is (drop n xs) ys so)))
+  | inr others ↦ others
+]
 
 -- a view's first word, and its elements, are within
 pub extra_long : (more : List ℕ) (s : Slots) (a : Array) → slots_array more s ≡ a → 2 ≤ length a.extra

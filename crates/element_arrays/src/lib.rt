@@ -10,4 +10,4 @@ mod slot_view;
 
 pub use edits::{GREATEST_COUNT, add, add_ref, change, create_bytes, delete, remove_ref};
 pub use look_ups::{count_of, data_of, token_of_used, used_count, used_of_token};
-pub use slot_view::{SlotView, Used, slots_in};
+pub use slot_view::{SlotView, Used, slots_in, slots_within};

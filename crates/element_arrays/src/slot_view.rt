@@ -1,5 +1,5 @@
 //! The slots of an element array or a name array, read where they lie.
-ghost use Rattle.std.specs.Prelude.{◌≡◌, ◌==◌, ◌≤◌, ◌<◌, ◌+◌, None, Some, [], true, false, is_some, MatchOption, MatchResult, count_by, length, drop, get_or};
+ghost use Rattle.std.specs.Prelude.{◌≡◌, ◌==◌, ◌&&◌, ◌≤◌, ◌<◌, ◌+◌, ◌^◌, ℕ, nat_le, None, Some, [], true, false, MatchOption, MatchResult, count_by, length, drop, get_or};
 ghost use Rattle.std.specs.List.{list_all};
 ghost use Rattle.std.specs.Option.{option_map};
 ghost use Rattle.geos_model.specs.Bytes.{same_bytes};
@@ -8,7 +8,7 @@ ghost use Rattle.geos_model.specs.ElementArray.{slots_of, slots_read, slot_read,
 ghost use Rattle.geos_model.specs.ElementEdits.{token_of};
 ghost use Rattle.chunk_arrays.specs.Reading.{element_place};
 ghost use Rattle.element_arrays.specs.Slotted.{slotted_array, slotted_bytes};
-ghost use Rattle.element_arrays.specs.Tested.{is_freed, is_freed_at, is_slot, is_walk};
+ghost use Rattle.element_arrays.specs.Tested.{is_freed, is_freed_at, is_slot_within, are_slots_within, has_length, has_bytes, is_walk};
 ghost use Rattle.element_arrays.specs.Used.{used_element};
 
 use byteorder::{ByteOrder, LittleEndian};
@@ -58,17 +58,40 @@ pub fn slots_in<'a>(view: View<'a>, extra: usize) -> Result<SlotView<'a>, Fault>
         (length s.more + 2 ≡ extra))
         (λ fault. (fault ≡ Fault.NotArray) × (slots_of extra view.entry.array ≡ None)) }
 {
-    if are_slots(&view, extra) {
+    // no element is longer than the array
+    let most = view.bytes().len();
+    slots_within(view, extra, 0, most)
+}
+
+/// The slots of an array that has so many extra bytes, at least two, where each used element has so many bytes at least and at
+/// most. NotArray where it is none of such slots. One walk over the elements tests both.
+pub fn slots_within<'a>(
+    view: View<'a>,
+    extra: usize,
+    least: usize,
+    most: usize,
+) -> Result<SlotView<'a>, Fault>
+    requires enough { 2 ≤ extra }
+    requires order { least ≤ most }
+    requires room { most + 3 < 2 ^ 64 }
+    ensures { MatchResult result
+        (λ s. (slots_of extra view.entry.array ≡ Some s.slots) × (slotted_array s ≡ view.entry.array) ×
+        (length s.more + 2 ≡ extra) × (list_all (has_length least most) s.slots.slots ≡ true))
+        (λ fault. (fault ≡ Fault.NotArray) × (are_slots_within extra least most view.entry.array ≡ false)) }
+{
+    if are_slots(&view, extra, least, most) {
         Ok(SlotView { view })
     } else {
         Err(Fault::NotArray)
     }
 }
 
-/// Whether an array with so many extra bytes is one of slots.
-fn are_slots(view: &View<'_>, extra: usize) -> bool
-    requires { 2 ≤ extra }
-    ensures { result ≡ is_some (slots_of extra view.now.array) }
+/// Whether an array with so many extra bytes is one of slots, and each used element has so many bytes at least and at most.
+fn are_slots(view: &View<'_>, extra: usize, least: usize, most: usize) -> bool
+    requires enough { 2 ≤ extra }
+    requires order { least ≤ most }
+    requires room { most + 3 < 2 ^ 64 }
+    ensures { result ≡ are_slots_within extra least most view.now.array }
 {
     let bytes = view.extra();
     let size = view.element_size();
@@ -80,17 +103,20 @@ fn are_slots(view: &View<'_>, extra: usize) -> bool
         return false;
     }
     let first = LittleEndian::read_u16(bytes);
-    match count_free(view, size.saturating_sub(3)) {
+    match count_free(view, size.saturating_sub(3), least, most) {
         Some(free) => is_walk(view, first, free),
         None => false,
     }
 }
 
-/// How many elements are free, if the bytes of each are those of a slot.
-fn count_free(view: &View<'_>, size: usize) -> Option<usize>
+/// How many elements are free, if the bytes of each are those of a slot, and each used one has so many bytes at least and at
+/// most.
+fn count_free(view: &View<'_>, size: usize, least: usize, most: usize) -> Option<usize>
+    requires order { least ≤ most }
+    requires room { most + 3 < 2 ^ 64 }
     ensures { MatchOption result
-        (list_all (is_slot size) view.now.array.elements ≡ false)
-        (λ free. (list_all (is_slot size) view.now.array.elements ≡ true) ×
+        (list_all (is_slot_within size least most) view.now.array.elements ≡ false)
+        (λ free. (list_all (is_slot_within size least most) view.now.array.elements ≡ true) ×
         (free ≡ count_by is_freed view.now.array.elements)) }
 {
     let mut free = 0;
@@ -98,28 +124,66 @@ fn count_free(view: &View<'_>, size: usize) -> Option<usize>
     for i in 0..view.count() {
         let (bytes, next) = view.element_from(i, place);
         place = next;
-        if !is_slot(bytes, size) {
-            return None;
-        }
-        if bytes[2] == FREE {
+        if is_free(bytes, size, least, most)? {
             free += 1;
         }
     }
     Some(free)
 }
 
-/// Whether these are the bytes of a slot, where each has so many behind the first three, 0 where sizes vary.
-fn is_slot(bytes: &[u8], size: usize) -> bool
-    ensures { result ≡ is_slot size bytes.now }
+/// Whether these are the bytes of a slot with a used element, as far as their number, their third and their first alone tell.
+/// So they do of most, since hardly any element has a multiple of 256 references.
+fn is_plain(bytes: &[u8], least: usize, most: usize) -> bool
+    requires order { least ≤ most }
+    requires room { most + 3 < 2 ^ 64 }
+    ensures { result ≡ true → (size : ℕ) →
+        (is_slot_within size least most bytes.now ≡ true) × (is_freed bytes.now ≡ false) }
+{
+    is_within(bytes.len(), least + 3, most + 3) && bytes[2] != FREE && bytes[0] != 0
+}
+
+/// Whether a slot is free, if these are the bytes of one, where each has so many behind the first three, 0 where sizes vary,
+/// and a used element so many at least and at most.
+fn is_free(bytes: &[u8], size: usize, least: usize, most: usize) -> Option<bool>
+    requires order { least ≤ most }
+    requires room { most + 3 < 2 ^ 64 }
+    ensures { MatchOption result
+        (is_slot_within size least most bytes.now ≡ false)
+        (λ free. (is_slot_within size least most bytes.now ≡ true) × (free ≡ is_freed bytes.now)) }
+{
+    if is_plain(bytes, least, most) {
+        return Some(false);
+    }
+    is_free_slot(bytes, size, least, most)
+}
+
+/// The same, by all bytes of the slot.
+fn is_free_slot(bytes: &[u8], size: usize, least: usize, most: usize) -> Option<bool>
+    requires { least ≤ most }
+    ensures { MatchOption result
+        (is_slot_within size least most bytes.now ≡ false)
+        (λ free. (is_slot_within size least most bytes.now ≡ true) × (free ≡ is_freed bytes.now)) }
 {
     if bytes.len() < 3 {
-        return false;
+        return None;
     }
-    if bytes[2] == FREE {
-        bytes.len() - 3 == size && are_zeros(&bytes[3..])
+    let len = bytes.len() - 3;
+    let is_free = bytes[2] == FREE;
+    let is_slot = if is_free {
+        len == size && are_zeros(&bytes[3..])
     } else {
-        LittleEndian::read_u24(bytes) != 0
-    }
+        LittleEndian::read_u24(bytes) != 0 && is_within(len, least, most)
+    };
+    if is_slot { Some(is_free) } else { None }
+}
+
+/// Whether a number is one of those from the least to the most.
+fn is_within(n: usize, least: usize, most: usize) -> bool
+    requires { least ≤ most }
+    ensures { result ≡ (nat_le least n && nat_le n most) }
+{
+    // a number below the least wraps to one above the difference
+    n.wrapping_sub(least) <= most - least
 }
 
 /// Whether each byte is 0.
@@ -209,20 +273,20 @@ impl<'a> SlotView<'a> {
         used_in(self.view.element(i))
     }
 
-    /// The element of a token that begins at this place, if it is used, and where the next one begins, or where the last one
-    /// ends. A walk over the tokens looks each place up but once.
-    pub fn element_from(&self, token: Token, place: usize) -> (Option<Used<'a>>, usize)
+    /// The bytes of the slot of a token that begins at this place, and where the next one begins, or where the last one ends. A
+    /// walk over the tokens looks each place up but once.
+    fn slot_from(&self, token: Token, place: usize) -> (&'a [u8], usize)
         requires within { token.0 < length self.now.slots.slots }
         requires place { place ≡ element_place (slotted_array self.now) token.0 }
-        ensures used { option_map used_element result.0 ≡ element_at self.now.slots token.0 }
+        ensures read { slot_read result.0.now ≡ element_at self.now.slots token.0 }
+        ensures long { 3 ≤ length result.0.now }
         ensures next { result.1 ≡ element_place (slotted_array self.now) (token.0 + 1) }
     {
-        let (bytes, next) = self.view.element_from(usize::from(token.0), place);
-        (used_in(bytes), next)
+        self.view.element_from(usize::from(token.0), place)
     }
 
     /// Where the element of the first token begins among the array's bytes, or where they end without tokens.
-    pub fn first_place(&self) -> usize
+    fn first_place(&self) -> usize
         ensures { result ≡ element_place (slotted_array self.now) 0 }
     {
         self.view.place(0)
@@ -235,11 +299,9 @@ impl<'a> SlotView<'a> {
     {
         let mut place = self.first_place();
         for t in 0..self.len() {
-            let (element, next) = self.element_from(Token(t), place);
+            let (slot, next) = self.slot_from(Token(t), place);
             place = next;
-            if let Some(used) = element
-                && are_same(behind(used.bytes, skip), bytes)
-            {
+            if has_bytes(slot, skip, bytes) {
                 return Some(Token(t));
             }
         }
@@ -268,17 +330,25 @@ fn used_in(bytes: &[u8]) -> Option<Used<'_>>
     })
 }
 
-/// Whether these are the same bytes. Of most that aren't, the length or the last byte is another: so it is with numbered
-/// names.
-fn are_same(bytes: &[u8], others: &[u8]) -> bool
-    ensures { result ≡ same_bytes bytes.now others.now }
+/// Whether a slot is that of a used element with these bytes behind its first `skip` ones.
+fn has_bytes(slot: &[u8], skip: usize, bytes: &[u8]) -> bool
+    requires { 3 ≤ length slot.now }
+    ensures { result ≡ has_bytes skip bytes.now (slot_read slot.now) }
 {
-    let len = bytes.len();
-    if len != others.len() {
+    if !may_end_in(slot, bytes) {
         return false;
     }
-    if len > 0 && bytes[len - 1] != others[len - 1] {
-        return false;
+    match used_in(slot) {
+        Some(used) => behind(used.bytes, skip) == bytes,
+        None => false,
     }
-    bytes == others
+}
+
+/// Whether the last byte is that of the others, if they have any. Of most elements it is another, so that nothing else is
+/// read of them.
+fn may_end_in(bytes: &[u8], others: &[u8]) -> bool
+    requires { 1 ≤ length bytes.now }
+    ensures { result ≡ false → (n : ℕ) → same_bytes (drop n bytes.now) others.now ≡ false }
+{
+    others.is_empty() || bytes[bytes.len() - 1] == others[others.len() - 1]
 }

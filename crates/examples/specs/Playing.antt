@@ -1,5 +1,5 @@
 -- Scripts on documents in files in memory.
-use Rattle.std.specs.Prelude.{◌≡◌, ℕ, Bool, false, List, Result, Ok, Option, Some, None}
+use Rattle.std.specs.Prelude.{◌≡◌, ℕ, Bool, false, List, Result, Ok, Option, Some, None, is_some}
 use Rattle.geos_model.specs.File.{stands}
 use Rattle.geos_model.specs.Machine.{empty_machine}
 use Rattle.geos_model.specs.Script.{lines, requests, Answered}
@@ -22,10 +22,11 @@ abbrev pub IsOn : Option History → SessionState History → Type 0
 IsOn None session = IsNew session
 IsOn (Some file) session = IsPlayOpened file session
 
--- From this session the machine may answer the lines of the script by these replies, and the session that it leads to has this file.
-pub record Plays (session : SessionState History) (script replies : List ℕ) (file : History) : Type 0 where
+-- From this session, with a target for a save-as or none, the machine may answer the lines of the script by these replies, and the
+-- session that it leads to has this file.
+pub record Plays (session : SessionState History) (target : Option History) (script replies : List ℕ) (file : History) : Type 0 where
   pub after : SessionState History
   pub there : after.disk.store ≡ file
   pub left : Bool
   pub failed : ℕ
-  pub answered : Answered (machine_of false session) (requests (lines script)) replies failed (machine_of left after)
+  pub answered : Answered (machine_of (is_some target) session) (requests (lines script)) replies failed (machine_of left after)

@@ -9,8 +9,9 @@ use std::process::ExitCode;
 use std::{fs, io};
 use vm_store::MemStore;
 
-/// The examples. Each list begins on a new document, and what comes behind another one goes on with the file that that one left.
-const EXAMPLES: [&[&str]; 9] = [
+/// The examples. Each list begins on a new document, and what comes behind another one goes on with the file that that one left,
+/// with a new file for a save-as.
+const EXAMPLES: [&[&str]; 12] = [
     &["first_path"],
     &["chunk_edits"],
     &["arrays"],
@@ -20,9 +21,16 @@ const EXAMPLES: [&[&str]; 9] = [
     &["locks"],
     &["files_made", "files_opened"],
     &["small_document"],
+    &["tutorial_book", "tutorial_book_opened"],
+    &["tutorial_drawing"],
+    &[
+        "tutorial_table",
+        "tutorial_table_opened",
+        "tutorial_table_copied",
+    ],
 ];
 
-/// Runs an example on a new document or on the one in a file. Gives back the file that it leaves.
+/// Runs an example on a new document, or on the one in a file and with a new file for a save-as. Gives back the file that it leaves.
 fn play(
     rt: &HostRuntime,
     name: &str,
@@ -31,8 +39,9 @@ fn play(
     let alloc = rt.alloc();
     let script = fs::read_to_string(rt, format!(in alloc; "{name}.script")?.as_str())?;
     let replies = fs::read_to_string(rt, format!(in alloc; "{name}.replies")?.as_str())?;
+    let target = left.as_ref().map(|_| MemStore::new(alloc));
     match begin(alloc, left) {
-        Ok(session) => Ok(answer(alloc, session, &script, &replies)),
+        Ok(session) => Ok(answer(alloc, session, target, &script, &replies)),
         Err(mismatch) => Ok(Err(mismatch)),
     }
 }

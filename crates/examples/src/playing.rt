@@ -45,18 +45,20 @@ pub(crate) fn begin(alloc: Global, left: Option<MemStore>) -> Result<Session<Mem
     }
 }
 
-/// Runs a script on a session, and compares the replies. Gives back the file that it leaves, where they are as expected.
+/// Runs a script on a session, with what a save-as may make a file of, and compares the replies. Gives back the file that it leaves,
+/// where they are as expected.
 pub(crate) fn answer(
     alloc: Global,
     session: Session<MemStore>,
+    target: Option<MemStore>,
     script: &str,
     replies: &str,
 ) -> Result<MemStore, Mismatch>
     requires { IsExact facts_of session }
-    ensures { IfOk result (Plays session script.now replies.now) }
+    ensures { IfOk result (Plays session target script.now replies.now) }
 {
     let mut dialogue = Dialogue::new(alloc);
     dialogue.add_text(script, replies)?;
-    let after = dialogue.expect_replies_on(session, None)?;
+    let after = dialogue.expect_replies_on(session, target)?;
     Ok(after.close())
 }

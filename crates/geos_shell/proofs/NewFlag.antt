@@ -9,7 +9,7 @@ use Rattle.std.proofs.lemmas.Slice.Eq.{bytes_eq-Decides}
 use Rattle.std.proofs.lemmas.List.Folds.{list_any-append}
 use Rattle.clap.specs.Lexer.{has_byte, long_of, long_of_rest, name_and_value, short_of, strip_byte}
 use Rattle.clap.specs.Walk.{Held, Outcome, Row, Rule, Step, Text, Waiting, Walk, action_of, after_flag, after_step, arg_by_id, arg_by_index, arg_by_long, arg_by_short, at_row, attached_value, bundle, bundle_met, bundle_step, default_rows, done, count_of, flag_met, has_long, has_row, has_short, idle, is_multiple, is_pending, long_met, long_or_other, more_values, new_count, next, nothing_held, one_of, option, option_met, option_word, plain, plain_word, positional, positional_held, pushed, reacted, reading_by, refused, settled, settled_rows, short_met, short_or_plain, subcommand, subcommand_met, subcommand_or_other, takes_several, takes_values, to_positional, trailing, used, used_as, used_by_id, value, values_or_missing, waits, walk, walk_from, walked, walked_from, with_count, with_default, with_values, without, word_met}
-use Rattle.clap.specs.Simple.{built, filled, help_rule, matches_of, with_index}
+use Rattle.clap.specs.Simple.{built, filled, help_rule, matches_of, version_rule, with_index}
 use Rattle.clap.specs.declared.builder.action.ArgAction.{ArgAction}
 use Rattle.clap.specs.declared.builder.action.ArgAction.TheVariants as actions
 use Rattle.clap.specs.declared.builder.value_parser.Reading.{Reading}
@@ -210,7 +210,7 @@ abbrev rules : List Rule
 rules = (built geosvm).top.rules
 
 others : Others (drop 1 rules)
-others = (refl, (refl, (refl, (refl, tt))))
+others = (refl, (refl, (refl, (refl, (refl, tt)))))
 
 short_other : (x : ℕ) (a : Rule) → arg_by_short rules x ≡ Some a → is_new a.id ≡ false
 short_other x a e = found_other (λ (b : Rule). not (is_some b.index) && has_short b x) (drop 1 rules) a others e
@@ -390,8 +390,8 @@ finished_new : (rows : List Row) → Without rows → one_of (codes "new") (fold
 finished_new rows h =
     let set : one_of (codes "new") (with_default rows (with_index 1 (filled new_flag))) ≡ Some (codes "false") = rw h (default_found rows h) in
     let same : fold with_default rows rules ≡ with_default rows (with_index 1 (filled new_flag)) =
-    no_default _ (with_index 2 (filled help_rule)) refl ∙ (no_default _ (with_index 1 (filled file_operand)) refl
-    ∙ (no_default _ (with_index 1 (filled as_option)) refl ∙ no_default _ (with_index 1 (filled cache_option)) refl)) in
+    no_default _ (with_index 2 (filled version_rule)) refl ∙ (no_default _ (with_index 2 (filled help_rule)) refl ∙ (no_default _ (with_index 1 (filled file_operand)) refl
+    ∙ (no_default _ (with_index 1 (filled as_option)) refl ∙ no_default _ (with_index 1 (filled cache_option)) refl))) in
     ap (one_of (codes "new")) same ∙ set
 
 pub flag_unset : (words : List Text) → list_any (λ w. bytes_eq w (codes "--new")) (drop 1 words) ≡ false → one_of (codes "new") (matches_of geosvm words) ≡ Some (codes "false")

@@ -13,7 +13,7 @@ use Rattle.clap.specs.Walk.{Row, first_of, one_of, rows_of}
 use Rattle.clap.specs.Kinds.{IsAmong}
 use Rattle.clap.specs.Words.{Text, fault_of, matches_of}
 use Rattle.clap.specs.declared.error.kind.ErrorKind.{ErrorKind}
-use Rattle.clap.specs.declared.error.kind.ErrorKind.TheVariants.{DisplayHelp, OutOfMemory}
+use Rattle.clap.specs.declared.error.kind.ErrorKind.TheVariants.{DisplayHelp, DisplayVersion, OutOfMemory}
 use Rattle.clap.specs.declared.parser.matches.Found.{Found}
 use Rattle.clap.proofs.CallerReads.{signed_reads}
 use Rattle.clap.proofs.WalkLemmas.{first_value-rows, one_text-rows}
@@ -84,12 +84,16 @@ told_is f is_new cache target file n c t w =
 -- ---- what an error comes to
 
 pub refused : (words : List Text) (kind : ErrorKind) (o : Outcome) → (kind ≡ OutOfMemory) ⊎ IsAmong kind (fault_of geosvm words) → TurnsInto kind o → RefusesWords words o
-refused words kind (outcomes.Usage text) (inl e) t = absurd (t.1 e)
-refused words kind (outcomes.Usage text) (inr a) t = (kind, a, t.0)
+refused words kind (outcomes.Usage text) (inl e) t = absurd (t.2 e)
+refused words kind (outcomes.Usage text) (inr a) t = (kind, a, t.0, t.1)
 refused words kind (outcomes.Help text) (inl e) t =
     let bad : DisplayHelp ≡ OutOfMemory = sym t ∙ e in
     cc
 refused words kind (outcomes.Help text) (inr a) t = subst (λ (k : ErrorKind). IsAmong k (fault_of geosvm words)) t a
+refused words kind (outcomes.Version text) (inl e) t =
+    let bad : DisplayVersion ≡ OutOfMemory = sym t ∙ e in
+    cc
+refused words kind (outcomes.Version text) (inr a) t = subst (λ (k : ErrorKind). IsAmong k (fault_of geosvm words)) t a
 refused words kind (outcomes.Run faults.Memory) h t = tt
 refused words kind (outcomes.Run faults.Read) h t = absurd t
 refused words kind (outcomes.Run faults.Write) h t = absurd t

@@ -6,10 +6,11 @@ use Rattle.std.specs.Str.Parse.{digits_value, without_leading_plus}
 use Rattle.clap.specs.Walk.{is_empty}
 use Rattle.clap.specs.declared.parser.matches.Found.{Found}
 use Rattle.clap.specs.Words.{App, IsAmong, IsSignedIn, first_value, one_text, without_minus, Row, Rule, Text, fault_of, first_of, matches_of, new_app, new_rule, one_of, with_rule}
+use Rattle.clap.specs.Simple.{on_top}
 use Rattle.clap.specs.declared.builder.action.ArgAction.TheVariants.{Set, SetTrue}
 use Rattle.clap.specs.declared.builder.value_parser.ValueParser.TheVariants as parsers
 use Rattle.clap.specs.declared.error.kind.ErrorKind.{ErrorKind}
-use Rattle.clap.specs.declared.error.kind.ErrorKind.TheVariants.{DisplayHelp, OutOfMemory}
+use Rattle.clap.specs.declared.error.kind.ErrorKind.TheVariants.{DisplayHelp, DisplayVersion, OutOfMemory}
 use Rattle.geos_shell.specs.declared.settings.Options.{Options}
 use Rattle.geos_shell.specs.declared.outcome.Outcome.{Outcome}
 use Rattle.geos_shell.specs.declared.outcome.Outcome.TheVariants as outcomes
@@ -47,8 +48,12 @@ file_operand = record (new_rule (codes "file")) {
   required = true;
 }
 
+-- a command that tells its version
+abbrev pub with_version : App → App
+with_version = on_top (λ s. record s { has_version = true })
+
 abbrev pub geosvm : App
-geosvm = with_rule (with_rule (with_rule (with_rule (new_app (codes "geosvm")) new_flag) cache_option) as_option) file_operand
+geosvm = with_rule (with_rule (with_rule (with_rule (with_version (new_app (codes "geosvm"))) new_flag) cache_option) as_option) file_operand
 
 -- ---- what a command line says
 
@@ -92,15 +97,17 @@ pub record IsMatched (found : Found) : Type 0 where
 
 -- the outcome that an error of this kind becomes
 abbrev pub TurnsInto : ErrorKind → Outcome → Type 0
-TurnsInto kind (outcomes.Usage text) = (kind ≢ DisplayHelp) × (kind ≢ OutOfMemory)
+TurnsInto kind (outcomes.Usage text) = (kind ≢ DisplayHelp) × (kind ≢ DisplayVersion) × (kind ≢ OutOfMemory)
 TurnsInto kind (outcomes.Help text) = kind ≡ DisplayHelp
+TurnsInto kind (outcomes.Version text) = kind ≡ DisplayVersion
 TurnsInto kind (outcomes.Run faults.Memory) = ⊤
 TurnsInto kind _ = ⊥
 
 -- the words end in this outcome and give no options
 abbrev pub RefusesWords : List Text → Outcome → Type 0
-RefusesWords words (outcomes.Usage text) = (kind : ErrorKind) × IsAmong kind (fault_of geosvm words) × (kind ≢ DisplayHelp)
+RefusesWords words (outcomes.Usage text) = (kind : ErrorKind) × IsAmong kind (fault_of geosvm words) × (kind ≢ DisplayHelp) × (kind ≢ DisplayVersion)
 RefusesWords words (outcomes.Help text) = IsAmong DisplayHelp (fault_of geosvm words)
+RefusesWords words (outcomes.Version text) = IsAmong DisplayVersion (fault_of geosvm words)
 RefusesWords words outcomes.SameFile = (line : CommandLine) × (command_line words ≡ Some line) × (line.target ≡ Some line.file)
 RefusesWords words (outcomes.Run faults.Memory) = ⊤
 RefusesWords words _ = ⊥

@@ -14,6 +14,7 @@ use Rattle.geos_shell.specs.declared.outcome.Outcome.TheVariants as outcomes
 abbrev pub status_of : Outcome → ℕ
 status_of outcomes.Done = 0
 status_of (outcomes.Help text) = 0
+status_of (outcomes.Version text) = 0
 status_of (outcomes.Create fault) = 1
 status_of (outcomes.Open fault) = 1
 status_of outcomes.Target = 1
@@ -30,10 +31,11 @@ run_line faults.Read = codes "geosvm: read fault" ++ line_feed ∷ []
 run_line faults.Write = codes "geosvm: write fault" ++ line_feed ∷ []
 run_line faults.Memory = codes "geosvm: memory" ++ line_feed ∷ []
 
--- what is written: help on standard output, all else on standard error
+-- what is written: help and the version on standard output, all else on standard error
 abbrev pub outcome_text : Outcome → List ℕ
 outcome_text outcomes.Done = []
 outcome_text (outcomes.Help text) = text
+outcome_text (outcomes.Version text) = text
 outcome_text (outcomes.Create fault) = fault_line (codes "create") fault
 outcome_text (outcomes.Open fault) = fault_line (codes "open") fault
 outcome_text outcomes.Target = fault_line (codes "target") File

@@ -4,6 +4,7 @@ ghost use Rattle.std.specs.List.{Contains};
 ghost use Rattle.clap.specs.Words.{FailsBy, app_of, fault_of, found_of, kind_of, matches_of, rows_of, rule_of};
 ghost use Rattle.geos_shell.specs.Options.{IsMatched, IsUsable, RefusesWords, TurnsInto, as_option, cache_option, command_line, file_operand, geosvm, new_flag, said, told_by};
 
+use crate::commands::command_list;
 use crate::outcome::Outcome;
 use crate::runner::RunFault;
 use crate::settings::Options;
@@ -15,6 +16,16 @@ use std::convert::AsStr;
 
 /// How many frames the cache has where nothing is said.
 const FRAMES: u8 = 8;
+
+/// What help says before the options.
+const ABOUT: &str = concat!(
+    "Runs a script from standard input on a document of blocks, and writes its replies to standard output\n\n",
+    "Example:\n  printf 'newraw 7 2\\nvwrite 0001 0 6869\\nsave\\n' | geosvm --new document\n\n",
+    "Exit status:\n",
+    "  0  the script was answered to its end, whatever the replies were\n",
+    "  1  FILE or FILE2 can't be opened, or the run ended before its script did\n",
+    "  2  the words are no command line",
+);
 
 /// Reads a command line, whose first word is the name of the program.
 pub fn options<'a, S: AsStr>(alloc: Global, words: &'a [S]) -> Result<Options<'a>, Outcome>
@@ -47,7 +58,9 @@ fn command<'a>(alloc: Global) -> Result<Command<'a>, AllocError>
     ensures { IfOk result (λ c. app_of c ≡ geosvm) }
 {
     Command::new(alloc, "geosvm")
-        .about("Runs a script from standard input on a document of blocks")
+        .version("0.1.0, for files of version 1 and 2")
+        .about(ABOUT)
+        .after_help(command_list())
         .arg(new_flag(alloc))?
         .arg(cache_option(alloc))?
         .arg(as_option(alloc))?
@@ -61,7 +74,7 @@ fn new_flag<'a>(alloc: Global) -> Arg<'a>
         .long("new")
         .action(ArgAction::SetTrue)
         .value_parser(value_parser!(bool))
-        .help("Make FILE, or make it anew")
+        .help("Make FILE; one that is there is emptied, without a question")
 }
 
 fn cache_option<'a>(alloc: Global) -> Arg<'a>
@@ -120,11 +133,13 @@ fn outcome_of(alloc: Global, error: &Error) -> Outcome
     if kind == ErrorKind::OutOfMemory {
         return Outcome::Run(RunFault::Memory);
     }
-    match error.to_string(alloc) {
-        Ok(text) if kind == ErrorKind::DisplayHelp => {
-            Outcome::Help(Bytes::from_vec(text.into_bytes()))
-        }
-        Ok(text) => Outcome::Usage(Bytes::from_vec(text.into_bytes())),
-        Err(_) => Outcome::Run(RunFault::Memory),
+    let Ok(text) = error.to_string(alloc) else {
+        return Outcome::Run(RunFault::Memory);
+    };
+    let text = Bytes::from_vec(text.into_bytes());
+    match kind {
+        ErrorKind::DisplayHelp => Outcome::Help(text),
+        ErrorKind::DisplayVersion => Outcome::Version(text),
+        _ => Outcome::Usage(text),
     }
 }

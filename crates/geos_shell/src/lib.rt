@@ -3,6 +3,7 @@
 
 mod answering;
 mod command_line;
+mod commands;
 mod files;
 mod hex_text;
 mod host_files;

@@ -14,6 +14,8 @@ pub enum Outcome {
     Usage(Bytes),
     /// The words ask for help, which the text is.
     Help(Bytes),
+    /// The words ask for the version, which the text tells.
+    Version(Bytes),
     /// The target and the file are the same text.
     SameFile,
     /// The new document was refused.
@@ -34,18 +36,20 @@ impl Outcome {
         ensures { result ≡ status_of self.now }
     {
         match self {
-            Outcome::Done | Outcome::Help(_) => 0,
+            Outcome::Done | Outcome::Help(_) | Outcome::Version(_) => 0,
             Outcome::Create(_) | Outcome::Open(_) | Outcome::Target | Outcome::Run(_) => 1,
             Outcome::Usage(_) | Outcome::SameFile => 2,
         }
     }
 
-    /// Writes what there is to tell: help is for standard output, all else for standard error.
+    /// Writes what there is to tell: help and the version are for standard output, all else for standard error.
     pub fn write_line<W: Write>(&self, writer: &mut W) -> io::Result<()>
         ensures { OnOk result (Appends (W.contents writer.old) (W.contents writer.new) (outcome_text self.now)) }
     {
         match self {
-            Outcome::Usage(text) | Outcome::Help(text) => writer.write_all(text.as_slice()),
+            Outcome::Usage(text) | Outcome::Help(text) | Outcome::Version(text) => writer.write_all(
+                text.as_slice(),
+            ),
             Outcome::SameFile => writer.write_all(b"geosvm: FILE2 is FILE\n"),
             Outcome::Create(fault) => write_fault(writer, "create", *fault),
             Outcome::Open(fault) => write_fault(writer, "open", *fault),

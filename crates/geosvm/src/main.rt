@@ -1,11 +1,14 @@
 //! The program: a script from standard input on the document of a file, and its replies on standard output.
 #![tactic(auto)]
 
+mod prompt;
+
+use crate::prompt::Prompting;
 use geos_model::Bytes;
 use geos_shell::{Outcome, RunFault, machine_files, serve};
 use std::alloc::Global;
 use std::env;
-use std::io::{self, ErrorKind};
+use std::io::{self, ErrorKind, IsTerminal};
 use std::process::ExitCode;
 
 /// What `clap` writes of a word that isn't text.
@@ -34,19 +37,24 @@ fn refused(alloc: Global, kind: ErrorKind) -> Outcome {
 fn main(rt: HostRuntime) -> ExitCode {
     // They keep the standard streams guarded until all is told.
     let mut files = machine_files(&rt);
+    let is_typed = rt.stdin().is_terminal() && rt.stderr().is_terminal();
+    let mut reader = Prompting {
+        reader: rt.reader(),
+        prompts: is_typed.then_some(rt.stderr()),
+    };
     let outcome = match words(&rt) {
         Ok(words) => serve(
             rt.alloc(),
             &mut files,
             &words,
-            &mut rt.reader(),
+            &mut reader,
             &mut io::writer(&rt),
         ),
         Err(error) => refused(rt.alloc(), error.kind()),
     };
     // Where not even this can be told, the status still says what became of the run.
     let _ = match &outcome {
-        Outcome::Help(_) => outcome.write_line(&mut io::writer(&rt)),
+        Outcome::Help(_) | Outcome::Version(_) => outcome.write_line(&mut io::writer(&rt)),
         _ => outcome.write_line(&mut rt.stderr()),
     };
     ExitCode::from(outcome.status())

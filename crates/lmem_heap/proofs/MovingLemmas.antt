@@ -1,16 +1,16 @@
 -- The chunk of a slot is moved into a free piece, and its own becomes free.
-use Rattle.std.proofs.Common.{◌≡◌, ℕ, ◌+◌, ◌-◌, ◌*◌, ◌/◌, ◌<◌, ◌≤◌, ◌⊎◌, List, [], ◌∷◌, ◌++◌, length, get_or, set, Option, Some, None, unwrap_or, refl, sym, ap, subst, ◌∙◌, inl, inr, arith}
+use Rattle.std.proofs.Common.{◌≡◌, ℕ, ◌+◌, ◌-◌, ◌*◌, ◌/◌, ◌<◌, ◌≤◌, ◌⊎◌, List, [], ◌∷◌, ◌++◌, length, get_or, set, Option, Some, None, unwrap_or, refl, sym, ap, subst, ◌∙◌, append_assoc, inl, inr, arith}
 use Rattle.std.proofs.lemmas.Bool.{cases_lt}
-use Rattle.std.proofs.lemmas.List.{set-set}
+use Rattle.std.proofs.lemmas.List.{set-set, ext_get_or, get_or-set_same}
 use Rattle.geos_model.specs.Bytes.{resized}
 use Rattle.lmem_heap.specs.declared.space.Space.{Space}
-use Rattle.lmem_heap.specs.Pieces.{word_in, entry, piece_space, Piece, Used, Free, size_head, Lies, IsFresh, spaces}
+use Rattle.lmem_heap.specs.Pieces.{word_in, entry, piece_space, Piece, Used, Free, size_head, Lies, AllShaped, IsFresh, spaces}
 use Rattle.lmem_heap.specs.Edits.{Same, IsSet, IsRangeCopied}
 use Rattle.lmem_heap.specs.Tiled.{IsTiled, chunk_under, chunks_in}
-use Rattle.lmem_heap.specs.Space.{IsSpareAt, IsOther, HasPieces, IsWellFormedBut, IsDetached, IsUnmoved, IsReadyToTake, IsResized}
+use Rattle.lmem_heap.specs.Space.{IsSpareAt, IsOther, HasPieces, IsWellFormedBut, IsDetached, IsUnmoved, IsReadyToTake, IsResized, HasNext, room_of}
 use Rattle.lmem_heap.proofs.EditLemmas.{word_kept, entry_kept, entry_set, entry_other, set_before, set_behind}
-use Rattle.lmem_heap.proofs.PieceLemmas.{lies_split, shaped_split, fresh_append, fresh_split}
-use Rattle.lmem_heap.proofs.TiledLemmas.{piece_chunk, piece_others, chunk_in, shaped_fresh, IsEdit, edited_set, edited_unmoved, spare_bounds, spare_parts, spare_right, spare_edited, Each, each_all, each_other, IsLinkKept}
+use Rattle.lmem_heap.proofs.PieceLemmas.{lies_split, spaces_append, shaped_split, fresh_append, fresh_split}
+use Rattle.lmem_heap.proofs.TiledLemmas.{length-chunks_in, piece_chunk, piece_others, chunk_in, shaped_fresh, IsEdit, edited_set, edited_unmoved, spare_bounds, spare_parts, spare_right, spare_edited, Each, each_all, each_other, IsLinkKept}
 use Rattle.lmem_heap.proofs.FreePieceLemmas.{free_facts}
 use Rattle.lmem_heap.proofs.FreeListLemmas.{IsSpareSplit, spare_split}
 use Rattle.lmem_heap.proofs.EntryLemmas.{used_other, IsLivePiece, live_piece, free_edit, detached_well_formed}
@@ -271,3 +271,88 @@ resized_from s u v w i n slots total chunks size r slots_w total_w chunks_w = re
   chunks = chunks_w ∙ (r.chunks ∙ ap (λ (cs : List (Option (List ℕ))). set cs i (Some (resized (unwrap_or (get_or cs i None) []) n))) chunks);
   total = omega (arith, r.total, ap piece_space size);
 }
+
+-- ---- a chunk grows into the free piece behind its own
+
+-- the first of the pieces is free
+record IsFirstFree (cs : List Piece) : Type 0 where
+  pub room : ℕ
+  pub rest : List Piece
+  pub is : Free room ∷ rest ≡ cs
+
+first_free : (limit p : ℕ) (cs : List Piece) → AllShaped limit cs → IsSpareAt p cs p → IsFirstFree cs
+first_free limit p [] shaped h = absurd h
+first_free limit p (Used i b ∷ cs) shaped h = let r = spare_bounds limit (p + piece_space (length b)) cs p shaped.1 h in absurd (omega (arith, r.0))
+first_free limit p (Free s ∷ cs) shaped h = record { room = s; rest = cs; is = refl }
+
+-- a free piece that the list lacks lies behind that of slot i
+next_at : (s : Space) (i p room q n : ℕ) (d : IsDetached s p room) → IsLivePiece s (detached_well_formed d) i q n → p ≡ q + piece_space n → HasNext s i room
+next_at s i p room q n d f at =
+    let limit = 16 + 2 * s.slots in let one = Used i f.bytes ∷ [] in let sum = spaces_append f.before one in
+    let join = append_assoc f.before one f.after in let S = shaped_split limit (f.before ++ one) f.after (subst (AllShaped limit) (sym join) f.held.tiled.shaped) in
+    let end : p ≡ s.low + spaces (f.before ++ one) = omega (arith, f.place, f.size, at) in
+    let there : IsSpareAt s.low ((f.before ++ one) ++ f.after) p = subst (λ (cs : List Piece). IsSpareAt s.low cs p) (sym (join ∙ f.split)) (spare_right s.low d.before (Free room ∷ d.after) p p d.place (inl refl)) in
+    let behind : IsSpareAt (s.low + spaces (f.before ++ one)) f.after p = elim (spare_parts s.low (f.before ++ one) f.after p there) [
+      | inl inside ↦ let b = spare_bounds limit s.low (f.before ++ one) p S.0 inside in absurd (omega (arith, b.1))
+      | inr past ↦ past
+    ] in
+    let g = first_free limit p f.after S.1 (subst (λ (q : ℕ). IsSpareAt q f.after p) (sym end) behind) in let rest = Free g.room ∷ g.rest in
+    let held : HasPieces s (f.before ++ (Used i f.bytes ∷ rest)) d.free 1 = subst (λ (ds : List Piece). HasPieces s (f.before ++ (Used i f.bytes ∷ ds)) d.free 1) (sym g.is) f.held in
+    let G = free_facts s.region s.slots s.low p g.room (f.before ++ one) g.rest (subst (λ (cs : List Piece). IsTiled s.region s.slots s.low cs) (sym (append_assoc f.before one rest)) held.tiled) end in
+    let D = free_facts s.region s.slots s.low p room d.before d.after d.held.tiled d.place in
+    let same : g.room ≡ room = omega (arith, G.0, D.0) in
+    let place : p ≡ s.low + spaces f.before + piece_space (length f.bytes) = omega (arith, f.place, f.size, at) in
+    record {
+      before = f.before;
+      bytes = f.bytes;
+      after = g.rest;
+      free = d.free;
+      held = subst (λ (m : ℕ). HasPieces s (f.before ++ (Used i f.bytes ∷ (Free m ∷ g.rest))) d.free 1) same held;
+      other = subst (λ (q : ℕ). IsOther q d.free) place d.other;
+    }
+
+pub next_of : (s : Space) (i p room : ℕ) → IsDetached s p room → i < s.slots → 1 < entry s.region i → p ≡ entry s.region i + room_of s i → HasNext s i room
+next_of s i p room d l live at =
+    let q = entry s.region i in let n = word_in s.region q in
+    next_at s i p room q n d (live_piece s (detached_well_formed d) i q n l live refl refl) at
+
+-- bytes that get more zeros than stay
+resize_less : (b : List ℕ) (n m : ℕ) → length b ≤ n → n ≤ m → resized (resized b m) n ≡ resized b n
+resize_less b n m more less =
+    let x = resized b m in let count = count_resized b m in
+    ext_get_or 0 (resized x n) (resized b n) (count_resized x n ∙ sym (count_resized b n)) (λ k l.
+    let within : k < n = omega (arith, count_resized x n) in
+    resized_front x n k (omega (arith, count)) within ∙ elim (cases_lt k (length b)) [
+      | inl in_b ↦ resized_front b m k in_b (omega arith) ∙ sym (resized_front b n k in_b within)
+      | inr past ↦ resized_zeros b m k past (omega arith) ∙ sym (resized_zeros b n k past within)
+    ])
+
+-- a chunk that was resized has the size
+pub record IsGrown (v : Space) (i n : ℕ) : Type 0 where
+  pub live : 1 < entry v.region i
+  pub size : word_in v.region (entry v.region i) ≡ n
+
+pub grown_to : (s v : Space) (i n : ℕ) → IsWellFormedBut v 0 → i < s.slots → 0 < n → IsResized s v i n → IsGrown v i n
+grown_to s v i n k l some r =
+    let cs = chunks_in s.region s.slots in let b = unwrap_or (get_or cs i None) [] in let l_v : i < v.slots = omega (arith, r.slots) in
+    let own : chunk_under v.region (entry v.region i) ≡ Some (resized b n) =
+    sym (chunk_in v.region v.slots i l_v) ∙ (ap (λ (ds : List (Option (List ℕ))). get_or ds i None) r.chunks ∙ get_or-set_same cs i (Some (resized b n)) None (omega (arith, length-chunks_in s.region s.slots))) in
+    let bytes : length (unwrap_or (chunk_under v.region (entry v.region i)) []) ≡ n = ap (λ (o : Option (List ℕ)). length (unwrap_or o [])) own ∙ count_resized b n in
+    let live = live_of v i k l_v (omega (arith, bytes)) in
+    record { live = live; size = sym (size_is v i k l_v live) ∙ bytes }
+
+-- a chunk is resized to more, and then cut
+pub resized_twice : (s v w : Space) (i n m : ℕ) → {a : ℕ} → IsWellFormedBut s a → IsWellFormedBut v 0 → i < s.slots → 1 < entry s.region i → 0 < m → word_in s.region (entry s.region i) ≤ n → n ≤ m → IsResized s v i m → IsResized v w i n → IsResized s w i n
+resized_twice s v w i n m k k_v l live some more less r q =
+    let cs = chunks_in s.region s.slots in let b = unwrap_or (get_or cs i None) [] in let x = resized b m in let g = grown_to s v i m k_v l some r in
+    let count : length b ≡ word_in s.region (entry s.region i) = ap (λ (o : Option (List ℕ)). length (unwrap_or o [])) (chunk_in s.region s.slots i l) ∙ size_is s i k l live in
+    let own : get_or (chunks_in v.region v.slots) i None ≡ Some x = ap (λ (ds : List (Option (List ℕ))). get_or ds i None) r.chunks ∙ get_or-set_same cs i (Some x) None (omega (arith, length-chunks_in s.region s.slots)) in
+    record {
+      slots = q.slots ∙ r.slots;
+      chunks = q.chunks
+          ∙ (ap (λ (o : Option (List ℕ)). set (chunks_in v.region v.slots) i (Some (resized (unwrap_or o []) n))) own
+          ∙ (ap (λ (ds : List (Option (List ℕ))). set ds i (Some (resized x n))) r.chunks
+          ∙ (set-set cs i (Some x) (Some (resized x n))
+          ∙ ap (λ (y : List ℕ). set cs i (Some y)) (resize_less b n m (omega (arith, count)) less))));
+      total = omega (arith, q.total, r.total, ap piece_space g.size);
+    }

@@ -27,31 +27,31 @@ pub record IsZeroed (xs ys : List ℕ) (p n : ℕ) : Type 0 where
   pub before : (k : ℕ) → k < p → get_or ys k 0 ≡ get_or xs k 0
   pub behind : (k : ℕ) → p + n ≤ k → get_or ys k 0 ≡ get_or xs k 0
 
--- the chunks of the pieces lie one after another from `low` on, with the entries of a place `delta` further up; other entries are the same
-pub record IsPacked (xs ys : List ℕ) (low delta : ℕ) (cs : List Piece) : Type 0 where
+-- the chunks of the pieces lie one after another from `low` on, with the entries that they have from `target` on; other entries are the same
+pub record IsPacked (xs ys : List ℕ) (low target : ℕ) (cs : List Piece) : Type 0 where
   pub long : length ys ≡ 65520
   pub lies : Lies size_head ys low (used cs) (low + spaces (used cs))
-  pub points : Points (place_to delta) ys low (used cs)
+  pub points : Points (place_to low target) ys low (used cs)
   pub others : (j : ℕ) → IsFresh j (used cs) → 18 + 2 * j ≤ low → entry ys j ≡ entry xs j
 
--- the pieces lie from `low` to the end with their slots' handles, and the table has the sizes: ready to be packed
-pub record IsReadyToPack (xs : List ℕ) (low delta : ℕ) (cs : List Piece) : Type 0 where
+-- the pieces lie from `low` to the end with their slots' handles, and the table has the sizes; their chunks have room from `target` on
+pub record IsReadyToPack (xs : List ℕ) (low target : ℕ) (cs : List Piece) : Type 0 where
   pub long : length xs ≡ 65520
   pub lies : Lies handle_head xs low cs 65520
   pub points : Points size_of xs low cs
   pub shaped : AllShaped low cs
   pub distinct : ArePiecesDistinct (used cs)
-  pub room : low + spaces (used cs) + delta ≡ 65520
+  pub room : target + spaces (used cs) ≤ 65520
 
--- the chunks that lie first, up to `end`, have their sizes back, and entries of a place `delta` further up; the pieces behind them wait
-pub record IsRunPacked (xs ys : List ℕ) (start delta : ℕ) (cs : List Piece) (end : ℕ) : Type 0 where
+-- the chunks that lie first, up to `end`, have their sizes back, and the entries that they have from `target` on; the pieces behind them wait
+pub record IsRunPacked (xs ys : List ℕ) (start target : ℕ) (cs : List Piece) (end : ℕ) : Type 0 where
   pub run : List Piece
   pub rest : List Piece
   pub whole : run ++ rest ≡ cs
   pub chunks : used run ≡ run
   pub long : length ys ≡ length xs
   pub lies : Lies size_head ys start run end
-  pub points : Points (place_to delta) ys start run
+  pub points : Points (place_to start target) ys start run
   pub waiting : Lies handle_head ys end rest 65520
   pub sizes : Points size_of ys end rest
   pub others : (j : ℕ) → IsFresh j run → 18 + 2 * j ≤ start → entry ys j ≡ entry xs j

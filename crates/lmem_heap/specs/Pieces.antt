@@ -1,5 +1,5 @@
 -- What a heap's region holds: behind a header of 16 bytes a word for each slot, its entry, and from the mark `low` to the end the pieces, one after another.
-use Rattle.std.specs.Prelude.{◌≡◌, ◌≢◌, ℕ, ◌+◌, ◌*◌, ◌/◌, ◌<◌, ◌≤◌, List, [], ◌∷◌, length, get_or}
+use Rattle.std.specs.Prelude.{◌≡◌, ◌≢◌, ℕ, ◌+◌, ◌-◌, ◌*◌, ◌/◌, ◌<◌, ◌≤◌, List, [], ◌∷◌, length, get_or}
 
 -- the word at a place, its low byte first
 unfoldable pub word_in : List ℕ → ℕ → ℕ
@@ -89,12 +89,12 @@ abbrev pub spaces : List Piece → ℕ
 spaces [] = 0
 spaces (c ∷ cs) = space c + spaces cs
 
--- entries: where the piece lies; where it is to lie, `delta` further up; while the heap is packed the size
+-- entries: where the piece lies; where it is to lie, if what lies at `from` goes to `target`; while the heap is packed the size
 abbrev pub place_of : ℕ → ℕ → List ℕ → ℕ
 place_of p i bytes = p
 
-abbrev pub place_to : ℕ → ℕ → ℕ → List ℕ → ℕ
-place_to delta p i bytes = p + delta
+abbrev pub place_to : ℕ → ℕ → ℕ → ℕ → List ℕ → ℕ
+place_to from target p i bytes = p + target - from
 
 abbrev pub size_of : ℕ → ℕ → List ℕ → ℕ
 size_of p i bytes = length bytes

@@ -1,11 +1,11 @@
 //! The allocator of pieces: a free one is made below the others, or found in the list, taken out and cut, or put back.
-ghost use Rattle.std.specs.Prelude.{◌≡◌, ◌⊎◌, ◌+◌, ◌-◌, ◌*◌, ◌/◌, ◌≤◌, ◌<◌, ℕ, MatchOption};
-ghost use Rattle.lmem_heap.specs.Pieces.{word_in, entry};
+ghost use Rattle.std.specs.Prelude.{◌≡◌, ◌⊎◌, ◌+◌, ◌-◌, ◌*◌, ◌/◌, ◌≤◌, ◌<◌, ℕ, MatchOption, IfSome};
+ghost use Rattle.lmem_heap.specs.Pieces.{word_in, entry, piece_space};
 ghost use Rattle.lmem_heap.specs.Tiled.{chunks_in, table_end};
-ghost use Rattle.lmem_heap.specs.Space.{IsWellFormed, IsDetached, HasNoFree, HasFree, IsLinked, IsUnmoved, HasSameChunks};
+ghost use Rattle.lmem_heap.specs.Space.{IsWellFormed, IsDetached, HasNoFree, HasFree, IsLinked, IsUnmoved, HasSameChunks, room_of};
 
-use crate::sizes::table_end;
-use crate::space::Space;
+use crate::sizes::{piece_space, table_end};
+use crate::space::{LivePiece, Space};
 use crate::words::{set_word, word_in};
 
 impl Space {
@@ -48,8 +48,52 @@ impl Space {
         None
     }
 
+    /// Where a free piece lies at `at`, in the list: the one before it, or 0. None where none of the first `LOOKS` pieces is
+    /// it.
+    fn find_link(&self, at: usize) -> Option<usize>
+        requires { IsWellFormed self.now }
+        ensures { IfSome result (λ prev. IsLinked self.now prev at) }
+    {
+        let mut prev = 0;
+        let mut place = self.head;
+        for _seen in 0..LOOKS {
+            if place == 0 {
+                return None;
+            }
+            if place == at {
+                return Some(prev);
+            }
+            prev = place;
+            place = word_in(&self.region, place + 2);
+        }
+        None
+    }
+
+    /// The free piece of the list that lies behind a slot's, if both together hold `n` bytes. None where it is as large as
+    /// such a chunk's piece alone: then the chunk is moved in less time.
+    pub(crate) fn find_next(&self, i: usize, n: usize) -> Option<Fit>
+        requires well_formed { IsWellFormed self.now }
+        requires slot { i < self.now.slots }
+        requires live { 1 < entry self.now.region i }
+        requires small { n < 131072 }
+        ensures { IfSome result (λ fit. IsLinked self.now fit.prev fit.place ×
+            (fit.place ≡ entry self.now.region i + room_of self.now i) ×
+            (piece_space n < room_of self.now i + word_in self.now.region fit.place)) }
+    {
+        let LivePiece { place: p, size } = self.live_piece(i);
+        let place = p + piece_space(size);
+        let prev = self.find_link(place)?;
+        let head = word_in(&self.region, place);
+        let room = piece_space(n);
+        if room < piece_space(size) + head && head <= room {
+            Some(Fit { prev, place })
+        } else {
+            None
+        }
+    }
+
     /// Takes a free piece out of the list.
-    fn unlink(&mut self, prev: usize, place: usize)
+    pub(crate) fn unlink(&mut self, prev: usize, place: usize)
         requires { IsLinked self.old prev place }
         ensures detached { IsDetached self.new place (word_in self.old.region place - 1) }
         ensures unmoved { IsUnmoved self.old self.new }
@@ -149,10 +193,13 @@ impl Space {
     {
         match self.find_room(room) {
             Some(p) => p,
-            None => {
-                self.compact();
-                self.extend(room)
-            }
+            None => match self.gather_for(room) {
+                Some(p) => p,
+                None => {
+                    self.compact();
+                    self.extend(room)
+                }
+            },
         }
     }
 }
@@ -164,7 +211,7 @@ const LOOKS: usize = 128;
 
 /// A free piece of the list, and the one before it, or 0.
 #[derive(Clone, Copy)]
-struct Fit {
-    prev: usize,
-    place: usize,
+pub(crate) struct Fit {
+    pub(crate) prev: usize,
+    pub(crate) place: usize,
 }

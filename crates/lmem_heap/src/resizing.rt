@@ -2,10 +2,11 @@
 ghost use Rattle.std.specs.Prelude.{◌≡◌, ◌+◌, ◌-◌, ◌*◌, ◌/◌, ◌≤◌, ◌<◌, ℕ};
 ghost use Rattle.lmem_heap.specs.Pieces.{word_in, entry, piece_space};
 ghost use Rattle.lmem_heap.specs.Tiled.{chunks_in, table_end};
-ghost use Rattle.lmem_heap.specs.Space.{IsWellFormed, IsDetached, HasNext, IsUnmoved, IsReadyToTake, IsResized, room_of};
+ghost use Rattle.lmem_heap.specs.Space.{IsWellFormed, IsDetached, HasNext, IsLinked, IsUnmoved, IsReadyToTake, IsResized, room_of};
 
 use crate::compaction::lower_entries;
-use crate::sizes::piece_space;
+use crate::pieces::Fit;
+use crate::sizes::{piece_space, table_end};
 use crate::space::{LivePiece, Space};
 use crate::words::{NO_CHUNK, copy_piece, entry, set_entry, set_size, set_word, slide, word_in};
 
@@ -48,6 +49,27 @@ impl Space {
         set_word(&mut self.region, p + room, rest + 1);
         self.total -= rest;
         p + room
+    }
+
+    /// A slot's chunk gets `n` bytes where it lies, in a piece that is no larger. What is left of the old one is free.
+    fn cut_down(&mut self, i: usize, n: usize)
+        // A slot whose chunk has bytes.
+        requires well_formed { IsWellFormed self.old }
+        requires slot { i < self.old.slots }
+        requires live { 1 < entry self.old.region i }
+        // The new size.
+        requires some { 0 < n }
+        requires less { piece_space n ≤ room_of self.old i }
+        // What it leaves.
+        ensures well_formed { IsWellFormed self.new }
+        ensures resized { IsResized self.old self.new i n }
+    {
+        if piece_space(n) == piece_space(self.find_run(i).size) {
+            self.refit(i, n);
+        } else {
+            let p = self.shorten(i, n);
+            self.push(p);
+        }
     }
 
     /// A slot's chunk gets `n` bytes where it lies, with the free piece behind its own.
@@ -125,9 +147,52 @@ impl Space {
         self.push(p);
     }
 
-    /// A slot's chunk gets `n` bytes, for which its piece is too small. It moves where such a piece is found, else the
-    /// chunks are packed.
+    /// A slot's chunk gets `n` bytes where it lies, with a free piece of the list that lies behind its own. What it doesn't
+    /// need of that is free again.
+    fn join(&mut self, i: usize, n: usize, prev: usize, place: usize)
+        // A slot whose chunk has bytes.
+        requires well_formed { IsWellFormed self.old }
+        requires slot { i < self.old.slots }
+        requires live { 1 < entry self.old.region i }
+        // The free piece.
+        requires linked { IsLinked self.old prev place }
+        requires behind { place ≡ entry self.old.region i + room_of self.old i }
+        // The new size.
+        requires more { room_of self.old i < piece_space n }
+        requires less { piece_space n < room_of self.old i + word_in self.old.region place }
+        // What it leaves.
+        ensures well_formed { IsWellFormed self.new }
+        ensures resized { IsResized self.old self.new i n }
+    {
+        let size = self.find_run(i).size;
+        let room = piece_space(size) + word_in(&self.region, place) - 1;
+        self.unlink(prev, place);
+        self.absorb(i, room - 2);
+        self.cut_down(i, n);
+    }
+
+    /// A slot's chunk gets `n` bytes, for which its piece is too small. It grows into the piece behind its own where that
+    /// serves, or moves where a piece is found, else the chunks are packed.
     fn enlarge(&mut self, i: usize, n: usize)
+        // A slot whose chunk has bytes.
+        requires well_formed { IsWellFormed self.old }
+        requires slot { i < self.old.slots }
+        requires live { 1 < entry self.old.region i }
+        // The new size.
+        requires more { room_of self.old i < piece_space n }
+        requires fits { table_end self.old.slots + self.old.total + piece_space n ≤ 65520 + room_of self.old i }
+        // What it leaves.
+        ensures well_formed { IsWellFormed self.new }
+        ensures resized { IsResized self.old self.new i n }
+    {
+        match self.find_next(i, n) {
+            Some(Fit { prev, place }) => self.join(i, n, prev, place),
+            None => self.enlarge_elsewhere(i, n),
+        }
+    }
+
+    /// The same where no free piece behind the chunk's own serves.
+    fn enlarge_elsewhere(&mut self, i: usize, n: usize)
         // A slot whose chunk has bytes.
         requires well_formed { IsWellFormed self.old }
         requires slot { i < self.old.slots }
@@ -146,7 +211,8 @@ impl Space {
         }
     }
 
-    /// The same where it lies, when the chunks have been packed.
+    /// The same when the chunks are packed first: it moves where that makes such a piece, else it gets what it lacks where it
+    /// lies.
     fn enlarge_packed(&mut self, i: usize, n: usize, room: usize)
         // A slot whose chunk has bytes.
         requires well_formed { IsWellFormed self.old }
@@ -160,10 +226,40 @@ impl Space {
         ensures well_formed { IsWellFormed self.new }
         ensures resized { IsResized self.old self.new i n }
     {
-        self.compact();
-        let size = self.find_run(i).size;
-        self.open_gap(i, room - piece_space(size));
-        self.absorb(i, n);
+        match self.gather_for(room) {
+            Some(q) => self.move_to(i, q, n),
+            None => {
+                self.compact();
+                self.enlarge_below(i, n, room);
+            }
+        }
+    }
+
+    /// The same where all that is free lies below the chunks: it moves there, else it gets what it lacks where it lies.
+    fn enlarge_below(&mut self, i: usize, n: usize, room: usize)
+        // A slot whose chunk has bytes.
+        requires well_formed { IsWellFormed self.old }
+        requires slot { i < self.old.slots }
+        requires live { 1 < entry self.old.region i }
+        // The new size.
+        requires more { room_of self.old i < piece_space n }
+        requires fits { table_end self.old.slots + self.old.total + piece_space n ≤ 65520 + room_of self.old i }
+        requires room { room ≡ piece_space n }
+        // No piece is free.
+        requires packed { self.old.head ≡ 0 }
+        requires low { self.old.low ≡ 65520 - self.old.total }
+        // What it leaves.
+        ensures well_formed { IsWellFormed self.new }
+        ensures resized { IsResized self.old self.new i n }
+    {
+        if self.low - table_end(self.slots) >= room {
+            let q = self.extend(room);
+            self.move_to(i, q, n);
+        } else {
+            let size = self.find_run(i).size;
+            self.open_gap(i, room - piece_space(size));
+            self.absorb(i, n);
+        }
     }
 
     /// The pieces up to a slot's go down, and a free piece of this room, in no list, opens behind it. No other is free.
@@ -207,14 +303,8 @@ impl Space {
         ensures well_formed { IsWellFormed self.new }
         ensures resized { IsResized self.old self.new i n }
     {
-        let size = self.find_run(i).size;
-        let space = piece_space(size);
-        let room = piece_space(n);
-        if room == space {
-            self.refit(i, n);
-        } else if room < space {
-            let p = self.shorten(i, n);
-            self.push(p);
+        if piece_space(n) <= piece_space(self.find_run(i).size) {
+            self.cut_down(i, n);
         } else {
             self.enlarge(i, n);
         }

@@ -73,14 +73,16 @@ pub(crate) fn set_entry(region: &mut Region, i: usize, e: usize)
     set_word(region, entry_at(i), e);
 }
 
-/// Moves `n` bytes.
+/// Moves `n` bytes. Takes no time where they stay.
 pub(crate) fn slide(region: &mut Region, p: usize, q: usize, n: usize)
     requires source { p + n ≤ 65520 }
     requires target { q + n ≤ 65520 }
     requires long { length region.old ≡ 65520 }
     ensures { IsSlid region.old region.new p q n }
 {
-    region.slide(p, q, n);
+    if p != q {
+        region.slide(p, q, n);
+    }
 }
 
 /// Makes `n` bytes zero.

@@ -1,15 +1,17 @@
 -- A chunk's bytes are the name array that is read of them, or none, and what refusals and new bytes come to there.
-use Rattle.std.proofs.Common.{◌≡◌, ℕ, ◌+◌, ◌≤◌, Bool, true, false, ◌&&◌, ◌==◌, nat_le, if◌then◌else◌, List, length, Option, Some, None, option_and_then, refl, sym, ap, ◌∙◌, arith, leb-true, ◌-◌, ◌∷◌, ◌++◌, not, ◌||◌, is_some, is_none, unwrap_or, ap₂, Result, MatchResult, []}
-use Rattle.std.proofs.lemmas.Bool.{and_parts, cond-true, cond-false}
+use Rattle.std.proofs.Common.{◌≡◌, ℕ, ◌+◌, ◌<◌, ◌≤◌, drop, inl, inr, length-drop, le-leb, eq-eqb, ne_eqb, Bool, true, false, ◌&&◌, ◌==◌, nat_le, if◌then◌else◌, List, length, Option, Some, None, option_and_then, refl, sym, ap, ◌∙◌, arith, leb-true, ◌-◌, ◌∷◌, ◌++◌, not, ◌||◌, is_some, is_none, unwrap_or, ap₂, Result, MatchResult, []}
+use Rattle.std.proofs.lemmas.Bool.{lt-leb, cases_Bool, and_parts, and_from, and_cases, and_left, and_right, cond-true, cond-false, true≢false}
 use Rattle.std.specs.List.{list_all}
 use Rattle.byteorder.specs.Endian.{little_number}
 use Rattle.geos_model.specs.Words.{word, word_at}
 use Rattle.geos_model.specs.Array.{Array, array_bytes, array_of}
-use Rattle.geos_model.specs.ElementArray.{Slots, slots_array, slots_of, element_at}
+use Rattle.geos_model.specs.ElementArray.{Element, Slots, slots_array, slots_of, slots_read, element_at, is_sound}
 use Rattle.geos_model.specs.NameArray.{NameArray, is_named, is_sound_names, names_read, names_of, name_array_of, name_bytes, is_name}
 use Rattle.geos_model.proofs.Arrays.{array_bytes-of}
 use Rattle.geos_model.proofs.NameArrays.{word-small}
 use Rattle.element_arrays.specs.Slotted.{Slotted, slotted_array, slotted_bytes, GivesSlots, RefusesSlots}
+use Rattle.element_arrays.specs.Tested.{has_length, are_slots_within}
+use Rattle.element_arrays.proofs.TestedLemmas.{slots_read-is, slots_none}
 use Rattle.name_arrays.specs.Reading.{named_array, IsRead}
 use Rattle.std.specs.Option.{option_map_or}
 use Rattle.geos_model.specs.Refusal.{Conditions, first_refusal}
@@ -27,19 +29,37 @@ use Rattle.element_arrays.proofs.SlottedLemmas.{refuses_for, replaces_for, slots
 
 -- ---- a chunk's bytes are the name array that is read of them, or none where a test fails
 
--- what is tested of slots that are read
-abbrev pub are_names : Slots → ℕ → Bool
-are_names s part = s.size == 0 && nat_le part 64 && list_all (is_named part) s.slots
-
-sound_is : (s : Slotted) (part : ℕ) → is_sound_names (named_array s part) ≡ are_names s.slots part
-unfolding is_sound_names
-sound_is s part = rw s.sound refl
-
 part_is : (s : Slotted) → word_at (slotted_array s).extra 2 ≡ little_number 2 s.more
 unfolding slots_array
 part_is s = refl
 
--- bytes that are no chunk array, or one of no slots
+-- Of a name behind its part, a used element has as many bytes as both.
+named_is : (part : ℕ) (slot : Option Element) → has_length (part + 1) (part + 256) slot ≡ is_named part slot
+named_is part None = refl
+named_is part (Some e) = elim (cases_Bool (nat_le (part + 1) (length e.bytes) && nat_le (length e.bytes) (part + 256))) [
+  | inl so ↦
+      (let parts = and_parts (nat_le (part + 1) (length e.bytes)) (nat_le (length e.bytes) (part + 256)) so in
+      let low = leb-true (part + 1) (length e.bytes) parts.0 in
+      let high = leb-true (length e.bytes) (part + 256) parts.1 in
+      let cut = length-drop part e.bytes in
+      so ∙ sym (and_from _ _ (le-leb part (length e.bytes) (omega (arith, low))) (and_from _ _ (le-leb 1 (length (drop part e.bytes)) (omega (arith, low, cut))) (le-leb (length (drop part e.bytes)) 256 (omega (arith, high, cut))))))
+  | inr other ↦ other ∙ sym (elim (cases_Bool (nat_le part (length e.bytes) && is_name (drop part e.bytes))) [
+    | inl so ↦
+        (let parts = and_parts (nat_le part (length e.bytes)) (is_name (drop part e.bytes)) so in
+        let bounds = and_parts (nat_le 1 (length (drop part e.bytes))) (nat_le (length (drop part e.bytes)) 256) parts.1 in
+        let within = leb-true part (length e.bytes) parts.0 in
+        let low = leb-true 1 (length (drop part e.bytes)) bounds.0 in
+        let high = leb-true (length (drop part e.bytes)) 256 bounds.1 in
+        let cut = length-drop part e.bytes in
+        absurd (true≢false (sym (and_from _ _ (le-leb (part + 1) (length e.bytes) (omega (arith, within, low, cut))) (le-leb (length e.bytes) (part + 256) (omega (arith, within, high, cut)))) ∙ other)))
+    | inr others ↦ others
+  ])
+]
+
+all_named : (part : ℕ) (slots : List (Option Element)) → list_all (has_length (part + 1) (part + 256)) slots ≡ list_all (is_named part) slots
+all_named part slots = ap (λ (p : Option Element → Bool). list_all p slots) (λ i slot. named_is part slot i)
+
+-- bytes that are no chunk array
 pub no_array : (bytes : List ℕ) → array_of bytes ≡ None → name_array_of bytes ≡ None
 unfolding name_array_of
 no_array bytes none = ap (option_and_then names_of) none
@@ -47,40 +67,72 @@ no_array bytes none = ap (option_and_then names_of) none
 abbrev accepted : Array → Slots → Option NameArray
 accepted a s = if is_sound_names (names_read a s) then Some (names_read a s) else None
 
-pub no_slots : (bytes : List ℕ) (a : Array) → array_of bytes ≡ Some a → slots_of 4 a ≡ None → name_array_of bytes ≡ None
+no_slots : (a : Array) → slots_of 4 a ≡ None → names_of a ≡ None
+no_slots a none = ap (option_and_then (accepted a)) none
+
+-- an array of other slots
+other_slots : (a : Array) → slots_of 4 a ≡ Some (slots_read a) → is_sound_names (names_read a (slots_read a)) ≡ false → names_of a ≡ None
+other_slots a some other = ap (option_and_then (accepted a)) some ∙ cond-false _ _ _ other
+
+by_slots : (a : Array) → (slots_of 4 a ≡ Some (slots_read a) → is_sound_names (names_read a (slots_read a)) ≡ false) → names_of a ≡ None
+by_slots a other = elim (cases_Bool (is_some (slots_of 4 a))) [
+  | inl some ↦ (let read = slots_read-is 4 a some in other_slots a read (other read))
+  | inr none ↦ no_slots a (slots_none 4 a none)
+]
+
+-- one with other extra bytes
+pub other_extra : (a : Array) → (length a.extra ≡ 4 → ⊥) → names_of a ≡ None
+unfolding slots_of
+other_extra a other =
+    let s : Slots = slots_read a in
+    no_slots a (cond-false _ _ _ (and_left _ _ (and_left (length a.extra == 4) (is_sound s) (ne_eqb (length a.extra) 4 other))))
+
+pub great_part : (a : Array) → 64 < word_at a.extra 2 → names_of a ≡ None
+unfolding is_sound_names
+great_part a great = by_slots a (λ read. and_left _ _ (and_right (is_sound (slots_read a) && (slots_read a).size == 0) (nat_le (word_at a.extra 2) 64) (lt-leb (word_at a.extra 2) 64 great)))
+
+pub not_within : (a : Array) → are_slots_within 4 (word_at a.extra 2 + 1) (word_at a.extra 2 + 256) a ≡ false → names_of a ≡ None
+unfolding is_sound_names
+not_within a refused = by_slots a (λ read. elim (and_cases (is_some (slots_of 4 a)) (list_all (has_length (word_at a.extra 2 + 1) (word_at a.extra 2 + 256)) (slots_read a).slots) refused) [
+  | inl none ↦ absurd (true≢false (sym (ap is_some read) ∙ none))
+  | inr other ↦ and_right _ _ (sym (all_named (word_at a.extra 2) (slots_read a).slots) ∙ other)
+])
+
+-- the names of a chunk's bytes are those of the array that they are
+pub by_array : (bytes : List ℕ) (a : Array) → array_of bytes ≡ Some a → names_of a ≡ None → name_array_of bytes ≡ None
 unfolding name_array_of
-no_slots bytes a is none = ap (option_and_then names_of) is ∙ ap (option_and_then (accepted a)) none
+by_array bytes a is none = ap (option_and_then names_of) is ∙ none
 
--- slots that are read of a chunk's bytes, and the size of a part that is read
-module _ (bytes : List ℕ) (a : Array) (s : Slotted) (part : ℕ) (is : array_of bytes ≡ Some a) (slots : slots_of 4 a ≡ Some s.slots) (array : slotted_array s ≡ a) (read : part ≡ little_number 2 s.more) where
+-- slots that are read of a chunk's bytes, and the size of a part
+module _ (bytes : List ℕ) (a : Array) (s : Slotted) (part : ℕ) (is : array_of bytes ≡ Some a) (slots : slots_of 4 a ≡ Some s.slots) (array : slotted_array s ≡ a) (read : part ≡ word_at a.extra 2) where
   names_is : names_read a s.slots ≡ named_array s part
-  names_is = ap (λ (p : ℕ). record { part = p; names = s.slots }) (ap (λ (b : Array). word_at b.extra 2) (sym array) ∙ part_is s ∙ sym read)
-
-  test_is : is_sound_names (names_read a s.slots) ≡ are_names s.slots part
-  test_is = ap is_sound_names names_is ∙ sound_is s part
+  names_is = ap (λ (p : ℕ). record { part = p; names = s.slots }) (sym read)
 
   comes_to : name_array_of bytes ≡ accepted a s.slots
   unfolding name_array_of
   comes_to = ap (option_and_then names_of) is ∙ ap (option_and_then (accepted a)) slots
 
-  pub not_named : are_names s.slots part ≡ false → name_array_of bytes ≡ None
-  not_named other = comes_to ∙ cond-false _ _ _ (test_is ∙ other)
+  -- names have any size
+  pub one_size : (s.slots.size ≡ 0 → ⊥) → name_array_of bytes ≡ None
+  unfolding is_sound_names
+  one_size sized =
+      let other : is_sound_names (names_read a s.slots) ≡ false = and_left _ _ (and_left _ _ (and_right (is_sound s.slots) (s.slots.size == 0) (ne_eqb s.slots.size 0 sized))) in
+      comes_to ∙ cond-false _ _ _ other
 
-  module _ (tested : are_names s.slots part ≡ true) where
+  module _ (small : part ≤ 64) (any : s.slots.size ≡ 0) (named : list_all (has_length (part + 1) (part + 256)) s.slots.slots ≡ true) where
     pub is_sound_read : is_sound_names (named_array s part) ≡ true
-    is_sound_read = sound_is s part ∙ tested
+    unfolding is_sound_names
+    is_sound_read = and_from _ _ (and_from _ _ (and_from _ _ s.sound (eq-eqb s.slots.size 0 any)) (le-leb part 64 small)) (sym (all_named part s.slots.slots) ∙ named)
 
     pub more_is : length s.more + 2 ≡ 4 → s.more ≡ word part
     more_is long =
-        let size : Bool = s.slots.size == 0 in
-        let parts = and_parts (size && nat_le part 64) (list_all (is_named part) s.slots.slots) tested in
-        let small : part ≤ 64 = leb-true part 64 (and_parts size (nat_le part 64) parts.0).1 in
-        sym (word-small s.more (omega (arith, long)) (omega (arith, read, small))) ∙ ap word (sym read)
+        let number : part ≡ little_number 2 s.more = read ∙ ap (λ (b : Array). word_at b.extra 2) (sym array) ∙ part_is s in
+        sym (word-small s.more (omega (arith, long)) (omega (arith, number, small))) ∙ ap word (sym number)
 
     pub is_read : IsRead bytes s part
     unfolding slotted_bytes
     is_read = record {
-      is = comes_to ∙ cond-true _ _ _ (test_is ∙ tested) ∙ ap Some names_is;
+      is = comes_to ∙ cond-true _ _ _ (ap is_sound_names names_is ∙ is_sound_read) ∙ ap Some names_is;
       same = ap array_bytes array ∙ (array_bytes-of bytes a is).1;
     }
 

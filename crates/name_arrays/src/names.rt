@@ -1,21 +1,22 @@
 //! The names of an array, read where they lie.
-ghost use Rattle.std.specs.Prelude.{◌≡◌, ◌+◌, ◌&&◌, ◌==◌, nat_le, None, Some, true, MatchResult, length, drop};
-ghost use Rattle.std.specs.List.{list_all};
+ghost use Rattle.std.specs.Prelude.{◌≡◌, ◌≤◌, None, Some, true, MatchOption, MatchResult};
 ghost use Rattle.std.specs.Option.{option_map};
-ghost use Rattle.byteorder.specs.Endian.{little_number};
-ghost use Rattle.geos_model.specs.Words.{word};
+ghost use Rattle.geos_model.specs.Words.{word, word_at};
 ghost use Rattle.geos_model.specs.ElementArray.{element_at};
-ghost use Rattle.geos_model.specs.NameArray.{name_array_of, is_name, is_named, is_sound_names};
+ghost use Rattle.geos_model.specs.NameArray.{name_array_of, names_of, is_name, is_sound_names};
 ghost use Rattle.geos_model.specs.NameEdits.{token_of_text};
 ghost use Rattle.name_arrays.specs.Reading.{named_array, IsRead};
 
 use byteorder::{ByteOrder, LittleEndian};
-use chunk_arrays::check;
-use element_arrays::{SlotView, slots_in};
+use chunk_arrays::{View, check};
+use element_arrays::{SlotView, slots_within};
 use geos_model::{Fault, Token};
 
 /// How many bytes a part has at most.
 pub(crate) const GREATEST_PART: usize = 64;
+
+/// The extra bytes of a name array: the newest free token and the size of a part, two each.
+const EXTRA: usize = 4;
 
 /// How many bytes a name has at most.
 const LONGEST_NAME: usize = 256;
@@ -45,52 +46,33 @@ pub(crate) fn read(bytes: &[u8]) -> Result<Names<'_>, Fault>
         (λ fault. (fault ≡ Fault.NotArray) × (name_array_of bytes.now ≡ None)) }
 {
     let view = check(bytes)?;
-    // the newest free token and the size of a part are two bytes each
-    let slots = slots_in(view, 4)?;
-    let part = part_size(&slots);
-    if !are_names(&slots, part) {
+    let Some(part) = part_size(&view) else {
+        return Err(Fault::NotArray);
+    };
+    // a used element is a part and a name
+    let slots = slots_within(view, EXTRA, part + 1, part + LONGEST_NAME)?;
+    if slots.element_size() != 0 {
         return Err(Fault::NotArray);
     }
     Ok(Names { slots, part })
 }
 
-/// How many bytes the part before each name has.
-fn part_size(slots: &SlotView<'_>) -> usize
-    requires { length slots.now.more ≡ 2 }
-    ensures { result ≡ little_number 2 slots.now.more }
+/// How many bytes the part before each name has, if the array has the extra bytes of a name array.
+fn part_size(view: &View<'_>) -> Option<usize>
+    ensures { MatchOption result
+        (names_of view.now.array ≡ None)
+        (λ part. (part ≡ word_at view.now.array.extra 2) × (part ≤ 64)) }
 {
-    usize::from(LittleEndian::read_u16(slots.more()))
-}
-
-/// Whether the slots are those of a name array with parts of this size.
-fn are_names(slots: &SlotView<'_>, part: usize) -> bool
-    ensures { result ≡ (slots.now.slots.size == 0 && nat_le part 64 && list_all (is_named part) slots.now.slots.slots) }
-{
-    slots.element_size() == 0 && part <= GREATEST_PART && have_names(slots, part)
-}
-
-/// Whether each used element is a part of this size and a name.
-fn have_names(slots: &SlotView<'_>, part: usize) -> bool
-    ensures { result ≡ list_all (is_named part) slots.now.slots.slots }
-{
-    let mut place = slots.first_place();
-    for t in 0..slots.len() {
-        let (element, next) = slots.element_from(Token(t), place);
-        place = next;
-        if let Some(used) = element
-            && !is_named(used.bytes, part)
-        {
-            return false;
-        }
+    let extra = view.extra();
+    if extra.len() != EXTRA {
+        return None;
     }
-    true
-}
-
-/// Whether these bytes are a part of this size and a name.
-fn is_named(bytes: &[u8], part: usize) -> bool
-    ensures { result ≡ (nat_le part (length bytes.now) && is_name (drop part bytes.now)) }
-{
-    part <= bytes.len() && is_name(&bytes[part..])
+    let part = usize::from(LittleEndian::read_u16(&extra[2..]));
+    if part <= GREATEST_PART {
+        Some(part)
+    } else {
+        None
+    }
 }
 
 /// Whether a name can be these bytes: one at least, and no more than 256.

@@ -10,6 +10,8 @@ mod fakes;
 #[cfg(test)]
 mod faults;
 #[cfg(test)]
+mod help;
+#[cfg(test)]
 mod lending;
 #[cfg(test)]
 mod memory;

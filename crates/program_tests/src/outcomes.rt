@@ -7,9 +7,11 @@ use std::test::Fail;
 fn each_outcome_has_its_status_and_line(rt: HostRuntime) -> Result<(), Fail> {
     let alloc = rt.alloc();
     let text = Bytes::from_vec(vec![in alloc; b'a', b'b']?);
+    let version = Bytes::from_vec(vec![in alloc; b'v', b'1']?);
     let outcomes = [
         (Outcome::Done, 0, ""),
         (Outcome::Help(text), 0, "ab"),
+        (Outcome::Version(version), 0, "v1"),
         (Outcome::Create(Fault::File), 1, "geosvm: create 2 File\n"),
         (
             Outcome::Open(Fault::NotDocument),

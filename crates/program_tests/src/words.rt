@@ -3,8 +3,7 @@ use crate::documents::Content;
 use crate::programs::{Case, Step, take_each};
 use std::test::Fail;
 
-const HELP: &str =
-    "Runs a script from standard input on a document of blocks\n\nUsage: geosvm [OPTIONS] <FILE>\n\nArguments:\n  <FILE>  The file of the document\n\nOptions:\n      --new         Make FILE, or make it anew\n      --cache <N>   Keep at most N blocks in memory, 1 to 64 [default: 8]\n      --as <FILE2>  The file that `saveas` writes; it is made if it is missing\n  -h, --help        Print help\n";
+const VERSION: &str = "geosvm 0.1.0, for files of version 1 and 2\n";
 
 const NO_FRAMES: &str =
     "error: invalid value '0' for '--cache <N>': 0 is not in 1..=64\n\nFor more information, try '--help'.\n";
@@ -51,8 +50,8 @@ const WORDS: &[Case] = &[
         ],
     ),
     (
-        "help is told",
-        &[Step::Ends(&["geosvm", "--help"], 0, HELP)],
+        "the version is told before what else is wrong with the words",
+        &[Step::Ends(&["geosvm", "--version", "--old"], 0, VERSION)],
     ),
 ];
 

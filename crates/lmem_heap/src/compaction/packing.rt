@@ -8,12 +8,12 @@ use crate::sizes::piece_space;
 use crate::words::{SIZE, slide, slot_at, word_in};
 use raw_region::Region;
 
-/// The chunks from `start` up to the next free piece get their sizes back, and entries `delta` further up. Says where
-/// that piece begins, or the region ends.
-fn thread_run(region: &mut Region, start: usize, delta: usize) -> usize
-    requires { (cs : List Piece) × IsReadyToPack region.old start delta cs }
-    ensures run { (cs : List Piece) → IsReadyToPack region.old start delta cs →
-        IsRunPacked region.old region.new start delta cs result }
+/// The chunks from `start` up to the next free piece get their sizes back, and the entries that they have from `target`
+/// on. Says where that piece begins, or the region ends.
+fn thread_run(region: &mut Region, start: usize, target: usize) -> usize
+    requires { (cs : List Piece) × IsReadyToPack region.old start target cs }
+    ensures run { (cs : List Piece) → IsReadyToPack region.old start target cs →
+        IsRunPacked region.old region.new start target cs result }
     ensures stops { result < 65520 → word_in region.new result % 2 ≡ 1 }
 {
     let mut p = start;
@@ -23,17 +23,17 @@ fn thread_run(region: &mut Region, start: usize, delta: usize) -> usize
             return p;
         }
         let n = word_in(region, head);
-        thread(region, slot_at(head), p, n, p + delta);
+        thread(region, slot_at(head), p, n, p + target - start);
         p += piece_space(n);
     }
     p
 }
 
 /// Packs the chunks of pieces that begin with their slots' handles, whose sizes stand in the table, from `low` on, with
-/// entries `delta` further up.
-pub(crate) fn pack(region: &mut Region, low: usize, delta: usize)
-    requires { (cs : List Piece) × IsReadyToPack region.old low delta cs }
-    ensures { (cs : List Piece) → IsReadyToPack region.old low delta cs → IsPacked region.old region.new low delta cs }
+/// the entries that they have from `target` on.
+pub(crate) fn pack(region: &mut Region, low: usize, target: usize)
+    requires { (cs : List Piece) × IsReadyToPack region.old low target cs }
+    ensures { (cs : List Piece) → IsReadyToPack region.old low target cs → IsPacked region.old region.new low target cs }
 {
     let mut p = low;
     let mut q = low;
@@ -42,7 +42,7 @@ pub(crate) fn pack(region: &mut Region, low: usize, delta: usize)
         if head % 2 == 1 {
             p += head - 1;
         } else {
-            let end = thread_run(region, p, q + delta - p);
+            let end = thread_run(region, p, q + target - low);
             slide(region, p, q, end - p);
             q += end - p;
             p = end;

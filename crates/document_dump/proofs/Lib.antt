@@ -1,0 +1,9 @@
+pub mod Changed
+pub mod Dumped
+pub mod Handles
+pub mod Images
+pub mod Joined
+pub mod Stages
+pub mod Steps
+pub mod Texts
+pub mod Went

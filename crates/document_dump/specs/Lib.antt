@@ -1,0 +1,7 @@
+pub mod Changes
+pub mod Dumps
+pub mod Faults
+pub mod Lines
+pub mod Steps
+pub mod Versions
+pub mod Other

@@ -1,0 +1,5 @@
+pub mod FindingsLemmas
+pub mod ImagesLemmas
+pub mod PagesLemmas
+pub mod SlotLemmas
+pub mod StandsLemmas

@@ -1,0 +1,72 @@
+-- The verdict on a slot.
+use Rattle.std.proofs.Common.{◌≡◌, ◌≢◌, ◌⊎◌, inl, inr, ℕ, ◌==◌, ◌||◌, ◌&&◌, not, Bool, true, false, List, Option, Some, None, Result, Ok, Err, is_some, refl, ◌∙◌, subst, eqb-true}
+use Rattle.std.specs.Prelude.{if◌then◌else◌, IsErr}
+use Rattle.geos_model.specs.Document.{Document}
+use Rattle.geos_model.specs.File.{both, pair_of, document_at}
+use Rattle.geos_model.specs.declared.fault.Fault.{Fault}
+use Rattle.geos_model.specs.declared.fault.Fault.TheVariants.{NotDocument, Damaged}
+use Rattle.geos_model.specs.declared.file.Slot.{Slot}
+use Rattle.file_report.specs.Checked.{header_verdict, verdict_of}
+
+pub no_version : (v : ℕ) → (v == 1 || v == 2) ≡ false → (v ≢ 1) × (v ≢ 2)
+no_version v none = (
+  λ one. let wrong = subst (λ k. (k == 1 || k == 2) ≡ false) one none in absurd (cc wrong),
+  λ two. let wrong = subst (λ k. (k == 1 || k == 2) ≡ false) two none in absurd (cc wrong),
+)
+
+abbrev pub right_header : Result (Unit {0}) Fault
+right_header = Ok tt
+
+abbrev headed : {T : Type 0} → Bool → Bool → Bool → Result T Fault → Result T Fault
+headed a b c rest = if not a then Err NotDocument else if not b || c then Err Damaged else rest
+
+wrong_part : (a b c : Bool) → IsErr (headed a b c right_header) → (a ≡ false) ⊎ ((b ≡ false) ⊎ (not c ≡ false))
+wrong_part false b c wrong = inl refl
+wrong_part true false c wrong = inr (inl refl)
+wrong_part true true true wrong = inr (inr refl)
+wrong_part true true false wrong = absurd (cc wrong)
+
+-- one of the three is wrong
+pub header_wrong : (s : Slot) → IsErr (header_verdict s) → ((s.version == 1 || s.version == 2) ≡ false) ⊎ (((s.reserved == 0) ≡ false) ⊎ (not (s.sequence == 0) ≡ false))
+header_wrong s wrong = wrong_part (s.version == 1 || s.version == 2) (s.reserved == 0) (s.sequence == 0) wrong
+
+wrong_pair : (a b c : Bool) (rest : Result (Document × Document) Fault) → IsErr (headed a b c right_header) → headed a b c right_header ≡ verdict_of (headed a b c rest)
+wrong_pair false b c rest wrong = refl
+wrong_pair true false c rest wrong = refl
+wrong_pair true true true rest wrong = refl
+wrong_pair true true false rest wrong = absurd (cc wrong)
+
+-- a slot that is wrong itself leads to no documents
+pub header_pair : (file : List ℕ) (s : Slot) → IsErr (header_verdict s) → header_verdict s ≡ verdict_of (pair_of file s)
+header_pair file s wrong = wrong_pair (s.version == 1 || s.version == 2) (s.reserved == 0) (s.sequence == 0) (both (document_at s.version file s.working) (document_at s.version file s.saved)) wrong
+
+right_pair : (a b c : Bool) (rest : Result (Document × Document) Fault) → headed a b c right_header ≡ right_header → verdict_of (headed a b c rest) ≡ verdict_of rest
+right_pair false b c rest right = absurd (cc right)
+right_pair true false c rest right = absurd (cc right)
+right_pair true true true rest right = absurd (cc right)
+right_pair true true false rest right = refl
+
+both_stand : (updated saved : Option Document) → verdict_of (both updated saved) ≡ (if is_some updated && is_some saved then right_header else Err Damaged)
+both_stand None None = refl
+both_stand None (Some d) = refl
+both_stand (Some d) None = refl
+both_stand (Some d) (Some e) = refl
+
+-- one that is right leads to them where both stand
+pub pair_stands : (file : List ℕ) (s : Slot) → header_verdict s ≡ right_header
+    → verdict_of (pair_of file s) ≡ (if is_some (document_at s.version file s.working) && is_some (document_at s.version file s.saved) then right_header else Err Damaged)
+pair_stands file s right =
+    right_pair (s.version == 1 || s.version == 2) (s.reserved == 0) (s.sequence == 0) (both (document_at s.version file s.working) (document_at s.version file s.saved)) right
+    ∙ both_stand (document_at s.version file s.working) (document_at s.version file s.saved)
+
+not_false : (b : Bool) → not b ≡ false → b ≡ true
+not_false true is = refl
+not_false false is = absurd (cc is)
+
+pub no_number : (n : ℕ) → not (n == 0) ≡ false → n ≡ 0
+no_number n is = eqb-true n 0 (not_false (n == 0) is)
+
+pub none_stands : (a b : Bool) → IsErr (if a && b then right_header else Err Damaged) → (a ≡ false) ⊎ (b ≡ false)
+none_stands false b wrong = inl refl
+none_stands true false wrong = inr refl
+none_stands true true wrong = absurd (cc wrong)

@@ -1,0 +1,53 @@
+-- The verdict on a file, by the states of its slots.
+use Rattle.std.proofs.Common.{◌≡◌, ◌≤◌, ◌==◌, ℕ, Bool, true, false, List, Option, Some, None, Result, Ok, Err, length, arith, refl, sym, ap, ◌∙◌, eq-eqb, ne_eqb}
+use Rattle.std.specs.Prelude.{if◌then◌else◌, nat_lt}
+use Rattle.std.specs.Option.{option_map, option_and_then}
+use Rattle.std.proofs.lemmas.Bool.{cond-true, cond-false, le-ltb}
+use Rattle.geos_model.specs.File.{counting_slot, if_open, open_slot, pair_of, pair_of_counting, stands}
+use Rattle.geos_model.specs.declared.fault.Fault.{Fault}
+use Rattle.geos_model.specs.declared.fault.Fault.TheVariants.{Damaged}
+use Rattle.geos_model.specs.declared.file.Slot.{Slot}
+use Rattle.file_report.specs.Checked.{IsState, opened, verdict_between, verdict_of, verdict_of_two}
+use Rattle.file_report.specs.declared.checking.SlotReport.{SlotReport}
+use Rattle.file_report.specs.declared.checking.SlotState.{SlotState}
+use Rattle.file_report.specs.declared.checking.SlotState.TheVariants.{Short, NoMark, Closed, Open}
+
+-- what the definitions say of an open slot, by what was found of it
+pub record IsOpened (file : List ℕ) (page : ℕ) (found : Option SlotReport) : Type 0 where
+  pub slot : open_slot file page ≡ option_map (λ r. r.slot) found
+  pub verdict : (r : SlotReport) → found ≡ Some r → r.verdict ≡ verdict_of (pair_of file r.slot)
+
+some_same : (r t : SlotReport) → Some r ≡ Some t → r ≡ t
+some_same r t same = cc same
+
+pub state_opened : (file : List ℕ) (page : ℕ) (state : SlotState) → 1024 ≤ length file → IsState file page state → IsOpened file page (opened state)
+state_opened file page Short long is = absurd (omega (arith, long, is))
+state_opened file page NoMark long is = record { slot = ap (option_and_then if_open) is; verdict = λ r same. absurd (cc same) }
+state_opened file page (Closed s) long is = record { slot = ap (option_and_then if_open) is.0 ∙ cond-false _ _ _ (ne_eqb s.gate 1 is.1); verdict = λ r same. absurd (cc same) }
+state_opened file page (Open t) long is = record {
+  slot = ap (option_and_then if_open) is.0 ∙ cond-true _ _ _ (eq-eqb t.slot.gate 1 is.1);
+  verdict = λ r same. sym (ap (λ x. x.verdict) (some_same t r same)) ∙ is.2.verdict ∙ ap (λ x. verdict_of (pair_of file x.slot)) (some_same t r same);
+}
+
+two_verdicts : (file : List ℕ) (same less : Bool) (s t : Slot) (v w : Result (Unit {0}) Fault) → v ≡ verdict_of (pair_of file s) → w ≡ verdict_of (pair_of file t)
+    → (if same then Err Damaged else if less then w else v) ≡ verdict_of (pair_of_counting file (if same then Err Damaged else if less then Ok t else Ok s))
+two_verdicts file true less s t v w first second = refl
+two_verdicts file false true s t v w first second = second
+two_verdicts file false false s t v w first second = first
+
+found_verdict : (file : List ℕ) (a b : Option SlotReport) → IsOpened file 0 a → IsOpened file 1 b
+    → verdict_of_two a b ≡ verdict_of (pair_of_counting file (counting_slot (option_map (λ r. r.slot) a) (option_map (λ r. r.slot) b)))
+found_verdict file None None first second = refl
+found_verdict file (Some r) None first second = first.verdict r refl
+found_verdict file None (Some t) first second = second.verdict t refl
+found_verdict file (Some r) (Some t) first second =
+    two_verdicts file (r.slot.sequence == t.slot.sequence) (nat_lt r.slot.sequence t.slot.sequence) r.slot t.slot r.verdict t.verdict (first.verdict r refl) (second.verdict t refl)
+
+pub file_verdict : (file : List ℕ) (first second : SlotState) → 1024 ≤ length file → IsState file 0 first → IsState file 1 second → verdict_between first second ≡ verdict_of (stands file)
+file_verdict file first second long one two =
+    let a = state_opened file 0 first long one in
+    let b = state_opened file 1 second long two in
+    found_verdict file (opened first) (opened second) a b
+    ∙ ap (λ x. verdict_of (pair_of_counting file (counting_slot x (option_map (λ r. r.slot) (opened second))))) (sym a.slot)
+    ∙ ap (λ x. verdict_of (pair_of_counting file (counting_slot (open_slot file 0) x))) (sym b.slot)
+    ∙ sym (ap verdict_of (cond-false _ _ _ (le-ltb (length file) 1024 long)))

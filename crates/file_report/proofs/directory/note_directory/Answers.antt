@@ -1,0 +1,41 @@
+use Rattle.std.proofs.Common.{rules, ◌≡◌, ◌++◌, ◌∷◌, [], None, refl, sym, subst, ◌∙◌}
+use Rattle.geos_model.specs.File.{directory_of}
+use Rattle.file_report.specs.Findings.{IsSeen, directory_extent}
+use Rattle.file_report.specs.Reading.{IsRead, IsSoOf, IsSoOfRead}
+use Rattle.file_report.specs.declared.reading.ReadDirectory.TheVariants.{Misplaced, Wrong}
+use Rattle.file_report.specs.declared.finding.Finding.TheVariants as finding
+use Rattle.file_report.proofs.FindingsLemmas.{finds_both, finds_one, finds_as}
+use Rattle.file_report.proofs.directory.note_directory.Goals as goal
+
+pub returns-in_ok-note_place-in-Misplaced-clause-found : goal.returns-in_ok-note_place-in-Misplaced-clause-found
+returns-in_ok-note_place-in-Misplaced-clause-found c =
+    let s = c.args.slot.now in
+    let e = c.directory_extent-extent.result in
+    let so = IsSoOfRead c.args.file_length s c.args.name c.args.read.now in
+    let is : c.args.read.now ≡ Misplaced = search rules in
+    let pushed : c.push.new.self.items ≡ c.args.findings.now.items ++ finding.NoDirectory c.args.name e ∷ [] = search rules in
+    finds_both so _ _ _
+    (finds_one so _ _ (finding.NoDirectory c.args.name e) pushed (λ file size read. (
+      c.directory_extent-extent.ensures,
+      subst (λ x. directory_of s.version file x ≡ None) (sym c.directory_extent-extent.ensures) (subst (λ r. IsRead s.version (directory_extent s c.args.name) r file) is read),
+    )))
+    (finds_as (IsSoOf c.args.file_length s) so _ _ (λ f true_of file size read. true_of file size) c.in_ok-note_place-in-Misplaced.ensures)
+
+pub returns-in_ok-note_bytes-in-Wrong-clause-found : goal.returns-in_ok-note_bytes-in-Wrong-clause-found
+returns-in_ok-note_bytes-in-Wrong-clause-found c =
+    let s = c.args.slot.now in
+    let e = c.directory_extent-extent.result in
+    let so = IsSoOfRead c.args.file_length s c.args.name c.args.read.now in
+    let is : c.args.read.now ≡ Wrong c.in-Wrong.bytes = search rules in
+    let pushed : c.push-in-Wrong.new.self.items ≡ c.args.findings.now.items ++ finding.NoDirectory c.args.name e ∷ [] = search rules in
+    finds_both so _ _ _
+    (finds_one so _ _ (finding.NoDirectory c.args.name e) pushed (λ file size read. (
+      c.directory_extent-extent.ensures,
+      subst (λ x. directory_of s.version file x ≡ None) (sym c.directory_extent-extent.ensures) (subst (λ r. IsRead s.version (directory_extent s c.args.name) r file) is read).1,
+    )))
+    (finds_as (IsSeen s.version c.args.file_length c.deref.result.now c.args.name) so _ _
+    (λ f seen file size read. seen file s (record {
+      bytes_are = c.deref.ensures.value ∙ (subst (λ r. IsRead s.version (directory_extent s c.args.name) r file) is read).0;
+      length_is = size;
+      version_is = refl;
+    })) c.in_ok-note_bytes-in-Wrong.ensures)

@@ -1,0 +1,39 @@
+use Rattle.std.proofs.Common.{rules, ◌≡◌, Some, All, get_or, subst, sym, ap, ◌∙◌}
+use Rattle.std.specs.List.{Contains}
+use Rattle.std.proofs.lemmas.List.Elements.{Contains-get_or}
+use Rattle.geos_model.specs.File.{directory_of}
+use Rattle.vm_space.specs.Listed.{shown}
+use Rattle.vm_file.proofs.LooksLemmas.{OnlyReadsStore-trans, held_before, still_holds}
+use Rattle.file_report.specs.Findings.{IsListed, IsSo, directory_extent}
+use Rattle.file_report.specs.Reading.{IsRead, IsSoIn, IsSoOfEntries, IsSoOfRead}
+use Rattle.file_report.specs.declared.reading.ReadDirectory.TheVariants.{Right}
+use Rattle.file_report.proofs.FindingsLemmas.{finds_both, finds_as}
+use Rattle.file_report.proofs.document.check_document.Goals as goal
+
+pub returns-in_ok-stands-in-Right-clause-looks : goal.returns-in_ok-stands-in-Right-clause-looks
+returns-in_ok-stands-in-Right-clause-looks g c = OnlyReadsStore-trans _ _ _ (λ so. g.met.S.Store.timely c.args.store.now so) c.read_directory.ensures.looks c.check_images.ensures.looks
+
+pub returns-in_ok-stands-in-Right-clause-found : goal.returns-in_ok-stands-in-Right-clause-found
+returns-in_ok-stands-in-Right-clause-found g c =
+    let s = c.args.slot.now in
+    let name = c.args.name in
+    let facts = g.S.Store.facts c.args.store.now in
+    let file = facts.content in
+    let so = IsSoIn facts s in
+    let d = c.in-Right.directory in
+    let is : c.in_ok-read.read ≡ Right d = search rules in
+    let looks = c.read_directory.ensures.looks in
+    let listed = c.deref.result.now in
+    finds_both so _ _ _
+    (finds_as (IsSoOfRead c.args.file_length s name c.in_ok-read.read) so _ _
+    (λ f true_of honest. true_of file (c.requires honest) (subst (λ x. IsRead s.version x c.in_ok-read.read file) c.directory_extent-extent.ensures (c.in_ok-read.ensures.read honest)))
+    c.in_ok-note_directory.ensures.found)
+    (finds_as (IsSoOfEntries (g.S.Store.facts c.read_directory.new.store) name listed) so _ _
+    (λ f true_of honest. held_before (λ bytes. IsSo bytes s f) _ _ looks
+    (λ honest_then. true_of s honest_then (λ k e within. record {
+      directory = shown d;
+      found = still_holds (λ bytes. directory_of s.version bytes (directory_extent s name) ≡ Some (shown d)) _ _ looks
+          (λ honest_now. subst (λ x. directory_of s.version file x ≡ Some (shown d)) c.directory_extent-extent.ensures
+          (subst (λ r. IsRead s.version c.directory_extent-extent.result r file) is (c.in_ok-read.ensures.read honest_now))) honest_then;
+      listed = subst (λ es. Contains es (get_or listed k e)) c.deref.ensures.value (Contains-get_or listed k e within);
+    })) honest) c.in_ok-stands-in-Right.ensures.found)

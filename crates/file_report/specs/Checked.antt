@@ -1,0 +1,79 @@
+-- What a check tells of a file.
+use Rattle.std.specs.Prelude.{◌≡◌, ◌≢◌, ℕ, ◌*◌, ◌<◌, ◌==◌, ◌||◌, not, nat_lt, if◌then◌else◌, IsErr, All, List, Option, None, Some, Result, Ok, Err, length, is_some, take, drop}
+use Rattle.std.specs.Option.{option_map}
+use Rattle.geos_model.specs.Document.{Document}
+use Rattle.geos_model.specs.File.{directory_of, document_at, slot_of, pair_of, stands}
+use Rattle.geos_model.specs.declared.fault.Fault.{Fault}
+use Rattle.geos_model.specs.declared.fault.Fault.TheVariants.{NotDocument, Damaged}
+use Rattle.geos_model.specs.declared.file.Extent.{Extent}
+use Rattle.geos_model.specs.declared.file.Slot.{Slot}
+use Rattle.vm_space.specs.Listed.{shown}
+use Rattle.file_report.specs.declared.document.CheckedDocument.{CheckedDocument}
+use Rattle.file_report.specs.Findings.{IsSo}
+use Rattle.file_report.specs.declared.checking.SlotReport.{SlotReport}
+use Rattle.file_report.specs.declared.checking.SlotState.{SlotState}
+use Rattle.file_report.specs.declared.checking.SlotState.TheVariants.{Short, NoMark, Closed, Open}
+use Rattle.file_report.specs.declared.checking.Report.{Report}
+
+-- that there are documents, or why there are none
+abbrev pub verdict_of : Result (Document × Document) Fault → Result (Unit {0}) Fault
+verdict_of (Ok documents) = Ok tt
+verdict_of (Err fault) = Err fault
+
+-- whether one of a slot's documents stands, and its directory if it has one
+pub record IsChecked (file : List ℕ) (version : ℕ) (e : Extent) (d : CheckedDocument) : Type 0 where
+  pub directory : option_map shown d.directory ≡ directory_of version file e
+  pub stands : d.stands ≡ is_some (document_at version file e)
+
+-- whether a slot can lead to documents
+abbrev pub header_verdict : Slot → Result (Unit {0}) Fault
+header_verdict s =
+    if not (s.version == 1 || s.version == 2) then Err NotDocument else if not (s.reserved == 0) || s.sequence == 0 then Err Damaged else Ok tt
+
+-- whether a slot's documents stand, and what is wrong where they don't
+pub record IsSlotReport (file : List ℕ) (r : SlotReport) : Type 0 where
+  pub verdict : r.verdict ≡ verdict_of (pair_of file r.slot)
+  pub so : All (IsSo file r.slot) r.findings.items
+  pub some : IsErr r.verdict → 0 < length r.findings.items
+
+-- what stands at a slot's page
+abbrev pub IsState : List ℕ → ℕ → SlotState → Type 0
+IsState file page Short = length file < 1024
+IsState file page NoMark = slot_of (take 32 (drop (512 * page) file)) ≡ None
+IsState file page (Closed s) = (slot_of (take 32 (drop (512 * page) file)) ≡ Some s) × (s.gate ≢ 1)
+IsState file page (Open r) = (slot_of (take 32 (drop (512 * page) file)) ≡ Some r.slot) × (r.slot.gate ≡ 1) × IsSlotReport file r
+
+-- what was found of a slot, where it is open
+abbrev pub opened : SlotState → Option SlotReport
+opened (Open r) = Some r
+opened Short = None
+opened NoMark = None
+opened (Closed s) = None
+
+-- of two open slots that of the greater sequence number counts, and none where they are equal
+abbrev pub counting_of_two : Option SlotReport → Option SlotReport → Option SlotReport
+counting_of_two None None = None
+counting_of_two (Some r) None = Some r
+counting_of_two None (Some t) = Some t
+counting_of_two (Some r) (Some t) =
+    if r.slot.sequence == t.slot.sequence then None else if nat_lt r.slot.sequence t.slot.sequence then Some t else Some r
+
+abbrev pub counting_between : SlotState → SlotState → Option SlotReport
+counting_between first second = counting_of_two (opened first) (opened second)
+
+-- the verdict of the file is that of the slot that counts
+abbrev pub verdict_of_two : Option SlotReport → Option SlotReport → Result (Unit {0}) Fault
+verdict_of_two None None = Err NotDocument
+verdict_of_two (Some r) None = r.verdict
+verdict_of_two None (Some t) = t.verdict
+verdict_of_two (Some r) (Some t) =
+    if r.slot.sequence == t.slot.sequence then Err Damaged else if nat_lt r.slot.sequence t.slot.sequence then t.verdict else r.verdict
+
+abbrev pub verdict_between : SlotState → SlotState → Result (Unit {0}) Fault
+verdict_between first second = verdict_of_two (opened first) (opened second)
+
+pub record IsReport (file : List ℕ) (r : Report) : Type 0 where
+  pub length : r.file_length ≡ length file
+  pub verdict : r.verdict ≡ verdict_of (stands file)
+  pub first : IsState file 0 r.first
+  pub second : IsState file 1 r.second

@@ -1,0 +1,100 @@
+-- What is said to be wrong with a slot and with what it leads to.
+use Rattle.std.specs.Prelude.{◌≡◌, ◌≢◌, ◌⊎◌, ℕ, ◌+◌, ◌*◌, ◌-◌, ◌<◌, ◌≤◌, ◌==◌, false, All, Bool, List, ◌++◌, None, Some, length, take, drop, if◌then◌else◌}
+use Rattle.std.specs.List.{Contains, list_all}
+use Rattle.geos_model.specs.Words.{word_at}
+use Rattle.geos_model.specs.File.{Directory, bytes_in, is_in_file, is_version_in, directory_mark, directory_of, entry_read, greatest_handle, longest_directory, longest_image, block_of}
+use Rattle.geos_model.specs.declared.file.Extent.{Extent}
+use Rattle.geos_model.specs.declared.file.Entry.{Entry}
+use Rattle.geos_model.specs.declared.file.Slot.{Slot}
+use Rattle.file_report.specs.declared.finding.Named.{Named}
+use Rattle.file_report.specs.declared.finding.Named.TheVariants.{Updated, Saved}
+use Rattle.file_report.specs.declared.finding.HeaderFault.{HeaderFault}
+use Rattle.file_report.specs.declared.finding.HeaderFault.TheVariants as header
+use Rattle.file_report.specs.declared.finding.EntryFault.{EntryFault}
+use Rattle.file_report.specs.declared.finding.EntryFault.TheVariants as entry
+use Rattle.file_report.specs.declared.finding.Finding.{Finding}
+use Rattle.file_report.specs.declared.finding.Finding.TheVariants as finding
+
+-- the extent of the directory of one of a slot's documents
+abbrev pub directory_extent : Slot → Named → Extent
+directory_extent s Updated = s.working
+directory_extent s Saved = s.saved
+
+-- these bytes are zeros
+abbrev pub are_zeros : List ℕ → Bool
+are_zeros bytes = list_all (λ b. b == 0) bytes
+
+-- the header of a directory is wrong in a file of a version
+abbrev pub IsHeaderFault : ℕ → List ℕ → HeaderFault → Type 0
+IsHeaderFault file_version bytes header.Mark = take 4 bytes ≢ directory_mark
+IsHeaderFault file_version bytes (header.Version v) = (v ≡ word_at bytes 4) × (is_version_in file_version v ≡ false)
+IsHeaderFault file_version bytes header.Zeros = are_zeros (take 6 (drop 10 bytes)) ≡ false
+IsHeaderFault file_version bytes (header.Length count) = (count ≡ word_at bytes 6) × (length bytes ≢ 16 + 16 * count)
+
+-- the text of an entry of a directory
+abbrev pub text_at : List ℕ → ℕ → List ℕ
+text_at bytes i = take 16 (drop (16 + 16 * i) bytes)
+
+-- the handle of the entry before one, 0 before the first
+abbrev pub handle_before : List ℕ → ℕ → ℕ
+handle_before bytes i = if i == 0 then 0 else word_at bytes (16 * i)
+
+-- how many zeros an entry ends in, in a directory of a version
+abbrev pub zeros_of : ℕ → ℕ
+zeros_of version = if version == 1 then 4 else 2
+
+-- An entry with this text is wrong in a directory of a version, behind one with the handle `last`, in a file of a version and of n bytes.
+abbrev pub IsEntryFault : ℕ → ℕ → ℕ → ℕ → List ℕ → Entry → EntryFault → Type 0
+IsEntryFault file_version n version last text e entry.Order = e.handle.0 ≤ last
+IsEntryFault file_version n version last text e entry.Handle = greatest_handle version < e.handle.0
+IsEntryFault file_version n version last text e entry.Length = (e.extent.length ≡ 0) ⊎ (longest_image < e.extent.length)
+IsEntryFault file_version n version last text e entry.Outside = is_in_file file_version n e.extent ≡ false
+IsEntryFault file_version n version last text e entry.Zeros = are_zeros (drop (16 - zeros_of version) text) ≡ false
+
+-- the map block of a directory is given, and no entry has its handle
+pub record IsUnlisted (bytes : List ℕ) (map_block : ℕ) : Type 0 where
+  pub is : map_block ≡ word_at bytes 8
+  pub some : map_block ≢ 0
+  pub unlisted : (i : ℕ) → 16 + 16 * i + 16 ≤ length bytes → word_at bytes (16 + 16 * i) ≢ map_block
+
+-- one of a slot's documents has a directory, which lists this entry
+pub record IsListed (file : List ℕ) (s : Slot) (name : Named) (e : Entry) : Type 0 where
+  pub directory : Directory
+  pub found : directory_of s.version file (directory_extent s name) ≡ Some directory
+  pub listed : Contains directory.entries e
+
+-- so it is in a file with this slot
+abbrev pub IsSo : List ℕ → Slot → Finding → Type 0
+IsSo file s (finding.SlotVersion v) = (v ≡ s.version) × (v ≢ 1) × (v ≢ 2)
+IsSo file s finding.SlotZeros = s.reserved ≢ 0
+IsSo file s finding.SlotSequence = s.sequence ≡ 0
+IsSo file s (finding.NoDirectory name e) = (e ≡ directory_extent s name) × (directory_of s.version file e ≡ None)
+IsSo file s (finding.Outside name e) = (e ≡ directory_extent s name) × (is_in_file s.version (length file) e ≡ false)
+IsSo file s (finding.NoLength name e) = (e ≡ directory_extent s name) × ((e.length < 16) ⊎ (longest_directory < e.length))
+IsSo file s (finding.Header name fault) = IsHeaderFault s.version (bytes_in file (directory_extent s name)) fault
+IsSo file s (finding.MapBlock name h) = IsUnlisted (bytes_in file (directory_extent s name)) h.0
+IsSo file s (finding.Entry name i e fault) =
+    let bytes = bytes_in file (directory_extent s name) in
+    let version = word_at bytes 4 in
+    (e ≡ entry_read version (text_at bytes i)) × IsEntryFault s.version (length file) version (handle_before bytes i) (text_at bytes i) e fault
+IsSo file s (finding.Image name e) = IsListed file s name e × (block_of file e ≡ None)
+
+-- more was found, or nothing, and all that is new is so
+pub record FindsMore (so : Finding → Type 0) (old new : List Finding) : Type 0 where
+  pub more : List Finding
+  pub is : new ≡ old ++ more
+  pub all : All so more
+
+-- the directory of one of a slot's documents, in a file of a version and of n bytes, is these bytes
+pub record IsLooked (file_version n : ℕ) (bytes : List ℕ) (name : Named) (file : List ℕ) (s : Slot) : Type 0 where
+  pub bytes_are : bytes ≡ bytes_in file (directory_extent s name)
+  pub length_is : n ≡ length file
+  pub version_is : file_version ≡ s.version
+
+-- so it is in each file where this directory was looked through
+abbrev pub IsSeen : ℕ → ℕ → List ℕ → Named → Finding → Type 0
+IsSeen file_version n bytes name f = (file : List ℕ) (s : Slot) → IsLooked file_version n bytes name file s → IsSo file s f
+
+-- it is this finding, and what it denies doesn't hold
+abbrev pub IsNoted : Bool → Finding → Finding → Type 0
+IsNoted holds finding f = (f ≡ finding) × (holds ≡ false)

@@ -1,0 +1,4 @@
+pub mod Findings
+pub mod Checked
+pub mod Reading
+pub mod Pages

@@ -1,0 +1,46 @@
+-- A directory that was read, and what is found by it.
+use Rattle.std.specs.Prelude.{◌≡◌, ℕ, IsTrue, All, List, None, Some, length}
+use Rattle.vm_store.specs.Facts.{StoreFacts}
+use Rattle.geos_model.specs.File.{bytes_in, directory_of}
+use Rattle.geos_model.specs.declared.file.Entry.{Entry}
+use Rattle.geos_model.specs.declared.file.Slot.{Slot}
+use Rattle.geos_model.specs.declared.file.Extent.{Extent}
+use Rattle.vm_space.specs.Listed.{shown}
+use Rattle.file_report.specs.Findings.{IsListed, IsSo, directory_extent}
+use Rattle.file_report.specs.declared.finding.Finding.{Finding}
+use Rattle.file_report.specs.declared.finding.Named.{Named}
+use Rattle.file_report.specs.declared.reading.ReadDirectory.{ReadDirectory}
+use Rattle.file_report.specs.declared.reading.ReadDirectory.TheVariants.{Misplaced, Wrong, Right}
+
+-- a directory of a file of a version was read from an extent
+abbrev pub IsRead : ℕ → Extent → ReadDirectory → List ℕ → Type 0
+IsRead version e Misplaced file = directory_of version file e ≡ None
+IsRead version e (Wrong bytes) file = (bytes.items ≡ bytes_in file e) × (directory_of version file e ≡ None)
+IsRead version e (Right directory) file = directory_of version file e ≡ Some (shown directory)
+
+-- it is no directory
+abbrev pub IsWrong : ReadDirectory → Type 0
+IsWrong Misplaced = Unit {0}
+IsWrong (Wrong bytes) = Unit {0}
+IsWrong (Right directory) = ⊥
+
+-- so it is in each file
+abbrev pub IsSoOfSlot : Slot → Finding → Type 0
+IsSoOfSlot s f = (file : List ℕ) → IsSo file s f
+
+-- so it is in each file of n bytes
+abbrev pub IsSoOf : ℕ → Slot → Finding → Type 0
+IsSoOf n s f = (file : List ℕ) → n ≡ length file → IsSo file s f
+
+-- so it is in each file of n bytes from which this directory was read
+abbrev pub IsSoOfRead : ℕ → Slot → Named → ReadDirectory → Finding → Type 0
+IsSoOfRead n s name read f = (file : List ℕ) → n ≡ length file → IsRead s.version (directory_extent s name) read file → IsSo file s f
+
+-- so it is in what an honest store has
+abbrev pub IsSoIn : StoreFacts → Slot → Finding → Type 0
+IsSoIn store s f = IsTrue store.honest → IsSo store.content s f
+
+-- so it is there with each slot of which the directory lists these entries
+abbrev pub IsSoOfEntries : StoreFacts → Named → List Entry → Finding → Type 0
+IsSoOfEntries store name entries f =
+    (s : Slot) → IsTrue store.honest → All (IsListed store.content s name) entries → IsSo store.content s f

@@ -1,0 +1,275 @@
+//! The check of a whole file.
+ghost use Rattle.std.specs.Prelude.{◌≡◌, ◌≤◌, ◌<◌, ◌&&◌, if◌then◌else◌, IsTrue, IfOk, IfErr, IsErr, Ok, Err, [], ◌==◌, ◌||◌, not, length};
+ghost use Rattle.std.specs.Option.{option_map};
+ghost use Rattle.vm_file.specs.Calls.{IsResourceFault};
+ghost use Rattle.vm_file.specs.Opened.{OnlyReadsStore};
+ghost use Rattle.file_report.specs.Findings.{FindsMore};
+ghost use Rattle.file_report.specs.Reading.{IsSoOfSlot};
+ghost use Rattle.file_report.specs.Checked.{IsReport, IsSlotReport, IsState, counting_between, header_verdict, opened, verdict_between};
+
+use crate::document::check_document;
+use crate::finding::{Finding, Named, note_unless};
+use crate::reading::read_slot_at;
+use geos_model::{Fault, PAGE, Slot};
+use std::alloc::{AllocError, Global};
+use vm_space::Directory;
+use vm_store::Store;
+
+/// What was found of an open slot, as if it counted.
+#[derive(Drop)]
+pub struct SlotReport {
+    pub slot: Slot,
+    /// Whether its two documents stand, or why not: `Damaged`, or `NotDocument` where its version is none.
+    pub verdict: Result<(), Fault>,
+    /// The directory of the updated document, None where there is none, or where the slot itself is wrong.
+    pub updated: Option<Directory>,
+    /// That of the saved document.
+    pub saved: Option<Directory>,
+    /// What is wrong.
+    pub findings: Vec<Finding>,
+}
+
+/// What stands at the page of a slot.
+#[derive(Drop)]
+pub enum SlotState {
+    /// The file has fewer than 1,024 bytes, so it has no slots.
+    Short,
+    /// The mark of a slot doesn't stand there.
+    NoMark,
+    /// A slot, of which the gate isn't open.
+    Closed(Slot),
+    /// An open slot.
+    Open(SlotReport),
+}
+
+/// What was found of a file.
+#[derive(Drop)]
+pub struct Report {
+    /// In bytes.
+    pub file_length: u64,
+    /// Whether the file opens, or why not: `Damaged` or `NotDocument`.
+    pub verdict: Result<(), Fault>,
+    /// That at page 0.
+    pub first: SlotState,
+    /// That at page 1.
+    pub second: SlotState,
+}
+
+// What is wrong with a slot, whatever it leads to.
+fn slot_findings(alloc: Global, slot: &Slot) -> Result<Vec<Finding>, AllocError>
+    ensures so { IfOk result (λ findings. FindsMore (IsSoOfSlot slot.now) [] findings.items) }
+    ensures some { IfOk result (λ findings. IsErr (header_verdict slot.now) → 0 < length findings.items) }
+{
+    let mut findings = Vec::new(alloc);
+    let version = is_version(slot.version);
+    note_unless(version, Finding::SlotVersion(slot.version), &mut findings)?;
+    let zeros = slot.reserved == 0;
+    note_unless(zeros, Finding::SlotZeros, &mut findings)?;
+    let numbered = is_sequence(slot.sequence);
+    note_unless(numbered, Finding::SlotSequence, &mut findings)?;
+    Ok(findings)
+}
+
+// Whether it is a version of the format.
+fn is_version(version: u8) -> bool
+    ensures { result ≡ (version == 1 || version == 2) }
+{
+    version == 1 || version == 2
+}
+
+// Whether a slot can have the sequence number.
+fn is_sequence(sequence: u64) -> bool
+    ensures { result ≡ not (sequence == 0) }
+{
+    sequence != 0
+}
+
+// Whether a slot can lead to documents.
+fn header_verdict(slot: &Slot) -> Result<(), Fault>
+    ensures { result ≡ header_verdict slot.now }
+{
+    if !is_version(slot.version) {
+        Err(Fault::NotDocument)
+    } else if slot.reserved != 0 || slot.sequence == 0 {
+        Err(Fault::Damaged)
+    } else {
+        Ok(())
+    }
+}
+
+// Whether two documents stand.
+fn both(updated: bool, saved: bool) -> Result<(), Fault>
+    ensures { result ≡ (if updated && saved then Ok tt else Err Fault.Damaged) }
+{
+    if updated && saved {
+        Ok(())
+    } else {
+        Err(Fault::Damaged)
+    }
+}
+
+// Looks through an open slot. What it leads to isn't looked at where it is wrong itself. Memory, File.
+fn check_slot<S: Store>(
+    alloc: Global,
+    store: &mut S,
+    file_length: u64,
+    slot: Slot,
+) -> Result<SlotReport, Fault>
+    requires { IsTrue (S.facts store.old).honest → file_length ≡ length (S.facts store.old).content }
+    ensures looks { OnlyReadsStore (S.facts store.old) (S.facts store.new) }
+    ensures slot { IfOk result (λ r. r.slot ≡ slot) }
+    ensures report { IfOk result (λ r. IsTrue (S.facts store.old).honest
+        → IsSlotReport (S.facts store.old).content r) }
+    ensures refusals { IfErr result IsResourceFault }
+{
+    let mut findings = slot_findings(alloc, &slot)?;
+    if let Err(fault) = header_verdict(&slot) {
+        return Ok(SlotReport {
+            slot,
+            verdict: Err(fault),
+            updated: None,
+            saved: None,
+            findings,
+        });
+    }
+    let updated = check_document(
+        alloc,
+        store,
+        file_length,
+        &slot,
+        Named::Updated,
+        &mut findings,
+    )?;
+    let saved = check_document(
+        alloc,
+        store,
+        file_length,
+        &slot,
+        Named::Saved,
+        &mut findings,
+    )?;
+    Ok(SlotReport {
+        slot,
+        verdict: both(updated.stands, saved.stands),
+        updated: updated.directory,
+        saved: saved.directory,
+        findings,
+    })
+}
+
+// Looks at the page of a slot, 0 or 1. Memory, File.
+fn check_page<S: Store>(
+    alloc: Global,
+    store: &mut S,
+    file_length: u64,
+    page: u32,
+) -> Result<SlotState, Fault>
+    requires length { IsTrue (S.facts store.old).honest → file_length ≡ length (S.facts store.old).content }
+    ensures looks { OnlyReadsStore (S.facts store.old) (S.facts store.new) }
+    ensures state { IfOk result (λ state. IsTrue (S.facts store.old).honest
+        → IsState (S.facts store.old).content page state) }
+    ensures refusals { IfErr result IsResourceFault }
+{
+    match read_slot_at(alloc, store, page)? {
+        None => Ok(SlotState::NoMark),
+        Some(slot) if slot.gate != 1 => Ok(SlotState::Closed(slot)),
+        Some(slot) => Ok(SlotState::Open(check_slot(alloc, store, file_length, slot)?)),
+    }
+}
+
+impl SlotState {
+    /// What was found of the slot, where it is open.
+    pub fn opened(&self) -> Option<&SlotReport>
+        ensures { option_map (λ r. r.now) result ≡ opened self.now }
+    {
+        match self {
+            SlotState::Open(report) => Some(report),
+            _ => None,
+        }
+    }
+}
+
+impl Report {
+    /// The open slot that counts: of two that with the greater sequence number, and none where they are equal.
+    pub fn counting(&self) -> Option<&SlotReport>
+        ensures { option_map (λ r. r.now) result ≡ counting_between self.now.first self.now.second }
+    {
+        counting(&self.first, &self.second)
+    }
+}
+
+fn counting<'a>(first: &'a SlotState, second: &'a SlotState) -> Option<&'a SlotReport>
+    ensures { option_map (λ r. r.now) result ≡ counting_between first.now second.now }
+{
+    match (first.opened(), second.opened()) {
+        (None, other) => other,
+        (one, None) => one,
+        (Some(one), Some(other)) => {
+            if one.slot.sequence == other.slot.sequence {
+                None
+            } else if one.slot.sequence < other.slot.sequence {
+                Some(other)
+            } else {
+                Some(one)
+            }
+        }
+    }
+}
+
+// Whether the file of two slots opens.
+fn verdict_between(first: &SlotState, second: &SlotState) -> Result<(), Fault>
+    ensures { result ≡ verdict_between first.now second.now }
+{
+    match (first.opened(), second.opened()) {
+        (None, None) => Err(Fault::NotDocument),
+        (Some(one), None) => one.verdict,
+        (None, Some(other)) => other.verdict,
+        (Some(one), Some(other)) => {
+            if one.slot.sequence == other.slot.sequence {
+                Err(Fault::Damaged)
+            } else if one.slot.sequence < other.slot.sequence {
+                other.verdict
+            } else {
+                one.verdict
+            }
+        }
+    }
+}
+
+// How many bytes there are. File.
+fn read_length<S: Store>(store: &mut S) -> Result<u64, Fault>
+    ensures looks { OnlyReadsStore (S.facts store.old) (S.facts store.new) }
+    ensures length { IfOk result (λ n. IsTrue (S.facts store.old).honest → n ≡ length (S.facts store.old).content) }
+    ensures refusals { IfErr result IsResourceFault }
+{
+    match store.len() {
+        Ok(n) => Ok(n),
+        Err(_) => Err(Fault::File),
+    }
+}
+
+/// Looks through a file: whether it opens, and what is wrong. Nothing is written, and no more memory is taken than for one image
+/// and the directories. Memory, File.
+pub fn check<S: Store>(alloc: Global, store: &mut S) -> Result<Report, Fault>
+    ensures looks { OnlyReadsStore (S.facts store.old) (S.facts store.new) }
+    ensures report { IfOk result (λ r. IsTrue (S.facts store.old).honest → IsReport (S.facts store.old).content r) }
+    ensures refusals { IfErr result IsResourceFault }
+{
+    let file_length = read_length(store)?;
+    if file_length < 2 * u64::from(PAGE) {
+        return Ok(Report {
+            file_length,
+            verdict: Err(Fault::NotDocument),
+            first: SlotState::Short,
+            second: SlotState::Short,
+        });
+    }
+    let first = check_page(alloc, store, file_length, 0)?;
+    let second = check_page(alloc, store, file_length, 1)?;
+    Ok(Report {
+        file_length,
+        verdict: verdict_between(&first, &second),
+        first,
+        second,
+    })
+}

@@ -1,0 +1,108 @@
+//! One of a slot's documents: its directory, and the images of its blocks.
+ghost use Rattle.std.specs.Prelude.{◌≡◌, ◌<◌, IsTrue, OnOk, IfOk, IfErr, false, None, is_some, length};
+ghost use Rattle.geos_model.specs.File.{block_of, blocks_of_entries};
+ghost use Rattle.vm_file.specs.Calls.{IsResourceFault};
+ghost use Rattle.vm_file.specs.Opened.{OnlyReadsStore};
+ghost use Rattle.file_report.specs.Findings.{FindsMore, directory_extent};
+ghost use Rattle.file_report.specs.Reading.{IsSoIn, IsSoOfEntries};
+ghost use Rattle.file_report.specs.Checked.{IsChecked};
+
+use crate::directory::{directory_extent, note_directory};
+use crate::finding::{Finding, Named, note_unless};
+use crate::reading::{ReadDirectory, read_directory, read_extent};
+use geos_model::{Bytes, Entry, Fault, Slot};
+use std::alloc::Global;
+use vm_file::Image;
+use vm_space::Directory;
+use vm_store::Store;
+
+/// One of a slot's documents, as it was found.
+#[derive(Drop)]
+pub struct CheckedDocument {
+    /// None where there is none.
+    pub directory: Option<Directory>,
+    /// Whether it is a document: it has a directory, and an image of each block.
+    pub stands: bool,
+}
+
+// Whether the image of an entry is one of a body that can have its type. Memory, File.
+fn has_image<S: Store>(alloc: Global, store: &mut S, entry: &Entry) -> Result<bool, Fault>
+    ensures looks { OnlyReadsStore (S.facts store.old) (S.facts store.new) }
+    ensures image { IfOk result (λ has. IsTrue (S.facts store.old).honest
+        → has ≡ is_some (block_of (S.facts store.old).content entry.now)) }
+    ensures refusals { IfErr result IsResourceFault }
+{
+    let bytes = read_extent(alloc, store, entry.extent)?;
+    match Image::from_bytes(Bytes::from_vec(bytes)) {
+        Some(image) => Ok(image.is_heap() || entry.attributes.heap_type == 0),
+        None => Ok(false),
+    }
+}
+
+// Whether each of these entries has its image. Memory, File.
+fn check_images<S: Store>(
+    alloc: Global,
+    store: &mut S,
+    entries: &[Entry],
+    name: Named,
+    findings: &mut Vec<Finding>,
+) -> Result<bool, Fault>
+    ensures looks { OnlyReadsStore (S.facts store.old) (S.facts store.new) }
+    ensures images { IfOk result (λ have. IsTrue (S.facts store.old).honest
+        → have ≡ is_some (blocks_of_entries (S.facts store.old).content entries.now)) }
+    ensures found { OnOk result (FindsMore (IsSoOfEntries (S.facts store.old) name entries.now)
+        findings.old.items findings.new.items) }
+    ensures some { IfOk result (λ have. have ≡ false → length findings.old.items < length findings.new.items) }
+    ensures refusals { IfErr result IsResourceFault }
+{
+    let mut have = true;
+    for entry in entries {
+        let has = has_image(alloc, store, entry)?;
+        note_unless(has, Finding::Image(name, *entry), findings)?;
+        have = have & has;
+    }
+    Ok(have)
+}
+
+fn nothing() -> CheckedDocument
+    ensures { (result.directory ≡ None) × (result.stands ≡ false) }
+{
+    CheckedDocument {
+        directory: None,
+        stands: false,
+    }
+}
+
+/// Looks through one of a slot's documents. Memory, File.
+pub fn check_document<S: Store>(
+    alloc: Global,
+    store: &mut S,
+    file_length: u64,
+    slot: &Slot,
+    name: Named,
+    findings: &mut Vec<Finding>,
+) -> Result<CheckedDocument, Fault>
+    requires { IsTrue (S.facts store.old).honest → file_length ≡ length (S.facts store.old).content }
+    ensures looks { OnlyReadsStore (S.facts store.old) (S.facts store.new) }
+    ensures document { IfOk result (λ d. IsTrue (S.facts store.old).honest
+        → IsChecked (S.facts store.old).content slot.now.version (directory_extent slot.now name) d) }
+    ensures found { OnOk result (FindsMore (IsSoIn (S.facts store.old) slot.now)
+        findings.old.items findings.new.items) }
+    ensures some { IfOk result (λ d. d.stands ≡ false → length findings.old.items < length findings.new.items) }
+    ensures refusals { IfErr result IsResourceFault }
+{
+    let extent = directory_extent(slot, name);
+    let read = read_directory(alloc, store, file_length, slot.version, extent)?;
+    note_directory(&read, file_length, slot, name, findings)?;
+    match read {
+        ReadDirectory::Right(directory) => {
+            let stands = check_images(alloc, store, &directory.entries, name, findings)?;
+            Ok(CheckedDocument {
+                directory: Some(directory),
+                stands,
+            })
+        }
+        ReadDirectory::Misplaced => Ok(nothing()),
+        ReadDirectory::Wrong(_bytes) => Ok(nothing()),
+    }
+}

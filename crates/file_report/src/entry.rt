@@ -1,0 +1,204 @@
+//! The entries of a directory that may be wrong, by their bytes.
+ghost use Rattle.std.specs.Prelude.{◌≡◌, ◌+◌, ◌*◌, ◌<◌, ◌≤◌, ◌≢◌, ◌⊎◌, ◌-◌, ℕ, false, length, take, drop};
+ghost use Rattle.geos_model.specs.Words.{word_at};
+ghost use Rattle.geos_model.specs.File.{directory_mark, entry_read, greatest_handle, is_version_in, longest_directory, longest_image};
+ghost use Rattle.file_report.specs.Findings.{are_zeros, handle_before, text_at, zeros_of};
+
+use byteorder::{ByteOrder, LittleEndian};
+use geos_model::{Attributes, Entry, Extent, MOST_BLOCKS, MOST_BLOCKS_OF_VERSION_1, VmHandle};
+use vm_space::{LONGEST_DIRECTORY, LONGEST_IMAGE};
+
+/// How many bytes stand before the entries of a directory.
+pub const HEADER_LENGTH: usize = 16;
+
+// How many bytes an entry has.
+const ENTRY_LENGTH: usize = 16;
+
+/// The text of an entry.
+pub fn text_at(bytes: &[u8], i: usize) -> &[u8]
+    requires { 16 + 16 * i + 16 ≤ length bytes.now }
+    ensures text { result.now ≡ text_at bytes.now i }
+    ensures size { length result.now ≡ ENTRY_LENGTH }
+{
+    let at = HEADER_LENGTH + ENTRY_LENGTH * i;
+    &bytes[at..at + ENTRY_LENGTH]
+}
+
+/// Whether a directory has its mark.
+pub fn has_mark(bytes: &[u8]) -> bool
+    ensures { result ≡ false → take 4 bytes.now ≢ directory_mark }
+{
+    bytes.starts_with(b"GDIR")
+}
+
+/// Whether a directory of this version can be in a file of that one.
+pub fn is_known(version: u16, file_version: u8) -> bool
+    ensures { result ≡ is_version_in file_version version }
+{
+    version == 1 || (version == 2 && file_version == 2)
+}
+
+/// How many entries the header of a directory counts.
+pub fn count_of(bytes: &[u8]) -> u16
+    requires { 16 ≤ length bytes.now }
+    ensures { result ≡ word_at bytes.now 6 }
+{
+    LittleEndian::read_u16(&bytes[6..])
+}
+
+/// The map block of a directory, 0 for none.
+pub fn map_block_of(bytes: &[u8]) -> u16
+    requires { 16 ≤ length bytes.now }
+    ensures { result ≡ word_at bytes.now 8 }
+{
+    LittleEndian::read_u16(&bytes[8..])
+}
+
+/// Whether a directory has the bytes of so many entries.
+pub fn is_whole(bytes: &[u8], count: u16) -> bool
+    ensures { result ≡ false → length bytes.now ≢ 16 + 16 * count }
+{
+    bytes.len() == HEADER_LENGTH + ENTRY_LENGTH * usize::from(count)
+}
+
+/// Whether a header ends in zeros.
+pub fn has_header_zeros(bytes: &[u8]) -> bool
+    requires { 16 ≤ length bytes.now }
+    ensures { result ≡ are_zeros (take 6 (drop 10 bytes.now)) }
+{
+    are_zeros(&bytes[10..HEADER_LENGTH])
+}
+
+/// Whether a directory can have so many bytes.
+pub fn is_directory_length(length: u32) -> bool
+    ensures { result ≡ false → (length < 16) ⊎ (longest_directory < length) }
+{
+    length as usize >= HEADER_LENGTH && length as usize <= LONGEST_DIRECTORY
+}
+
+/// Whether a handle is above another.
+pub fn is_above(handle: u16, last: u16) -> bool
+    ensures { result ≡ false → handle ≤ last }
+{
+    last < handle
+}
+
+/// Whether a block of a directory of this version can have the handle.
+pub fn is_handle(handle: u16, version: u16) -> bool
+    ensures { result ≡ false → greatest_handle version < handle }
+{
+    handle <= most_handles(version)
+}
+
+/// Whether an image can have so many bytes.
+pub fn is_image_length(length: u32) -> bool
+    ensures { result ≡ false → (length ≡ 0) ⊎ (longest_image < length) }
+{
+    length >= 1 && length as usize <= LONGEST_IMAGE
+}
+
+/// Whether an entry of a directory of this version ends in zeros.
+pub fn has_entry_zeros(version: u16, text: &[u8]) -> bool
+    requires { length text.now ≡ 16 }
+    ensures { result ≡ are_zeros (drop (16 - zeros_of version) text.now) }
+{
+    are_zeros(&text[ENTRY_LENGTH - zeros_of(version)..])
+}
+
+/// The version of a directory.
+pub fn version_of(bytes: &[u8]) -> u16
+    requires { 16 ≤ length bytes.now }
+    ensures { result ≡ word_at bytes.now 4 }
+{
+    LittleEndian::read_u16(&bytes[4..])
+}
+
+// The handle of an entry.
+fn handle_at(bytes: &[u8], i: usize) -> u16
+    requires { 16 + 16 * i + 16 ≤ length bytes.now }
+    ensures { result ≡ word_at bytes.now (16 + 16 * i) }
+{
+    LittleEndian::read_u16(&bytes[HEADER_LENGTH + ENTRY_LENGTH * i..])
+}
+
+/// The handle of the entry before one, 0 before the first.
+pub fn handle_before(bytes: &[u8], i: usize) -> u16
+    requires { 16 + 16 * i + 16 ≤ length bytes.now }
+    ensures { result ≡ handle_before bytes.now i }
+{
+    if i == 0 { 0 } else { handle_at(bytes, i - 1) }
+}
+
+/// The entry of this text in a directory of this version.
+pub fn read_entry(version: u16, text: &[u8]) -> Entry
+    requires { length text.now ≡ ENTRY_LENGTH }
+    ensures { result ≡ entry_read version text.now }
+{
+    let heap_type = LittleEndian::read_u16(&text[12..]);
+    Entry {
+        handle: VmHandle(LittleEndian::read_u16(text)),
+        attributes: Attributes {
+            user_id: LittleEndian::read_u16(&text[2..]),
+            heap_type: if version == 1 { 0 } else { heap_type },
+        },
+        extent: Extent {
+            page: LittleEndian::read_u32(&text[4..]),
+            length: LittleEndian::read_u32(&text[8..]),
+        },
+    }
+}
+
+// The greatest handle in a directory of this version.
+fn most_handles(version: u16) -> u16
+    ensures { result ≡ greatest_handle version }
+{
+    if version == 1 {
+        MOST_BLOCKS_OF_VERSION_1
+    } else {
+        MOST_BLOCKS
+    }
+}
+
+// How many zeros an entry ends in, in a directory of this version.
+fn zeros_of(version: u16) -> usize
+    ensures value { result ≡ zeros_of version }
+    ensures few { result ≤ 4 }
+{
+    if version == 1 { 4 } else { 2 }
+}
+
+// Whether these bytes are zeros.
+fn are_zeros(bytes: &[u8]) -> bool
+    ensures { result ≡ are_zeros bytes.now }
+{
+    bytes.iter().all(|byte| *byte == 0)
+}
+
+/// How many entries have their bytes whole.
+pub fn whole_entries(bytes: &[u8]) -> usize
+    ensures within { (i : ℕ) → i < result → 16 + 16 * i + 16 ≤ length bytes.now }
+    ensures all { length bytes.now < 16 + 16 * result + 16 }
+{
+    bytes.len().saturating_sub(HEADER_LENGTH) / ENTRY_LENGTH
+}
+
+// Whether an entry has this handle.
+fn lists(bytes: &[u8], handle: u16) -> bool
+    ensures { result ≡ false → (i : ℕ) → 16 + 16 * i + 16 ≤ length bytes.now
+        → word_at bytes.now (16 + 16 * i) ≢ handle }
+{
+    for i in 0..whole_entries(bytes) {
+        if handle_at(bytes, i) == handle {
+            return true;
+        }
+    }
+    false
+}
+
+/// Whether a directory has no map block or lists it.
+pub fn is_map_block(bytes: &[u8], map_block: u16) -> bool
+    ensures { result ≡ false → (map_block ≢ 0) × ((i : ℕ) → 16 + 16 * i + 16 ≤ length bytes.now
+        → word_at bytes.now (16 + 16 * i) ≢ map_block) }
+{
+    map_block == 0 || lists(bytes, map_block)
+}

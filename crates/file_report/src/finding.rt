@@ -1,0 +1,170 @@
+//! What can be wrong with a slot and with what it leads to.
+ghost use Rattle.std.specs.Prelude.{◌≡◌, ◌<◌, OnOk, false, length};
+ghost use Rattle.file_report.specs.Findings.{FindsMore, IsNoted};
+
+use geos_model::{Entry, Extent, VmHandle};
+use std::alloc::AllocError;
+use std::fmt;
+
+/// One of the two documents that a slot names.
+#[derive(Clone, Copy)]
+pub enum Named {
+    Updated,
+    Saved,
+}
+
+/// What is wrong with the header of a directory.
+#[derive(Clone, Copy)]
+pub enum HeaderFault {
+    /// It doesn't begin with `GDIR`.
+    Mark,
+    /// No directory of this version can be in the file.
+    Version(u16),
+    /// Its last six bytes aren't zeros.
+    Zeros,
+    /// The bytes aren't those of a directory of so many entries.
+    Length(u16),
+}
+
+/// What is wrong with an entry of a directory.
+#[derive(Clone, Copy)]
+pub enum EntryFault {
+    /// Its handle isn't above that of the entry before, or is 0.
+    Order,
+    /// Its handle is above the greatest one.
+    Handle,
+    /// No image has that length.
+    Length,
+    /// Its image doesn't lie in the file, behind the slots and on pages that can be used.
+    Outside,
+    /// Its last two bytes aren't zeros, or its last four in a directory of version 1.
+    Zeros,
+}
+
+/// One fact that keeps a document from standing.
+#[derive(Clone, Copy)]
+pub enum Finding {
+    /// The slot has this version, neither 1 nor 2.
+    SlotVersion(u8),
+    /// The two zeros of the slot aren't.
+    SlotZeros,
+    /// The sequence number of the slot is 0.
+    SlotSequence,
+    /// In this extent is no directory that can be in the file.
+    NoDirectory(Named, Extent),
+    /// The extent of the directory doesn't lie in the file, behind the slots and on pages that can be used.
+    Outside(Named, Extent),
+    /// No directory is as long as the extent.
+    NoLength(Named, Extent),
+    /// The header of the directory is wrong.
+    Header(Named, HeaderFault),
+    /// The map block of the directory isn't listed in it.
+    MapBlock(Named, VmHandle),
+    /// The entry of the directory with this number, from 0 on, is wrong.
+    Entry(Named, usize, Entry, EntryFault),
+    /// The directory lists this entry, and in its extent is no image of a body that can have its type.
+    Image(Named, Entry),
+}
+
+/// Notes a finding unless what it denies holds.
+pub fn note_unless(
+    holds: bool,
+    finding: Finding,
+    findings: &mut Vec<Finding>,
+) -> Result<(), AllocError>
+    ensures found { OnOk result (FindsMore (IsNoted holds finding) findings.old.items findings.new.items) }
+    ensures told { OnOk result (holds ≡ false → length findings.old.items < length findings.new.items) }
+{
+    if holds {
+        return Ok(());
+    }
+    findings.push(finding)?;
+    Ok(())
+}
+
+impl fmt::Display for Named {
+    fn fmt<W: fmt::Write>(&self, f: &mut fmt::Formatter<W>) -> fmt::Result {
+        match self {
+            Named::Updated => write!(f, "updated"),
+            Named::Saved => write!(f, "saved"),
+        }
+    }
+}
+
+impl fmt::Display for HeaderFault {
+    fn fmt<W: fmt::Write>(&self, f: &mut fmt::Formatter<W>) -> fmt::Result {
+        match self {
+            HeaderFault::Mark => write!(f, "its mark is not GDIR"),
+            HeaderFault::Version(version) => write!(f, "its version is {version}"),
+            HeaderFault::Zeros => write!(f, "its zeros are not"),
+            HeaderFault::Length(count) => write!(f, "its length is not that of {count} entries"),
+        }
+    }
+}
+
+impl fmt::Display for EntryFault {
+    fn fmt<W: fmt::Write>(&self, f: &mut fmt::Formatter<W>) -> fmt::Result {
+        match self {
+            EntryFault::Order => write!(f, "its handle does not rise"),
+            EntryFault::Handle => write!(f, "its handle is too great"),
+            EntryFault::Length => write!(f, "no image has its length"),
+            EntryFault::Outside => write!(f, "its image is not in the file"),
+            EntryFault::Zeros => write!(f, "its zeros are not"),
+        }
+    }
+}
+
+// An extent as text.
+#[derive(Clone, Copy)]
+struct At(Extent);
+
+impl fmt::Display for At {
+    fn fmt<W: fmt::Write>(&self, f: &mut fmt::Formatter<W>) -> fmt::Result {
+        let Extent { page, length } = self.0;
+        write!(f, "page {page}, {length} bytes")
+    }
+}
+
+impl fmt::Display for Finding {
+    fn fmt<W: fmt::Write>(&self, f: &mut fmt::Formatter<W>) -> fmt::Result {
+        match self {
+            Finding::SlotVersion(version) => write!(f, "its version is {version}"),
+            Finding::SlotZeros => write!(f, "its zeros are not"),
+            Finding::SlotSequence => write!(f, "its sequence number is 0"),
+            Finding::NoDirectory(name, extent) => {
+                write!(f, "{name} document: no directory at {}", At(*extent))
+            }
+            Finding::Outside(name, extent) => {
+                write!(f, "{name} directory: not in the file: {}", At(*extent))
+            }
+            Finding::NoLength(name, extent) => {
+                write!(
+                    f,
+                    "{name} directory: none has such a length: {}",
+                    At(*extent)
+                )
+            }
+            Finding::Header(name, fault) => write!(f, "{name} directory: {fault}"),
+            Finding::MapBlock(name, block) => {
+                write!(
+                    f,
+                    "{name} directory: its map block {:04x} is not listed",
+                    block.0
+                )
+            }
+            Finding::Entry(name, i, entry, fault) => write!(
+                f,
+                "{name} directory: entry {i}, block {:04x}, image at {}: {fault}",
+                entry.handle.0,
+                At(entry.extent)
+            ),
+            Finding::Image(name, entry) => write!(
+                f,
+                "{name} document: block {:04x} of type {}: no image of one at {}",
+                entry.handle.0,
+                entry.attributes.heap_type,
+                At(entry.extent)
+            ),
+        }
+    }
+}

@@ -1,0 +1,136 @@
+//! Reads the command line: `geosdoc check FILE`, `geosdoc dump [--saved | --other] FILE`.
+use clap::error::ErrorKind;
+use clap::{Arg, ArgAction, ArgMatches, Command, Error, value_parser};
+use geos_model::Bytes;
+use std::alloc::{AllocError, Global};
+use std::convert::AsStr;
+
+/// What is asked of a file.
+#[derive(Clone, Copy)]
+pub enum Asked {
+    /// Whether the file opens, and what is wrong with it.
+    Check,
+    /// A script that makes documents of the file again.
+    Dump(Dumped),
+}
+
+/// Which documents of a file a dump has.
+#[derive(Clone, Copy)]
+pub enum Dumped {
+    /// The saved one and the updated one.
+    Both,
+    /// The saved one.
+    Saved,
+    /// Both of the commit before the last one.
+    Other,
+}
+
+/// What a command line asks for.
+#[derive(Clone, Copy)]
+pub struct Request<'a> {
+    pub asked: Asked,
+    pub file: &'a str,
+}
+
+/// Why a command line asks for nothing.
+#[derive(Drop)]
+pub enum NoRequest {
+    /// It asks for help, which the text is.
+    Help(Bytes),
+    /// It is none. The text says why.
+    Usage(Bytes),
+    Memory,
+}
+
+/// Reads a command line, whose first word is the name of the program.
+pub fn read_command_line<'a, S: AsStr>(
+    alloc: Global,
+    words: &'a [S],
+) -> Result<Request<'a>, NoRequest> {
+    match parse(alloc, words) {
+        Ok(matches) => request_of(&matches).ok_or(NoRequest::Memory),
+        Err(error) => Err(no_request(alloc, &error)),
+    }
+}
+
+fn parse<'a, S: AsStr>(alloc: Global, words: &'a [S]) -> Result<ArgMatches<'a>, Error> {
+    command(alloc)?.try_get_matches_from(words)
+}
+
+fn command<'a>(alloc: Global) -> Result<Command<'a>, AllocError> {
+    Command::new(alloc, "geosdoc")
+        .about("Tells what is in a document file; nothing is written")
+        .subcommand_required(true)
+        .arg_required_else_help(true)
+        .subcommand(check_command(alloc)?)?
+        .subcommand(dump_command(alloc)?)
+}
+
+fn check_command<'a>(alloc: Global) -> Result<Command<'a>, AllocError> {
+    Command::new(alloc, "check")
+        .about("Tells whether the file opens, and what is wrong with it")
+        .arg(file_operand(alloc))
+}
+
+fn dump_command<'a>(alloc: Global) -> Result<Command<'a>, AllocError> {
+    Command::new(alloc, "dump")
+        .about("Writes a script that makes the document again: geosvm --new FILE2 < SCRIPT")
+        .arg(flag(alloc, "saved", "The saved document alone"))?
+        .arg(flag(
+            alloc,
+            "other",
+            "What the other slot leads to: the commit before",
+        )
+        .conflicts_with("saved")?)?
+        .arg(file_operand(alloc))
+}
+
+fn flag<'a>(alloc: Global, name: &'a str, help: &'a str) -> Arg<'a> {
+    Arg::new(alloc, name)
+        .long(name)
+        .action(ArgAction::SetTrue)
+        .value_parser(value_parser!(bool))
+        .help(help)
+}
+
+fn file_operand<'a>(alloc: Global) -> Arg<'a> {
+    Arg::new(alloc, "file")
+        .action(ArgAction::Set)
+        .value_name("FILE")
+        .required(true)
+        .help("The file of the document")
+}
+
+fn request_of<'a>(matches: &ArgMatches<'a>) -> Option<Request<'a>> {
+    let (name, matches) = matches.subcommand()?;
+    let file = matches.get_str("file")?;
+    let asked = match name {
+        "dump" => Asked::Dump(documents_asked(matches)),
+        _ => Asked::Check,
+    };
+    Some(Request { asked, file })
+}
+
+fn documents_asked(matches: &ArgMatches<'_>) -> Dumped {
+    if matches.get_flag("saved") {
+        Dumped::Saved
+    } else if matches.get_flag("other") {
+        Dumped::Other
+    } else {
+        Dumped::Both
+    }
+}
+
+fn no_request(alloc: Global, error: &Error) -> NoRequest {
+    let kind = error.kind();
+    if kind == ErrorKind::OutOfMemory {
+        return NoRequest::Memory;
+    }
+    match error.to_string(alloc) {
+        Ok(text) if kind == ErrorKind::DisplayHelp => NoRequest::Help(Bytes::from_vec(
+            text.into_bytes(),
+        )),
+        Ok(text) => NoRequest::Usage(Bytes::from_vec(text.into_bytes())),
+        Err(_) => NoRequest::Memory,
+    }
+}

@@ -1,0 +1,81 @@
+//! Carries out what was asked of a file.
+use crate::command_line::{Asked, Request};
+use crate::dumping::{NoDump, run_dump};
+use crate::pages_telling::write_pages;
+use crate::read_only::{Cause, ReadOnlyFile, ReadOnlySystem};
+use crate::telling::write_check;
+use file_report::check;
+use geos_model::Fault;
+use std::fmt::Display;
+use std::io::{self, Write};
+use vm_store::HostStore;
+
+/// How a run ends.
+#[derive(Drop)]
+pub enum Ending {
+    /// All is told; the status is what it comes to.
+    Told { status: u8 },
+    /// The file can't be looked at. The text says which and why.
+    Refused { text: String },
+    Memory,
+    /// What was asked for couldn't be written.
+    WriteFault,
+}
+
+// The file can't be looked at, or not as was asked.
+fn refused<C: Display + Drop>(rt: &HostRuntime, file: &str, cause: C) -> Ending {
+    match format!(in rt.alloc(); "geosdoc: {file}: {cause}\n") {
+        Ok(text) => Ending::Refused { text },
+        Err(_) => Ending::Memory,
+    }
+}
+
+fn ended_by(rt: &HostRuntime, file: &str, fault: Fault) -> Ending {
+    match fault {
+        Fault::Memory => Ending::Memory,
+        _ => refused(rt, file, Cause::Failed),
+    }
+}
+
+/// Carries out what was asked of a file, which is opened to be read alone.
+pub fn run(rt: &HostRuntime, request: Request<'_>) -> Ending {
+    let mut system = ReadOnlySystem::new(*rt);
+    let mut store: HostStore<ReadOnlyFile> = match HostStore::open(
+        &mut system,
+        request.file,
+        false,
+    ) {
+        Ok(store) => store,
+        Err(_) => return refused(rt, request.file, system.cause()),
+    };
+    match request.asked {
+        Asked::Check => run_check(rt, &mut store, request.file),
+        Asked::Dump(dumped) => match run_dump(rt, store, dumped) {
+            Ok(()) => Ending::Told { status: 0 },
+            Err(NoDump::Memory) => Ending::Memory,
+            Err(NoDump::Write) => Ending::WriteFault,
+            Err(NoDump::Refused(cause)) => refused(rt, request.file, cause),
+        },
+    }
+}
+
+fn run_check(rt: &HostRuntime, store: &mut HostStore<ReadOnlyFile>, file: &str) -> Ending {
+    let report = match check(rt.alloc(), store) {
+        Ok(report) => report,
+        Err(fault) => return ended_by(rt, file, fault),
+    };
+    let mut text = Vec::new(rt.alloc());
+    match write_check(&mut text, &report) {
+        Ok(()) => {}
+        Err(_) => return Ending::Memory,
+    }
+    match write_pages(rt.alloc(), &mut text, &report) {
+        Ok(()) => {}
+        Err(_) => return Ending::Memory,
+    }
+    let status = if report.verdict.is_ok() { 0 } else { 1 };
+    match io::writer(rt).write_all(&text) {
+        Ok(()) => Ending::Told { status },
+        Err(_) => Ending::WriteFault,
+    }
+}

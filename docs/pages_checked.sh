@@ -1,0 +1,142 @@
+#!/bin/sh
+# Looks over the pages for newcomers: that the manual pages are in order, that geosvm.1 has the commands of SCRIPT.md, that the magic
+# lines tell a document, and that the commands and replies of TUTORIAL.md are those of its scripts. With a program it runs these scripts
+# too, on files. What isn't on the machine, mandoc, man or file, is left out and said.
+#
+#     sh docs/pages_checked.sh [crates/geosvm/out/geosvm]
+set -u
+cd "$(dirname "$0")/.." || exit 2
+program=
+if [ $# -gt 0 ]; then
+    program=$(realpath "$1") || exit 2
+fi
+data=crates/examples/data
+folder=$(mktemp -d)
+trap 'rm -rf "$folder"' EXIT
+passed=0
+failed=0
+
+# told NAME WANTED GOT
+told() {
+    if [ "$2" = "$3" ]; then
+        passed=$((passed + 1))
+        echo "ok      $1"
+    else
+        failed=$((failed + 1))
+        echo "FAILED  $1: wanted '$2', got '$3'"
+    fi
+}
+
+# there COMMAND: whether the machine has it
+there() {
+    if command -v "$1" >"$folder/where"; then
+        return 0
+    fi
+    echo "left out: there is no $1"
+    return 1
+}
+
+# same NAME: what is in the files wanted and got
+same() {
+    told "$1" "" "$(diff "$folder/wanted" "$folder/got")"
+}
+
+echo "-- manual pages"
+if there mandoc; then
+    for page in docs/*.1; do
+        told "mandoc finds nothing in $page" "" "$(mandoc -T lint "$page" 2>&1)"
+    done
+fi
+if there man; then
+    for page in docs/*.1; do
+        man -l "$page" >"$folder/shown" 2>"$folder/errors"
+        told "man shows $page" "0 " "$? $(cat "$folder/errors")"
+    done
+fi
+# Of "nadd .. keep" the page has the last operand under a name.
+sed -n '/^| Command |/,/^$/s/^| \(`[^|]*\) |.*/\1/p' docs/SCRIPT.md | grep -o '`[^`]*`' | tr -d '`' | sed 's/ keep$/ how/' | sort >"$folder/wanted"
+sed -n '/^\.Sh COMMANDS/,/^\.Sh REPLIES/s/^\.It Cm \(.*\)/\1/p' docs/geosvm.1 | sed 's/ Ar / /' | sort >"$folder/got"
+same "geosvm.1 has the commands of SCRIPT.md, with their operands"
+sed -n 's/^| `no \([0-9]* [A-Za-z]*\)` |.*/\1/p' docs/SCRIPT.md >"$folder/wanted"
+sed -n '/^\.Sh REPLIES/,/^\.Sh FILES/s/^\.It \(.*\)/\1/p' docs/geosvm.1 >"$folder/got"
+same "geosvm.1 has the refusals of SCRIPT.md"
+
+# zeros N
+zeros() {
+    dd if=/dev/zero bs=1 count="$1" 2>"$folder/errors"
+}
+
+# The first file of docs/FORMAT.md, and what is none.
+document() {
+    printf 'GVMF\001\002\000\000\001\000\000\000\000\000\000\000\002\000\000\000\020\000\000\000\002\000\000\000\020\000\000\000'
+    zeros 480
+    printf 'GVMF'
+    zeros 508
+    printf 'GDIR\002\000\000\000\000\000\000\000\000\000\000\000'
+}
+echo "-- magic lines"
+if there file; then
+    magic=docs/geosvm.magic
+    document >"$folder/new.document"
+    told "a new document" "GEOS VM document, slot 0: version 2 number 1" "$(file -b -m "$magic" "$folder/new.document")"
+    : >"$folder/empty"
+    zeros 2000 >"$folder/zeros"
+    { zeros 4; document; } >"$folder/shifted"
+    printf 'GVM' >"$folder/cut"
+    for other in "$folder/empty" "$folder/zeros" "$folder/shifted" "$folder/cut" docs/FORMAT.md "$magic" /bin/sh; do
+        case $(file -b -m "$magic" "$other") in
+            *"GEOS VM"*) is=document ;;
+            *) is=other ;;
+        esac
+        told "${other##*/} is none" other $is
+    done
+fi
+
+echo "-- the tutorial"
+names=$(sed -n 's/^```\(tutorial_[a-z_]*\)$/\1/p' docs/TUTORIAL.md | sort -u)
+for name in $names; do
+    # A line of a block is a command, two spaces or more, and its reply.
+    grep -v '^[[:space:]]*\(#\|$\)' "$data/$name.script" | paste - "$data/$name.replies" >"$folder/wanted"
+    awk -v name="$name" '$0 == "```" name { on = 1; next } $0 == "```" { on = 0 } on' docs/TUTORIAL.md \
+        | awk -F '  +' -v OFS='\t' '{ print $1, $2 }' >"$folder/got"
+    same "$name has the lines of its script, in order: $(wc -l <"$folder/wanted" | tr -d ' ')"
+done
+told "all scripts are in it" "$(cd $data && ls tutorial_*.script | sed 's/\.script$//' | sort)" "$names"
+
+# run NAME WORD..: the script on the program with these words
+run() {
+    name=$1
+    shift
+    cp "$data/$name.replies" "$folder/wanted"
+    "$program" "$@" <"$data/$name.script" >"$folder/got" 2>&1
+    same "$name"
+}
+if [ -n "$program" ]; then
+    echo "-- the tutorial, run"
+    book=$folder/book.document
+    drawing=$folder/drawing.document
+    table=$folder/table.document
+    copy=$folder/copy.document
+    run tutorial_book --new "$book"
+    run tutorial_book_opened "$book"
+    run tutorial_drawing --new "$drawing"
+    run tutorial_table --new "$table"
+    run tutorial_table_opened --as "$copy" "$table"
+    run tutorial_table_copied "$copy"
+    told "the table is the saved one again" "bytes 6e61696c0a000000 blocks 0001 0002" \
+        "$(printf 'aget 0002 0010 0\nlist\n' | "$program" "$table" | tr '\n' ' ' | sed 's/ $//')"
+    told "a file that isn't there" "geosvm: open 2 File" "$("$program" "$folder/missing" </dev/null 2>&1)"
+    told "a file that is no document" "geosvm: open 4 NotDocument" "$("$program" "$folder/zeros" </dev/null 2>&1)"
+    told "a save-as of a file to itself" "geosvm: FILE2 is FILE" "$("$program" --as "$copy" "$copy" </dev/null 2>&1)"
+    document >"$folder/wanted"
+    "$program" --new "$folder/got" </dev/null
+    told "a new document has the bytes that the magic lines were tried on" "" "$(cmp "$folder/wanted" "$folder/got" 2>&1)"
+    if there file; then
+        for made in "$book" "$drawing" "$table" "$copy"; do
+            told "${made##*/} is a document" "GEOS VM document" "$(file -b -m "$magic" "$made" | cut -d , -f 1)"
+        done
+    fi
+fi
+
+echo "$passed passed, $failed failed"
+[ "$failed" = 0 ]

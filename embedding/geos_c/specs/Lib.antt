@@ -1,0 +1,6 @@
+pub mod Calls
+pub mod Codes
+pub mod Handles
+pub mod Lines
+pub mod Owning
+pub mod Stores

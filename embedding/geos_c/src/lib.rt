@@ -1,0 +1,11 @@
+//! Sessions that a C program opens, edits through and closes, many of them at a time.
+#![tactic(auto)]
+
+mod calls;
+mod codes;
+mod descriptor;
+mod exports;
+mod handle;
+mod kept;
+mod line;
+mod loose;
