@@ -14,7 +14,7 @@ use Rattle.geos_shell.specs.Holdings.{AreExact, Holding, ServesRequest, Serving,
 use Rattle.geos_shell.specs.Runs.{AddsNoPair, AfterFailures, AnswersOf, CountsFailures}
 use Rattle.geos_shell.proofs.Failures.{after_serves}
 
-Run-append : (old mid new : Machine) (xs ys : List Call) → Run old xs mid → Run mid ys new → Run old (xs ++ ys) new
+pub Run-append : (old mid new : Machine) (xs ys : List Call) → Run old xs mid → Run mid ys new → Run old (xs ++ ys) new
 Run-append old mid new [] ys p q = subst (λ m. Run m ys new) p q
 Run-append old mid new (x ∷ xs) ys p q = (p.0, p.1, Run-append p.0 mid new xs ys p.2 q)
 
@@ -35,12 +35,12 @@ same_or_none (inl before) (inl same) = inl (same ∙ before)
 same_or_none (inr gone) (inl same) = inr (same ∙ gone)
 
 -- in so many of one call a store failed
-once : (failed : Bool) → 0 + cond failed 1 0 ≡ cond failed 1 0
+pub once : (failed : Bool) → 0 + cond failed 1 0 ≡ cond failed 1 0
 once true = refl
 once false = refl
 
 module _ {S : Type 0} (facts : S → StoreFacts) where
-  Serving-append : (old mid new : Holding S) (xs ys : List Call) → Serving facts old xs mid → Serving facts mid ys new → Serving facts old (xs ++ ys) new
+  pub Serving-append : (old mid new : Holding S) (xs ys : List Call) → Serving facts old xs mid → Serving facts mid ys new → Serving facts old (xs ++ ys) new
   Serving-append old mid new [] ys p q = subst (λ h. Serving facts h ys new) p q
   Serving-append old mid new (x ∷ xs) ys p q = (p.0, p.1, p.2, Serving-append p.0 mid new xs ys p.3 q)
 
@@ -54,10 +54,10 @@ module _ {S : Type 0} (facts : S → StoreFacts) where
   Adds-append old mid new m n p q none = same_or_none (p (omega (arith, none))) (q (omega (arith, none)))
 
   -- where nothing is called
-  AfterFailures-none : (h : Holding S) → AfterFailures facts h 0 h
+  pub AfterFailures-none : (h : Holding S) → AfterFailures facts h 0 h
   AfterFailures-none h = record { counted = λ none. (none, omega arith); adds = λ _. inl refl }
 
-  AfterFailures-append : (old mid new : Holding S) (m n : ℕ) → AfterFailures facts old m mid → AfterFailures facts mid n new → AfterFailures facts old (m + n) new
+  pub AfterFailures-append : (old mid new : Holding S) (m n : ℕ) → AfterFailures facts old m mid → AfterFailures facts mid n new → AfterFailures facts old (m + n) new
   AfterFailures-append old mid new m n p q =
       record { counted = Counts-append old mid new m n p.counted q.counted; adds = Adds-append old mid new m n p.adds q.adds }
 
@@ -71,6 +71,10 @@ module _ {S : Type 0} (facts : S → StoreFacts) where
         serving = same;
         stores = subst (AfterFailures facts old 0) (sym same) (AfterFailures-none old);
       }
+
+  -- where nothing is asked
+  abbrev pub AnswersOf-none : (h : Holding S) → AreExact facts h → AnswersOf facts h [] [] h
+  AnswersOf-none h exact = AnswersOf-unasked h h [] refl refl exact
 
   -- one request that is served
   abbrev pub AnswersOf-one : (old new : Holding S) (request : Request) (reply : Reply) → gets_reply request ≡ true → AreExact facts old → ServesRequest facts old request reply new

@@ -65,12 +65,16 @@ HasNoFeed-before xs end h before =
 
 -- ---- what stands for a line
 
+pub longest_kept-is : longest_kept ≡ 140001
+unfolding longest_kept
+longest_kept-is = refl
+
 -- a command has no more bytes than are kept
 command-front : (line : List ℕ) → command (take longest_kept line) ≡ command line
 command-front line =
     elim (cases_lt 140000 (length line)) [
-      | inl long ↦ command-long (take longest_kept line) (omega (arith, length-take longest_kept line)) ∙ sym (command-long line long)
-      | inr short ↦ ap command (take_all longest_kept line (omega arith))
+      | inl long ↦ command-long (take longest_kept line) (omega (arith, longest_kept-is, length-take longest_kept line)) ∙ sym (command-long line long)
+      | inr short ↦ ap command (take_all longest_kept line (omega (arith, longest_kept-is)))
     ]
 
 -- the front of more than a line is that of more than its front
@@ -92,10 +96,10 @@ StandsFor-lengths begun kept h = sym (length-take longest_kept kept) ∙ ap leng
 
 -- and is there where that is
 pub StandsFor-some : (begun kept : List ℕ) → StandsFor begun kept → 0 < length kept → 0 < length begun
-StandsFor-some begun kept h some = omega (arith, StandsFor-lengths begun kept h)
+StandsFor-some begun kept h some = omega (arith, longest_kept-is, StandsFor-lengths begun kept h)
 
 pub StandsFor-none : (begun kept : List ℕ) → StandsFor begun kept → length kept ≡ 0 → begun ≡ []
-StandsFor-none begun kept h none = nil_from_length begun (omega (arith, StandsFor-lengths begun kept h))
+StandsFor-none begun kept h none = nil_from_length begun (omega (arith, longest_kept-is, StandsFor-lengths begun kept h))
 
 -- where nothing was kept, a line stands for itself
 pub StandsFor-whole : (kept tail : List ℕ) → length kept ≡ 0 → StandsFor (kept ++ tail) tail
@@ -107,7 +111,7 @@ StandsFor-front old part room most wide e =
     elim (cases_lt room (length part)) [
       | inl long ↦
           let front = old ++ take most part in
-          let full : longest_kept ≤ length front = omega (arith, length-append old (take most part), length-take most part) in
+          let full : longest_kept ≤ length front = omega (arith, longest_kept-is, length-append old (take most part), length-take most part) in
           let whole : front ++ drop most part ≡ old ++ part = append_assoc old (take most part) (drop most part) ∙ ap (λ l. old ++ l) (take-append-drop most part) in
           sym (take-append-le longest_kept front (drop most part) full) ∙ ap (take longest_kept) whole
       | inr short ↦ ap (λ l. take longest_kept (old ++ l)) (take_all most part (omega arith))

@@ -1,9 +1,10 @@
 -- Lines that are answered in a manner.
-use Rattle.std.proofs.Common.{◌≡◌, ◌&&◌, ◌||◌, ℕ, List, [], ◌∷◌, ◌++◌, Bool, true, false, cond, length, drop, take, refl, sym, ap, ap₂, subst, ◌∙◌, arith, append-nil, append_assoc, Some}
+use Rattle.std.proofs.Common.{◌≡◌, ◌&&◌, ◌||◌, not, ℕ, ◌<◌, ◌≤◌, min, List, [], ◌∷◌, ◌++◌, Bool, true, false, cond, length, drop, take, refl, sym, ap, ap₂, subst, ◌∙◌, arith, inl, inr, append-nil, append_assoc, Some}
 use Rattle.std.specs.Prelude.{filter, map}
 use Rattle.std.specs.List.{list_any}
 use Rattle.std.proofs.Math.Seq.{drop-append_seam, drop-length}
-use Rattle.std.proofs.lemmas.List.{length-map, map-append}
+use Rattle.std.proofs.lemmas.Bool.{cases_lt}
+use Rattle.std.proofs.lemmas.List.{length-map, map-append, take_all}
 use Rattle.std.proofs.lemmas.List.Folds.{list_any-append}
 use Rattle.std.proofs.lemmas.Grind.{flat_map-append}
 use Rattle.geos_model.specs.Machine.{Call, Request}
@@ -12,13 +13,13 @@ use Rattle.geos_model.specs.Script.{command, gets_reply, output, reply_line, rep
 use Rattle.geos_model.specs.declared.command.Command.TheVariants as commands
 use Rattle.vm_store.specs.Facts.{StoreFacts}
 use Rattle.geos_shell.specs.Holdings.{AreExact, Holding, ServesRequest}
-use Rattle.geos_shell.specs.Manners.{begins_with_no, echoed, is_refusal, lead, plain, written_of}
+use Rattle.geos_shell.specs.Manners.{begins_with_no, echoed, is_refusal, lead, longest_kept, plain, written_of}
 use Rattle.geos_shell.specs.Progress.{IsAnswered, StandsFor}
 use Rattle.geos_shell.specs.Replies.{Responds}
 use Rattle.geos_shell.specs.Runs.{AnswersLines, AnswersOf, RefusesRequest, replies_of}
 use Rattle.geos_shell.specs.declared.settings.Manner.{Manner}
 use Rattle.geos_shell.proofs.Composed.{AnswersOf-append, AnswersOf-asked, AnswersOf-none, AnswersOf-one, AnswersOf-unasked}
-use Rattle.geos_shell.proofs.Lines.{StandsFor-command}
+use Rattle.geos_shell.proofs.Lines.{StandsFor-command, longest_kept-is}
 
 -- ---- what is written
 
@@ -38,11 +39,11 @@ echoed-append (x ∷ xs) ys rs qs e = go (gets_reply (command x)) rs e (λ rs e.
         → ((rs : List Reply) → length rs ≡ length asked → echoed (xs ++ ys) (rs ++ qs) ≡ echoed xs rs ++ echoed ys qs)
         → first ++ output (take (cond asks 1 0) (rs ++ qs)) ++ echoed (xs ++ ys) (drop (cond asks 1 0) (rs ++ qs))
         ≡ (first ++ output (take (cond asks 1 0) rs) ++ echoed xs (drop (cond asks 1 0) rs)) ++ echoed ys qs
-    go false rs e more = ap (λ l. first ++ l) (more rs e) ∙ sym (append_assoc first (echoed xs rs) (echoed ys qs))
+    go false rs e more = ap (λ l. (first ++ []) ++ l) (more rs e) ∙ sym (append_assoc (first ++ []) (echoed xs rs) (echoed ys qs))
     go true [] e more = absurd (omega (arith, e))
     go true (r ∷ rs) e more =
-        let reply = output (r ∷ []) in
-        ap (λ l. first ++ reply ++ l) (more rs (omega (arith, e))) ∙ ap (λ l. first ++ l) (sym (append_assoc reply (echoed xs rs) (echoed ys qs))) ∙ sym (append_assoc first (reply ++ echoed xs rs) (echoed ys qs))
+        let front = first ++ output (r ∷ []) in
+        ap (λ l. front ++ l) (more rs (omega (arith, e))) ∙ sym (append_assoc front (echoed xs rs) (echoed ys qs))
 
 written_of-append : (echoes : Bool) (xs ys : List (List ℕ)) (rs qs : List Reply) → length rs ≡ length (filter gets_reply (requests xs))
     → written_of echoes (xs ++ ys) (rs ++ qs) ≡ written_of echoes xs rs ++ written_of echoes ys qs
@@ -56,11 +57,25 @@ written_of-none true = refl
 -- one line that gets no reply, and one that gets this
 written_of-unasked : (echoes : Bool) (line : List ℕ) → gets_reply (command line) ≡ false → lead echoes line ≡ written_of echoes (line ∷ []) []
 written_of-unasked false line none = refl
-written_of-unasked true line none = rw none (sym (append-nil (lead true line)))
+written_of-unasked true line none = rw none (sym (append-nil (lead true line ++ []) ∙ append-nil (lead true line)))
 
 written_of-one : (echoes : Bool) (line : List ℕ) (reply : Reply) → gets_reply (command line) ≡ true → lead echoes line ++ reply_line reply ≡ written_of echoes (line ∷ []) (reply ∷ [])
 written_of-one false line reply asks = sym (append-nil (reply_line reply))
-written_of-one true line reply asks = rw asks (ap (λ l. lead true line ++ l) (sym (append-nil (reply_line reply ++ []) ∙ append-nil (reply_line reply))))
+written_of-one true line reply asks =
+    rw asks (ap (λ l. lead true line ++ l) (sym (append-nil (reply_line reply))) ∙ sym (append-nil (lead true line ++ (reply_line reply ++ []))))
+
+-- the front of a line was put behind what was there, and a line feed
+pub lead_pushed : (echoes : Bool) (line old mid new : List ℕ) (count : ℕ) → echoes ≡ true → count ≡ min (length line) 140001 → mid ≡ old ++ take count line → new ≡ mid ++ 10 ∷ []
+    → new ≡ old ++ lead echoes line
+lead_pushed false line old mid new count so is front feed = cc so
+lead_pushed true line old mid new count so is front feed =
+    feed ∙ ap (λ l. l ++ 10 ∷ []) front ∙ append_assoc old (take count line) (10 ∷ []) ∙ ap (λ l. old ++ (l ++ 10 ∷ [])) same
+  where
+    same : take count line ≡ take longest_kept line
+    same = elim (cases_lt longest_kept (length line)) [
+      | inl long ↦ let all : count ≡ longest_kept = omega (arith, is, longest_kept-is, long) in ap (λ n. take n line) all
+      | inr short ↦ take_all count line (omega (arith, is, longest_kept-is, short)) ∙ sym (take_all longest_kept line (omega (arith, short)))
+    ]
 
 -- ---- refusals
 
@@ -81,14 +96,14 @@ begins_with_no-refusal (HeapIs uid size) = refl
 begins_with_no-refusal (AreEqual true) = refl
 begins_with_no-refusal (AreEqual false) = refl
 
-none_so : (bails : Bool) → (bails && false) ≡ false
+pub none_so : (bails : Bool) → (bails && false) ≡ false
 none_so true = refl
 none_so false = refl
 
 neither : (bails a b : Bool) → (bails && a) ≡ false → (bails && b) ≡ false → (bails && (a || b)) ≡ false
 neither false a b p q = refl
 neither true false b p q = q
-neither true true b p q = cc p
+neither true true b p q = p
 
 or_false : (a : Bool) → (a || false) ≡ a
 or_false true = refl
@@ -173,7 +188,7 @@ module _ {S : Type 0} (facts : S → StoreFacts) (manner : Manner) where
 
 -- lines get as many replies as they ask for
 counted : (calls : List Call) (asked : List Request) → map (λ c. c.request) calls ≡ asked → length (map (λ c. c.reply) calls) ≡ length asked
-counted calls asked e = length-map (λ c. c.reply) calls ∙ sym (length-map (λ c. c.request) calls) ∙ ap length e
+counted calls asked e = length-map calls (λ (c : Call). c.reply) ∙ sym (length-map calls (λ (c : Call). c.request)) ∙ ap length e
 
 -- more lines are answered
 pub AnswersLines-append : {S : Type 0} {facts : S → StoreFacts} {manner : Manner} {old mid new : Holding S} {xs ys : List (List ℕ)} {ws vs : List ℕ}

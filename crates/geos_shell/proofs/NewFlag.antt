@@ -404,9 +404,9 @@ others_default rows a other = go (has_row a.id rows) a.defaults
     go false [] = refl
     go false (v ∷ vs) = others_values a.id (reading_by a) (v ∷ vs) rows other
 
-others_defaults : (as : List Rule) (rows : List Row) → Others as → one_of (codes "new") (fold with_default rows as) ≡ one_of (codes "new") rows
+others_defaults : (rs : List Rule) (rows : List Row) → Others rs → one_of (codes "new") (fold with_default rows rs) ≡ one_of (codes "new") rows
 others_defaults [] rows apart = refl
-others_defaults (a ∷ as) rows apart = others_defaults as (with_default rows a) apart.1 ∙ others_default rows a apart.0
+others_defaults (r ∷ rs) rows apart = others_defaults rs (with_default rows r) apart.1 ∙ others_default rows r apart.0
 
 finished_new : (rows : List Row) → Without rows → one_of (codes "new") (fold with_default rows rules) ≡ Some (codes "false")
 finished_new rows h =

@@ -167,8 +167,8 @@ module _ {S : Type 0} (facts : S → StoreFacts) (manner : Manner) where
         (stopped_with fault start read _ new.holding (stops start read sent p).1)
 
 -- what holds of a fault by which a call ended
-was_fault : {T E : Type 0} {P : E → Type 0} (r : Result T E) (fault : E) → r ≡ Err fault → IfErr r P → P fault
-was_fault {T} {E} {P} r fault is h = let at : IfErr (Err {T = T} fault) P = rw is at h in at
+was_fault : {T E : Type 0} (P : E → Type 0) (r : Result T E) (fault : E) → r ≡ Err fault → IfErr r P → P fault
+was_fault P r fault is h = subst (λ x. IfErr x P) is h
 
 module _ {S T : Type 0} (facts : S → StoreFacts) (manner : Manner) (old new : Moment S) (done : Result T RunFault) (before after : Option (List ℕ)) where
   -- a piece was answered, and its replies are sent
@@ -191,11 +191,11 @@ module _ {S T : Type 0} (facts : S → StoreFacts) (manner : Manner) (old new : 
       → (fault ≡ faults.Write) ⊎ ((done ≡ Err fault) × Appends before after new.kept.replies.items)
       → ((fault ≡ faults.Write) × Unsent facts manner old bytes new.holding) ⊎ StopsPiece fault facts manner old bytes new.holding before after
   piece_stopped bytes fault goes stops (inl failed) = inl (failed, Unsent-piece facts manner old new bytes done goes stops)
-  piece_stopped bytes fault goes stops (inr t) = inr (record { written = new.kept.replies.items; appended = t.1; stops = was_fault done fault t.0 stops })
+  piece_stopped bytes fault goes stops (inr t) = inr (record { written = new.kept.replies.items; appended = t.1; stops = was_fault _ done fault t.0 stops })
 
   -- the last line or the writer stopped it
   pub rest_stopped : (fault : RunFault) → OnOk done (Ends facts manner old new) → IfErr done (λ fault. StopsAtEnd fault facts manner old new)
       → (fault ≡ faults.Write) ⊎ ((done ≡ Err fault) × Appends before after new.kept.replies.items)
       → ((fault ≡ faults.Write) × Unsent facts manner old [] new.holding) ⊎ StopsRest fault facts manner old new.holding before after
   rest_stopped fault ends stops (inl failed) = inl (failed, Unsent-end facts manner old new done ends stops)
-  rest_stopped fault ends stops (inr t) = inr (record { written = new.kept.replies.items; appended = t.1; stops = was_fault done fault t.0 stops })
+  rest_stopped fault ends stops (inr t) = inr (record { written = new.kept.replies.items; appended = t.1; stops = was_fault _ done fault t.0 stops })

@@ -10,7 +10,7 @@ abbrev pub plain : Manner
 plain = record { bails = false; echoes = false }
 
 -- how many bytes of a line are kept and echoed: more than a command has
-abbrev pub longest_kept : ℕ
+unfoldable pub longest_kept : ℕ
 longest_kept = 140001
 
 -- what is written of a line before its reply

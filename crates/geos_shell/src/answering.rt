@@ -122,7 +122,7 @@ fn answer<S: Store>(
 {
     let start = out.len();
     match push_lines(alloc, manner.echoes, session, target, former, line, out) {
-        Ok(true) if manner.bails => Err(RunFault::Refused),
+        Ok(is_refusal) if is_refusal && manner.bails => Err(RunFault::Refused),
         Ok(_) => Ok(()),
         Err(_) => {
             out.truncate(start);

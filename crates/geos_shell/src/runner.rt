@@ -52,7 +52,10 @@ impl fmt::Display for RunFault {
 }
 
 impl From<AllocError> for RunFault {
-    ghost from_gives = { λ _ fault. fault ≡ RunFault.Memory };
+    ghost use Rattle.std.specs.Prelude.{◌≡◌};
+    ghost use Rattle.geos_shell.specs.declared.runner.RunFault.TheVariants.{Memory};
+
+    ghost from_gives = { λ _ fault. fault ≡ Memory };
 
     fn from(_: AllocError) -> RunFault {
         RunFault::Memory

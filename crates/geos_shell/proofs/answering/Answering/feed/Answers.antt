@@ -5,6 +5,7 @@ use Rattle.geos_shell.specs.Holdings.{holding}
 use Rattle.geos_shell.specs.Progress.{StopsIn, moment}
 use Rattle.geos_shell.proofs.Lines.{HasNoFeed-before, HasNoFeed-from_reads, cut_at_feed, rest_at_feed}
 use Rattle.geos_shell.proofs.Steps.{GoesOver-trans, StopsIn-trans, StopsIn-same, Progress-part}
+use Rattle.geos_shell.specs.declared.runner.RunFault.TheVariants as faults
 use Rattle.geos_shell.proofs.answering.Answering.feed.Goals as goal
 
 -- The run stops in a line: the lines before it are answered.
@@ -20,9 +21,10 @@ returns-in_err-end_line-clause-err g c =
     let first = moment (holding c.args.session.now c.args.target.now c.args.former.now) c.args.self.now in
     let before = moment (holding c.loop-end.session c.loop-end.target c.loop-end.former) c.loop-end.self in
     let after = moment (holding c.end_line.new.session c.end_line.new.target c.end_line.new.former) c.end_line.new.self in
-    let stops : StopsIn c.in_err-end_line.field-0 facts c.args.manner before rest after = rw (rest_at_feed rest end within found.1) (c.in_err-end_line.ensures.err free (drop (end + 1) rest)) in
+    let fault = c.in_err-end_line.field-0.0 in
+    let stops : StopsIn fault facts c.args.manner before rest after = rw (rest_at_feed rest end within found.1) (c.in_err-end_line.ensures.err free (drop (end + 1) rest)) in
     let ended = err_from_is_err_and c.from_residual.result c.from_residual.ensures.1 in
-    rw (ended.1, ended.2) (rw cut (StopsIn-trans facts c.args.manner _ first before after used rest goes stops))
+    rw (ended.1, ended.2) (rw cut (StopsIn-trans facts c.args.manner fault first before after used rest goes stops))
 
 -- A line ends.
 pub loop-end-preserved : goal.loop-end-preserved
@@ -64,4 +66,4 @@ returns-in_err-keep-clause-err g c =
     let before = moment held c.loop-end.self in
     let after = moment held (record c.loop-end.self { begun = c.keep.new.begun }) in
     let ended = err_from_is_err_and c.from_residual-in_err-keep.result c.from_residual-in_err-keep.ensures.1 in
-    rw (ended.1, ended.2) (rw cut (StopsIn-trans facts c.args.manner _ first before after used rest goes (StopsIn-same facts c.args.manner before after rest refl refl)))
+    rw (ended.1, ended.2) (rw cut (StopsIn-trans facts c.args.manner faults.Memory first before after used rest goes (StopsIn-same facts c.args.manner before after rest refl refl)))
