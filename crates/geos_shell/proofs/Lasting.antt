@@ -1,10 +1,10 @@
 -- What a line that is answered, or stops a run, makes of it.
-use Rattle.std.proofs.Common.{◌≡◌, ℕ, ◌<◌, List, [], ◌∷◌, ◌++◌, length, append_assoc, subst, sym, ap, ◌∙◌}
+use Rattle.std.proofs.Common.{◌≡◌, ℕ, ◌<◌, List, [], ◌∷◌, ◌++◌, length, append_assoc, subst}
 use Rattle.std.proofs.lemmas.List.{nil_from_length}
 use Rattle.geos_model.specs.Script.{lines}
 use Rattle.vm_store.specs.Facts.{StoreFacts}
 use Rattle.geos_shell.specs.Holdings.{AreExact, Holding}
-use Rattle.geos_shell.specs.Runs.{AnswersLines, StopsBy, StoppedByRefusal}
+use Rattle.geos_shell.specs.Runs.{AnswersLines, StopsBy}
 use Rattle.geos_shell.specs.Progress.{HasNoFeed, IsAnswered, IsStopped, Progress, StandsFor}
 use Rattle.geos_shell.specs.declared.runner.RunFault.{RunFault}
 use Rattle.geos_shell.specs.declared.runner.RunFault.TheVariants as faults

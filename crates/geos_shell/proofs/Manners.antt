@@ -1,5 +1,5 @@
 -- Lines that are answered in a manner.
-use Rattle.std.proofs.Common.{◌≡◌, ◌&&◌, ◌||◌, not, ℕ, ◌<◌, ◌≤◌, min, List, [], ◌∷◌, ◌++◌, Bool, true, false, cond, length, drop, take, refl, sym, ap, ap₂, subst, ◌∙◌, arith, inl, inr, append-nil, append_assoc, Some}
+use Rattle.std.proofs.Common.{◌≡◌, ◌&&◌, ◌||◌, ℕ, min, List, [], ◌∷◌, ◌++◌, Bool, true, false, cond, length, drop, take, refl, sym, ap, ap₂, subst, ◌∙◌, arith, inl, inr, append-nil, append_assoc, Option, Some}
 use Rattle.std.specs.Prelude.{filter, map}
 use Rattle.std.specs.List.{list_any}
 use Rattle.std.proofs.Math.Seq.{drop-append_seam, drop-length}
@@ -16,7 +16,8 @@ use Rattle.geos_shell.specs.Holdings.{AreExact, Holding, ServesRequest}
 use Rattle.geos_shell.specs.Manners.{begins_with_no, echoed, is_refusal, lead, longest_kept, plain, written_of}
 use Rattle.geos_shell.specs.Progress.{IsAnswered, StandsFor}
 use Rattle.geos_shell.specs.Replies.{Responds}
-use Rattle.geos_shell.specs.Runs.{AnswersLines, AnswersOf, RefusesRequest, replies_of}
+use Rattle.geos_shell.specs.Runs.{AnswersLines, AnswersOf, EndsBy, RefusesRequest, replies_of}
+use Rattle.geos_shell.specs.declared.runner.RunFault.TheVariants as faults
 use Rattle.geos_shell.specs.declared.settings.Manner.{Manner}
 use Rattle.geos_shell.proofs.Composed.{AnswersOf-append, AnswersOf-asked, AnswersOf-none, AnswersOf-one, AnswersOf-unasked}
 use Rattle.geos_shell.proofs.Lines.{StandsFor-command, longest_kept-is}
@@ -239,3 +240,7 @@ module _ {S : Type 0} {facts : S → StoreFacts} {manner : Manner} {old new : Ho
 pub AnswersOf-plain : {S : Type 0} {facts : S → StoreFacts} {old new : Holding S} {asked : List (List ℕ)} {written : List ℕ} → AnswersLines facts plain old asked written new → AnswersOf facts old (requests asked) written new
 AnswersOf-plain {S} {facts} {old} {new} {asked} {written} a =
     subst (λ (w : List ℕ). AnswersOf facts old (requests asked) w new) (a.answers.answered.text ∙ sym a.text) a.answers
+
+-- and no refusal ends the run
+pub Refused-plain : {S : Type 0} {facts : S → StoreFacts} {old new : Holding S} {from to before after : Option (List ℕ)} → EndsBy faults.Refused facts plain old from to before after new → ⊥
+Refused-plain ended = let bails : false ≡ true = ended.stopped.0 in cc bails

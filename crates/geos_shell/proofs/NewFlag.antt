@@ -16,7 +16,7 @@ use Rattle.clap.specs.declared.builder.value_parser.Reading.{Reading}
 use Rattle.clap.specs.declared.parser.matches.ValueSource.{ValueSource}
 use Rattle.clap.specs.declared.parser.matches.ValueSource.TheVariants as sources
 use Rattle.clap.specs.declared.builder.value_parser.Reading.TheVariants as reading
-use Rattle.geos_shell.specs.Options.{CommandLine, as_option, cache_option, file_operand, flag, geosvm, said}
+use Rattle.geos_shell.specs.Options.{CommandLine, flag, geosvm, said}
 use Rattle.geos_shell.proofs.Telling.{is_set}
 
 abbrev is_new : Text → Bool

@@ -1,11 +1,11 @@
 -- A reply's line is what is written for its request.
-use Rattle.std.proofs.Common.{◌≡◌, List, ℕ, [], ◌∷◌, ◌++◌, Bool, true, false, length, refl, ◌∙◌, sym, ap, subst, append-nil, Option, Result, Ok, OnOk, Err, Some, inr}
+use Rattle.std.proofs.Common.{◌≡◌, List, ℕ, ◌++◌, Bool, true, false, length, refl, ap, subst, Option, Result, Ok, OnOk, Err, Some, inr}
 use Rattle.std.specs.Prelude.{IsOkAnd, MatchResult}
 use Rattle.std.proofs.lemmas.List.{take_at}
 use Rattle.geos_model.specs.Reply.{Reply, reply_by, reply_of}
 use Rattle.geos_model.specs.declared.fault.Fault.{Fault}
 use Rattle.geos_model.specs.declared.reply.Reply.{Reply as GivenReply}
-use Rattle.geos_model.specs.Machine.{Request, Step}
+use Rattle.geos_model.specs.Machine.{Step}
 use Rattle.geos_model.specs.Script.{reply_text}
 use Rattle.geos_model.specs.declared.command.Command.{Command}
 use Rattle.geos_model.specs.declared.command.Command.TheVariants as commands

@@ -1,12 +1,11 @@
 -- Each step of a run keeps its progress.
-use Rattle.std.proofs.Common.{◌≡◌, ℕ, ◌<◌, List, [], ◌∷◌, ◌++◌, ◌+◌, IsTrue, length, length-append, refl, sym, ap, subst, ◌∙◌, arith, inl, inr}
-use Rattle.std.proofs.lemmas.List.{append_assoc, append-nil, nil_from_length}
-use Rattle.geos_model.specs.Reply.{Refused}
+use Rattle.std.proofs.Common.{◌≡◌, ℕ, ◌<◌, List, [], ◌∷◌, ◌++◌, ◌+◌, length, length-append, refl, sym, ap, subst, ◌∙◌, arith, inl}
+use Rattle.std.proofs.lemmas.List.{append_assoc, append-nil}
 use Rattle.geos_model.specs.Script.{lines, finished_lines, command}
 use Rattle.vm_store.specs.Facts.{StoreFacts}
 use Rattle.geos_shell.specs.Holdings.{AreExact, Holding, MayServe}
 use Rattle.geos_shell.specs.Runs.{AnswersLines, MayServeNext, RefusesRequest, StoppedByRefusal, StoppedWith, StopsBy}
-use Rattle.geos_shell.specs.Progress.{HasNoFeed, IsAnswered, IsStopped, StandsFor, Progress, GoesOver, Moment, StopsIn}
+use Rattle.geos_shell.specs.Progress.{HasNoFeed, StandsFor, Progress, GoesOver, Moment, StopsIn}
 use Rattle.geos_shell.specs.declared.runner.RunFault.{RunFault}
 use Rattle.geos_shell.specs.declared.runner.RunFault.TheVariants as faults
 use Rattle.geos_shell.specs.declared.settings.Manner.{Manner}

@@ -2,10 +2,10 @@
 use Rattle.std.specs.Prelude.{ℕ, Bool, true, false, List, [], ◌∷◌, ◌++◌, codes, drop, nat_eq, take, if◌then◌else◌}
 use Rattle.std.specs.List.{starts_with}
 use Rattle.geos_model.specs.Reply.{Reply, Refused}
-use Rattle.geos_model.specs.Script.{command, gets_reply, line_feed, output, reply_line}
+use Rattle.geos_model.specs.Script.{command, gets_reply, line_feed, output}
 use Rattle.geos_shell.specs.declared.settings.Manner.{Manner}
 
--- the manner of a run to whose caller nothing else was said
+-- the manner of a run that goes to its script's end and writes nothing but replies
 abbrev pub plain : Manner
 plain = record { bails = false; echoes = false }
 

@@ -84,7 +84,7 @@ pub record StoppedWith {S : Type 0} (facts : S → StoreFacts) (manner : Manner)
   pub run : AnswersLines facts manner old answered written mid
   pub next : MayServeNext facts mid others new
 
--- The request is refused.
+-- The line is refused, and what is written of it is its reply, behind the line itself where lines are echoed.
 pub record RefusesRequest {S : Type 0} (facts : S → StoreFacts) (manner : Manner) (old : Holding S) (line : List ℕ) (written : List ℕ) (new : Holding S) : Type 0 where
   pub fault : Fault
   pub serves : ServesRequest facts old (command line) (Refused fault) new

@@ -66,11 +66,7 @@ fn command<'a>(alloc: Global) -> Result<Command<'a>, AllocError>
             "new",
             "Make FILE; one that is there is emptied, without a question",
         ))?
-        .arg(flag(
-            alloc,
-            "bail",
-            "End the run with status 1 at the first refusal",
-        ))?
+        .arg(flag(alloc, "bail", "End at the first refusal, with status 1"))?
         .arg(flag(alloc, "echo", "Write each line before its reply"))?
         .arg(cache_option(alloc))?
         .arg(as_option(alloc))?

@@ -21,7 +21,7 @@ const PIECE: usize = 4_096;
 /// How many reads a run makes at most, so that it ends with any reader.
 pub(crate) const READS: u32 = 1 << 24;
 
-/// Answers as a plain run does: to the script's end, with nothing written but the replies.
+/// A run goes to its script's end, and writes nothing but replies.
 const PLAIN: Manner = Manner {
     bails: false,
     echoes: false,

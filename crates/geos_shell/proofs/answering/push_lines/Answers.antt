@@ -1,4 +1,4 @@
-use Rattle.std.proofs.Common.{◌≤◌, ap, arith, length}
+use Rattle.std.proofs.Common.{ap, arith, length}
 use Rattle.geos_shell.proofs.Extending.{Extends-length}
 use Rattle.geos_shell.proofs.answering.push_lines.Goals as goal
 

@@ -1,5 +1,4 @@
 use Rattle.std.proofs.Common.{◌≡◌, map, refl, subst, true}
-use Rattle.std.specs.Prelude.{IfOk}
 use Rattle.std.proofs.lemmas.Result.{IfOk-weaker}
 use Rattle.clap.specs.Words.{App, FailsBy, HasMatchesOf, fault_of, is_simple_and_free}
 use Rattle.geos_shell.proofs.Matched.{matched}

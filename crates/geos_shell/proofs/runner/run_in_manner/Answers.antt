@@ -1,9 +1,8 @@
 use Rattle.std.proofs.Common.{◌<◌, length, take, arith, length-take, refl}
 use Rattle.std.proofs.KnownBytes.{Keeps-refl}
 use Rattle.std.proofs.lemmas.Result.{IfErr-weaker, MatchResult-from_both, err_from_is_err_and, on_ok_weaker}
-use Rattle.geos_shell.specs.Holdings.{AreExact, holding}
+use Rattle.geos_shell.specs.Holdings.{holding}
 use Rattle.geos_shell.specs.Progress.{moment}
-use Rattle.geos_shell.specs.Runs.{AnswersAll, EndsBy}
 use Rattle.geos_shell.proofs.Runs.{Ran-none, Ran-kept, Ran-piece, AnswersFinished-now, AnswersSome-piece, AnswersSome-rest, AnswersUnsent-behind, AnswersAll-end, EndsBy-or, piece_answered, piece_stopped, rest_answered, rest_stopped}
 use Rattle.geos_shell.proofs.runner.run_in_manner.Goals as goal
 use Rattle.geos_shell.proofs.runner.run_in_manner.Goals.{in-Interrupted, in-Bytes+in_ok-send-in-Bytes}
