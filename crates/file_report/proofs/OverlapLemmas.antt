@@ -8,7 +8,6 @@ use Rattle.geos_model.proofs.Files.{get_or_same}
 use Rattle.std.proofs.lemmas.List.{get_or-take, length-take, take_more}
 use Rattle.std.proofs.lemmas.List.Elements.{Contains-append_left, Contains-push, Contains-push_cases}
 use Rattle.geos_model.specs.File.{end_page}
-use Rattle.vm_space.specs.Space.{is_on}
 use Rattle.vm_space.proofs.SpaceLemmas.{within_high, within_low, within_yes}
 use Rattle.file_report.specs.Pages.{AreTold, DoOverlap, IsShared, IsTold, part_of}
 use Rattle.geos_model.specs.declared.handle.VmHandle.{VmHandle}

@@ -1,6 +1,5 @@
-use Rattle.std.proofs.Common.{◌≡◌, ◌<◌, max, min, nat_lt, true, sym, ◌∙◌}
-use Rattle.geos_model.specs.File.{end_page}
-use Rattle.file_report.proofs.OverlapLemmas.{not_both, not_from, overlap_by_test, overlap_pages}
+use Rattle.std.proofs.Common.{sym, ◌∙◌}
+use Rattle.file_report.proofs.OverlapLemmas.{not_both, not_from, overlap_by_test}
 use Rattle.file_report.proofs.pages.do_overlap.Goals as goal
 
 pub returns-then-share_a_page : goal.returns-then-share_a_page

@@ -1,4 +1,4 @@
-use Rattle.std.proofs.Common.{All, ◌≤◌, take}
+use Rattle.std.proofs.Common.{All, take}
 use Rattle.std.specs.List.Sorted.{IsNonDecreasingBy}
 use Rattle.file_report.specs.Pages.{DoOverlap}
 use Rattle.file_report.proofs.OverlapLemmas.{IsSwept}
