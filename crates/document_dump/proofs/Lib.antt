@@ -1,5 +1,6 @@
 pub mod Changed
 pub mod Dumped
+pub mod Failing
 pub mod Handles
 pub mod Images
 pub mod Joined

@@ -13,6 +13,8 @@ use Rattle.geos_model.specs.declared.command.Body.{Body}
 use Rattle.geos_model.specs.declared.command.Body.TheVariants.{Raw, Heap}
 use Rattle.geos_model.specs.declared.command.Edit.{Edit}
 use Rattle.geos_model.specs.declared.command.Edit.TheVariants as edits
+use Rattle.document_dump.specs.declared.bodies.Pass.{Pass}
+use Rattle.document_dump.specs.declared.bodies.Pass.TheVariants as passes
 use Rattle.document_dump.specs.declared.bodies.Target.{Target}
 use Rattle.document_dump.specs.declared.bodies.Target.TheVariants as targets
 use Rattle.document_dump.specs.declared.changes.Progress.{Progress}
@@ -57,15 +59,17 @@ abbrev pub chunk_freed : VmHandle → ChunkHandle → Option (List ℕ) → List
 chunk_freed b c None = edits.Free b c ∷ []
 chunk_freed b c (Some bytes) = []
 
--- under so many handles, from the first on
-unfoldable pub chunks_made : VmHandle → ChunkMap → ℕ → List Edit
-chunks_made b m n = flat_map (λ i. chunk_made b (chunk_name (handle_of i)) (get m (handle_of i))) (range_with_len 0 n)
+-- in one of the two passes
+abbrev pub entry_edits : Pass → VmHandle → ChunkHandle → Option (List ℕ) → List Edit
+entry_edits passes.Making = chunk_made
+entry_edits passes.Freeing = chunk_freed
 
-unfoldable pub chunks_freed : VmHandle → ChunkMap → ℕ → List Edit
-chunks_freed b m n = flat_map (λ i. chunk_freed b (chunk_name (handle_of i)) (get m (handle_of i))) (range_with_len 0 n)
+-- under so many handles, from the first on
+unfoldable pub entries_passed : Pass → VmHandle → ChunkMap → ℕ → List Edit
+entries_passed pass b m n = flat_map (λ i. entry_edits pass b (chunk_name (handle_of i)) (get m (handle_of i))) (range_with_len 0 n)
 
 abbrev pub heap_filled : VmHandle → ChunkMap → List Edit
-heap_filled b m = let n = table_len (keys m) in chunks_made b m n ++ chunks_freed b m n
+heap_filled b m = let n = table_len (keys m) in entries_passed passes.Making b m n ++ entries_passed passes.Freeing b m n
 
 -- Blocks.
 

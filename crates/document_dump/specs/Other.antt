@@ -1,5 +1,5 @@
 -- A file with a slot less.
-use Rattle.std.specs.Prelude.{◌≡◌, ◌≢◌, ◌⊎◌, ℕ, ◌+◌, ◌*◌, ◌≤◌, List, [], length, IsTrue}
+use Rattle.std.specs.Prelude.{◌≡◌, ◌≢◌, ℕ, ◌+◌, ◌*◌, ◌≤◌, List, [], length, IsTrue}
 use Rattle.vm_store.specs.Facts.{StoreFacts, FailedSince, byte}
 use Rattle.vm_store.specs.History.{History}
 use Rattle.geos_model.specs.declared.fault.Fault.{Fault}

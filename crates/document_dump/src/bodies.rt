@@ -1,7 +1,7 @@
 //! The edits that make a block.
 #![tactic(auto, using(crate::proofs::Texts::texts))]
 
-ghost use Rattle.std.specs.Prelude.{◌≡◌, ◌++◌, ◌+◌, ◌*◌, ◌≤◌, ◌<◌, ℕ, true, OnOk, length};
+ghost use Rattle.std.specs.Prelude.{◌≡◌, ◌++◌, ◌+◌, ◌*◌, ◌≤◌, ◌<◌, ℕ, true, IfErr, OnOk, length};
 ghost use Rattle.std.specs.Option.{option_copied};
 ghost use Rattle.std.specs.FinMap.{get, keys};
 ghost use Rattle.geos_model.specs.Document.{is_valid_body};
@@ -10,8 +10,9 @@ ghost use Rattle.geos_model.specs.Image.{image};
 ghost use Rattle.geos_model.specs.Words.{word_at};
 ghost use Rattle.geos_model.specs.declared.command.Body.{Body};
 ghost use Rattle.geos_model.specs.declared.command.Body.TheVariants as model_bodies;
+ghost use Rattle.document_dump.specs.Faults.{IsHeapImage, IsImage, IsRefusalOf};
 ghost use Rattle.document_dump.specs.Lines.{line, text};
-ghost use Rattle.document_dump.specs.Changes.{write_of, piece_at, is_zeros, piece_written, bytes_written, chunk_made, chunk_freed, chunk_name, chunks_made, chunks_freed, block_made, type_set};
+ghost use Rattle.document_dump.specs.Changes.{write_of, piece_at, is_zeros, piece_written, bytes_written, chunk_name, entries_passed, entry_edits, block_made, type_set};
 
 use crate::fault::DumpFault;
 use crate::lines::{
@@ -97,21 +98,31 @@ fn push_raw(
     push_pieces(out, Target::Raw(block), bytes)
 }
 
+/// Each handle of a heap's table gets a chunk, and those that aren't live are freed again.
+#[derive(Clone, Copy)]
+pub enum Pass {
+    Making,
+    Freeing,
+}
+
 fn push_chunk(
     out: &mut Vec<u8>,
+    pass: Pass,
     block: VmHandle,
     chunk: ChunkHandle,
     bytes: Option<&[u8]>,
 ) -> Result<(), AllocError>
     ensures { OnOk result
-        (out.new.items ≡ out.old.items ++ text (chunk_made block chunk (option_copied bytes.entry))) }
+        (out.new.items ≡ out.old.items ++ text (entry_edits pass block chunk (option_copied bytes.entry))) }
 {
-    match bytes {
-        None => push_alloc(out, block, 0),
-        Some(bytes) => {
+    match (pass, bytes) {
+        (Pass::Making, None) => push_alloc(out, block, 0),
+        (Pass::Making, Some(bytes)) => {
             push_alloc(out, block, bytes.len())?;
             push_pieces(out, Target::Chunk(block, chunk), bytes)
         }
+        (Pass::Freeing, None) => push_free(out, block, chunk),
+        (Pass::Freeing, Some(_)) => Ok(()),
     }
 }
 
@@ -123,58 +134,33 @@ fn chunk_handle(i: usize) -> ChunkHandle
 }
 
 // The entry of a table, live or not.
-fn push_entry(out: &mut Vec<u8>, block: VmHandle, heap: &Heap, i: usize) -> Result<(), AllocError>
-    requires { i < most_chunks }
-    ensures { OnOk result (out.new.items ≡ out.old.items
-        ++ text (chunk_made block (chunk_name (handle_of i)) (get heap.now.chunks (handle_of i)))) }
-{
-    let chunk = chunk_handle(i);
-    push_chunk(out, block, chunk, heap.chunk(chunk))
-}
-
-fn push_entry_freed(
+fn push_entry(
     out: &mut Vec<u8>,
+    pass: Pass,
     block: VmHandle,
     heap: &Heap,
     i: usize,
 ) -> Result<(), AllocError>
     requires { i < most_chunks }
     ensures { OnOk result (out.new.items ≡ out.old.items
-        ++ text (chunk_freed block (chunk_name (handle_of i)) (get heap.now.chunks (handle_of i)))) }
+        ++ text (entry_edits pass block (chunk_name (handle_of i)) (get heap.now.chunks (handle_of i)))) }
 {
     let chunk = chunk_handle(i);
-    match heap.chunk(chunk) {
-        Some(_) => Ok(()),
-        None => push_free(out, block, chunk),
-    }
+    push_chunk(out, pass, block, chunk, heap.chunk(chunk))
 }
 
-fn push_chunks(
+fn push_entries(
     out: &mut Vec<u8>,
+    pass: Pass,
     block: VmHandle,
     heap: &Heap,
     slots: usize,
 ) -> Result<(), AllocError>
     requires { slots ≤ most_chunks }
-    ensures { OnOk result (out.new.items ≡ out.old.items ++ text (chunks_made block heap.now.chunks slots)) }
+    ensures { OnOk result (out.new.items ≡ out.old.items ++ text (entries_passed pass block heap.now.chunks slots)) }
 {
     for i in 0..slots {
-        push_entry(out, block, heap, i)?;
-    }
-    Ok(())
-}
-
-fn push_chunks_freed(
-    out: &mut Vec<u8>,
-    block: VmHandle,
-    heap: &Heap,
-    slots: usize,
-) -> Result<(), AllocError>
-    requires { slots ≤ most_chunks }
-    ensures { OnOk result (out.new.items ≡ out.old.items ++ text (chunks_freed block heap.now.chunks slots)) }
-{
-    for i in 0..slots {
-        push_entry_freed(out, block, heap, i)?;
+        push_entry(out, pass, block, heap, i)?;
     }
     Ok(())
 }
@@ -207,8 +193,8 @@ fn push_heap(
 {
     push_new_heap(out, attributes.user_id)?;
     push_type_set(out, block, 0, attributes.heap_type)?;
-    push_chunks(out, block, heap, slots)?;
-    push_chunks_freed(out, block, heap, slots)
+    push_entries(out, Pass::Making, block, heap, slots)?;
+    push_entries(out, Pass::Freeing, block, heap, slots)
 }
 
 fn word_at(bytes: &[u8], at: usize) -> usize
@@ -226,7 +212,8 @@ fn push_heap_image(
     attributes: Attributes,
     bytes: &[u8],
 ) -> Result<(), DumpFault>
-    ensures { OnOk result ((body : Body) → is_valid_body body ≡ true → image body ≡ bytes.now
+    ensures err { IfErr result (IsRefusalOf (IsHeapImage bytes.now)) }
+    ensures ok { OnOk result ((body : Body) → is_valid_body body ≡ true → image body ≡ bytes.now
         → out.new.items ≡ out.old.items ++ text (block_made block attributes body)) }
 {
     let heap = Heap::from_image(alloc, bytes)?;
@@ -243,7 +230,8 @@ pub fn push_block(
     attributes: Attributes,
     bytes: &[u8],
 ) -> Result<(), DumpFault>
-    ensures { OnOk result ((body : Body) → is_valid_body body ≡ true → image body ≡ bytes.now
+    ensures err { IfErr result (IsRefusalOf (IsImage bytes.now)) }
+    ensures ok { OnOk result ((body : Body) → is_valid_body body ≡ true → image body ≡ bytes.now
         → out.new.items ≡ out.old.items ++ text (block_made block attributes body)) }
 {
     if bytes.is_empty() {

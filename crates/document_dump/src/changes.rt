@@ -1,11 +1,12 @@
 //! What is done of the block under each handle.
 #![tactic(auto, using(crate::proofs::Texts::texts))]
 
-ghost use Rattle.std.specs.Prelude.{◌≡◌, ◌++◌, ◌+◌, ◌≤◌, ◌<◌, true, false, OnOk, IfOk, IsTrue, replicate, if◌then◌else◌, ◌==◌, ◌∷◌, []};
+ghost use Rattle.std.specs.Prelude.{◌≡◌, ◌++◌, ◌+◌, ◌≤◌, ◌<◌, true, false, OnOk, IfErr, IfOk, IsTrue, replicate, if◌then◌else◌, ◌==◌, ◌∷◌, []};
 ghost use Rattle.geos_model.specs.Bytes.{same_bytes};
 ghost use Rattle.geos_model.specs.Document.{Document, attributes_of, empty_document, is_live};
 ghost use Rattle.geos_model.specs.declared.command.Edit.TheVariants as edits;
 ghost use Rattle.vm_file.specs.Effects.{OnlyReads};
+ghost use Rattle.document_dump.specs.Faults.{IsDumpRefusal, IsRefusalOf, IsChangeOf};
 ghost use Rattle.document_dump.specs.Lines.{text};
 ghost use Rattle.document_dump.specs.Changes.{after_block, attributes_set, block_changed, block_name, filler, map_set, taken_out, user_id_set};
 ghost use Rattle.document_dump.specs.Steps.{IsChange};
@@ -53,6 +54,7 @@ fn is_same(first: &[u8], second: &[u8]) -> bool
 // Of a block of the saved document.
 fn first_change<S: Store>(file: &mut VmFile<S>, block: VmHandle) -> Result<Change, DumpFault>
     ensures reads { OnlyReads S.facts file.old file.new }
+    ensures fails { IfErr result (IsDumpRefusal (S.facts file.old.disk.store) (S.facts file.new.disk.store)) }
     ensures ok { IfOk result (λ change. IsTrue (S.facts file.old.disk.store).honest
         → IsChange empty_document file.old.disk.saved block.0 change) }
 {
@@ -78,6 +80,7 @@ fn both_change<S: Store>(
     requires before { before ≡ attributes_of file.old.disk.saved block.0 }
     requires after { after ≡ attributes_of file.old.document block.0 }
     ensures reads { OnlyReads S.facts file.old file.new }
+    ensures fails { IfErr result (IsDumpRefusal (S.facts file.old.disk.store) (S.facts file.new.disk.store)) }
     ensures ok { IfOk result (λ change. IsTrue (S.facts file.old.disk.store).honest
         → IsChange file.old.disk.saved file.old.document block.0 change) }
 {
@@ -95,6 +98,7 @@ fn both_change<S: Store>(
 fn new_change<S: Store>(file: &mut VmFile<S>, block: VmHandle) -> Result<Change, DumpFault>
     requires { is_live file.old.disk.saved block.0 ≡ false }
     ensures reads { OnlyReads S.facts file.old file.new }
+    ensures fails { IfErr result (IsDumpRefusal (S.facts file.old.disk.store) (S.facts file.new.disk.store)) }
     ensures ok { IfOk result (λ change. IsTrue (S.facts file.old.disk.store).honest
         → IsChange file.old.disk.saved file.old.document block.0 change) }
 {
@@ -117,6 +121,7 @@ fn old_change<S: Store>(
     requires was { is_live file.old.disk.saved block.0 ≡ true }
     requires before { before ≡ attributes_of file.old.disk.saved block.0 }
     ensures reads { OnlyReads S.facts file.old file.new }
+    ensures fails { IfErr result (IsDumpRefusal (S.facts file.old.disk.store) (S.facts file.new.disk.store)) }
     ensures ok { IfOk result (λ change. IsTrue (S.facts file.old.disk.store).honest
         → IsChange file.old.disk.saved file.old.document block.0 change) }
 {
@@ -129,6 +134,7 @@ fn old_change<S: Store>(
 // Of a block of the saved document or the one that is open.
 fn later_change<S: Store>(file: &mut VmFile<S>, block: VmHandle) -> Result<Change, DumpFault>
     ensures reads { OnlyReads S.facts file.old file.new }
+    ensures fails { IfErr result (IsDumpRefusal (S.facts file.old.disk.store) (S.facts file.new.disk.store)) }
     ensures ok { IfOk result (λ change. IsTrue (S.facts file.old.disk.store).honest
         → IsChange file.old.disk.saved file.old.document block.0 change) }
 {
@@ -145,6 +151,7 @@ pub fn change_of<S: Store>(
     block: VmHandle,
 ) -> Result<Change, DumpFault>
     ensures reads { OnlyReads S.facts file.old file.new }
+    ensures fails { IfErr result (IsDumpRefusal (S.facts file.old.disk.store) (S.facts file.new.disk.store)) }
     ensures ok { IfOk result (λ change. IsTrue (S.facts file.old.disk.store).honest
         → IsChange (old_in stage file.old) (new_in stage file.old) block.0 change) }
 {
@@ -252,6 +259,7 @@ pub fn push_change(
     progress: Progress,
 ) -> Result<Progress, DumpFault>
     requires { progress.holes < 65535 }
+    ensures err { IfErr result (IsRefusalOf (IsChangeOf block.0 change)) }
     ensures holes { IfOk result (λ after. after.holes ≤ progress.holes + 1) }
     ensures ok { IfOk result (λ after. (old new : Document) → IsChange old new block.0 change
         → (out.new.items ≡ out.old.items ++ text (block_changed old new progress block.0))

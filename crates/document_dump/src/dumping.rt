@@ -1,10 +1,11 @@
 //! A dump: the script of a file's documents.
 #![tactic(auto, using(crate::proofs::Texts::texts))]
 
-ghost use Rattle.std.specs.Prelude.{◌≡◌, ◌++◌, ◌+◌, ◌≤◌, ◌<◌, ◌||◌, [], OnOk, IfOk, IsTrue, codes};
+ghost use Rattle.std.specs.Prelude.{◌≡◌, ◌++◌, ◌+◌, ◌≤◌, ◌<◌, ◌||◌, [], OnOk, IfErr, IfOk, IsTrue, codes};
 ghost use Rattle.std.specs.Io.KnownBytes.{Appends};
 ghost use Rattle.geos_model.specs.Document.{vm_handles};
 ghost use Rattle.vm_file.specs.Effects.{OnlyReads};
+ghost use Rattle.document_dump.specs.Faults.{IsDumpRefusal, IsWriteFault};
 ghost use Rattle.document_dump.specs.Lines.{text};
 ghost use Rattle.document_dump.specs.Changes.{after_block, block_changed, block_freed, blocks_changed, blocks_freed, changes, first_progress, progress_after};
 ghost use Rattle.document_dump.specs.Dumps.{dump_text, if_changed, is_some_text, saved_text};
@@ -30,7 +31,8 @@ pub enum Which {
 }
 
 fn send<W: Write>(bytes: &[u8], writer: &mut W) -> Result<bool, DumpFault>
-    ensures { IfOk result (λ some. (some ≡ is_some_text bytes.now)
+    ensures err { IfErr result IsWriteFault }
+    ensures ok { IfOk result (λ some. (some ≡ is_some_text bytes.now)
         × Appends (W.contents writer.old) (W.contents writer.new) bytes.now) }
 {
     match writer.write_all(bytes) {
@@ -65,6 +67,7 @@ fn write_block<S: Store, W: Write>(
 ) -> Result<Written, DumpFault>
     requires { progress.holes < 65535 }
     ensures reads { OnlyReads S.facts file.old file.new }
+    ensures fails { IfErr result (IsDumpRefusal (S.facts file.old.disk.store) (S.facts file.new.disk.store)) }
     ensures holes { IfOk result (λ after. after.progress.holes ≤ progress.holes + 1) }
     ensures ok { IfOk result (λ after. IsTrue (S.facts file.old.disk.store).honest
         → (after.some ≡ is_some_text (text (block_changed (old_in stage file.old) (new_in stage file.old) progress block.0)))
@@ -92,6 +95,7 @@ fn write_blocks<S: Store, W: Write>(
 ) -> Result<Written, DumpFault>
     requires { first.holes ≡ 0 }
     ensures reads { OnlyReads S.facts file.old file.new }
+    ensures fails { IfErr result (IsDumpRefusal (S.facts file.old.disk.store) (S.facts file.new.disk.store)) }
     ensures ok { IfOk result (λ after. IsTrue (S.facts file.old.disk.store).honest
         → (after.some ≡ is_some_text (text (blocks_changed (old_in stage file.old) (new_in stage file.old) first vm_handles)))
         × (after.progress ≡ progress_after (old_in stage file.old) (new_in stage file.old) first vm_handles)
@@ -152,6 +156,7 @@ fn write_changes<S: Store, W: Write>(
     writer: &mut W,
 ) -> Result<bool, DumpFault>
     ensures reads { OnlyReads S.facts file.old file.new }
+    ensures fails { IfErr result (IsDumpRefusal (S.facts file.old.disk.store) (S.facts file.new.disk.store)) }
     ensures ok { IfOk result (λ some. IsTrue (S.facts file.old.disk.store).honest
         → (some ≡ is_some_text (text (changes (old_in stage file.old) (new_in stage file.old))))
         × Appends (W.contents writer.old) (W.contents writer.new)
@@ -177,6 +182,7 @@ fn dump_saved<S: Store, W: Write>(
     writer: &mut W,
 ) -> Result<(), DumpFault>
     ensures reads { OnlyReads S.facts file.old file.new }
+    ensures fails { IfErr result (IsDumpRefusal (S.facts file.old.disk.store) (S.facts file.new.disk.store)) }
     ensures ok { OnOk result (IsTrue (S.facts file.old.disk.store).honest
         → Appends (W.contents writer.old) (W.contents writer.new) (saved_text file.old.disk.saved)) }
 {
@@ -192,6 +198,7 @@ fn dump_open<S: Store, W: Write>(
     writer: &mut W,
 ) -> Result<(), DumpFault>
     ensures reads { OnlyReads S.facts file.old file.new }
+    ensures fails { IfErr result (IsDumpRefusal (S.facts file.old.disk.store) (S.facts file.new.disk.store)) }
     ensures ok { OnOk result (IsTrue (S.facts file.old.disk.store).honest
         → Appends (W.contents writer.old) (W.contents writer.new)
         (if_changed (text (changes file.old.disk.saved file.old.document)) (codes "update\n"))) }
@@ -214,6 +221,7 @@ pub fn dump<S: Store, W: Write>(
     writer: &mut W,
 ) -> Result<(), DumpFault>
     ensures reads { OnlyReads S.facts file.old file.new }
+    ensures fails { IfErr result (IsDumpRefusal (S.facts file.old.disk.store) (S.facts file.new.disk.store)) }
     ensures ok { OnOk result (IsTrue (S.facts file.old.disk.store).honest
         → Appends (W.contents writer.old) (W.contents writer.new)
         (dump_text which file.old.document file.old.disk.saved)) }

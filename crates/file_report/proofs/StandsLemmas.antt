@@ -1,13 +1,11 @@
 -- The verdict on a file, by the states of its slots.
-use Rattle.std.proofs.Common.{◌≡◌, ◌≤◌, ◌==◌, ℕ, Bool, true, false, List, Option, Some, None, Result, Ok, Err, length, arith, refl, sym, ap, ◌∙◌, eq-eqb, ne_eqb}
+use Rattle.std.proofs.Common.{◌≡◌, ◌≤◌, ◌==◌, ℕ, Bool, true, false, List, Option, Some, None, Ok, Err, length, arith, refl, sym, ap, ◌∙◌, eq-eqb, ne_eqb}
 use Rattle.std.specs.Prelude.{if◌then◌else◌, nat_lt}
 use Rattle.std.specs.Option.{option_map, option_and_then}
 use Rattle.std.proofs.lemmas.Bool.{cond-true, cond-false, le-ltb}
 use Rattle.geos_model.specs.File.{counting_slot, if_open, open_slot, pair_of, pair_of_counting, stands}
-use Rattle.geos_model.specs.declared.fault.Fault.{Fault}
 use Rattle.geos_model.specs.declared.fault.Fault.TheVariants.{Damaged}
-use Rattle.geos_model.specs.declared.file.Slot.{Slot}
-use Rattle.file_report.specs.Checked.{IsState, opened, verdict_between, verdict_of, verdict_of_two}
+use Rattle.file_report.specs.Checked.{IsState, chosen, chosen_between, opened, verdict_by, verdict_of}
 use Rattle.file_report.specs.declared.checking.SlotReport.{SlotReport}
 use Rattle.file_report.specs.declared.checking.SlotState.{SlotState}
 use Rattle.file_report.specs.declared.checking.SlotState.TheVariants.{Short, NoMark, Closed, Open}
@@ -29,21 +27,21 @@ state_opened file page (Open t) long is = record {
   verdict = λ r same. sym (ap (λ x. x.verdict) (some_same t r same)) ∙ is.2.verdict ∙ ap (λ x. verdict_of (pair_of file x.slot)) (some_same t r same);
 }
 
-two_verdicts : (file : List ℕ) (same less : Bool) (s t : Slot) (v w : Result (Unit {0}) Fault) → v ≡ verdict_of (pair_of file s) → w ≡ verdict_of (pair_of file t)
-    → (if same then Err Damaged else if less then w else v) ≡ verdict_of (pair_of_counting file (if same then Err Damaged else if less then Ok t else Ok s))
-two_verdicts file true less s t v w first second = refl
-two_verdicts file false true s t v w first second = second
-two_verdicts file false false s t v w first second = first
+two_verdicts : (file : List ℕ) (same less : Bool) (r t : SlotReport) → r.verdict ≡ verdict_of (pair_of file r.slot) → t.verdict ≡ verdict_of (pair_of file t.slot)
+    → verdict_by (if same then Err Damaged else if less then Ok (1, t) else Ok (0, r)) ≡ verdict_of (pair_of_counting file (if same then Err Damaged else if less then Ok t.slot else Ok r.slot))
+two_verdicts file true less r t first second = refl
+two_verdicts file false true r t first second = second
+two_verdicts file false false r t first second = first
 
 found_verdict : (file : List ℕ) (a b : Option SlotReport) → IsOpened file 0 a → IsOpened file 1 b
-    → verdict_of_two a b ≡ verdict_of (pair_of_counting file (counting_slot (option_map (λ r. r.slot) a) (option_map (λ r. r.slot) b)))
+    → verdict_by (chosen a b) ≡ verdict_of (pair_of_counting file (counting_slot (option_map (λ r. r.slot) a) (option_map (λ r. r.slot) b)))
 found_verdict file None None first second = refl
 found_verdict file (Some r) None first second = first.verdict r refl
 found_verdict file None (Some t) first second = second.verdict t refl
 found_verdict file (Some r) (Some t) first second =
-    two_verdicts file (r.slot.sequence == t.slot.sequence) (nat_lt r.slot.sequence t.slot.sequence) r.slot t.slot r.verdict t.verdict (first.verdict r refl) (second.verdict t refl)
+    two_verdicts file (r.slot.sequence == t.slot.sequence) (nat_lt r.slot.sequence t.slot.sequence) r t (first.verdict r refl) (second.verdict t refl)
 
-pub file_verdict : (file : List ℕ) (first second : SlotState) → 1024 ≤ length file → IsState file 0 first → IsState file 1 second → verdict_between first second ≡ verdict_of (stands file)
+pub file_verdict : (file : List ℕ) (first second : SlotState) → 1024 ≤ length file → IsState file 0 first → IsState file 1 second → verdict_by (chosen_between first second) ≡ verdict_of (stands file)
 file_verdict file first second long one two =
     let a = state_opened file 0 first long one in
     let b = state_opened file 1 second long two in

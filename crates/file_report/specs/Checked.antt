@@ -1,6 +1,7 @@
 -- What a check tells of a file.
 use Rattle.std.specs.Prelude.{◌≡◌, ◌≢◌, ℕ, ◌*◌, ◌<◌, ◌==◌, ◌||◌, not, nat_lt, if◌then◌else◌, IsErr, All, List, Option, None, Some, Result, Ok, Err, length, is_some, take, drop}
 use Rattle.std.specs.Option.{option_map}
+use Rattle.std.specs.Result.{result_ok}
 use Rattle.geos_model.specs.Document.{Document}
 use Rattle.geos_model.specs.File.{directory_of, document_at, slot_of, pair_of, stands}
 use Rattle.geos_model.specs.declared.fault.Fault.{Fault}
@@ -50,27 +51,29 @@ opened Short = None
 opened NoMark = None
 opened (Closed s) = None
 
--- of two open slots that of the greater sequence number counts, and none where they are equal
-abbrev pub counting_of_two : Option SlotReport → Option SlotReport → Option SlotReport
-counting_of_two None None = None
-counting_of_two (Some r) None = Some r
-counting_of_two None (Some t) = Some t
-counting_of_two (Some r) (Some t) =
-    if r.slot.sequence == t.slot.sequence then None else if nat_lt r.slot.sequence t.slot.sequence then Some t else Some r
+-- The slot that counts, 0 or 1, and what was found of it: of two open ones that of the greater sequence number. Else what the file is
+-- for want of one.
+abbrev pub chosen : Option SlotReport → Option SlotReport → Result (ℕ × SlotReport) Fault
+chosen None None = Err NotDocument
+chosen (Some r) None = Ok (0, r)
+chosen None (Some t) = Ok (1, t)
+chosen (Some r) (Some t) =
+    if r.slot.sequence == t.slot.sequence then Err Damaged else if nat_lt r.slot.sequence t.slot.sequence then Ok (1, t) else Ok (0, r)
+
+abbrev pub chosen_between : SlotState → SlotState → Result (ℕ × SlotReport) Fault
+chosen_between first second = chosen (opened first) (opened second)
+
+-- its number, if one counts, and what was found of it
+abbrev pub counting_number : SlotState → SlotState → Option ℕ
+counting_number first second = option_map (λ p. p.0) (result_ok (chosen_between first second))
 
 abbrev pub counting_between : SlotState → SlotState → Option SlotReport
-counting_between first second = counting_of_two (opened first) (opened second)
+counting_between first second = option_map (λ p. p.1) (result_ok (chosen_between first second))
 
 -- the verdict of the file is that of the slot that counts
-abbrev pub verdict_of_two : Option SlotReport → Option SlotReport → Result (Unit {0}) Fault
-verdict_of_two None None = Err NotDocument
-verdict_of_two (Some r) None = r.verdict
-verdict_of_two None (Some t) = t.verdict
-verdict_of_two (Some r) (Some t) =
-    if r.slot.sequence == t.slot.sequence then Err Damaged else if nat_lt r.slot.sequence t.slot.sequence then t.verdict else r.verdict
-
-abbrev pub verdict_between : SlotState → SlotState → Result (Unit {0}) Fault
-verdict_between first second = verdict_of_two (opened first) (opened second)
+abbrev pub verdict_by : Result (ℕ × SlotReport) Fault → Result (Unit {0}) Fault
+verdict_by (Ok p) = p.1.verdict
+verdict_by (Err fault) = Err fault
 
 pub record IsReport (file : List ℕ) (r : Report) : Type 0 where
   pub length : r.file_length ≡ length file

@@ -1,7 +1,6 @@
 -- What lies on the pages of a file.
-use Rattle.std.specs.Prelude.{ℕ, zero, suc, ◌+◌, ◌<◌, Bool, not, cond, List, [], ◌∷◌, ◌++◌, map, Option, None, Some}
-use Rattle.std.specs.List.{list_any}
-use Rattle.geos_model.specs.File.{end_page}
+use Rattle.std.specs.Prelude.{◌≡◌, ◌⊎◌, true, ℕ, zero, suc, ◌+◌, Bool, not, cond, List, [], ◌∷◌, ◌++◌, map, Option, None, Some}
+use Rattle.std.specs.List.{Contains, list_any}
 use Rattle.geos_model.specs.declared.file.Extent.{Extent}
 use Rattle.geos_model.specs.declared.file.Entry.{Entry}
 use Rattle.vm_space.specs.Space.{is_on}
@@ -10,7 +9,10 @@ use Rattle.file_report.specs.declared.finding.Named.{Named}
 use Rattle.file_report.specs.declared.finding.Named.TheVariants.{Updated, Saved}
 use Rattle.file_report.specs.declared.checking.SlotReport.{SlotReport}
 use Rattle.file_report.specs.declared.pages.Usage.{Usage}
+use Rattle.file_report.specs.declared.pages.Content.{Content}
 use Rattle.file_report.specs.declared.pages.Content.TheVariants as content
+use Rattle.file_report.specs.declared.pages.Part.{Part}
+use Rattle.file_report.specs.declared.pages.Part.TheVariants as part
 
 -- the slots lie on the first two pages
 abbrev pub slots_usage : Usage
@@ -41,6 +43,30 @@ pages_with is (suc n) = cond (is n) 1 0 + pages_with is n
 abbrev pub unused_pages : List Usage → ℕ → ℕ
 unused_pages us n = pages_with (λ page. not (is_used us page)) n
 
--- two of them have a page in common
-abbrev pub DoOverlap : Usage × Usage → Type 0
-DoOverlap p = (p.0.extent.page < end_page p.1.extent) × (p.1.extent.page < end_page p.0.extent)
+-- what an extent holds, whichever of the two documents has it
+abbrev pub part_of : Content → Part
+part_of content.Slots = part.Slots
+part_of (content.Directory name) = part.Directory
+part_of (content.Image name block) = part.Image block
+
+-- the same thing in the same place, as what both documents have
+pub record IsShared (u v : Usage) : Type 0 where
+  pub part : part_of u.content ≡ part_of v.content
+  pub extent : u.extent ≡ v.extent
+
+-- two different things, and a page on which both lie
+pub record DoOverlap (p : Usage × Usage) : Type 0 where
+  pub page : ℕ
+  pub first : is_on page p.0.extent ≡ true
+  pub second : is_on page p.1.extent ≡ true
+  pub differ : IsShared p.0 p.1 → ⊥
+
+-- one of the pairs has this, or the same in the same place
+pub record IsTold (pairs : List (Usage × Usage)) (u : Usage) : Type 0 where
+  pub pair : Usage × Usage
+  pub listed : Contains pairs pair
+  pub has : IsShared pair.0 u ⊎ IsShared pair.1 u
+
+-- each of them that overlaps another one is told
+abbrev pub AreTold : List Usage → List (Usage × Usage) → Type 0
+AreTold us pairs = (u v : Usage) → Contains us u → Contains us v → DoOverlap (u, v) → IsTold pairs u

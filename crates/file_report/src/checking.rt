@@ -1,11 +1,12 @@
 //! The check of a whole file.
 ghost use Rattle.std.specs.Prelude.{◌≡◌, ◌≤◌, ◌<◌, ◌&&◌, if◌then◌else◌, IsTrue, IfOk, IfErr, IsErr, Ok, Err, [], ◌==◌, ◌||◌, not, length};
 ghost use Rattle.std.specs.Option.{option_map};
+ghost use Rattle.std.specs.Result.{result_map_both};
 ghost use Rattle.vm_file.specs.Calls.{IsResourceFault};
 ghost use Rattle.vm_file.specs.Opened.{OnlyReadsStore};
 ghost use Rattle.file_report.specs.Findings.{FindsMore};
 ghost use Rattle.file_report.specs.Reading.{IsSoOfSlot};
-ghost use Rattle.file_report.specs.Checked.{IsReport, IsSlotReport, IsState, counting_between, header_verdict, opened, verdict_between};
+ghost use Rattle.file_report.specs.Checked.{IsReport, IsSlotReport, IsState, chosen_between, counting_between, counting_number, header_verdict, opened, verdict_by};
 
 use crate::document::check_document;
 use crate::finding::{Finding, Named, note_unless};
@@ -194,23 +195,38 @@ impl Report {
     pub fn counting(&self) -> Option<&SlotReport>
         ensures { option_map (λ r. r.now) result ≡ counting_between self.now.first self.now.second }
     {
-        counting(&self.first, &self.second)
+        match chosen(&self.first, &self.second) {
+            Ok((_, report)) => Some(report),
+            Err(_) => None,
+        }
+    }
+
+    /// Its number, 0 or 1.
+    pub fn counting_slot(&self) -> Option<u8>
+        ensures { result ≡ counting_number self.now.first self.now.second }
+    {
+        match chosen(&self.first, &self.second) {
+            Ok((slot, _)) => Some(slot),
+            Err(_) => None,
+        }
     }
 }
 
-fn counting<'a>(first: &'a SlotState, second: &'a SlotState) -> Option<&'a SlotReport>
-    ensures { option_map (λ r. r.now) result ≡ counting_between first.now second.now }
+// Which slot counts, 0 or 1, and what was found of it, or what the file is where none does.
+fn chosen<'a>(first: &'a SlotState, second: &'a SlotState) -> Result<(u8, &'a SlotReport), Fault>
+    ensures { result_map_both (λ p. (p.0, p.1.now)) (λ fault. fault) result ≡ chosen_between first.now second.now }
 {
     match (first.opened(), second.opened()) {
-        (None, other) => other,
-        (one, None) => one,
+        (None, None) => Err(Fault::NotDocument),
+        (Some(one), None) => Ok((0, one)),
+        (None, Some(other)) => Ok((1, other)),
         (Some(one), Some(other)) => {
             if one.slot.sequence == other.slot.sequence {
-                None
+                Err(Fault::Damaged)
             } else if one.slot.sequence < other.slot.sequence {
-                Some(other)
+                Ok((1, other))
             } else {
-                Some(one)
+                Ok((0, one))
             }
         }
     }
@@ -218,21 +234,11 @@ fn counting<'a>(first: &'a SlotState, second: &'a SlotState) -> Option<&'a SlotR
 
 // Whether the file of two slots opens.
 fn verdict_between(first: &SlotState, second: &SlotState) -> Result<(), Fault>
-    ensures { result ≡ verdict_between first.now second.now }
+    ensures { result ≡ verdict_by (chosen_between first.now second.now) }
 {
-    match (first.opened(), second.opened()) {
-        (None, None) => Err(Fault::NotDocument),
-        (Some(one), None) => one.verdict,
-        (None, Some(other)) => other.verdict,
-        (Some(one), Some(other)) => {
-            if one.slot.sequence == other.slot.sequence {
-                Err(Fault::Damaged)
-            } else if one.slot.sequence < other.slot.sequence {
-                other.verdict
-            } else {
-                one.verdict
-            }
-        }
+    match chosen(first, second) {
+        Ok((_, report)) => report.verdict,
+        Err(fault) => Err(fault),
     }
 }
 

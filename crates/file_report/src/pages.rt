@@ -1,8 +1,10 @@
 //! What lies on the pages of a file.
-ghost use Rattle.std.specs.Prelude.{◌≡◌, ◌≤◌, ◌<◌, ◌+◌, ◌-◌, ◌^◌, ◌++◌, All, IfOk, OnOk, IsPermutation, length, map, nat_lt, true};
+ghost use Rattle.std.specs.Prelude.{◌≡◌, ◌⊎◌, ◌↔◌, ◌≤◌, ◌<◌, ◌+◌, ◌-◌, ◌^◌, ◌++◌, All, IfOk, OnOk, IsTrue, IsPermutation, Some, length, map, max, min, nat_lt};
+ghost use Rattle.std.specs.List.{Contains};
 ghost use Rattle.std.specs.List.Sorted.{IsNonDecreasingBy};
 ghost use Rattle.geos_model.specs.File.{end_page, pages_of};
-ghost use Rattle.file_report.specs.Pages.{DoOverlap, image_usage, unused_pages, usages_in, usages_of};
+ghost use Rattle.file_report.specs.Pages.{AreTold, DoOverlap, IsShared, IsTold, image_usage, part_of, unused_pages, usages_in, usages_of};
+ghost use Rattle.file_report.specs.declared.pages.Usage.{Usage};
 
 use crate::checking::SlotReport;
 use crate::finding::Named;
@@ -151,59 +153,87 @@ pub fn free_pages(usages: &[Usage], pages: u64) -> FreePages
     free.with_run(pages - end)
 }
 
-// Whether one begins before another ends.
-fn begins_before_end(one: &Usage, other: &Usage) -> bool
-    ensures { result ≡ nat_lt one.now.extent.page (end_page other.now.extent) }
-{
-    u64::from(one.extent.page) < page_behind(other.extent)
+/// What an extent holds, in whichever document.
+#[derive(Clone, Copy, PartialEq, Eq)]
+pub enum Part {
+    Slots,
+    Directory,
+    Image(VmHandle),
 }
 
-// Whether they are a directory and a directory, or images of the same block. Each of a slot's documents has one of them at most.
-fn is_same(one: Content, other: Content) -> bool {
-    match (one, other) {
-        (Content::Directory(_), Content::Directory(_)) => true,
-        (Content::Image(_, block), Content::Image(_, other)) => block.0 == other.0,
-        _ => false,
+fn part_in(content: Content) -> Part
+    ensures { result ≡ part_of content }
+{
+    match content {
+        Content::Slots => Part::Slots,
+        Content::Directory(_) => Part::Directory,
+        Content::Image(_, block) => Part::Image(block),
     }
 }
 
-// Whether both of a slot's documents have this in the same place.
-fn is_shared(one: &Usage, other: &Usage) -> bool {
-    is_same(one.content, other.content) && one.extent == other.extent
-}
-
-fn is_overlap(one: &Usage, other: &Usage) -> bool
-    ensures { result ≡ true → DoOverlap (one.now, other.now) }
+// Whether they are the same in the same place, as what both of a slot's documents have.
+fn is_shared(one: Usage, other: Usage) -> bool
+    ensures { IsTrue result ↔ IsShared one other }
 {
-    begins_before_end(one, other) && begins_before_end(other, one) && !is_shared(one, other)
+    part_in(one.content) == part_in(other.content) && one.extent == other.extent
 }
 
-// That of two extents that ends behind the other.
-fn further(one: Usage, other: Usage) -> Usage {
-    if page_behind(one.extent) < page_behind(other.extent) {
-        other
-    } else {
-        one
+// Whether there is a page on which both lie.
+fn share_a_page(one: Extent, other: Extent) -> bool
+    ensures { result ≡ nat_lt (max one.page other.page) (min (end_page one) (end_page other)) }
+{
+    u64::from(one.page.max(other.page)) < page_behind(one).min(page_behind(other))
+}
+
+fn do_overlap(one: Usage, other: Usage) -> bool
+    ensures { IsTrue result ↔ DoOverlap (one, other) }
+{
+    share_a_page(one.extent, other.extent) && !is_shared(one, other)
+}
+
+// An extent and what was the furthest of those before it, where they overlap.
+fn push_overlap(
+    pairs: &mut Vec<(Usage, Usage)>,
+    furthest: Option<Usage>,
+    usage: Usage,
+) -> Result<(), AllocError>
+    ensures overlap { OnOk result (All DoOverlap pairs.old.items → All DoOverlap pairs.new.items) }
+    ensures kept { OnOk result ((u : Usage) → IsTold pairs.old.items u → IsTold pairs.new.items u) }
+    ensures told { OnOk result ((u : Usage) → furthest ≡ Some u → DoOverlap (u, usage)
+        → Contains pairs.new.items (u, usage)) }
+{
+    if let Some(other) = furthest {
+        if do_overlap(other, usage) {
+            pairs.push((other, usage))?;
+        }
+    }
+    Ok(())
+}
+
+// The extent or what was the furthest of those before it, whichever ends behind the other.
+fn further(furthest: Option<Usage>, usage: Usage) -> Usage
+    ensures one { (furthest ≡ Some result) ⊎ (result ≡ usage) }
+    ensures behind { end_page usage.extent ≤ end_page result.extent }
+    ensures behind_all { (u : Usage) → furthest ≡ Some u → end_page u.extent ≤ end_page result.extent }
+{
+    match furthest {
+        Some(other) if page_behind(usage.extent) <= page_behind(other.extent) => other,
+        _ => usage,
     }
 }
 
-/// Of extents by their first pages those that begin on a page of one before, each with one such. What both of a slot's documents
-/// have in the same place doesn't count.
+/// Of extents by their first pages those that begin on a page of one before, each with the one before that reaches furthest. What
+/// both of a slot's documents have in the same place doesn't overlap; where a third lies on its pages it is told once.
 pub fn overlaps(alloc: Global, usages: &[Usage]) -> Result<Vec<(Usage, Usage)>, AllocError>
-    ensures { IfOk result (λ pairs. All DoOverlap pairs.items) }
+    ensures overlap { IfOk result (λ pairs. All DoOverlap pairs.items) }
+    ensures all { IfOk result (λ pairs. IsNonDecreasingBy (λ u. u.extent.page) usages.now
+        → AreTold usages.now pairs.items) }
 {
     let mut pairs = Vec::new(alloc);
-    let mut furthest: Option<Usage> = None;
+    let mut furthest = None;
     for usage in usages {
-        if let Some(other) = furthest {
-            if is_overlap(&other, usage) {
-                pairs.push((other, *usage))?;
-            }
-        }
-        furthest = Some(match furthest {
-            Some(other) => further(other, *usage),
-            None => *usage,
-        });
+        push_overlap(&mut pairs, furthest, *usage)?;
+        furthest = Some(further(furthest, *usage));
     }
     Ok(pairs)
 }

@@ -1,6 +1,5 @@
 //! A dump: a script that makes documents of a file again.
 use crate::command_line::Dumped;
-use crate::telling::counting_slot;
 use document_dump::{DumpFault, Which, copy_with_gate_closed, dump};
 use file_report::check;
 use geos_model::Fault;
@@ -52,7 +51,7 @@ pub fn run_dump<S: Store>(rt: &HostRuntime, store: S, dumped: Dumped) -> Result<
 fn dump_other<S: Store>(rt: &HostRuntime, store: S) -> Result<(), NoDump> {
     let mut store = store;
     let report = check(rt.alloc(), &mut store).map_err(unread)?;
-    let Some(slot) = counting_slot(&report) else {
+    let Some(slot) = report.counting_slot() else {
         return Err(NoDump::Refused(Reason::Unopened(Fault::NotDocument)));
     };
     let copy = copy_with_gate_closed(rt.alloc(), &mut store, slot).map_err(unread)?;

@@ -14,20 +14,9 @@ pub fn write_check<W: Write>(writer: &mut W, report: &Report) -> io::Result<()> 
     write_counting(writer, report)
 }
 
-/// Which slot counts, 0 or 1, if one does.
-pub fn counting_slot(report: &Report) -> Option<u8> {
-    match (report.first.opened(), report.second.opened()) {
-        (None, None) => None,
-        (Some(_), None) => Some(0),
-        (None, Some(_)) => Some(1),
-        (Some(first), Some(second)) if first.slot.sequence == second.slot.sequence => None,
-        (Some(first), Some(second)) => Some(u8::from(first.slot.sequence < second.slot.sequence)),
-    }
-}
-
 // Which slot counts, or why none does.
 fn write_counting<W: Write>(writer: &mut W, report: &Report) -> io::Result<()> {
-    match counting_slot(report) {
+    match report.counting_slot() {
         Some(slot) => writeln!(writer, "counts: slot {slot}"),
         None if report.first.opened().is_none() => writeln!(
             writer,

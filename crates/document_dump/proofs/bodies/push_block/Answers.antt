@@ -4,12 +4,25 @@ use Rattle.geos_model.specs.declared.command.Body.{Body}
 use Rattle.geos_model.specs.declared.command.Body.TheVariants.{Raw}
 use Rattle.document_dump.specs.Lines.{text}
 use Rattle.document_dump.specs.Changes.{block_made}
-use Rattle.document_dump.proofs.Images.{raw_image}
+use Rattle.std.proofs.lemmas.Result.{IfErr-weaker}
+use Rattle.document_dump.specs.Faults.{IsHeapImage, IsImage, IsRefusalOf}
+use Rattle.document_dump.proofs.Failing.{image-of_heap, part-narrower}
+use Rattle.document_dump.proofs.Images.{image-not_empty, raw_image}
 use Rattle.document_dump.proofs.bodies.push_block.Goals as goal
 
-pub returns : goal.returns
-returns c = λ body valid same.
+pub returns-clause-ok : goal.returns-clause-ok
+returns-clause-ok c = λ body valid same.
     let bytes = c.args.bytes.now in
     let whole = take_all (length bytes - 1) (drop 1 bytes) (omega (arith, length-drop 1 bytes)) in
     let raw = raw_image body bytes same c.if-bytes-ne-RAW.false in
     c.in_ok-push_raw.ensures ∙ ap (λ (b : Body). c.args.out.now.items ++ text (block_made c.args.block c.args.attributes b)) (ap Raw whole ∙ sym raw)
+
+pub returns-then-is_empty-clause-err : goal.returns-then-is_empty-clause-err
+returns-then-is_empty-clause-err c = λ i.
+    let some = image-not_empty i.0 c.args.bytes.now i.2 in
+    grind (arith, some)
+
+pub returns-then-bytes-ne-RAW-clause-err : goal.returns-then-bytes-ne-RAW-clause-err
+returns-then-bytes-ne-RAW-clause-err c =
+    IfErr-weaker c.push_heap_image.result (IsRefusalOf (IsHeapImage c.args.bytes.now)) (IsRefusalOf (IsImage c.args.bytes.now))
+    (λ fault is. part-narrower (IsHeapImage c.args.bytes.now) (IsImage c.args.bytes.now) fault (image-of_heap c.args.bytes.now c.if-bytes-ne-RAW.true) is) c.push_heap_image.ensures.err

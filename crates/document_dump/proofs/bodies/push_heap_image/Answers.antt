@@ -20,7 +20,7 @@ push_heap-requires-clause-few c =
     let same = c.word_at-slots.ensures ∙ ap (λ (l : List ℕ). word_at l 1) (sym made.0) ∙ image-table_len c.in_ok-heap.heap.chunks made.1 in
     omega (arith, same, table_len_le c.in_ok-heap.heap.chunks made.1)
 
-pub returns : goal.returns
-returns c = λ body valid same.
+pub returns-clause-ok : goal.returns-clause-ok
+returns-clause-ok c = λ body valid same.
     let made = c.in_ok-heap.ensures.ok in
     c.in_ok-push_heap.ensures ∙ ap (λ (b : Body). c.args.out.now.items ++ text (block_made c.args.block c.args.attributes b)) (sym (heap_image body c.in_ok-heap.heap.chunks c.args.bytes.now valid made.1 same made.0))

@@ -16,6 +16,6 @@ returns-in_ok-push_attributes-in-Keeps-clause-ok c = λ old new is.
 pub returns-in_ok-push_block-in-Made-clause-ok : goal.returns-in_ok-push_block-in-Made-clause-ok
 returns-in_ok-push_block-in-Made-clause-ok c = λ old new is.
     let known = rw c.in-Made.is at is in
-    let made = c.in_ok-push_block-in-Made.ensures (block_at new c.args.block.0).body known.3 (sym (c.as_slice.ensures.value ∙ known.4)) in
+    let made = c.in_ok-push_block-in-Made.ensures.ok (block_at new c.args.block.0).body known.3 (sym (c.as_slice.ensures.value ∙ known.4)) in
     let r = made_pushed old new c.args.progress c.args.block.0 c.args.out.now.items c.push_block.new.out.items c.in-Made.replaces c.in-Made.attributes c.push_place.new.out.items known.0 known.1 known.2 c.in_ok-push_place-in-Made.ensures made in
     (r.0, c.made_progress.ensures ∙ r.1)
