@@ -1,5 +1,5 @@
 -- What more chunks and more blocks add.
-use Rattle.std.proofs.Common.{◌≡◌, ◌+◌, ◌*◌, ◌<◌, ℕ, zero, suc, Bool, true, false, cond, not, ◌&&◌, List, [], ◌∷◌, ◌++◌, map, length, take, get_or, Option, Some, None, refl, sym, ap, ap₂, subst, ◌∙◌, arith, append-nil, append_assoc, flat_map, ◌==◌}
+use Rattle.std.proofs.Common.{◌≡◌, ℕ, Bool, true, false, cond, List, [], ◌∷◌, ◌++◌, map, refl, sym, ap, subst, ◌∙◌, append-nil, ◌==◌}
 use Rattle.std.proofs.lemmas.List.Elements.{filter-append}
 use Rattle.std.proofs.lemmas.List.Concat.{flat_map-append}
 use Rattle.std.proofs.lemmas.List.{map-append}
@@ -10,8 +10,8 @@ use Rattle.std.specs.FinMap.{entries}
 use Rattle.geos_model.specs.Heap.{ChunkMap}
 use Rattle.geos_model.specs.declared.block.Attributes.{Attributes}
 use Rattle.geos_model.specs.declared.command.Body.TheVariants.{Raw, Heap}
-use Rattle.document_stat.specs.Arrays.{elements_of, is_kind, kind_of}
-use Rattle.document_stat.specs.Counted.{AddsArray, AddsBlocks, AddsChunks, Blocks, Chunks, IsCount, all_array_items, all_chunk_items, array_item, array_items, block_item, chunk_items, chunks_of_block, chunks_under, heap_items, if_so, raw_items, tally_of, typed_items}
+use Rattle.document_stat.specs.Arrays.{is_kind, kind_of}
+use Rattle.document_stat.specs.Counted.{AddsArray, AddsBlocks, AddsChunks, Blocks, Chunks, IsCount, all_array_items, all_chunk_items, array_item, array_items, block_item, chunk_items, heap_items, if_so, raw_items, tally_of, typed_items}
 use Rattle.document_stat.specs.Tallies.{Adds, AddsIfAny}
 use Rattle.document_stat.specs.declared.arrays.ArrayKind.{ArrayKind}
 use Rattle.document_stat.specs.declared.blocks.BlockStat.{BlockStat}

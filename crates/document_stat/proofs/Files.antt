@@ -5,7 +5,7 @@ use Rattle.std.specs.Option.{option_and_then, option_map, option_map_or}
 use Rattle.std.specs.FinMap.{from_entries}
 use Rattle.std.proofs.lemmas.Bool.{cond-true, cond-false, le-ltb, lt-ltb}
 use Rattle.geos_model.specs.Document.{Document}
-use Rattle.geos_model.specs.File.{Directory, blocks_of_entries, both, counting_slot, directory_of, document_at, document_of, open_slot, pair_of, pair_of_counting, stands}
+use Rattle.geos_model.specs.File.{Directory, blocks_of_entries, both, counting_slot, directory_of, document_at, document_of, open_slot, pair_of_counting, stands}
 use Rattle.geos_model.specs.declared.fault.Fault.{Fault}
 use Rattle.geos_model.specs.declared.fault.Fault.TheVariants.{NotDocument, Damaged}
 use Rattle.geos_model.specs.declared.file.Extent.{Extent}

@@ -1,5 +1,5 @@
 -- What the image of a body says of the body.
-use Rattle.std.proofs.Common.{◌≡◌, ◌+◌, ◌-◌, ℕ, ◌≤◌, true, false, List, ◌∷◌, length, ap, sym, ◌∙◌, arith, refl}
+use Rattle.std.proofs.Common.{◌≡◌, ◌-◌, ℕ, ◌≤◌, true, false, List, length, ap, sym, ◌∙◌, arith, refl}
 use Rattle.geos_model.specs.Document.{is_heap_body, is_valid_body}
 use Rattle.geos_model.specs.Heap.{ChunkMap, is_heap_map}
 use Rattle.geos_model.specs.Image.{image}

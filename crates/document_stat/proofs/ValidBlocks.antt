@@ -1,9 +1,9 @@
 -- The blocks of a directory's entries: they are in order, can be, and are few.
-use Rattle.std.proofs.Common.{◌≡◌, ◌+◌, ◌*◌, ◌<◌, ◌≤◌, ℕ, suc, Bool, true, false, cond, ◌&&◌, ◌==◌, T, nat_lt, List, [], ◌∷◌, ◌++◌, All, map, length, Option, None, Some, nat_cmp, is_lt, Less, Equal, Greater, refl, sym, ap, ap₂, subst, ◌∙◌, arith, count_by, flat_map}
+use Rattle.std.proofs.Common.{◌≡◌, ◌+◌, ◌*◌, ◌<◌, ◌≤◌, ℕ, suc, Bool, true, false, cond, ◌&&◌, ◌==◌, T, nat_lt, List, [], ◌∷◌, ◌++◌, All, map, length, Option, None, Some, nat_cmp, is_lt, Less, Equal, Greater, refl, sym, ap, ap₂, subst, ◌∙◌, arith, flat_map}
 use Rattle.std.specs.List.{filter, list_all}
 use Rattle.std.specs.Option.{option_map, option_and_then}
 use Rattle.std.specs.Cmp.{nat_cmp_total}
-use Rattle.std.specs.FinMap.{empty, entries, from_entries, from_sorted, keys, same_map, nat_cmp-IsAntisymmetric, get-from_entries, get-from_sorted, entries-from_sorted}
+use Rattle.std.specs.FinMap.{entries, from_entries, from_sorted, same_map, nat_cmp-IsAntisymmetric, get-from_entries, get-from_sorted, entries-from_sorted}
 use Rattle.std.specs.FinMap.Entries.{below_all, is_sorted}
 use Rattle.std.proofs.lemmas.Bool.{and_parts, lt-ltb, ltb-true}
 use Rattle.std.proofs.lemmas.List.{length-map, length-append}
@@ -11,7 +11,6 @@ use Rattle.std.proofs.lemmas.List.Elements.{All-nil, All-cons, All-head, All-tai
 use Rattle.std.proofs.lemmas.List.Sums.{length-filter, count_by-le-length}
 use Rattle.geos_model.specs.Document.{Block, chunks_of_body, is_valid_body}
 use Rattle.geos_model.specs.File.{block_of, blocks_of_entries, bytes_in, if_typed, is_entry, is_rising, prepended}
-use Rattle.geos_model.specs.Heap.{ChunkMap, is_heap_map, need, table_len}
 use Rattle.geos_model.specs.Image.{body_of}
 use Rattle.geos_model.specs.declared.block.Attributes.{Attributes}
 use Rattle.geos_model.specs.declared.command.Body.{Body}
@@ -20,7 +19,7 @@ use Rattle.geos_model.specs.declared.file.Entry.{Entry}
 use Rattle.geos_model.proofs.FileDocuments.{if_typed-some}
 use Rattle.geos_model.proofs.Files.{body_of-some, entry-low, is_entry-parts}
 use Rattle.document_stat.specs.Arrays.{is_kind, kind_of}
-use Rattle.document_stat.specs.Counted.{Blocks, Chunks, IsBlockStat, IsCount, all_array_items, all_chunk_items, array_item, array_items, block_item, chunk_item, chunk_items, chunks_of_block, heap_items, raw_items, typed_items}
+use Rattle.document_stat.specs.Counted.{Blocks, IsBlockStat, IsCount, all_array_items, all_chunk_items, array_item, array_items, block_item, chunk_item, chunk_items, chunks_of_block, heap_items, raw_items, typed_items}
 use Rattle.document_stat.specs.Tallies.{most_items}
 use Rattle.document_stat.specs.declared.arrays.ArrayKind.{ArrayKind}
 use Rattle.document_stat.specs.declared.blocks.BlockStat.{BlockStat}

@@ -10,7 +10,7 @@ use Rattle.std.specs.List.Sorted.{IsNonDecreasingBy}
 use Rattle.geos_model.proofs.Files.{get_or_same}
 use Rattle.geos_model.specs.File.{end_page}
 use Rattle.geos_model.specs.declared.file.Extent.{Extent}
-use Rattle.vm_space.specs.Space.{is_on, is_within}
+use Rattle.vm_space.specs.Space.{is_on}
 use Rattle.vm_space.proofs.SpaceLemmas.{within_yes, within_no}
 use Rattle.file_report.specs.Pages.{pages_with}
 use Rattle.file_report.proofs.PagesLemmas.{pages_with_most}

@@ -1,5 +1,5 @@
 -- What is counted of a document: the things, each with its size.
-use Rattle.std.specs.Prelude.{◌≡◌, ℕ, List, [], ◌∷◌, Bool, not, ◌==◌, ◌&&◌, length, map, if◌then◌else◌, Option, None, Some}
+use Rattle.std.specs.Prelude.{ℕ, List, [], ◌∷◌, Bool, not, ◌==◌, ◌&&◌, length, map, if◌then◌else◌, Option, None, Some}
 use Rattle.std.specs.List.{filter, flat_map}
 use Rattle.std.specs.FinMap.{entries}
 use Rattle.std.specs.Ordering.{nat_cmp}

@@ -1,18 +1,18 @@
 //! The blocks of a document, counted.
-ghost use Rattle.std.specs.Prelude.{◌≡◌, ◌+◌, ◌≤◌, ℕ, true, List, [], ◌∷◌, OnOk, IfErr, length, ◌==◌};
+ghost use Rattle.std.specs.Prelude.{◌≡◌, ◌+◌, ◌-◌, ◌*◌, ◌≤◌, ℕ, true, List, [], ◌∷◌, OnOk, IfErr, length, ◌==◌};
 ghost use Rattle.std.specs.BTreeMap.{get};
 ghost use Rattle.std.specs.Ordering.{nat_cmp};
 ghost use Rattle.std.specs.FinMap.{keys};
-ghost use Rattle.geos_model.specs.Heap.{is_heap_map, table_len};
+ghost use Rattle.geos_model.specs.Heap.{capacity, is_heap_map, table_len};
 ghost use Rattle.geos_model.specs.Words.{word_at};
 ghost use Rattle.geos_model.specs.declared.block.Attributes.{Attributes};
 ghost use Rattle.geos_model.specs.declared.command.Body.TheVariants as bodies;
 ghost use Rattle.document_stat.specs.Counted.{AddsBlocks, IsBlockStat, if_so};
-ghost use Rattle.document_stat.specs.Tallies.{AddsIfAny};
+ghost use Rattle.document_stat.specs.Tallies.{AddsIfAny, most_items};
 
 use crate::chunks::ChunkStat;
 use crate::tally::{Item, Subject, Tally};
-use geos_model::{Attributes, Fault, VmHandle};
+use geos_model::{Attributes, CAPACITY, Fault, VmHandle};
 use lmem_heap::Heap;
 use std::alloc::{AllocError, Global};
 use std::collections::BTreeMap;
@@ -62,9 +62,20 @@ impl BlockStat {
         }
     }
 
+    /// How many bytes the heaps don't need of the 65,520 that each of them has.
+    pub fn free_bytes(&self) -> u64
+        ensures { self.now.heaps.count ≤ most_items
+            → result ≡ capacity * self.now.heaps.count - self.now.heaps.sum }
+    {
+        (CAPACITY as u64)
+            .saturating_mul(self.heaps.count)
+            .saturating_sub(self.heaps.sum)
+    }
+
     fn add_raw(&mut self, block: VmHandle, size: u32)
         ensures { (attributes : Attributes) (bytes : List ℕ) → size ≡ length bytes
-            → AddsBlocks ((block.0, record { attributes = attributes; body = bodies.Raw bytes }) ∷ []) self.old self.new }
+            → AddsBlocks ((block.0, record { attributes = attributes; body = bodies.Raw bytes }) ∷ [])
+            self.old self.new }
     {
         self.raw = self.raw.with(Item {
             subject: Subject::Block(block),
@@ -82,7 +93,8 @@ impl BlockStat {
         requires valid { is_heap_map heap.now.chunks ≡ true }
         requires slots { slots ≡ table_len (keys heap.now.chunks) }
         ensures { OnOk result ((attributes : Attributes) → attributes.heap_type ≡ heap_type
-            → AddsBlocks ((block.0, record { attributes = attributes; body = bodies.Heap heap.now.chunks }) ∷ []) self.old self.new) }
+            → AddsBlocks ((block.0, record { attributes = attributes; body = bodies.Heap heap.now.chunks }) ∷ [])
+            self.old self.new) }
     {
         let item = Item {
             subject: Subject::Block(block),

@@ -59,7 +59,8 @@ impl ArrayStat {
 
     // With the array that a chunk's bytes read as, if any.
     fn with_bytes(self, subject: Subject, bytes: &[u8]) -> ArrayStat
-        ensures { AddsArray (kind_of bytes.now) (record { subject = subject; size = elements_of bytes.now }) self result }
+        ensures { AddsArray (kind_of bytes.now) (record { subject = subject; size = elements_of bytes.now })
+            self result }
     {
         match read_array(bytes) {
             Some((kind, elements)) => self.with(

@@ -48,7 +48,8 @@ fn count_document<S: Store>(
     ensures looks { OnlyReadsStore (S.facts store.old) (S.facts store.new) }
     ensures ok { IfOk result (λ stat. IsTrue (S.facts store.old).honest
         → (version : ℕ) (n : ℕ) → is_directory version n (shown directory.now) ≡ true
-        → (d : Document) × (document_of (S.facts store.old).content (shown directory.now) ≡ Some d) × IsDocumentStat d stat) }
+        → (d : Document) × (document_of (S.facts store.old).content (shown directory.now) ≡ Some d)
+        × IsDocumentStat d stat) }
     ensures damaged { IsErrOf result Fault.Damaged → IsTrue (S.facts store.old).honest
         → document_of (S.facts store.old).content (shown directory.now) ≡ None }
     ensures refusals { IfErr result IsReadRefusal }
@@ -68,7 +69,8 @@ fn count_saved<S: Store>(
 ) -> Result<Option<DocumentStat>, Fault>
     ensures looks { OnlyReadsStore (S.facts store.old) (S.facts store.new) }
     ensures ok { IfOk result (λ stat. IsTrue (S.facts store.old).honest
-        → IsCountingSlot (S.facts store.old).content slot.now → IsSavedStat (S.facts store.old).content slot.now.slot stat) }
+        → IsCountingSlot (S.facts store.old).content slot.now
+        → IsSavedStat (S.facts store.old).content slot.now.slot stat) }
     ensures damaged { IsErrOf result Fault.Damaged → IsTrue (S.facts store.old).honest
         → document_of (S.facts store.old).content (shown slot.now.saved) ≡ None }
     ensures refusals { IfErr result IsReadRefusal }

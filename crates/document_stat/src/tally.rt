@@ -1,7 +1,7 @@
 //! How many things there are, of what size, and which is the largest.
 ghost use Rattle.std.specs.Prelude.{◌≤◌, ◌*◌};
 
-use geos_model::{CAPACITY, ChunkHandle, VmHandle};
+use geos_model::{ChunkHandle, VmHandle};
 
 /// What has a size: a block, or a chunk of one.
 #[derive(Clone, Copy, Debug, PartialEq, Eq)]
@@ -30,9 +30,8 @@ pub struct Tally {
 }
 
 impl Tally {
-    ghost use Rattle.std.specs.Prelude.{◌≡◌, ◌-◌, List, [], ◌∷◌, ◌++◌};
-    ghost use Rattle.geos_model.specs.Heap.{capacity};
-    ghost use Rattle.document_stat.specs.Tallies.{Adds, IsLargest, IsTally, most_items};
+    ghost use Rattle.std.specs.Prelude.{List, [], ◌∷◌, ◌++◌};
+    ghost use Rattle.document_stat.specs.Tallies.{Adds, IsLargest, IsTally};
     ghost use Rattle.document_stat.specs.declared.tally.Item.{Item};
 
     /// That of nothing.
@@ -55,15 +54,6 @@ impl Tally {
             sum: self.sum.saturating_add(u64::from(item.size)),
             largest: Some(Tally::larger(self.largest, item)),
         }
-    }
-
-    /// Where these are heaps, how many of their bytes are free: what they don't need of the 65,520 that each has.
-    pub fn free_bytes(&self) -> u64
-        ensures { self.now.count ≤ most_items → result ≡ capacity * self.now.count - self.now.sum }
-    {
-        (CAPACITY as u64)
-            .saturating_mul(self.count)
-            .saturating_sub(self.sum)
     }
 
     // The later one only where it is larger.

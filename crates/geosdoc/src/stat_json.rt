@@ -57,7 +57,7 @@ fn write_types<W: Write>(writer: &mut W, blocks: &BlockStat) -> io::Result<()> {
 fn write_heaps<W: Write>(writer: &mut W, blocks: &BlockStat) -> io::Result<()> {
     write!(writer, "\"heaps\":{{")?;
     write_members(writer, "needed_bytes", &blocks.heaps)?;
-    write!(writer, ",\"free_bytes\":{},", blocks.heaps.free_bytes())?;
+    write!(writer, ",\"free_bytes\":{},", blocks.free_bytes())?;
     write_types(writer, blocks)?;
     write!(writer, "}},")
 }

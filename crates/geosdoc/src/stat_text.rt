@@ -51,7 +51,7 @@ fn write_blocks<W: Write>(writer: &mut W, blocks: &BlockStat) -> io::Result<()> 
             Largest(tally.largest)
         )?;
     }
-    writeln!(writer, "  free in heaps {:>26}", blocks.heaps.free_bytes())
+    writeln!(writer, "  free in heaps {:>26}", blocks.free_bytes())
 }
 
 fn write_arrays<W: Write>(writer: &mut W, chunks: &ChunkStat) -> io::Result<()> {

@@ -40,7 +40,7 @@ fn as_many_chunks_as_a_heap_can_have(rt: HostRuntime) -> Result<(), Fail> {
         (chunks.count, chunks.sum, chunks.largest),
         (32_752, 0, chunk(1, 16, 0))
     );
-    assert_eq!(rt; (blocks.heaps.sum, blocks.heaps.free_bytes()), (65_520, 0));
+    assert_eq!(rt; (blocks.heaps.sum, blocks.free_bytes()), (65_520, 0));
     Ok(())
 }
 

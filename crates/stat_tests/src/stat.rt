@@ -1,9 +1,9 @@
 //! What is counted of small files.
 use crate::files::{SMALL, block, chunk, make, opens, stat_made, stat_of};
 use document_stat::{Item, Tally};
-use file_report::{check, free_pages, page_count, usages};
+use file_report::{FreePages, SlotReport, check, free_pages, page_count, usages};
 use geos_model::Fault;
-use std::alloc::Global;
+use std::alloc::{AllocError, Global};
 use std::test::Fail;
 use vm_store::MemStore;
 
@@ -27,7 +27,7 @@ fn the_small_document(rt: HostRuntime) -> Result<(), Fail> {
     assert_eq!(rt; updated.map_block.0, 1);
     assert_eq!(rt; counted(&updated.blocks.raw), (1, 5, block(2, 5)));
     assert_eq!(rt; counted(&updated.blocks.heaps), (1, 24, block(1, 24)));
-    assert_eq!(rt; updated.blocks.heaps.free_bytes(), 65_496);
+    assert_eq!(rt; updated.blocks.free_bytes(), 65_496);
     assert_eq!(rt;
         counted(&updated.blocks.chunks.all),
         (1, 2, chunk(1, 16, 2))
@@ -110,11 +110,17 @@ save
 fn the_saved_document_beside_the_updated_one(rt: HostRuntime) -> Result<(), Fail> {
     let stat = stat_made(rt.alloc(), "newraw 1 4\nsave\nnewraw 2 6\nupdate\n")?;
     assert_eq!(rt; counted(&stat.updated.blocks.raw), (2, 10, block(2, 6)));
-    let Some(saved) = stat.saved else {
+    let Some(saved) = &stat.saved else {
         return Err(Fail::new("the saved document isn't told"));
     };
     assert_eq!(rt; counted(&saved.blocks.raw), (1, 4, block(1, 4)));
     Ok(())
+}
+
+// The free pages by the extents of a slot.
+fn free_pages_of(alloc: Global, slot: &SlotReport, pages: u64) -> Result<FreePages, AllocError> {
+    let usages = usages(alloc, slot)?;
+    Ok(free_pages(&usages, pages))
 }
 
 // Whether the free pages are those that `check` tells, which are counted otherwise.
@@ -123,7 +129,7 @@ fn has_same_free_pages(alloc: Global, bytes: &[u8]) -> Result<bool, Fail> {
     let Some(slot) = report.counting() else {
         return Err(Fail::new("no slot counts"));
     };
-    let wanted = free_pages(&usages(alloc, slot)?, page_count(report.file_length));
+    let wanted = free_pages_of(alloc, slot, page_count(report.file_length))?;
     let told = stat_of(alloc, bytes)?.free;
     Ok(told.pages == wanted.pages && told.runs == wanted.runs && told.longest == wanted.longest)
 }

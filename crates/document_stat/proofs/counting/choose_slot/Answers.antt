@@ -1,8 +1,8 @@
-use Rattle.std.proofs.Common.{◌≡◌, ◌≤◌, Err, Ok, length, arith, ap₂, inl, inr, sym, ◌∙◌}
+use Rattle.std.proofs.Common.{◌≡◌, ◌≤◌, length, arith, inr, sym}
 use Rattle.std.proofs.lemmas.Result.{err_from_is_err_and}
 use Rattle.vm_file.proofs.LooksLemmas.{OnlyReadsStore-trans, held_before}
-use Rattle.geos_model.specs.File.{counting_slot, open_slot}
-use Rattle.document_stat.proofs.Files.{chosen_from, refused_header, refused_short, refused_slots}
+use Rattle.geos_model.specs.File.{open_slot}
+use Rattle.document_stat.proofs.Files.{chosen_from, refused_header, refused_slots}
 use Rattle.document_stat.proofs.counting.choose_slot.Goals as goal
 
 pub returns-in_err-second-clause-looks : goal.returns-in_err-second-clause-looks

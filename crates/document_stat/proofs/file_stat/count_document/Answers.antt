@@ -1,4 +1,4 @@
-use Rattle.std.proofs.Common.{◌≡◌, ◌≤◌, length, refl, ap, subst, sym, ◌∙◌, arith}
+use Rattle.std.proofs.Common.{◌≤◌, length, refl, ap, subst, sym, ◌∙◌, arith}
 use Rattle.geos_model.specs.File.{blocks_of_entries}
 use Rattle.geos_model.proofs.Files.{is_directory-parts}
 use Rattle.vm_space.specs.Listed.{shown}

@@ -1,4 +1,4 @@
-use Rattle.std.proofs.Common.{◌≡◌, Some, length}
+use Rattle.std.proofs.Common.{Some, length}
 use Rattle.geos_model.specs.File.{bytes_in}
 use Rattle.geos_model.proofs.FileDocuments.{directory_of-some}
 use Rattle.vm_space.specs.Listed.{shown}

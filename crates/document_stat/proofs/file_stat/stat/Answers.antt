@@ -1,4 +1,4 @@
-use Rattle.std.proofs.Common.{◌≡◌, ◌∷◌, ℕ, List, Err, None, Ok, Some, ap, ap₂, ◌⊎◌, length, subst, sym, ◌∙◌}
+use Rattle.std.proofs.Common.{◌≡◌, ℕ, List, Err, None, Some, ap, ap₂, ◌⊎◌, length, subst, ◌∙◌}
 use Rattle.std.proofs.lemmas.Result.{err_from_is_err_and}
 use Rattle.vm_file.proofs.LooksLemmas.{OnlyReadsStore-trans, held_before}
 use Rattle.vm_file.specs.Calls.{IsResourceFault}

@@ -1,7 +1,6 @@
-use Rattle.std.proofs.Common.{◌∷◌, [], ap, arith, length, refl, sym, subst, ◌∙◌, ◌≡◌, List, ℕ}
+use Rattle.std.proofs.Common.{◌∷◌, [], ap, arith, length, refl, sym, subst, ◌∙◌, List, ℕ}
 use Rattle.geos_model.specs.Words.{word_at}
 use Rattle.geos_model.specs.declared.command.Body.{Body}
-use Rattle.geos_model.specs.declared.command.Body.TheVariants.{Raw, Heap}
 use Rattle.geos_model.proofs.Images.{length_image_body_le}
 use Rattle.document_stat.specs.Counted.{AddsBlocks}
 use Rattle.document_stat.proofs.HeapChunks.{image-table_len, length_image-heap}

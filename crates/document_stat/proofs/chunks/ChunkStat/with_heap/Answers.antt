@@ -1,5 +1,5 @@
-use Rattle.std.proofs.Common.{arith, take, refl, sym}
-use Rattle.std.specs.FinMap.{get, keys}
+use Rattle.std.proofs.Common.{arith, take}
+use Rattle.std.specs.FinMap.{get}
 use Rattle.geos_model.specs.Heap.{handle_of}
 use Rattle.geos_model.proofs.HeapTables.{table_of}
 use Rattle.document_stat.specs.Counted.{chunks_under}

@@ -1,4 +1,4 @@
-use Rattle.std.proofs.Common.{Some, subst}
+use Rattle.std.proofs.Common.{subst}
 use Rattle.document_stat.specs.Tallies.{IsLargest}
 use Rattle.document_stat.proofs.Tallies.{larger_kept, larger_new}
 use Rattle.document_stat.proofs.tally.Tally.larger.Goals as goal
