@@ -1,4 +1,4 @@
-//! Reads the command line: `geosdoc check FILE`, `geosdoc dump [--saved | --other] FILE`.
+//! Reads the command line: `geosdoc check FILE`, `geosdoc dump [--saved | --other] FILE`, `geosdoc stat [--json] FILE`.
 use clap::error::ErrorKind;
 use clap::{Arg, ArgAction, ArgMatches, Command, Error, value_parser};
 use geos_model::Bytes;
@@ -12,6 +12,15 @@ pub enum Asked {
     Check,
     /// A script that makes documents of the file again.
     Dump(Dumped),
+    /// What the file has, counted.
+    Stat(Form),
+}
+
+/// How numbers are told.
+#[derive(Clone, Copy)]
+pub enum Form {
+    Text,
+    Json,
 }
 
 /// Which documents of a file a dump has.
@@ -63,7 +72,8 @@ fn command<'a>(alloc: Global) -> Result<Command<'a>, AllocError> {
         .subcommand_required(true)
         .arg_required_else_help(true)
         .subcommand(check_command(alloc)?)?
-        .subcommand(dump_command(alloc)?)
+        .subcommand(dump_command(alloc)?)?
+        .subcommand(stat_command(alloc)?)
 }
 
 fn check_command<'a>(alloc: Global) -> Result<Command<'a>, AllocError> {
@@ -82,6 +92,13 @@ fn dump_command<'a>(alloc: Global) -> Result<Command<'a>, AllocError> {
             "What the other slot leads to: the commit before",
         )
         .conflicts_with("saved")?)?
+        .arg(file_operand(alloc))
+}
+
+fn stat_command<'a>(alloc: Global) -> Result<Command<'a>, AllocError> {
+    Command::new(alloc, "stat")
+        .about("Counts the file's pages, and the document's blocks, chunks and arrays")
+        .arg(flag(alloc, "json", "As one JSON object"))?
         .arg(file_operand(alloc))
 }
 
@@ -106,6 +123,7 @@ fn request_of<'a>(matches: &ArgMatches<'a>) -> Option<Request<'a>> {
     let file = matches.get_str("file")?;
     let asked = match name {
         "dump" => Asked::Dump(documents_asked(matches)),
+        "stat" => Asked::Stat(form_asked(matches)),
         _ => Asked::Check,
     };
     Some(Request { asked, file })
@@ -118,6 +136,14 @@ fn documents_asked(matches: &ArgMatches<'_>) -> Dumped {
         Dumped::Other
     } else {
         Dumped::Both
+    }
+}
+
+fn form_asked(matches: &ArgMatches<'_>) -> Form {
+    if matches.get_flag("json") {
+        Form::Json
+    } else {
+        Form::Text
     }
 }
 

@@ -6,6 +6,8 @@ mod dumping;
 mod pages_telling;
 mod read_only;
 mod run;
+mod stat_json;
+mod stat_text;
 mod telling;
 
 use crate::command_line::{NoRequest, read_command_line};

@@ -1,9 +1,12 @@
 //! Carries out what was asked of a file.
-use crate::command_line::{Asked, Request};
-use crate::dumping::{NoDump, run_dump};
+use crate::command_line::{Asked, Form, Request};
+use crate::dumping::{NoDump, Reason, run_dump};
 use crate::pages_telling::write_pages;
 use crate::read_only::{Cause, ReadOnlyFile, ReadOnlySystem};
+use crate::stat_json::write_json;
+use crate::stat_text::write_stat;
 use crate::telling::write_check;
+use document_stat::stat;
 use file_report::check;
 use geos_model::Fault;
 use std::fmt::Display;
@@ -50,6 +53,7 @@ pub fn run(rt: &HostRuntime, request: Request<'_>) -> Ending {
     };
     match request.asked {
         Asked::Check => run_check(rt, &mut store, request.file),
+        Asked::Stat(form) => run_stat(rt, &mut store, request.file, form),
         Asked::Dump(dumped) => match run_dump(rt, store, dumped) {
             Ok(()) => Ending::Told { status: 0 },
             Err(NoDump::Memory) => Ending::Memory,
@@ -76,6 +80,32 @@ fn run_check(rt: &HostRuntime, store: &mut HostStore<ReadOnlyFile>, file: &str) 
     let status = if report.verdict.is_ok() { 0 } else { 1 };
     match io::writer(rt).write_all(&text) {
         Ok(()) => Ending::Told { status },
+        Err(_) => Ending::WriteFault,
+    }
+}
+
+fn run_stat(
+    rt: &HostRuntime,
+    store: &mut HostStore<ReadOnlyFile>,
+    file: &str,
+    form: Form,
+) -> Ending {
+    let stat = match stat(rt.alloc(), store) {
+        Ok(stat) => stat,
+        Err(Fault::Damaged) => return refused(rt, file, Reason::Unopened(Fault::Damaged)),
+        Err(Fault::NotDocument) => return refused(rt, file, Reason::Unopened(Fault::NotDocument)),
+        Err(fault) => return ended_by(rt, file, fault),
+    };
+    let mut text = Vec::new(rt.alloc());
+    let written = match form {
+        Form::Text => write_stat(&mut text, &stat),
+        Form::Json => write_json(&mut text, &stat),
+    };
+    if written.is_err() {
+        return Ending::Memory;
+    }
+    match io::writer(rt).write_all(&text) {
+        Ok(()) => Ending::Told { status: 0 },
         Err(_) => Ending::WriteFault,
     }
 }

@@ -1,0 +1,113 @@
+-- The documents of the slot that counts, and why a file has none.
+use Rattle.std.proofs.Common.{◌≡◌, ◌<◌, ◌≤◌, ◌==◌, ◌||◌, not, ℕ, Bool, true, false, List, Option, Some, None, Result, Ok, Err, length, refl, sym, ap, ap₂, ◌∙◌, inl, inr, [], ◌∷◌, ◌++◌}
+use Rattle.std.specs.Prelude.{if◌then◌else◌, MatchOption, ◌⊎◌}
+use Rattle.std.specs.Option.{option_and_then, option_map, option_map_or}
+use Rattle.std.specs.FinMap.{from_entries}
+use Rattle.std.proofs.lemmas.Bool.{cond-true, cond-false, le-ltb, lt-ltb}
+use Rattle.geos_model.specs.Document.{Document}
+use Rattle.geos_model.specs.File.{Directory, blocks_of_entries, both, counting_slot, directory_of, document_at, document_of, open_slot, pair_of_counting, stands}
+use Rattle.geos_model.specs.declared.fault.Fault.{Fault}
+use Rattle.geos_model.specs.declared.fault.Fault.TheVariants.{NotDocument, Damaged}
+use Rattle.geos_model.specs.declared.file.Extent.{Extent}
+use Rattle.geos_model.specs.declared.file.Slot.{Slot}
+use Rattle.vm_file.specs.Calls.{IsResourceFault}
+use Rattle.vm_file.specs.Opened.{IsReadRefusal}
+use Rattle.file_report.specs.Checked.{header_verdict}
+use Rattle.document_stat.specs.Counted.{Blocks}
+use Rattle.vm_space.specs.Listed.{shown}
+use Rattle.document_stat.specs.Files.{IsChosen, IsCountingSlot, IsDocumentStat, IsSavedStat, extents_at, extents_of, extents_of_slot, extents_with, slots_extent}
+use Rattle.document_stat.specs.declared.counting.CountingSlot.{CountingSlot}
+use Rattle.document_stat.specs.declared.file_stat.DocumentStat.{DocumentStat}
+
+abbrev pub header_right : Result (Unit {0}) Fault
+header_right = Ok tt
+
+abbrev headed : {T : Type 0} → Bool → Bool → Bool → Result T Fault → Result T Fault
+headed a b c rest = if not a then Err NotDocument else if not b || c then Err Damaged else rest
+
+right_pair : {T : Type 0} (a b c : Bool) (rest : Result T Fault) → headed a b c header_right ≡ header_right → headed a b c rest ≡ rest
+right_pair false b c rest right = absurd (cc right)
+right_pair true false c rest right = absurd (cc right)
+right_pair true true true rest right = absurd (cc right)
+right_pair true true false rest right = refl
+
+wrong_pair : {T : Type 0} (a b c : Bool) (rest : Result T Fault) (fault : Fault) → headed a b c header_right ≡ Err fault → headed a b c rest ≡ Err fault
+wrong_pair false b c rest fault wrong = let same : NotDocument ≡ fault = cc wrong in ap Err same
+wrong_pair true false c rest fault wrong = let same : Damaged ≡ fault = cc wrong in ap Err same
+wrong_pair true true true rest fault wrong = let same : Damaged ≡ fault = cc wrong in ap Err same
+wrong_pair true true false rest fault wrong = absurd (cc wrong)
+
+abbrev pub documents_at : List ℕ → Slot → Result (Document × Document) Fault
+documents_at file s = both (document_at s.version file s.working) (document_at s.version file s.saved)
+
+stands_counting : (file : List ℕ) (counting : Result Slot Fault) → 1024 ≤ length file → counting_slot (open_slot file 0) (open_slot file 1) ≡ counting → stands file ≡ pair_of_counting file counting
+stands_counting file counting long is = cond-false _ _ _ (le-ltb (length file) 1024 long) ∙ ap (pair_of_counting file) is
+
+-- those of the slot that counts
+pub stands_chosen : (file : List ℕ) (s : Slot) → IsChosen file s → stands file ≡ documents_at file s
+stands_chosen file s is =
+    stands_counting file (Ok s) is.long is.counts ∙ right_pair (s.version == 1 || s.version == 2) (s.reserved == 0) (s.sequence == 0) (documents_at file s) is.right
+
+-- a file that is too short, in which no slot counts, or the one that does leads to none
+pub refused_short : (file : List ℕ) → length file < 1024 → stands file ≡ Err NotDocument
+refused_short file short = cond-true _ _ _ (lt-ltb (length file) 1024 short)
+
+pub refused_slots : (file : List ℕ) (fault : Fault) → 1024 ≤ length file → counting_slot (open_slot file 0) (open_slot file 1) ≡ Err fault → stands file ≡ Err fault
+refused_slots file fault long is = stands_counting file (Err fault) long is
+
+pub refused_header : (file : List ℕ) (s : Slot) (fault : Fault) → 1024 ≤ length file → counting_slot (open_slot file 0) (open_slot file 1) ≡ Ok s → header_verdict s ≡ Err fault → stands file ≡ Err fault
+refused_header file s fault long is wrong =
+    stands_counting file (Ok s) long is ∙ wrong_pair (s.version == 1 || s.version == 2) (s.reserved == 0) (s.sequence == 0) (documents_at file s) fault wrong
+
+first_none : (first second : Option Document) → first ≡ None → both first second ≡ Err Damaged
+first_none first second none = ap (λ (d : Option Document). both d second) none
+
+second_none : (first second : Option Document) → second ≡ None → both first second ≡ Err Damaged
+second_none None second none = refl
+second_none (Some d) second none = ap (both (Some d)) none
+
+pub refused_updated : (file : List ℕ) (s : Slot) → IsChosen file s → document_at s.version file s.working ≡ None → stands file ≡ Err Damaged
+refused_updated file s is none = stands_chosen file s is ∙ first_none _ (document_at s.version file s.saved) none
+
+pub refused_saved : (file : List ℕ) (s : Slot) → IsChosen file s → document_at s.version file s.saved ≡ None → stands file ≡ Err Damaged
+refused_saved file s is none = stands_chosen file s is ∙ second_none (document_at s.version file s.working) _ none
+
+-- the document of a directory
+pub document_there : (version : ℕ) (file : List ℕ) (e : Extent) (d : Directory) (document : Option Document) → directory_of version file e ≡ Some d → document_of file d ≡ document → document_at version file e ≡ document
+document_there version file e d document is there = ap (option_and_then (document_of file)) is ∙ there
+
+abbrev pub made_of : ℕ → Blocks → Document
+made_of map_block bs = record { blocks = from_entries bs; map_block = map_block }
+
+pub document_made : (file : List ℕ) (d : Directory) (bs : Blocks) → blocks_of_entries file d.entries ≡ Some bs → document_of file d ≡ Some (made_of d.map_block bs)
+document_made file d bs is = ap (option_map (made_of d.map_block)) is
+
+pub document_none : (file : List ℕ) (d : Directory) → blocks_of_entries file d.entries ≡ None → document_of file d ≡ None
+document_none file d is = ap (option_map (made_of d.map_block)) is
+
+-- What is told of them.
+
+pub chosen_from : (file : List ℕ) (first second : Option Slot) (result : Result Slot Fault) → first ≡ open_slot file 0 → second ≡ open_slot file 1 → result ≡ counting_slot first second → counting_slot (open_slot file 0) (open_slot file 1) ≡ result
+chosen_from file first second result one two is = sym (is ∙ ap₂ counting_slot one two)
+
+-- the saved document, told of or the updated one
+pub saved_there : (file : List ℕ) (s : Slot) (updated : Document) (stat : Option DocumentStat) → document_at s.version file s.working ≡ Some updated → IsSavedStat file s stat
+    → (d : Document) × (document_at s.version file s.saved ≡ Some d) × MatchOption stat (d ≡ updated) (IsDocumentStat d)
+saved_there file s updated None was same = (updated, ap (document_at s.version file) same ∙ was, refl)
+saved_there file s updated (Some x) was is = is
+
+extents_same : (version : ℕ) (file : List ℕ) (e : Extent) (d : Directory) → directory_of version file e ≡ Some d → extents_with e d.entries ≡ extents_at version file e
+extents_same version file e d is = sym (ap (λ (o : Option Directory). option_map_or (λ d. extents_with e d.entries) o []) is)
+
+pub extents_read : (file : List ℕ) (c : CountingSlot) → IsCountingSlot file c → extents_of_slot c ≡ extents_of file c.slot
+extents_read file c is =
+    ap₂ (λ (a b : List Extent). slots_extent ∷ a ++ b) (extents_same c.slot.version file c.slot.working (shown c.updated) is.updated) (extents_same c.slot.version file c.slot.saved (shown c.saved) is.saved)
+
+-- what a reading is refused for is what an opening answers, where damage makes an opening answer so
+pub refused_by : (file : List ℕ) (fault : Fault) → IsReadRefusal fault → (fault ≡ Damaged → stands file ≡ Err Damaged) → IsResourceFault fault ⊎ (stands file ≡ Err fault)
+refused_by file fault (inl resource) wrong = inl resource
+refused_by file fault (inr damaged) wrong = inr (wrong damaged ∙ ap Err (sym damaged))
+
+-- a directory that isn't there
+pub directory_none : (version : ℕ) (file : List ℕ) (e : Extent) → directory_of version file e ≡ None → document_at version file e ≡ None
+directory_none version file e none = ap (option_and_then (document_of file)) none

@@ -1,0 +1,5 @@
+pub mod Arrays
+pub mod Counted
+pub mod Files
+pub mod Pages
+pub mod Tallies
