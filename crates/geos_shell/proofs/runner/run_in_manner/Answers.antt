@@ -1,27 +1,29 @@
 use Rattle.std.proofs.Common.{◌<◌, length, take, arith, length-take, refl}
 use Rattle.std.proofs.KnownBytes.{Keeps-refl}
-use Rattle.std.proofs.lemmas.Result.{IfErr-weaker, err_from_is_err_and, on_ok_weaker}
+use Rattle.std.proofs.lemmas.Result.{IfErr-weaker, MatchResult-from_both, err_from_is_err_and, on_ok_weaker}
 use Rattle.geos_shell.specs.Holdings.{holding}
 use Rattle.geos_shell.specs.Progress.{moment}
 use Rattle.geos_shell.proofs.Runs.{Ran-none, Ran-kept, Ran-piece, AnswersFinished-now, AnswersSome-piece, AnswersSome-rest, AnswersUnsent-behind, AnswersAll-end, EndsBy-or, piece_answered, piece_stopped, rest_answered, rest_stopped}
-use Rattle.geos_shell.proofs.runner.run_in_reads.Goals as goal
-use Rattle.geos_shell.proofs.runner.run_in_reads.Goals.{in-Interrupted, in-Bytes+in_ok-send-in-Bytes}
+use Rattle.geos_shell.proofs.runner.run_in_manner.Goals as goal
+use Rattle.geos_shell.proofs.runner.run_in_manner.Goals.{in-Interrupted, in-Bytes+in_ok-send-in-Bytes}
 
 pub loop-init : goal.loop-init
 loop-init g c = λ exact.
-    Ran-none g.S.Store.facts _ _ (holding c.args.session.now c.args.target.now c.args.former.now) (record { begun = c.new.result; replies = c.new-2.result }) exact c.new.ensures.items c.new-2.ensures.items
+    Ran-none g.S.Store.facts c.args.manner _ _ (holding c.args.session.now c.args.target.now c.args.former.now) (record { begun = c.new.result; replies = c.new-2.result }) exact c.new.ensures.items c.new-2.ensures.items
 
 -- The reader failed.
-pub returns-in_err-read_piece-clause-err : goal.returns-in_err-read_piece-clause-err
-returns-in_err-read_piece-clause-err g c =
+pub returns-in_err-read_piece : goal.returns-in_err-read_piece
+returns-in_err-read_piece g c =
     let r = c.from_residual in
     let p = err_from_is_err_and r.result r.ensures.1 in
     let failed = c.in_err-read_piece.ensures.err in
     rw (p.1, p.2, failed.0) (λ exact. AnswersFinished-now (c.loop.invariant exact) _ failed.1)
 
--- The script ended, and so did the run.
-pub returns-in-End-clause-ok : goal.returns-in-End-clause-ok
-returns-in-End-clause-ok g c =
+-- The script ended, and so did the run, or its last line or the writer stopped it.
+pub returns-in-End : goal.returns-in-End
+returns-in-End g c =
+    let facts = g.S.Store.facts in
+    let manner = c.args.manner in
     let to = g.R.Read.remaining c.read_piece.new.reader in
     let out = g.W.Write.contents c.loop.writer in
     let after = g.W.Write.contents c.send.new.writer in
@@ -29,24 +31,16 @@ returns-in-End-clause-ok g c =
     let old = moment (holding c.loop.session c.loop.target c.loop.former) c.loop.answering in
     let done = c.end-ended in
     let new = moment (holding done.new.session done.new.target done.new.former) done.new.self in
-    on_ok_weaker c.send.result (λ sent exact. AnswersAll-end (c.loop.invariant exact) to after _ gives.0 gives.1 (rest_answered g.S.Store.facts old new done.result out after done.ensures.ok sent.0 sent.2)) c.send.ensures.ok
-
--- The script ended, and its last line or the writer stopped the run.
-pub returns-in-End-clause-err : goal.returns-in-End-clause-err
-returns-in-End-clause-err g c =
-    let to = g.R.Read.remaining c.read_piece.new.reader in
-    let out = g.W.Write.contents c.loop.writer in
-    let after = g.W.Write.contents c.send.new.writer in
-    let gives = rw c.in-End.is at c.in_ok-read_piece.ensures.ok in
-    let old = moment (holding c.loop.session c.loop.target c.loop.former) c.loop.answering in
-    let done = c.end-ended in
-    let new = moment (holding done.new.session done.new.target done.new.former) done.new.self in
-    IfErr-weaker c.send.result _ _ (λ fault stops exact.
-    EndsBy-or fault g.S.Store.facts _ _ to _ after new.holding (AnswersUnsent-behind (c.loop.invariant exact) to _ new.holding gives.0) (AnswersSome-rest (c.loop.invariant exact) to after new.holding gives.0) (rest_stopped g.S.Store.facts old new done.result out after fault done.ensures.ok done.ensures.err stops)) c.send.ensures.err
+    MatchResult-from_both c.send.result _ _
+    (on_ok_weaker c.send.result (λ sent exact. AnswersAll-end (c.loop.invariant exact) to after _ gives.0 gives.1 (rest_answered facts manner old new done.result out after done.ensures.ok sent.0 sent.2)) c.send.ensures.ok)
+    (IfErr-weaker c.send.result _ _ (λ fault stops exact.
+    EndsBy-or fault facts manner _ _ to _ after new.holding (AnswersUnsent-behind (c.loop.invariant exact) to _ new.holding gives.0) (AnswersSome-rest (c.loop.invariant exact) fault to after new.holding gives.0) (rest_stopped facts manner old new done.result out after fault done.ensures.ok done.ensures.err stops)) c.send.ensures.err)
 
 -- A piece or the writer stopped the run.
-pub returns-in_err-send-in-Bytes-clause-err : goal.returns-in_err-send-in-Bytes-clause-err
-returns-in_err-send-in-Bytes-clause-err g c =
+pub returns-in_err-send-in-Bytes : goal.returns-in_err-send-in-Bytes
+returns-in_err-send-in-Bytes g c =
+    let facts = g.S.Store.facts in
+    let manner = c.args.manner in
     let to = g.R.Read.remaining c.read_piece.new.reader in
     let out = g.W.Write.contents c.loop.writer in
     let after = g.W.Write.contents c.send-in-Bytes.new.writer in
@@ -60,7 +54,7 @@ returns-in_err-send-in-Bytes-clause-err g c =
     let r = c.from_residual-in_err-send-in-Bytes in
     let p = err_from_is_err_and r.result r.ensures.1 in
     rw (p.1, p.2) (λ exact.
-    EndsBy-or _ g.S.Store.facts _ _ to _ after new.holding (AnswersUnsent-behind (c.loop.invariant exact) to (take count piece) new.holding gives.2) (AnswersSome-piece (c.loop.invariant exact) to after (take count piece) new.holding some gives.2) (piece_stopped g.S.Store.facts old new done.result out after (take count piece) _ done.ensures.ok done.ensures.err c.in_err-send-in-Bytes.ensures.err))
+    EndsBy-or _ facts manner _ _ to _ after new.holding (AnswersUnsent-behind (c.loop.invariant exact) to (take count piece) new.holding gives.2) (AnswersSome-piece (c.loop.invariant exact) _ to after (take count piece) new.holding some gives.2) (piece_stopped facts manner old new done.result out after (take count piece) _ done.ensures.ok done.ensures.err c.in_err-send-in-Bytes.ensures.err))
 
 -- One more read.
 pub loop-preserved : goal.loop-preserved
@@ -77,9 +71,9 @@ loop-preserved g c =
           let sent = w.in_ok-send-in-Bytes.ensures.ok in
           let bytes = take w.in-Bytes.count c.read_piece.new.piece in
           rw (w.writer-is, w.answering-is, w.session-is, w.target-is, w.former-is) (λ exact.
-          Ran-piece (c.loop.invariant exact) _ _ bytes _ gives.2 (piece_answered g.S.Store.facts old new done.result _ _ bytes _ refl refl done.ensures.ok sent.0 sent.1 sent.2))
+          Ran-piece (c.loop.invariant exact) _ _ bytes _ gives.2 (piece_answered g.S.Store.facts c.args.manner old new done.result _ _ bytes _ refl refl done.ensures.ok sent.0 sent.1 sent.2))
     ]
 
 -- The reader did not end.
-pub returns-clause-err : goal.returns-clause-err
-returns-clause-err g c = λ exact. AnswersFinished-now (c.loop.invariant exact) _ (Keeps-refl _)
+pub returns : goal.returns
+returns g c = λ exact. AnswersFinished-now (c.loop.invariant exact) _ (Keeps-refl _)
