@@ -1,6 +1,6 @@
 -- A number that the program gave is always found, and is its file.
 use Rattle.std.proofs.Common.{◌≡◌, ℕ, ℤ, List, [], ◌∷◌, length, Result, Ok, Err, true, false, refl, sym, ap, ◌∙◌, ◌^◌, ◌-◌, arith, inl, inr}
-use Rattle.vm_store.specs.System.{AreInterrupted, GivesUpOn, IsInterruptedOften, IsNotOpenedOrLocked, IsOpenedAndLocked, Retries}
+use Rattle.vm_store.specs.System.{AreInterrupted, GivesUpOn, IsInterruptedOften, IsNotOpenedOrLocked, IsOpenedAndLocked}
 use Rattle.vm_store.specs.declared.system.SystemFault.{SystemFault}
 use Rattle.vm_store.specs.declared.system.SystemFault.TheVariants.{Interrupted, Failed}
 use Rattle.geos_c.specs.Stores.{FileStore, given_calls, store_on}

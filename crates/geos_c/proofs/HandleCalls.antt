@@ -1,5 +1,5 @@
 -- What a call on a handle comes to, from what was taken from it, what was done with that, and what was put back.
-use Rattle.std.proofs.Common.{◌≡◌, ◌<◌, ◌≤◌, ℕ, ℤ, List, Result, true, false, sym, subst, ap, ◌∙◌, arith, inl, inr}
+use Rattle.std.proofs.Common.{◌≡◌, ◌≤◌, ℕ, ℤ, List, Result, true, false, sym, subst, ap, ◌∙◌, arith, inl, inr}
 use Rattle.geos_model.specs.declared.fault.Fault.{Fault}
 use Rattle.undo_log.specs.Sessions.{SessionState}
 use Rattle.geos_c.specs.Codes.{Tells}

@@ -1,5 +1,5 @@
 -- The file behind a number that the program gave: of its store nothing is known, but how many calls have failed.
-use Rattle.std.specs.Prelude.{◌≡◌, ℤ, false, Result, Ok}
+use Rattle.std.specs.Prelude.{◌≡◌, ℤ, false, Ok}
 use Rattle.vm_store.specs.Facts.{StoreFacts}
 use Rattle.vm_store.specs.Host.{Host, host_facts}
 use Rattle.vm_store.specs.HostSystem.{host_system_facts}

@@ -1,5 +1,4 @@
 use Rattle.std.proofs.Common.{◌≡◌, ℤ, subst, to_z-of_z}
-use Rattle.geos_c.specs.declared.channel.ChannelFile.{ChannelFile}
 use Rattle.geos_c.proofs.Given.{is_file, is_store, never_refused}
 use Rattle.geos_c.proofs.channel.store.Goals as goal
 
