@@ -1,6 +1,6 @@
 /* Sessions from C: each call of geosvm.h once and more. Run it in an empty folder. */
 #define _GNU_SOURCE
-#include "geos_c/geosvm.h"
+#include "geosvm.h"
 #include <fcntl.h>
 #include <pthread.h>
 #include <stdio.h>
@@ -75,14 +75,20 @@ static void edits(geosvm_session *s) {
   TELL(geosvm_undo(s));
   show(s, "vread 0002");
   puts("-- locks");
+  uint8_t count = 77;
   TELL(geosvm_lock(s, 2));
   TELL(geosvm_lock(s, 2));
-  show(s, "locks 0002");
+  TELL(geosvm_locks(s, 2, &count));
+  printf("locked %d times\n", count);
+  TELL(geosvm_dirty(s, 2));
   TELL(geosvm_undo(s));
   TELL(geosvm_unlock(s, 2));
   TELL(geosvm_unlock(s, 2));
   TELL(geosvm_unlock(s, 2));
+  TELL(geosvm_dirty(s, 2));
   TELL(geosvm_lock(s, 9));
+  TELL(geosvm_locks(s, 9, &count));
+  printf("locked %d times\n", count);
 }
 
 static void commits(geosvm_session *s, int fd) {
@@ -98,6 +104,31 @@ static void commits(geosvm_session *s, int fd) {
   TELL(geosvm_close(s));
   TELL(geosvm_open(s, fd, 8));
   show(s, "vread 0001");
+}
+
+/* Saves into another file, undoes there, and opens the one that was left. */
+static void another_file(geosvm_session *s, int fd) {
+  geosvm_session left = GEOSVM_CLOSED;
+  int other = file("other.document");
+  puts("-- another file");
+  show(s, "vwrite 0001 0 0304");
+  TELL(geosvm_save_as(s, -7));
+  TELL(geosvm_save_as(s, other));
+  TELL(geosvm_open(&left, fd, 8));
+  show(&left, "vread 0001");
+  show(s, "vread 0001");
+  TELL(geosvm_undo(s));
+  show(s, "vread 0001");
+  TELL(geosvm_update(s));
+  TELL(geosvm_revert(s));
+  show(s, "vread 0001");
+  TELL(geosvm_close(&left));
+  TELL(geosvm_begin(s));
+  TELL(geosvm_save_as(s, fd));
+  TELL(geosvm_close(s));
+  TELL(geosvm_save_as(s, fd));
+  TELL(geosvm_open(s, fd, 8));
+  close(other);
 }
 
 static void refusals(geosvm_session *s, int fd) {
@@ -174,6 +205,7 @@ int main(void) {
   TELL(geosvm_create(&s, fd, 8));
   edits(&s);
   commits(&s, fd);
+  another_file(&s, fd);
   refusals(&s, fd);
   longest(&s);
   geosvm_session moved = s; /* moved, and the old place forgotten */

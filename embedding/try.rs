@@ -11,8 +11,8 @@ struct Raw {
 }
 
 unsafe extern "C" {
-    fn geosvm_open(s: *mut Raw, descriptor: i32, frames: usize) -> i32;
-    fn geosvm_create(s: *mut Raw, descriptor: i32, frames: usize) -> i32;
+    fn geosvm_open(s: *mut Raw, number: i32, frames: usize) -> i32;
+    fn geosvm_create(s: *mut Raw, number: i32, frames: usize) -> i32;
     fn geosvm_close(s: *mut Raw) -> i32;
     fn geosvm_command(s: *mut Raw, line: *const u8, size: usize, reply: *mut u8, room: usize, length: *mut usize) -> i32;
     fn geosvm_undo(s: *mut Raw) -> i32;

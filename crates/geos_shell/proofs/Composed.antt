@@ -1,5 +1,5 @@
 -- Runs compose.
-use Rattle.std.proofs.Common.{◌≡◌, ◌⊎◌, ℕ, ◌+◌, List, [], ◌∷◌, ◌++◌, Bool, true, false, subst, refl, sym, ◌∙◌, cond, arith, inl, inr, append-nil}
+use Rattle.std.proofs.Common.{◌≡◌, ◌⊎◌, ℕ, ◌+◌, List, [], ◌∷◌, ◌++◌, Bool, true, false, subst, refl, sym, ap, ◌∙◌, cond, arith, inl, inr, append-nil}
 use Rattle.std.specs.Prelude.{filter, map}
 use Rattle.std.proofs.lemmas.List.{map-append}
 use Rattle.std.proofs.lemmas.List.Elements.{filter-append}
@@ -14,7 +14,7 @@ use Rattle.geos_shell.specs.Holdings.{AreExact, Holding, ServesRequest, Serving,
 use Rattle.geos_shell.specs.Runs.{AddsNoPair, AfterFailures, AnswersOf, CountsFailures}
 use Rattle.geos_shell.proofs.Failures.{after_serves}
 
-Run-append : (old mid new : Machine) (xs ys : List Call) → Run old xs mid → Run mid ys new → Run old (xs ++ ys) new
+pub Run-append : (old mid new : Machine) (xs ys : List Call) → Run old xs mid → Run mid ys new → Run old (xs ++ ys) new
 Run-append old mid new [] ys p q = subst (λ m. Run m ys new) p q
 Run-append old mid new (x ∷ xs) ys p q = (p.0, p.1, Run-append p.0 mid new xs ys p.2 q)
 
@@ -35,12 +35,12 @@ same_or_none (inl before) (inl same) = inl (same ∙ before)
 same_or_none (inr gone) (inl same) = inr (same ∙ gone)
 
 -- in so many of one call a store failed
-once : (failed : Bool) → 0 + cond failed 1 0 ≡ cond failed 1 0
+pub once : (failed : Bool) → 0 + cond failed 1 0 ≡ cond failed 1 0
 once true = refl
 once false = refl
 
 module _ {S : Type 0} (facts : S → StoreFacts) where
-  Serving-append : (old mid new : Holding S) (xs ys : List Call) → Serving facts old xs mid → Serving facts mid ys new → Serving facts old (xs ++ ys) new
+  pub Serving-append : (old mid new : Holding S) (xs ys : List Call) → Serving facts old xs mid → Serving facts mid ys new → Serving facts old (xs ++ ys) new
   Serving-append old mid new [] ys p q = subst (λ h. Serving facts h ys new) p q
   Serving-append old mid new (x ∷ xs) ys p q = (p.0, p.1, p.2, Serving-append p.0 mid new xs ys p.3 q)
 
@@ -54,24 +54,30 @@ module _ {S : Type 0} (facts : S → StoreFacts) where
   Adds-append old mid new m n p q none = same_or_none (p (omega (arith, none))) (q (omega (arith, none)))
 
   -- where nothing is called
-  AfterFailures-none : (h : Holding S) → AfterFailures facts h 0 h
+  pub AfterFailures-none : (h : Holding S) → AfterFailures facts h 0 h
   AfterFailures-none h = record { counted = λ none. (none, omega arith); adds = λ _. inl refl }
 
-  AfterFailures-append : (old mid new : Holding S) (m n : ℕ) → AfterFailures facts old m mid → AfterFailures facts mid n new → AfterFailures facts old (m + n) new
+  pub AfterFailures-append : (old mid new : Holding S) (m n : ℕ) → AfterFailures facts old m mid → AfterFailures facts mid n new → AfterFailures facts old (m + n) new
   AfterFailures-append old mid new m n p q =
       record { counted = Counts-append old mid new m n p.counted q.counted; adds = Adds-append old mid new m n p.adds q.adds }
 
   -- where nothing that gets a reply is asked
-  pub AnswersOf-unasked : (h : Holding S) (asked : List Request) → filter gets_reply asked ≡ [] → AreExact facts h → AnswersOf facts h asked [] h
-  AnswersOf-unasked h asked none exact =
-      record { exact = exact; failed = 0; answered = record { calls = []; asks = sym none; run = refl; text = refl; fails = refl }; serving = refl; stores = AfterFailures-none h }
+  abbrev pub AnswersOf-unasked : (old new : Holding S) (asked : List Request) → filter gets_reply asked ≡ [] → new ≡ old → AreExact facts old → AnswersOf facts old asked [] new
+  AnswersOf-unasked old new asked none same exact =
+      record {
+        exact = subst (AreExact facts) (sym same) exact;
+        failed = 0;
+        answered = record { calls = []; asks = sym none; run = ap machine same; text = refl; fails = refl };
+        serving = same;
+        stores = subst (AfterFailures facts old 0) (sym same) (AfterFailures-none old);
+      }
 
   -- where nothing is asked
-  pub AnswersOf-none : (h : Holding S) → AreExact facts h → AnswersOf facts h [] [] h
-  AnswersOf-none h exact = AnswersOf-unasked h [] refl exact
+  abbrev pub AnswersOf-none : (h : Holding S) → AreExact facts h → AnswersOf facts h [] [] h
+  AnswersOf-none h exact = AnswersOf-unasked h h [] refl refl exact
 
   -- one request that is served
-  pub AnswersOf-one : (old new : Holding S) (request : Request) (reply : Reply) → gets_reply request ≡ true → AreExact facts old → ServesRequest facts old request reply new
+  abbrev pub AnswersOf-one : (old new : Holding S) (request : Request) (reply : Reply) → gets_reply request ≡ true → AreExact facts old → ServesRequest facts old request reply new
       → AnswersOf facts old (request ∷ []) (reply_line reply) new
   AnswersOf-one old new request reply asks exact serves =
       let failed = failed_since_in facts old new in
@@ -90,7 +96,7 @@ module _ {S : Type 0} (facts : S → StoreFacts) where
         stores = after_serves facts old new request reply exact serves;
       }
 
-pub AnswersOf-append : {S : Type 0} {facts : S → StoreFacts} {old mid new : Holding S} {xs ys : List Request} {ws vs : List ℕ}
+abbrev pub AnswersOf-append : {S : Type 0} {facts : S → StoreFacts} {old mid new : Holding S} {xs ys : List Request} {ws vs : List ℕ}
     → AnswersOf facts old xs ws mid → AnswersOf facts mid ys vs new → AnswersOf facts old (xs ++ ys) (ws ++ vs) new
 AnswersOf-append {S} {facts} {old} {mid} {new} p q =
     record {
@@ -99,4 +105,21 @@ AnswersOf-append {S} {facts} {old} {mid} {new} p q =
       answered = Answered-append p.answered q.answered;
       serving = Serving-append facts old mid new p.answered.calls q.answered.calls p.serving q.serving;
       stores = AfterFailures-append facts old mid new p.failed q.failed p.stores q.stores;
+    }
+
+-- the same is asked
+abbrev pub AnswersOf-asked : {S : Type 0} {facts : S → StoreFacts} {old new : Holding S} {xs ys : List Request} {ws : List ℕ} → ys ≡ xs → AnswersOf facts old xs ws new → AnswersOf facts old ys ws new
+AnswersOf-asked same p =
+    record {
+      exact = p.exact;
+      failed = p.failed;
+      answered = record {
+        calls = p.answered.calls;
+        asks = p.answered.asks ∙ ap (filter gets_reply) (sym same);
+        run = p.answered.run;
+        text = p.answered.text;
+        fails = p.answered.fails;
+      };
+      serving = p.serving;
+      stores = p.stores;
     }

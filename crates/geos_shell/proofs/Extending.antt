@@ -1,5 +1,5 @@
 -- Bytes that stay while more are put behind them.
-use Rattle.std.proofs.Common.{◌≡◌, ℕ, List, ◌++◌, ◌≤◌, length, take, drop, refl, arith, sym, ap, ◌∙◌, append_assoc, length-append}
+use Rattle.std.proofs.Common.{◌≡◌, ℕ, List, ◌++◌, ◌≤◌, length, take, drop, refl, arith, sym, ap, ◌∙◌, append_assoc, length-append, length-take}
 use Rattle.std.proofs.lemmas.List.{take_at, take-append-le, take-append-drop}
 use Rattle.geos_shell.specs.Replies.{Extends}
 
@@ -9,6 +9,10 @@ front_of_front old mid new le front further =
     let rest = drop (length mid) new in
     let whole : mid ++ rest ≡ new = ap (λ (l : List ℕ). l ++ rest) (sym further) ∙ take-append-drop (length mid) new in
     ap (take (length old)) (sym whole) ∙ take-append-le (length old) mid rest le ∙ front
+
+-- what was there is no longer
+pub Extends-length : (old new : List ℕ) → Extends old new → length old ≤ length new
+Extends-length old new e = omega (arith, ap length e, length-take (length old) new)
 
 -- more behind it, and then a call that failed
 pub extends_further : (old mid new more : List ℕ) → mid ≡ old ++ more → Extends mid new → Extends old new

@@ -1,41 +1,55 @@
--- What a line that is answered, or finds no memory, makes of a run.
+-- What a line that is answered, or stops a run, makes of it.
 use Rattle.std.proofs.Common.{◌≡◌, ℕ, ◌<◌, List, [], ◌∷◌, ◌++◌, length, append_assoc, subst}
-use Rattle.geos_model.specs.Script.{command, lines, requests}
+use Rattle.std.proofs.lemmas.List.{nil_from_length}
+use Rattle.geos_model.specs.Script.{lines}
 use Rattle.vm_store.specs.Facts.{StoreFacts}
-use Rattle.geos_shell.specs.Holdings.{AreExact, Holding, MayServe}
-use Rattle.geos_shell.specs.Replies.{Responds}
-use Rattle.geos_shell.specs.Runs.{AnswersOf}
-use Rattle.geos_shell.specs.Progress.{HasNoFeed, Progress, StandsFor, StopsAt}
-use Rattle.geos_shell.proofs.Replying.{answered}
-use Rattle.geos_shell.proofs.Steps.{Answered-last, Progress-line, Progress-some, StopsAt-last, StopsAt-line}
+use Rattle.geos_shell.specs.Holdings.{AreExact, Holding}
+use Rattle.geos_shell.specs.Runs.{AnswersLines, StopsBy}
+use Rattle.geos_shell.specs.Progress.{HasNoFeed, IsAnswered, IsStopped, Progress, StandsFor}
+use Rattle.geos_shell.specs.declared.runner.RunFault.{RunFault}
+use Rattle.geos_shell.specs.declared.runner.RunFault.TheVariants as faults
+use Rattle.geos_shell.specs.declared.settings.Manner.{Manner}
+use Rattle.geos_shell.proofs.Steps.{Answered-last, Progress-feed, Progress-part, Progress-some, Refused-feed, Refused-last, StopsBy-feed, StopsBy-last}
 
-module _ {S : Type 0} (facts : S → StoreFacts) (start now new : Holding S) (read kept sent old replies : List ℕ) where
+module _ {S : Type 0} (facts : S → StoreFacts) (manner : Manner) (start now new : Holding S) (read kept sent old replies : List ℕ) where
   -- a whole line, whose front may have been kept before, and which the bytes in full stand for
   pub line_answered : (tail full rest : List ℕ) → StandsFor (kept ++ tail) full → length rest ≡ 0 → HasNoFeed tail
-      → (AreExact facts now → Responds facts now (command full) new old replies)
-      → Progress facts start read (sent ++ old) now kept → Progress facts start (read ++ (tail ++ 10 ∷ [])) (sent ++ replies) new rest
-  line_answered tail full rest stands none free responds p =
-      let h = answered facts now new (command full) old replies p.run.exact (responds p.run.exact) in
-      Progress-line sent old tail full replies rest stands h.1 h.2 none free p
+      → (AreExact facts now → IsAnswered facts manner now full new old replies)
+      → Progress facts manner start read (sent ++ old) now kept → Progress facts manner start (read ++ (tail ++ 10 ∷ [])) (sent ++ replies) new rest
+  line_answered tail full rest stands none free answers p =
+      let (written, answered, grown) = answers p.run.answers.exact in
+      rw (nil_from_length rest none, grown, ← append_assoc sent old written, ← append_assoc read tail (10 ∷ [])) (Progress-feed (Progress-part p tail full free stands) answered)
 
-  -- such a line, which finds no memory
-  pub line_stopped : (tail full rest : List ℕ) → StandsFor (kept ++ tail) full → HasNoFeed tail
-      → (AreExact facts now → MayServe facts now (command full) new) → replies ≡ old
-      → Progress facts start read (sent ++ old) now kept → StopsAt facts start (read ++ (tail ++ 10 ∷ rest)) (sent ++ replies) new
-  line_stopped tail full rest stands free may same p =
-      rw same (StopsAt-line (sent ++ old) tail full rest stands (may p.run.exact) free p)
+  -- such a line, in which the run stops
+  pub line_stopped : (fault : RunFault) (tail full rest : List ℕ) → StandsFor (kept ++ tail) full → HasNoFeed tail
+      → (AreExact facts now → IsStopped fault facts manner now full new old replies)
+      → Progress facts manner start read (sent ++ old) now kept → StopsBy fault facts manner start (read ++ (tail ++ 10 ∷ rest)) (sent ++ replies) new
+  line_stopped faults.Memory tail full rest stands free stops p =
+      let (may, same) = stops p.run.answers.exact in
+      rw (same, ← append_assoc read tail (10 ∷ rest)) (StopsBy-feed (Progress-part p tail full free stands) rest may)
+  line_stopped faults.Refused tail full rest stands free stops p =
+      let (bails, (written, refused, grown)) = stops p.run.answers.exact in
+      (bails, rw (grown, ← append_assoc sent old written, ← append_assoc read tail (10 ∷ rest)) (Refused-feed (Progress-part p tail full free stands) rest refused))
+  line_stopped faults.Read tail full rest stands free stops p = absurd (stops p.run.answers.exact)
+  line_stopped faults.Write tail full rest stands free stops p = absurd (stops p.run.answers.exact)
 
   -- the last line, of which all is kept
-  pub last_answered : (line : List ℕ) → line ≡ kept → 0 < length kept → (AreExact facts now → Responds facts now (command line) new old replies)
-      → Progress facts start read (sent ++ old) now kept → AnswersOf facts start (requests (lines read)) (sent ++ replies) new
-  last_answered line is some responds p =
-      let at_kept = subst (λ (l : List ℕ). Responds facts now (command l) new old replies) is (responds p.run.exact) in
-      let h = answered facts now new (command kept) old replies p.run.exact at_kept in
-      rw (h.2, ← append_assoc sent old h.0) (Answered-last p h.0 some h.1)
+  pub last_answered : (line : List ℕ) → line ≡ kept → 0 < length kept → (AreExact facts now → IsAnswered facts manner now line new old replies)
+      → Progress facts manner start read (sent ++ old) now kept → AnswersLines facts manner start (lines read) (sent ++ replies) new
+  last_answered line is some answers p =
+      let (written, answered, grown) = subst (λ (l : List ℕ). IsAnswered facts manner now l new old replies) is (answers p.run.answers.exact) in
+      rw (grown, ← append_assoc sent old written) (Answered-last p some answered)
 
-  -- that line, which finds no memory
-  pub last_stopped : (line : List ℕ) → line ≡ kept → 0 < length kept → (AreExact facts now → MayServe facts now (command line) new) → replies ≡ old
-      → Progress facts start read (sent ++ old) now kept → (0 < length read) × StopsAt facts start read (sent ++ replies) new
-  last_stopped line is some may same p =
-      let at_kept = subst (λ (l : List ℕ). MayServe facts now (command l) new) is (may p.run.exact) in
-      rw same (Progress-some p some, StopsAt-last p some at_kept)
+  -- that line, in which the run stops
+  pub last_stopped : (fault : RunFault) (line : List ℕ) → line ≡ kept → 0 < length kept → (AreExact facts now → IsStopped fault facts manner now line new old replies)
+      → Progress facts manner start read (sent ++ old) now kept → (0 < length read) × StopsBy fault facts manner start read (sent ++ replies) new
+  last_stopped fault line is some stops p =
+      (Progress-some p some, by fault (subst (λ (l : List ℕ). IsStopped fault facts manner now l new old replies) is (stops p.run.answers.exact)))
+    where
+      by : (fault : RunFault) → IsStopped fault facts manner now kept new old replies → StopsBy fault facts manner start read (sent ++ replies) new
+      by faults.Memory at = rw at.1 (StopsBy-last p some at.0)
+      by faults.Refused at =
+          let (written, refused, grown) = at.1 in
+          (at.0, rw (grown, ← append_assoc sent old written) (Refused-last p some refused))
+      by faults.Read at = absurd at
+      by faults.Write at = absurd at

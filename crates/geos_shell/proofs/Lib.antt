@@ -8,6 +8,7 @@ pub mod Failures
 pub mod Lasting
 pub mod Lines
 pub mod LookUps
+pub mod Manners
 pub mod Matched
 pub mod Names
 pub mod NewFlag

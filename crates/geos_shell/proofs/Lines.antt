@@ -1,8 +1,9 @@
 -- Lemmas on the lines of bytes, and on lines that are too long.
 use Rattle.std.proofs.Common.{◌≡◌, ℕ, ◌+◌, ◌<◌, ◌≤◌, min, Bool, true, false, cond, ◌==◌, List, [], ◌∷◌, ◌++◌, length, slice_index, take, refl, sym, ap, ◌∙◌, arith, length-append, length-take, suc, inl, inr, drop}
-use Rattle.std.proofs.lemmas.List.{take_all, get_or-take, append_assoc, nil_from_length, drop_more, take-append-drop}
+use Rattle.std.proofs.lemmas.List.{take_all, take-take, take-append-le, get_or-take, append_assoc, nil_from_length, drop_more, take-append-drop}
 use Rattle.std.proofs.lemmas.Bool.{cases_lt, eqb-true}
 use Rattle.geos_model.specs.Script.{lines, begin_line, finished_lines, command}
+use Rattle.geos_shell.specs.Manners.{longest_kept}
 use Rattle.geos_shell.specs.Progress.{HasNoFeed, StandsFor}
 use Rattle.geos_shell.proofs.Words.{command-long}
 
@@ -62,46 +63,64 @@ HasNoFeed-before xs end h before =
     let low : k < end = omega (arith, length-take end xs) in
     before k low (rw (get_or-take end xs k 0 low) at is))
 
--- bytes that are kept in full stand for themselves
-pub StandsFor-same : (bytes : List ℕ) → StandsFor bytes bytes
-StandsFor-same bytes = record { same_command = λ more. refl; same_emptiness = (λ e. e, λ e. e) }
+-- ---- what stands for a line
+
+pub longest_kept-is : longest_kept ≡ 140001
+unfolding longest_kept
+longest_kept-is = refl
+
+-- a command has no more bytes than are kept
+command-front : (line : List ℕ) → command (take longest_kept line) ≡ command line
+command-front line =
+    elim (cases_lt 140000 (length line)) [
+      | inl long ↦ command-long (take longest_kept line) (omega (arith, longest_kept-is, length-take longest_kept line)) ∙ sym (command-long line long)
+      | inr short ↦ ap command (take_all longest_kept line (omega (arith, longest_kept-is)))
+    ]
+
+-- the front of more than a line is that of more than its front
+front-append : (line more : List ℕ) → take longest_kept (take longest_kept line ++ more) ≡ take longest_kept (line ++ more)
+front-append line more =
+    elim (cases_lt longest_kept (length line)) [
+      | inl long ↦
+          let full : longest_kept ≤ length (take longest_kept line) = omega (arith, length-take longest_kept line) in
+          take-append-le longest_kept (take longest_kept line) more full ∙ take-take longest_kept longest_kept line (omega arith) ∙ sym (take-append-le longest_kept line more (omega arith))
+      | inr short ↦ ap (λ l. take longest_kept (l ++ more)) (take_all longest_kept line (omega arith))
+    ]
+
+-- what stands for a line is the same command
+pub StandsFor-command : (begun kept : List ℕ) → StandsFor begun kept → command kept ≡ command begun
+StandsFor-command begun kept h = sym (command-front kept) ∙ ap command h ∙ command-front begun
+
+StandsFor-lengths : (begun kept : List ℕ) → StandsFor begun kept → min longest_kept (length kept) ≡ min longest_kept (length begun)
+StandsFor-lengths begun kept h = sym (length-take longest_kept kept) ∙ ap length h ∙ length-take longest_kept begun
+
+-- and is there where that is
+pub StandsFor-some : (begun kept : List ℕ) → StandsFor begun kept → 0 < length kept → 0 < length begun
+StandsFor-some begun kept h some = omega (arith, longest_kept-is, StandsFor-lengths begun kept h)
+
+pub StandsFor-none : (begun kept : List ℕ) → StandsFor begun kept → length kept ≡ 0 → begun ≡ []
+StandsFor-none begun kept h none = nil_from_length begun (omega (arith, longest_kept-is, StandsFor-lengths begun kept h))
 
 -- where nothing was kept, a line stands for itself
 pub StandsFor-whole : (kept tail : List ℕ) → length kept ≡ 0 → StandsFor (kept ++ tail) tail
-StandsFor-whole kept tail none = rw (nil_from_length kept none) (StandsFor-same tail)
-
--- and two lines that are too long are both no command
-pub StandsFor-long : (begun kept : List ℕ) → 140000 < length begun → 140000 < length kept → StandsFor begun kept
-StandsFor-long begun kept h k =
-    record {
-      same_command = λ more.
-          command-long (kept ++ more) (omega (arith, length-append kept more)) ∙ sym (command-long (begun ++ more) (omega (arith, length-append begun more)));
-      same_emptiness = (λ e. absurd (omega arith), λ e. absurd (omega arith));
-    }
+StandsFor-whole kept tail none = rw (nil_from_length kept none) refl
 
 -- what is kept of a line that grows stands for it
 pub StandsFor-front : (old part : List ℕ) (room most : ℕ) → 140000 < length old + room → most ≡ min (length part) room → StandsFor (old ++ part) (old ++ take most part)
 StandsFor-front old part room most wide e =
     elim (cases_lt room (length part)) [
-      | inl long ↦ StandsFor-long (old ++ part) (old ++ take most part) (omega (arith, length-append old part)) (omega (arith, length-append old (take most part), length-take most part))
-      | inr short ↦
-          let same : take most part ≡ part = take_all most part (omega arith) in
-          rw same (StandsFor-same (old ++ part))
+      | inl long ↦
+          let front = old ++ take most part in
+          let full : longest_kept ≤ length front = omega (arith, longest_kept-is, length-append old (take most part), length-take most part) in
+          let whole : front ++ drop most part ≡ old ++ part = append_assoc old (take most part) (drop most part) ∙ ap (λ l. old ++ l) (take-append-drop most part) in
+          sym (take-append-le longest_kept front (drop most part) full) ∙ ap (take longest_kept) whole
+      | inr short ↦ ap (λ l. take longest_kept (old ++ l)) (take_all most part (omega arith))
     ]
 
 -- what stands for the front of a line stands for it as it grows alike
 pub StandsFor-trans : (begun kept part new : List ℕ) → StandsFor begun kept → StandsFor (kept ++ part) new → StandsFor (begun ++ part) new
 StandsFor-trans begun kept part new p q =
-    record {
-      same_command = λ more. q.same_command more ∙ ap command (append_assoc kept part more) ∙ p.same_command (part ++ more) ∙ sym (ap command (append_assoc begun part more));
-      same_emptiness = (
-        λ e. let none : length (kept ++ part) ≡ 0 = q.same_emptiness.0 e in
-            let first : length begun ≡ 0 = p.same_emptiness.0 (omega (arith, length-append kept part)) in
-            omega (arith, length-append begun part, length-append kept part),
-        λ e. let first : length kept ≡ 0 = p.same_emptiness.1 (omega (arith, length-append begun part)) in
-            q.same_emptiness.1 (omega (arith, length-append begun part, length-append kept part)),
-      );
-    }
+    q ∙ sym (front-append kept part) ∙ ap (λ l. take longest_kept (l ++ part)) p ∙ front-append begun part
 
 -- bytes, cut before a line feed
 pub rest_at_feed : (bytes : List ℕ) (end : ℕ) → end < length bytes → slice_index bytes end == 10 ≡ true → bytes ≡ take end bytes ++ 10 ∷ drop (end + 1) bytes

@@ -1,20 +1,22 @@
 -- What a match of the program's command line gives.
-use Rattle.std.proofs.Common.{zero, suc, ◌||◌, not, ◌≡◌, ◌∙◌, ◌<◌, ◌≤◌, ap, map, ℕ, Bool, true, false, List, [], ◌∷◌, length, is_some, Option, Some, None, refl, sym, subst, inl, inr, arith, codes, pos, slice_index}
+use Rattle.std.proofs.Common.{zero, suc, ◌&&◌, not, ◌≡◌, ◌∙◌, ◌<◌, ◌≤◌, ap, map, ℕ, Bool, true, false, List, [], ◌∷◌, length, is_some, Option, Some, None, refl, sym, subst, inl, inr, arith, codes, pos}
 use Rattle.std.specs.List.{All, slice_index_or}
 use Rattle.std.specs.Str.{bytes_eq}
 use Rattle.std.specs.Prelude.{option_map, slice_get, unwrap_or}
 use Rattle.std.specs.Borrow.{Bor}
 use Rattle.std.proofs.lemmas.Bool.{eqb-true}
+use Rattle.std.proofs.lemmas.List.{get_or-map, length-map}
+use Rattle.std.proofs.lemmas.List.Sums.{AllPass-from_list_all}
 use Rattle.std.proofs.lemmas.Slice.Eq.{bytes_eq-Decides}
 use Rattle.std.proofs.lemmas.List.Elements.{All-get_or}
-use Rattle.clap.specs.Lexer.{without_minus}
 use Rattle.clap.specs.Facts.{args_of, groups_of, Entry, EntryPasses, ValuesPass, PassesArg, HasReading, least_values, parser_of, parser_of_value, unwrap_or_range}
 use Rattle.clap.specs.Built.{IsPlain, IsPlainArg, IsParsedFrom, IsAuto, SameRules}
 use Rattle.clap.specs.Matches.{matched_of, first_value, one_text, found_of}
 use Rattle.clap.specs.Simple.{App, app_of, has_plain_fields}
 use Rattle.clap.specs.Walk.{Rule, is_empty, is_free_arg, is_simple_arg, rule_of}
 use Rattle.clap.specs.declared.parser.matches.Found.{Found}
-use Rattle.clap.specs.Values.{Accepts, IsSignedIn, read_as, reading_of}
+use Rattle.clap.specs.Values.{Accepts, read_as, reading_of}
+use Rattle.clap.specs.declared.builder.action.ArgAction.TheVariants.{Set}
 use Rattle.clap.specs.declared.builder.value_parser.Reading.{Reading}
 use Rattle.clap.proofs.CallerLemmas.{entry_by_id, required_has_value, same_rules_by_id}
 use Rattle.clap.proofs.WalkLemmas.{both}
@@ -26,7 +28,7 @@ use Rattle.clap.specs.declared.builder.value_parser.ValueParser.{ValueParser}
 use Rattle.clap.specs.declared.builder.value_parser.ValueParser.TheVariants as parsers
 use Rattle.clap.specs.declared.parser.matches.ArgMatches.{ArgMatches}
 use Rattle.clap.specs.declared.parser.matches.MatchedArg.{MatchedArg}
-use Rattle.geos_shell.specs.Options.{IsMatched, as_option, cache_option, file_operand, geosvm, new_flag}
+use Rattle.geos_shell.specs.Options.{IsFlag, IsMatched, as_option, cache_option, file_operand, flag, geosvm}
 
 -- ---- the arguments of a command with these rules
 
@@ -53,44 +55,10 @@ plain a s f =
     let conflicts = both _ _ exclusive.1 in
     (not_so _ exclusive.0, nothing _ conflicts.0, nothing _ overrides.0, nothing _ groups.0)
 
-record Four (xs : List Arg) : Type 0 where
-  flag : Arg
-  cache : Arg
-  target : Arg
-  file : Arg
-  list : xs ≡ flag ∷ cache ∷ target ∷ file ∷ []
-  is_flag : rule_of flag ≡ new_flag
-  is_cache : rule_of cache ≡ cache_option
-  is_target : rule_of target ≡ as_option
-  is_file : rule_of file ≡ file_operand
-
-four : (xs : List Arg) → map rule_of xs ≡ new_flag ∷ cache_option ∷ as_option ∷ file_operand ∷ [] → Four xs
-four [] e = absurd (omega (arith, ap length e))
-four (a ∷ []) e = absurd (omega (arith, ap length e))
-four (a ∷ b ∷ []) e = absurd (omega (arith, ap length e))
-four (a ∷ b ∷ c ∷ []) e = absurd (omega (arith, ap length e))
-four (a ∷ b ∷ c ∷ d ∷ []) e = record {
-  flag = a;
-  cache = b;
-  target = c;
-  file = d;
-  list = refl;
-  is_flag = ap (λ (l : List Rule). slice_index_or l 0 new_flag) e;
-  is_cache = ap (λ (l : List Rule). slice_index_or l 1 new_flag) e;
-  is_target = ap (λ (l : List Rule). slice_index_or l 2 new_flag) e;
-  is_file = ap (λ (l : List Rule). slice_index_or l 3 new_flag) e;
-}
-four (a ∷ b ∷ c ∷ d ∷ x ∷ xs) e = absurd (omega (arith, ap length e))
-
-rule_plain : (a : Arg) (r : Rule) → rule_of a ≡ r → r.is_simple ≡ true → r.is_free ≡ true → IsPlainArg a
-rule_plain a r e simple free = plain a (ap (λ (x : Rule). x.is_simple) e ∙ simple) (ap (λ (x : Rule). x.is_free) e ∙ free)
-
-all_plain : (a b c d : Arg) → IsPlainArg a → IsPlainArg b → IsPlainArg c → IsPlainArg d → All IsPlainArg (a ∷ b ∷ c ∷ d ∷ [])
-all_plain a b c d p q r s zero e lt = p
-all_plain a b c d p q r s (suc zero) e lt = q
-all_plain a b c d p q r s (suc (suc zero)) e lt = r
-all_plain a b c d p q r s (suc (suc (suc zero))) e lt = s
-all_plain a b c d p q r s (suc (suc (suc (suc k)))) e lt = absurd (omega arith)
+rule_plain : (a : Arg) (r : Rule) → rule_of a ≡ r → (r.is_simple && r.is_free) ≡ true → IsPlainArg a
+rule_plain a r e tests =
+    let parts = both r.is_simple r.is_free tests in
+    plain a (ap (λ (x : Rule). x.is_simple) e ∙ parts.0) (ap (λ (x : Rule). x.is_free) e ∙ parts.1)
 
 -- ---- what is read of an argument of the caller's that has a value
 
@@ -220,67 +188,60 @@ reads old m p plain globals k d lt unique named own q parser t is =
 
 -- ---- the command line's own
 
-abbrev ids : List (List ℕ)
-ids = codes "new" ∷ codes "cache" ∷ codes "as" ∷ codes "file" ∷ []
+abbrev rules : List Rule
+rules = flag (codes "new") ∷ flag (codes "bail") ∷ flag (codes "echo") ∷ cache_option ∷ as_option ∷ file_operand ∷ []
 
-id_at : (xs : List Arg) → Four xs → (j : ℕ) (e : Arg) → j < length xs → (slice_index_or xs j e).id.now ≡ slice_index_or ids j []
-id_at xs f j e lt = subst (λ (l : List Arg). (slice_index_or l j e).id.now ≡ slice_index_or ids j []) (sym f.list) (go j (subst (λ (l : List Arg). j < length l) f.list lt))
-  where
-    go : (j : ℕ) → j < length (f.flag ∷ f.cache ∷ f.target ∷ f.file ∷ []) → (slice_index_or (f.flag ∷ f.cache ∷ f.target ∷ f.file ∷ []) j e).id.now ≡ slice_index_or ids j []
-    go zero lt = ap (λ (r : Rule). r.id) f.is_flag
-    go (suc zero) lt = ap (λ (r : Rule). r.id) f.is_cache
-    go (suc (suc zero)) lt = ap (λ (r : Rule). r.id) f.is_target
-    go (suc (suc (suc zero))) lt = ap (λ (r : Rule). r.id) f.is_file
-    go (suc (suc (suc (suc j)))) lt = absurd (omega arith)
+-- the k-th of them
+abbrev rule_at : ℕ → Rule
+rule_at k = slice_index_or rules k file_operand
 
--- only one of them has this id
-only : (xs : List Arg) → Four xs → (k : ℕ) (id : List ℕ) → ((j : ℕ) → bytes_eq (slice_index_or ids j []) id ≡ true → j ≡ k)
-    → (j : ℕ) (e : Arg) → j < length xs → bytes_eq (slice_index_or xs j e).id.now id ≡ true → j ≡ k
-only xs f k id one j e lt same = one j (subst (λ (w : List ℕ). bytes_eq w id ≡ true) (id_at xs f j e lt) same)
+abbrev lacks : List Rule → List ℕ → Bool
+lacks [] id = true
+lacks (r ∷ rs) id = not (bytes_eq r.id id) && lacks rs id
 
-only_flag : (j : ℕ) → bytes_eq (slice_index_or ids j []) (codes "new") ≡ true → j ≡ 0
-only_flag zero same = refl
-only_flag (suc zero) same = cc same
-only_flag (suc (suc zero)) same = cc same
-only_flag (suc (suc (suc zero))) same = cc same
-only_flag (suc (suc (suc (suc j)))) same = cc same
+-- only the k-th of these has this id
+abbrev is_only : List Rule → ℕ → List ℕ → Bool
+is_only [] k id = true
+is_only (r ∷ rs) zero id = lacks rs id
+is_only (r ∷ rs) (suc k) id = not (bytes_eq r.id id) && is_only rs k id
 
-only_cache : (j : ℕ) → bytes_eq (slice_index_or ids j []) (codes "cache") ≡ true → j ≡ 1
-only_cache zero same = cc same
-only_cache (suc zero) same = refl
-only_cache (suc (suc zero)) same = cc same
-only_cache (suc (suc (suc zero))) same = cc same
-only_cache (suc (suc (suc (suc j)))) same = cc same
+-- and it is no empty one, nor that of a flag that building adds
+abbrev is_own : ℕ → List ℕ → Bool
+is_own k id = is_only rules k id && (not (bytes_eq id []) && (not (bytes_eq id (codes "help")) && not (bytes_eq id (codes "version"))))
 
-only_file : (j : ℕ) → bytes_eq (slice_index_or ids j []) (codes "file") ≡ true → j ≡ 3
-only_file zero same = cc same
-only_file (suc zero) same = cc same
-only_file (suc (suc zero)) same = cc same
-only_file (suc (suc (suc zero))) same = refl
-only_file (suc (suc (suc (suc j)))) same = cc same
-
--- an id with this first byte is no empty one, nor that of a flag that building adds
-not_auto : (a : Arg) (n : ℕ) (ns : List ℕ) → a.id.now ≡ n ∷ ns → (n ≡ 104 → ⊥) → (n ≡ 118 → ⊥) → IsAuto a → ⊥
-not_auto a n ns e h v (inl x) = h (ap (λ (l : List ℕ). slice_index l 0) (sym e ∙ x))
-not_auto a n ns e h v (inr x) = v (ap (λ (l : List ℕ). slice_index l 0) (sym e ∙ x))
-
-not_empty : (id : List ℕ) (n : ℕ) (ns : List ℕ) → id ≡ n ∷ ns → id ≡ [] → ⊥
-not_empty id n ns e none =
-    let bad : n ∷ ns ≡ [] = sym e ∙ none in
+differs : (a b : List ℕ) → not (bytes_eq a b) ≡ true → bytes_eq a b ≡ true → ⊥
+differs a b other same =
+    let bad : not true ≡ true = rw same at other in
     cc
 
-own_new : (a : Arg) → a.id.now ≡ codes "new" → IsAuto a → ⊥
-own_new a e = not_auto a 110 (codes "ew") e (λ h. absurd (omega (arith, h))) (λ v. absurd (omega (arith, v)))
+lacks_it : (rs : List Rule) (id : List ℕ) → lacks rs id ≡ true → (j : ℕ) (d : Rule) → j < length rs → bytes_eq (slice_index_or rs j d).id id ≡ true → ⊥
+lacks_it [] id none j d lt same = absurd (omega arith)
+lacks_it (r ∷ rs) id none zero d lt same = differs r.id id (both _ _ none).0 same
+lacks_it (r ∷ rs) id none (suc j) d lt same = lacks_it rs id (both (not (bytes_eq r.id id)) _ none).1 j d (omega arith) same
 
-own_cache : (a : Arg) → a.id.now ≡ codes "cache" → IsAuto a → ⊥
-own_cache a e = not_auto a 99 (codes "ache") e (λ h. absurd (omega (arith, h))) (λ v. absurd (omega (arith, v)))
+only : (rs : List Rule) (k : ℕ) (id : List ℕ) → is_only rs k id ≡ true → (j : ℕ) (d : Rule) → j < length rs → bytes_eq (slice_index_or rs j d).id id ≡ true → j ≡ k
+only [] k id one j d lt same = absurd (omega arith)
+only (r ∷ rs) zero id one zero d lt same = refl
+only (r ∷ rs) zero id one (suc j) d lt same = absurd (lacks_it rs id one j d (omega arith) same)
+only (r ∷ rs) (suc k) id one zero d lt same = absurd (differs r.id id (both _ _ one).0 same)
+only (r ∷ rs) (suc k) id one (suc j) d lt same = ap suc (only rs k id (both (not (bytes_eq r.id id)) _ one).1 j d (omega arith) same)
 
-own_file : (a : Arg) → a.id.now ≡ codes "file" → IsAuto a → ⊥
-own_file a e = not_auto a 102 (codes "ile") e (λ h. absurd (omega (arith, h))) (λ v. absurd (omega (arith, v)))
+other_id : (a id b : List ℕ) → a ≡ id → not (bytes_eq id b) ≡ true → a ≡ b → ⊥
+other_id a id b key apart same = differs id b apart ((bytes_eq-Decides id b).1 (sym key ∙ same))
+
+first_of_some : (xs : List Arg) → 0 < length xs → Arg
+first_of_some [] some = absurd (omega arith)
+first_of_some (a ∷ xs) some = a
 
 module _ (c : Command) (m : ArgMatches) (same : app_of c ≡ geosvm) (p : IsParsedFrom c m) where
-  arguments : Four (args_of c)
-  arguments = four (args_of c) (ap (λ (a : App). a.top.rules) same)
+  are : map rule_of (args_of c) ≡ rules
+  are = ap (λ (a : App). a.top.rules) same
+
+  count : length (args_of c) ≡ 6
+  count = sym (length-map (args_of c) rule_of) ∙ ap length are
+
+  is_at : (k : ℕ) (d : Arg) → k < length (args_of c) → rule_of (slice_index_or (args_of c) k d) ≡ rule_at k
+  is_at k d lt = sym (get_or-map rule_of (args_of c) k d file_operand lt) ∙ ap (λ (l : List Rule). slice_index_or l k file_operand) are
 
   fields : has_plain_fields (out-Command c) ≡ true
   fields = ap (λ (a : App). a.top.is_plain) same
@@ -289,72 +250,73 @@ module _ (c : Command) (m : ArgMatches) (same : app_of c ≡ geosvm) (p : IsPars
   no_globals = not_so _ (both _ _ (both _ _ (both _ _ fields).1).1).0
 
   is_plain : IsPlain c
-  is_plain =
-      let f = arguments in (
-        subst (All IsPlainArg) (sym f.list) (all_plain f.flag f.cache f.target f.file
-            (rule_plain f.flag new_flag f.is_flag refl refl) (rule_plain f.cache cache_option f.is_cache refl refl)
-            (rule_plain f.target as_option f.is_target refl refl) (rule_plain f.file file_operand f.is_file refl refl)),
-        nothing _ (both _ _ fields).0,
-      )
+  is_plain = (
+    λ k e lt. rule_plain (slice_index_or (args_of c) k e) (rule_at k) (is_at k e lt) (AllPass-from_list_all (λ (r : Rule). r.is_simple && r.is_free) rules refl k file_operand (omega (arith, count))),
+    nothing _ (both _ _ fields).0,
+  )
 
-  count : length (args_of c) ≡ 4
-  count = ap length arguments.list
+  -- the k-th argument has this id, which no other has
+  module _ (k : ℕ) (id : List ℕ) (low : k < 6) (own : is_own k id ≡ true) (named : (rule_at k).id ≡ id) where
+    lt : k < length (args_of c)
+    lt = omega (arith, count, low)
 
-  read_flag : (t : List ℕ) → one_text (found_of m) (codes "new") ≡ Some t → (bytes_eq t (codes "true") || bytes_eq t (codes "false")) ≡ true
-  read_flag t is =
-      let f = arguments in
-      let at : slice_index_or (args_of c) 0 f.flag ≡ f.flag = ap (λ (l : List Arg). slice_index_or l 0 f.flag) f.list in
-      let id : (slice_index_or (args_of c) 0 f.flag).id.now ≡ codes "new" = ap (λ (a : Arg). a.id.now) at ∙ ap (λ (r : Rule). r.id) f.is_flag in
-      let parser : (slice_index_or (args_of c) 0 f.flag).value_parser ≡ Some parsers.Bool = ap (λ (a : Arg). a.value_parser) at ∙ ap (λ (r : Rule). r.parser) f.is_flag in
-      let low : 0 < length (args_of c) = omega (arith, count) in
-      let got = reads c m p is_plain no_globals 0 f.flag low
-      (λ j e lt s. only (args_of c) f 0 (codes "new") only_flag j e lt (subst (λ (w : List ℕ). bytes_eq (slice_index_or (args_of c) j e).id.now w ≡ true) id s))
-      (not_empty (slice_index_or (args_of c) 0 f.flag).id.now _ _ id)
-      (own_new (slice_index_or (args_of c) 0 f.flag) id)
-      parsers.Bool parser t (subst (λ (w : List ℕ). one_text (found_of m) w ≡ Some t) (sym id) is) in
+    arg : Arg
+    arg = first_of_some (args_of c) (omega (arith, count))
+
+    abbrev it : Arg
+    it = slice_index_or (args_of c) k arg
+
+    rule : rule_of it ≡ rule_at k
+    rule = is_at k arg lt
+
+    key : it.id.now ≡ id
+    key = ap (λ (r : Rule). r.id) rule ∙ named
+
+    tests : (is_only rules k id ≡ true) × (not (bytes_eq id []) && (not (bytes_eq id (codes "help")) && not (bytes_eq id (codes "version"))) ≡ true)
+    tests = both _ _ own
+
+    unique : (j : ℕ) (e : Arg) → j < length (args_of c) → bytes_eq (slice_index_or (args_of c) j e).id.now it.id.now ≡ true → j ≡ k
+    unique j e lt s =
+        let at_id : bytes_eq (slice_index_or (args_of c) j e).id.now id ≡ true = subst (λ (w : List ℕ). bytes_eq (slice_index_or (args_of c) j e).id.now w ≡ true) key s in
+        only rules k id tests.0 j file_operand (omega (arith, count)) (subst (λ (r : Rule). bytes_eq r.id id ≡ true) (is_at j e lt) at_id)
+
+    not_empty : it.id.now ≡ [] → ⊥
+    not_empty = other_id it.id.now id [] key (both _ _ tests.1).0
+
+    not_auto : IsAuto it → ⊥
+    not_auto (inl help) = other_id it.id.now id (codes "help") key (both _ _ (both (not (bytes_eq id [])) _ tests.1).1).0 help
+    not_auto (inr version) = other_id it.id.now id (codes "version") key (both (not (bytes_eq id (codes "help"))) _ (both (not (bytes_eq id [])) _ tests.1).1).1 version
+
+    -- its text is read as its parser says
+    read_of_own : (q : ValueParser) → (rule_at k).parser ≡ Some q → (t : List ℕ) → one_text (found_of m) id ≡ Some t
+        → (raw : List ℕ) × (t ≡ read_as (reading_of q) raw) × Accepts it.ignore_case q raw
+    read_of_own q parser t is =
+        reads c m p is_plain no_globals k arg lt unique not_empty not_auto q (ap (λ (r : Rule). r.parser) rule ∙ parser) t
+        (subst (λ (w : List ℕ). one_text (found_of m) w ≡ Some t) (sym key) is)
+
+    -- an operand that is required has a value, where no delimiter splits it
+    has_value : (rule_at k).required ≡ true → (rule_at k).action ≡ Some Set → (rule_at k).is_simple ≡ true → (rule_at k).range ≡ None → is_some (first_value (found_of m) id) ≡ true
+    has_value required action simple range =
+        let negates : (out-Command c).subcommand_negates_reqs ≡ false = ap (λ (a : App). a.top.subcommand_negates_reqs) same in
+        let overrides = both (is_empty it.overrides.items) _ (ap (λ (r : Rule). r.is_simple) rule ∙ simple) in
+        let ifs = both (is_empty it.default_vals_ifs.items) _ overrides.1 in
+        let groups = both (is_empty it.groups.items) _ ifs.1 in
+        let delimiter : it.val_delim ≡ None = no_value it.val_delim (both (not (is_some it.val_delim)) _ groups.1).0 in
+        let any : it.num_vals ≡ None = ap (λ (r : Rule). r.range) rule ∙ range in
+        let least : 1 ≤ least_values it = subst (λ (o : Option ValueRange). 1 ≤ (unwrap_or_range o).start_inclusive) (sym any) (omega arith) in
+        let has = required_has_value c m p is_plain no_globals negates k arg lt (ap (λ (r : Rule). r.required) rule ∙ required) (ap (λ (r : Rule). r.action) rule ∙ action) delimiter least unique not_empty not_auto in
+        subst (λ (w : List ℕ). is_some (first_value (found_of m) w) ≡ true) key has
+
+  flag_read : (k : ℕ) (id : List ℕ) → k < 6 → is_own k id ≡ true → (rule_at k).id ≡ id → (rule_at k).parser ≡ Some parsers.Bool → IsFlag (found_of m) id
+  flag_read k id low own named parser t is =
+      let got = read_of_own k id low own named parsers.Bool parser t is in
       rw got.1 got.2
 
-  read_cache : (t : List ℕ) → one_text (found_of m) (codes "cache") ≡ Some t → (raw : List ℕ) × (t ≡ without_minus raw) × IsSignedIn (pos 1) (pos 64) raw
-  read_cache t is =
-      let f = arguments in
-      let at : slice_index_or (args_of c) 1 f.cache ≡ f.cache = ap (λ (l : List Arg). slice_index_or l 1 f.cache) f.list in
-      let id : (slice_index_or (args_of c) 1 f.cache).id.now ≡ codes "cache" = ap (λ (a : Arg). a.id.now) at ∙ ap (λ (r : Rule). r.id) f.is_cache in
-      let parser : (slice_index_or (args_of c) 1 f.cache).value_parser ≡ Some (parsers.Signed (pos 1) (pos 64)) = ap (λ (a : Arg). a.value_parser) at ∙ ap (λ (r : Rule). r.parser) f.is_cache in
-      let low : 1 < length (args_of c) = omega (arith, count) in
-      reads c m p is_plain no_globals 1 f.cache low
-      (λ j e lt s. only (args_of c) f 1 (codes "cache") only_cache j e lt (subst (λ (w : List ℕ). bytes_eq (slice_index_or (args_of c) j e).id.now w ≡ true) id s))
-      (not_empty (slice_index_or (args_of c) 1 f.cache).id.now _ _ id)
-      (own_cache (slice_index_or (args_of c) 1 f.cache) id)
-      (parsers.Signed (pos 1) (pos 64)) parser t (subst (λ (w : List ℕ). one_text (found_of m) w ≡ Some t) (sym id) is)
-
-  -- the operand takes one value, and no delimiter splits it
-  delimiter : (a : Arg) → is_simple_arg a ≡ true → a.val_delim ≡ None
-  delimiter a s =
-      let overrides = both (is_empty a.overrides.items) _ s in
-      let ifs = both (is_empty a.default_vals_ifs.items) _ overrides.1 in
-      let groups = both (is_empty a.groups.items) _ ifs.1 in
-      let delimiters = both (not (is_some a.val_delim)) _ groups.1 in
-      no_value a.val_delim delimiters.0
-
-  has_file : is_some (first_value (found_of m) (codes "file")) ≡ true
-  has_file =
-      let f = arguments in
-      let at : slice_index_or (args_of c) 3 f.file ≡ f.file = ap (λ (l : List Arg). slice_index_or l 3 f.file) f.list in
-      let id : (slice_index_or (args_of c) 3 f.file).id.now ≡ codes "file" = ap (λ (a : Arg). a.id.now) at ∙ ap (λ (r : Rule). r.id) f.is_file in
-      let low : 3 < length (args_of c) = omega (arith, count) in
-      let negates : (out-Command c).subcommand_negates_reqs ≡ false = ap (λ (a : App). a.top.subcommand_negates_reqs) same in
-      let simple : is_simple_arg f.file ≡ true = ap (λ (r : Rule). r.is_simple) f.is_file in
-      let range : f.file.num_vals ≡ None = ap (λ (r : Rule). r.range) f.is_file in
-      let least : 1 ≤ least_values f.file = subst (λ (o : Option ValueRange). 1 ≤ (unwrap_or_range o).start_inclusive) (sym range) (omega arith) in
-      let has = required_has_value c m p is_plain no_globals negates 3 f.file low
-      (ap (λ (a : Arg). a.required) at ∙ ap (λ (r : Rule). r.required) f.is_file)
-      (ap (λ (a : Arg). a.action) at ∙ ap (λ (r : Rule). r.action) f.is_file)
-      (ap (λ (a : Arg). a.val_delim) at ∙ delimiter f.file simple)
-      (subst (λ (a : Arg). 1 ≤ least_values a) (sym at) least)
-      (λ j e lt s. only (args_of c) f 3 (codes "file") only_file j e lt (subst (λ (w : List ℕ). bytes_eq (slice_index_or (args_of c) j e).id.now w ≡ true) id s))
-      (not_empty (slice_index_or (args_of c) 3 f.file).id.now _ _ id)
-      (own_file (slice_index_or (args_of c) 3 f.file) id) in
-      subst (λ (w : List ℕ). is_some (first_value (found_of m) w) ≡ true) id has
-
   pub matched : IsMatched (found_of m)
-  matched = record { flag = read_flag; number = read_cache; file = has_file }
+  matched = record {
+    new = flag_read 0 (codes "new") (omega arith) refl refl refl;
+    bail = flag_read 1 (codes "bail") (omega arith) refl refl refl;
+    echo = flag_read 2 (codes "echo") (omega arith) refl refl refl;
+    number = read_of_own 3 (codes "cache") (omega arith) refl refl (parsers.Signed (pos 1) (pos 64)) refl;
+    file = has_value 5 (codes "file") (omega arith) refl refl refl refl refl refl;
+  }

@@ -9,14 +9,14 @@ use Rattle.std.proofs.lemmas.Slice.Eq.{bytes_eq-Decides}
 use Rattle.std.proofs.lemmas.List.Folds.{list_any-append}
 use Rattle.clap.specs.Lexer.{has_byte, long_of, long_of_rest, name_and_value, short_of, strip_byte}
 use Rattle.clap.specs.Walk.{Held, Outcome, Row, Rule, Step, Text, Waiting, Walk, action_of, after_flag, after_step, arg_by_id, arg_by_index, arg_by_long, arg_by_short, at_row, attached_value, bundle, bundle_met, bundle_step, default_rows, done, count_of, flag_met, has_long, has_row, has_short, idle, is_multiple, is_pending, long_met, long_or_other, more_values, new_count, next, nothing_held, one_of, option, option_met, option_word, plain, plain_word, positional, positional_held, pushed, reacted, reading_by, refused, settled, settled_rows, short_met, short_or_plain, subcommand, subcommand_met, subcommand_or_other, takes_several, takes_values, to_positional, trailing, used, used_as, used_by_id, value, values_or_missing, waits, walk, walk_from, walked, walked_from, with_count, with_default, with_values, without, word_met}
-use Rattle.clap.specs.Simple.{built, filled, help_rule, matches_of, version_rule, with_index}
+use Rattle.clap.specs.Simple.{built, filled, matches_of, with_index}
 use Rattle.clap.specs.declared.builder.action.ArgAction.{ArgAction}
 use Rattle.clap.specs.declared.builder.action.ArgAction.TheVariants as actions
 use Rattle.clap.specs.declared.builder.value_parser.Reading.{Reading}
 use Rattle.clap.specs.declared.parser.matches.ValueSource.{ValueSource}
 use Rattle.clap.specs.declared.parser.matches.ValueSource.TheVariants as sources
 use Rattle.clap.specs.declared.builder.value_parser.Reading.TheVariants as reading
-use Rattle.geos_shell.specs.Options.{CommandLine, as_option, cache_option, file_operand, geosvm, new_flag, said}
+use Rattle.geos_shell.specs.Options.{CommandLine, flag, geosvm, said}
 use Rattle.geos_shell.proofs.Telling.{is_set}
 
 abbrev is_new : Text → Bool
@@ -210,7 +210,7 @@ abbrev rules : List Rule
 rules = (built geosvm).top.rules
 
 others : Others (drop 1 rules)
-others = (refl, (refl, (refl, (refl, (refl, tt)))))
+others = (refl, (refl, (refl, (refl, (refl, (refl, (refl, tt)))))))
 
 short_other : (x : ℕ) (a : Rule) → arg_by_short rules x ≡ Some a → is_new a.id ≡ false
 short_other x a e = found_other (λ (b : Rule). not (is_some b.index) && has_short b x) (drop 1 rules) a others e
@@ -379,20 +379,40 @@ default_found (r ∷ rs) h =
     let parts = or_false (is_new r.id) (has_row (codes "new") rs) h in
     rw parts.0 (rw parts.0 (default_found rs parts.1))
 
-no_default : (rows : List Row) (a : Rule) → a.defaults ≡ [] → with_default rows a ≡ rows
-no_default rows a e = go (has_row a.id rows)
+-- a default of another argument
+others_values : (id : Text) (how : Reading) (vs : List Text) (rows : List Row) → is_new id ≡ false
+    → one_of (codes "new") (with_values id how sources.DefaultValue vs rows) ≡ one_of (codes "new") rows
+others_values id how vs [] other = rw other refl
+others_values id how vs (r ∷ rs) other = go (bytes_eq r.id id) refl (is_new r.id) refl (others_values id how vs rs other)
   where
-    go : (t : Bool) → cond t rows (default_rows a.id (reading_by a) a.defaults rows) ≡ rows
-    go true = refl
-    go false = rw e refl
+    rest : List Row
+    rest = with_values id how sources.DefaultValue vs rs
+
+    go : (here : Bool) → bytes_eq r.id id ≡ here → (new : Bool) → is_new r.id ≡ new → one_of (codes "new") rest ≡ one_of (codes "new") rs
+        → one_of (codes "new") (cond here (more_values sources.DefaultValue vs r ++ rs) (r ∷ rest)) ≡ one_of (codes "new") (r ∷ rs)
+    go true e new n more =
+        let apart : is_new r.id ≡ false = same_id r.id id e other in
+        rw apart refl
+    go false e true n more = rw n refl
+    go false e false n more = rw n more
+
+others_default : (rows : List Row) (a : Rule) → is_new a.id ≡ false → one_of (codes "new") (with_default rows a) ≡ one_of (codes "new") rows
+others_default rows a other = go (has_row a.id rows) a.defaults
+  where
+    go : (has : Bool) (vs : List Text) → one_of (codes "new") (cond has rows (default_rows a.id (reading_by a) vs rows)) ≡ one_of (codes "new") rows
+    go true vs = refl
+    go false [] = refl
+    go false (v ∷ vs) = others_values a.id (reading_by a) (v ∷ vs) rows other
+
+others_defaults : (rs : List Rule) (rows : List Row) → Others rs → one_of (codes "new") (fold with_default rows rs) ≡ one_of (codes "new") rows
+others_defaults [] rows apart = refl
+others_defaults (r ∷ rs) rows apart = others_defaults rs (with_default rows r) apart.1 ∙ others_default rows r apart.0
 
 finished_new : (rows : List Row) → Without rows → one_of (codes "new") (fold with_default rows rules) ≡ Some (codes "false")
 finished_new rows h =
-    let set : one_of (codes "new") (with_default rows (with_index 1 (filled new_flag))) ≡ Some (codes "false") = rw h (default_found rows h) in
-    let same : fold with_default rows rules ≡ with_default rows (with_index 1 (filled new_flag)) =
-    no_default _ (with_index 2 (filled version_rule)) refl ∙ (no_default _ (with_index 2 (filled help_rule)) refl ∙ (no_default _ (with_index 1 (filled file_operand)) refl
-    ∙ (no_default _ (with_index 1 (filled as_option)) refl ∙ no_default _ (with_index 1 (filled cache_option)) refl))) in
-    ap (one_of (codes "new")) same ∙ set
+    let new = with_index 1 (filled (flag (codes "new"))) in
+    let set : one_of (codes "new") (with_default rows new) ≡ Some (codes "false") = rw h (default_found rows h) in
+    others_defaults (drop 1 rules) (with_default rows new) others ∙ set
 
 pub flag_unset : (words : List Text) → list_any (λ w. bytes_eq w (codes "--new")) (drop 1 words) ≡ false → one_of (codes "new") (matches_of geosvm words) ≡ Some (codes "false")
 flag_unset words apart =

@@ -1,12 +1,12 @@
 -- A reply's line is what is written for its request.
-use Rattle.std.proofs.Common.{◌≡◌, List, ℕ, [], ◌∷◌, ◌++◌, Bool, true, false, length, refl, ◌∙◌, sym, ap, subst, append-nil, Option, Result, Ok, OnOk, Err, Some, inr}
+use Rattle.std.proofs.Common.{◌≡◌, List, ℕ, ◌++◌, Bool, true, false, length, refl, ap, subst, Option, Result, Ok, OnOk, Err, Some, inr}
 use Rattle.std.specs.Prelude.{IsOkAnd, MatchResult}
 use Rattle.std.proofs.lemmas.List.{take_at}
 use Rattle.geos_model.specs.Reply.{Reply, reply_by, reply_of}
 use Rattle.geos_model.specs.declared.fault.Fault.{Fault}
 use Rattle.geos_model.specs.declared.reply.Reply.{Reply as GivenReply}
-use Rattle.geos_model.specs.Machine.{Request, Step}
-use Rattle.geos_model.specs.Script.{reply_line, reply_text}
+use Rattle.geos_model.specs.Machine.{Step}
+use Rattle.geos_model.specs.Script.{reply_text}
 use Rattle.geos_model.specs.declared.command.Command.{Command}
 use Rattle.geos_model.specs.declared.command.Command.TheVariants as commands
 use Rattle.vm_store.specs.Facts.{StoreFacts}
@@ -14,9 +14,7 @@ use Rattle.vm_file.specs.Disk.{KeepsCommitted}
 use Rattle.vm_file.proofs.PassingLemmas.{KeepsCommitted-refl}
 use Rattle.undo_log.specs.Sessions.{SessionState, IsStep, failed_since, machine_of}
 use Rattle.geos_shell.specs.Holdings.{AreExact, CommitsNothing, Holding, IsTakenIfSure, LeavesFiles, ServesRequest, SameFiles, holding}
-use Rattle.geos_shell.specs.Runs.{AnswersOf}
-use Rattle.geos_shell.specs.Replies.{Extends, Replied, Responds, Told, asks_no_body, is_look_up}
-use Rattle.geos_shell.proofs.Composed.{AnswersOf-one, AnswersOf-unasked}
+use Rattle.geos_shell.specs.Replies.{Extends, Replied, Told, asks_no_body, is_look_up}
 use Rattle.geos_shell.proofs.Serving.{serves_passing, step_any}
 
 extends_by : (old more new : List ℕ) → new ≡ old ++ more → Extends old new
@@ -65,13 +63,6 @@ module _ {S : Type 0} (facts : S → StoreFacts) where
       let stays : asks_no_body c ≡ true → SameFiles first last = λ none. record { disk = ap (λ (s : SessionState S). s.disk) (same none); target = refl; former = refl } in
       let served = serves_passing facts old new target former c t.reply t.passes t.step (leaves c first last t.reply asks stays) (unsure c old new t.reply asks) exact in
       replied put first last c t.reply before after served t.text
-
-  -- one line as a run of requests
-  pub answered : (old new : Holding S) (request : Request) (before after : List ℕ) → AreExact facts old → Responds facts old request new before after
-      → (written : List ℕ) × AnswersOf facts old (request ∷ []) written new × (after ≡ before ++ written)
-  answered old new (Some commands.Blank) before after exact r =
-      ([], subst (λ h. AnswersOf facts old (Some commands.Blank ∷ []) [] h) (sym r.0) (AnswersOf-unasked facts old (Some commands.Blank ∷ []) refl exact), r.1 ∙ sym (append-nil before))
-  answered old new request before after exact r = (reply_line r.0, AnswersOf-one facts old new request r.0 refl exact r.1, r.2)
 
 module _ {S T E : Type 0} (facts : S → StoreFacts) (put : Result T E) (c : Command) (reply : Reply) (before after : List ℕ) where
   -- a look-up whose reply's text a call that may fail has put

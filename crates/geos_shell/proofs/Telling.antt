@@ -17,7 +17,7 @@ use Rattle.clap.specs.declared.error.kind.ErrorKind.TheVariants.{DisplayHelp, Di
 use Rattle.clap.specs.declared.parser.matches.Found.{Found}
 use Rattle.clap.proofs.CallerReads.{signed_reads}
 use Rattle.clap.proofs.WalkLemmas.{first_value-rows, one_text-rows}
-use Rattle.geos_shell.specs.Options.{CommandLine, IsMatched, RefusesWords, TurnsInto, command_line, geosvm, read_number, said}
+use Rattle.geos_shell.specs.Options.{CommandLine, IsFlag, IsMatched, RefusesWords, TurnsInto, command_line, geosvm, has_flag, read_number, said}
 use Rattle.geos_shell.specs.declared.outcome.Outcome.{Outcome}
 use Rattle.geos_shell.specs.declared.outcome.Outcome.TheVariants as outcomes
 use Rattle.geos_shell.specs.declared.runner.RunFault.TheVariants as faults
@@ -40,10 +40,10 @@ flag_at (Some t) b test none on off = go (bytes_eq t (codes "true")) refl
         let other : bytes_eq t (codes "false") ≡ true = rw e at (test t refl) in
         off (ap Some ((bytes_eq-Decides t (codes "false")).0 other)) ∙ sym e
 
-pub flag_told : (f : Found) (b : Bool) → IsMatched f → (one_text f (codes "new") ≡ None → b ≡ false)
-    → (one_text f (codes "new") ≡ Some (codes "true") → b ≡ true) → (one_text f (codes "new") ≡ Some (codes "false") → b ≡ false)
-    → b ≡ is_set (one_of (codes "new") (rows_of f))
-flag_told f b h none on off = flag_at _ b h.flag none on off ∙ ap is_set (one_text-rows f (codes "new"))
+pub flag_told : (f : Found) (name : Text) (b : Bool) → IsFlag f name → (one_text f name ≡ None → b ≡ false)
+    → (one_text f name ≡ Some (codes "true") → b ≡ true) → (one_text f name ≡ Some (codes "false") → b ≡ false)
+    → b ≡ has_flag name (rows_of f)
+flag_told f name b h none on off = flag_at _ b h none on off ∙ ap is_set (one_text-rows f name)
 
 -- the number, as its getter reads it
 pub record IsFrames (o : Option Text) (n : ℕ) : Type 0 where
@@ -71,15 +71,16 @@ pub number_told : {E : Type 0} (G : Text → Result ℕ E → Type 0) (only : (u
 number_told G only f r h none some =
     subst (λ (o : Option Text). IsFrames o (unwrap_or r 8)) (one_text-rows f (codes "cache")) (number_at G only _ r h.number none some)
 
--- all four
-pub told_is : (f : Found) (is_new : Bool) (cache : ℕ) (target : Option Text) (file : Text) → is_new ≡ is_set (one_of (codes "new") (rows_of f))
+-- all of them
+pub told_is : (f : Found) (is_new bails echoes : Bool) (cache : ℕ) (target : Option Text) (file : Text) → is_new ≡ has_flag (codes "new") (rows_of f)
+    → bails ≡ has_flag (codes "bail") (rows_of f) → echoes ≡ has_flag (codes "echo") (rows_of f)
     → cache ≡ number_in (one_of (codes "cache") (rows_of f)) → target ≡ first_value f (codes "as") → Some file ≡ first_value f (codes "file")
-    → ◌≡◌ {A = CommandLine} (record { is_new = is_new; cache = cache; target = target; file = file }) (said (rows_of f))
-told_is f is_new cache target file n c t w =
+    → ◌≡◌ {A = CommandLine} (record { is_new = is_new; cache = cache; target = target; file = file; manner = record { bails = bails; echoes = echoes } }) (said (rows_of f))
+told_is f is_new bails echoes cache target file n b e c t w =
     let target_is : target ≡ first_of (codes "as") (rows_of f) = t ∙ first_value-rows f (codes "as") in
     let file_is : file ≡ unwrap_or (first_of (codes "file") (rows_of f)) [] =
     ap (λ (o : Option Text). unwrap_or o []) (w ∙ first_value-rows f (codes "file")) in
-    λ i. record { is_new = n i; cache = c i; target = target_is i; file = file_is i }
+    λ i. record { is_new = n i; cache = c i; target = target_is i; file = file_is i; manner = record { bails = b i; echoes = e i } }
 
 -- ---- what an error comes to
 
@@ -97,6 +98,7 @@ refused words kind (outcomes.Version text) (inr a) t = subst (λ (k : ErrorKind)
 refused words kind (outcomes.Run faults.Memory) h t = tt
 refused words kind (outcomes.Run faults.Read) h t = absurd t
 refused words kind (outcomes.Run faults.Write) h t = absurd t
+refused words kind (outcomes.Run faults.Refused) h t = absurd t
 refused words kind (outcomes.Create f) h t = absurd t
 refused words kind (outcomes.Open f) h t = absurd t
 refused words kind outcomes.Target h t = absurd t

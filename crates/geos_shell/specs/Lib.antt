@@ -3,6 +3,7 @@ pub mod Given
 pub mod Help
 pub mod Holdings
 pub mod Making
+pub mod Manners
 pub mod Options
 pub mod Outcome
 pub mod Program

@@ -11,16 +11,17 @@ use Rattle.clap.specs.declared.builder.action.ArgAction.TheVariants.{Set, SetTru
 use Rattle.clap.specs.declared.builder.value_parser.ValueParser.TheVariants as parsers
 use Rattle.clap.specs.declared.error.kind.ErrorKind.{ErrorKind}
 use Rattle.clap.specs.declared.error.kind.ErrorKind.TheVariants.{DisplayHelp, DisplayVersion, OutOfMemory}
+use Rattle.geos_shell.specs.declared.settings.Manner.{Manner}
 use Rattle.geos_shell.specs.declared.settings.Options.{Options}
 use Rattle.geos_shell.specs.declared.outcome.Outcome.{Outcome}
 use Rattle.geos_shell.specs.declared.outcome.Outcome.TheVariants as outcomes
 use Rattle.geos_shell.specs.declared.runner.RunFault.TheVariants as faults
 
--- ---- what the program takes: [--new] [--cache N] [--as FILE2] FILE
+-- ---- what the program takes: [--new] [--bail] [--echo] [--cache N] [--as FILE2] FILE
 
-abbrev pub new_flag : Rule
-new_flag = record (new_rule (codes "new")) {
-  long = Some (codes "new");
+abbrev pub flag : Text → Rule
+flag name = record (new_rule name) {
+  long = Some name;
   action = Some SetTrue;
   parser = Some parsers.Bool;
 }
@@ -53,7 +54,9 @@ abbrev pub with_version : App → App
 with_version = on_top (λ s. record s { has_version = true })
 
 abbrev pub geosvm : App
-geosvm = with_rule (with_rule (with_rule (with_rule (with_version (new_app (codes "geosvm"))) new_flag) cache_option) as_option) file_operand
+geosvm =
+    let flags = with_rule (with_rule (with_rule (with_version (new_app (codes "geosvm"))) (flag (codes "new"))) (flag (codes "bail"))) (flag (codes "echo")) in
+    with_rule (with_rule (with_rule flags cache_option) as_option) file_operand
 
 -- ---- what a command line says
 
@@ -62,17 +65,23 @@ pub record CommandLine : Type 0 where
   pub cache : ℕ
   pub target : Option Text
   pub file : Text
+  pub manner : Manner
 
 abbrev pub read_number : Text → ℕ
 read_number text = digits_value 10 (without_leading_plus text)
 
+-- whether the words have this flag
+abbrev pub has_flag : Text → List Row → Bool
+has_flag name rows = option_map_or (λ t. bytes_eq t (codes "true")) (one_of name rows) false
+
 -- of what the words give: 8 frames where they have no number
 abbrev pub said : List Row → CommandLine
 said rows = record {
-  is_new = option_map_or (λ t. bytes_eq t (codes "true")) (one_of (codes "new") rows) false;
+  is_new = has_flag (codes "new") rows;
   cache = option_map_or read_number (one_of (codes "cache") rows) 8;
   target = first_of (codes "as") rows;
   file = unwrap_or (first_of (codes "file") rows) [];
+  manner = record { bails = has_flag (codes "bail") rows; echoes = has_flag (codes "echo") rows };
 }
 
 -- what the words say, where they are a command line and nothing is wrong with them
@@ -85,11 +94,17 @@ IsUsable line = (1 ≤ line.cache) × (line.cache ≤ 64) × (line.target ≡ So
 
 -- what the options say
 abbrev pub told_by : Options → CommandLine
-told_by o = record { is_new = o.new; cache = o.cache; target = option_map (λ t. t.now) o.target; file = o.file.now }
+told_by o = record { is_new = o.new; cache = o.cache; target = option_map (λ t. t.now) o.target; file = o.file.now; manner = o.manner }
 
--- What a match of the command line gives: the flag reads as a truth value, the number is in its range, and the file is there.
+-- the flag reads as a truth value
+abbrev pub IsFlag : Found → Text → Type 0
+IsFlag found name = (t : Text) → one_text found name ≡ Some t → (bytes_eq t (codes "true") || bytes_eq t (codes "false")) ≡ true
+
+-- What a match of the command line gives: the flags read as truth values, the number is in its range, and the file is there.
 pub record IsMatched (found : Found) : Type 0 where
-  pub flag : (t : Text) → one_text found (codes "new") ≡ Some t → (bytes_eq t (codes "true") || bytes_eq t (codes "false")) ≡ true
+  pub new : IsFlag found (codes "new")
+  pub bail : IsFlag found (codes "bail")
+  pub echo : IsFlag found (codes "echo")
   pub number : (t : Text) → one_text found (codes "cache") ≡ Some t → (raw : Text) × (t ≡ without_minus raw) × IsSignedIn (pos 1) (pos 64) raw
   pub file : is_some (first_value found (codes "file")) ≡ true
 

@@ -30,6 +30,7 @@ abbrev pub run_line : RunFault → List ℕ
 run_line faults.Read = codes "geosvm: read fault" ++ line_feed ∷ []
 run_line faults.Write = codes "geosvm: write fault" ++ line_feed ∷ []
 run_line faults.Memory = codes "geosvm: memory" ++ line_feed ∷ []
+run_line faults.Refused = codes "geosvm: refused" ++ line_feed ∷ []
 
 -- what is written: help and the version on standard output, all else on standard error
 abbrev pub outcome_text : Outcome → List ℕ

@@ -16,6 +16,7 @@ use Rattle.geos_shell.specs.Holdings.{Holding, AreExact, holding}
 use Rattle.geos_shell.specs.Runs.{AnswersAll, EndsBy}
 use Rattle.geos_shell.specs.declared.outcome.Outcome.{Outcome}
 use Rattle.geos_shell.specs.declared.outcome.Outcome.TheVariants as outcomes
+use Rattle.geos_shell.specs.declared.settings.Manner.{Manner}
 
 -- ---- sessions
 
@@ -137,10 +138,10 @@ IsNotBegun calls facts line old new outcome =
     (FileFails calls line old new × IsFileFault line outcome) ⊎ FromFile calls line old (λ store opened. IsGivenUp calls facts line store opened new outcome)
 
 -- the script is answered: well, or until the run ended by a fault, which is the one that is told
-abbrev pub IsScriptAnswered : {F S : Type 0} → Opener F S → (S → StoreFacts) → Holding S → F → F → Option (List ℕ) → Option (List ℕ) → Option (List ℕ) → Option (List ℕ) → Outcome → Type 0
-IsScriptAnswered calls facts first old new from to before after outcomes.Done = RunsOn calls (λ left. AreExact facts first → AnswersAll facts first from to before after left) old new
-IsScriptAnswered calls facts first old new from to before after (outcomes.Run fault) = RunsOn calls (λ left. AreExact facts first → EndsBy fault facts first from to before after left) old new
-IsScriptAnswered calls facts first old new from to before after _ = ⊥
+abbrev pub IsScriptAnswered : {F S : Type 0} → Opener F S → (S → StoreFacts) → Manner → Holding S → F → F → Option (List ℕ) → Option (List ℕ) → Option (List ℕ) → Option (List ℕ) → Outcome → Type 0
+IsScriptAnswered calls facts manner first old new from to before after outcomes.Done = RunsOn calls (λ left. AreExact facts first → AnswersAll facts manner first from to before after left) old new
+IsScriptAnswered calls facts manner first old new from to before after (outcomes.Run fault) = RunsOn calls (λ left. AreExact facts first → EndsBy fault facts manner first from to before after left) old new
+IsScriptAnswered calls facts manner first old new from to before after _ = ⊥
 
 -- a session was begun on FILE, and the script is answered
 pub record ServesFiles {F S : Type 0} (calls : Opener F S) (facts : S → StoreFacts) (line : CommandLine) (old new : F) (from to before after : Option (List ℕ)) (outcome : Outcome) : Type 0 where
@@ -148,7 +149,7 @@ pub record ServesFiles {F S : Type 0} (calls : Opener F S) (facts : S → StoreF
   pub session : SessionState S
   pub target : Option S
   pub begins : FromFile calls line old (λ store opened. BeginsSession calls facts line store opened session target begun)
-  pub answers : IsScriptAnswered calls facts (holding session target None) begun new from to before after outcome
+  pub answers : IsScriptAnswered calls facts line.manner (holding session target None) begun new from to before after outcome
 
 -- Words that are no usable command line end in what says so, or in lack of memory, and no file is opened. Of a usable one the files
 -- are opened and the script is answered, or, where that can't begin, nothing of it is read and no reply is written.

@@ -1,10 +1,15 @@
 -- What a run reads and writes, and what it makes of what its caller holds. Where a reader or a writer tells its bytes, it is they.
-use Rattle.std.specs.Prelude.{◌≡◌, ◌⊎◌, ℕ, ◌+◌, ◌<◌, ◌≤◌, ◌++◌, min, List, [], ◌∷◌, length, Option, None}
+use Rattle.std.specs.Prelude.{◌≡◌, ◌⊎◌, ℕ, ◌+◌, ◌<◌, ◌≤◌, ◌++◌, ◌&&◌, false, min, map, IsTrue, List, [], ◌∷◌, length, Option, None, Result, MatchResult}
+use Rattle.std.specs.List.{list_any}
 use Rattle.std.specs.Io.KnownBytes.{Appends, Consumes, IsAtEnd}
 use Rattle.geos_model.specs.Machine.{Request}
-use Rattle.geos_model.specs.Script.{command, lines, finished_lines, requests, Answered}
+use Rattle.geos_model.specs.Reply.{Reply, Refused}
+use Rattle.geos_model.specs.Script.{command, lines, finished_lines, reply_line, requests, Answered}
+use Rattle.geos_model.specs.declared.fault.Fault.{Fault}
 use Rattle.vm_store.specs.Facts.{StoreFacts, last_count}
-use Rattle.geos_shell.specs.Holdings.{Holding, AreExact, MayServe, Serving, machine}
+use Rattle.geos_shell.specs.Holdings.{Holding, AreExact, MayServe, ServesRequest, Serving, machine}
+use Rattle.geos_shell.specs.Manners.{is_refusal, lead, written_of}
+use Rattle.geos_shell.specs.declared.settings.Manner.{Manner}
 use Rattle.geos_shell.specs.declared.runner.RunFault.{RunFault}
 use Rattle.geos_shell.specs.declared.runner.RunFault.TheVariants as faults
 
@@ -32,21 +37,33 @@ pub record AnswersOf {S : Type 0} (facts : S → StoreFacts) (old : Holding S) (
   pub serving : Serving facts old answered.calls new
   pub stores : AfterFailures facts old failed new
 
--- A script was read to its end, each line of it is answered, and what is written is the replies and nothing else.
-pub record AnswersAll {S : Type 0} (facts : S → StoreFacts) (old : Holding S) (from to before after : Option (List ℕ)) (new : Holding S) : Type 0 where
+-- the replies, in order
+abbrev pub replies_of : {S : Type 0} {facts : S → StoreFacts} {old : Holding S} {asked : List Request} {text : List ℕ} {new : Holding S} → AnswersOf facts old asked text new → List Reply
+replies_of a = map (λ c. c.reply) a.answered.calls
+
+-- These lines are answered so in this manner: what is written is the replies, or the lines with their replies, and a run that bails
+-- went on behind no refusal.
+pub record AnswersLines {S : Type 0} (facts : S → StoreFacts) (manner : Manner) (old : Holding S) (asked : List (List ℕ)) (written : List ℕ) (new : Holding S) : Type 0 where
+  pub replies : List ℕ
+  pub answers : AnswersOf facts old (requests asked) replies new
+  pub text : written ≡ written_of manner.echoes asked (replies_of answers)
+  pub goes_on : (manner.bails && list_any is_refusal (replies_of answers)) ≡ false
+
+-- A script was read to its end, each line of it is answered, and nothing else is written.
+pub record AnswersAll {S : Type 0} (facts : S → StoreFacts) (manner : Manner) (old : Holding S) (from to before after : Option (List ℕ)) (new : Holding S) : Type 0 where
   pub script : List ℕ
   pub consumed : Consumes from to script
   pub ended : IsAtEnd to
   pub written : List ℕ
-  pub answered : AnswersOf facts old (requests (lines script)) written new
+  pub answered : AnswersLines facts manner old (lines script) written new
   pub appended : Appends before after written
 
 -- Each line of what was read that a line feed ends is answered, and nothing else is written.
-pub record AnswersFinished {S : Type 0} (facts : S → StoreFacts) (old : Holding S) (from to before after : Option (List ℕ)) (new : Holding S) : Type 0 where
+pub record AnswersFinished {S : Type 0} (facts : S → StoreFacts) (manner : Manner) (old : Holding S) (from to before after : Option (List ℕ)) (new : Holding S) : Type 0 where
   pub read : List ℕ
   pub consumed : Consumes from to read
   pub written : List ℕ
-  pub answered : AnswersOf facts old (requests (finished_lines read)) written new
+  pub answered : AnswersLines facts manner old (finished_lines read) written new
   pub appended : Appends before after written
 
 -- these are the first ones
@@ -58,35 +75,66 @@ abbrev pub MayServeNext : {S : Type 0} → (S → StoreFacts) → Holding S → 
 MayServeNext facts old [] new = new ≡ old
 MayServeNext facts old (line ∷ lines) new = MayServe facts old (command line) new
 
--- The first ones of the lines are answered, and of the others at most the next is served, whose reply isn't among these.
-pub record StoppedWith {S : Type 0} (facts : S → StoreFacts) (old : Holding S) (lines : List (List ℕ)) (replies : List ℕ) (new : Holding S) : Type 0 where
+-- The first ones of the lines are answered, and of the others at most the next is served, of which nothing is written.
+pub record StoppedWith {S : Type 0} (facts : S → StoreFacts) (manner : Manner) (old : Holding S) (lines : List (List ℕ)) (written : List ℕ) (new : Holding S) : Type 0 where
   pub answered : List (List ℕ)
   pub others : List (List ℕ)
   pub parts : lines ≡ answered ++ others
   pub mid : Holding S
-  pub run : AnswersOf facts old (requests answered) replies mid
+  pub run : AnswersLines facts manner old answered written mid
   pub next : MayServeNext facts mid others new
 
--- Something was read, and the run stopped in a line of it. The replies to the lines before, which a line feed ends, are written,
--- and nothing else.
-pub record AnswersSome {S : Type 0} (facts : S → StoreFacts) (old : Holding S) (from to before after : Option (List ℕ)) (new : Holding S) : Type 0 where
+-- The line is refused, and what is written of it is its reply, behind the line itself where lines are echoed.
+pub record RefusesRequest {S : Type 0} (facts : S → StoreFacts) (manner : Manner) (old : Holding S) (line : List ℕ) (written : List ℕ) (new : Holding S) : Type 0 where
+  pub fault : Fault
+  pub serves : ServesRequest facts old (command line) (Refused fault) new
+  pub text : written ≡ lead manner.echoes line ++ reply_line (Refused fault)
+
+-- The first ones of the lines are answered, none of them by a refusal, and the next is refused, whose reply is written too. Those
+-- behind it are not looked at.
+pub record StoppedByRefusal {S : Type 0} (facts : S → StoreFacts) (manner : Manner) (old : Holding S) (lines : List (List ℕ)) (written : List ℕ) (new : Holding S) : Type 0 where
+  pub answered : List (List ℕ)
+  pub line : List ℕ
+  pub others : List (List ℕ)
+  pub parts : lines ≡ answered ++ line ∷ others
+  pub mid : Holding S
+  pub before : List ℕ
+  pub run : AnswersLines facts manner old answered before mid
+  pub last : List ℕ
+  pub refuses : RefusesRequest facts manner mid line last new
+  pub text : written ≡ before ++ last
+
+-- What was done where the run stopped in a line of what was read: for lack of memory all before was answered, of lines that a line
+-- feed ends; by a refusal, which only a run does that bails, this line too.
+abbrev pub StopsBy : {S : Type 0} → RunFault → (S → StoreFacts) → Manner → Holding S → List ℕ → List ℕ → Holding S → Type 0
+StopsBy faults.Memory facts manner old read written new = (stopped : StoppedWith facts manner old (lines read) written new) × AreFirst stopped.answered (finished_lines read)
+StopsBy faults.Refused facts manner old read written new = IsTrue manner.bails × StoppedByRefusal facts manner old (lines read) written new
+StopsBy fault facts manner old read written new = ⊥
+
+-- Something was read, and the run stopped in a line of it. What is said to be written then is written, and nothing else.
+pub record AnswersSome {S : Type 0} (fault : RunFault) (facts : S → StoreFacts) (manner : Manner) (old : Holding S) (from to before after : Option (List ℕ)) (new : Holding S) : Type 0 where
   pub read : List ℕ
   pub some : 0 < length read
   pub consumed : Consumes from to read
   pub written : List ℕ
-  pub stopped : StoppedWith facts old (lines read) written new
-  pub finished : AreFirst stopped.answered (finished_lines read)
+  pub stopped : StopsBy fault facts manner old read written new
   pub appended : Appends before after written
 
--- The run stopped in a line of what was read or behind all, and how much of the replies is written isn't said.
-pub record AnswersUnsent {S : Type 0} (facts : S → StoreFacts) (old : Holding S) (from to : Option (List ℕ)) (new : Holding S) : Type 0 where
+-- The run stopped in a line of what was read or behind all, and how much is written isn't said.
+pub record AnswersUnsent {S : Type 0} (facts : S → StoreFacts) (manner : Manner) (old : Holding S) (from to : Option (List ℕ)) (new : Holding S) : Type 0 where
   pub read : List ℕ
   pub consumed : Consumes from to read
   pub replies : List ℕ
-  pub stopped : StoppedWith facts old (lines read) replies new
+  pub stopped : StoppedWith facts manner old (lines read) replies new
 
 -- what a run has done that ends by this fault
-abbrev pub EndsBy : {S : Type 0} → RunFault → (S → StoreFacts) → Holding S → Option (List ℕ) → Option (List ℕ) → Option (List ℕ) → Option (List ℕ) → Holding S → Type 0
-EndsBy faults.Read facts old from to before after new = AnswersFinished facts old from to before after new
-EndsBy faults.Memory facts old from to before after new = AnswersSome facts old from to before after new
-EndsBy faults.Write facts old from to before after new = AnswersUnsent facts old from to new
+abbrev pub EndsBy : {S : Type 0} → RunFault → (S → StoreFacts) → Manner → Holding S → Option (List ℕ) → Option (List ℕ) → Option (List ℕ) → Option (List ℕ) → Holding S → Type 0
+EndsBy faults.Read facts manner old from to before after new = AnswersFinished facts manner old from to before after new
+EndsBy faults.Write facts manner old from to before after new = AnswersUnsent facts manner old from to new
+EndsBy fault facts manner old from to before after new = AnswersSome fault facts manner old from to before after new
+
+-- what a run has done that ends with this result
+abbrev pub RunsTo : {S : Type 0} → Result (Unit {0}) RunFault → (S → StoreFacts) → Manner → Holding S → Option (List ℕ) → Option (List ℕ) → Option (List ℕ) → Option (List ℕ) → Holding S → Type 0
+RunsTo result facts manner old from to before after new =
+    MatchResult result (λ _. AreExact facts old → AnswersAll facts manner old from to before after new)
+    (λ fault. AreExact facts old → EndsBy fault facts manner old from to before after new)

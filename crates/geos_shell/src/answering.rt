@@ -1,16 +1,20 @@
 //! The lines of a script and their replies, as the script comes piece by piece.
-ghost use Rattle.std.specs.Prelude.{◌≡◌, ◌++◌, ◌∷◌, [], ◌≤◌, ℕ, List, length, OnOk, OnErr};
-ghost use Rattle.geos_model.specs.Script.{line_feed};
-ghost use Rattle.geos_shell.specs.Holdings.{holding};
-ghost use Rattle.geos_shell.specs.Progress.{Ends, GoesOver, HasNoFeed, StandsFor, StopsAtEnd, StopsIn, moment};
+ghost use Rattle.std.specs.Prelude.{◌≡◌, ◌++◌, ◌∷◌, [], ◌≤◌, ℕ, List, drop, length, IfOk, IfErr, OnOk, OnErr};
+ghost use Rattle.geos_model.specs.Script.{command, line_feed};
+ghost use Rattle.geos_shell.specs.Holdings.{AreExact, MayServe, holding};
+ghost use Rattle.geos_shell.specs.Manners.{begins_with_no, lead};
+ghost use Rattle.geos_shell.specs.Progress.{Ends, GoesOver, HasNoFeed, IsAnswered, IsStopped, StandsFor, StopsAtEnd, StopsIn, moment};
+ghost use Rattle.geos_shell.specs.Replies.{Extends, Responds};
 
 use crate::replies::answer_line;
+use crate::runner::RunFault;
+use crate::settings::Manner;
 use bstr::ByteSlice;
 use std::alloc::{AllocError, Global};
 use undo_log::Session;
 use vm_store::Store;
 
-/// How many bytes of a line are kept. One that is longer than the longest command is a bad one whatever it holds.
+/// How many bytes of a line are kept, and echoed. One that is longer than the longest command is a bad one whatever it holds.
 const LONGEST_KEPT: usize = 140_001;
 
 /// What is kept of a script that is being answered, between two pieces of it.
@@ -18,7 +22,7 @@ const LONGEST_KEPT: usize = 140_001;
 pub(crate) struct Answering {
     /// The front of the line that has begun and has not ended.
     pub(crate) begun: Vec<u8>,
-    /// The replies that are not written yet.
+    /// The replies that are not written yet, each behind its line where lines are echoed.
     pub(crate) replies: Vec<u8>,
 }
 
@@ -27,48 +31,50 @@ impl Answering {
     pub(crate) fn feed<S: Store>(
         &mut self,
         alloc: Global,
+        manner: Manner,
         session: &mut Session<S>,
         target: &mut Option<S>,
         former: &mut Option<S>,
         piece: &[u8],
-    ) -> Result<(), AllocError>
+    ) -> Result<(), RunFault>
         ensures ok { OnOk result
-            (GoesOver S.facts (moment (holding session.old target.old former.old) self.old) piece.now
+            (GoesOver S.facts manner (moment (holding session.old target.old former.old) self.old) piece.now
             (moment (holding session.new target.new former.new) self.new)) }
-        ensures err { OnErr result
-            (StopsIn S.facts (moment (holding session.old target.old former.old) self.old) piece.now
+        ensures err { IfErr result
+            (λ fault. StopsIn fault S.facts manner (moment (holding session.old target.old former.old) self.old) piece.now
             (moment (holding session.new target.new former.new) self.new)) }
     {
         let mut rest = piece;
         while let Some(end) = rest.find_byte(b'\n') {
-            self.end_line(alloc, session, target, former, &rest[..end])?;
+            self.end_line(alloc, manner, session, target, former, &rest[..end])?;
             rest = &rest[end + 1..];
         }
-        keep(&mut self.begun, rest)
+        Ok(keep(&mut self.begun, rest)?)
     }
 
     /// Answers the line that has begun and ends with `tail`.
     fn end_line<S: Store>(
         &mut self,
         alloc: Global,
+        manner: Manner,
         session: &mut Session<S>,
         target: &mut Option<S>,
         former: &mut Option<S>,
         tail: &[u8],
-    ) -> Result<(), AllocError>
+    ) -> Result<(), RunFault>
         ensures ok { OnOk result (HasNoFeed tail.now
-            → GoesOver S.facts (moment (holding session.old target.old former.old) self.old)
+            → GoesOver S.facts manner (moment (holding session.old target.old former.old) self.old)
             (tail.now ++ line_feed ∷ []) (moment (holding session.new target.new former.new) self.new)) }
-        ensures err { OnErr result (HasNoFeed tail.now → (rest : List ℕ)
-            → StopsIn S.facts (moment (holding session.old target.old former.old) self.old)
+        ensures err { IfErr result (λ fault. HasNoFeed tail.now → (rest : List ℕ)
+            → StopsIn fault S.facts manner (moment (holding session.old target.old former.old) self.old)
             (tail.now ++ line_feed ∷ rest) (moment (holding session.new target.new former.new) self.new)) }
     {
         let replies = &mut self.replies;
         if self.begun.is_empty() {
-            return answer_line(alloc, session, target, former, tail, replies);
+            return answer(alloc, manner, session, target, former, tail, replies);
         }
         keep(&mut self.begun, tail)?;
-        answer_line(alloc, session, target, former, &self.begun, replies)?;
+        answer(alloc, manner, session, target, former, &self.begun, replies)?;
         self.begun.clear();
         Ok(())
     }
@@ -77,23 +83,91 @@ impl Answering {
     pub(crate) fn end<S: Store>(
         &mut self,
         alloc: Global,
+        manner: Manner,
         session: &mut Session<S>,
         target: &mut Option<S>,
         former: &mut Option<S>,
-    ) -> Result<(), AllocError>
+    ) -> Result<(), RunFault>
         ensures ok { OnOk result
-            (Ends S.facts (moment (holding session.old target.old former.old) self.old)
+            (Ends S.facts manner (moment (holding session.old target.old former.old) self.old)
             (moment (holding session.new target.new former.new) self.new)) }
-        ensures err { OnErr result
-            (StopsAtEnd S.facts (moment (holding session.old target.old former.old) self.old)
+        ensures err { IfErr result
+            (λ fault. StopsAtEnd fault S.facts manner (moment (holding session.old target.old former.old) self.old)
             (moment (holding session.new target.new former.new) self.new)) }
     {
         if self.begun.is_empty() {
             return Ok(());
         }
         let replies = &mut self.replies;
-        answer_line(alloc, session, target, former, &self.begun, replies)
+        answer(alloc, manner, session, target, former, &self.begun, replies)
     }
+}
+
+/// Answers a line, behind the line itself where lines are echoed. Where the run bails, a refusal stops it.
+fn answer<S: Store>(
+    alloc: Global,
+    manner: Manner,
+    session: &mut Session<S>,
+    target: &mut Option<S>,
+    former: &mut Option<S>,
+    line: &[u8],
+    out: &mut Vec<u8>,
+) -> Result<(), RunFault>
+    ensures ok { OnOk result (AreExact S.facts (holding session.old target.old former.old)
+        → IsAnswered S.facts manner (holding session.old target.old former.old) line.now
+        (holding session.new target.new former.new) out.old.items out.new.items) }
+    ensures err { IfErr result (λ fault. AreExact S.facts (holding session.old target.old former.old)
+        → IsStopped fault S.facts manner (holding session.old target.old former.old) line.now
+        (holding session.new target.new former.new) out.old.items out.new.items) }
+{
+    let start = out.len();
+    match push_lines(alloc, manner.echoes, session, target, former, line, out) {
+        Ok(is_refusal) if is_refusal && manner.bails => Err(RunFault::Refused),
+        Ok(_) => Ok(()),
+        Err(_) => {
+            out.truncate(start);
+            Err(RunFault::Memory)
+        }
+    }
+}
+
+/// Puts the line behind `out`, if it is to be echoed, and its reply line behind that, and says whether this is a refusal. Where
+/// memory runs out, a part of them may stand there.
+fn push_lines<S: Store>(
+    alloc: Global,
+    echoes: bool,
+    session: &mut Session<S>,
+    target: &mut Option<S>,
+    former: &mut Option<S>,
+    line: &[u8],
+    out: &mut Vec<u8>,
+) -> Result<bool, AllocError>
+    ensures ok { OnOk result (AreExact S.facts (holding session.old target.old former.old)
+        → Responds S.facts (holding session.old target.old former.old) (command line.now)
+        (holding session.new target.new former.new) (out.old.items ++ lead echoes line.now) out.new.items) }
+    ensures refused { IfOk result
+        (λ is_refused. is_refused ≡ begins_with_no (drop (length (out.old.items ++ lead echoes line.now)) out.new.items)) }
+    ensures may { OnErr result (AreExact S.facts (holding session.old target.old former.old)
+        → MayServe S.facts (holding session.old target.old former.old) (command line.now)
+        (holding session.new target.new former.new)) }
+    ensures err { OnErr result (Extends out.old.items out.new.items) }
+{
+    push_lead(echoes, line, out)?;
+    let reply = out.len();
+    answer_line(alloc, session, target, former, line, out)?;
+    Ok(out[reply..].starts_with(b"no "))
+}
+
+/// Puts the line behind `out`, if it is to be echoed.
+fn push_lead(echoes: bool, line: &[u8], out: &mut Vec<u8>) -> Result<(), AllocError>
+    ensures ok { OnOk result (out.new.items ≡ out.old.items ++ lead echoes line.now) }
+    ensures err { OnErr result (Extends out.old.items out.new.items) }
+{
+    if !echoes {
+        return Ok(());
+    }
+    out.extend_from_slice(&line[..line.len().min(LONGEST_KEPT)])?;
+    Ok(out.push(b'\n')?)
 }
 
 /// Puts a part of a line behind what is kept of it.

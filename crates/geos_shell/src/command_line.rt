@@ -1,13 +1,13 @@
-//! Reads the command line: `geosvm [--new] [--cache N] [--as FILE2] FILE`.
+//! Reads the command line: `geosvm [--new] [--bail] [--echo] [--cache N] [--as FILE2] FILE`.
 ghost use Rattle.std.specs.Prelude.{◌≡◌, ◌≤◌, codes, drop, true, false, IfOk, IfErr, map};
 ghost use Rattle.std.specs.List.{Contains};
 ghost use Rattle.clap.specs.Words.{FailsBy, app_of, fault_of, found_of, kind_of, matches_of, rows_of, rule_of};
-ghost use Rattle.geos_shell.specs.Options.{IsMatched, IsUsable, RefusesWords, TurnsInto, as_option, cache_option, command_line, file_operand, geosvm, new_flag, said, told_by};
+ghost use Rattle.geos_shell.specs.Options.{IsMatched, IsUsable, RefusesWords, TurnsInto, as_option, cache_option, command_line, file_operand, flag, geosvm, said, told_by};
 
 use crate::commands::command_list;
 use crate::outcome::Outcome;
 use crate::runner::RunFault;
-use crate::settings::Options;
+use crate::settings::{Manner, Options};
 use clap::error::ErrorKind;
 use clap::{Arg, ArgAction, ArgMatches, Command, Error, value_parser};
 use geos_model::Bytes;
@@ -61,20 +61,26 @@ fn command<'a>(alloc: Global) -> Result<Command<'a>, AllocError>
         .version("0.1.0, for files of version 1 and 2")
         .about(ABOUT)
         .after_help(command_list())
-        .arg(new_flag(alloc))?
+        .arg(flag(
+            alloc,
+            "new",
+            "Make FILE; one that is there is emptied, without a question",
+        ))?
+        .arg(flag(alloc, "bail", "End at the first refusal, with status 1"))?
+        .arg(flag(alloc, "echo", "Write each line before its reply"))?
         .arg(cache_option(alloc))?
         .arg(as_option(alloc))?
         .arg(file_operand(alloc))
 }
 
-fn new_flag<'a>(alloc: Global) -> Arg<'a>
-    ensures { (rule_of result ≡ new_flag) × (result.global ≡ false) }
+fn flag<'a>(alloc: Global, name: &'a str, help: &'a str) -> Arg<'a>
+    ensures { (rule_of result ≡ flag name.entry.now) × (result.global ≡ false) }
 {
-    Arg::new(alloc, "new")
-        .long("new")
+    Arg::new(alloc, name)
+        .long(name)
         .action(ArgAction::SetTrue)
         .value_parser(value_parser!(bool))
-        .help("Make FILE; one that is there is emptied, without a question")
+        .help(help)
 }
 
 fn cache_option<'a>(alloc: Global) -> Arg<'a>
@@ -122,6 +128,10 @@ fn told<'a>(matches: &ArgMatches<'a>) -> Options<'a>
         cache: matches.get_one::<u8>("cache").unwrap_or(FRAMES),
         target: matches.get_str("as"),
         file,
+        manner: Manner {
+            bails: matches.get_flag("bail"),
+            echoes: matches.get_flag("echo"),
+        },
     }
 }
 

@@ -25,5 +25,5 @@ pub use outcome::Outcome;
 pub use parser::parse;
 pub use program::serve;
 pub use replies::answer_line;
-pub use runner::{RunFault, run, run_in, run_in_reads};
-pub use settings::Options;
+pub use runner::{RunFault, run, run_in, run_in_manner, run_in_reads};
+pub use settings::{Manner, Options};

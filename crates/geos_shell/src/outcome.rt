@@ -57,6 +57,7 @@ impl Outcome {
             Outcome::Run(RunFault::Read) => writer.write_all(b"geosvm: read fault\n"),
             Outcome::Run(RunFault::Write) => writer.write_all(b"geosvm: write fault\n"),
             Outcome::Run(RunFault::Memory) => writer.write_all(b"geosvm: memory\n"),
+            Outcome::Run(RunFault::Refused) => writer.write_all(b"geosvm: refused\n"),
             Outcome::Done => Ok(()),
         }
     }

@@ -8,8 +8,8 @@ ghost use Rattle.geos_shell.specs.Holdings.{holding};
 use crate::command_line::options;
 use crate::files::Files;
 use crate::outcome::Outcome;
-use crate::runner::run_in;
-use crate::settings::Options;
+use crate::runner::{READS, run_in_manner};
+use crate::settings::{Manner, Options};
 use geos_model::Fault;
 use std::alloc::Global;
 use std::convert::AsStr;
@@ -34,7 +34,7 @@ pub fn serve<'a, F: Files, T: AsStr, R: Read, W: Write>(
 {
     match options(alloc, words) {
         Ok(options) => match begin(alloc, files, options) {
-            Ok(begun) => answer(alloc, files, begun, reader, writer),
+            Ok(begun) => answer(alloc, options.manner, files, begun, reader, writer),
             Err(outcome) => outcome,
         },
         Err(outcome) => outcome,
@@ -150,12 +150,13 @@ fn open<F: Files>(
 /// Answers the script, and closes all files.
 fn answer<F: Files, R: Read, W: Write>(
     alloc: Global,
+    manner: Manner,
     files: &mut F,
     begun: Begun<F::Opened>,
     reader: &mut R,
     writer: &mut W,
 ) -> Outcome
-    ensures { IsScriptAnswered F.calls F.Opened.facts (holding begun.session begun.target None) files.old files.new
+    ensures { IsScriptAnswered F.calls F.Opened.facts manner (holding begun.session begun.target None) files.old files.new
         (R.remaining reader.old) (R.remaining reader.new) (W.contents writer.old) (W.contents writer.new) result }
 {
     let Begun {
@@ -163,7 +164,16 @@ fn answer<F: Files, R: Read, W: Write>(
         mut target,
     } = begun;
     let mut old = None;
-    let ended = run_in(alloc, &mut session, &mut target, &mut old, reader, writer);
+    let ended = run_in_manner(
+        alloc,
+        manner,
+        &mut session,
+        &mut target,
+        &mut old,
+        reader,
+        writer,
+        READS,
+    );
     files.close(session.close());
     close_any(files, target);
     close_any(files, old);

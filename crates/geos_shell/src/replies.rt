@@ -176,7 +176,7 @@ fn push_answer<S: Store>(
     ensures may { OnErr result (AreExact S.facts (holding session.old target.old former.old)
         → MayServe S.facts (holding session.old target.old former.old) (command line.now)
         (holding session.new target.new former.new)) }
-    ensures err { OnErr result (Extends out.old.items out.new.items) }
+    ensures extends { Extends out.old.items out.new.items }
 {
     match parse(alloc, line) {
         Ok(Command::Blank) => Ok(()),
@@ -215,6 +215,7 @@ pub fn answer_line<S: Store>(
     ensures may { OnErr result (AreExact S.facts (holding session.old target.old former.old)
         → MayServe S.facts (holding session.old target.old former.old) (command line.now)
         (holding session.new target.new former.new)) }
+    ensures extends { Extends out.old.items out.new.items }
     ensures err { OnErr result (out.new.items ≡ out.old.items) }
 {
     let start = out.len();

@@ -1,12 +1,14 @@
 //! A run over a script: pieces are read, their lines answered, and the replies written.
-ghost use Rattle.std.specs.Prelude.{◌≡◌, ◌⊎◌, ◌<◌, [], true, false, IfOk, IfErr, OnOk, None, Option, is_ok, length};
+ghost use Rattle.std.specs.Prelude.{◌≡◌, ◌⊎◌, ◌<◌, [], true, IfOk, IfErr, OnOk, Err, None, Option, is_ok, length};
 ghost use Rattle.std.specs.Io.KnownBytes.{Appends, Keeps};
 ghost use Rattle.undo_log.specs.Sessions.{IsExact};
 ghost use Rattle.geos_shell.specs.Holdings.{AreExact, Holding, holding};
-ghost use Rattle.geos_shell.specs.Runs.{AnswersAll, EndsBy};
+ghost use Rattle.geos_shell.specs.Manners.{plain};
+ghost use Rattle.geos_shell.specs.Runs.{AnswersAll, EndsBy, RunsTo};
 ghost use Rattle.geos_shell.specs.Given.{Gives};
 
 use crate::answering::Answering;
+use crate::settings::Manner;
 use std::alloc::{AllocError, Global};
 use std::fmt;
 use std::io::{ErrorKind, Read, Write};
@@ -17,17 +19,25 @@ use vm_store::Store;
 const PIECE: usize = 4_096;
 
 /// How many reads a run makes at most, so that it ends with any reader.
-const READS: u32 = 1 << 24;
+pub(crate) const READS: u32 = 1 << 24;
+
+/// A run goes to its script's end, and writes nothing but replies.
+const PLAIN: Manner = Manner {
+    bails: false,
+    echoes: false,
+};
 
 /// Why a run ended before its script did.
 #[derive(Clone, Copy, Debug, PartialEq, Eq)]
 pub enum RunFault {
-    /// The reader failed, or hadn't ended after 2^24 reads.
+    /// The reader failed, or hadn't ended after as many reads as the run may make.
     Read,
     /// The writer failed. How much of the replies went out is not known.
     Write,
     /// A line, the bytes of its command or the text of a reply found no memory.
     Memory,
+    /// A command was refused, in a run that bails.
+    Refused,
 }
 
 impl fmt::Display for RunFault {
@@ -36,7 +46,19 @@ impl fmt::Display for RunFault {
             RunFault::Read => write!(f, "read fault"),
             RunFault::Write => write!(f, "write fault"),
             RunFault::Memory => write!(f, "memory"),
+            RunFault::Refused => write!(f, "refused"),
         }
+    }
+}
+
+impl From<AllocError> for RunFault {
+    ghost use Rattle.std.specs.Prelude.{◌≡◌};
+    ghost use Rattle.geos_shell.specs.declared.runner.RunFault.TheVariants.{Memory};
+
+    ghost from_gives = { λ _ fault. fault ≡ Memory };
+
+    fn from(_: AllocError) -> RunFault {
+        RunFault::Memory
     }
 }
 
@@ -60,12 +82,12 @@ pub fn run<S: Store, R: Read, W: Write>(
 ) -> Result<Session<S>, RunFault>
     // Where the run ends well, a whole script was read and each line of it answered.
     ensures ok { IfOk result (λ after. AreExact S.facts (holding session target None) → (left former : Option S)
-        × AnswersAll S.facts (holding session target None) (R.remaining reader.old) (R.remaining reader.new)
+        × AnswersAll S.facts plain (holding session target None) (R.remaining reader.old) (R.remaining reader.new)
         (W.contents writer.old) (W.contents writer.new) (holding after left former)) }
     ensures exact { IfOk result (λ after. AreExact S.facts (holding session target None) → IsExact S.facts after) }
     // Where reading fails, each line that had ended is answered; where memory runs out or the writer fails, the first ones.
     ensures err { IfErr result (λ fault. AreExact S.facts (holding session target None) → (after : Holding S)
-        × EndsBy fault S.facts (holding session target None) (R.remaining reader.old) (R.remaining reader.new)
+        × EndsBy fault S.facts plain (holding session target None) (R.remaining reader.old) (R.remaining reader.new)
         (W.contents writer.old) (W.contents writer.new) after) }
 {
     let mut session = session;
@@ -88,16 +110,9 @@ pub fn run_in<S: Store, R: Read, W: Write>(
     reader: &mut R,
     writer: &mut W,
 ) -> Result<(), RunFault>
-    // Where the run ends well, a whole script was read and each line of it answered.
-    ensures ok { OnOk result (AreExact S.facts (holding session.old target.old former.old)
-        → AnswersAll S.facts (holding session.old target.old former.old) (R.remaining reader.old)
+    ensures { RunsTo result S.facts plain (holding session.old target.old former.old) (R.remaining reader.old)
         (R.remaining reader.new) (W.contents writer.old) (W.contents writer.new)
-        (holding session.new target.new former.new)) }
-    // Where reading fails, each line that had ended is answered; where memory runs out or the writer fails, the first ones.
-    ensures err { IfErr result (λ fault. AreExact S.facts (holding session.old target.old former.old)
-        → EndsBy fault S.facts (holding session.old target.old former.old) (R.remaining reader.old)
-        (R.remaining reader.new) (W.contents writer.old) (W.contents writer.new)
-        (holding session.new target.new former.new)) }
+        (holding session.new target.new former.new) }
 {
     run_in_reads(alloc, session, target, former, reader, writer, READS)
 }
@@ -112,16 +127,29 @@ pub fn run_in_reads<S: Store, R: Read, W: Write>(
     writer: &mut W,
     reads: u32,
 ) -> Result<(), RunFault>
-    // Where the run ends well, a whole script was read and each line of it answered.
-    ensures ok { OnOk result (AreExact S.facts (holding session.old target.old former.old)
-        → AnswersAll S.facts (holding session.old target.old former.old) (R.remaining reader.old)
+    ensures { RunsTo result S.facts plain (holding session.old target.old former.old) (R.remaining reader.old)
         (R.remaining reader.new) (W.contents writer.old) (W.contents writer.new)
-        (holding session.new target.new former.new)) }
-    // Where reading fails, each line that had ended is answered; where memory runs out or the writer fails, the first ones.
-    ensures err { IfErr result (λ fault. AreExact S.facts (holding session.old target.old former.old)
-        → EndsBy fault S.facts (holding session.old target.old former.old) (R.remaining reader.old)
+        (holding session.new target.new former.new) }
+{
+    run_in_manner(alloc, PLAIN, session, target, former, reader, writer, reads)
+}
+
+/// Answers a script as `run_in_reads` does, in a manner of the caller's. Where lines are echoed, the line and a line feed go before
+/// its reply; of a line of more than 140,001 bytes, which is no command, so many. A run that bails ends by `Refused` behind the first
+/// reply that is a refusal, and carries out nothing further, whatever else was read.
+pub fn run_in_manner<S: Store, R: Read, W: Write>(
+    alloc: Global,
+    manner: Manner,
+    session: &mut Session<S>,
+    target: &mut Option<S>,
+    former: &mut Option<S>,
+    reader: &mut R,
+    writer: &mut W,
+    reads: u32,
+) -> Result<(), RunFault>
+    ensures { RunsTo result S.facts manner (holding session.old target.old former.old) (R.remaining reader.old)
         (R.remaining reader.new) (W.contents writer.old) (W.contents writer.new)
-        (holding session.new target.new former.new)) }
+        (holding session.new target.new former.new) }
 {
     let mut answering = Answering {
         begun: Vec::new(alloc),
@@ -132,11 +160,11 @@ pub fn run_in_reads<S: Store, R: Read, W: Write>(
         match read_piece(reader, &mut piece)? {
             Given::Interrupted => {}
             Given::End => {
-                let ended = answering.end(alloc, session, target, former);
+                let ended = answering.end(alloc, manner, session, target, former);
                 return send(ended, &mut answering.replies, writer);
             }
             Given::Bytes(count) => {
-                let fed = answering.feed(alloc, session, target, former, &piece[..count]);
+                let fed = answering.feed(alloc, manner, session, target, former, &piece[..count]);
                 send(fed, &mut answering.replies, writer)?;
             }
         }
@@ -169,23 +197,20 @@ fn read_piece<R: Read>(reader: &mut R, piece: &mut [u8]) -> Result<Given, RunFau
     }
 }
 
-/// Writes the replies so far, so that they are seen before the next read, also where there was no memory to answer further.
+/// Writes the replies so far, so that they are seen before the next read, also where the run stopped in a line.
 fn send<W: Write>(
-    answered: Result<(), AllocError>,
+    answered: Result<(), RunFault>,
     replies: &mut Vec<u8>,
     writer: &mut W,
 ) -> Result<(), RunFault>
     ensures ok { OnOk result ((is_ok answered ≡ true) × (replies.new.items ≡ [])
         × Appends (W.contents writer.old) (W.contents writer.new) replies.old.items) }
-    ensures err { IfErr result (λ fault. (fault ≡ RunFault.Write) ⊎ ((fault ≡ RunFault.Memory)
-        × (is_ok answered ≡ false) × Appends (W.contents writer.old) (W.contents writer.new) replies.old.items)) }
+    ensures err { IfErr result (λ fault. (fault ≡ RunFault.Write) ⊎ ((answered ≡ Err fault)
+        × Appends (W.contents writer.old) (W.contents writer.new) replies.old.items)) }
 {
     if writer.write_all(replies).is_err() || writer.flush().is_err() {
         return Err(RunFault::Write);
     }
     replies.clear();
-    match answered {
-        Ok(()) => Ok(()),
-        Err(_) => Err(RunFault::Memory),
-    }
+    answered
 }

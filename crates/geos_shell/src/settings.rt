@@ -11,4 +11,15 @@ pub struct Options<'a> {
     pub target: Option<&'a str>,
     /// The file of the document.
     pub file: &'a str,
+    /// How the script is run.
+    pub manner: Manner,
+}
+
+/// How a script is run.
+#[derive(Clone, Copy, Debug, PartialEq, Eq)]
+pub struct Manner {
+    /// The run ends behind the first refusal.
+    pub bails: bool,
+    /// Each line is written before its reply.
+    pub echoes: bool,
 }

@@ -1,5 +1,5 @@
 //! What command lines give: options, or the outcome that the program ends with.
-use geos_shell::{Options, Outcome, options};
+use geos_shell::{Manner, Options, Outcome, options};
 use std::alloc::Global;
 use std::test::Fail;
 
@@ -9,12 +9,24 @@ fn asked<'a>(new: bool, cache: u8, target: Option<&'a str>, file: &'a str) -> Op
         cache,
         target,
         file,
+        manner: Manner {
+            bails: false,
+            echoes: false,
+        },
+    }
+}
+
+fn in_manner<'a>(bails: bool, echoes: bool, options: Options<'a>) -> Options<'a> {
+    Options {
+        manner: Manner { bails, echoes },
+        ..options
     }
 }
 
 #[test]
 fn options_are_read_in_any_order(rt: HostRuntime) -> Result<(), Fail> {
-    let lines: [(&[&str], Options); 12] = [
+    let plain = asked(false, 8, None, "F");
+    let lines: [(&[&str], Options); 15] = [
         (&["geosvm", "F"], asked(false, 8, None, "F")),
         (&["geosvm", "--new", "F"], asked(true, 8, None, "F")),
         (&["geosvm", "F", "--new"], asked(true, 8, None, "F")),
@@ -37,6 +49,12 @@ fn options_are_read_in_any_order(rt: HostRuntime) -> Result<(), Fail> {
             &["geosvm", "--as=G", "é/F", "--cache=9", "--new"],
             asked(true, 9, Some("G"), "é/F"),
         ),
+        (&["geosvm", "--bail", "F"], in_manner(true, false, plain)),
+        (&["geosvm", "F", "--echo"], in_manner(false, true, plain)),
+        (
+            &["geosvm", "--echo", "--new", "--bail", "F"],
+            in_manner(true, true, asked(true, 8, None, "F")),
+        ),
         (&["geosvm", "--", "--new"], asked(false, 8, None, "--new")),
         (&["geosvm", "-"], asked(false, 8, None, "-")),
     ];
@@ -51,7 +69,7 @@ fn options_are_read_in_any_order(rt: HostRuntime) -> Result<(), Fail> {
 
 #[test]
 fn bad_command_lines_end_with_status_2(rt: HostRuntime) -> Result<(), Fail> {
-    let lines: [&[&str]; 14] = [
+    let lines: [&[&str]; 16] = [
         &[],
         &["geosvm"],
         &["geosvm", "--cache", "0", "F"],
@@ -63,6 +81,8 @@ fn bad_command_lines_end_with_status_2(rt: HostRuntime) -> Result<(), Fail> {
         &["geosvm", "F", "--cache"],
         &["geosvm", "--new", "--new", "F"],
         &["geosvm", "--new=true", "F"],
+        &["geosvm", "--bail", "--echo", "--bail", "F"],
+        &["geosvm", "--echo=true", "F"],
         &["geosvm", "--old", "F"],
         &["geosvm", "F", "G"],
         // What is wrong with the words comes before the equal names.

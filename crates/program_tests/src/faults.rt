@@ -8,6 +8,7 @@ fn faults_of_a_run_are_told(rt: HostRuntime) -> Result<(), Fail> {
         (RunFault::Read, "read fault"),
         (RunFault::Write, "write fault"),
         (RunFault::Memory, "memory"),
+        (RunFault::Refused, "refused"),
     ] {
         assert_eq!(rt; fault.to_string(rt.alloc())?.as_str(), text);
     }

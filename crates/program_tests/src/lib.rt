@@ -14,6 +14,8 @@ mod help;
 #[cfg(test)]
 mod lending;
 #[cfg(test)]
+mod manners;
+#[cfg(test)]
 mod memory;
 #[cfg(test)]
 mod mismatches;

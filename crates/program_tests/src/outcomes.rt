@@ -23,6 +23,7 @@ fn each_outcome_has_its_status_and_line(rt: HostRuntime) -> Result<(), Fail> {
         (Outcome::Run(RunFault::Read), 1, "geosvm: read fault\n"),
         (Outcome::Run(RunFault::Write), 1, "geosvm: write fault\n"),
         (Outcome::Run(RunFault::Memory), 1, "geosvm: memory\n"),
+        (Outcome::Run(RunFault::Refused), 1, "geosvm: refused\n"),
         (Outcome::SameFile, 2, "geosvm: FILE2 is FILE\n"),
     ];
     for (outcome, status, line) in &outcomes {

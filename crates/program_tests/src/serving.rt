@@ -147,6 +147,24 @@ const SERVINGS: &[Serving] = &[
         closed: &[Closed::Lists("blocks 0001\n")],
     },
     Serving {
+        name: "a refusal ends a run that bails, and leaves what was saved",
+        document: Content::Made,
+        can_guard: true,
+        run: Run {
+            words: &["geosvm", "--bail", "--echo", "document"],
+            script: &[
+                Piece::Text("newraw 1 1\nsave\nnewraw 2 2\nvfree 0003\nsave\n"),
+                Piece::Text("save\n"),
+            ],
+            writes: 100,
+            replies: "newraw 1 1\nblock 0001\nsave\nok\nnewraw 2 2\nblock 0002\nvfree 0003\nno 5 NoBlock\n",
+            line: "geosvm: refused\n",
+            status: 1,
+        },
+        asked: "guard open:document ",
+        closed: &[Closed::Lists("blocks 0001\n")],
+    },
+    Serving {
         name: "a read that fails leaves what was saved",
         document: Content::Made,
         can_guard: true,

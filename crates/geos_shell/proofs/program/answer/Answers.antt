@@ -4,18 +4,18 @@ use Rattle.geos_shell.proofs.program.answer.Goals as goal
 
 pub returns-in-Ok : goal.returns-in-Ok
 returns-in-Ok g c =
-    let new = c.run_in-ended.new in
+    let new = c.run_in_manner-ended.new in
     record {
       left = record { session = new.session; target = new.target; former = new.former };
-      ends = c.in-Ok.ensures.ok;
+      ends = c.in-Ok.ensures;
       closes = record { first = c.close-2.new.self; second = c.close_any.new.files; file = rw c.close.ensures at c.close-2.ensures; target = c.close_any.ensures; former = c.close_any-2.ensures };
     }
 
 pub returns-in-Err : goal.returns-in-Err
 returns-in-Err g c =
-    let new = c.run_in-ended.new in
+    let new = c.run_in_manner-ended.new in
     record {
       left = record { session = new.session; target = new.target; former = new.former };
-      ends = c.in-Err.ensures.err;
+      ends = c.in-Err.ensures;
       closes = record { first = c.close-2.new.self; second = c.close_any.new.files; file = rw c.close.ensures at c.close-2.ensures; target = c.close_any.ensures; former = c.close_any-2.ensures };
     }

@@ -1,14 +1,14 @@
 use Rattle.std.proofs.Common.{◌≡◌, ◌++◌, ◌∷◌, [], ◌+◌, ◌<◌, length, take, drop, arith, sym, ap, ◌∙◌, refl}
 use Rattle.std.proofs.lemmas.List.{append_assoc, take_rest}
-use Rattle.std.proofs.lemmas.Result.{on_ok_weaker}
+use Rattle.std.proofs.lemmas.Result.{err_from_is_err_and}
 use Rattle.geos_shell.specs.Holdings.{holding}
 use Rattle.geos_shell.specs.Progress.{StopsIn, moment}
 use Rattle.geos_shell.proofs.Lines.{HasNoFeed-before, HasNoFeed-from_reads, cut_at_feed, rest_at_feed}
-use Rattle.geos_shell.proofs.Calls.{on_err_always}
 use Rattle.geos_shell.proofs.Steps.{GoesOver-trans, StopsIn-trans, StopsIn-same, Progress-part}
+use Rattle.geos_shell.specs.declared.runner.RunFault.TheVariants as faults
 use Rattle.geos_shell.proofs.answering.Answering.feed.Goals as goal
 
--- No memory for a line: the lines before it are answered.
+-- The run stops in a line: the lines before it are answered.
 pub returns-in_err-end_line-clause-err : goal.returns-in_err-end_line-clause-err
 returns-in_err-end_line-clause-err g c =
     let facts = g.S.Store.facts in
@@ -21,8 +21,10 @@ returns-in_err-end_line-clause-err g c =
     let first = moment (holding c.args.session.now c.args.target.now c.args.former.now) c.args.self.now in
     let before = moment (holding c.loop-end.session c.loop-end.target c.loop-end.former) c.loop-end.self in
     let after = moment (holding c.end_line.new.session c.end_line.new.target c.end_line.new.former) c.end_line.new.self in
-    let stops : StopsIn facts before rest after = rw (rest_at_feed rest end within found.1) (c.in_err-end_line.ensures.err free (drop (end + 1) rest)) in
-    on_err_always c.from_residual.result (rw cut (StopsIn-trans facts first before after used rest goes stops))
+    let fault = c.in_err-end_line.field-0.0 in
+    let stops : StopsIn fault facts c.args.manner before rest after = rw (rest_at_feed rest end within found.1) (c.in_err-end_line.ensures.err free (drop (end + 1) rest)) in
+    let ended = err_from_is_err_and c.from_residual.result c.from_residual.ensures.1 in
+    rw (ended.1, ended.2) (rw cut (StopsIn-trans facts c.args.manner fault first before after used rest goes stops))
 
 -- A line ends.
 pub loop-end-preserved : goal.loop-end-preserved
@@ -39,7 +41,7 @@ loop-end-preserved g c =
     let first = moment (holding c.args.session.now c.args.target.now c.args.former.now) c.args.self.now in
     let before = moment (holding c.loop-end.session c.loop-end.target c.loop-end.former) c.loop-end.self in
     let after = moment (holding c.end_line.new.session c.end_line.new.target c.end_line.new.former) c.end_line.new.self in
-    (used ++ line, rw (take_rest rest (end + 1)) all, GoesOver-trans g.S.Store.facts first before after used line goes (c.in_ok-end_line.ensures.ok free))
+    (used ++ line, rw (take_rest rest (end + 1)) all, GoesOver-trans g.S.Store.facts c.args.manner first before after used line goes (c.in_ok-end_line.ensures.ok free))
 
 -- The rest of the piece is kept.
 pub returns-clause-ok : goal.returns-clause-ok
@@ -51,11 +53,11 @@ returns-clause-ok g c =
     let before = moment held c.loop-end.self in
     let after = moment held (record c.loop-end.self { begun = c.keep.new.begun }) in
     let free = HasNoFeed-from_reads rest (λ k low. c.in_default.ensures k (omega arith) low) in
-    on_ok_weaker c.keep.result (λ stands. rw cut (GoesOver-trans g.S.Store.facts first before after used rest goes (λ start read sent p. Progress-part p rest c.keep.new.begun.items free stands))) c.keep.ensures.ok
+    rw cut (GoesOver-trans g.S.Store.facts c.args.manner first before after used rest goes (λ start read sent p. Progress-part p rest c.keep.new.begun.items free c.in_ok-keep.ensures.ok))
 
 -- No memory to keep it.
-pub returns-clause-err : goal.returns-clause-err
-returns-clause-err g c =
+pub returns-in_err-keep-clause-err : goal.returns-in_err-keep-clause-err
+returns-in_err-keep-clause-err g c =
     let facts = g.S.Store.facts in
     let (used, cut, goes) = c.loop-end.invariant in
     let rest = c.loop-end.rest.now in
@@ -63,4 +65,5 @@ returns-clause-err g c =
     let first = moment (holding c.args.session.now c.args.target.now c.args.former.now) c.args.self.now in
     let before = moment held c.loop-end.self in
     let after = moment held (record c.loop-end.self { begun = c.keep.new.begun }) in
-    on_err_always c.keep.result (rw cut (StopsIn-trans facts first before after used rest goes (StopsIn-same facts before after rest refl refl)))
+    let ended = err_from_is_err_and c.from_residual-in_err-keep.result c.from_residual-in_err-keep.ensures.1 in
+    rw (ended.1, ended.2) (rw cut (StopsIn-trans facts c.args.manner faults.Memory first before after used rest goes (StopsIn-same facts c.args.manner before after rest refl refl)))

@@ -7,7 +7,7 @@ use Rattle.geos_shell.proofs.answering.Answering.feed.Given as goal
 abbrev pub invariant-loop-end : goal.invariant-loop-end
 invariant-loop-end g l =
     (used : List ℕ) × (l.piece ≡ used ++ l.rest)
-    × GoesOver g.S.Store.facts (moment (holding l.initial.session l.initial.target l.initial.former) l.initial.self) used (moment (holding l.session l.target l.former) l.self)
+    × GoesOver g.S.Store.facts l.initial.manner (moment (holding l.initial.session l.initial.target l.initial.former) l.initial.self) used (moment (holding l.session l.target l.former) l.self)
 
 abbrev pub decreases-loop-end : goal.decreases-loop-end
 decreases-loop-end g l = length l.rest

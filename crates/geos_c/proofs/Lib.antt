@@ -1,0 +1,5 @@
+pub mod Values
+pub mod Handles
+pub mod HandleCalls
+pub mod Opening
+pub mod Given

@@ -1,0 +1,10 @@
+use Rattle.std.proofs.Common.{◌≡◌, rules, to_z, of_z, w32}
+use Rattle.geos_c.specs.Calls.{UnlocksBlock}
+use Rattle.geos_c.proofs.HandleCalls.{served}
+use Rattle.geos_c.proofs.exports.geosvm_unlock.Goals as goal
+
+pub returns-in-Some : goal.returns-in-Some
+returns-in-Some c =
+    let code : to_z w32 (of_z w32 c.unlock-code.result) ≡ c.unlock-code.result = search rules in
+    served _ _ _ _ _ _ _ c.in-Some.ensures.was_open c.deref_mut.ensures.value c.put.ensures code
+    (UnlocksBlock c.args.block) c.unlock-code.ensures

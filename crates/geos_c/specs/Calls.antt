@@ -1,0 +1,140 @@
+-- What calls of a session do, over any store, by what they are answered.
+use Rattle.std.specs.Prelude.{◌≡◌, ◌⊎◌, ◌||◌, ℕ, ℤ, Bool, true, false, IsTrue, List, [], Some, Result, OnOk, OnErr, IfErr, MatchResult}
+use Rattle.std.specs.Result.{result_unwrap_or}
+use Rattle.geos_model.specs.Machine.{Step}
+use Rattle.geos_model.specs.Reply.{Reply, Accepted, Refused, NumberIs, reply_by}
+use Rattle.geos_model.specs.declared.command.Command.{Command}
+use Rattle.geos_model.specs.declared.command.Command.TheVariants as commands
+use Rattle.geos_model.specs.declared.handle.ChunkHandle.{ChunkHandle}
+use Rattle.geos_model.specs.declared.handle.VmHandle.{VmHandle}
+use Rattle.geos_model.specs.declared.fault.Fault.{Fault}
+use Rattle.geos_model.specs.declared.fault.Fault.TheVariants.{NothingToUndo, NothingToRedo}
+use Rattle.chunk_edits.specs.declared.direction.Direction.TheVariants.{Forwards, Backwards}
+use Rattle.vm_store.specs.Facts.{StoreFacts}
+use Rattle.vm_file.specs.Effects.{Fails, IsWorn}
+use Rattle.vm_blocks.specs.Committing.{IsSavedAs}
+use Rattle.vm_blocks.specs.Locking.{GainsLock, LosesLock}
+use Rattle.undo_log.specs.Committing.{IsBusy, IsSaveAsRefused, IsSessionCommit}
+use Rattle.undo_log.specs.Logging.{empty_log, with_group_closed}
+use Rattle.undo_log.specs.Sessions.{SessionState, AnswersLookUp, IsExact, IsStep, KeepsSession, cache_of, failed_since, file_of, machine_of}
+use Rattle.undo_log.specs.Turning.{Abandons, IsNotAbandoned, IsRefusedUndoOrRedo, MovesEntry}
+use Rattle.geos_c.specs.Codes.{HandsOutReply}
+
+abbrev pub Answer : Type 0
+Answer = Result (Unit {0}) Fault
+
+-- in an exact session it is the step of the machine by this command
+abbrev pub Steps : {S : Type 0} → (S → StoreFacts) → Command → SessionState S → SessionState S → Answer → Type 0
+Steps facts command old new answer = IsStep facts old new command (reply_by (λ _. Accepted) answer)
+
+abbrev pub Undoes : {S : Type 0} → (S → StoreFacts) → SessionState S → SessionState S → Answer → Type 0
+Undoes facts old new answer = Steps facts commands.Undo old new answer
+    × OnOk answer (MovesEntry facts Backwards (cache_of old) (cache_of new) old.log.undo old.log.redo new.log.undo new.log.redo)
+    × OnErr answer (KeepsSession facts old new)
+    × IfErr answer (IsRefusedUndoOrRedo facts NothingToUndo old.log.undo old new)
+
+abbrev pub Redoes : {S : Type 0} → (S → StoreFacts) → SessionState S → SessionState S → Answer → Type 0
+Redoes facts old new answer = Steps facts commands.Redo old new answer
+    × OnOk answer (MovesEntry facts Forwards (cache_of old) (cache_of new) old.log.redo old.log.undo new.log.redo new.log.undo)
+    × OnErr answer (KeepsSession facts old new)
+    × IfErr answer (IsRefusedUndoOrRedo facts NothingToRedo old.log.redo old new)
+
+-- why a commit is refused, but for what the store does
+abbrev pub FailsCommit : {S : Type 0} → (S → StoreFacts) → SessionState S → SessionState S → Answer → Type 0
+FailsCommit facts old new answer = Fails facts (λ fault. IsWorn fault ⊎ IsBusy old fault) old.disk.store new.disk.store answer
+
+abbrev pub Updates : {S : Type 0} → (S → StoreFacts) → SessionState S → SessionState S → Answer → Type 0
+Updates facts old new answer = Steps facts commands.Update old new answer
+    × IsSessionCommit facts (old.document, old.disk.saved) old.document old new answer
+    × FailsCommit facts old new answer
+    × (new.log ≡ old.log)
+
+abbrev pub Saves : {S : Type 0} → (S → StoreFacts) → SessionState S → SessionState S → Answer → Type 0
+Saves facts old new answer = Steps facts commands.Save old new answer
+    × IsSessionCommit facts (old.document, old.document) old.document old new answer
+    × FailsCommit facts old new answer
+    × (new.log ≡ old.log)
+
+abbrev pub Reverts : {S : Type 0} → (S → StoreFacts) → SessionState S → SessionState S → Answer → Type 0
+Reverts facts old new answer = Steps facts commands.Revert old new answer
+    × IsSessionCommit facts (old.disk.saved, old.disk.saved) old.disk.saved old new answer
+    × FailsCommit facts old new answer
+    × MatchResult answer (λ _. new.log ≡ empty_log) (λ _. new.log ≡ old.log)
+
+-- what a save-as that was accepted leaves: the session is in the target, and the store of the old file isn't kept
+pub record IsMovedTo {S : Type 0} (facts : S → StoreFacts) (target : S) (old new : SessionState S) : Type 0 where
+  pub store : S
+  pub saved : IsSavedAs facts target store (file_of old) (file_of new)
+  pub step : IsExact facts old → IsTrue (facts target).honest
+      → IsExact facts new × Step false (machine_of true old) (Some commands.SaveAs) Accepted (machine_of false new)
+
+-- one that was refused: the session stays where it is, and the target isn't kept
+pub record IsNotMovedTo {S : Type 0} (facts : S → StoreFacts) (target : S) (old new : SessionState S) (fault : Fault) : Type 0 where
+  pub store : S
+  pub refused : IsSaveAsRefused facts target store old new fault
+  pub step : IsExact facts old → IsExact facts new
+      × Step (failed_since (facts old.disk.store) (facts new.disk.store) || failed_since (facts target) (facts store))
+      (machine_of true old) (Some commands.SaveAs) (Refused fault) (machine_of true new)
+  -- what is busy is refused before all else
+  pub held : (busy : Fault) → IsBusy old busy → (fault ≡ busy) × (new ≡ old)
+
+abbrev pub SavesAs : {S : Type 0} → (S → StoreFacts) → S → SessionState S → SessionState S → Answer → Type 0
+SavesAs facts target old new answer = MatchResult answer (λ _. IsMovedTo facts target old new) (IsNotMovedTo facts target old new)
+    × (new.log ≡ old.log)
+    × (new.resident ≡ old.resident)
+
+-- Groups.
+
+-- over any store it is the step of the machine by this command
+abbrev pub AlwaysSteps : {S : Type 0} → Command → SessionState S → SessionState S → Reply → Type 0
+AlwaysSteps command old new reply = (target : Bool) → Step false (machine_of target old) (Some command) reply (machine_of target new)
+
+abbrev pub BeginsGroup : {S : Type 0} → SessionState S → SessionState S → Answer → Type 0
+BeginsGroup old new answer = AlwaysSteps commands.Begin old new (reply_by (λ _. Accepted) answer)
+    × OnOk answer (new ≡ record old { log = record old.log { group = Some [] } })
+    × OnErr answer (new ≡ old)
+
+abbrev pub EndsGroup : {S : Type 0} → SessionState S → SessionState S → Answer → Type 0
+EndsGroup old new answer = AlwaysSteps commands.End old new (reply_by (λ _. Accepted) answer)
+    × OnOk answer (new ≡ record old { log = with_group_closed old.log })
+    × OnErr answer (new ≡ old)
+
+abbrev pub AbandonsGroup : {S : Type 0} → (S → StoreFacts) → SessionState S → SessionState S → Answer → Type 0
+AbandonsGroup facts old new answer = Steps facts commands.Abandon old new answer
+    × OnOk answer (Abandons facts old new)
+    × OnErr answer (KeepsSession facts old new)
+    × IfErr answer (IsNotAbandoned facts old new)
+
+-- Locks.
+
+abbrev pub vm : ℕ → VmHandle
+vm n = record { 0 = n }
+
+abbrev pub chunk : ℕ → ChunkHandle
+chunk n = record { 0 = n }
+
+abbrev pub LocksBlock : {S : Type 0} → (S → StoreFacts) → ℕ → SessionState S → SessionState S → Answer → Type 0
+LocksBlock facts block old new answer = Steps facts (commands.Lock (vm block)) old new answer
+    × OnOk answer (GainsLock facts block (cache_of old) (cache_of new))
+    × OnErr answer (KeepsSession facts old new)
+    × (new.log ≡ old.log)
+
+abbrev pub UnlocksBlock : {S : Type 0} → ℕ → SessionState S → SessionState S → Answer → Type 0
+UnlocksBlock block old new answer = AlwaysSteps (commands.Unlock (vm block)) old new (reply_by (λ _. Accepted) answer)
+    × OnOk answer (LosesLock block (cache_of old) (cache_of new))
+    × OnErr answer (new ≡ old)
+
+abbrev pub Dirties : {S : Type 0} → ℕ → SessionState S → SessionState S → Answer → Type 0
+Dirties block old new answer = AlwaysSteps (commands.Dirty (vm block)) old new (reply_by (λ _. Accepted) answer) × (new ≡ old)
+
+-- how often a block is locked is handed out, none where that is refused
+abbrev pub CountsLocks : {S : Type 0} → ℕ → ℕ → SessionState S → SessionState S → Result ℕ Fault → Type 0
+CountsLocks block count old new answer = AlwaysSteps (commands.Locks (vm block)) old new (reply_by NumberIs answer) × (new ≡ old)
+    × (count ≡ result_unwrap_or answer 0)
+
+-- Bytes.
+
+-- The bytes that a look-up answers are handed out, or it is refused, and the session stays.
+abbrev pub ReadsBytes : {S : Type 0} → (S → StoreFacts) → Command → SessionState S → SessionState S → List ℕ → List ℕ → ℕ → ℤ → Type 0
+ReadsBytes facts command old new before after count code =
+    (reply : Reply) × AnswersLookUp facts old new command reply × HandsOutReply reply before after count code

@@ -1,0 +1,26 @@
+-- The file behind a number that the program gave: of its store nothing is known, but how many calls have failed.
+use Rattle.std.specs.Prelude.{◌≡◌, ℤ, false, Result, Ok}
+use Rattle.vm_store.specs.Facts.{StoreFacts}
+use Rattle.vm_store.specs.Host.{Host, host_facts}
+use Rattle.vm_store.specs.HostSystem.{host_system_facts}
+use Rattle.vm_store.specs.System.{SystemCalls}
+use Rattle.geos_c.specs.declared.channel.ChannelFile.{ChannelFile}
+use Rattle.geos_c.specs.declared.channel.Given.{Given}
+
+abbrev pub FileStore : Type 0
+FileStore = Host ChannelFile
+
+abbrev pub facts : FileStore → StoreFacts
+facts = λ h. host_facts (λ file. host_system_facts) h
+
+-- that on a number, of which no call has failed
+abbrev pub store_on : ℤ → FileStore
+store_on n = record { file = record { number = n }; has_failed_sync = false; failures = 0 }
+
+-- The program has opened and locked it: the number is found, and is the file.
+abbrev pub given_calls : SystemCalls Given ℤ ChannelFile
+given_calls = record {
+  opens = λ old path make result new. (new ≡ old) × (result ≡ Ok old.number);
+  syncs_folder = λ old path result new. (new ≡ old) × (result ≡ Ok tt);
+  locks = λ old number result new. (new ≡ old) × (result ≡ Ok (record { number = number }));
+}

@@ -1,0 +1,147 @@
+//! Calls on a session over any store, answered by codes.
+ghost use Rattle.std.specs.Prelude.{◌≡◌};
+ghost use Rattle.geos_model.specs.declared.command.Command.TheVariants as commands;
+ghost use Rattle.geos_c.specs.Calls.{AbandonsGroup, BeginsGroup, CountsLocks, Dirties, EndsGroup, LocksBlock, ReadsBytes, Redoes, Reverts, Saves, SavesAs, Undoes, UnlocksBlock, Updates, chunk as chunk_of, vm};
+ghost use Rattle.geos_c.specs.Codes.{Tells};
+
+use crate::codes::{code_of, hand_out_answer};
+use geos_model::{ChunkHandle, VmHandle};
+use undo_log::Session;
+use vm_store::Store;
+
+pub(crate) fn undo<S: Store>(session: &mut Session<S>) -> i32
+    ensures { Tells (Undoes S.facts session.old session.new) result }
+{
+    let answer = session.undo();
+    code_of(answer)
+}
+
+pub(crate) fn redo<S: Store>(session: &mut Session<S>) -> i32
+    ensures { Tells (Redoes S.facts session.old session.new) result }
+{
+    let answer = session.redo();
+    code_of(answer)
+}
+
+pub(crate) fn update<S: Store>(session: &mut Session<S>) -> i32
+    ensures { Tells (Updates S.facts session.old session.new) result }
+{
+    let answer = session.update();
+    code_of(answer)
+}
+
+pub(crate) fn save<S: Store>(session: &mut Session<S>) -> i32
+    ensures { Tells (Saves S.facts session.old session.new) result }
+{
+    let answer = session.save();
+    code_of(answer)
+}
+
+pub(crate) fn revert<S: Store>(session: &mut Session<S>) -> i32
+    ensures { Tells (Reverts S.facts session.old session.new) result }
+{
+    let answer = session.revert();
+    code_of(answer)
+}
+
+/// Goes on in the target. The store that is left is dropped: its file is the program's.
+pub(crate) fn save_as<S: Store>(session: &mut Session<S>, target: S) -> i32
+    ensures { Tells (SavesAs S.facts target session.old session.new) result }
+{
+    match session.save_as(target) {
+        Ok(former) => {
+            drop(former);
+            0
+        }
+        Err(refused) => i32::from(refused.fault.number()),
+    }
+}
+
+pub(crate) fn begin<S: Store>(session: &mut Session<S>) -> i32
+    ensures { Tells (BeginsGroup session.old session.new) result }
+{
+    let answer = session.begin();
+    code_of(answer)
+}
+
+pub(crate) fn end<S: Store>(session: &mut Session<S>) -> i32
+    ensures { Tells (EndsGroup session.old session.new) result }
+{
+    let answer = session.end();
+    code_of(answer)
+}
+
+pub(crate) fn abandon<S: Store>(session: &mut Session<S>) -> i32
+    ensures { Tells (AbandonsGroup S.facts session.old session.new) result }
+{
+    let answer = session.abandon();
+    code_of(answer)
+}
+
+pub(crate) fn lock<S: Store>(session: &mut Session<S>, block: u16) -> i32
+    ensures { Tells (LocksBlock S.facts block session.old session.new) result }
+{
+    let answer = session.lock(VmHandle(block));
+    code_of(answer)
+}
+
+pub(crate) fn unlock<S: Store>(session: &mut Session<S>, block: u16) -> i32
+    ensures { Tells (UnlocksBlock block session.old session.new) result }
+{
+    let answer = session.unlock(VmHandle(block));
+    code_of(answer)
+}
+
+pub(crate) fn dirty<S: Store>(session: &mut Session<S>, block: u16) -> i32
+    ensures { Tells (Dirties block session.old session.new) result }
+{
+    let answer = session.dirty(VmHandle(block));
+    code_of(answer)
+}
+
+/// Hands out how often a block is locked, none where that is refused.
+pub(crate) fn locks<S: Store>(session: &mut Session<S>, block: u16, count: &mut u8) -> i32
+    ensures { Tells (CountsLocks block count.new session.old session.new) result }
+{
+    match session.locks(VmHandle(block)) {
+        Ok(locks) => {
+            *count = locks;
+            0
+        }
+        Err(fault) => {
+            *count = 0;
+            i32::from(fault.number())
+        }
+    }
+}
+
+/// Hands out the bytes of a chunk.
+pub(crate) fn read<S: Store>(
+    session: &mut Session<S>,
+    block: u16,
+    chunk: u16,
+    buffer: &mut [u8],
+    length: &mut usize,
+) -> i32
+    ensures { ReadsBytes S.facts (commands.Read (vm block) (chunk_of chunk)) session.old session.new
+        buffer.old buffer.new length.new result }
+{
+    hand_out_answer(
+        session.read_chunk(VmHandle(block), ChunkHandle(chunk)),
+        buffer,
+        length,
+    )
+}
+
+/// Hands out the bytes of a raw block.
+pub(crate) fn read_raw<S: Store>(
+    session: &mut Session<S>,
+    block: u16,
+    buffer: &mut [u8],
+    length: &mut usize,
+) -> i32
+    ensures { ReadsBytes S.facts (commands.ReadRaw (vm block)) session.old session.new
+        buffer.old buffer.new length.new result }
+{
+    hand_out_answer(session.read_raw(VmHandle(block)), buffer, length)
+}

@@ -1,0 +1,281 @@
+//! What C calls. Each call answers 0, the number of a fault of the document, 1 to 29, or a code of its own from 100 on.
+ghost use Rattle.std.specs.Prelude.{◌≡◌, if◌then◌else◌, pos, true, false};
+ghost use Rattle.geos_model.specs.declared.command.Command.TheVariants as commands;
+ghost use Rattle.geos_c.specs.Calls.{AbandonsGroup, BeginsGroup, CountsLocks, Dirties, EndsGroup, LocksBlock, ReadsBytes, Redoes, Reverts, Saves, SavesAs, Undoes, UnlocksBlock, Updates, chunk as chunk_of, vm};
+ghost use Rattle.geos_c.specs.Codes.{IsNamed, not_open};
+ghost use Rattle.geos_c.specs.Handles.{Begins, IsBegun, IsCreation, IsOpening, HandsOutOnHandle, OnHandle};
+ghost use Rattle.geos_c.specs.Lines.{AnswersLine};
+ghost use Rattle.geos_c.specs.Stores.{facts, store_on};
+
+use crate::calls::{
+    abandon, begin as begin_group, dirty, end, lock, locks, read, read_raw, redo, revert, save,
+    save_as, undo, unlock, update,
+};
+use crate::channel::{ChannelFile, store};
+use crate::codes::{BAD_ARGUMENT, NOT_OPEN, OPEN_ALREADY, fault_name};
+use crate::handle::{Handle, put, take};
+use crate::kept::Kept;
+use crate::line::command;
+use geos_model::Fault;
+use std::alloc::Global;
+use undo_log::Session;
+use vm_file::Refused;
+use vm_store::HostStore;
+
+/// No session has more frames.
+const MOST_FRAMES: usize = 64;
+
+// Answers by a call on the session behind a handle.
+macro_rules! answer {
+    ($handle:ident, $alloc:ident, |$session:ident| $call:expr) => {
+        match take($handle, $alloc) {
+            None => NOT_OPEN,
+            Some(mut kept) => {
+                let $session = &mut kept.session;
+                let code = $call;
+                put($handle, kept);
+                code
+            }
+        }
+    };
+}
+
+// Puts a session that was begun behind a handle.
+fn begin(
+    handle: &mut Handle,
+    alloc: Global,
+    begun: Result<Session<HostStore<ChannelFile>>, Refused<HostStore<ChannelFile>>>,
+) -> i32
+    requires { handle.old.is_open ≡ false }
+    ensures { IsBegun begun handle.old handle.new result }
+{
+    let session = match begun {
+        Ok(session) => session,
+        Err(refused) => return i32::from(refused.fault.number()),
+    };
+    match Box::new(alloc, Kept { session }) {
+        Ok(kept) => {
+            put(handle, kept);
+            0
+        }
+        Err(_) => i32::from(Fault::Memory.number()),
+    }
+}
+
+/// Opens the document of a file of the program's, with so many frames, 1 to 64.
+#[unsafe(no_mangle)]
+pub extern "C" fn geosvm_open(handle: &mut Handle, alloc: Global, number: i32, frames: usize) -> i32
+    ensures { Begins IsOpening number frames handle.old handle.new result }
+{
+    if handle.is_open() {
+        return OPEN_ALREADY;
+    }
+    if frames < 1 || frames > MOST_FRAMES {
+        return BAD_ARGUMENT;
+    }
+    begin(handle, alloc, Session::open(alloc, store(number), frames))
+}
+
+/// Makes a file of the program's an empty document, whatever was in it.
+#[unsafe(no_mangle)]
+pub extern "C" fn geosvm_create(
+    handle: &mut Handle,
+    alloc: Global,
+    number: i32,
+    frames: usize,
+) -> i32
+    ensures { Begins IsCreation number frames handle.old handle.new result }
+{
+    if handle.is_open() {
+        return OPEN_ALREADY;
+    }
+    if frames < 1 || frames > MOST_FRAMES {
+        return BAD_ARGUMENT;
+    }
+    begin(handle, alloc, Session::create(alloc, store(number), frames))
+}
+
+/// Gives up what isn't committed. Nothing is written.
+#[unsafe(no_mangle)]
+pub extern "C" fn geosvm_close(handle: &mut Handle, alloc: Global) -> i32
+    ensures closed { handle.new.is_open ≡ false }
+    ensures code { result ≡ (if handle.old.is_open then pos 0 else not_open) }
+{
+    match take(handle, alloc) {
+        None => NOT_OPEN,
+        Some(kept) => {
+            drop(kept);
+            0
+        }
+    }
+}
+
+/// Answers one line, without its line feed. `length` becomes how many bytes its reply line has; as many as fit lie in the
+/// buffer.
+#[unsafe(no_mangle)]
+pub extern "C" fn geosvm_command(
+    handle: &mut Handle,
+    alloc: Global,
+    line: &[u8],
+    reply: &mut [u8],
+    length: &mut usize,
+) -> i32
+    ensures { HandsOutOnHandle (AnswersLine facts line.now)
+        handle.old handle.new reply.old reply.new length.new result }
+{
+    *length = 0;
+    answer!(
+        handle,
+        alloc,
+        |session| command(session, alloc, line, reply, length)
+    )
+}
+
+#[unsafe(no_mangle)]
+pub extern "C" fn geosvm_undo(handle: &mut Handle, alloc: Global) -> i32
+    ensures { OnHandle (Undoes facts) handle.old handle.new result }
+{
+    answer!(handle, alloc, |session| undo(session))
+}
+
+#[unsafe(no_mangle)]
+pub extern "C" fn geosvm_redo(handle: &mut Handle, alloc: Global) -> i32
+    ensures { OnHandle (Redoes facts) handle.old handle.new result }
+{
+    answer!(handle, alloc, |session| redo(session))
+}
+
+#[unsafe(no_mangle)]
+pub extern "C" fn geosvm_update(handle: &mut Handle, alloc: Global) -> i32
+    ensures { OnHandle (Updates facts) handle.old handle.new result }
+{
+    answer!(handle, alloc, |session| update(session))
+}
+
+#[unsafe(no_mangle)]
+pub extern "C" fn geosvm_save(handle: &mut Handle, alloc: Global) -> i32
+    ensures { OnHandle (Saves facts) handle.old handle.new result }
+{
+    answer!(handle, alloc, |session| save(session))
+}
+
+#[unsafe(no_mangle)]
+pub extern "C" fn geosvm_revert(handle: &mut Handle, alloc: Global) -> i32
+    ensures { OnHandle (Reverts facts) handle.old handle.new result }
+{
+    answer!(handle, alloc, |session| revert(session))
+}
+
+/// Goes on in another file of the program's. The old one is no longer used.
+#[unsafe(no_mangle)]
+pub extern "C" fn geosvm_save_as(handle: &mut Handle, alloc: Global, number: i32) -> i32
+    ensures { OnHandle (SavesAs facts (store_on number)) handle.old handle.new result }
+{
+    answer!(handle, alloc, |session| save_as(session, store(number)))
+}
+
+/// The name of the fault that has this number, 1 to 29.
+#[unsafe(no_mangle)]
+pub extern "C" fn geosvm_fault_name(code: i32, name: &mut [u8], length: &mut usize) -> i32
+    ensures { IsNamed code name.old name.new length.new result }
+{
+    fault_name(code, name, length)
+}
+
+#[unsafe(no_mangle)]
+pub extern "C" fn geosvm_begin(handle: &mut Handle, alloc: Global) -> i32
+    ensures { OnHandle BeginsGroup handle.old handle.new result }
+{
+    answer!(handle, alloc, |session| begin_group(session))
+}
+
+#[unsafe(no_mangle)]
+pub extern "C" fn geosvm_end(handle: &mut Handle, alloc: Global) -> i32
+    ensures { OnHandle EndsGroup handle.old handle.new result }
+{
+    answer!(handle, alloc, |session| end(session))
+}
+
+#[unsafe(no_mangle)]
+pub extern "C" fn geosvm_abandon(handle: &mut Handle, alloc: Global) -> i32
+    ensures { OnHandle (AbandonsGroup facts) handle.old handle.new result }
+{
+    answer!(handle, alloc, |session| abandon(session))
+}
+
+#[unsafe(no_mangle)]
+pub extern "C" fn geosvm_lock(handle: &mut Handle, alloc: Global, block: u16) -> i32
+    ensures { OnHandle (LocksBlock facts block) handle.old handle.new result }
+{
+    answer!(handle, alloc, |session| lock(session, block))
+}
+
+#[unsafe(no_mangle)]
+pub extern "C" fn geosvm_unlock(handle: &mut Handle, alloc: Global, block: u16) -> i32
+    ensures { OnHandle (UnlocksBlock block) handle.old handle.new result }
+{
+    answer!(handle, alloc, |session| unlock(session, block))
+}
+
+#[unsafe(no_mangle)]
+pub extern "C" fn geosvm_dirty(handle: &mut Handle, alloc: Global, block: u16) -> i32
+    ensures { OnHandle (Dirties block) handle.old handle.new result }
+{
+    answer!(handle, alloc, |session| dirty(session, block))
+}
+
+/// `count` becomes how often the block is locked, 0 where that is refused.
+#[unsafe(no_mangle)]
+pub extern "C" fn geosvm_locks(
+    handle: &mut Handle,
+    alloc: Global,
+    block: u16,
+    count: &mut u8,
+) -> i32
+    ensures told { OnHandle (CountsLocks block count.new) handle.old handle.new result }
+    ensures none { handle.old.is_open ≡ false → count.new ≡ 0 }
+{
+    *count = 0;
+    answer!(handle, alloc, |session| locks(session, block, count))
+}
+
+/// Copies the bytes of a chunk. `length` becomes how many it has; as many as fit lie in the buffer.
+#[unsafe(no_mangle)]
+pub extern "C" fn geosvm_read(
+    handle: &mut Handle,
+    alloc: Global,
+    block: u16,
+    chunk: u16,
+    buffer: &mut [u8],
+    length: &mut usize,
+) -> i32
+    ensures { HandsOutOnHandle (ReadsBytes facts (commands.Read (vm block) (chunk_of chunk)))
+        handle.old handle.new buffer.old buffer.new length.new result }
+{
+    *length = 0;
+    answer!(
+        handle,
+        alloc,
+        |session| read(session, block, chunk, buffer, length)
+    )
+}
+
+/// Copies the bytes of a raw block.
+#[unsafe(no_mangle)]
+pub extern "C" fn geosvm_vread(
+    handle: &mut Handle,
+    alloc: Global,
+    block: u16,
+    buffer: &mut [u8],
+    length: &mut usize,
+) -> i32
+    ensures { HandsOutOnHandle (ReadsBytes facts (commands.ReadRaw (vm block)))
+        handle.old handle.new buffer.old buffer.new length.new result }
+{
+    *length = 0;
+    answer!(
+        handle,
+        alloc,
+        |session| read_raw(session, block, buffer, length)
+    )
+}

@@ -1,4 +1,0 @@
-pub mod Values
-pub mod Handles
-pub mod Opening
-pub mod Given

@@ -1,6 +1,0 @@
-pub mod Calls
-pub mod Codes
-pub mod Handles
-pub mod Lines
-pub mod Owning
-pub mod Stores
