@@ -1,4 +1,4 @@
-//! Reads the command line: `geosdoc check FILE`, `geosdoc dump [--saved | --other] FILE`.
+//! Reads the command line: `geosdoc check FILE`, `geosdoc dump [--saved | --other] FILE`, `geosdoc map [--svg] FILE`.
 use clap::error::ErrorKind;
 use clap::{Arg, ArgAction, ArgMatches, Command, Error, value_parser};
 use geos_model::Bytes;
@@ -12,6 +12,15 @@ pub enum Asked {
     Check,
     /// A script that makes documents of the file again.
     Dump(Dumped),
+    /// A picture of what lies in the file.
+    Map(Picture),
+}
+
+/// How a picture is given.
+#[derive(Clone, Copy)]
+pub enum Picture {
+    Text,
+    Svg,
 }
 
 /// Which documents of a file a dump has.
@@ -63,7 +72,8 @@ fn command<'a>(alloc: Global) -> Result<Command<'a>, AllocError> {
         .subcommand_required(true)
         .arg_required_else_help(true)
         .subcommand(check_command(alloc)?)?
-        .subcommand(dump_command(alloc)?)
+        .subcommand(dump_command(alloc)?)?
+        .subcommand(map_command(alloc)?)
 }
 
 fn check_command<'a>(alloc: Global) -> Result<Command<'a>, AllocError> {
@@ -82,6 +92,13 @@ fn dump_command<'a>(alloc: Global) -> Result<Command<'a>, AllocError> {
             "What the other slot leads to: the commit before",
         )
         .conflicts_with("saved")?)?
+        .arg(file_operand(alloc))
+}
+
+fn map_command<'a>(alloc: Global) -> Result<Command<'a>, AllocError> {
+    Command::new(alloc, "map")
+        .about("Draws what lies on the pages of the file, and its heaps")
+        .arg(flag(alloc, "svg", "As SVG, for a browser"))?
         .arg(file_operand(alloc))
 }
 
@@ -106,9 +123,18 @@ fn request_of<'a>(matches: &ArgMatches<'a>) -> Option<Request<'a>> {
     let file = matches.get_str("file")?;
     let asked = match name {
         "dump" => Asked::Dump(documents_asked(matches)),
+        "map" => Asked::Map(picture_asked(matches)),
         _ => Asked::Check,
     };
     Some(Request { asked, file })
+}
+
+fn picture_asked(matches: &ArgMatches<'_>) -> Picture {
+    if matches.get_flag("svg") {
+        Picture::Svg
+    } else {
+        Picture::Text
+    }
 }
 
 fn documents_asked(matches: &ArgMatches<'_>) -> Dumped {
