@@ -1,6 +1,6 @@
 -- The verdict on a slot.
 use Rattle.std.proofs.Common.{◌≡◌, ◌≢◌, ◌⊎◌, inl, inr, ℕ, ◌==◌, ◌||◌, ◌&&◌, not, Bool, true, false, List, Option, Some, None, Result, Ok, Err, is_some, refl, ◌∙◌, subst, eqb-true}
-use Rattle.std.specs.Prelude.{if◌then◌else◌, IsErr}
+use Rattle.std.specs.Prelude.{if◌then◌else◌, IsErr, IsOk}
 use Rattle.geos_model.specs.Document.{Document}
 use Rattle.geos_model.specs.File.{both, pair_of, document_at}
 use Rattle.geos_model.specs.declared.fault.Fault.{Fault}
@@ -70,3 +70,7 @@ pub none_stands : (a b : Bool) → IsErr (if a && b then right_header else Err D
 none_stands false b wrong = inl refl
 none_stands true false wrong = inr refl
 none_stands true true wrong = absurd (cc wrong)
+
+pub err_not_ok : (r : Result (Unit {0}) Fault) → IsErr r → IsOk r → ⊥
+err_not_ok (Ok u) err ok = cc err
+err_not_ok (Err fault) err ok = cc ok

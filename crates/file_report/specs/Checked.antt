@@ -1,5 +1,5 @@
 -- What a check tells of a file.
-use Rattle.std.specs.Prelude.{◌≡◌, ◌≢◌, ℕ, ◌*◌, ◌<◌, ◌==◌, ◌||◌, not, nat_lt, if◌then◌else◌, IsErr, All, List, Option, None, Some, Result, Ok, Err, length, is_some, take, drop}
+use Rattle.std.specs.Prelude.{◌≡◌, ◌≢◌, ℕ, ◌*◌, ◌<◌, ◌==◌, ◌||◌, not, nat_lt, if◌then◌else◌, IsErr, IsOk, All, List, Option, None, Some, Result, Ok, Err, length, is_some, take, drop}
 use Rattle.std.specs.Option.{option_map}
 use Rattle.std.specs.Result.{result_ok}
 use Rattle.geos_model.specs.Document.{Document}
@@ -31,11 +31,13 @@ abbrev pub header_verdict : Slot → Result (Unit {0}) Fault
 header_verdict s =
     if not (s.version == 1 || s.version == 2) then Err NotDocument else if not (s.reserved == 0) || s.sequence == 0 then Err Damaged else Ok tt
 
--- whether a slot's documents stand, and what is wrong where they don't
+-- whether a slot's documents stand, and what is wrong where they don't; and the directories that it leads to, where it isn't wrong itself
 pub record IsSlotReport (file : List ℕ) (r : SlotReport) : Type 0 where
   pub verdict : r.verdict ≡ verdict_of (pair_of file r.slot)
   pub so : All (IsSo file r.slot) r.findings.items
   pub some : IsErr r.verdict → 0 < length r.findings.items
+  pub updated : IsOk (header_verdict r.slot) → option_map shown r.updated ≡ directory_of r.slot.version file r.slot.working
+  pub saved : IsOk (header_verdict r.slot) → option_map shown r.saved ≡ directory_of r.slot.version file r.slot.saved
 
 -- what stands at a slot's page
 abbrev pub IsState : List ℕ → ℕ → SlotState → Type 0

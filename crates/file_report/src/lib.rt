@@ -11,4 +11,5 @@ mod reading;
 
 pub use checking::{Report, SlotReport, SlotState, check};
 pub use finding::{EntryFault, Finding, HeaderFault, Named};
+pub use reading::read_extent;
 pub use pages::{Content, FreePages, Usage, free_pages, overlaps, page_behind, page_count, usages};

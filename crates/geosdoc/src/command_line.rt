@@ -1,4 +1,4 @@
-//! Reads the command line: `geosdoc check FILE`, `geosdoc dump [--saved | --other] FILE`, `geosdoc stat [--json] FILE`.
+//! Reads the command line: a command, `check`, `dump`, `stat` or `map`, with its flags and the name of a file.
 use clap::error::ErrorKind;
 use clap::{Arg, ArgAction, ArgMatches, Command, Error, value_parser};
 use geos_model::Bytes;
@@ -14,6 +14,8 @@ pub enum Asked {
     Dump(Dumped),
     /// What the file has, counted.
     Stat(Form),
+    /// A picture of what lies in the file.
+    Map(Picture),
 }
 
 /// How numbers are told.
@@ -21,6 +23,13 @@ pub enum Asked {
 pub enum Form {
     Text,
     Json,
+}
+
+/// How a picture is given.
+#[derive(Clone, Copy)]
+pub enum Picture {
+    Text,
+    Svg,
 }
 
 /// Which documents of a file a dump has.
@@ -73,7 +82,8 @@ fn command<'a>(alloc: Global) -> Result<Command<'a>, AllocError> {
         .arg_required_else_help(true)
         .subcommand(check_command(alloc)?)?
         .subcommand(dump_command(alloc)?)?
-        .subcommand(stat_command(alloc)?)
+        .subcommand(stat_command(alloc)?)?
+        .subcommand(map_command(alloc)?)
 }
 
 fn check_command<'a>(alloc: Global) -> Result<Command<'a>, AllocError> {
@@ -102,6 +112,13 @@ fn stat_command<'a>(alloc: Global) -> Result<Command<'a>, AllocError> {
         .arg(file_operand(alloc))
 }
 
+fn map_command<'a>(alloc: Global) -> Result<Command<'a>, AllocError> {
+    Command::new(alloc, "map")
+        .about("Draws what lies on the pages of the file, and its heaps")
+        .arg(flag(alloc, "svg", "As SVG, for a browser"))?
+        .arg(file_operand(alloc))
+}
+
 fn flag<'a>(alloc: Global, name: &'a str, help: &'a str) -> Arg<'a> {
     Arg::new(alloc, name)
         .long(name)
@@ -124,9 +141,18 @@ fn request_of<'a>(matches: &ArgMatches<'a>) -> Option<Request<'a>> {
     let asked = match name {
         "dump" => Asked::Dump(documents_asked(matches)),
         "stat" => Asked::Stat(form_asked(matches)),
+        "map" => Asked::Map(picture_asked(matches)),
         _ => Asked::Check,
     };
     Some(Request { asked, file })
+}
+
+fn picture_asked(matches: &ArgMatches<'_>) -> Picture {
+    if matches.get_flag("svg") {
+        Picture::Svg
+    } else {
+        Picture::Text
+    }
 }
 
 fn documents_asked(matches: &ArgMatches<'_>) -> Dumped {

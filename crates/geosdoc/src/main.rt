@@ -3,6 +3,7 @@
 
 mod command_line;
 mod dumping;
+mod mapping;
 mod pages_telling;
 mod read_only;
 mod run;

@@ -1,12 +1,14 @@
 //! Carries out what was asked of a file.
 use crate::command_line::{Asked, Form, Request};
 use crate::dumping::{NoDump, Reason, run_dump};
+use crate::mapping::run_map;
 use crate::pages_telling::write_pages;
 use crate::read_only::{Cause, ReadOnlyFile, ReadOnlySystem};
 use crate::stat_json::write_json;
 use crate::stat_text::write_stat;
 use crate::telling::write_check;
 use document_stat::stat;
+use file_map::MapFault;
 use file_report::check;
 use geos_model::Fault;
 use std::fmt::Display;
@@ -59,6 +61,13 @@ pub fn run(rt: &HostRuntime, request: Request<'_>) -> Ending {
             Err(NoDump::Memory) => Ending::Memory,
             Err(NoDump::Write) => Ending::WriteFault,
             Err(NoDump::Refused(cause)) => refused(rt, request.file, cause),
+        },
+        Asked::Map(picture) => match run_map(rt, &mut store, picture) {
+            Ok(()) => Ending::Told { status: 0 },
+            Err(MapFault::Memory) => Ending::Memory,
+            Err(MapFault::Write) => Ending::WriteFault,
+            Err(MapFault::File) => refused(rt, request.file, Cause::Failed),
+            Err(fault) => refused(rt, request.file, fault),
         },
     }
 }

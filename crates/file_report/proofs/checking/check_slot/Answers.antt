@@ -1,5 +1,5 @@
 use Rattle.std.proofs.Common.{rules, ◌≡◌, ◌<◌, ◌≤◌, ◌&&◌, [], Err, All, IsTrue, arith, inl, inr, length, refl, sym, subst, ap₂, ◌∙◌}
-use Rattle.std.specs.Prelude.{if◌then◌else◌, IsErr}
+use Rattle.std.specs.Prelude.{if◌then◌else◌, IsErr, IsOk}
 use Rattle.geos_model.specs.declared.fault.Fault.TheVariants.{Damaged}
 use Rattle.vm_file.proofs.LooksLemmas.{OnlyReadsStore-trans, held_before}
 use Rattle.file_report.specs.Checked.{IsChecked, header_verdict}
@@ -7,7 +7,7 @@ use Rattle.file_report.specs.Findings.{FindsMore, IsSo, directory_extent}
 use Rattle.file_report.specs.Reading.{IsSoIn, IsSoOfSlot}
 use Rattle.file_report.specs.declared.finding.Named.TheVariants.{Saved}
 use Rattle.file_report.proofs.FindingsLemmas.{finds_both, finds_as, finds_length, all_found}
-use Rattle.file_report.proofs.SlotLemmas.{header_pair, pair_stands, none_stands, right_header}
+use Rattle.file_report.proofs.SlotLemmas.{err_not_ok, header_pair, pair_stands, none_stands, right_header}
 use Rattle.file_report.proofs.checking.check_slot.Goals as goal
 
 pub returns-in-Err-clause-report : goal.returns-in-Err-clause-report
@@ -20,6 +20,8 @@ returns-in-Err-clause-report g c so =
       verdict = sym is ∙ header_pair file s wrong;
       so = all_found (IsSo file s) [] _ (λ k d within. absurd (omega (arith, within))) (finds_as (IsSoOfSlot s) (IsSo file s) _ _ (λ f true_of. true_of file) c.in_ok-findings.ensures.so);
       some = λ err. c.in_ok-findings.ensures.some wrong;
+      updated = λ right. absurd (err_not_ok (header_verdict s) wrong right);
+      saved = λ right. absurd (err_not_ok (header_verdict s) wrong right);
     }
 
 pub returns-in_err-saved-clause-looks : goal.returns-in_err-saved-clause-looks
@@ -36,7 +38,8 @@ returns-clause-report g c so =
     let looks = c.check_document.ensures.looks in
     let right : header_verdict s ≡ right_header = search rules in
     let updated = (c.in_ok-updated.ensures.document so).stands in
-    let saved = (held_before (λ f. IsChecked f s.version (directory_extent s Saved) c.in_ok-saved.saved) _ _ looks c.in_ok-saved.ensures.document so).stands in
+    let saved_document = held_before (λ f. IsChecked f s.version (directory_extent s Saved) c.in_ok-saved.saved) _ _ looks c.in_ok-saved.ensures.document so in
+    let saved = saved_document.stands in
     let later = finds_length _ _ _ c.in_ok-saved.ensures.found in
     record {
       verdict = c.both.ensures ∙ ap₂ (λ a b. if a && b then right_header else Err Damaged) updated saved ∙ sym (pair_stands file s right);
@@ -48,4 +51,6 @@ returns-clause-report g c so =
         | inl none ↦ let more = c.in_ok-updated.ensures.some none in omega (arith, more, later)
         | inr none ↦ let more = c.in_ok-saved.ensures.some none in omega (arith, more)
       ];
+      updated = λ right. (c.in_ok-updated.ensures.document so).directory;
+      saved = λ right. saved_document.directory;
     }

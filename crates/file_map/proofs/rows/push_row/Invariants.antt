@@ -1,0 +1,13 @@
+use Rattle.std.proofs.Common.{◌≡◌, ◌-◌, ◌++◌}
+use Rattle.file_map.specs.Pages.{glyphs}
+use Rattle.file_map.specs.Tallies.{IsTally}
+use Rattle.file_map.specs.Walks.{IsWalk}
+use Rattle.file_map.proofs.rows.push_row.Given as goal
+
+-- the pages so far
+abbrev pub invariant-loop-page : goal.invariant-loop-page
+invariant-loop-page l = record {
+  walk : IsWalk l.parts l.page l.walk;
+  tally : IsTally l.parts l.page l.counts;
+  text : l.out.items ≡ l.initial.out.items ++ glyphs l.parts l.first (l.page - l.first);
+}

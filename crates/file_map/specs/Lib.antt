@@ -1,0 +1,10 @@
+pub mod Bars
+pub mod Drawn
+pub mod Faults
+pub mod Heaps
+pub mod Lines
+pub mod Pages
+pub mod Svg
+pub mod Tallies
+pub mod Walks
+pub mod Parts

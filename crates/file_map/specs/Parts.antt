@@ -1,0 +1,124 @@
+-- What lies in the extents of a file, and whose it is.
+use Rattle.std.specs.Prelude.{ℕ, ◌-◌, ◌*◌, ◌==◌, ◌&&◌, Bool, true, false, not, List, [], ◌∷◌, ◌++◌, map, fold, take, slice_get, Option, None, Some, length, if◌then◌else◌}
+use Rattle.geos_model.specs.File as files
+use Rattle.geos_model.specs.File.{directory_of}
+use Rattle.geos_model.specs.declared.file.Extent.{Extent}
+use Rattle.geos_model.specs.declared.file.Slot.{Slot}
+use Rattle.vm_store.specs.Facts.{byte}
+use Rattle.file_report.specs.Pages.{image_usage, slots_usage}
+use Rattle.file_report.specs.declared.finding.Named.{Named}
+use Rattle.file_report.specs.declared.finding.Named.TheVariants as names
+use Rattle.file_report.specs.declared.pages.Content.{Content}
+use Rattle.file_report.specs.declared.pages.Content.TheVariants as contents
+use Rattle.file_report.specs.declared.pages.Usage.{Usage}
+use Rattle.file_map.specs.declared.part.Kind.{Kind}
+use Rattle.file_map.specs.declared.part.Kind.TheVariants as kinds
+use Rattle.file_map.specs.declared.part.Part.{Part}
+use Rattle.file_map.specs.declared.part.Users.{Users}
+use Rattle.file_map.specs.declared.part.Users.TheVariants.{Updated, Saved, Both}
+
+-- What a slot leads to.
+
+-- what one of a slot's documents has: the directory in an extent, and an image for each entry of it
+abbrev pub document_usages : Named → Extent → Option files.Directory → List Usage
+document_usages name e None = []
+document_usages name e (Some d) = record { extent = e; content = contents.Directory name } ∷ map (image_usage name) d.entries
+
+abbrev pub file_usages : List ℕ → Slot → List Usage
+file_usages file s =
+    slots_usage
+    ∷ document_usages names.Updated s.working (directory_of s.version file s.working)
+    ++ document_usages names.Saved s.saved (directory_of s.version file s.saved)
+
+-- What a part of a picture is.
+
+abbrev pub kind_is_slots : Kind → Bool
+kind_is_slots kinds.Slots = true
+kind_is_slots k = false
+
+abbrev pub kind_is_directory : Kind → Bool
+kind_is_directory kinds.Directory = true
+kind_is_directory k = false
+
+abbrev pub kind_is_raw : Kind → Bool
+kind_is_raw kinds.Raw = true
+kind_is_raw k = false
+
+abbrev pub kind_is_heap : Kind → Bool
+kind_is_heap kinds.Heap = true
+kind_is_heap k = false
+
+abbrev pub users_have_updated : Users → Bool
+users_have_updated Saved = false
+users_have_updated u = true
+
+abbrev pub users_have_saved : Users → Bool
+users_have_saved Updated = false
+users_have_saved u = true
+
+abbrev pub same_truth : Bool → Bool → Bool
+same_truth a b = if a then b else not b
+
+-- the image in an extent is that of a heap
+abbrev pub is_heap_at : List ℕ → Extent → Bool
+is_heap_at file e = byte file (512 * e.page) == 1
+
+abbrev pub kind_at : List ℕ → Extent → Kind
+kind_at file e = if is_heap_at file e then kinds.Heap else kinds.Raw
+
+abbrev pub users_of : Named → Users
+users_of names.Updated = Updated
+users_of names.Saved = Saved
+
+abbrev pub part_in : List ℕ → Extent → Content → Part
+part_in file e contents.Slots = record { extent = e; kind = kinds.Slots; users = Both; block = record { 0 = 0 } }
+part_in file e (contents.Directory name) = record { extent = e; kind = kinds.Directory; users = users_of name; block = record { 0 = 0 } }
+part_in file e (contents.Image name h) =
+    record { extent = e; kind = kind_at file e; users = users_of name; block = h }
+
+abbrev pub part_of : List ℕ → Usage → Part
+part_of file u = part_in file u.extent u.content
+
+-- whose part it is, and of which kind
+
+abbrev pub is_slots : Part → Bool
+is_slots p = kind_is_slots p.kind
+
+abbrev pub is_directory : Part → Bool
+is_directory p = kind_is_directory p.kind
+
+abbrev pub is_raw : Part → Bool
+is_raw p = kind_is_raw p.kind
+
+abbrev pub is_heap : Part → Bool
+is_heap p = kind_is_heap p.kind
+
+abbrev pub is_updated : Part → Bool
+is_updated p = users_have_updated p.users
+
+abbrev pub is_saved : Part → Bool
+is_saved p = users_have_saved p.users
+
+-- What both documents have.
+
+-- they are of one kind, in one place and of one block
+abbrev pub is_same : Part → Part → Bool
+is_same p q =
+    p.extent.page == q.extent.page && p.extent.length == q.extent.length && p.block.0 == q.block.0
+    && same_truth (is_slots p) (is_slots q) && same_truth (is_directory p) (is_directory q) && same_truth (is_raw p) (is_raw q)
+
+-- the updated document has the first and the saved one the other
+abbrev pub is_shared : Part → Part → Bool
+is_shared p q = not (is_saved p) && not (is_updated q) && is_same p q
+
+abbrev pub joined : Option Part → Part → List Part
+joined None p = p ∷ []
+joined (Some q) p = if is_shared q p then record q { users = Both } ∷ [] else q ∷ p ∷ []
+
+-- one more part behind the others
+abbrev pub drawn_more : List Part → Part → List Part
+drawn_more ps p = take (length ps - 1) ps ++ joined (slice_get ps (length ps - 1)) p
+
+-- each part once: what both documents have, one behind the other, is one part
+abbrev pub drawn : List Part → List Part
+drawn ps = fold drawn_more [] ps
