@@ -79,7 +79,7 @@ pub fn write_stat<W: Write>(writer: &mut W, stat: &FileStat) -> io::Result<()> {
     writeln!(writer, "pages        {:>10}", stat.pages)?;
     writeln!(
         writer,
-        "free pages   {:>10}   {} runs, the longest of {}",
+        "free pages   {:>10}   runs: {}, longest: {}",
         stat.free.pages, stat.free.runs, stat.free.longest
     )?;
     write_document(writer, "updated", &stat.updated)?;
