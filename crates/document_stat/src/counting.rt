@@ -1,17 +1,16 @@
 //! The slot that counts, and its directories.
-ghost use Rattle.std.specs.Prelude.{◌≡◌, ◌↔◌, IsTrue, IfOk, IfErr, IsErrOf, Some, None, length};
+ghost use Rattle.std.specs.Prelude.{◌≡◌, IsTrue, IfOk, IfErr, IsErrOf, Some, None, length};
 ghost use Rattle.std.specs.Option.{option_and_then};
 ghost use Rattle.geos_model.specs.File.{counting_slot, directory_of, if_open, open_slot};
 ghost use Rattle.vm_space.specs.Listed.{shown};
 ghost use Rattle.vm_file.specs.Calls.{IsResourceFault};
-ghost use Rattle.vm_file.specs.Opened.{IsDirectoryPlace, IsReadRefusal, OnlyReadsStore};
-ghost use Rattle.file_report.specs.Checked.{header_verdict};
+ghost use Rattle.vm_file.specs.Opened.{IsReadRefusal, OnlyReadsStore};
 ghost use Rattle.document_stat.specs.Files.{IsChosen, IsCountingSlot, IsRefusal};
 
-use crate::reading::read_extent;
+use file_report::{ReadDirectory, header_verdict, read_slot_at};
 use geos_model::{Extent, Fault, PAGE, Slot};
 use std::alloc::Global;
-use vm_space::{Directory, LONGEST_DIRECTORY, SLOT_LENGTH, is_in_file, read_dir, read_slot};
+use vm_space::Directory;
 use vm_store::Store;
 
 /// The slot that counts, with the directories of the two documents that it names.
@@ -21,9 +20,6 @@ pub struct CountingSlot {
     pub updated: Directory,
     pub saved: Directory,
 }
-
-// The directory of no block.
-const SHORTEST_DIRECTORY: u32 = 16;
 
 fn if_open(slot: Option<Slot>) -> Option<Slot>
     ensures { result ≡ option_and_then if_open slot }
@@ -41,12 +37,7 @@ fn read_open_slot<S: Store>(alloc: Global, store: &mut S, page: u32) -> Result<O
         → slot ≡ open_slot (S.facts store.old).content page) }
     ensures refusals { IfErr result IsResourceFault }
 {
-    let extent = Extent {
-        page,
-        length: SLOT_LENGTH as u32,
-    };
-    let bytes = read_extent(alloc, store, extent)?;
-    Ok(if_open(read_slot(&bytes)))
+    Ok(if_open(read_slot_at(alloc, store, page)?))
 }
 
 // The one of two open slots that counts.
@@ -69,28 +60,6 @@ fn counting_slot(first: Option<Slot>, second: Option<Slot>) -> Result<Slot, Faul
     }
 }
 
-// Whether a slot can lead to documents.
-fn header_verdict(slot: &Slot) -> Result<(), Fault>
-    ensures { result ≡ header_verdict slot.now }
-{
-    if !(slot.version == 1 || slot.version == 2) {
-        Err(Fault::NotDocument)
-    } else if slot.reserved != 0 || slot.sequence == 0 {
-        Err(Fault::Damaged)
-    } else {
-        Ok(())
-    }
-}
-
-// Whether a directory can lie there, in a file of this version and of so many bytes.
-fn can_have_directory(extent: Extent, version: u8, file_length: u64) -> bool
-    ensures { IsTrue result ↔ IsDirectoryPlace version file_length extent }
-{
-    extent.length >= SHORTEST_DIRECTORY
-        && extent.length as usize <= LONGEST_DIRECTORY
-        && is_in_file(extent, file_length, version)
-}
-
 // Reads a directory. Damaged, Memory, File.
 fn read_directory<S: Store>(
     alloc: Global,
@@ -107,11 +76,10 @@ fn read_directory<S: Store>(
         → directory_of version (S.facts store.old).content extent ≡ None }
     ensures refusals { IfErr result IsReadRefusal }
 {
-    if !can_have_directory(extent, version, file_length) {
-        return Err(Fault::Damaged);
+    match file_report::read_directory(alloc, store, file_length, version, extent)? {
+        ReadDirectory::Right(directory) => Ok(directory),
+        ReadDirectory::Misplaced | ReadDirectory::Wrong(_) => Err(Fault::Damaged),
     }
-    let bytes = read_extent(alloc, store, extent)?;
-    read_dir(alloc, &bytes, file_length, version)
 }
 
 // The slot that counts. NotDocument, Damaged, Memory, File.

@@ -5,7 +5,7 @@ ghost use Rattle.vm_file.specs.Opened.{IsReadRefusal, OnlyReadsStore};
 ghost use Rattle.document_stat.specs.Counted.{Blocks, IsCount};
 
 use crate::blocks::BlockStat;
-use crate::reading::read_extent;
+use file_report::read_extent;
 use geos_model::{Bytes, Entry, Fault};
 use std::alloc::Global;
 use vm_file::Image;

@@ -8,7 +8,6 @@ mod counting;
 mod documents;
 mod file_stat;
 mod pages;
-mod reading;
 mod tally;
 
 pub use arrays::{ArrayKind, read_array};

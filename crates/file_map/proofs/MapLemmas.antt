@@ -2,6 +2,7 @@
 use Rattle.std.proofs.Common.{◌≡◌, ℕ, ◌<◌, ◌≤◌, ◌==◌, ◌||◌, not, Bool, true, false, List, ◌∷◌, ◌++◌, length, map, get_or, Option, Some, None, Result, Ok, Err, arith, refl, sym, subst, ap, ap₂, ◌∙◌, inl, inr}
 use Rattle.std.specs.Prelude.{if◌then◌else◌, nat_lt, IfErr, IsOk, IsErr, IsTrue, IsPermutation}
 use Rattle.std.specs.Option.{option_map}
+use Rattle.std.specs.Result.{result_ok}
 use Rattle.std.specs.List.Sorted.{IsNonDecreasingBy}
 use Rattle.std.proofs.lemmas.Bool.{cases_lt, lt-ltb}
 use Rattle.std.proofs.lemmas.List as lists
@@ -15,7 +16,7 @@ use Rattle.geos_model.specs.declared.file.Slot.{Slot}
 use Rattle.vm_space.specs.Listed.{shown}
 use Rattle.vm_space.specs.declared.format.directory.Directory.{Directory}
 use Rattle.file_report.proofs.StandsLemmas.{state_opened, file_verdict}
-use Rattle.file_report.specs.Checked.{IsReport, IsSlotReport, IsState, counting_between, counting_of_two, header_verdict, opened, verdict_of, verdict_of_two}
+use Rattle.file_report.specs.Checked.{IsReport, IsSlotReport, IsState, chosen, counting_between, header_verdict, opened, verdict_by, verdict_of}
 use Rattle.file_report.specs.Pages.{slots_usage, usages_in, usages_of}
 use Rattle.file_report.specs.declared.checking.Report.{Report}
 use Rattle.file_report.specs.declared.checking.SlotReport.{SlotReport}
@@ -71,7 +72,7 @@ right_header file s ok =
 pub record IsCounting (file : List ℕ) (a b : Option SlotReport) (r : SlotReport) : Type 0 where
   pub report : IsSlotReport file r
   pub counts : counting_slot (option_map (λ s. s.slot) a) (option_map (λ s. s.slot) b) ≡ Ok r.slot
-  pub verdict : verdict_of_two a b ≡ r.verdict
+  pub verdict : verdict_by (chosen a b) ≡ r.verdict
 
 abbrev AreFound : List ℕ → Option SlotReport → Type 0
 AreFound file found = (t : SlotReport) → found ≡ Some t → IsSlotReport file t
@@ -82,13 +83,19 @@ state_found file page NoMark is t same = absurd (cc same)
 state_found file page (Closed s) is t same = absurd (cc same)
 state_found file page (Open u) is t same = let e : u ≡ t = cc same in subst (IsSlotReport file) e is.2
 
-counting_two : (file : List ℕ) (same less : Bool) (t u r : SlotReport) → IsSlotReport file t → IsSlotReport file u → (if same then None else if less then Some u else Some t) ≡ Some r
-    → IsSlotReport file r × ((if same then Err Damaged else if less then Ok u.slot else Ok t.slot) ≡ Ok r.slot) × ((if same then Err Damaged else if less then u.verdict else t.verdict) ≡ r.verdict)
+abbrev found_in : Result (ℕ × SlotReport) Fault → Option SlotReport
+found_in choice = option_map (λ p. p.1) (result_ok choice)
+
+abbrev chosen_of : Bool → Bool → SlotReport → SlotReport → Result (ℕ × SlotReport) Fault
+chosen_of same less t u = if same then Err Damaged else if less then Ok (1, u) else Ok (0, t)
+
+counting_two : (file : List ℕ) (same less : Bool) (t u r : SlotReport) → IsSlotReport file t → IsSlotReport file u → found_in (chosen_of same less t u) ≡ Some r
+    → IsSlotReport file r × ((if same then Err Damaged else if less then Ok u.slot else Ok t.slot) ≡ Ok r.slot) × (verdict_by (chosen_of same less t u) ≡ r.verdict)
 counting_two file true less t u r first second is = absurd (cc is)
 counting_two file false true t u r first second is = let e : u ≡ r = cc is in (subst (IsSlotReport file) e second, ap (λ x. Ok x.slot) e, ap (λ x. x.verdict) e)
 counting_two file false false t u r first second is = let e : t ≡ r = cc is in (subst (IsSlotReport file) e first, ap (λ x. Ok x.slot) e, ap (λ x. x.verdict) e)
 
-found_counting : (file : List ℕ) (a b : Option SlotReport) (r : SlotReport) → AreFound file a → AreFound file b → counting_of_two a b ≡ Some r → IsCounting file a b r
+found_counting : (file : List ℕ) (a b : Option SlotReport) (r : SlotReport) → AreFound file a → AreFound file b → found_in (chosen a b) ≡ Some r → IsCounting file a b r
 found_counting file None None r first second is = absurd (cc is)
 found_counting file (Some t) None r first second is = let e : t ≡ r = cc is in record { report = subst (IsSlotReport file) e (first t refl); counts = ap (λ x. Ok x.slot) e; verdict = ap (λ x. x.verdict) e }
 found_counting file None (Some u) r first second is = let e : u ≡ r = cc is in record { report = subst (IsSlotReport file) e (second u refl); counts = ap (λ x. Ok x.slot) e; verdict = ap (λ x. x.verdict) e }
@@ -96,13 +103,13 @@ found_counting file (Some t) (Some u) r first second is =
     let all = counting_two file (t.slot.sequence == u.slot.sequence) (nat_lt t.slot.sequence u.slot.sequence) t u r (first t refl) (second u refl) is in
     record { report = all.0; counts = all.1; verdict = all.2 }
 
-none_two : (same less : Bool) (t u : SlotReport) → (if same then None else if less then Some u else Some t) ≡ None → IsErr (if same then Err Damaged else if less then u.verdict else t.verdict)
+none_two : (same less : Bool) (t u : SlotReport) → found_in (chosen_of same less t u) ≡ None → IsErr (verdict_by (chosen_of same less t u))
 none_two true less t u none = refl
 none_two false true t u none = absurd (cc none)
 none_two false false t u none = absurd (cc none)
 
 -- where none counts the file doesn't open
-none_counts : (a b : Option SlotReport) → counting_of_two a b ≡ None → IsErr (verdict_of_two a b)
+none_counts : (a b : Option SlotReport) → found_in (chosen a b) ≡ None → IsErr (verdict_by (chosen a b))
 none_counts None None none = refl
 none_counts (Some t) None none = absurd (cc none)
 none_counts None (Some u) none = absurd (cc none)

@@ -10,7 +10,7 @@ ghost use Rattle.file_report.specs.Checked.{IsReport, IsSlotReport, IsState, cho
 
 use crate::document::check_document;
 use crate::finding::{Finding, Named, note_unless};
-use crate::reading::read_slot_at;
+use crate::reading::{read_length, read_slot_at};
 use geos_model::{Fault, PAGE, Slot};
 use std::alloc::{AllocError, Global};
 use vm_space::Directory;
@@ -85,8 +85,9 @@ fn is_sequence(sequence: u64) -> bool
     sequence != 0
 }
 
-// Whether a slot can lead to documents.
-fn header_verdict(slot: &Slot) -> Result<(), Fault>
+/// Whether a slot can lead to documents: Ok, or `NotDocument` where its version is none of the format, or `Damaged` where its zeros or
+/// its sequence number are wrong.
+pub fn header_verdict(slot: &Slot) -> Result<(), Fault>
     ensures { result ≡ header_verdict slot.now }
 {
     if !is_version(slot.version) {
@@ -239,18 +240,6 @@ fn verdict_between(first: &SlotState, second: &SlotState) -> Result<(), Fault>
     match chosen(first, second) {
         Ok((_, report)) => report.verdict,
         Err(fault) => Err(fault),
-    }
-}
-
-// How many bytes there are. File.
-fn read_length<S: Store>(store: &mut S) -> Result<u64, Fault>
-    ensures looks { OnlyReadsStore (S.facts store.old) (S.facts store.new) }
-    ensures length { IfOk result (λ n. IsTrue (S.facts store.old).honest → n ≡ length (S.facts store.old).content) }
-    ensures refusals { IfErr result IsResourceFault }
-{
-    match store.len() {
-        Ok(n) => Ok(n),
-        Err(_) => Err(Fault::File),
     }
 }
 

@@ -9,7 +9,7 @@ mod finding;
 mod pages;
 mod reading;
 
-pub use checking::{Report, SlotReport, SlotState, check};
+pub use checking::{Report, SlotReport, SlotState, check, header_verdict};
 pub use finding::{EntryFault, Finding, HeaderFault, Named};
-pub use reading::read_extent;
 pub use pages::{Content, FreePages, Usage, free_pages, overlaps, page_behind, page_count, usages};
+pub use reading::{ReadDirectory, read_directory, read_extent, read_length, read_slot_at};

@@ -1,4 +1,4 @@
-//! Reading the bytes of an extent, a slot and a directory.
+//! Reading the length of a file, the bytes of an extent, a slot and a directory.
 ghost use Rattle.std.specs.Prelude.{◌≡◌, ◌≤◌, ◌*◌, IsTrue, IfOk, IfErr, ◌↔◌, length, take, drop};
 ghost use Rattle.geos_model.specs.File.{bytes_in, slot_of};
 ghost use Rattle.vm_file.specs.Calls.{IsResourceFault};
@@ -9,6 +9,18 @@ use geos_model::{Extent, Fault, PAGE, Slot};
 use std::alloc::Global;
 use vm_space::{Directory, LONGEST_DIRECTORY, SLOT_LENGTH, is_in_file, read_dir, read_slot};
 use vm_store::Store;
+
+/// How many bytes there are. File.
+pub fn read_length<S: Store>(store: &mut S) -> Result<u64, Fault>
+    ensures looks { OnlyReadsStore (S.facts store.old) (S.facts store.new) }
+    ensures length { IfOk result (λ n. IsTrue (S.facts store.old).honest → n ≡ length (S.facts store.old).content) }
+    ensures refusals { IfErr result IsResourceFault }
+{
+    match store.len() {
+        Ok(n) => Ok(n),
+        Err(_) => Err(Fault::File),
+    }
+}
 
 /// The bytes of an extent. Memory, File.
 pub fn read_extent<S: Store>(alloc: Global, store: &mut S, extent: Extent) -> Result<Vec<u8>, Fault>
