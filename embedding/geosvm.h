@@ -11,8 +11,8 @@
 **       geosvm_close(&s);
 **     }
 **
-** There is no call to begin with, no state outside of sessions and no thread. What a document is, and what each command does,
-** docs/SCRIPT.md says; the calls below have the names of its commands. Edits are made by geosvm_command.
+** There is no call to begin with, no thread, and no state outside of sessions that outlasts a call. What a document is, and what each
+** command does, docs/SCRIPT.md says; the calls below have the names of its commands. Edits are made by geosvm_command.
 **
 ** WHAT THE CALLER OWES, which nothing checks:
 **
@@ -23,8 +23,8 @@
 **     else that the same call is passed.
 **   - A descriptor is open to be read and written, and stays so until geosvm_close; it stays the caller's, since no call closes it.
 **     Its position moves. It doesn't append.
-**   - No two open sessions have the same file, and nobody else writes it meanwhile: take flock(fd, LOCK_EX | LOCK_NB) before.
-**     After a file was made, sync the folder that it lies in, or a crash may lose its name.
+**   - No two open sessions have the same file, and none is saved into one that another has. Nobody else writes it meanwhile: take
+**     flock(fd, LOCK_EX | LOCK_NB) before. After a file was made, sync the folder that it lies in, or a crash may lose its name.
 **   - Where the program defines the functions geosvm_io_* itself, they do what stands at them, below.
 **   - malloc, realloc and free are one allocator, and malloc aligns a block to each power of two up to 16 that divides its size.
 **   - No call comes from a signal handler, nor from the forked child of a process with threads.
@@ -191,10 +191,11 @@ int32_t geosvm_vread(geosvm_session *s, uint16_t block, uint8_t *buffer, size_t 
 ** those of embedding/files.c, for which that number is the descriptor of an open file. A program that defines all five has its documents
 ** wherever it likes, and the number is its own.
 **
-** Each of them writes nothing but the buffer that it is lent, keeps no pointer to it, and calls nothing of this library. A negative number
-** says that it failed. The first two else answer how many bytes they moved, from and to `at`, which may be fewer than `size`; a read
-** answers none only at the file's end or past it, and a write, which may lie past the end, takes one at least. geosvm_io_len answers how
-** long the file is. geosvm_io_set_len cuts it or adds zeros. After geosvm_io_sync no crash loses what was done before.
+** Each of them writes nothing but the buffer that it is lent, keeps no pointer to it, and calls nothing of this library. It is called by
+** the thread that called the library, so by several at once where sessions are in several. A negative number says that it failed. The
+** first two else answer how many bytes they moved, from and to `at`, which may be fewer than `size`; a read answers none only at the
+** file's end or past it, and a write, which may lie past the end, takes one at least. geosvm_io_len answers how long the file is. The
+** last two answer 0: geosvm_io_set_len cuts the file or adds zeros, and after geosvm_io_sync no crash loses what was done before.
 */
 int64_t geosvm_io_read(int32_t number, void *buffer, size_t size, int64_t at);
 int64_t geosvm_io_write(int32_t number, const void *bytes, size_t size, int64_t at);
