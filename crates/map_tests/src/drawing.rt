@@ -5,9 +5,9 @@ use std::test::Fail;
 // A heap with the chunks 0010, of 700 bytes, and 0014, of two, and none in between: 1 + 2 + 6 + 702 bytes.
 const HEAP: &[u8; 711] = &[1; 711];
 
-// With its kind and its table.
-fn heap_file(file: &mut [u8], page: usize) {
-    put(file, 512 * page, b"\x01\x03\0\xbc\x02\xff\xff\x02\0");
+// Puts its kind and its table there, at page 3.
+fn put_table(file: &mut [u8]) {
+    put(file, 1_536, b"\x01\x03\0\xbc\x02\xff\xff\x02\0");
 }
 
 // The updated document has the heap of the saved one, another raw block in the place of its own, and one more heap.
@@ -34,7 +34,7 @@ heap of      t table, # chunks, . free; 2,048 B  chunks unused   used   free
 #[test]
 fn each_page_is_drawn_by_what_lies_on_it(rt: HostRuntime) -> Result<(), Fail> {
     let mut file = made(rt.alloc(), 10, UPDATED, SAVED)?;
-    heap_file(&mut file, 3);
+    put_table(&mut file);
     let text = text_of(rt.alloc(), &file)?;
     assert_eq!(rt; text.as_slice(), TEXT.as_bytes());
     Ok(())
@@ -108,7 +108,7 @@ fn overlaps_are_drawn(rt: HostRuntime) -> Result<(), Fail> {
 #[test]
 fn each_part_is_a_rectangle_with_a_title(rt: HostRuntime) -> Result<(), Fail> {
     let mut file = made(rt.alloc(), 10, UPDATED, SAVED)?;
-    heap_file(&mut file, 3);
+    put_table(&mut file);
     let svg = svg_of(rt.alloc(), &file)?;
     for line in [
         b"<g fill='#2c7fb8'><title>heap 0001 of both documents: page 3, bytes 711</title><rect x='112' y='98' width='26' height='12'/></g>\n".as_slice(),

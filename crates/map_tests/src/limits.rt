@@ -1,5 +1,5 @@
 //! As many blocks as a file can have.
-use crate::files::{directory, has, put, put_slot, svg_of, text_of, times};
+use crate::files::{directory, has, put, put_slot, svg_of, text_of};
 use std::alloc::{AllocError, Global};
 use std::test::Fail;
 
@@ -28,8 +28,11 @@ fn put_heap(file: &mut [u8], at: usize) {
     }
 }
 
+// 133 rows of pages, a blank line, three contents, a blank line, the heading and the heaps.
+const LINES: usize = 133 + 1 + 3 + 1 + 1 + 8_192;
+
 #[test]
-fn all_blocks_are_drawn(rt: HostRuntime) -> Result<(), Fail> {
+fn all_heaps_have_a_line(rt: HostRuntime) -> Result<(), Fail> {
     let file = full_file(rt.alloc())?;
     let text = text_of(rt.alloc(), &file)?;
     assert!(rt;
@@ -38,8 +41,30 @@ fn all_blocks_are_drawn(rt: HostRuntime) -> Result<(), Fail> {
             b"\nD      257  directory of both documents\nH     8192  heaps of both documents\n\n"
         )
     );
-    assert_eq!(rt; times(&text, b" both    ["), 8_192);
+    assert_eq!(rt; text.iter().filter(|byte| **byte == b'\n').count(), LINES);
+    assert!(rt;
+        text.ends_with(
+            b"\n2000 both    [t...............................]      0      0     16  65504\n"
+        )
+    );
+    Ok(())
+}
+
+#[test]
+fn all_heaps_have_a_bar(rt: HostRuntime) -> Result<(), Fail> {
+    let file = full_file(rt.alloc())?;
     let svg = svg_of(rt.alloc(), &file)?;
-    assert_eq!(rt; times(&svg, b"<title>heap "), 8_192);
+    assert!(rt;
+        has(
+            &svg,
+            b"<title>heap 2000 of both documents: page 8450, bytes 3</title>"
+        )
+    );
+    assert!(rt;
+        has(
+            &svg,
+            b">heap 2000 of both documents: chunks 0, unused handles 0, bytes used 16, free 65504</text>\n"
+        )
+    );
     Ok(())
 }
