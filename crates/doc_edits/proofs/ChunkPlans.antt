@@ -33,7 +33,7 @@ use Rattle.doc_edits.specs.Found.{IsHeapAt, IsChunkAt, AreLate}
 use Rattle.doc_edits.specs.Building.{chunk_after, chunk_in, place_of, new_in, IsAt, IsHeapFor, IsOfChunk, StandsIn, IsBuilt, MakesAt, MakesPart, CreatesAt, Creates}
 use Rattle.doc_edits.specs.Planning.{Plans}
 use Rattle.doc_edits.proofs.Documents.{chunks_are, heap_there, heap_here}
-use Rattle.doc_edits.proofs.First.{FirstOfScope, scope_first}
+use Rattle.doc_edits.proofs.FirstConditions.{FirstOfScope, scope_first}
 
 -- the edit is of the chunk that it names
 

@@ -5,9 +5,9 @@ pub mod ChunkParts
 pub mod ArrayEdits
 pub mod ElementEdits
 pub mod NameEdits
-pub mod Rooms
-pub mod First
-pub mod Loads
+pub mod RoomLemmas
+pub mod FirstConditions
+pub mod Loading
 pub mod ChunkPlans
 pub mod LookUps
 pub mod BlockPlans

@@ -30,7 +30,7 @@ use Rattle.doc_edits.specs.Found.{AreLate, IsChunkAt}
 use Rattle.doc_edits.specs.LookUps.{answer_of, chunk_asked, makes_list, FindsInMemory, LooksUp, LooksUpInMemory, RefusesChunk, Sees}
 use Rattle.doc_edits.specs.Room.{has_no_room, ReadsNothing}
 use Rattle.doc_edits.proofs.Refusals.{past_chunk}
-use Rattle.doc_edits.proofs.Rooms.{LooksFor, looks_for_heap, refused_for, unchanged, room_at}
+use Rattle.doc_edits.proofs.RoomLemmas.{LooksFor, looks_for_heap, refused_for, unchanged, room_at}
 
 module _ (lacks : Fault → Type 0) (no_room : Bool) where
   -- a look-up that is refused

@@ -14,4 +14,4 @@ pub mod SavingAs
 pub mod Beginnings
 pub mod Groups
 pub mod Moving
-pub mod Rooms
+pub mod RoomLemmas

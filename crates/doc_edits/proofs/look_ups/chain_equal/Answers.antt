@@ -6,7 +6,7 @@ use Rattle.vm_blocks.proofs.KeepingLaws.{keeps-refl}
 use Rattle.vm_chains.specs.Answers.{IsWrongRoot}
 use Rattle.doc_edits.proofs.LookUps.{answered_so, look_up_refused, refused_as}
 use Rattle.doc_edits.proofs.Refusals.{carried_so}
-use Rattle.doc_edits.proofs.Rooms.{early_of_chain}
+use Rattle.doc_edits.proofs.RoomLemmas.{early_of_chain}
 use Rattle.doc_edits.proofs.look_ups.chain_equal.Goals as goal
 
 pub returns-in_err-test_chains-clause-keeps : goal.returns-in_err-test_chains-clause-keeps

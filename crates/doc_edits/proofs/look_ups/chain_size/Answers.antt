@@ -7,7 +7,7 @@ use Rattle.geos_model.specs.Document.{is_raw}
 use Rattle.vm_blocks.specs.Kinds.{IsWrongBlock}
 use Rattle.doc_edits.proofs.LookUps.{answered_so, look_up_refused, refused_as}
 use Rattle.doc_edits.proofs.Refusals.{carried_so}
-use Rattle.doc_edits.proofs.Rooms.{early_of_chain}
+use Rattle.doc_edits.proofs.RoomLemmas.{early_of_chain}
 use Rattle.doc_edits.proofs.look_ups.chain_size.Goals as goal
 
 pub returns-in_err-test_chain-clause-keeps : goal.returns-in_err-test_chain-clause-keeps

@@ -8,7 +8,7 @@ use Rattle.vm_blocks.specs.Keeping.{IsEnvironmentFault, is_shut_out}
 use Rattle.doc_edits.specs.LookUps.{FindsInMemory, RefusesChunk}
 use Rattle.doc_edits.proofs.LookUps.{chunk_looks, chunk_or_refusal, first_of_chunk, load_refuses}
 use Rattle.doc_edits.proofs.Refusals.{carried, carried_so}
-use Rattle.doc_edits.proofs.Rooms.{unchanged, room_at}
+use Rattle.doc_edits.proofs.RoomLemmas.{unchanged, room_at}
 use Rattle.doc_edits.proofs.look_ups.chunk_at.Goals as goal
 
 pub returns-in_err-load_heap : goal.returns-in_err-load_heap

@@ -9,7 +9,7 @@ use Rattle.vm_blocks.specs.Keeping.{IsEnvironmentFault, is_shut_out}
 use Rattle.vm_blocks.proofs.KeepingLaws.{lacks-memory}
 use Rattle.doc_edits.specs.LookUps.{makes_list}
 use Rattle.doc_edits.proofs.LookUps.{answered_with_room, lacked, load_missed, load_rests, load_room, load_seen, refused_as}
-use Rattle.doc_edits.proofs.Rooms.{LooksFor, looks_for_heap}
+use Rattle.doc_edits.proofs.RoomLemmas.{LooksFor, looks_for_heap}
 use Rattle.doc_edits.proofs.look_ups.chunks.Goals as goal
 
 looks : (b : VmHandle) → LooksFor is_heap b.0 (look_up_conditions (commands.Chunks b))

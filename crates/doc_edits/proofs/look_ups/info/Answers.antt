@@ -13,7 +13,7 @@ use Rattle.block_cache.specs.declared.body.BlockBody.TheVariants as block_bodies
 use Rattle.vm_blocks.specs.Keeping.{IsEnvironmentFault}
 use Rattle.vm_blocks.proofs.KeepingLaws.{loaded-live}
 use Rattle.doc_edits.proofs.LookUps.{answered_with_room, load_missed, load_seen}
-use Rattle.doc_edits.proofs.Rooms.{LooksFor, early_dead, err_dead, looks_for_any}
+use Rattle.doc_edits.proofs.RoomLemmas.{LooksFor, early_dead, err_dead, looks_for_any}
 use Rattle.doc_edits.proofs.look_ups.info.Goals as goal
 
 looks : (b : VmHandle) → LooksFor is_live b.0 (look_up_conditions (commands.Info b))

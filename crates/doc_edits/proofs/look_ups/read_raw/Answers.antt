@@ -4,7 +4,7 @@ use Rattle.geos_model.specs.Reply.{BytesAre, look_up_conditions}
 use Rattle.geos_model.specs.declared.command.Command.TheVariants as commands
 use Rattle.geos_model.specs.declared.handle.VmHandle.{VmHandle}
 use Rattle.doc_edits.proofs.LookUps.{answered_with_room, load_missed, load_seen}
-use Rattle.doc_edits.proofs.Rooms.{LooksFor, looks_for_raw}
+use Rattle.doc_edits.proofs.RoomLemmas.{LooksFor, looks_for_raw}
 use Rattle.doc_edits.proofs.look_ups.read_raw.Goals as goal
 
 looks : (b : VmHandle) → LooksFor is_raw b.0 (look_up_conditions (commands.ReadRaw b))

@@ -1,7 +1,7 @@
 use Rattle.std.proofs.Common.{sym}
 use Rattle.vm_blocks.specs.Keeping.{IsEnvironmentFault}
 use Rattle.vm_blocks.proofs.KeepingLaws.{keeps-refl}
-use Rattle.doc_edits.proofs.Loads.{block_brought, heap_brought, raw_brought}
+use Rattle.doc_edits.proofs.Loading.{block_brought, heap_brought, raw_brought}
 use Rattle.doc_edits.proofs.planning.load_scope.Goals as goal
 
 pub returns-in-Plain-clause-keeps : goal.returns-in-Plain-clause-keeps

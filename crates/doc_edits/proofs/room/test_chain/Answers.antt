@@ -2,7 +2,7 @@ use Rattle.std.proofs.Common.{inl, inr}
 use Rattle.std.proofs.lemmas.Result.{MatchResult-weaker}
 use Rattle.vm_blocks.specs.Keeping.{is_full}
 use Rattle.doc_edits.proofs.Refusals.{carried, carried_so, refused_then}
-use Rattle.doc_edits.proofs.Rooms.{chain_full, root_refused}
+use Rattle.doc_edits.proofs.RoomLemmas.{chain_full, root_refused}
 use Rattle.doc_edits.proofs.room.test_chain.Goals as goal
 
 pub returns-in_err-test_root-clause-value : goal.returns-in_err-test_root-clause-value

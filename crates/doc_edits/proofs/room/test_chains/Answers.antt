@@ -2,7 +2,7 @@ use Rattle.std.proofs.Common.{inl, inr}
 use Rattle.std.proofs.lemmas.Result.{MatchResult-weaker}
 use Rattle.vm_blocks.specs.Keeping.{is_full}
 use Rattle.doc_edits.proofs.Refusals.{carried, carried_so, refused_then}
-use Rattle.doc_edits.proofs.Rooms.{chains_full, roots_refused}
+use Rattle.doc_edits.proofs.RoomLemmas.{chains_full, roots_refused}
 use Rattle.doc_edits.proofs.room.test_chains.Goals as goal
 
 pub returns-in_err-test_roots-clause-value : goal.returns-in_err-test_roots-clause-value

@@ -1,6 +1,6 @@
 use Rattle.std.proofs.Common.{◌≡◌, ◌<◌, Some, vec_len, sym, ◌∙◌, arith}
 use Rattle.std.proofs.lemmas.Bool.Decides.{nat_tests}
-use Rattle.undo_log.proofs.Rooms.{room_for_group}
+use Rattle.undo_log.proofs.RoomLemmas.{room_for_group}
 use Rattle.undo_log.proofs.log.UndoLog.close_group.Goals as goal
 
 pub push_reserved-requires : goal.push_reserved-requires

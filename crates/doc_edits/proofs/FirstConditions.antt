@@ -10,7 +10,7 @@ use Rattle.geos_model.specs.declared.command.Edit.TheVariants as edits
 use Rattle.geos_model.specs.declared.fault.Fault.TheVariants.{NoChunk}
 use Rattle.geos_model.specs.declared.scope.Scope.{Scope}
 use Rattle.geos_model.specs.declared.scope.Scope.TheVariants.{Plain, New, Block, Raw, Heap, Chunk, Chain}
-use Rattle.doc_edits.proofs.Rooms.{Begins}
+use Rattle.doc_edits.proofs.RoomLemmas.{Begins}
 
 -- the block of which an edit is, its kind and the chunk are looked for first
 

@@ -17,8 +17,8 @@ use Rattle.vm_blocks.specs.Kinds.{IsWrongBlock}
 use Rattle.doc_edits.specs.Planning.{RefusesEdit}
 use Rattle.doc_edits.specs.Loading.{IsBrought}
 use Rattle.doc_edits.specs.Room.{has_no_room, ReadsNothing}
-use Rattle.doc_edits.proofs.First.{FirstOfScope, heap_begins, scope_first}
-use Rattle.doc_edits.proofs.Rooms.{LooksFor, early_dead, err_dead, err_of, looks_for_any, looks_for_heap, looks_for_raw, unchanged, room_of, shut_of}
+use Rattle.doc_edits.proofs.FirstConditions.{FirstOfScope, heap_begins, scope_first}
+use Rattle.doc_edits.proofs.RoomLemmas.{LooksFor, early_dead, err_dead, err_of, looks_for_any, looks_for_heap, looks_for_raw, unchanged, room_of, shut_of}
 
 module _ {S : Type 0} (lacks : Fault → Type 0) (edit : Edit) (a b : CacheState S) (h : VmHandle) (result : Result (Unit {0}) Fault) where
   module _ (is_kind : Document → ℕ → Bool) (scope : Scope) (is : scope_of edit ≡ scope) (body : needs_of_scope scope ≡ OneBody h.0) (looks : LooksFor is_kind h.0 (conditions edit))
