@@ -6,6 +6,7 @@ pub mod CopyLemmas
 pub mod Planned
 pub mod ShapeLemmas
 pub mod Loading
+pub mod StepLemmas
 pub mod Refusals
 pub mod Carrying
 pub mod Walked
