@@ -1,5 +1,5 @@
 -- A walk along a chain, step by step.
-use Rattle.std.proofs.Common.{◌≡◌, ◌⊎◌, ◌==◌, ◌<◌, ◌≤◌, ◌+◌, ◌-◌, ℕ, suc, List, [], ◌∷◌, ◌++◌, Option, Some, None, MatchOption, true, false, length, get_or, refl, sym, ap, subst, ◌∙◌, inl, inr, arith}
+use Rattle.std.proofs.Common.{◌≡◌, ◌⊎◌, ◌==◌, ◌<◌, ◌≤◌, ◌-◌, ℕ, suc, List, [], ◌∷◌, Option, Some, None, MatchOption, true, false, length, get_or, refl, sym, ap, subst, ◌∙◌, inl, inr, arith}
 use Rattle.std.specs.List.{list_any}
 use Rattle.vm_store.specs.Facts.{StoreFacts}
 use Rattle.block_cache.specs.State.{CacheState}
@@ -12,7 +12,7 @@ use Rattle.vm_blocks.specs.Keeping.{KeepsBlocks, IsHonest, IsEnvironmentFault}
 use Rattle.vm_blocks.proofs.KeepingLaws.{keeps-refl, keeps-same, keeps-steady, keeps-trans, lacks-later}
 use Rattle.vm_chains.specs.Numbers.{numbers}
 use Rattle.vm_chains.specs.Stepping.{AreMet, HasMet, HasMetAll, IsAlong, IsAtRoot, IsBroken, IsOver, IsStep}
-use Rattle.vm_chains.specs.Walking.{AreBlocks, IsChainWalk, Stops}
+use Rattle.vm_chains.specs.Walking.{IsChainWalk, Stops}
 use Rattle.vm_chains.specs.declared.stepping.Walk.{Walk}
 use Rattle.vm_chains.proofs.Loading.{still_live}
 use Rattle.vm_chains.proofs.WalkLemmas.{member_live, met_blocks, none_met, one_met, root_met, root_there, same_walk, walk_begins, walk_breaks, walk_ends, walk_goes_on, walk_is_full, walk_turns}
@@ -100,10 +100,16 @@ module _ {S : Type 0} (facts : S → StoreFacts) where
     }
 
     -- it has come to its end
+    pub goes-ended : (new : Walk) → IsOver old new → (root : ℕ) → IsHonest facts a.disk.store → IsAlong a.document root from → chain c.document root ≡ Some new.met
+    goes-ended new over root steady along = over_along c.document root old (still_along root steady along) over.none ∙ ap (λ (w : Walk). Some w.met) (sym over.same)
+
     pub goes-over : (new : Walk) (hs : List VmHandle) → IsOver old new → numbers hs ≡ new.met → (root : ℕ) → IsHonest facts a.disk.store → IsAlong a.document root from → chain c.document root ≡ Some (numbers hs)
-    goes-over new hs over same root steady along =
-        let met : old.met ≡ numbers hs = sym (ap (λ (w : Walk). w.met) over.same) ∙ sym same in
-        over_along c.document root old (still_along root steady along) over.none ∙ ap (λ (xs : List ℕ). Some xs) met
+    goes-over new hs over same root steady along = goes-ended new over root steady along ∙ ap (λ (xs : List ℕ). Some xs) (sym same)
+
+    pub goes-met : (new : Walk) → IsOver old new → (root : ℕ) → HasMet a.document root from → AreMet c.document 0 new.met
+    goes-met new over root was =
+        let blocks = (still_has_met root was).blocks in
+        subst (λ (w : Walk). AreMet c.document 0 w.met) (sym over.same) (record { live = blocks.live; distinct = blocks.distinct; few = omega (arith, blocks.few) })
 
     pub goes-met_all : (new : Walk) (hs : List VmHandle) → ((h : ℕ) → is_live c.document h ≡ true → is_vm_handle h ≡ true) → IsOver old new → numbers hs ≡ new.met → (root : ℕ) → HasMet a.document root from → HasMetAll c.document root hs
     goes-met_all new hs can over same root has = over_has_met c.document root old hs can (still_has_met root has) over.none (same ∙ ap (λ (w : Walk). w.met) over.same)

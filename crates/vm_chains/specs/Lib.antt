@@ -4,3 +4,4 @@ pub mod Linking
 pub mod Naming
 pub mod Walking
 pub mod Stepping
+pub mod Planning

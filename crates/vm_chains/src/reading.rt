@@ -1,17 +1,16 @@
 //! What is read of a block that a walk has met.
 ghost use Rattle.std.specs.Prelude.{◌≡◌, ◌≤◌, true, false, IfOk, MatchResult, length};
 ghost use Rattle.geos_model.specs.Chain.{is_member, relinked};
-ghost use Rattle.geos_model.specs.Document.{block_at, is_heap, is_live, is_raw, raw_bytes_of};
+ghost use Rattle.geos_model.specs.Document.{is_heap, is_live, is_raw, raw_bytes_of};
 ghost use Rattle.geos_model.specs.Heap.{capacity};
 ghost use Rattle.vm_blocks.specs.Keeping.{KeepsBlocks, IsHonest, IsEnvironmentFault, is_full};
-ghost use Rattle.vm_file.specs.Members.{imaged_block};
 ghost use Rattle.vm_chains.specs.Naming.{name_in};
 
 use crate::links::links_of;
 use crate::renaming::{Renaming, relinked};
 use geos_model::{Fault, VmHandle};
 use std::alloc::Global;
-use vm_blocks::{BlockBody, BlockImage, FileBlocks, imaged_block};
+use vm_blocks::{BlockBody, FileBlocks};
 use vm_store::Store;
 
 // The block is loaded again, since blocks that were met later may have taken its place. Only a store that isn't honest gives another
@@ -63,22 +62,4 @@ pub(crate) fn relinked_at<S: Store>(
         },
         BlockBody::Heap(_) => Err(Fault::Damaged),
     }
-}
-
-/// The block as it is.
-pub(crate) fn saved_at<S: Store>(
-    alloc: Global,
-    blocks: &mut FileBlocks<S>,
-    handle: VmHandle,
-) -> Result<BlockImage, Fault>
-    requires room { is_full blocks.old ≡ false }
-    requires live { is_live blocks.old.document handle.0 ≡ true }
-    ensures keeps { KeepsBlocks S.facts blocks.old blocks.new }
-    ensures value { MatchResult result
-        (λ saved. imaged_block saved ≡ block_at blocks.new.document handle.0)
-        (IsEnvironmentFault S.facts blocks.old.disk.store blocks.new.disk.store) }
-{
-    blocks.load(handle)?;
-    let attributes = blocks.attributes(handle);
-    Ok(imaged_block(alloc, attributes, blocks.body(handle))?)
 }

@@ -1,4 +1,4 @@
-use Rattle.std.proofs.Common.{◌≡◌, List, Vec, Result, Ok, Err, IfOk, MatchResult, Some, inl}
+use Rattle.std.proofs.Common.{◌≡◌, Result, Ok, Err, IfOk, MatchResult, Some, inl}
 use Rattle.std.proofs.lemmas.Result.{IfOk-weaker}
 use Rattle.geos_model.specs.Chain.{chain}
 use Rattle.geos_model.specs.declared.fault.Fault.{Fault}

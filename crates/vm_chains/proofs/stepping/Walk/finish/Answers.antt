@@ -1,9 +1,5 @@
-use Rattle.std.proofs.Common.{◌≡◌, ◌⊎◌, refl}
-use Rattle.geos_model.specs.declared.fault.Fault.TheVariants.{BadChain}
-use Rattle.vm_blocks.specs.Keeping.{IsEnvironmentFault}
 use Rattle.vm_blocks.proofs.KeepingLaws.{keeps-trans, keeps-unless_corrupt}
-use Rattle.geos_model.specs.Document.{is_live, is_vm_handle}
-use Rattle.std.proofs.Common.{ℕ, true, sym, ◌∙◌}
+use Rattle.std.proofs.Common.{sym, ◌∙◌}
 use Rattle.vm_chains.specs.Stepping.{IsOver, IsStep}
 use Rattle.vm_chains.proofs.Loading.{carried, carried_so, still_room}
 use Rattle.vm_chains.proofs.StepLemmas.{at_none, at_some, goes-met_all, goes-over, goes-refl, goes-refused, goes-step, stops_so}

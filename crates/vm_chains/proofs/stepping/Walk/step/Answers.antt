@@ -1,4 +1,4 @@
-use Rattle.std.proofs.Common.{◌≡◌, ◌≤◌, ◌∷◌, sym, ◌∙◌, inl, inr, refl, arith}
+use Rattle.std.proofs.Common.{sym, ◌∙◌, inl, inr, refl, arith}
 use Rattle.geos_model.specs.declared.fault.Fault.TheVariants.{Memory}
 use Rattle.vm_blocks.specs.Keeping.{IsEnvironmentFault}
 use Rattle.vm_blocks.proofs.KeepingLaws.{keeps-refl, keeps-unless_corrupt, lacks-memory}
