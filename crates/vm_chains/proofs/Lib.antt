@@ -9,3 +9,4 @@ pub mod Loading
 pub mod Refusals
 pub mod Carrying
 pub mod Walked
+pub mod PairLemmas

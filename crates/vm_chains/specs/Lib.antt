@@ -3,3 +3,4 @@ pub mod Numbers
 pub mod Linking
 pub mod Naming
 pub mod Walking
+pub mod Alike
