@@ -10,3 +10,4 @@ pub mod StepLemmas
 pub mod Refusals
 pub mod Carrying
 pub mod Walked
+pub mod PairLemmas

@@ -5,3 +5,4 @@ pub mod Naming
 pub mod Walking
 pub mod Stepping
 pub mod Planning
+pub mod Alike
