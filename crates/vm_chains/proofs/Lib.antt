@@ -4,9 +4,9 @@ pub mod WalkLemmas
 pub mod ChainLemmas
 pub mod CopyLemmas
 pub mod Planned
-pub mod ShapeLemmas
 pub mod Loading
 pub mod StepLemmas
+pub mod PairedWalks
 pub mod Refusals
 pub mod Carrying
 pub mod Walked

@@ -4,19 +4,22 @@ use Rattle.std.proofs.lemmas.Bool.{cases_Bool, cases_eq, and_parts, and_from, co
 use Rattle.std.proofs.lemmas.List.{get_or_default}
 use Rattle.std.proofs.lemmas.List.FromFn.{length-range_with_len, get_or-range_with_len}
 use Rattle.std.proofs.lemmas.List.Elements.{Contains-get_or}
-use Rattle.std.specs.List.{Contains, range_with_len, filter}
+use Rattle.std.specs.List.{Contains, range_with_len, filter, zip}
 use Rattle.std.specs.Option.{option_map}
 use lib.Pointwise.{pointwise, pointwise_long, bytes_decides}
 use Rattle.geos_model.specs.Bytes.{same_bytes}
 use Rattle.geos_model.specs.Words.{word_at}
 use Rattle.geos_model.specs.Document.{Document, IsValid, most_blocks, is_raw, raw_bytes_of}
-use Rattle.geos_model.specs.Chain.{tree_mark, is_linked, link_count, link_place, links, relinked, is_member, blocks_from, chain, same_shape}
+use Rattle.geos_model.specs.Chain.{tree_mark, is_linked, link_count, link_place, links, name_of, relinked, is_member, blocks_from, chain, same_shape}
 use Rattle.geos_model.proofs.Chains.{distinct_some, chain-walk, chain-members, member-handle, walk-few}
 use Rattle.geos_model.proofs.CopiedChains.{name-unknown, name-known, name-low, link-there}
 use Rattle.geos_model.proofs.Relinking.{AreSameRelinked, same-relinked, relinked-same, relinked_twice}
 use Rattle.vm_chains.specs.Alike.{mark_of, are_alike}
-use Rattle.vm_chains.specs.Naming.{place_in}
 use Rattle.vm_chains.proofs.WalkLemmas.{blocks_from-nil, blocks_from-member, blocks_from-other, blocks_from-full}
+
+-- the place of a handle among these, from 1 on
+abbrev place_in : List ℕ → ℕ → ℕ
+place_in hs h = name_of (zip hs (range_with_len 1 (length hs))) h
 
 -- Two lists beside each other.
 

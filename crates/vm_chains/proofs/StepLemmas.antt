@@ -122,14 +122,22 @@ module _ {S : Type 0} (facts : S → StoreFacts) where
 
 -- What a step answered, by which of the two it is.
 
-pub at_some : (next : Option VmHandle) (h : VmHandle) (P : Type 0) (Q : VmHandle → Type 0) → next ≡ Some h → MatchOption next P Q → Q h
-at_some next h P Q is answered = subst (λ (o : Option VmHandle). MatchOption o P Q) is answered
+pub at_some : {A : Type 0} (next : Option A) (x : A) (P : Type 0) (Q : A → Type 0) → next ≡ Some x → MatchOption next P Q → Q x
+at_some {A} next x P Q is answered = subst (λ (o : Option A). MatchOption o P Q) is answered
 
-pub at_none : (next : Option VmHandle) (P : Type 0) (Q : VmHandle → Type 0) → ((h : VmHandle) → next ≡ Some h → ⊥) → MatchOption next P Q → P
+pub at_end : {A : Type 0} (next : Option A) (P : Type 0) (Q : A → Type 0) → next ≡ None → MatchOption next P Q → P
+at_end {A} next P Q is answered = subst (λ (o : Option A). MatchOption o P Q) is answered
+
+pub at_none : {A : Type 0} (next : Option A) (P : Type 0) (Q : A → Type 0) → ((x : A) → next ≡ Some x → ⊥) → MatchOption next P Q → P
 at_none None P Q none answered = answered
-at_none (Some h) P Q none answered = absurd (none h refl)
+at_none (Some x) P Q none answered = absurd (none x refl)
 
--- a refusal of a step, over any store
+-- a refusal, over any store
+pub refused_then : {S : Type 0} (facts : S → StoreFacts) (a b c : CacheState S) (fault : Fault) → KeepsBlocks facts a b → IsEnvironmentFault facts b.disk.store c.disk.store fault ⊎ (fault ≡ BadChain) → IsEnvironmentFault facts a.disk.store c.disk.store fault ⊎ (fault ≡ BadChain)
+refused_then facts a b c fault keeps (inl lacks) = inl (lacks-later facts a b c.disk.store fault keeps lacks)
+refused_then facts a b c fault keeps (inr bad) = inr bad
+
+-- and of a step
 pub stops_so : {S : Type 0} (facts : S → StoreFacts) (a b c : CacheState S) (fault : Fault) (cause : Type 0) → KeepsBlocks facts a b → Stops (IsEnvironmentFault facts b.disk.store c.disk.store) cause fault → IsEnvironmentFault facts a.disk.store c.disk.store fault ⊎ (fault ≡ BadChain)
 stops_so facts a b c fault cause keeps (inl lacks) = inl (lacks-later facts a b c.disk.store fault keeps lacks)
 stops_so facts a b c fault cause keeps (inr bad) = inr bad.0

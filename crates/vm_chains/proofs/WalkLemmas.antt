@@ -47,7 +47,7 @@ blocks_from-more (suc n) d (h ∷ hs) more = elim (cases_Bool (is_member d h)) [
   | inr other ↦ blocks_from-other (suc n) d h hs other
 ]
 
-chain_is : (d : Document) (root : ℕ) (o : Option (List ℕ)) → blocks_from most_blocks d (root ∷ []) ≡ o → chain d root ≡ option_and_then if_distinct o
+pub chain_is : (d : Document) (root : ℕ) (o : Option (List ℕ)) → blocks_from most_blocks d (root ∷ []) ≡ o → chain d root ≡ option_and_then if_distinct o
 unfolding chain
 chain_is d root o e = ap (λ (x : Option (List ℕ)). option_and_then if_distinct x) e
 

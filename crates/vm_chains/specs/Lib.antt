@@ -5,4 +5,5 @@ pub mod Naming
 pub mod Walking
 pub mod Stepping
 pub mod Planning
+pub mod Comparing
 pub mod Alike

@@ -1,9 +1,10 @@
 //! What is read of a block that a walk has met.
-ghost use Rattle.std.specs.Prelude.{◌≡◌, ◌≤◌, true, false, IfOk, MatchResult, length};
+ghost use Rattle.std.specs.Prelude.{◌≡◌, ◌≤◌, ◌⊎◌, true, false, IfOk, MatchResult, length};
 ghost use Rattle.geos_model.specs.Chain.{is_member, relinked};
 ghost use Rattle.geos_model.specs.Document.{is_heap, is_live, is_raw, raw_bytes_of};
 ghost use Rattle.geos_model.specs.Heap.{capacity};
-ghost use Rattle.vm_blocks.specs.Keeping.{KeepsBlocks, IsHonest, IsEnvironmentFault, is_full};
+ghost use Rattle.geos_model.specs.declared.fault.Fault.TheVariants.{Damaged, Memory};
+ghost use Rattle.vm_blocks.specs.Keeping.{KeepsBlocks, IsHonest, IsEnvironmentFault, is_full, is_loaded};
 ghost use Rattle.vm_chains.specs.Naming.{name_in};
 
 use crate::links::links_of;
@@ -13,8 +14,8 @@ use std::alloc::Global;
 use vm_blocks::{BlockBody, FileBlocks};
 use vm_store::Store;
 
-// The block is loaded again, since blocks that were met later may have taken its place. Only a store that isn't honest gives another
-// body then: where no chain can have that, it is Damaged.
+// A block that was met before is loaded again, since others may have taken its place. Only a store that isn't honest gives another body
+// then: where no chain can have that, it is Damaged.
 
 /// How many bytes it has.
 pub(crate) fn len_at<S: Store>(blocks: &mut FileBlocks<S>, handle: VmHandle) -> Result<usize, Fault>
@@ -55,6 +56,23 @@ pub(crate) fn relinked_at<S: Store>(
     ensures raw { IfOk result (λ _. is_heap blocks.new.document handle.0 ≡ false) }
 {
     blocks.load(handle)?;
+    relinked_here(alloc, blocks, handle, names)
+}
+
+/// The same of a block that is in memory. Damaged where its body is none that a block of a chain can have.
+pub(crate) fn relinked_here<S: Store>(
+    alloc: Global,
+    blocks: &FileBlocks<S>,
+    handle: VmHandle,
+    names: &Renaming,
+) -> Result<Vec<u8>, Fault>
+    requires { is_loaded blocks.now handle.0 ≡ true }
+    ensures value { MatchResult result
+        (λ bytes. bytes.items ≡ relinked (name_in names.now) (raw_bytes_of blocks.now.document handle.0))
+        (λ fault. (fault ≡ Memory) ⊎ ((fault ≡ Damaged) × (is_member blocks.now.document handle.0 ≡ false))) }
+    ensures small { IfOk result (λ bytes. length bytes.items ≤ capacity) }
+    ensures raw { IfOk result (λ _. is_heap blocks.now.document handle.0 ≡ false) }
+{
     match blocks.body(handle) {
         BlockBody::Raw(body) => match links_of(body) {
             Some(links) => Ok(relinked(alloc, body, links, names)?),
