@@ -21,7 +21,7 @@ use Rattle.vm_chains.specs.declared.stepping.Walk.{Walk}
 use Rattle.vm_chains.proofs.ChainLemmas.{blocks_are, distinct_of}
 use Rattle.vm_chains.proofs.PairLemmas.{same_by_pairs}
 use Rattle.vm_chains.proofs.Refusals.{two_stop, two_whole}
-use Rattle.vm_chains.proofs.StepLemmas.{at_root, over_along, step_along}
+use Rattle.vm_chains.proofs.StepLemmas.{at_root, at_some, over_along, step_along}
 use Rattle.vm_chains.proofs.WalkLemmas.{chain_is}
 
 -- lists that begin alike are alike if the rest is
@@ -120,6 +120,10 @@ module _ (d : Document) (f s : ℕ) (first second first_then second_then : Walk)
   first_over items None false over is answered = absurd (true≢false (sym is))
   first_over items (Some x) true over is answered = absurd (true≢false is)
   first_over items (Some x) false over is answered = second_longer answered.block over answered.step
+
+-- what a step that marks links gave
+pub marked_at : {A : Type 0} (items : A → List ℕ) (d : Document) (old new : Walk) (next : Option A) (x : A) → next ≡ Some x → MatchOption next (IsOver old new) (λ y. IsMarkedStep d (items y) old new) → IsMarkedStep d (items x) old new
+marked_at items d old new next x is answered = at_some next x (IsOver old new) (λ y. IsMarkedStep d (items y) old new) is answered
 
 -- whether two blocks are alike, by what was read of them
 pub alike_is : (d : Document) (x y : ℕ) (mine other xs ys : List ℕ) (same : Bool) → mine ≡ xs → other ≡ ys → xs ≡ relinked mark_of (raw_bytes_of d x) → ys ≡ relinked mark_of (raw_bytes_of d y) → same ≡ same_bytes mine other → are_alike d x y ≡ same

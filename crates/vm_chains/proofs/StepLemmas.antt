@@ -132,6 +132,12 @@ pub at_none : {A : Type 0} (next : Option A) (P : Type 0) (Q : A → Type 0) →
 at_none None P Q none answered = answered
 at_none (Some x) P Q none answered = absurd (none x refl)
 
+pub stepped : (d : Document) (old new : Walk) (next : Option VmHandle) (h : VmHandle) → next ≡ Some h → MatchOption next (IsOver old new) (λ x. IsStep d x.0 old new) → IsStep d h.0 old new
+stepped d old new next h is answered = at_some next h (IsOver old new) (λ x. IsStep d x.0 old new) is answered
+
+pub ended : (d : Document) (old new : Walk) (next : Option VmHandle) → ((h : VmHandle) → next ≡ Some h → ⊥) → MatchOption next (IsOver old new) (λ x. IsStep d x.0 old new) → IsOver old new
+ended d old new next none answered = at_none next (IsOver old new) (λ x. IsStep d x.0 old new) none answered
+
 -- a refusal, over any store
 pub refused_then : {S : Type 0} (facts : S → StoreFacts) (a b c : CacheState S) (fault : Fault) → KeepsBlocks facts a b → IsEnvironmentFault facts b.disk.store c.disk.store fault ⊎ (fault ≡ BadChain) → IsEnvironmentFault facts a.disk.store c.disk.store fault ⊎ (fault ≡ BadChain)
 refused_then facts a b c fault keeps (inl lacks) = inl (lacks-later facts a b c.disk.store fault keeps lacks)

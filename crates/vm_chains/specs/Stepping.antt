@@ -49,6 +49,7 @@ pub record AreMet (d : Document) (n : ℕ) (met : List ℕ) : Type 0 where
 abbrev pub RootFirst : ℕ → List ℕ → List ℕ → Type 0
 RootFirst root met pending = ((met ≡ []) × (pending ≡ root ∷ [])) ⊎ BeginsWith root met
 
+-- what was met, and how it began
 pub record HasMet (d : Document) (root : ℕ) (walk : Walk) : Type 0 where
   pub blocks : AreMet d walk.left walk.met
   pub root_first : RootFirst root walk.met walk.pending

@@ -170,7 +170,7 @@ fn next_marked<S: Store>(
         (IsBroken blocks.new.document walk.old)) }
 {
     match walk.step(blocks)? {
-        // It was just loaded, so that it's what the walk has seen.
+        // The step has just loaded it, so that its body is still the one whose links were followed.
         Some(handle) => Ok(Some(relinked_here(alloc, blocks, handle, &Renaming::Marks)?)),
         None => Ok(None),
     }

@@ -91,7 +91,8 @@ impl Walk {
             → IfOk result (λ handles. HasMetAll blocks.new.document root handles.items) }
         // Refusals.
         ensures refusals { IfErr result
-            (λ fault. IsEnvironmentFault S.facts blocks.old.disk.store blocks.new.disk.store fault ⊎ (fault ≡ BadChain)) }
+            (λ fault. IsEnvironmentFault S.facts blocks.old.disk.store blocks.new.disk.store fault
+            ⊎ (fault ≡ BadChain)) }
     {
         blocks.validity();
         while let Some(_next) = self.step(blocks)? {}

@@ -5,8 +5,8 @@ use Rattle.vm_chains.specs.Alike.{are_alike}
 use Rattle.vm_chains.specs.Comparing.{AreCompared, AreInStep, IsMarkedStep}
 use Rattle.vm_chains.specs.Stepping.{IsOver}
 use Rattle.vm_chains.proofs.Loading.{carried, carried_so, still_room}
-use Rattle.vm_chains.proofs.PairedWalks.{alike_is, first_longer, first_over, pair_alike, pair_differs, still_in, stops_later}
-use Rattle.vm_chains.proofs.StepLemmas.{at_end, at_some, stops_so}
+use Rattle.vm_chains.proofs.PairedWalks.{alike_is, first_longer, first_over, marked_at, pair_alike, pair_differs, still_in, stops_later}
+use Rattle.vm_chains.proofs.StepLemmas.{at_end, stops_so}
 use Rattle.vm_chains.proofs.comparing.compare_next.Goals as goal
 use Rattle.vm_chains.proofs.comparing.compare_next.Goals.{then-same, else-same}
 
@@ -56,8 +56,8 @@ returns-in-Some-other-clause-value g c = λ f s steady old.
     let first = c.args.first.now in let second = c.args.second.now in let first_then = c.next_marked.new.walk in let second_then = c.next_marked-2.new.walk in
     let now = still_in g.S.Store.facts a e (keeps-trans g.S.Store.facts a b e once again) (λ d. AreInStep d f s first second) steady old in
     let mine = still_in g.S.Store.facts b e again (λ d. IsMarkedStep d c.in-Some.mine.items first first_then) (keeps-steady g.S.Store.facts a b once steady)
-    (at_some c.in_ok-mine.mine c.in-Some.mine _ (λ v. IsMarkedStep b.document v.items first first_then) c.in-Some.is c.in_ok-mine.ensures.value) in
-    let other = at_some c.in_ok-other.other c.in-Some-other.other _ (λ v. IsMarkedStep e.document v.items second second_then) c.in-Some-other.is c.in_ok-other.ensures.value in
+    (marked_at (λ v. v.items) b.document first first_then c.in_ok-mine.mine c.in-Some.mine c.in-Some.is c.in_ok-mine.ensures.value) in
+    let other = marked_at (λ v. v.items) e.document second second_then c.in_ok-other.other c.in-Some-other.other c.in-Some-other.is c.in_ok-other.ensures.value in
     let tested : are_alike e.document mine.block other.block ≡ c.are_same-same.result =
     alike_is e.document mine.block other.block c.as_slice.result.now c.as_slice-in-Some-other.result.now c.in-Some.mine.items c.in-Some-other.other.items c.are_same-same.result c.as_slice.ensures.value c.as_slice-in-Some-other.ensures.value mine.marked other.marked c.are_same-same.ensures in
     let P = AreInStep e.document f s first_then second_then in let Q : Bool → Type 0 = λ same. AreCompared e.document f s same first_then second_then in
@@ -69,7 +69,7 @@ returns-in-Some-other-clause-value g c = λ f s steady old.
 pub returns-in-Some-other-clause-fewer : goal.returns-in-Some-other-clause-fewer
 returns-in-Some-other-clause-fewer g c =
     let first = c.args.first.now in let first_then = c.next_marked.new.walk in
-    let mine = at_some c.in_ok-mine.mine c.in-Some.mine _ (λ v. IsMarkedStep c.next_marked.new.blocks.document v.items first first_then) c.in-Some.is c.in_ok-mine.ensures.value in
+    let mine = marked_at (λ v. v.items) c.next_marked.new.blocks.document first first_then c.in_ok-mine.mine c.in-Some.mine c.in-Some.is c.in_ok-mine.ensures.value in
     elim c.if-same.branch as (λ _. MatchOption c.if-same.result (first_then.left < first.left) (λ _. Unit {0})) [
       | then-same w ↦ subst (λ (o : Option Bool). MatchOption o (first_then.left < first.left) (λ _. Unit {0})) (sym w.result-is) (omega (arith, mine.step.left))
       | else-same w ↦ subst (λ (o : Option Bool). MatchOption o (first_then.left < first.left) (λ _. Unit {0})) (sym w.result-is) tt
@@ -81,7 +81,7 @@ returns-in-Some-clause-value g c = λ f s steady old.
     let first = c.args.first.now in let second = c.args.second.now in let first_then = c.next_marked.new.walk in let second_then = c.next_marked-2.new.walk in
     let now = still_in g.S.Store.facts a e (keeps-trans g.S.Store.facts a b e once again) (λ d. AreInStep d f s first second) steady old in
     let mine = still_in g.S.Store.facts b e again (λ d. IsMarkedStep d c.in-Some.mine.items first first_then) (keeps-steady g.S.Store.facts a b once steady)
-    (at_some c.in_ok-mine.mine c.in-Some.mine _ (λ v. IsMarkedStep b.document v.items first first_then) c.in-Some.is c.in_ok-mine.ensures.value) in
+    (marked_at (λ v. v.items) b.document first first_then c.in_ok-mine.mine c.in-Some.mine c.in-Some.is c.in_ok-mine.ensures.value) in
     first_longer e.document f s first second first_then second_then now mine.block mine.step (at_end c.in_ok-other.other (IsOver second second_then) _ c.in-None-other.is c.in_ok-other.ensures.value)
 
 pub returns-clause-value : goal.returns-clause-value

@@ -10,10 +10,9 @@ use Rattle.vm_blocks.specs.Keeping.{is_loaded}
 use Rattle.vm_blocks.proofs.KeepingLaws.{keeps-refl, keeps-same, keeps-trans, lacks-memory, loaded-live}
 use Rattle.vm_blocks.proofs.KindLemmas.{typed_there}
 use Rattle.vm_chains.specs.Planning.{AreChainBlocks}
-use Rattle.vm_chains.specs.Stepping.{IsOver, IsStep}
 use Rattle.vm_chains.proofs.Loading.{block_read, carried, carried_so, still_room}
 use Rattle.vm_chains.proofs.Planned.{met_more, saved_more}
-use Rattle.vm_chains.proofs.StepLemmas.{at_none, at_root, at_some, goes-ended, goes-met, goes-refl, goes-refused, goes-step, none_has_met, stops_so}
+use Rattle.vm_chains.proofs.StepLemmas.{at_root, at_some, ended, goes-ended, goes-met, goes-refl, goes-refused, goes-step, none_has_met, stepped, stops_so}
 use Rattle.vm_chains.proofs.planning.images.Goals as goal
 
 pub returns-in_err-walk-clause-keeps : goal.returns-in_err-walk-clause-keeps
@@ -82,7 +81,7 @@ pub loop-plan-preserved : goal.loop-plan-preserved
 loop-plan-preserved g c =
     let a = c.args.blocks.now in let e = c.step.new.blocks in let old = c.loop-plan.walk in let new = c.step.new.self in let h = c.in-Some.handle in
     let m : Member = record { handle = h; block = c.in_ok-block.block } in
-    let step = at_some c.in_ok-handle.field-0 h _ (λ x. IsStep e.document x.0 old new) c.in-Some.is c.in_ok-handle.ensures.value in
+    let step = stepped e.document old new c.in_ok-handle.field-0 h c.in-Some.is c.in_ok-handle.ensures.value in
     let keeps = keeps-trans g.S.Store.facts a c.loop-plan.blocks e c.loop-plan.invariant.goes.keeps c.step.ensures.keeps in
     let pushed : c.push.new.self.items ≡ c.loop-plan.plan.items ++ m ∷ [] = c.in_ok-push.ensures.items in
     let saved : imaged_block c.in_ok-block.block ≡ block_at e.document h.0 = c.in_ok-block.ensures ∙ block_read e.document h.0 c.attributes-attributes.result (body_value c.body.result.now) c.attributes-attributes.ensures.value c.body.ensures in
@@ -108,7 +107,7 @@ returns-clause-keeps g c = keeps-trans g.S.Store.facts c.args.blocks.now c.loop-
 pub returns-clause-value : goal.returns-clause-value
 returns-clause-value g c = λ steady.
     let a = c.args.blocks.now in let e = c.step.new.blocks in let old = c.loop-plan.walk in let new = c.step.new.self in
-    let over = at_none c.in_ok-handle.field-0 (IsOver old new) _ c.in_default.not-Some c.in_ok-handle.ensures.value in
+    let over = ended e.document old new c.in_ok-handle.field-0 c.in_default.not-Some c.in_ok-handle.ensures.value in
     let keeps = keeps-trans g.S.Store.facts a c.loop-plan.blocks e c.loop-plan.invariant.goes.keeps c.step.ensures.keeps in
     let walked = goes-ended g.S.Store.facts a c.loop-plan.blocks e c.in_ok-walk.walk old c.loop-plan.invariant.goes c.step.ensures.keeps new over c.args.root.0 steady (at_root a.document c.args.root.0 c.in_ok-walk.walk c.in_ok-walk.ensures) in
     let met : handles_of (imaged_blocks c.loop-plan.plan.items) ≡ new.met = c.loop-plan.invariant.handles ∙ sym (ap (λ w. w.met) over.same) in
@@ -119,7 +118,7 @@ returns-clause-value g c = λ steady.
 pub returns-clause-met : goal.returns-clause-met
 returns-clause-met g c =
     let a = c.args.blocks.now in let e = c.step.new.blocks in let old = c.loop-plan.walk in let new = c.step.new.self in
-    let over = at_none c.in_ok-handle.field-0 (IsOver old new) _ c.in_default.not-Some c.in_ok-handle.ensures.value in
+    let over = ended e.document old new c.in_ok-handle.field-0 c.in_default.not-Some c.in_ok-handle.ensures.value in
     let met : handles_of (imaged_blocks c.loop-plan.plan.items) ≡ new.met = c.loop-plan.invariant.handles ∙ sym (ap (λ w. w.met) over.same) in
     let are = goes-met g.S.Store.facts a c.loop-plan.blocks e c.in_ok-walk.walk old c.loop-plan.invariant.goes c.step.ensures.keeps new over c.args.root.0 (none_has_met a.document c.args.root.0 c.in_ok-walk.walk c.in_ok-walk.ensures) in
     let at : handles_of (imaged_blocks c.new-2.result.list.items) ≡ new.met = ap (λ v. handles_of (imaged_blocks v.items)) c.new-2.ensures ∙ met in

@@ -1,8 +1,7 @@
 use Rattle.vm_blocks.proofs.KeepingLaws.{keeps-trans, keeps-unless_corrupt}
 use Rattle.std.proofs.Common.{sym, ◌∙◌}
-use Rattle.vm_chains.specs.Stepping.{IsOver, IsStep}
 use Rattle.vm_chains.proofs.Loading.{carried, carried_so, still_room}
-use Rattle.vm_chains.proofs.StepLemmas.{at_none, at_some, goes-met_all, goes-over, goes-refl, goes-refused, goes-step, stops_so}
+use Rattle.vm_chains.proofs.StepLemmas.{ended, goes-met_all, goes-over, goes-refl, goes-refused, goes-step, stepped, stops_so}
 use Rattle.vm_chains.proofs.stepping.Walk.finish.Goals as goal
 
 pub loop-self-init : goal.loop-self-init
@@ -27,7 +26,7 @@ returns-in_err-_next-clause-refusals g c =
 pub loop-self-preserved : goal.loop-self-preserved
 loop-self-preserved g c =
     goes-step g.S.Store.facts c.args.blocks.now c.loop-self.blocks c.step.new.blocks c.args.self c.loop-self.self c.loop-self.invariant c.step.ensures.keeps c.in-Some._next.0 c.step.new.self
-    (at_some c.in_ok-_next.field-0 c.in-Some._next _ (λ h. IsStep c.step.new.blocks.document h.0 c.loop-self.self c.step.new.self) c.in-Some.is c.in_ok-_next.ensures.value)
+    (stepped c.step.new.blocks.document c.loop-self.self c.step.new.self c.in_ok-_next.field-0 c.in-Some._next c.in-Some.is c.in_ok-_next.ensures.value)
 
 pub returns-clause-keeps : goal.returns-clause-keeps
 returns-clause-keeps g c = keeps-trans g.S.Store.facts c.args.blocks.now c.loop-self.blocks c.step.new.blocks c.loop-self.invariant.keeps c.step.ensures.keeps
@@ -35,7 +34,7 @@ returns-clause-keeps g c = keeps-trans g.S.Store.facts c.args.blocks.now c.loop-
 pub returns-clause-value : goal.returns-clause-value
 returns-clause-value g c = λ root steady along.
     goes-over g.S.Store.facts c.args.blocks.now c.loop-self.blocks c.step.new.blocks c.args.self c.loop-self.self c.loop-self.invariant c.step.ensures.keeps c.step.new.self c.into_handles.result.items
-    (at_none c.in_ok-_next.field-0 (IsOver c.loop-self.self c.step.new.self) _ c.in_default.not-Some c.in_ok-_next.ensures.value) c.into_handles.ensures root steady along
+    (ended c.step.new.blocks.document c.loop-self.self c.step.new.self c.in_ok-_next.field-0 c.in_default.not-Some c.in_ok-_next.ensures.value) c.into_handles.ensures root steady along
 
 pub returns-clause-met : goal.returns-clause-met
 returns-clause-met g c = λ root has.
@@ -43,4 +42,4 @@ returns-clause-met g c = λ root has.
     let keeps = keeps-trans g.S.Store.facts a c.loop-self.blocks e c.loop-self.invariant.keeps c.step.ensures.keeps in
     goes-met_all g.S.Store.facts a c.loop-self.blocks e c.args.self c.loop-self.self c.loop-self.invariant c.step.ensures.keeps c.step.new.self c.into_handles.result.items
     (λ h live. c.validity.ensures.listed.handles h (sym ((keeps-unless_corrupt g.S.Store.facts a e keeps).live h) ∙ live))
-    (at_none c.in_ok-_next.field-0 (IsOver c.loop-self.self c.step.new.self) _ c.in_default.not-Some c.in_ok-_next.ensures.value) c.into_handles.ensures root has
+    (ended c.step.new.blocks.document c.loop-self.self c.step.new.self c.in_ok-_next.field-0 c.in_default.not-Some c.in_ok-_next.ensures.value) c.into_handles.ensures root has
