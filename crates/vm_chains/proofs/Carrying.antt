@@ -8,7 +8,7 @@ use Rattle.std.specs.List.{Contains, list_any}
 use Rattle.std.specs.FinMap.{get}
 use Rattle.geos_model.specs.Chain.{chain_blocks_of, chain, chain_blocks, free_conditions, free_handles, new_handles}
 use Rattle.geos_model.specs.ElementArray.{all_distinct}
-use Rattle.geos_model.specs.Document.{Block, Document, block_at, handles_of, is_live}
+use Rattle.geos_model.specs.Document.{Block, Document, block_at, handles_of}
 use Rattle.geos_model.specs.Refusal.{Conditions, first_refusal}
 use Rattle.geos_model.specs.declared.fault.Fault.{Fault}
 use Rattle.geos_model.specs.declared.fault.Fault.TheVariants.{BadChain, IsMap}
@@ -19,11 +19,13 @@ use Rattle.geos_model.proofs.ChainEdits.{blocks_of-handles}
 use Rattle.vm_file.specs.Members.{imaged_block, imaged_blocks}
 use Rattle.vm_blocks.specs.Changes.{AreFree, CanRemoveAll, CanRemove}
 use Rattle.vm_blocks.specs.declared.member.Members.{Members}
+use Rattle.vm_file.specs.declared.member.Member.{Member}
 use Rattle.geos_model.specs.declared.handle.VmHandle.{VmHandle}
 use Rattle.vm_chains.specs.Numbers.{numbers}
 use Rattle.vm_chains.specs.Answers.{AnswersChain}
 use Rattle.vm_blocks.specs.Preparing.{CanRemoveByHandle}
-use Rattle.vm_chains.specs.Walking.{AreBlocks, BeginsWith}
+use Rattle.vm_chains.specs.Stepping.{AreMet}
+use Rattle.vm_chains.specs.Walking.{BeginsWith}
 use Rattle.vm_file.specs.Disk.{SameUnlessCorrupt}
 
 none_there : (o : Option Block) → is_some o ≡ false → o ≡ None
@@ -69,18 +71,11 @@ free_stays honest d now hs unless_corrupt are = record {
   distinct = are.distinct;
 }
 
-leaving : (d : Document) (hs : List VmHandle) → AreBlocks d hs → list_any (λ h. h.0 == d.map_block) hs ≡ false → CanRemoveByHandle d (numbers hs)
-leaving d hs are other = record {
-  live = All-map (λ h. is_live d h ≡ true) (λ (h : VmHandle). h.0) hs are.live;
+pub leaving : (d : Document) (ms : List Member) → AreMet d 0 (handles_of (imaged_blocks ms)) → list_any (λ m. m.handle.0 == d.map_block) ms ≡ false → CanRemoveByHandle d (handles_of (imaged_blocks ms))
+leaving d ms are other = record {
+  live = are.live;
   distinct = are.distinct;
-  others = All-map (λ h. d.map_block ≢ h) (λ (h : VmHandle). h.0) hs (λ i h within same. true≢false (sym (list_any_at (λ (x : VmHandle). x.0 == d.map_block) hs i h within (eq-eqb (get_or hs i h).0 d.map_block (sym same))) ∙ other));
-}
-
-leaving_stays : (honest : Bool) (d now : Document) (hs : List ℕ) → SameUnlessCorrupt honest d now → CanRemoveByHandle d hs → CanRemoveByHandle now hs
-leaving_stays honest d now hs unless_corrupt are = record {
-  live = λ i h within. unless_corrupt.live (get_or hs i h) ∙ are.live i h within;
-  distinct = are.distinct;
-  others = λ i h within same. are.others i h within (sym unless_corrupt.map_block ∙ same);
+  others = All-map (λ h. d.map_block ≢ h) (λ (p : ℕ × Block). p.0) (imaged_blocks ms) (All-map (λ (p : ℕ × Block). d.map_block ≢ p.0) (λ (m : Member). (m.handle.0, imaged_block m.block)) ms (λ i m within same. true≢false (sym (list_any_at (λ (x : Member). x.handle.0 == d.map_block) ms i m within (eq-eqb (get_or ms i m).handle.0 d.map_block (sym same))) ∙ other)));
 }
 
 -- So plans apply.
@@ -100,11 +95,6 @@ copy_some root hs new (Ok plan) begins enough handles =
     let many : length plan.list.items ≡ length new =
     sym (length-map plan.list.items (λ m. (m.handle.0, imaged_block m.block))) ∙ sym (length-map (imaged_blocks plan.list.items) (λ p. p.0)) ∙ ap length handles ∙ length-map new (λ h. h.0) in
     omega (arith, met, many, enough)
-
-pub free_leaves : (honest : Bool) (d now : Document) (hs : List VmHandle) (result : Result Members Fault) → SameUnlessCorrupt honest d now → AreBlocks d hs → list_any (λ h. h.0 == d.map_block) hs ≡ false
-    → IfOk result (λ plan. handles_of (imaged_blocks plan.list.items) ≡ numbers hs) → IfOk result (λ plan. CanRemoveByHandle now (handles_of (imaged_blocks plan.list.items)))
-free_leaves honest d now hs (Err fault) unless_corrupt are other handles = tt
-free_leaves honest d now hs (Ok plan) unless_corrupt are other handles = subst (CanRemoveByHandle now) (sym handles) (leaving_stays honest d now (numbers hs) unless_corrupt (leaving d hs are other))
 
 pub free_applies : (lacks : Fault → Type 0) (d : Document) (h : ℕ) (result : Result Members Fault) → AnswersChain lacks (free_conditions d h) (λ plan. imaged_blocks plan.list.items ≡ chain_blocks_of d (chain_blocks d h)) result → IfOk result (λ plan. CanRemoveAll d (imaged_blocks plan.list.items))
 free_applies lacks d h (Ok plan) is = subst (CanRemoveAll d) (sym is.1) (blocks_go d h is.0)

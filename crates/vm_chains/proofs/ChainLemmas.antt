@@ -42,7 +42,7 @@ members_from (suc n) d (p ∷ ps) hs e = elim (cases_Bool (is_member d p)) [
   | inr other ↦ (let no : None ≡ Some hs = sym (blocks_from-other (suc n) d p ps other) ∙ e in absurd (cc no))
 ]
 
-distinct_of : (o : Option (List ℕ)) (hs : List ℕ) → option_and_then if_distinct o ≡ Some hs → (o ≡ Some hs) × (all_distinct hs ≡ true)
+pub distinct_of : (o : Option (List ℕ)) (hs : List ℕ) → option_and_then if_distinct o ≡ Some hs → (o ≡ Some hs) × (all_distinct hs ≡ true)
 distinct_of None hs e = absurd (cc e)
 distinct_of (Some xs) hs e = elim (cases_Bool (all_distinct xs)) [
   | inl yes_ ↦ (let some : Some xs ≡ Some hs = sym (cond-true (all_distinct xs) (Some xs) None yes_) ∙ e in let same : xs ≡ hs = cc some in (some, subst (λ (ys : List ℕ). all_distinct ys ≡ true) same yes_))

@@ -4,8 +4,10 @@ pub mod WalkLemmas
 pub mod ChainLemmas
 pub mod CopyLemmas
 pub mod Planned
-pub mod ShapeLemmas
 pub mod Loading
+pub mod StepLemmas
+pub mod PairedWalks
 pub mod Refusals
 pub mod Carrying
 pub mod Walked
+pub mod PairLemmas

@@ -1,5 +1,5 @@
 -- Calls that load blocks, in turn.
-use Rattle.std.proofs.Common.{◌≡◌, ◌⊎◌, ℕ, Bool, true, false, not, ◌&&◌, List, [], get_or, Option, Some, None, Result, Ok, Err, IfErr, IsErrAnd, MatchResult, unwrap_or, refl, sym, ap, subst, ◌∙◌, inl, inr}
+use Rattle.std.proofs.Common.{◌≡◌, ◌⊎◌, ℕ, Bool, true, false, not, ◌&&◌, [], Option, Some, None, Result, Ok, Err, IfErr, IsErrAnd, MatchResult, unwrap_or, refl, sym, ap, subst, ◌∙◌, inl, inr}
 use Rattle.std.specs.Option.{option_map, option_map_or}
 use Rattle.std.proofs.lemmas.Bool.{true≢false}
 use Rattle.vm_store.specs.Facts.{StoreFacts}
@@ -10,12 +10,10 @@ use Rattle.vm_chains.proofs.WalkLemmas.{and_false}
 use Rattle.geos_model.specs.Document.{Block, Document, block_at, bytes_of_body, is_heap_body, is_live, attributes_of, no_attributes, no_block}
 use Rattle.geos_model.specs.declared.fault.Fault.{Fault}
 use Rattle.geos_model.specs.declared.fault.Fault.TheVariants.{Damaged, NoBlock}
-use Rattle.geos_model.specs.declared.handle.VmHandle.{VmHandle}
 use Rattle.geos_model.specs.declared.block.Attributes.{Attributes}
 use Rattle.block_cache.specs.State.{CacheState}
 use Rattle.vm_blocks.specs.Keeping.{KeepsBlocks, IsHonest, IsEnvironmentFault, IsCacheFull, is_full}
 use Rattle.vm_blocks.proofs.KeepingLaws.{keeps-unless_corrupt, keeps-full, keeps-same, keeps-was_steady, lacks-damaged, open-shut}
-use Rattle.vm_chains.specs.Walking.{AreBlocks}
 
 -- the fault that `?` hands on
 pub carried : {A : Type 0} (result : Result A Fault) (fault : Fault) (P : A → Type 0) (Q : Fault → Type 0) → IsErrAnd result (λ e. e ≡ fault) → Q fault → MatchResult result P Q
@@ -60,14 +58,6 @@ module _ {S : Type 0} (facts : S → StoreFacts) (a b : CacheState S) (keeps : K
 
   pub still_room : is_full a ≡ false → is_full b ≡ false
   still_room room = keeps-full facts a b keeps ∙ room
-
-  pub still_blocks : (hs : List VmHandle) → AreBlocks a.document hs → AreBlocks b.document hs
-  still_blocks hs are = record {
-    live = λ i h within. still_live (get_or hs i h).0 (are.live i h within);
-    handles = are.handles;
-    distinct = are.distinct;
-    few = are.few;
-  }
 
   -- What is known of bodies stays over a steady store.
 

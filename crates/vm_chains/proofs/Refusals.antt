@@ -101,10 +101,6 @@ module _ (d : Document) (f s : ℕ) where
   two : first_refusal (on_chains d f s) ≡ cond (is_live d f && is_live d s) (cond (is_raw d f && is_raw d s) (cond (is_none (chain d f) || is_none (chain d s)) (Some BadChain) None) (Some WrongKind)) (Some NoBlock)
   two = of_two (is_live d f) (is_raw d f) (is_none (chain d f)) (is_live d s) (is_raw d s) (is_none (chain d s))
 
-  -- one of them isn't live
-  pub two_dead : (is_live d f && is_live d s) ≡ false → first_refusal (on_chains d f s) ≡ Some NoBlock
-  two_dead dead = two ∙ cond-false _ _ _ dead
-
   -- one is a heap
   pub two_heap : (is_live d f && is_live d s) ≡ true → (is_raw d f && is_raw d s) ≡ false → first_refusal (on_chains d f s) ≡ Some WrongKind
   two_heap live heap = two ∙ cond-true _ _ _ live ∙ cond-false _ _ _ heap

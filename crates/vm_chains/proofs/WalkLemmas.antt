@@ -1,5 +1,5 @@
 -- Steps of a walk along a chain.
-use Rattle.std.proofs.Common.{◌≡◌, ◌⊎◌, ◌<◌, ◌≤◌, ◌+◌, ◌-◌, get_or, is_some, ℕ, zero, suc, List, [], ◌∷◌, ◌++◌, Bool, true, false, not, ◌==◌, ◌&&◌, ◌||◌, Option, Some, None, refl, sym, ap, subst, ◌∙◌, inl, inr, append_assoc, length, arith}
+use Rattle.std.proofs.Common.{◌≡◌, ◌<◌, ◌+◌, get_or, is_some, ℕ, zero, suc, List, [], ◌∷◌, ◌++◌, Bool, true, false, not, ◌==◌, ◌&&◌, ◌||◌, Option, Some, None, refl, sym, ap, subst, ◌∙◌, inl, inr, append_assoc, length, arith}
 use Rattle.std.proofs.lemmas.Bool.{cases_Bool, cond-true, cond-false, true≢false, and_parts, or_parts, or_from, or_left, or_right, not-true}
 use Rattle.std.proofs.lemmas.List.{append-nil, get_or-map, length-append, length-map, length_push}
 use Rattle.std.proofs.lemmas.List.Elements.{All-nil, All-push}
@@ -12,7 +12,8 @@ use Rattle.geos_model.specs.Document.{Block, Document, is_heap_body, is_live, is
 use Rattle.geos_model.specs.ElementArray.{all_distinct}
 use Rattle.geos_model.specs.declared.handle.VmHandle.{VmHandle}
 use Rattle.vm_chains.specs.Numbers.{numbers}
-use Rattle.vm_chains.specs.Walking.{AreBlocks, BeginsWith, GoesOn, IsChainWalk}
+use Rattle.vm_chains.specs.Stepping.{AreMet, RootFirst}
+use Rattle.vm_chains.specs.Walking.{AreBlocks, BeginsWith, IsChainWalk}
 
 -- What the definition says of the next block that is pending.
 
@@ -46,7 +47,7 @@ blocks_from-more (suc n) d (h ∷ hs) more = elim (cases_Bool (is_member d h)) [
   | inr other ↦ blocks_from-other (suc n) d h hs other
 ]
 
-chain_is : (d : Document) (root : ℕ) (o : Option (List ℕ)) → blocks_from most_blocks d (root ∷ []) ≡ o → chain d root ≡ option_and_then if_distinct o
+pub chain_is : (d : Document) (root : ℕ) (o : Option (List ℕ)) → blocks_from most_blocks d (root ∷ []) ≡ o → chain d root ≡ option_and_then if_distinct o
 unfolding chain
 chain_is d root o e = ap (λ (x : Option (List ℕ)). option_and_then if_distinct x) e
 
@@ -112,13 +113,6 @@ module _ (d : Document) (root n : ℕ) (met : List ℕ) where
     pub walk_breaks : IsChainWalk d root n met (h ∷ hs) → is_member d h ≡ false → chain d root ≡ None
     walk_breaks w other = none_there w (blocks_from-other n d h hs other)
 
--- The next block is followed, and then those are pending to which it links.
-pub walk_follows : (d now : Document) (root n h : ℕ) (met pending hs new : List ℕ) → IsChainWalk d root n met pending → 1 ≤ n → pending ≡ h ∷ hs → now ≡ d → GoesOn now h hs new → list_any (λ x. x == h) met ≡ false → IsChainWalk d root (n - 1) (met ++ h ∷ []) new
-walk_follows d now root n h met pending hs new w left next same followed other =
-    let on : GoesOn d h hs new = subst (λ (x : Document). GoesOn x h hs new) same followed in
-    let from = same_walk d root n (suc (n - 1)) met pending (h ∷ hs) w (omega (arith, left)) next in
-    same_walk d root (n - 1) (n - 1) (met ++ h ∷ []) _ new (walk_goes_on d root (n - 1) met h hs from on.member other) refl (sym on.pending)
-
 -- it was met
 again : (met : List ℕ) (h : ℕ) (o : Option (List ℕ)) → list_any (λ x. x == h) met ≡ true → option_and_then if_distinct (option_map (λ hs. met ++ hs) (option_map (λ hs. h ∷ hs) o)) ≡ None
 again met h None twice = refl
@@ -151,12 +145,6 @@ member_live d h member = raw_live d h (member_raw d h member)
 
 -- What is known of a walk over any store.
 
--- live blocks, each once, where at most so many may still be met
-pub record AreMet (d : Document) (n : ℕ) (met : List ℕ) : Type 0 where
-  pub live : All (λ h. is_live d h ≡ true) met
-  pub distinct : all_distinct met ≡ true
-  pub few : length met + n ≤ most_blocks
-
 none_before : (o : Option (List ℕ)) → o ≡ option_map (λ hs. [] ++ hs) o
 none_before None = refl
 none_before (Some hs) = refl
@@ -170,8 +158,8 @@ walk_begins d root met pending none one = subst (λ (ps : List ℕ). IsChainWalk
 pub none_met : (d : Document) (met : List ℕ) → met ≡ [] → AreMet d most_blocks met
 none_met d met none = subst (AreMet d most_blocks) (sym none) (record { live = All-nil (λ h. is_live d h ≡ true); distinct = refl; few = omega arith })
 
-pub one_met : (d : Document) (n h : ℕ) (met new : List ℕ) → AreMet d n met → 1 ≤ n → is_live d h ≡ true → list_any (λ x. x == h) met ≡ false → new ≡ met ++ h ∷ [] → AreMet d (n - 1) new
-one_met d n h met new are left live other is = subst (AreMet d (n - 1)) (sym is) (record {
+pub one_met : (d : Document) (n m h : ℕ) (met new : List ℕ) → AreMet d n met → n ≡ m + 1 → is_live d h ≡ true → list_any (λ x. x == h) met ≡ false → new ≡ met ++ h ∷ [] → AreMet d m new
+one_met d n m h met new are left live other is = subst (AreMet d m) (sym is) (record {
   live = All-push (λ x. is_live d x ≡ true) met h are.live live;
   distinct = distinct_push met h are.distinct other;
   few = omega (arith, left, are.few, length_push met h);
@@ -188,10 +176,6 @@ met_blocks d n hs can are =
       distinct = are.distinct;
       few = omega (arith, many, are.few);
     }
-
--- The root is the first that was met; where nothing was, it alone is pending.
-abbrev pub RootFirst : ℕ → List ℕ → List ℕ → Type 0
-RootFirst root met pending = ((met ≡ []) × (pending ≡ root ∷ [])) ⊎ BeginsWith root met
 
 pub root_met : (root h : ℕ) (met pending hs new : List ℕ) → RootFirst root met pending → pending ≡ h ∷ hs → new ≡ met ++ h ∷ [] → BeginsWith root new
 root_met root h met pending hs new (inl first) next is =

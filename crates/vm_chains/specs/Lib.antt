@@ -3,3 +3,7 @@ pub mod Numbers
 pub mod Linking
 pub mod Naming
 pub mod Walking
+pub mod Stepping
+pub mod Planning
+pub mod Comparing
+pub mod Alike

@@ -1,21 +1,22 @@
 //! Whether two chains are equal.
-ghost use Rattle.std.specs.Prelude.{◌≡◌, ◌≤◌, ℕ, Some, true, false, IfOk, IfErr, MatchResult, length};
-ghost use Rattle.std.specs.List.{All};
+ghost use Rattle.std.specs.Prelude.{◌≡◌, ◌⊎◌, ◌<◌, ℕ, None, Some, true, false, IfOk, IfErr, IfSome, MatchOption, MatchResult};
 ghost use Rattle.geos_model.specs.Bytes.{same_bytes};
-ghost use Rattle.geos_model.specs.Chain.{chain_blocks, on_chains, same_shape};
-ghost use Rattle.geos_model.specs.Document.{is_raw, is_vm_handle, most_blocks};
+ghost use Rattle.geos_model.specs.Chain.{chain, chain_blocks, on_chains, same_shape};
+ghost use Rattle.geos_model.specs.Document.{is_raw};
 ghost use Rattle.geos_model.specs.Refusal.{first_refusal};
+ghost use Rattle.geos_model.specs.declared.fault.Fault.TheVariants.{BadChain};
 ghost use Rattle.vm_blocks.specs.Keeping.{KeepsBlocks, IsHonest, IsEnvironmentFault, is_full};
 ghost use Rattle.vm_chains.specs.Answers.{AnswersChain, IsWrongRoot, IsWalkRefusal};
-ghost use Rattle.vm_chains.specs.Naming.{name_in, place_in};
-ghost use Rattle.vm_chains.specs.Numbers.{numbers};
-ghost use Rattle.vm_chains.specs.Walking.{AreBlocks, CanBeMembers};
+ghost use Rattle.vm_chains.specs.Comparing.{AreCompared, AreEqualIf, AreInStep, IsMarkedStep};
+ghost use Rattle.vm_chains.specs.Stepping.{IsBroken, IsOver};
+ghost use Rattle.vm_chains.specs.Walking.{Stops};
 
-use crate::reading::relinked_at;
+use crate::reading::relinked_here;
 use crate::renaming::Renaming;
-use crate::walking::{test_root, walk_from};
+use crate::stepping::Walk;
+use crate::walking::test_root;
 use geos_model::{Fault, VmHandle};
-use std::alloc::{AllocError, Global};
+use std::alloc::Global;
 use vm_blocks::FileBlocks;
 use vm_store::Store;
 
@@ -38,9 +39,7 @@ pub fn equal<S: Store>(
         (IsWrongRoot blocks.old.document first.0 second.0)) }
 {
     test_roots(blocks, first, second)?;
-    let first = walk_from(alloc, blocks, first)?;
-    let second = walk_from(alloc, blocks, second)?;
-    same_shape(alloc, blocks, &first, &second)
+    have_same_shape(alloc, blocks, first, second)
 }
 
 /// Tests the roots of two chains: NoBlock where one of them isn't live, and then WrongKind where one is a heap. No block is looked into.
@@ -61,40 +60,120 @@ pub fn test_roots<S: Store>(
     test_root(blocks, second)
 }
 
-/// Whether these bodies are the same, one by one, with places for links.
-fn same_shape<S: Store>(
+/// Whether the chains of two raw blocks are equal. They are walked side by side, so that each block is loaded once.
+fn have_same_shape<S: Store>(
     alloc: Global,
     blocks: &mut FileBlocks<S>,
-    first: &[VmHandle],
-    second: &[VmHandle],
+    first_root: VmHandle,
+    second_root: VmHandle,
 ) -> Result<bool, Fault>
     // Asked of the caller.
     requires room { is_full blocks.old ≡ false }
-    requires first { AreBlocks blocks.old.document first.now }
-    requires second { AreBlocks blocks.old.document second.now }
-    requires members { IsHonest S.facts blocks.old.disk.store
-        → CanBeMembers blocks.old.document first.now × CanBeMembers blocks.old.document second.now }
     // What stays.
     ensures keeps { KeepsBlocks S.facts blocks.old blocks.new }
     // What is answered.
-    ensures value { IsHonest S.facts blocks.old.disk.store
-        → IfOk result (λ same. same ≡ same_shape blocks.new.document (numbers first.now) (numbers second.now)) }
+    ensures value { IsHonest S.facts blocks.old.disk.store → MatchResult result
+        (AreEqualIf blocks.new.document first_root.0 second_root.0)
+        (Stops (IsEnvironmentFault S.facts blocks.old.disk.store blocks.new.disk.store)
+        ((chain blocks.new.document first_root.0 ≡ None) ⊎ (chain blocks.new.document second_root.0 ≡ None))) }
     // Refusals.
-    ensures refusals { IfErr result (IsEnvironmentFault S.facts blocks.old.disk.store blocks.new.disk.store) }
+    ensures refusals { IfErr result
+        (λ fault. IsEnvironmentFault S.facts blocks.old.disk.store blocks.new.disk.store fault ⊎ (fault ≡ BadChain)) }
 {
-    if first.len() != second.len() {
-        return Ok(false);
-    }
-    let first_places = places(alloc, first)?;
-    let second_places = places(alloc, second)?;
-    for i in 0..first.len() {
-        let mine = relinked_at(alloc, blocks, first[i], &first_places)?;
-        let other = relinked_at(alloc, blocks, second[i], &second_places)?;
-        if !are_same(mine.as_slice(), other.as_slice()) {
-            return Ok(false);
+    blocks.validity();
+    let mut first = Walk::new(alloc, first_root)?;
+    let mut second = Walk::new(alloc, second_root)?;
+    let same = are_alike(alloc, blocks, &mut first, &mut second)?;
+    // Behind what differs there may still be what is none of a chain.
+    first.finish(blocks)?;
+    second.finish(blocks)?;
+    Ok(same)
+}
+
+/// Whether the blocks that two walks come to are alike, one by one, as far as that takes to know.
+fn are_alike<S: Store>(
+    alloc: Global,
+    blocks: &mut FileBlocks<S>,
+    first: &mut Walk,
+    second: &mut Walk,
+) -> Result<bool, Fault>
+    // Asked of the caller.
+    requires room { is_full blocks.old ≡ false }
+    // What stays.
+    ensures keeps { KeepsBlocks S.facts blocks.old blocks.new }
+    // What is answered.
+    ensures value { (f : ℕ) → (s : ℕ) → IsHonest S.facts blocks.old.disk.store
+        → AreInStep blocks.old.document f s first.old second.old → MatchResult result
+        (λ same. AreCompared blocks.new.document f s same first.new second.new)
+        (Stops (IsEnvironmentFault S.facts blocks.old.disk.store blocks.new.disk.store)
+        ((chain blocks.new.document f ≡ None) ⊎ (chain blocks.new.document s ≡ None))) }
+    // Refusals.
+    ensures refusals { IfErr result
+        (λ fault. IsEnvironmentFault S.facts blocks.old.disk.store blocks.new.disk.store fault ⊎ (fault ≡ BadChain)) }
+{
+    loop {
+        if let Some(same) = compare_next(alloc, blocks, first, second)? {
+            return Ok(same);
         }
     }
-    Ok(true)
+}
+
+/// Compares the next blocks of two walks. None where each has one and these are alike, so that the next ones decide.
+fn compare_next<S: Store>(
+    alloc: Global,
+    blocks: &mut FileBlocks<S>,
+    first: &mut Walk,
+    second: &mut Walk,
+) -> Result<Option<bool>, Fault>
+    // Asked of the caller.
+    requires room { is_full blocks.old ≡ false }
+    // What stays.
+    ensures keeps { KeepsBlocks S.facts blocks.old blocks.new }
+    // What is answered.
+    ensures value { (f : ℕ) → (s : ℕ) → IsHonest S.facts blocks.old.disk.store
+        → AreInStep blocks.old.document f s first.old second.old → MatchResult result
+        (λ known. MatchOption known (AreInStep blocks.new.document f s first.new second.new)
+        (λ same. AreCompared blocks.new.document f s same first.new second.new))
+        (Stops (IsEnvironmentFault S.facts blocks.old.disk.store blocks.new.disk.store)
+        ((chain blocks.new.document f ≡ None) ⊎ (chain blocks.new.document s ≡ None))) }
+    ensures fewer { IfOk result (λ known. MatchOption known (first.new.left < first.old.left) (λ _. Unit {0})) }
+    // Refusals.
+    ensures refusals { IfErr result
+        (λ fault. IsEnvironmentFault S.facts blocks.old.disk.store blocks.new.disk.store fault ⊎ (fault ≡ BadChain)) }
+{
+    let mine = next_marked(alloc, blocks, first)?;
+    let other = next_marked(alloc, blocks, second)?;
+    match mine {
+        Some(mine) => match other {
+            Some(other) => {
+                let same = are_same(mine.as_slice(), other.as_slice());
+                Ok(if same { None } else { Some(false) })
+            }
+            None => Ok(Some(false)),
+        },
+        None => Ok(Some(other.is_none())),
+    }
+}
+
+/// The bytes of a walk's next block, with a mark for each of its links; none at the end.
+fn next_marked<S: Store>(
+    alloc: Global,
+    blocks: &mut FileBlocks<S>,
+    walk: &mut Walk,
+) -> Result<Option<Vec<u8>>, Fault>
+    requires room { is_full blocks.old ≡ false }
+    ensures keeps { KeepsBlocks S.facts blocks.old blocks.new }
+    ensures value { MatchResult result
+        (λ next. MatchOption next (IsOver walk.old walk.new)
+        (λ bytes. IsMarkedStep blocks.new.document bytes.items walk.old walk.new))
+        (Stops (IsEnvironmentFault S.facts blocks.old.disk.store blocks.new.disk.store)
+        (IsBroken blocks.new.document walk.old)) }
+{
+    match walk.step(blocks)? {
+        // The step has just loaded it, so that its body is still the one whose links were followed.
+        Some(handle) => Ok(Some(relinked_here(alloc, blocks, handle, &Renaming::Marks)?)),
+        None => Ok(None),
+    }
 }
 
 /// Whether these are the same bytes.
@@ -102,17 +181,4 @@ fn are_same(first: &[u8], second: &[u8]) -> bool
     ensures { result ≡ same_bytes first.now second.now }
 {
     first == second
-}
-
-/// The place of each of these handles among them, from 1 on.
-fn places(alloc: Global, handles: &[VmHandle]) -> Result<Renaming, AllocError>
-    requires handles { All (λ h. is_vm_handle h.0 ≡ true) handles.now }
-    requires few { length handles.now ≤ most_blocks }
-    ensures { IfOk result (λ names. (h : ℕ) → name_in names h ≡ place_in (numbers handles.now) h) }
-{
-    let mut places = Vec::with_capacity(alloc, handles.len())?;
-    for i in 0..handles.len() {
-        places.push(VmHandle(i as u16 + 1))?;
-    }
-    Renaming::new(alloc, handles, &places)
 }

@@ -11,6 +11,7 @@ mod pending;
 mod planning;
 mod reading;
 mod renaming;
+mod stepping;
 mod walking;
 
 pub use comparing::{equal, test_roots};

@@ -1,9 +1,9 @@
 //! The blocks of a copy of a chain, and the blocks that the freeing of one takes.
-ghost use Rattle.std.specs.Prelude.{◌≡◌, ◌⊎◌, ◌==◌, ◌<◌, false, IfOk, IfErr, length};
+ghost use Rattle.std.specs.Prelude.{◌≡◌, ◌⊎◌, ◌==◌, ◌<◌, None, false, IfOk, IfErr, MatchResult, length};
 ghost use Rattle.std.specs.List.{list_any};
-ghost use Rattle.geos_model.specs.Chain.{chain_blocks_of, chain_blocks, copies_of, copy_conditions, free_conditions, new_handles, renamed_blocks};
+ghost use Rattle.geos_model.specs.Chain.{chain, chain_blocks_of, chain_blocks, copies_of, copy_conditions, free_conditions, new_handles, renamed_blocks};
 ghost use Rattle.geos_model.specs.Document.{handles_of, is_raw};
-ghost use Rattle.geos_model.specs.declared.fault.Fault.TheVariants.{NoHandles, IsMap};
+ghost use Rattle.geos_model.specs.declared.fault.Fault.TheVariants.{BadChain, NoHandles, IsMap};
 ghost use Rattle.vm_blocks.specs.Changes.{CanApply};
 ghost use Rattle.vm_blocks.specs.Keeping.{KeepsBlocks, IsHonest, IsEnvironmentFault, is_full};
 ghost use Rattle.vm_blocks.specs.Kinds.{IsWrongBlock};
@@ -12,14 +12,17 @@ ghost use Rattle.vm_blocks.specs.Preparing.{CanRemoveByHandle};
 ghost use Rattle.vm_blocks.specs.declared.change.Change.TheVariants as changes;
 ghost use Rattle.vm_chains.specs.Answers.{AnswersChain, IsChainFault};
 ghost use Rattle.vm_chains.specs.Numbers.{numbers};
-ghost use Rattle.vm_chains.specs.Walking.{AreBlocks, CanBeMembers};
+ghost use Rattle.vm_chains.specs.Planning.{AreChainBlocks};
+ghost use Rattle.vm_chains.specs.Stepping.{AreMet};
+ghost use Rattle.vm_chains.specs.Walking.{AreBlocks, CanBeMembers, Stops};
 
-use crate::reading::{relinked_at, saved_at};
+use crate::reading::relinked_at;
 use crate::renaming::Renaming;
-use crate::walk;
+use crate::stepping::Walk;
+use crate::walking::{test_root, walk};
 use geos_model::{Fault, VmHandle};
 use std::alloc::{AllocError, Global};
-use vm_blocks::{BlockImage, FileBlocks, MOST_BLOCKS, Member, Members};
+use vm_blocks::{BlockImage, FileBlocks, MOST_BLOCKS, Member, Members, imaged_block};
 use vm_store::Store;
 
 /// The blocks of a copy of a chain, under handles that are free. They link to one another as those of the chain do.
@@ -70,42 +73,48 @@ pub fn free_plan<S: Store>(
         (λ fault. IsEnvironmentFault S.facts blocks.old.disk.store blocks.new.disk.store fault
         ⊎ IsChainFault (IsWrongBlock is_raw blocks.old.document root.0) fault ⊎ (fault ≡ IsMap)) }
 {
-    let handles = walk(alloc, blocks, root)?;
-    if contains(&handles, blocks.map_block()) {
+    test_root(blocks, root)?;
+    let plan = images(alloc, blocks, root)?;
+    if contains(&plan.list, blocks.map_block()) {
         return Err(Fault::IsMap);
     }
-    saved(alloc, blocks, &handles)
+    Ok(plan)
 }
 
-/// Whether a handle is one of these.
-fn contains(handles: &[VmHandle], wanted: VmHandle) -> bool
-    ensures { result ≡ list_any (λ h. h.0 == wanted.0) handles.now }
+/// Whether a block with this handle is one of these.
+fn contains(members: &[Member], wanted: VmHandle) -> bool
+    ensures { result ≡ list_any (λ m. m.handle.0 == wanted.0) members.now }
 {
-    handles.iter().any(|handle| handle.0 == wanted.0)
+    members.iter().any(|member| member.handle.0 == wanted.0)
 }
 
-/// Each of these blocks as it is.
-fn saved<S: Store>(
+/// The blocks of the chain of a raw block, as they are. The image of each is made as the walk meets it, while it is in memory.
+fn images<S: Store>(
     alloc: Global,
     blocks: &mut FileBlocks<S>,
-    handles: &[VmHandle],
+    root: VmHandle,
 ) -> Result<Members, Fault>
+    // Asked of the caller.
     requires room { is_full blocks.old ≡ false }
-    requires live { AreBlocks blocks.old.document handles.now }
+    // What stays.
     ensures keeps { KeepsBlocks S.facts blocks.old blocks.new }
-    ensures value { IsHonest S.facts blocks.old.disk.store
-        → IfOk result (λ plan. imaged_blocks plan.list.items ≡ chain_blocks_of blocks.new.document
-        (numbers handles.now)) }
-    ensures handles { IfOk result (λ plan. handles_of (imaged_blocks plan.list.items) ≡ numbers handles.now) }
-    ensures refusals { IfErr result (IsEnvironmentFault S.facts blocks.old.disk.store blocks.new.disk.store) }
+    // What is answered.
+    ensures value { IsHonest S.facts blocks.old.disk.store → MatchResult result
+        (λ plan. AreChainBlocks blocks.new.document root.0 (imaged_blocks plan.list.items))
+        (Stops (IsEnvironmentFault S.facts blocks.old.disk.store blocks.new.disk.store)
+        (chain blocks.new.document root.0 ≡ None)) }
+    ensures met { IfOk result
+        (λ plan. AreMet blocks.new.document 0 (handles_of (imaged_blocks plan.list.items))) }
+    // Refusals.
+    ensures refusals { IfErr result
+        (λ fault. IsEnvironmentFault S.facts blocks.old.disk.store blocks.new.disk.store fault ⊎ (fault ≡ BadChain)) }
 {
+    let mut walk = Walk::new(alloc, root)?;
     let mut plan = Vec::new(alloc);
-    for handle in handles {
-        let block = saved_at(alloc, blocks, *handle)?;
-        plan.push(Member {
-            handle: *handle,
-            block,
-        })?;
+    while let Some(handle) = walk.step(blocks)? {
+        let attributes = blocks.attributes(handle);
+        let block = imaged_block(alloc, attributes, blocks.body(handle))?;
+        plan.push(Member { handle, block })?;
     }
     Ok(Members::new(plan))
 }

@@ -1,21 +1,21 @@
 //! What is read of a block that a walk has met.
-ghost use Rattle.std.specs.Prelude.{◌≡◌, ◌≤◌, true, false, IfOk, MatchResult, length};
+ghost use Rattle.std.specs.Prelude.{◌≡◌, ◌≤◌, ◌⊎◌, true, false, IfOk, MatchResult, length};
 ghost use Rattle.geos_model.specs.Chain.{is_member, relinked};
-ghost use Rattle.geos_model.specs.Document.{block_at, is_heap, is_live, is_raw, raw_bytes_of};
+ghost use Rattle.geos_model.specs.Document.{is_heap, is_live, is_raw, raw_bytes_of};
 ghost use Rattle.geos_model.specs.Heap.{capacity};
-ghost use Rattle.vm_blocks.specs.Keeping.{KeepsBlocks, IsHonest, IsEnvironmentFault, is_full};
-ghost use Rattle.vm_file.specs.Members.{imaged_block};
+ghost use Rattle.geos_model.specs.declared.fault.Fault.TheVariants.{Damaged, Memory};
+ghost use Rattle.vm_blocks.specs.Keeping.{KeepsBlocks, IsHonest, IsEnvironmentFault, is_full, is_loaded};
 ghost use Rattle.vm_chains.specs.Naming.{name_in};
 
 use crate::links::links_of;
 use crate::renaming::{Renaming, relinked};
 use geos_model::{Fault, VmHandle};
 use std::alloc::Global;
-use vm_blocks::{BlockBody, BlockImage, FileBlocks, imaged_block};
+use vm_blocks::{BlockBody, FileBlocks};
 use vm_store::Store;
 
-// The block is loaded again, since blocks that were met later may have taken its place. Only a store that isn't honest gives another
-// body then: where no chain can have that, it is Damaged.
+// A block that was met before is loaded again, since others may have taken its place. Only a store that isn't honest gives another body
+// then: where no chain can have that, it is Damaged.
 
 /// How many bytes it has.
 pub(crate) fn len_at<S: Store>(blocks: &mut FileBlocks<S>, handle: VmHandle) -> Result<usize, Fault>
@@ -56,6 +56,23 @@ pub(crate) fn relinked_at<S: Store>(
     ensures raw { IfOk result (λ _. is_heap blocks.new.document handle.0 ≡ false) }
 {
     blocks.load(handle)?;
+    relinked_here(alloc, blocks, handle, names)
+}
+
+/// The same of a block that is in memory. Damaged where its body is none that a block of a chain can have.
+pub(crate) fn relinked_here<S: Store>(
+    alloc: Global,
+    blocks: &FileBlocks<S>,
+    handle: VmHandle,
+    names: &Renaming,
+) -> Result<Vec<u8>, Fault>
+    requires { is_loaded blocks.now handle.0 ≡ true }
+    ensures value { MatchResult result
+        (λ bytes. bytes.items ≡ relinked (name_in names.now) (raw_bytes_of blocks.now.document handle.0))
+        (λ fault. (fault ≡ Memory) ⊎ ((fault ≡ Damaged) × (is_member blocks.now.document handle.0 ≡ false))) }
+    ensures small { IfOk result (λ bytes. length bytes.items ≤ capacity) }
+    ensures raw { IfOk result (λ _. is_heap blocks.now.document handle.0 ≡ false) }
+{
     match blocks.body(handle) {
         BlockBody::Raw(body) => match links_of(body) {
             Some(links) => Ok(relinked(alloc, body, links, names)?),
@@ -63,22 +80,4 @@ pub(crate) fn relinked_at<S: Store>(
         },
         BlockBody::Heap(_) => Err(Fault::Damaged),
     }
-}
-
-/// The block as it is.
-pub(crate) fn saved_at<S: Store>(
-    alloc: Global,
-    blocks: &mut FileBlocks<S>,
-    handle: VmHandle,
-) -> Result<BlockImage, Fault>
-    requires room { is_full blocks.old ≡ false }
-    requires live { is_live blocks.old.document handle.0 ≡ true }
-    ensures keeps { KeepsBlocks S.facts blocks.old blocks.new }
-    ensures value { MatchResult result
-        (λ saved. imaged_block saved ≡ block_at blocks.new.document handle.0)
-        (IsEnvironmentFault S.facts blocks.old.disk.store blocks.new.disk.store) }
-{
-    blocks.load(handle)?;
-    let attributes = blocks.attributes(handle);
-    Ok(imaged_block(alloc, attributes, blocks.body(handle))?)
 }

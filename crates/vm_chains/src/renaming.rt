@@ -1,4 +1,4 @@
-//! Renaming for the handles of a chain, and bodies with their links renamed.
+//! Names for the handles of a chain, and bodies with their links renamed.
 ghost use Rattle.std.specs.Prelude.{◌≡◌, ◌≤◌, ◌+◌, ℕ, true, IfOk, length};
 ghost use Rattle.std.specs.List.{All, zip};
 ghost use Rattle.geos_model.specs.Chain.{name_of, relinked};
@@ -17,11 +17,13 @@ use raw_region::RawBody;
 use std::alloc::{AllocError, Global};
 use vm_blocks::MOST_BLOCKS;
 
-/// A name for each of some handles.
+/// Names for the blocks that are linked to.
 #[derive(Drop)]
-pub(crate) struct Renaming {
+pub(crate) enum Renaming {
     /// The name of a handle, 0 for one that has none.
-    by_handle: Vec<u16>,
+    Table(Vec<u16>),
+    /// 1 for each block, whichever it is, so that a link is told from none.
+    Marks,
 }
 
 impl Renaming {
@@ -41,17 +43,17 @@ impl Renaming {
         for i in (0..handles.len()).rev() {
             by_handle[usize::from(handles[i].0)] = names[i].0;
         }
-        Ok(Renaming { by_handle })
+        Ok(Renaming::Table(by_handle))
     }
 
     /// The name of a handle.
     fn of(&self, handle: u16) -> u16
         ensures { result ≡ name_in self.now handle }
     {
-        self.by_handle
-            .get(usize::from(handle))
-            .copied()
-            .unwrap_or(0)
+        match self {
+            Renaming::Table(names) => names.get(usize::from(handle)).copied().unwrap_or(0),
+            Renaming::Marks => u16::from(handle != 0),
+        }
     }
 }
 

@@ -1,20 +1,18 @@
 //! Walks along chains: their blocks, each before those that it links to.
 ghost use Rattle.std.specs.Prelude.{◌≡◌, ◌⊎◌, None, Some, true, false, IfOk, IfErr, MatchResult};
-ghost use Rattle.geos_model.specs.Chain.{chain, is_member, on_chain};
+ghost use Rattle.geos_model.specs.Chain.{chain, on_chain};
 ghost use Rattle.geos_model.specs.Document.{is_raw};
 ghost use Rattle.geos_model.specs.declared.fault.Fault.TheVariants.{BadChain};
 ghost use Rattle.vm_blocks.specs.Keeping.{KeepsBlocks, IsHonest, IsEnvironmentFault, is_full};
 ghost use Rattle.vm_blocks.specs.Kinds.{IsWrongBlock};
 ghost use Rattle.vm_chains.specs.Answers.{AnswersChain, IsWalkRefusal};
 ghost use Rattle.vm_chains.specs.Numbers.{numbers};
-ghost use Rattle.vm_chains.specs.Walking.{AreBlocks, CanBeMembers, BeginsWith, GoesOn, Stops};
+ghost use Rattle.vm_chains.specs.Walking.{AreBlocks, CanBeMembers, BeginsWith, Stops};
 
-use crate::links::{links_of, push_links};
-use crate::met::Met;
-use crate::pending::Pending;
+use crate::stepping::Walk;
 use geos_model::{Fault, VmHandle};
 use std::alloc::Global;
-use vm_blocks::{BlockBody, FileBlocks, MOST_BLOCKS};
+use vm_blocks::FileBlocks;
 use vm_store::Store;
 
 /// The blocks of a chain: each before those that it links to, branches in order.
@@ -83,49 +81,5 @@ pub(crate) fn walk_from<S: Store>(
     ensures refusals { IfErr result
         (λ fault. IsEnvironmentFault S.facts blocks.old.disk.store blocks.new.disk.store fault ⊎ (fault ≡ BadChain)) }
 {
-    blocks.validity();
-    let mut met = Met::new(alloc)?;
-    let mut pending = Pending::new(alloc, root)?;
-    for left in (0..MOST_BLOCKS).rev() {
-        let handle = match pending.pop() {
-            Some(handle) => handle,
-            None => return Ok(met.into_handles()),
-        };
-        if met.contains(handle) {
-            return Err(Fault::BadChain);
-        }
-        follow(blocks, handle, &mut pending)?;
-        met.add(handle)?;
-        // Each that is pending would be one more block, and no more than these are left.
-        if pending.len() > left {
-            return Err(Fault::BadChain);
-        }
-    }
-    Ok(met.into_handles())
-}
-
-/// Puts what a block links to before all that is pending. BadChain where the block is none of a chain.
-fn follow<S: Store>(
-    blocks: &mut FileBlocks<S>,
-    handle: VmHandle,
-    pending: &mut Pending,
-) -> Result<(), Fault>
-    requires room { is_full blocks.old ≡ false }
-    ensures keeps { KeepsBlocks S.facts blocks.old blocks.new }
-    ensures value { MatchResult result
-        (λ _. GoesOn blocks.new.document handle.0 pending.old pending.new)
-        (Stops (IsEnvironmentFault S.facts blocks.old.disk.store blocks.new.disk.store)
-        (is_member blocks.new.document handle.0 ≡ false)) }
-{
-    if !blocks.is_live(handle) {
-        return Err(Fault::BadChain);
-    }
-    blocks.load(handle)?;
-    match blocks.body(handle) {
-        BlockBody::Heap(_) => Err(Fault::BadChain),
-        BlockBody::Raw(body) => match links_of(body) {
-            Some(found) => Ok(push_links(body, &found, pending)?),
-            None => Err(Fault::BadChain),
-        },
-    }
+    Walk::new(alloc, root)?.finish(blocks)
 }

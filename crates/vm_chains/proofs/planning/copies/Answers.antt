@@ -1,8 +1,11 @@
-use Rattle.std.proofs.Common.{◌≡◌, ◌+◌, ◌<◌, ◌≤◌, ◌++◌, ◌∷◌, [], List, get_or, length, drop, true, refl, sym, ap, ◌∙◌, arith}
+use Rattle.std.proofs.Common.{◌≡◌, ℕ, ◌+◌, ◌<◌, ◌≤◌, ◌++◌, ◌∷◌, [], List, get_or, length, drop, true, refl, sym, ap, ◌∙◌, arith}
 use Rattle.std.proofs.lemmas.List.{append-nil, drop_all, length_push, take_all}
 use Rattle.std.specs.List.{zip}
-use Rattle.geos_model.specs.Chain.{is_member, name_of, relinked, renamed_blocks}
-use Rattle.geos_model.specs.Document.{Document, handles_of, raw_bytes_of, attributes_of}
+use Rattle.geos_model.specs.Chain.{is_member, name_of, relinked, relinked_block, renamed_blocks}
+use Rattle.geos_model.specs.declared.block.Attributes.{Attributes}
+use Rattle.geos_model.specs.declared.command.Body.TheVariants.{Raw}
+use Rattle.vm_chains.specs.declared.renaming.Renaming.{Renaming}
+use Rattle.geos_model.specs.Document.{Block, Document, attributes_of, block_at, handles_of, raw_bytes_of}
 use Rattle.geos_model.specs.declared.fault.Fault.TheVariants.{Memory}
 use Rattle.geos_model.specs.declared.handle.VmHandle.{VmHandle}
 use Rattle.vm_chains.specs.Naming.{name_in}
@@ -19,6 +22,12 @@ use Rattle.vm_chains.proofs.planning.copies.Goals as goal
 abbrev no_handle : VmHandle
 no_handle = record { 0 = 0 }
 
+-- a block of the copy, by what was read
+block_is : (now d : Document) (h : ℕ) (attributes : Attributes) (bytes : List ℕ) (names : Renaming) (given : ℕ → ℕ) → attributes ≡ attributes_of d h → bytes ≡ relinked (name_in names) (raw_bytes_of now h) → now ≡ d
+    → ((k : ℕ) → name_in names k ≡ given k) → ◌≡◌ {A = Block} (record { attributes = attributes; body = Raw bytes }) (relinked_block given (block_at d h))
+block_is now d h attributes bytes names given attributes_are read same named =
+    renamed_block d h attributes bytes (name_in names) given attributes_are (read ∙ ap (λ (x : Document). relinked (name_in names) (raw_bytes_of x h)) same) named
+
 pub returns-in_err-names-clause-keeps : goal.returns-in_err-names-clause-keeps
 returns-in_err-names-clause-keeps g c = keeps-refl g.S.Store.facts c.args.blocks.now
 
@@ -31,6 +40,7 @@ loop-i-init g c =
     record {
       plan = λ steady. ap (λ (ms : List Member). imaged_blocks ms ++ copies_from c.args.blocks.now.document hs new hs new) nothing;
       handles = ap (λ (ms : List Member). handles_of (imaged_blocks ms)) nothing;
+      named = c.in_ok-names.ensures {u = tt};
       many = ap (λ (ms : List Member). length ms) nothing;
       keeps = keeps-refl g.S.Store.facts c.args.blocks.now;
     }
@@ -90,11 +100,11 @@ loop-i-preserved g c =
       plan = λ steady.
           let same : e.document ≡ d = keeps-same g.S.Store.facts a e keeps steady in
           let attributes_are : c.attributes.result ≡ attributes_of d h = c.attributes.ensures.value ∙ ap (λ (x : Document). attributes_of x h) same in
-          let read : c.in_ok-bytes.bytes.items ≡ relinked (name_in c.in_ok-names.names) (raw_bytes_of d h) = c.in_ok-bytes.ensures.value ∙ ap (λ (x : Document). relinked (name_in c.in_ok-names.names) (raw_bytes_of x h)) same in
-          let block = c.in_ok-block.ensures ∙ renamed_block d h c.attributes.result c.in_ok-bytes.bytes.items (name_in c.in_ok-names.names) (name_of (zip (numbers hs) (numbers new))) attributes_are read (c.in_ok-names.ensures {u = tt}) in
+          let block = c.in_ok-block.ensures ∙ block_is e.document d h c.attributes.result c.in_ok-bytes.bytes.items _ (name_of (zip (numbers hs) (numbers new))) attributes_are c.in_ok-bytes.ensures.value same c.loop-i.invariant.named in
           ap (λ (ms : List Member). imaged_blocks ms ++ copies_from d hs new (drop (i + 1) hs) (drop (i + 1) new)) pushed
           ∙ copies_more d hs new c.loop-i.plan.items m i no_handle no_handle _ within there refl block (c.loop-i.invariant.plan steady);
       handles = ap (λ (ms : List Member). handles_of (imaged_blocks ms)) pushed ∙ handles_more c.loop-i.plan.items m i new no_handle there refl c.loop-i.invariant.handles;
+      named = c.loop-i.invariant.named;
       many = omega (arith, ap (λ (ms : List Member). length ms) pushed, length_push c.loop-i.plan.items m, c.loop-i.invariant.many);
       keeps = keeps;
     }

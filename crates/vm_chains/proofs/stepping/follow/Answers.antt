@@ -2,7 +2,7 @@ use Rattle.std.proofs.Common.{◌∙◌, sym, inl}
 use Rattle.geos_model.specs.declared.fault.Fault.TheVariants.{Memory}
 use Rattle.vm_blocks.proofs.KeepingLaws.{keeps-refl, lacks-memory}
 use Rattle.vm_chains.proofs.Loading.{carried, load_lacks}
-use Rattle.vm_chains.proofs.walking.follow.Goals as goal
+use Rattle.vm_chains.proofs.stepping.follow.Goals as goal
 
 pub returns-then-not-is_live-clause-keeps : goal.returns-then-not-is_live-clause-keeps
 returns-then-not-is_live-clause-keeps g c = keeps-refl g.S.Store.facts c.args.blocks.now

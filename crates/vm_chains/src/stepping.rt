@@ -1,0 +1,128 @@
+//! Steps of a walk along a chain.
+ghost use Rattle.std.specs.Prelude.{◌≡◌, ◌⊎◌, ℕ, None, Some, true, false, IfOk, IfErr, IfSome, OnOk, MatchOption, MatchResult};
+ghost use Rattle.geos_model.specs.Chain.{chain, is_member};
+ghost use Rattle.geos_model.specs.declared.fault.Fault.TheVariants.{BadChain};
+ghost use Rattle.vm_blocks.specs.Keeping.{KeepsBlocks, IsHonest, IsEnvironmentFault, is_full, is_loaded};
+ghost use Rattle.vm_chains.specs.Numbers.{numbers};
+ghost use Rattle.vm_chains.specs.Stepping.{IsAtRoot, IsAlong, IsBroken, IsOver, IsStep, HasMet, HasMetAll};
+ghost use Rattle.vm_chains.specs.Walking.{GoesOn, Stops};
+
+use crate::links::{links_of, push_links};
+use crate::met::Met;
+use crate::pending::Pending;
+use geos_model::{Fault, VmHandle};
+use std::alloc::{AllocError, Global};
+use vm_blocks::{BlockBody, FileBlocks, MOST_BLOCKS};
+use vm_store::Store;
+
+/// A walk along a chain.
+#[derive(Drop)]
+pub(crate) struct Walk {
+    met: Met,
+    pending: Pending,
+    /// How many blocks may still be met.
+    left: usize,
+}
+
+impl Walk {
+    /// At the root of a chain, with no block met.
+    pub(crate) fn new(alloc: Global, root: VmHandle) -> Result<Walk, AllocError>
+        ensures { IfOk result (λ walk. IsAtRoot root.0 walk) }
+    {
+        Ok(Walk {
+            met: Met::new(alloc)?,
+            pending: Pending::new(alloc, root)?,
+            left: MOST_BLOCKS,
+        })
+    }
+
+    /// The next block, which is in memory then; none at the end. BadChain where the next one is none of a chain or was met before,
+    /// or where more are to come than may still be met.
+    pub(crate) fn step<S: Store>(
+        &mut self,
+        blocks: &mut FileBlocks<S>,
+    ) -> Result<Option<VmHandle>, Fault>
+        // Asked of the caller.
+        requires room { is_full blocks.old ≡ false }
+        // What stays.
+        ensures keeps { KeepsBlocks S.facts blocks.old blocks.new }
+        // What is answered.
+        ensures value { MatchResult result
+            (λ next. MatchOption next (IsOver self.old self.new)
+            (λ h. IsStep blocks.new.document h.0 self.old self.new))
+            (Stops (IsEnvironmentFault S.facts blocks.old.disk.store blocks.new.disk.store)
+            (IsBroken blocks.new.document self.old)) }
+        ensures loaded { IfOk result (λ next. IfSome next (λ h. is_loaded blocks.new h.0 ≡ true)) }
+    {
+        // Each that is pending would be one more block.
+        if self.pending.len() > self.left {
+            return Err(Fault::BadChain);
+        }
+        let handle = match self.pending.pop() {
+            Some(handle) => handle,
+            None => return Ok(None),
+        };
+        if self.met.contains(handle) {
+            return Err(Fault::BadChain);
+        }
+        blocks.validity();
+        follow(blocks, handle, &mut self.pending)?;
+        self.met.add(handle)?;
+        self.left -= 1;
+        Ok(Some(handle))
+    }
+
+    /// Takes all steps that are left, and gives the blocks of the chain.
+    pub(crate) fn finish<S: Store>(
+        mut self,
+        blocks: &mut FileBlocks<S>,
+    ) -> Result<Vec<VmHandle>, Fault>
+        // Asked of the caller.
+        requires room { is_full blocks.old ≡ false }
+        // What stays.
+        ensures keeps { KeepsBlocks S.facts blocks.old blocks.new }
+        // What is answered.
+        ensures value { (root : ℕ) → IsHonest S.facts blocks.old.disk.store → IsAlong blocks.old.document root self
+            → MatchResult result
+            (λ handles. chain blocks.new.document root ≡ Some (numbers handles.items))
+            (Stops (IsEnvironmentFault S.facts blocks.old.disk.store blocks.new.disk.store)
+            (chain blocks.new.document root ≡ None)) }
+        ensures met { (root : ℕ) → HasMet blocks.old.document root self
+            → IfOk result (λ handles. HasMetAll blocks.new.document root handles.items) }
+        // Refusals.
+        ensures refusals { IfErr result
+            (λ fault. IsEnvironmentFault S.facts blocks.old.disk.store blocks.new.disk.store fault
+            ⊎ (fault ≡ BadChain)) }
+    {
+        blocks.validity();
+        while let Some(_next) = self.step(blocks)? {}
+        Ok(self.met.into_handles())
+    }
+}
+
+/// Brings a block into memory and puts what it links to before all that is pending. BadChain where the block is none of a chain.
+fn follow<S: Store>(
+    blocks: &mut FileBlocks<S>,
+    handle: VmHandle,
+    pending: &mut Pending,
+) -> Result<(), Fault>
+    requires room { is_full blocks.old ≡ false }
+    ensures keeps { KeepsBlocks S.facts blocks.old blocks.new }
+    ensures value { MatchResult result
+        (λ _. GoesOn blocks.new.document handle.0 pending.old pending.new)
+        (Stops (IsEnvironmentFault S.facts blocks.old.disk.store blocks.new.disk.store)
+        (is_member blocks.new.document handle.0 ≡ false)) }
+    ensures loaded { OnOk result (is_loaded blocks.new handle.0 ≡ true) }
+{
+    if !blocks.is_live(handle) {
+        return Err(Fault::BadChain);
+    }
+    blocks.load(handle)?;
+    match blocks.body(handle) {
+        BlockBody::Heap(_) => Err(Fault::BadChain),
+        BlockBody::Raw(body) => match links_of(body) {
+            Some(found) => Ok(push_links(body, &found, pending)?),
+            None => Err(Fault::BadChain),
+        },
+    }
+}
