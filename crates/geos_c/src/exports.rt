@@ -1,11 +1,9 @@
 //! What C calls. Each call answers 0, the number of a fault of the document, 1 to 29, or a code of its own from 100 on.
 ghost use Rattle.std.specs.Prelude.{◌≡◌, if◌then◌else◌, pos, true, false};
-ghost use Rattle.std.specs.Ptr.{null_ptr};
 ghost use Rattle.geos_model.specs.declared.command.Command.TheVariants as commands;
 ghost use Rattle.geos_c.specs.Calls.{AbandonsGroup, BeginsGroup, CountsLocks, Dirties, EndsGroup, LocksBlock, ReadsBytes, Redoes, Reverts, Saves, SavesAs, Undoes, UnlocksBlock, Updates, chunk as chunk_of, vm};
 ghost use Rattle.geos_c.specs.Codes.{IsNamed, not_open};
 ghost use Rattle.geos_c.specs.Handles.{Begins, IsBegun, IsCreation, IsOpening, HandsOutOnHandle, OnHandle};
-ghost use Rattle.geos_c.specs.Lending.{Lends};
 ghost use Rattle.geos_c.specs.Lines.{AnswersLine};
 ghost use Rattle.geos_c.specs.Stores.{facts, store_on};
 
@@ -17,7 +15,6 @@ use crate::channel::{ChannelFile, store};
 use crate::codes::{BAD_ARGUMENT, NOT_OPEN, OPEN_ALREADY, fault_name};
 use crate::handle::{Handle, put, take};
 use crate::kept::Kept;
-use crate::lending::{lend_chunk, lend_raw, nowhere};
 use crate::line::command;
 use geos_model::Fault;
 use std::alloc::Global;
@@ -42,6 +39,8 @@ macro_rules! answer {
         }
     };
 }
+
+mod lending;
 
 // Puts a session that was begun behind a handle.
 fn begin(
@@ -240,52 +239,6 @@ pub extern "C" fn geosvm_locks(
 {
     *count = 0;
     answer!(handle, alloc, |session| locks(session, block, count))
-}
-
-/// Lends the bytes of a chunk of a locked block. `bytes` becomes their address and `length` how many there are; where they are
-/// refused, null and 0.
-#[unsafe(no_mangle)]
-pub extern "C" fn geosvm_locked_chunk(
-    handle: &mut Handle,
-    alloc: Global,
-    block: u16,
-    chunk: u16,
-    bytes: &mut *const u8,
-    length: &mut usize,
-) -> i32
-    ensures told { OnHandle (Lends (commands.Read (vm block) (chunk_of chunk)) block bytes.new length.new)
-        handle.old handle.new result }
-    ensures none { handle.old.is_open ≡ false → (bytes.new ≡ null_ptr) × (length.new ≡ 0) }
-{
-    *bytes = nowhere();
-    *length = 0;
-    answer!(
-        handle,
-        alloc,
-        |session| lend_chunk(session, block, chunk, bytes, length)
-    )
-}
-
-/// Lends the bytes of a raw block that is locked.
-#[unsafe(no_mangle)]
-pub extern "C" fn geosvm_locked_raw(
-    handle: &mut Handle,
-    alloc: Global,
-    block: u16,
-    bytes: &mut *const u8,
-    length: &mut usize,
-) -> i32
-    ensures told { OnHandle (Lends (commands.ReadRaw (vm block)) block bytes.new length.new)
-        handle.old handle.new result }
-    ensures none { handle.old.is_open ≡ false → (bytes.new ≡ null_ptr) × (length.new ≡ 0) }
-{
-    *bytes = nowhere();
-    *length = 0;
-    answer!(
-        handle,
-        alloc,
-        |session| lend_raw(session, block, bytes, length)
-    )
 }
 
 /// Copies the bytes of a chunk. `length` becomes how many it has; as many as fit lie in the buffer.
