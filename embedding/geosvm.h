@@ -21,7 +21,8 @@
 **   - One call at a time on one session, and all calls on it from one thread. Different sessions may be in different threads.
 **   - Each pointer leads to as many elements as its size says, is not NULL even at size 0, and what a call writes overlaps nothing
 **     else that the same call is passed.
-**   - Bytes that geosvm_locked_chunk and geosvm_locked_raw have lent are never written, and read only as long as they are lent ("Locks").
+**   - Bytes that geosvm_locked_chunk and geosvm_locked_raw have lent are never written, and are read as long as they are lent ("Locks"),
+**     and not while a call on their session runs.
 **   - A descriptor is open to be read and written, and stays so until geosvm_close; it stays the caller's, since no call closes it.
 **     Its position moves. It doesn't append.
 **   - No two open sessions have the same file, and none is saved into one that another has. Nobody else writes it meanwhile: take
