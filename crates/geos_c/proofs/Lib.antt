@@ -1,5 +1,6 @@
 pub mod Values
 pub mod Handles
 pub mod HandleCalls
+pub mod LendingLemmas
 pub mod Opening
 pub mod Given

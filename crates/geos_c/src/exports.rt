@@ -40,6 +40,8 @@ macro_rules! answer {
     };
 }
 
+mod lending;
+
 // Puts a session that was begun behind a handle.
 fn begin(
     handle: &mut Handle,

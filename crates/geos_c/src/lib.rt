@@ -7,6 +7,7 @@ mod codes;
 mod exports;
 mod handle;
 mod kept;
+mod lending;
 mod line;
 mod loose;
 mod message;
