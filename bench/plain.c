@@ -5,8 +5,8 @@
 **     cc -O2 -o plain bench/plain.c && python3 bench/bench.py crates/geosvm/out/geosvm --against plain --repeat 5 --only writes
 **
 ** A chunk is a piece of malloc's, and a heap counts what its chunks need. Arrays lie in their chunks as docs/FORMAT.md has them, and are
-** searched from the first element on. Raw blocks are in the file, 8 of them in memory; a commit writes what changed to free pages, and
-** the directory, syncs, writes the slot, and syncs: the file is a document. Steps lie in one row, each with the bytes before and after it.
+** searched from the first element on. Raw blocks are in the file, 8 of them in memory; a commit writes what changed and the directory to
+** free pages, and then a slot, so that the file is a document. Steps lie in one row, each with the bytes before and after it.
 */
 #include <fcntl.h>
 #include <stdbool.h>
@@ -208,14 +208,12 @@ static int take_pages(int length) {
 
 static void give_pages(Extent it) { memset(taken + it.page, 0, (size_t)pages_of(it.length)); }
 
-static void write_file(const uint8_t *from, int count, int page) {
-  require(pwrite(file, from, (size_t)count, (off_t)page * PAGE) == count);
-}
+static void write_file(const uint8_t *from, int count, off_t at) { require(pwrite(file, from, (size_t)count, at) == count); }
 
 static void write_back(Frame *frame) {
   Block *it = &blocks[frame->block];
   if (!it->page || it->page == it->updated || it->page == it->saved) it->page = take_pages(it->size + 1);
-  write_file(frame->image, it->size + 1, it->page);
+  write_file(frame->image, it->size + 1, (off_t)it->page * PAGE);
   frame->changed = false;
 }
 
@@ -256,14 +254,20 @@ static int directory_bytes(uint8_t *to) {
   return DIRECTORY + LISTED * greatest;
 }
 
+static void write_through(const void *from, int count, off_t at) { write_file(from, count, at); require(fsync(file) == 0); }
+
+/* The gate is shut before the slot is written and opened behind it, each synced, so that a torn slot doesn't count. */
 static void write_slot(void) {
-  uint8_t slot[SLOT] = {'G', 'V', 'M', 'F', 1, 2};
-  set_long(slot + 8, ++sequence);
+  const off_t at = (off_t)(++sequence % 2) * PAGE, gate = at + 4;
+  uint8_t slot[SLOT] = {'G', 'V', 'M', 'F', 0, 2};
+  set_long(slot + 8, sequence);
   set_long(slot + 16, updated.page);
   set_long(slot + 20, updated.length);
   set_long(slot + 24, saved.page);
   set_long(slot + 28, saved.length);
-  write_file(slot, SLOT, sequence % 2);
+  write_through("\0", 1, gate);
+  write_through(slot, SLOT, at);
+  write_through("\1", 1, gate);
 }
 
 /* What a commit makes free of a block: its pages in the documents before that it has in neither now. */
@@ -281,12 +285,10 @@ static void commit(bool save) {
     if (it->changed) write_back(it);
   const int length = directory_bytes(bytes);
   const Extent directory = {take_pages(length), length}, old_updated = updated, old_saved = saved;
-  write_file(bytes, length, directory.page);
+  write_file(bytes, length, (off_t)directory.page * PAGE);
   updated = directory;
   if (save) saved = directory;
-  require(fsync(file) == 0);
   write_slot();
-  require(fsync(file) == 0);
   for (int block = 1; block <= greatest; block++) give_replaced(&blocks[block], save);
   if (old_updated.page && old_updated.page != old_saved.page) give_pages(old_updated);
   if (save && old_saved.page) give_pages(old_saved);
