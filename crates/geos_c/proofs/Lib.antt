@@ -3,3 +3,4 @@ pub mod Handles
 pub mod HandleCalls
 pub mod Opening
 pub mod Given
+pub mod Asking

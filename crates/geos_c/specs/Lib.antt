@@ -1,7 +1,10 @@
 pub mod Calls
 pub mod Codes
+pub mod Edits
 pub mod Handles
 pub mod Lines
+pub mod LookUps
 pub mod Messages
 pub mod Owning
 pub mod Stores
+pub mod Telling

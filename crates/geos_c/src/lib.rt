@@ -4,9 +4,12 @@
 mod calls;
 mod channel;
 mod codes;
+mod copying;
 mod exports;
 mod handle;
 mod kept;
 mod line;
+mod look_ups;
 mod loose;
 mod message;
+mod telling;
