@@ -21,6 +21,8 @@
 **   - One call at a time on one session, and all calls on it from one thread. Different sessions may be in different threads.
 **   - Each pointer leads to as many elements as its size says, is not NULL even at size 0, and what a call writes overlaps nothing
 **     else that the same call is passed.
+**   - Bytes that geosvm_locked_chunk and geosvm_locked_raw have lent are never written, and are read as long as they are lent ("Locks"),
+**     and not while a call on their session runs.
 **   - A descriptor is open to be read and written, and stays so until geosvm_close; it stays the caller's, since no call closes it.
 **     Its position moves. It doesn't append.
 **   - No two open sessions have the same file, and none is saved into one that another has. Nobody else writes it meanwhile: take
@@ -169,11 +171,28 @@ int32_t geosvm_save_as(geosvm_session *s, int32_t number);
 **
 ** A locked block stays in memory until it was unlocked as often as it was locked, 255 times at most. geosvm_dirty has it written by the
 ** next commit, as if it had been edited. *count becomes how often a block is locked; where that is refused, 0.
+**
+** geosvm_locked_chunk and geosvm_locked_raw lend the bytes of a locked block where they lie: *bytes becomes the address of the first of
+** them, and *length how many there are, at most 65,520. Of none it is the address of no byte, but not NULL. GEOSVM_NO_BLOCK,
+** WRONG_KIND, NOT_LOCKED, NO_CHUNK, the first of them; where it is refused *bytes is NULL and *length is 0. They take no memory, and call
+** none of the functions on files.
+**
+** The bytes are lent until one of these calls, which may move them or give their memory back; after the first they can be asked for anew:
+**
+**   - an edit of that block or of what is in it,
+**   - the geosvm_unlock of its last lock,
+**   - geosvm_close.
+**
+** A command by geosvm_command that does the same ends it likewise. All other calls leave the bytes as they are, and where they are:
+** look-ups, edits of other blocks, other locks, geosvm_dirty, begin and end, and what is refused, as undo, redo, abandon and commits are
+** while any block is locked.
 */
 int32_t geosvm_lock(geosvm_session *s, uint16_t block);
 int32_t geosvm_unlock(geosvm_session *s, uint16_t block);
 int32_t geosvm_dirty(geosvm_session *s, uint16_t block);
 int32_t geosvm_locks(geosvm_session *s, uint16_t block, uint8_t *count);
+int32_t geosvm_locked_chunk(geosvm_session *s, uint16_t block, uint16_t chunk, const uint8_t **bytes, size_t *length);
+int32_t geosvm_locked_raw(geosvm_session *s, uint16_t block, const uint8_t **bytes, size_t *length);
 
 /*
 ** CAPI: Edits

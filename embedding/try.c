@@ -91,6 +91,44 @@ static void edits(geosvm_session *s) {
   printf("locked %d times\n", count);
 }
 
+/* Bytes that are lent stay where they are, however many other blocks come into the frames that are left. */
+static void lent(geosvm_session *s) {
+  geosvm_session closed = GEOSVM_CLOSED;
+  const uint8_t *chunk = NULL, *raw = NULL, *again = NULL;
+  char reply[256];
+  size_t n = 77, m = 77;
+  puts("-- bytes lent");
+  TELL(geosvm_locked_chunk(&closed, 1, 16, &chunk, &n));
+  TELL(geosvm_locked_chunk(s, 1, 16, &chunk, &n));
+  printf("%zu bytes, %s\n", n, chunk == NULL ? "nowhere" : "somewhere");
+  TELL(geosvm_lock(s, 1));
+  TELL(geosvm_lock(s, 2));
+  TELL(geosvm_locked_chunk(s, 1, 16, &chunk, &n));
+  printf("%zu bytes: %.*s\n", n, (int)n, (const char *)chunk);
+  TELL(geosvm_locked_raw(s, 2, &raw, &m));
+  printf("%zu bytes: %02x %02x %02x %02x %02x\n", m, raw[0], raw[1], raw[2], raw[3], raw[4]);
+  TELL(geosvm_locked_chunk(s, 9, 16, &again, &n));
+  TELL(geosvm_locked_chunk(s, 2, 16, &again, &n));
+  TELL(geosvm_locked_raw(s, 1, &again, &n));
+  TELL(geosvm_locked_chunk(s, 1, 9999, &again, &n));
+  printf("%zu bytes, %s\n", n, again == NULL ? "nowhere" : "somewhere");
+  long bad = 0;
+  for (int i = 0; i < 16; i++) bad += say(s, "newraw 1 65520", reply, sizeof reply) != GEOSVM_OK;
+  for (uint16_t block = 3; block < 19; block++) bad += geosvm_vread(s, block, (uint8_t *)reply, 1, &n) != GEOSVM_CUT_OFF;
+  printf("16 blocks through 6 frames: %ld wrong answers\n", bad);
+  TELL(geosvm_locked_chunk(s, 1, 16, &again, &n));
+  printf("%.*s, %s\n", (int)n, (const char *)chunk, again == chunk ? "where it was" : "elsewhere");
+  TELL(geosvm_locked_raw(s, 2, &again, &m));
+  printf("%02x %02x %02x %02x %02x, %s\n", raw[0], raw[1], raw[2], raw[3], raw[4], again == raw ? "where it was" : "elsewhere");
+  show(s, "insert 0001 0010 1 2");
+  show(s, "write 0001 0010 1 7879");
+  TELL(geosvm_locked_chunk(s, 1, 16, &chunk, &n));
+  printf("%zu bytes: %.*s\n", n, (int)n, (const char *)chunk);
+  TELL(geosvm_unlock(s, 1));
+  TELL(geosvm_unlock(s, 2));
+  TELL(geosvm_locked_raw(s, 2, &raw, &m));
+}
+
 static void commits(geosvm_session *s, int fd) {
   puts("-- commits");
   TELL(geosvm_update(s));
@@ -342,6 +380,7 @@ int main(void) {
   int fd = file("one.document");
   TELL(geosvm_create(&s, fd, 8));
   edits(&s);
+  lent(&s);
   commits(&s, fd);
   another_file(&s, fd);
   refusals(&s, fd);

@@ -1,6 +1,7 @@
 pub mod Values
 pub mod Handles
 pub mod HandleCalls
+pub mod LendingLemmas
 pub mod Opening
 pub mod Given
 pub mod Asking

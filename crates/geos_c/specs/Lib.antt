@@ -2,6 +2,7 @@ pub mod Calls
 pub mod Codes
 pub mod Edits
 pub mod Handles
+pub mod Lending
 pub mod Lines
 pub mod LookUps
 pub mod Messages

@@ -40,6 +40,7 @@ macro_rules! answer {
 }
 
 mod edits;
+mod lending;
 mod look_ups;
 
 // Puts a session that was begun behind a handle.

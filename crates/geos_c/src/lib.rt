@@ -8,6 +8,7 @@ mod copying;
 mod exports;
 mod handle;
 mod kept;
+mod lending;
 mod line;
 mod look_ups;
 mod loose;

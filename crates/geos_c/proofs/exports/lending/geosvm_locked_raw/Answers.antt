@@ -1,0 +1,12 @@
+use Rattle.std.proofs.Common.{◌≡◌, rules, to_z, of_z, w32}
+use Rattle.geos_model.specs.declared.command.Command.TheVariants as commands
+use Rattle.geos_c.specs.Calls.{vm}
+use Rattle.geos_c.specs.Lending.{Lends}
+use Rattle.geos_c.proofs.HandleCalls.{served}
+use Rattle.geos_c.proofs.exports.lending.geosvm_locked_raw.Goals as goal
+
+pub returns-in-Some-clause-told : goal.returns-in-Some-clause-told
+returns-in-Some-clause-told c =
+    let code : to_z w32 (of_z w32 c.lend_raw-code.result) ≡ c.lend_raw-code.result = search rules in
+    served _ _ _ _ _ _ _ c.in-Some.ensures.was_open c.deref_mut.ensures.value c.put.ensures code
+    (Lends (commands.ReadRaw (vm c.args.block)) c.args.block c.lend_raw-code.new.bytes c.lend_raw-code.new.length) c.lend_raw-code.ensures

@@ -1,0 +1,11 @@
+use Rattle.std.proofs.Common.{◌≡◌, refl, rules, to_z, of_z, w32}
+use Rattle.geos_model.specs.declared.command.Command.TheVariants as commands
+use Rattle.geos_c.specs.Calls.{vm}
+use Rattle.geos_c.proofs.LendingLemmas.{handed_out}
+use Rattle.geos_c.proofs.lending.lend_raw.Goals as goal
+
+pub returns : goal.returns
+returns g c =
+    let code : to_z w32 (of_z w32 c.hand_out_place.result) ≡ c.hand_out_place.result = search rules in
+    rw code (handed_out (commands.ReadRaw (vm c.args.block)) c.args.block c.args.session.now c.args.session.now c.locked_raw.result
+    c.hand_out_place.new.bytes c.hand_out_place.new.length c.hand_out_place.result c.locked_raw.ensures refl c.hand_out_place.ensures)

@@ -1,0 +1,58 @@
+//! Loans of the bytes of locked blocks.
+ghost use Rattle.std.specs.Prelude.{◌≡◌, false};
+ghost use Rattle.std.specs.Ptr.{null_ptr};
+ghost use Rattle.geos_model.specs.declared.command.Command.TheVariants as commands;
+ghost use Rattle.geos_c.specs.Calls.{chunk as chunk_of, vm};
+ghost use Rattle.geos_c.specs.Handles.{OnHandle};
+ghost use Rattle.geos_c.specs.Lending.{Lends};
+
+use crate::codes::NOT_OPEN;
+use crate::handle::{Handle, put, take};
+use crate::lending::{lend_chunk, lend_raw, nowhere};
+use std::alloc::Global;
+
+/// Lends the bytes of a chunk of a locked block. `bytes` becomes their address and `length` how many there are; where they are
+/// refused, null and 0.
+#[unsafe(no_mangle)]
+pub extern "C" fn geosvm_locked_chunk(
+    handle: &mut Handle,
+    alloc: Global,
+    block: u16,
+    chunk: u16,
+    bytes: &mut *const u8,
+    length: &mut usize,
+) -> i32
+    ensures told { OnHandle (Lends (commands.Read (vm block) (chunk_of chunk)) block bytes.new length.new)
+        handle.old handle.new result }
+    ensures none { handle.old.is_open ≡ false → (bytes.new ≡ null_ptr) × (length.new ≡ 0) }
+{
+    *bytes = nowhere();
+    *length = 0;
+    answer!(
+        handle,
+        alloc,
+        |session| lend_chunk(session, block, chunk, bytes, length)
+    )
+}
+
+/// Lends the bytes of a raw block that is locked.
+#[unsafe(no_mangle)]
+pub extern "C" fn geosvm_locked_raw(
+    handle: &mut Handle,
+    alloc: Global,
+    block: u16,
+    bytes: &mut *const u8,
+    length: &mut usize,
+) -> i32
+    ensures told { OnHandle (Lends (commands.ReadRaw (vm block)) block bytes.new length.new)
+        handle.old handle.new result }
+    ensures none { handle.old.is_open ≡ false → (bytes.new ≡ null_ptr) × (length.new ≡ 0) }
+{
+    *bytes = nowhere();
+    *length = 0;
+    answer!(
+        handle,
+        alloc,
+        |session| lend_raw(session, block, bytes, length)
+    )
+}
