@@ -201,9 +201,9 @@ int32_t geosvm_locked_raw(geosvm_session *s, uint16_t block, const uint8_t **byt
 ** says of the command with its name is so of the call. *block, *copy, *chunk or *token becomes what was made, 0 where the call answers
 ** anything but GEOSVM_OK. Bytes are copied, so they may be freed or written after the call. Numbers may be as large as their types allow.
 **
-** At each call stand its refusals; the first that applies is answered. Any edit may be GEOSVM_MEMORY, and GEOSVM_FILE or, of a damaged
-** file, GEOSVM_DAMAGED where it has to bring a block into memory. What is refused while blocks are locked stands in docs/SCRIPT.md under
-** Locks.
+** At each call stand its refusals; the first that applies is answered. Any edit may be GEOSVM_MEMORY; GEOSVM_FILE where a block has to be
+** brought into memory, or another one out of it, and the file failed; and GEOSVM_DAMAGED where what was read of it is no block. What is
+** refused while blocks are locked stands in docs/SCRIPT.md under Locks.
 */
 
 /*
@@ -304,8 +304,8 @@ int32_t geosvm_chfree(geosvm_session *s, uint16_t block);                 /* NO_
 ** Bytes and lists of handles are copied into a buffer with room for `room` of them. *length becomes how many there are, at most 65,520
 ** bytes or 32,752 handles; GEOSVM_CUT_OFF where they don't fit, and then as many as fit are in the buffer.
 **
-** At each call stand its refusals. Those that look into a block may also be GEOSVM_MEMORY, and GEOSVM_FILE, GEOSVM_DAMAGED or
-** GEOSVM_CACHE_FULL where it has to be brought into memory; the lists may be GEOSVM_MEMORY.
+** At each call stand its refusals. Those that look into a block may also be GEOSVM_MEMORY, FILE or DAMAGED as an edit may, and
+** GEOSVM_CACHE_FULL where all that may be in memory are locked and it isn't one of them; geosvm_list may be GEOSVM_MEMORY.
 */
 
 /*
