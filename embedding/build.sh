@@ -1,11 +1,13 @@
 #!/bin/sh
 # Proves and builds the library, builds the examples, runs these in a folder of their own, and compares what they print with *.output
-# beside this script. With valgrind, where it is there, it also looks for leaks and bad accesses. `--keep` writes *.output.
+# beside this script. With valgrind, where it is there, it also looks for leaks and bad accesses, and with python3 it compares the
+# prototypes of geosvm.h with the exports. `--keep` writes *.output.
 # KIT is the folder of the Rattle kit, found by `rt doc` where it isn't set.
 set -e
 here=$(cd "$(dirname "$0")" && pwd)
 crate=$here/../crates/geos_c
 kit=${KIT:-$(dirname "$(rt doc)")}
+if command -v python3 > /dev/null; then python3 "$here/prototypes.py"; fi
 (cd "$crate" && rt lib)
 work=$(mktemp -d)
 trap 'rm -rf "$work"' EXIT

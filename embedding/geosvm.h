@@ -6,13 +6,13 @@
 **     geosvm_session s = GEOSVM_CLOSED;
 **     int fd = open("my.document", O_RDWR);
 **     if( flock(fd, LOCK_EX | LOCK_NB)==0 && geosvm_open(&s, fd, 64)==GEOSVM_OK ){
-**       geosvm_command(&s, (const uint8_t *)"newheap 7", 9, reply, sizeof reply, &length);
+**       geosvm_newheap(&s, 7, &block);
 **       geosvm_save(&s);
 **       geosvm_close(&s);
 **     }
 **
 ** There is no call to begin with, no thread, and no state outside of sessions that outlasts a call. What a document is, and what each
-** command does, docs/SCRIPT.md says; the calls below have the names of its commands. Edits are made by geosvm_command.
+** command does, docs/SCRIPT.md says; the calls below have the names of its commands.
 **
 ** WHAT THE CALLER OWES, which nothing checks:
 **
@@ -195,13 +195,183 @@ int32_t geosvm_locked_chunk(geosvm_session *s, uint16_t block, uint16_t chunk, c
 int32_t geosvm_locked_raw(geosvm_session *s, uint16_t block, const uint8_t **bytes, size_t *length);
 
 /*
-** CAPI: Bytes
+** CAPI: Edits
 **
-** Copies the bytes of a chunk, or of a raw block. *length becomes how many there are, at most 65,520; GEOSVM_CUT_OFF where they don't
-** fit, and then as many as fit are in the buffer. Where it is refused *length is 0.
+** An edit that is accepted is a step for geosvm_undo, or a part of the open group; one that is refused changes nothing. What docs/SCRIPT.md
+** says of the command with its name is so of the call. *block, *copy, *chunk or *token becomes what was made, 0 where the call answers
+** anything but GEOSVM_OK. Bytes are copied, so they may be freed or written after the call. Numbers may be as large as their types allow.
+**
+** At each call stand its refusals; the first that applies is answered. Any edit may be GEOSVM_MEMORY; GEOSVM_FILE where a block has to be
+** brought into memory, or another one out of it, and the file failed; and GEOSVM_DAMAGED where what was read of it is no block. What is
+** refused while blocks are locked stands in docs/SCRIPT.md under Locks.
 */
+
+/*
+** CAPI: Edits of blocks
+**
+** geosvm_newraw makes a raw block of `size` zeros, geosvm_newheap a block with an empty heap, geosvm_vcopy a block like another one.
+** geosvm_vwrite writes over the bytes of a raw block from `at` on, and geosvm_attach puts these in their place. geosvm_map makes a block
+** the map block; 0 leaves none.
+*/
+int32_t geosvm_newraw(geosvm_session *s, uint16_t user_id, uint32_t size, uint16_t *block); /* TOO_BIG, NO_HANDLES */
+int32_t geosvm_newheap(geosvm_session *s, uint16_t user_id, uint16_t *block);               /* NO_HANDLES */
+int32_t geosvm_vfree(geosvm_session *s, uint16_t block);                                    /* NO_BLOCK, IS_MAP */
+int32_t geosvm_vcopy(geosvm_session *s, uint16_t block, uint16_t *copy);                    /* NO_BLOCK, NO_HANDLES */
+int32_t geosvm_vwrite(geosvm_session *s, uint16_t block, uint32_t at, const uint8_t *bytes,
+                      size_t size);                                                         /* NO_BLOCK, WRONG_KIND, RANGE */
+int32_t geosvm_attach(geosvm_session *s, uint16_t block, const uint8_t *bytes, size_t size); /* NO_BLOCK, WRONG_KIND, TOO_BIG */
+int32_t geosvm_uid(geosvm_session *s, uint16_t block, uint16_t user_id);                    /* NO_BLOCK */
+int32_t geosvm_settype(geosvm_session *s, uint16_t block, uint16_t heap_type);              /* NO_BLOCK, WRONG_KIND */
+int32_t geosvm_map(geosvm_session *s, uint16_t block);                                      /* NO_BLOCK */
+
+/*
+** CAPI: Edits of chunks
+**
+** geosvm_alloc makes a chunk of `size` zeros. geosvm_resize cuts it at its end, or adds zeros there; geosvm_insert puts `size` zeros in
+** before the byte at `at`, geosvm_delete takes `size` bytes out from there on, and geosvm_write writes over those from there on. Each is
+** NO_BLOCK, WRONG_KIND, NO_CHUNK, and then what stands there; geosvm_alloc names no chunk.
+*/
+int32_t geosvm_alloc(geosvm_session *s, uint16_t block, uint32_t size, uint16_t *chunk);            /* FULL */
+int32_t geosvm_free(geosvm_session *s, uint16_t block, uint16_t chunk);
+int32_t geosvm_resize(geosvm_session *s, uint16_t block, uint16_t chunk, uint32_t size);            /* FULL */
+int32_t geosvm_insert(geosvm_session *s, uint16_t block, uint16_t chunk, uint32_t at, uint32_t size); /* RANGE, FULL */
+int32_t geosvm_delete(geosvm_session *s, uint16_t block, uint16_t chunk, uint32_t at, uint32_t size); /* RANGE */
+int32_t geosvm_write(geosvm_session *s, uint16_t block, uint16_t chunk, uint32_t at, const uint8_t *bytes,
+                     size_t size);                                                                  /* RANGE */
+
+/*
+** CAPI: Edits of chunk arrays
+**
+** geosvm_acreate makes a chunk with an array of elements of `size` bytes each, 0 for any sizes, and `extra` zeros as extra bytes. Elements
+** have numbers, from 0 on. geosvm_ainsert makes these bytes one before element `i`, geosvm_aset gives it these in place of its own,
+** geosvm_aresize cuts it at its end or adds zeros there, geosvm_adelete deletes `count` of them from there on, and geosvm_azero all. Each
+** is NO_BLOCK, WRONG_KIND, NO_CHUNK, NOT_ARRAY, then what stands there, and at last FULL; geosvm_acreate names no chunk.
+*/
+int32_t geosvm_acreate(geosvm_session *s, uint16_t block, uint32_t size, uint32_t extra, uint16_t *chunk); /* RANGE */
+int32_t geosvm_ainsert(geosvm_session *s, uint16_t block, uint16_t chunk, uint32_t i, const uint8_t *bytes,
+                       size_t size);                                                                /* RANGE */
+int32_t geosvm_aset(geosvm_session *s, uint16_t block, uint16_t chunk, uint32_t i, const uint8_t *bytes,
+                    size_t size);                                                                   /* NO_ELEMENT, RANGE */
+int32_t geosvm_aresize(geosvm_session *s, uint16_t block, uint16_t chunk, uint32_t i, uint32_t size); /* NO_ELEMENT, RANGE */
+int32_t geosvm_adelete(geosvm_session *s, uint16_t block, uint16_t chunk, uint32_t i, uint32_t count); /* NO_ELEMENT */
+int32_t geosvm_azero(geosvm_session *s, uint16_t block, uint16_t chunk);
+
+/*
+** CAPI: Edits of element arrays
+**
+** geosvm_ecreate makes a chunk with an element array of data of `size` bytes, 0 for any sizes. geosvm_eadd gives the element with these
+** bytes one more reference, or makes it; *token becomes its token either way. geosvm_eref and geosvm_eunref make it one reference more or
+** less, which frees it with the last one; geosvm_edelete frees it, and geosvm_echange gives it these bytes. Refused as edits of chunk
+** arrays are.
+*/
+int32_t geosvm_ecreate(geosvm_session *s, uint16_t block, uint32_t size, uint16_t *chunk);          /* RANGE */
+int32_t geosvm_eadd(geosvm_session *s, uint16_t block, uint16_t chunk, const uint8_t *bytes, size_t size,
+                    uint16_t *token);                                                               /* COUNT_FULL, RANGE */
+int32_t geosvm_eref(geosvm_session *s, uint16_t block, uint16_t chunk, uint16_t token);             /* NO_ELEMENT, COUNT_FULL */
+int32_t geosvm_eunref(geosvm_session *s, uint16_t block, uint16_t chunk, uint16_t token);           /* NO_ELEMENT */
+int32_t geosvm_edelete(geosvm_session *s, uint16_t block, uint16_t chunk, uint16_t token);          /* NO_ELEMENT */
+int32_t geosvm_echange(geosvm_session *s, uint16_t block, uint16_t chunk, uint16_t token, const uint8_t *bytes,
+                       size_t size);                                                                /* NO_ELEMENT, RANGE */
+
+/*
+** CAPI: Edits of name arrays
+**
+** geosvm_ncreate makes a chunk with a name array of parts of `size` bytes. geosvm_nadd gives a name that is there one more reference, and
+** this part where `sets`, or makes it with this part. geosvm_nname gives a token another name, and geosvm_nunref takes a reference, and
+** frees the name with the last one. Refused as edits of chunk arrays are.
+*/
+int32_t geosvm_ncreate(geosvm_session *s, uint16_t block, uint32_t size, uint16_t *chunk);          /* RANGE */
+int32_t geosvm_nadd(geosvm_session *s, uint16_t block, uint16_t chunk, const uint8_t *name, size_t size, const uint8_t *part,
+                    size_t part_size, bool sets, uint16_t *token);                                  /* COUNT_FULL, RANGE */
+int32_t geosvm_nname(geosvm_session *s, uint16_t block, uint16_t chunk, uint16_t token, const uint8_t *name,
+                     size_t size);                                                                  /* NO_ELEMENT, NAME_IN_USE, RANGE */
+int32_t geosvm_nunref(geosvm_session *s, uint16_t block, uint16_t chunk, uint16_t token);           /* NO_ELEMENT */
+
+/*
+** CAPI: Edits of chains
+**
+** geosvm_chcopy copies each block of the chain that begins at `block`; *copy becomes the root's copy. geosvm_chfree frees them all.
+*/
+int32_t geosvm_chcopy(geosvm_session *s, uint16_t block, uint16_t *copy); /* NO_BLOCK, WRONG_KIND, BAD_CHAIN, NO_HANDLES */
+int32_t geosvm_chfree(geosvm_session *s, uint16_t block);                 /* NO_BLOCK, WRONG_KIND, BAD_CHAIN, IS_MAP */
+
+/*
+** CAPI: Look-ups
+**
+** None changes the document or what can be undone. Where one answers anything but GEOSVM_OK or GEOSVM_CUT_OFF the values that it hands
+** out are 0, and nothing is put into its buffer.
+**
+** Bytes and lists of handles are copied into a buffer with room for `room` of them. *length becomes how many there are, at most 65,520
+** bytes or 32,752 handles; GEOSVM_CUT_OFF where they don't fit, and then as many as fit are in the buffer.
+**
+** At each call stand its refusals. Those that look into a block may also be GEOSVM_MEMORY, FILE or DAMAGED as an edit may, and
+** GEOSVM_CACHE_FULL where all that may be in memory are locked and it isn't one of them; geosvm_list may be GEOSVM_MEMORY.
+*/
+
+/*
+** CAPI: Look-ups of blocks
+**
+** geosvm_info tells whether a block is a heap, which is 1, or a raw block, 0; its user ID; and the bytes that the heap needs, or that the
+** raw block has. geosvm_list has all blocks, rising. geosvm_find has the least handle above `start` with this user ID, 0 where there is
+** none, and geosvm_mapblock the map block, 0 where there is none. geosvm_vread copies the bytes of a raw block.
+*/
+int32_t geosvm_info(geosvm_session *s, uint16_t block, uint8_t *is_heap, uint16_t *user_id, uint32_t *size); /* NO_BLOCK */
+int32_t geosvm_gettype(geosvm_session *s, uint16_t block, uint16_t *heap_type);                     /* NO_BLOCK, WRONG_KIND */
+int32_t geosvm_list(geosvm_session *s, uint16_t *blocks, size_t room, size_t *length);
+int32_t geosvm_find(geosvm_session *s, uint16_t user_id, uint16_t start, uint16_t *block);
+int32_t geosvm_mapblock(geosvm_session *s, uint16_t *block);
+int32_t geosvm_vread(geosvm_session *s, uint16_t block, uint8_t *buffer, size_t room, size_t *length); /* NO_BLOCK, WRONG_KIND */
+
+/*
+** CAPI: Look-ups of chunks
+**
+** geosvm_chunks has the chunks of a heap, rising, and geosvm_read the bytes of one. NO_BLOCK, WRONG_KIND; geosvm_read also NO_CHUNK.
+*/
+int32_t geosvm_chunks(geosvm_session *s, uint16_t block, uint16_t *chunks, size_t room, size_t *length);
 int32_t geosvm_read(geosvm_session *s, uint16_t block, uint16_t chunk, uint8_t *buffer, size_t room, size_t *length);
-int32_t geosvm_vread(geosvm_session *s, uint16_t block, uint8_t *buffer, size_t room, size_t *length);
+
+/*
+** CAPI: Look-ups of arrays
+**
+** The first two are of arrays of any kind: how many elements there are, and the bytes of one. Of an element array: how many references an
+** element has, its bytes, how many elements are used, the token of a used one by its number from 0 on, and how many used tokens are lower.
+** Of a name array: the token of a name, the lowest that has it, how many references a name has, the name of a token, and its part. Each is
+** NO_BLOCK, WRONG_KIND, NO_CHUNK, NOT_ARRAY, and then what stands there.
+*/
+int32_t geosvm_acount(geosvm_session *s, uint16_t block, uint16_t chunk, size_t *count);
+int32_t geosvm_aget(geosvm_session *s, uint16_t block, uint16_t chunk, uint32_t i, uint8_t *buffer, size_t room,
+                    size_t *length);                                                                /* NO_ELEMENT */
+int32_t geosvm_ecount(geosvm_session *s, uint16_t block, uint16_t chunk, uint16_t token, size_t *count); /* NO_ELEMENT */
+int32_t geosvm_edata(geosvm_session *s, uint16_t block, uint16_t chunk, uint16_t token, uint8_t *buffer, size_t room,
+                     size_t *length);                                                               /* NO_ELEMENT */
+int32_t geosvm_eused(geosvm_session *s, uint16_t block, uint16_t chunk, size_t *count);
+int32_t geosvm_etoken(geosvm_session *s, uint16_t block, uint16_t chunk, uint32_t k, uint16_t *token); /* NO_ELEMENT */
+int32_t geosvm_eindex(geosvm_session *s, uint16_t block, uint16_t chunk, uint16_t token, size_t *index); /* NO_ELEMENT */
+int32_t geosvm_nfind(geosvm_session *s, uint16_t block, uint16_t chunk, const uint8_t *name, size_t size,
+                     uint16_t *token);                                                              /* NO_NAME */
+int32_t geosvm_ncount(geosvm_session *s, uint16_t block, uint16_t chunk, uint16_t token, size_t *count); /* NO_ELEMENT */
+int32_t geosvm_ntext(geosvm_session *s, uint16_t block, uint16_t chunk, uint16_t token, uint8_t *buffer, size_t room,
+                     size_t *length);                                                               /* NO_ELEMENT */
+int32_t geosvm_ndata(geosvm_session *s, uint16_t block, uint16_t chunk, uint16_t token, uint8_t *buffer, size_t room,
+                     size_t *length);                                                               /* NO_ELEMENT */
+
+/*
+** CAPI: Look-ups of chains
+**
+** geosvm_walk has the blocks of a chain, each before those that it links to, branches in order, and geosvm_chsize how many bytes they have
+** together. *equal becomes 1 where two chains are equal but for handles and user IDs. NO_BLOCK, WRONG_KIND, BAD_CHAIN.
+*/
+int32_t geosvm_walk(geosvm_session *s, uint16_t block, uint16_t *blocks, size_t room, size_t *length);
+int32_t geosvm_chsize(geosvm_session *s, uint16_t block, size_t *size);
+int32_t geosvm_chequal(geosvm_session *s, uint16_t block, uint16_t other, uint8_t *equal);
+
+/*
+** CAPI: Steps
+**
+** How many steps can be undone, and redone. The open group is none yet.
+*/
+int32_t geosvm_undos(geosvm_session *s, size_t *count);
+int32_t geosvm_redos(geosvm_session *s, size_t *count);
 
 /*
 ** CAPI: Files of the program's own

@@ -194,6 +194,144 @@ static void refusals(geosvm_session *s, int fd) {
   TELL(geosvm_fault_name(30, reply, sizeof reply, &n));
 }
 
+#define GIVES(call, value) (printf("%-26s %s\n", #call, name_of(call)), printf("  gives %zu\n", (size_t)(value)))
+#define TEXT(text) (const uint8_t *)text, sizeof text - 1
+
+static void show_bytes(const uint8_t *bytes, size_t n) {
+  printf("  gives");
+  for (size_t i = 0; i < n; i++) printf(" %02x", bytes[i]);
+  puts("");
+}
+static void show_handles(const uint16_t *handles, size_t n) {
+  printf("  gives");
+  for (size_t i = 0; i < n; i++) printf(" %04x", handles[i]);
+  puts("");
+}
+
+static void named_blocks(geosvm_session *s) {
+  uint8_t bytes[16], is_heap = 77;
+  uint16_t block = 77, chunk = 77, user_id = 77, heap_type = 77, list[8];
+  uint32_t size = 77;
+  size_t n = 77;
+  puts("-- blocks and chunks, by name");
+  GIVES(geosvm_newheap(s, 7, &block), block);
+  GIVES(geosvm_newraw(s, 9, 4, &block), block);
+  GIVES(geosvm_newraw(s, 9, 65521, &block), block);
+  GIVES(geosvm_alloc(s, 1, 3, &chunk), chunk);
+  TELL(geosvm_write(s, 1, 16, 0, TEXT("abc")));
+  TELL(geosvm_insert(s, 1, 16, 1, 2));
+  TELL(geosvm_delete(s, 1, 16, 0, 1));
+  TELL(geosvm_read(s, 1, 16, bytes, sizeof bytes, &n));
+  show_bytes(bytes, n);
+  TELL(geosvm_resize(s, 1, 16, 3));
+  GIVES(geosvm_alloc(s, 1, 65520, &chunk), chunk);
+  TELL(geosvm_info(s, 1, &is_heap, &user_id, &size));
+  printf("  gives %u: user ID %u, %u bytes\n", is_heap, user_id, size);
+  TELL(geosvm_vwrite(s, 2, 2, TEXT("xyz")));
+  TELL(geosvm_vwrite(s, 2, 2, TEXT("yz")));
+  TELL(geosvm_vread(s, 2, bytes, sizeof bytes, &n));
+  show_bytes(bytes, n);
+  TELL(geosvm_attach(s, 2, TEXT("\0\0end")));
+  TELL(geosvm_info(s, 2, &is_heap, &user_id, &size));
+  printf("  gives %u: user ID %u, %u bytes\n", is_heap, user_id, size);
+  TELL(geosvm_info(s, 9, &is_heap, &user_id, &size));
+  printf("  gives %u: user ID %u, %u bytes\n", is_heap, user_id, size);
+  TELL(geosvm_settype(s, 1, 300));
+  GIVES(geosvm_gettype(s, 1, &heap_type), heap_type);
+  TELL(geosvm_map(s, 1));
+  GIVES(geosvm_mapblock(s, &block), block);
+  TELL(geosvm_vfree(s, 1));
+  GIVES(geosvm_vcopy(s, 2, &block), block);
+  TELL(geosvm_uid(s, 3, 8));
+  GIVES(geosvm_find(s, 8, 0, &block), block);
+  GIVES(geosvm_find(s, 8, 3, &block), block);
+  TELL(geosvm_list(s, list, 8, &n));
+  show_handles(list, n);
+  TELL(geosvm_list(s, list, 2, &n));
+  printf("%zu blocks, of which 2 fit\n", n);
+  show_handles(list, 2);
+}
+
+static void named_arrays(geosvm_session *s) {
+  uint8_t bytes[16];
+  uint16_t chunk = 77, token = 77, list[8];
+  size_t n = 77;
+  puts("-- arrays, by name");
+  GIVES(geosvm_acreate(s, 1, 2, 0, &chunk), chunk);
+  TELL(geosvm_ainsert(s, 1, 18, 0, TEXT("hi")));
+  TELL(geosvm_ainsert(s, 1, 18, 0, TEXT("yo")));
+  TELL(geosvm_aset(s, 1, 18, 1, TEXT("ho")));
+  GIVES(geosvm_acount(s, 1, 18, &n), n);
+  TELL(geosvm_aget(s, 1, 18, 1, bytes, sizeof bytes, &n));
+  show_bytes(bytes, n);
+  TELL(geosvm_aget(s, 1, 18, 2, bytes, sizeof bytes, &n));
+  show_bytes(bytes, n);
+  TELL(geosvm_adelete(s, 1, 18, 0, 1));
+  TELL(geosvm_aresize(s, 1, 18, 0, 3));
+  TELL(geosvm_azero(s, 1, 18));
+  GIVES(geosvm_acount(s, 1, 18, &n), n);
+  GIVES(geosvm_ecreate(s, 1, 0, &chunk), chunk);
+  GIVES(geosvm_eadd(s, 1, 20, TEXT("pen"), &token), token);
+  GIVES(geosvm_eadd(s, 1, 20, TEXT("ink"), &token), token);
+  GIVES(geosvm_eadd(s, 1, 20, TEXT("pen"), &token), token);
+  TELL(geosvm_eref(s, 1, 20, 0));
+  TELL(geosvm_eref(s, 1, 20, 9));
+  GIVES(geosvm_ecount(s, 1, 20, 0, &n), n);
+  TELL(geosvm_eunref(s, 1, 20, 1));
+  GIVES(geosvm_eused(s, 1, 20, &n), n);
+  GIVES(geosvm_eadd(s, 1, 20, TEXT("cap"), &token), token);
+  TELL(geosvm_echange(s, 1, 20, 1, TEXT("cup")));
+  TELL(geosvm_edata(s, 1, 20, 1, bytes, sizeof bytes, &n));
+  show_bytes(bytes, n);
+  TELL(geosvm_edelete(s, 1, 20, 0));
+  GIVES(geosvm_etoken(s, 1, 20, 0, &token), token);
+  GIVES(geosvm_eindex(s, 1, 20, 1, &n), n);
+  GIVES(geosvm_ncreate(s, 1, 1, &chunk), chunk);
+  GIVES(geosvm_nadd(s, 1, 22, TEXT("left"), TEXT("\1"), false, &token), token);
+  GIVES(geosvm_nadd(s, 1, 22, TEXT("left"), TEXT("\2"), true, &token), token);
+  GIVES(geosvm_nadd(s, 1, 22, TEXT("right"), TEXT("12"), true, &token), token);
+  GIVES(geosvm_ncount(s, 1, 22, 0, &n), n);
+  TELL(geosvm_ndata(s, 1, 22, 0, bytes, sizeof bytes, &n));
+  show_bytes(bytes, n);
+  TELL(geosvm_nname(s, 1, 22, 0, TEXT("right")));
+  GIVES(geosvm_nfind(s, 1, 22, TEXT("right"), &token), token);
+  GIVES(geosvm_nfind(s, 1, 22, TEXT("left"), &token), token);
+  TELL(geosvm_ntext(s, 1, 22, 0, bytes, 3, &n));
+  printf("%zu bytes, of which 3 fit\n", n);
+  show_bytes(bytes, 3);
+  TELL(geosvm_nunref(s, 1, 22, 0));
+  TELL(geosvm_free(s, 1, 16));
+  TELL(geosvm_chunks(s, 1, list, 8, &n));
+  show_handles(list, n);
+}
+
+static void named_chains(geosvm_session *s) {
+  uint16_t block = 77, list[8] = {77};
+  uint8_t equal = 77;
+  size_t n = 77;
+  puts("-- chains, by name");
+  TELL(geosvm_vwrite(s, 2, 0, TEXT("\3\0")));
+  TELL(geosvm_walk(s, 2, list, 8, &n));
+  show_handles(list, n);
+  GIVES(geosvm_chsize(s, 2, &n), n);
+  GIVES(geosvm_chcopy(s, 2, &block), block);
+  GIVES(geosvm_chequal(s, 2, 4, &equal), equal);
+  GIVES(geosvm_chequal(s, 2, 3, &equal), equal);
+  GIVES(geosvm_chequal(s, 2, 1, &equal), equal);
+  TELL(geosvm_chfree(s, 4));
+  TELL(geosvm_walk(s, 4, list, 8, &n));
+  printf("%zu blocks\n", n);
+  GIVES(geosvm_undos(s, &n), n);
+  TELL(geosvm_undo(s));
+  GIVES(geosvm_redos(s, &n), n);
+  TELL(geosvm_close(s));
+  GIVES(geosvm_newheap(s, 7, &block), block);
+  TELL(geosvm_vwrite(s, 2, 0, TEXT("xyz")));
+  GIVES(geosvm_undos(s, &n), n);
+  TELL(geosvm_list(s, list, 8, &n));
+  printf("%zu blocks\n", n);
+}
+
 /* The longest reply is that of a whole raw block. */
 static void longest(geosvm_session *s) {
   static uint8_t reply[GEOSVM_REPLY_MOST];
@@ -251,6 +389,10 @@ int main(void) {
   s = (geosvm_session)GEOSVM_CLOSED;
   TELL(geosvm_close(&moved));
   TELL(geosvm_close(&moved));
+  TELL(geosvm_create(&s, fd, 8));
+  named_blocks(&s);
+  named_arrays(&s);
+  named_chains(&s);
   pthread_t thread[4];
   long bad = 0;
   void *result;

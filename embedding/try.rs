@@ -15,6 +15,8 @@ unsafe extern "C" {
     fn geosvm_create(s: *mut Raw, number: i32, frames: usize) -> i32;
     fn geosvm_close(s: *mut Raw) -> i32;
     fn geosvm_command(s: *mut Raw, line: *const u8, size: usize, reply: *mut u8, room: usize, length: *mut usize) -> i32;
+    fn geosvm_newraw(s: *mut Raw, user_id: u16, size: u32, block: *mut u16) -> i32;
+    fn geosvm_vwrite(s: *mut Raw, block: u16, at: u32, bytes: *const u8, size: usize) -> i32;
     fn geosvm_undo(s: *mut Raw) -> i32;
     fn geosvm_save(s: *mut Raw) -> i32;
     fn geosvm_fault_name(code: i32, name: *mut u8, room: usize, length: *mut usize) -> i32;
@@ -65,6 +67,16 @@ impl Session {
         Ok(String::from_utf8_lossy(&reply).trim_end().to_string())
     }
 
+    fn new_raw(&mut self, user_id: u16, size: u32) -> Result<u16, Code> {
+        let mut block = 0;
+        result(unsafe { geosvm_newraw(&mut self.raw, user_id, size, &mut block) })?;
+        Ok(block)
+    }
+
+    fn write_raw(&mut self, block: u16, at: u32, bytes: &[u8]) -> Result<(), Code> {
+        result(unsafe { geosvm_vwrite(&mut self.raw, block, at, bytes.as_ptr(), bytes.len()) })
+    }
+
     fn undo(&mut self) -> Result<(), Code> {
         result(unsafe { geosvm_undo(&mut self.raw) })
     }
@@ -83,9 +95,9 @@ impl Drop for Session {
 fn main() {
     let mut all: Vec<Session> = (0..20).map(|i| Session::on(&format!("rs-{i}.document"), true).unwrap()).collect();
     for (i, s) in all.iter_mut().enumerate() {
-        s.command("newraw 1 2").unwrap();
-        s.command(&format!("vwrite 0001 0 {i:04x}")).unwrap();
-        s.command("vwrite 0001 0 ffff").unwrap();
+        let block = s.new_raw(1, 2).unwrap();
+        s.write_raw(block, 0, &(i as u16).to_be_bytes()).unwrap();
+        s.write_raw(block, 0, &[0xff, 0xff]).unwrap();
     }
     println!("in use: {:?}", Session::on("rs-17.document", false).err());
     for s in &mut all {

@@ -1,9 +1,10 @@
 -- What a call on a handle comes to, from what was taken from it, what was done with that, and what was put back.
 use Rattle.std.proofs.Common.{◌≡◌, ◌≤◌, ℕ, ℤ, List, Result, true, false, sym, subst, ap, ◌∙◌, arith, inl, inr}
+use Rattle.geos_model.specs.declared.command.Edit.{Edit}
 use Rattle.geos_model.specs.declared.fault.Fault.{Fault}
 use Rattle.undo_log.specs.Sessions.{SessionState}
 use Rattle.geos_c.specs.Codes.{Tells}
-use Rattle.geos_c.specs.Handles.{Begins, Begun, HandsOutOnHandle, IsBegun, OnHandle}
+use Rattle.geos_c.specs.Handles.{Begins, Begun, EditsOnHandle, HandsOutOnHandle, IsBegun, MakesOnHandle, OnHandle, TellsOnHandle}
 use Rattle.geos_c.specs.Stores.{FileStore, store_on}
 use Rattle.geos_c.specs.declared.handle.Handle.{Handle}
 use Rattle.geos_c.specs.declared.kept.Kept.{Kept}
@@ -43,6 +44,24 @@ module _ (old new : Handle) (kept lent : Kept) (after : SessionState FileStore) 
         (subst (λ (s : SessionState FileStore). does s after buffer filled count code) before_is did));
     closed = not_closed;
   }
+
+  pub tells : (does : SessionState FileStore → SessionState FileStore → ℤ → Type 0) (nothing : Type 0)
+      → does lent.session after code → TellsOnHandle does nothing old new told
+  tells does nothing did = record {
+    same = still_open;
+    told = λ is_open. subst (λ (n : ℤ). does old.kept.session new.kept.session n) (sym code_is)
+        (subst (λ (s : SessionState FileStore). does old.kept.session s code) (sym after_is)
+        (subst (λ (s : SessionState FileStore). does s after code) before_is did));
+    closed = not_closed;
+  }
+
+-- what an edit made need not be told
+pub edits : (edit : Edit) (made : ℕ) (old new : Handle) (code : ℤ) → MakesOnHandle edit made old new code → EditsOnHandle edit old new code
+edits edit made old new code did = record {
+  same = did.same;
+  told = λ is_open. let told = did.told is_open in (told.0, told.1, told.2.0);
+  closed = λ is_closed. (did.closed is_closed).0;
+}
 
 -- there was none, and one was begun
 pub begins : (is : FileStore → ℕ → Begun → Type 0) (number : ℤ) (frames : ℕ) (old seen new : Handle) (begun : Begun) (code told : ℤ)

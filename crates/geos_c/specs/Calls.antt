@@ -1,11 +1,12 @@
 -- What calls of a session do, over any store, by what they are answered.
-use Rattle.std.specs.Prelude.{◌≡◌, ◌⊎◌, ◌||◌, ℕ, ℤ, Bool, true, false, IsTrue, List, [], Some, Result, OnOk, OnErr, IfErr, MatchResult}
+use Rattle.std.specs.Prelude.{◌≡◌, ◌⊎◌, ◌||◌, ℕ, Bool, true, false, IsTrue, [], Some, Result, OnOk, OnErr, IfErr, MatchResult}
 use Rattle.std.specs.Result.{result_unwrap_or}
 use Rattle.geos_model.specs.Machine.{Step}
 use Rattle.geos_model.specs.Reply.{Reply, Accepted, Refused, NumberIs, reply_by}
 use Rattle.geos_model.specs.declared.command.Command.{Command}
 use Rattle.geos_model.specs.declared.command.Command.TheVariants as commands
 use Rattle.geos_model.specs.declared.handle.ChunkHandle.{ChunkHandle}
+use Rattle.geos_model.specs.declared.handle.Token.{Token}
 use Rattle.geos_model.specs.declared.handle.VmHandle.{VmHandle}
 use Rattle.geos_model.specs.declared.fault.Fault.{Fault}
 use Rattle.geos_model.specs.declared.fault.Fault.TheVariants.{NothingToUndo, NothingToRedo}
@@ -16,9 +17,8 @@ use Rattle.vm_blocks.specs.Committing.{IsSavedAs}
 use Rattle.vm_blocks.specs.Locking.{GainsLock, LosesLock}
 use Rattle.undo_log.specs.Committing.{IsBusy, IsSaveAsRefused, IsSessionCommit}
 use Rattle.undo_log.specs.Logging.{empty_log, with_group_closed}
-use Rattle.undo_log.specs.Sessions.{SessionState, AnswersLookUp, IsExact, IsStep, KeepsSession, cache_of, failed_since, file_of, machine_of}
+use Rattle.undo_log.specs.Sessions.{SessionState, IsExact, IsStep, KeepsSession, cache_of, failed_since, file_of, machine_of}
 use Rattle.undo_log.specs.Turning.{Abandons, IsNotAbandoned, IsRefusedUndoOrRedo, MovesEntry}
-use Rattle.geos_c.specs.Codes.{HandsOutReply}
 
 abbrev pub Answer : Type 0
 Answer = Result (Unit {0}) Fault
@@ -113,6 +113,9 @@ vm n = record { 0 = n }
 abbrev pub chunk : ℕ → ChunkHandle
 chunk n = record { 0 = n }
 
+abbrev pub token : ℕ → Token
+token n = record { 0 = n }
+
 abbrev pub LocksBlock : {S : Type 0} → (S → StoreFacts) → ℕ → SessionState S → SessionState S → Answer → Type 0
 LocksBlock facts block old new answer = Steps facts (commands.Lock (vm block)) old new answer
     × OnOk answer (GainsLock facts block (cache_of old) (cache_of new))
@@ -131,10 +134,3 @@ Dirties block old new answer = AlwaysSteps (commands.Dirty (vm block)) old new (
 abbrev pub CountsLocks : {S : Type 0} → ℕ → ℕ → SessionState S → SessionState S → Result ℕ Fault → Type 0
 CountsLocks block count old new answer = AlwaysSteps (commands.Locks (vm block)) old new (reply_by NumberIs answer) × (new ≡ old)
     × (count ≡ result_unwrap_or answer 0)
-
--- Bytes.
-
--- The bytes that a look-up answers are handed out, or it is refused, and the session stays.
-abbrev pub ReadsBytes : {S : Type 0} → (S → StoreFacts) → Command → SessionState S → SessionState S → List ℕ → List ℕ → ℕ → ℤ → Type 0
-ReadsBytes facts command old new before after count code =
-    (reply : Reply) × AnswersLookUp facts old new command reply × HandsOutReply reply before after count code

@@ -1,8 +1,11 @@
 pub mod Calls
 pub mod Codes
+pub mod Edits
 pub mod Handles
 pub mod Lending
 pub mod Lines
+pub mod LookUps
 pub mod Messages
 pub mod Owning
 pub mod Stores
+pub mod Telling

@@ -1,11 +1,11 @@
 //! Calls on a session over any store, answered by codes.
 ghost use Rattle.std.specs.Prelude.{◌≡◌};
-ghost use Rattle.geos_model.specs.declared.command.Command.TheVariants as commands;
-ghost use Rattle.geos_c.specs.Calls.{AbandonsGroup, BeginsGroup, CountsLocks, Dirties, EndsGroup, LocksBlock, ReadsBytes, Redoes, Reverts, Saves, SavesAs, Undoes, UnlocksBlock, Updates, chunk as chunk_of, vm};
+ghost use Rattle.geos_c.specs.Calls.{AbandonsGroup, BeginsGroup, CountsLocks, Dirties, EndsGroup, LocksBlock, Redoes, Reverts, Saves, SavesAs, Undoes, UnlocksBlock, Updates};
 ghost use Rattle.geos_c.specs.Codes.{Tells};
+ghost use Rattle.geos_c.specs.Edits.{Makes, number_of as number_done};
 
-use crate::codes::{code_of, hand_out_answer};
-use geos_model::{ChunkHandle, VmHandle};
+use crate::codes::code_of;
+use geos_model::{Done, Edit, VmHandle};
 use undo_log::Session;
 use vm_store::Store;
 
@@ -115,33 +115,29 @@ pub(crate) fn locks<S: Store>(session: &mut Session<S>, block: u16, count: &mut 
     }
 }
 
-/// Hands out the bytes of a chunk.
-pub(crate) fn read<S: Store>(
-    session: &mut Session<S>,
-    block: u16,
-    chunk: u16,
-    buffer: &mut [u8],
-    length: &mut usize,
-) -> i32
-    ensures { ReadsBytes S.facts (commands.Read (vm block) (chunk_of chunk)) session.old session.new
-        buffer.old buffer.new length.new result }
+/// Makes an edit, and hands out what it made, 0 where it makes nothing or is refused.
+pub(crate) fn edit<S: Store>(session: &mut Session<S>, edit: &Edit, made: &mut u16) -> i32
+    ensures { Tells (Makes S.facts edit.now made.new session.old session.new) result }
 {
-    hand_out_answer(
-        session.read_chunk(VmHandle(block), ChunkHandle(chunk)),
-        buffer,
-        length,
-    )
+    match session.edit(edit) {
+        Ok(done) => {
+            *made = number_of(done);
+            0
+        }
+        Err(fault) => {
+            *made = 0;
+            i32::from(fault.number())
+        }
+    }
 }
 
-/// Hands out the bytes of a raw block.
-pub(crate) fn read_raw<S: Store>(
-    session: &mut Session<S>,
-    block: u16,
-    buffer: &mut [u8],
-    length: &mut usize,
-) -> i32
-    ensures { ReadsBytes S.facts (commands.ReadRaw (vm block)) session.old session.new
-        buffer.old buffer.new length.new result }
+fn number_of(done: Done) -> u16
+    ensures { result ≡ number_done done }
 {
-    hand_out_answer(session.read_raw(VmHandle(block)), buffer, length)
+    match done {
+        Done::Nothing => 0,
+        Done::Block(block) => block.0,
+        Done::Chunk(chunk) => chunk.0,
+        Done::Token(token) => token.0,
+    }
 }

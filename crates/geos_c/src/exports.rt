@@ -1,15 +1,14 @@
 //! What C calls. Each call answers 0, the number of a fault of the document, 1 to 29, or a code of its own from 100 on.
 ghost use Rattle.std.specs.Prelude.{◌≡◌, if◌then◌else◌, pos, true, false};
-ghost use Rattle.geos_model.specs.declared.command.Command.TheVariants as commands;
-ghost use Rattle.geos_c.specs.Calls.{AbandonsGroup, BeginsGroup, CountsLocks, Dirties, EndsGroup, LocksBlock, ReadsBytes, Redoes, Reverts, Saves, SavesAs, Undoes, UnlocksBlock, Updates, chunk as chunk_of, vm};
+ghost use Rattle.geos_c.specs.Calls.{AbandonsGroup, BeginsGroup, CountsLocks, Dirties, EndsGroup, LocksBlock, Redoes, Reverts, Saves, SavesAs, Undoes, UnlocksBlock, Updates};
 ghost use Rattle.geos_c.specs.Codes.{IsNamed, not_open};
 ghost use Rattle.geos_c.specs.Handles.{Begins, IsBegun, IsCreation, IsOpening, HandsOutOnHandle, OnHandle};
 ghost use Rattle.geos_c.specs.Lines.{AnswersLine};
 ghost use Rattle.geos_c.specs.Stores.{facts, store_on};
 
 use crate::calls::{
-    abandon, begin as begin_group, dirty, end, lock, locks, read, read_raw, redo, revert, save,
-    save_as, undo, unlock, update,
+    abandon, begin as begin_group, dirty, end, lock, locks, redo, revert, save, save_as, undo,
+    unlock, update,
 };
 use crate::channel::{ChannelFile, store};
 use crate::codes::{BAD_ARGUMENT, NOT_OPEN, OPEN_ALREADY, fault_name};
@@ -40,7 +39,9 @@ macro_rules! answer {
     };
 }
 
+mod edits;
 mod lending;
+mod look_ups;
 
 // Puts a session that was begun behind a handle.
 fn begin(
@@ -239,45 +240,4 @@ pub extern "C" fn geosvm_locks(
 {
     *count = 0;
     answer!(handle, alloc, |session| locks(session, block, count))
-}
-
-/// Copies the bytes of a chunk. `length` becomes how many it has; as many as fit lie in the buffer.
-#[unsafe(no_mangle)]
-pub extern "C" fn geosvm_read(
-    handle: &mut Handle,
-    alloc: Global,
-    block: u16,
-    chunk: u16,
-    buffer: &mut [u8],
-    length: &mut usize,
-) -> i32
-    ensures { HandsOutOnHandle (ReadsBytes facts (commands.Read (vm block) (chunk_of chunk)))
-        handle.old handle.new buffer.old buffer.new length.new result }
-{
-    *length = 0;
-    answer!(
-        handle,
-        alloc,
-        |session| read(session, block, chunk, buffer, length)
-    )
-}
-
-/// Copies the bytes of a raw block.
-#[unsafe(no_mangle)]
-pub extern "C" fn geosvm_vread(
-    handle: &mut Handle,
-    alloc: Global,
-    block: u16,
-    buffer: &mut [u8],
-    length: &mut usize,
-) -> i32
-    ensures { HandsOutOnHandle (ReadsBytes facts (commands.ReadRaw (vm block)))
-        handle.old handle.new buffer.old buffer.new length.new result }
-{
-    *length = 0;
-    answer!(
-        handle,
-        alloc,
-        |session| read_raw(session, block, buffer, length)
-    )
 }

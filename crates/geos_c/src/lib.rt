@@ -4,10 +4,13 @@
 mod calls;
 mod channel;
 mod codes;
+mod copying;
 mod exports;
 mod handle;
 mod kept;
 mod lending;
 mod line;
+mod look_ups;
 mod loose;
 mod message;
+mod telling;

@@ -1,0 +1,46 @@
+"""Compares the prototypes of geosvm.h with the exports of crates/geos_c: the same names, and the same parameters in the same order.
+No proof reads C, and a program that is compiled by a wrong prototype links all the same. Run it anywhere; build.sh does."""
+import re
+import sys
+from pathlib import Path
+
+HERE = Path(__file__).resolve().parent
+# What C passes for a parameter. A slice is a pointer and a size, whose name is C's own; the allocator is nothing.
+IN_C = {
+    "&mut Handle": ["geosvm_session *"], "Global": [], "bool": ["bool"], "i32": ["int32_t"],
+    "u16": ["uint16_t"], "u32": ["uint32_t"], "usize": ["size_t"],
+    "&mut u8": ["uint8_t *"], "&mut u16": ["uint16_t *"], "&mut u32": ["uint32_t *"], "&mut usize": ["size_t *"],
+    "&mut *const u8": ["const uint8_t **"],
+    "&[u8]": ["const uint8_t *", "size_t"], "&mut [u8]": ["uint8_t *", "size_t"], "&mut [u16]": ["uint16_t *", "size_t"],
+}
+
+
+def declared(header):
+    """The parameters of each prototype, as pairs of a type and a name. Those of files are the program's, not exports."""
+    text = re.sub(r"/\*.*?\*/", "", header, flags=re.S)
+    found = re.findall(r"int32_t\s+(geosvm_(?!io_)\w+)\s*\(([^)]*)\)\s*;", text)
+    return {name: re.findall(r"\s*([^,]*?)(\w+)\s*(?:,|$)", parameters) for name, parameters in found}
+
+
+def exported(source):
+    """The same of each export, where a name that is C's own is None."""
+    exports = {}
+    for name, parameters in re.findall(r'pub extern "C" fn (geosvm_\w+)\((.*?)\) -> i32', source, flags=re.S):
+        pairs = exports[name] = []
+        for parameter in filter(None, (p.strip() for p in parameters.split(","))):
+            own, kind = parameter.split(": ", 1)
+            pairs += [(part, None if i else own) for i, part in enumerate(IN_C[kind])]
+    return exports
+
+
+def agree(in_c, in_rattle):
+    def same(a, b):
+        return a[0].split() == b[0].split() and b[1] in (None, "handle", a[1])
+    return len(in_c) == len(in_rattle) and all(map(same, in_c, in_rattle))
+
+
+c = declared((HERE / "geosvm.h").read_text())
+rattle = exported("".join(p.read_text() for p in sorted((HERE / "../crates/geos_c/src").glob("**/*.rt"))))
+wrong = sorted(name for name in c.keys() | rattle.keys() if name not in c or name not in rattle or not agree(c[name], rattle[name]))
+print(f"prototypes: {len(c)}, " + (f"wrong: {' '.join(wrong)}" if wrong else "as exported"))
+sys.exit(1 if wrong else 0)
