@@ -9,11 +9,10 @@ folder=$(mktemp -d)
 trap 'rm -rf "$folder"' EXIT
 
 # In the first cell of a row stands a command, or several.
-sed -n '/^| Command |/,/^$/s/^| \(`[^|]*`\) |.*/\1/p' docs/SCRIPT.md | grep -o '`[^`]*`' | tr -d '`' | sort > "$folder/listed"
+sed -n '/^| Command |/,/^$/s/^| \(`[^`]*`\(, `[^`]*`\)*\) |.*/\1/p' docs/SCRIPT.md | grep -o '`[^`]*`' | tr -d '`\\' | sort > "$folder/listed"
 
-# In a cell of SCRIPT.md no bar can stand.
 sed -n 's/^ *"\([a-z]*\)" => .*/\1/p; s/^ *"\([a-z]*\)" "\([^"]*\)" => .*/\1 \2/p' crates/geos_shell/src/commands.rt \
-    | sed 's/ keep|set$/ keep/' | sort > "$folder/rows"
+    | sort > "$folder/rows"
 
 diff "$folder/listed" "$folder/rows"
 echo "$(wc -l < "$folder/rows") commands are listed"

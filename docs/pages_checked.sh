@@ -53,8 +53,7 @@ if there man; then
         told "man shows $page" "0 " "$? $(cat "$folder/errors")"
     done
 fi
-# Of "nadd .. keep" the page has the last operand under a name.
-sed -n '/^| Command |/,/^$/s/^| \(`[^|]*\) |.*/\1/p' docs/SCRIPT.md | grep -o '`[^`]*`' | tr -d '`' | sed 's/ keep$/ how/' | sort >"$folder/wanted"
+sed -n '/^| Command |/,/^$/s/^| \(`[^`]*`\(, `[^`]*`\)*\) |.*/\1/p' docs/SCRIPT.md | grep -o '`[^`]*`' | tr -d '`\\' | sort >"$folder/wanted"
 sed -n '/^\.Sh COMMANDS/,/^\.Sh REPLIES/s/^\.It Cm \(.*\)/\1/p' docs/geosvm.1 | sed 's/ Ar / /' | sort >"$folder/got"
 same "geosvm.1 has the commands of SCRIPT.md, with their operands"
 sed -n 's/^| `no \([0-9]* [A-Za-z]*\)` |.*/\1/p' docs/SCRIPT.md >"$folder/wanted"

@@ -53,8 +53,8 @@ pub struct Request<'a> {
 /// Why a command line asks for nothing.
 #[derive(Drop)]
 pub enum NoRequest {
-    /// It asks for help, which the text is.
-    Help(Bytes),
+    /// It asks for help, or for the version, and the text tells that.
+    Told(Bytes),
     /// It is none. The text says why.
     Usage(Bytes),
     Memory,
@@ -77,6 +77,7 @@ fn parse<'a, S: AsStr>(alloc: Global, words: &'a [S]) -> Result<ArgMatches<'a>, 
 
 fn command<'a>(alloc: Global) -> Result<Command<'a>, AllocError> {
     Command::new(alloc, "geosdoc")
+        .version("0.1.0, for files of version 1 and 2")
         .about("Tells what is in a document file; nothing is written")
         .subcommand_required(true)
         .arg_required_else_help(true)
@@ -178,11 +179,12 @@ fn no_request(alloc: Global, error: &Error) -> NoRequest {
     if kind == ErrorKind::OutOfMemory {
         return NoRequest::Memory;
     }
-    match error.to_string(alloc) {
-        Ok(text) if kind == ErrorKind::DisplayHelp => NoRequest::Help(Bytes::from_vec(
-            text.into_bytes(),
-        )),
-        Ok(text) => NoRequest::Usage(Bytes::from_vec(text.into_bytes())),
-        Err(_) => NoRequest::Memory,
+    let Ok(text) = error.to_string(alloc) else {
+        return NoRequest::Memory;
+    };
+    let text = Bytes::from_vec(text.into_bytes());
+    match kind {
+        ErrorKind::DisplayHelp | ErrorKind::DisplayVersion => NoRequest::Told(text),
+        _ => NoRequest::Usage(text),
     }
 }

@@ -38,7 +38,7 @@ fn main(rt: HostRuntime) -> ExitCode {
             Ending::Memory => complain(&rt, b"geosdoc: memory\n", 1),
             Ending::WriteFault => complain(&rt, b"geosdoc: write fault\n", 1),
         },
-        Err(NoRequest::Help(text)) => {
+        Err(NoRequest::Told(text)) => {
             match io::writer(&rt).write_all(text.as_slice()) {
                 Ok(()) => ExitCode::from(0),
                 Err(_) => ExitCode::from(1),
