@@ -1,4 +1,5 @@
-"""Dumps random documents, makes them again from their dumps, and compares both documents byte for byte.
+"""Dumps random documents, makes them again from their dumps, by `geosvm --new` or by `geosdoc restore`, and compares both documents
+byte for byte. Then it has `geosdoc restore` refuse a file that is there, and a script with a line that is refused.
 
     python3 docs/dumped_documents.py GEOSVM GEOSDOC [COUNT] [SEED]
 
@@ -140,7 +141,19 @@ def run(words, text=None):
     return done.stdout
 
 
-def try_other(geosvm, geosdoc, first, again):
+def make(geosvm, geosdoc, restores, path, script):
+    """Makes a document anew by a dump."""
+    if restores:
+        if os.path.exists(path):
+            os.remove(path)
+        assert run([geosdoc, "restore", path], script) == "", "a restore tells nothing"
+        return
+    replies = run([geosvm, "--new", path], script)
+    assert len(replies.splitlines()) == len(script.splitlines()), "a line without a reply"
+    assert "no " not in replies, "refused"
+
+
+def try_other(geosvm, geosdoc, restores, first, again):
     """Dumps what the other slot leads to, if it still leads to documents; whether it does."""
     try:
         wanted = documents_of(first, 1)
@@ -151,7 +164,7 @@ def try_other(geosvm, geosdoc, first, again):
         assert "the other slot doesn't open" in done.stderr, done.stderr
         return False
     assert wanted is not None, "a slot that isn't open was dumped"
-    run([geosvm, "--new", again], done.stdout)
+    make(geosvm, geosdoc, restores, again, done.stdout)
     assert documents_of(again) == wanted, "other documents than the other slot's"
     return True
 
@@ -159,6 +172,7 @@ def try_other(geosvm, geosdoc, first, again):
 def try_one(geosvm, geosdoc, folder, seed):
     """One random document; how many lines its dump has, whether it has another updated one, and whether its other slot opens."""
     first, again = os.path.join(folder, "first"), os.path.join(folder, "again")
+    restores = seed % 2 == 1
     run([geosvm, "--new", first], Scripts(random.Random(seed)).script())
     wanted = documents_of(first)
     with open(first, "rb") as file:
@@ -166,18 +180,43 @@ def try_one(geosvm, geosdoc, folder, seed):
     script = run([geosdoc, "dump", first])
     with open(first, "rb") as file:
         assert file.read() == before, "the dump wrote to the file"
-    replies = run([geosvm, "--new", again], script)
-    assert len(replies.splitlines()) == len(script.splitlines()), "a line without a reply"
-    assert "no " not in replies, ("refused", seed)
+    make(geosvm, geosdoc, restores, again, script)
     assert documents_of(again) == wanted, ("another document", seed)
     assert max(map(len, script.splitlines()), default=0) <= 96, "a long line"
     assert run([geosdoc, "dump", again]) == script, ("another dump", seed)
     assert script.count("update") == (wanted[0] != wanted[1]), ("an update", seed)
     saved = run([geosdoc, "dump", "--saved", first])
     assert script.startswith(saved)
-    run([geosvm, "--new", again], saved)
+    make(geosvm, geosdoc, restores, again, saved)
     assert documents_of(again) == [wanted[1], wanted[1]], ("another saved document", seed)
-    return len(script.splitlines()), wanted[0] != wanted[1], try_other(geosvm, geosdoc, first, again)
+    return len(script.splitlines()), wanted[0] != wanted[1], try_other(geosvm, geosdoc, restores, first, again)
+
+
+def restore_refused(geosdoc, path, script):
+    """Why a restore refuses, and the bytes of the file afterwards."""
+    done = subprocess.run([geosdoc, "restore", path], input=script, stdout=subprocess.PIPE, stderr=subprocess.PIPE, text=True)
+    assert done.returncode == 1 and done.stdout == "", (done.returncode, done.stdout)
+    front = f"geosdoc: {path}: "
+    assert done.stderr.startswith(front) and done.stderr.endswith("\n"), done.stderr
+    with open(path, "rb") as file:
+        return done.stderr[len(front):-1], file.read()
+
+
+def try_refused(geosvm, geosdoc, folder):
+    """A file that is there, a document and an empty one; and a script whose line behind a commit is refused."""
+    there, half = os.path.join(folder, "there"), os.path.join(folder, "half")
+    script = "newraw 7 20\nsave\n"
+    run([geosvm, "--new", there], script)
+    with open(there, "rb") as file:
+        before = file.read()
+    assert restore_refused(geosdoc, there, "newraw 9 90\nsave\n") == ("it is there already", before)
+    with open(half, "wb"):
+        pass
+    assert restore_refused(geosdoc, half, script) == ("it is there already", b"")
+    os.remove(half)
+    told, _ = restore_refused(geosdoc, half, script + "newraw 9 1\nvfree 0009\nsave\n")
+    assert told == "a line of the script is refused: no 5 NoBlock", told
+    assert documents_of(half) == documents_of(there), "another document than the one that was committed"
 
 
 def main():
@@ -189,6 +228,7 @@ def main():
         for seed in range(start, start + count):
             done = try_one(geosvm, geosdoc, folder, seed)
             lines, changed, others = lines + done[0], changed + done[1], others + done[2]
+        try_refused(geosvm, geosdoc, folder)
     print(f"{count} documents, {changed} of them with another updated one, {others} with another slot that opens; {lines} lines")
 
 

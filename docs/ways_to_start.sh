@@ -1,11 +1,15 @@
 #!/bin/sh
 # Starts geosvm in the ways in which a document could be touched that shouldn't be: with closed standard streams, beside another
 # geosvm on the same file, and with FILE2 as another name of FILE. Each try looks at the exit status, at what was told, and at the
-# document, byte by byte.
+# document, byte by byte. With geosdoc too, it starts its restore with closed standard streams.
 #
-#     sh docs/ways_to_start.sh crates/geosvm/out/geosvm
+#     sh docs/ways_to_start.sh crates/geosvm/out/geosvm [crates/geosdoc/out/geosdoc]
 set -u
 geosvm=$(realpath "${1:?the path of the program}")
+geosdoc=
+if [ $# -gt 1 ]; then
+    geosdoc=$(realpath "$2") || exit 2
+fi
 folder=$(mktemp -d)
 cd "$folder" || exit 2
 trap 'rm -rf "$folder"' EXIT
@@ -73,6 +77,43 @@ same "none of them, with a target"
 told "none of them, and no such file" 1 "$?"
 "$geosvm" --new made <&- >&- 2>&-
 told "none of them, and a new document" "0 1040" "$? $(wc -c <made | tr -d ' ')"
+
+# restored NAME WANTED GOT: what is made is as before
+restored() {
+    told "$1" "$2" "$3"
+    if cmp -s restored before; then
+        passed=$((passed + 1))
+    else
+        failed=$((failed + 1))
+        echo "FAILED  $1: another document is made"
+    fi
+    rm -f restored
+}
+if [ -n "$geosdoc" ]; then
+    echo "-- a restore with closed standard streams"
+    fresh
+    "$geosdoc" dump document >dumped || exit 2
+    "$geosvm" --new again <dumped >replies || exit 2
+    cp again before
+    "$geosdoc" restore restored <dumped >&- 2>errors
+    restored "a restore, no output" "0 " "$? $(cat errors)"
+    "$geosdoc" restore restored <dumped >replies 2>&-
+    restored "a restore, no errors" "0 " "$? $(cat replies)"
+    "$geosdoc" restore restored <dumped >&- 2>&-
+    restored "a restore, no output, no errors" 0 "$?"
+    "$geosvm" --new before </dev/null || exit 2
+    "$geosdoc" restore restored <&- >replies 2>errors
+    restored "a restore, no input" "0 " "$? $(cat replies errors)"
+    "$geosdoc" restore restored <&- >&- 2>&-
+    restored "a restore, none of them" 0 "$?"
+    printf 'map 0009\n' >refused
+    "$geosdoc" restore restored <refused >&- 2>&-
+    restored "a restore that is refused, no output, no errors" 1 "$?"
+    cp document before
+    "$geosdoc" restore document <refused >&- 2>&-
+    told "a restore of what is there, no output, no errors" 1 "$?"
+    same "a restore of what is there, no output, no errors"
+fi
 
 echo "-- a second program on the same file"
 fresh

@@ -1,4 +1,4 @@
-//! Reads the command line: a command, `check`, `dump`, `stat` or `map`, with its flags and the name of a file.
+//! Reads the command line: a command, `check`, `dump`, `stat`, `map` or `restore`, with its flags and the name of a file.
 use clap::error::ErrorKind;
 use clap::{Arg, ArgAction, ArgMatches, Command, Error, value_parser};
 use geos_model::Bytes;
@@ -45,9 +45,11 @@ pub enum Dumped {
 
 /// What a command line asks for.
 #[derive(Clone, Copy)]
-pub struct Request<'a> {
-    pub asked: Asked,
-    pub file: &'a str,
+pub enum Request<'a> {
+    /// This is to be told of a file.
+    Look(Asked, &'a str),
+    /// A file is to be made by a script.
+    Restore(&'a str),
 }
 
 /// Why a command line asks for nothing.
@@ -78,13 +80,14 @@ fn parse<'a, S: AsStr>(alloc: Global, words: &'a [S]) -> Result<ArgMatches<'a>, 
 fn command<'a>(alloc: Global) -> Result<Command<'a>, AllocError> {
     Command::new(alloc, "geosdoc")
         .version("0.1.0, for files of version 1 and 2")
-        .about("Tells what is in a document file; nothing is written")
+        .about("Tells what is in a document file, and writes none but one that restore makes")
         .subcommand_required(true)
         .arg_required_else_help(true)
         .subcommand(check_command(alloc)?)?
         .subcommand(dump_command(alloc)?)?
         .subcommand(stat_command(alloc)?)?
-        .subcommand(map_command(alloc)?)
+        .subcommand(map_command(alloc)?)?
+        .subcommand(restore_command(alloc)?)
 }
 
 fn check_command<'a>(alloc: Global) -> Result<Command<'a>, AllocError> {
@@ -95,7 +98,7 @@ fn check_command<'a>(alloc: Global) -> Result<Command<'a>, AllocError> {
 
 fn dump_command<'a>(alloc: Global) -> Result<Command<'a>, AllocError> {
     Command::new(alloc, "dump")
-        .about("Writes a script that makes the document again: geosvm --new FILE2 < SCRIPT")
+        .about("Writes a script that makes the document again: geosdoc restore FILE2 < SCRIPT")
         .arg(flag(alloc, "saved", "The saved document alone"))?
         .arg(flag(
             alloc,
@@ -120,6 +123,12 @@ fn map_command<'a>(alloc: Global) -> Result<Command<'a>, AllocError> {
         .arg(file_operand(alloc))
 }
 
+fn restore_command<'a>(alloc: Global) -> Result<Command<'a>, AllocError> {
+    Command::new(alloc, "restore")
+        .about("Makes a document, in a file that isn't there yet, by a script from standard input")
+        .arg(file_operand(alloc))
+}
+
 fn flag<'a>(alloc: Global, name: &'a str, help: &'a str) -> Arg<'a> {
     Arg::new(alloc, name)
         .long(name)
@@ -139,13 +148,13 @@ fn file_operand<'a>(alloc: Global) -> Arg<'a> {
 fn request_of<'a>(matches: &ArgMatches<'a>) -> Option<Request<'a>> {
     let (name, matches) = matches.subcommand()?;
     let file = matches.get_str("file")?;
-    let asked = match name {
-        "dump" => Asked::Dump(documents_asked(matches)),
-        "stat" => Asked::Stat(form_asked(matches)),
-        "map" => Asked::Map(picture_asked(matches)),
-        _ => Asked::Check,
-    };
-    Some(Request { asked, file })
+    Some(match name {
+        "dump" => Request::Look(Asked::Dump(documents_asked(matches)), file),
+        "stat" => Request::Look(Asked::Stat(form_asked(matches)), file),
+        "map" => Request::Look(Asked::Map(picture_asked(matches)), file),
+        "restore" => Request::Restore(file),
+        _ => Request::Look(Asked::Check, file),
+    })
 }
 
 fn picture_asked(matches: &ArgMatches<'_>) -> Picture {

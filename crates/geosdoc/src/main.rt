@@ -1,4 +1,4 @@
-//! The program that looks at document files: what it is asked for, on standard output.
+//! The program that looks at document files: what it is asked for, on standard output. It makes one again by its script, too.
 #![tactic(auto)]
 
 mod command_line;
@@ -6,6 +6,7 @@ mod dumping;
 mod mapping;
 mod pages_telling;
 mod read_only;
+mod restoring;
 mod run;
 mod stat_json;
 mod stat_text;
@@ -36,6 +37,7 @@ fn main(rt: HostRuntime) -> ExitCode {
             Ending::Told { status } => ExitCode::from(status),
             Ending::Refused { text } => complain(&rt, text.as_bytes(), 1),
             Ending::Memory => complain(&rt, b"geosdoc: memory\n", 1),
+            Ending::ReadFault => complain(&rt, b"geosdoc: read fault\n", 1),
             Ending::WriteFault => complain(&rt, b"geosdoc: write fault\n", 1),
         },
         Err(NoRequest::Told(text)) => {

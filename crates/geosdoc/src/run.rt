@@ -1,9 +1,10 @@
-//! Carries out what was asked of a file.
+//! Carries out what was asked for.
 use crate::command_line::{Asked, Form, Request};
 use crate::dumping::{NoDump, Reason, run_dump};
 use crate::mapping::run_map;
 use crate::pages_telling::write_pages;
 use crate::read_only::{Cause, ReadOnlyFile, ReadOnlySystem};
+use crate::restoring::{NoRestore, restore};
 use crate::stat_json::write_json;
 use crate::stat_text::write_stat;
 use crate::telling::write_check;
@@ -18,16 +19,18 @@ use vm_store::HostStore;
 /// How a run ends.
 #[derive(Drop)]
 pub enum Ending {
-    /// All is told; the status is what it comes to.
+    /// All is told, or done; the status is what it comes to.
     Told { status: u8 },
-    /// The file can't be looked at. The text says which and why.
+    /// The file can't be looked at, or made. The text says which and why.
     Refused { text: String },
     Memory,
+    /// The script couldn't be read.
+    ReadFault,
     /// What was asked for couldn't be written.
     WriteFault,
 }
 
-// The file can't be looked at, or not as was asked.
+// The file can't be looked at or made, or not as was asked.
 fn refused<C: Display + Drop>(rt: &HostRuntime, file: &str, cause: C) -> Ending {
     match format!(in rt.alloc(); "geosdoc: {file}: {cause}\n") {
         Ok(text) => Ending::Refused { text },
@@ -42,32 +45,45 @@ fn ended_by(rt: &HostRuntime, file: &str, fault: Fault) -> Ending {
     }
 }
 
-/// Carries out what was asked of a file, which is opened to be read alone.
+/// Carries out what was asked for.
 pub fn run(rt: &HostRuntime, request: Request<'_>) -> Ending {
+    match request {
+        Request::Look(asked, file) => look(rt, asked, file),
+        Request::Restore(file) => run_restore(rt, file),
+    }
+}
+
+fn run_restore(rt: &HostRuntime, file: &str) -> Ending {
+    match restore(rt, file) {
+        Ok(()) => Ending::Told { status: 0 },
+        Err(NoRestore::Memory) => Ending::Memory,
+        Err(NoRestore::Read) => Ending::ReadFault,
+        Err(NoRestore::Refused(obstacle)) => refused(rt, file, obstacle),
+    }
+}
+
+// Tells what was asked of a file, which is opened to be read alone.
+fn look(rt: &HostRuntime, asked: Asked, file: &str) -> Ending {
     let mut system = ReadOnlySystem::new(*rt);
-    let mut store: HostStore<ReadOnlyFile> = match HostStore::open(
-        &mut system,
-        request.file,
-        false,
-    ) {
+    let mut store: HostStore<ReadOnlyFile> = match HostStore::open(&mut system, file, false) {
         Ok(store) => store,
-        Err(_) => return refused(rt, request.file, system.cause()),
+        Err(_) => return refused(rt, file, system.cause()),
     };
-    match request.asked {
-        Asked::Check => run_check(rt, &mut store, request.file),
-        Asked::Stat(form) => run_stat(rt, &mut store, request.file, form),
+    match asked {
+        Asked::Check => run_check(rt, &mut store, file),
+        Asked::Stat(form) => run_stat(rt, &mut store, file, form),
         Asked::Dump(dumped) => match run_dump(rt, store, dumped) {
             Ok(()) => Ending::Told { status: 0 },
             Err(NoDump::Memory) => Ending::Memory,
             Err(NoDump::Write) => Ending::WriteFault,
-            Err(NoDump::Refused(cause)) => refused(rt, request.file, cause),
+            Err(NoDump::Refused(cause)) => refused(rt, file, cause),
         },
         Asked::Map(picture) => match run_map(rt, &mut store, picture) {
             Ok(()) => Ending::Told { status: 0 },
             Err(MapFault::Memory) => Ending::Memory,
             Err(MapFault::Write) => Ending::WriteFault,
-            Err(MapFault::File) => refused(rt, request.file, Cause::Failed),
-            Err(fault) => refused(rt, request.file, fault),
+            Err(MapFault::File) => refused(rt, file, Cause::Failed),
+            Err(fault) => refused(rt, file, fault),
         },
     }
 }
