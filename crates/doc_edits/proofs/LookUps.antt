@@ -12,7 +12,7 @@ use Rattle.geos_model.specs.Meaning.{on_chunk, chunk_at}
 use Rattle.geos_model.specs.NameEdits.{names_in, token_of_text, find_conditions}
 use Rattle.geos_model.specs.Reply.{Reply, Refused, BytesAre, TokenIs, reply_by, look_up_conditions, look_up}
 use Rattle.geos_model.proofs.Refusals.{none_applies, or_none}
-use Rattle.geos_model.proofs.InFront.{passed}
+use Rattle.geos_model.proofs.FirstRefusals.{passed}
 use Rattle.geos_model.specs.declared.fault.Fault.{Fault}
 use Rattle.geos_model.specs.declared.fault.Fault.TheVariants.{CacheFull, Memory, NoChunk, NoName}
 use Rattle.geos_model.specs.declared.command.Command.{Command}

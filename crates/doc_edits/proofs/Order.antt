@@ -7,7 +7,7 @@ use Rattle.std.specs.List.{list_any}
 use Rattle.geos_model.specs.Refusal.{Conditions, applies, one_order, first_refusal, number_of_fault}
 use Rattle.geos_model.specs.declared.fault.Fault.{Fault}
 use Rattle.geos_model.specs.declared.fault.Fault.TheVariants.{BadChain, IsMap, TooBig, NoHandles, Full, Worn}
-use Rattle.geos_model.proofs.InFront.{found_passes, none_among}
+use Rattle.geos_model.proofs.FirstRefusals.{found_passes, none_among}
 use Rattle.geos_model.proofs.Order.{is_worn, accepted-room, refused-room}
 use Rattle.doc_edits.specs.Found.{is_among, own_faults, late_faults, AreOwn, AreLate}
 

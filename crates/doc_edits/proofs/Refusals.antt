@@ -10,7 +10,7 @@ use Rattle.geos_model.specs.Meaning.{conditions, on_block, on_raw, on_heap, on_c
 use Rattle.geos_model.specs.declared.fault.Fault.{Fault}
 use Rattle.geos_model.specs.declared.command.Edit.{Edit}
 use Rattle.geos_model.specs.declared.fault.Fault.TheVariants.{Memory, BadCommand, GroupOpen, NoGroup, Locked, NothingToUndo, NothingToRedo, NoTarget, NoBlock, WrongKind, NotLocked, LockLimit, CacheFull, NoChunk}
-use Rattle.geos_model.proofs.InFront.{none_among, passed}
+use Rattle.geos_model.proofs.FirstRefusals.{none_among, passed}
 use Rattle.vm_blocks.specs.Kinds.{IsWrongBlock}
 use Rattle.doc_edits.specs.Found.{is_among, late_faults, AreLate, IsHeapAt}
 use Rattle.doc_edits.specs.Planning.{RefusesEdit, RefusesInMemory}

@@ -16,7 +16,7 @@ pub mod FreeLists
 pub mod ElementArrays
 pub mod NameArrays
 pub mod Refusals
-pub mod InFront
+pub mod FirstRefusals
 pub mod Order
 pub mod ArrayEdits
 pub mod UsedElements

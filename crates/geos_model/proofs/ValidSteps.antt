@@ -29,7 +29,7 @@ use Rattle.geos_model.specs.declared.command.Edit.TheVariants as edits
 use Rattle.geos_model.specs.declared.command.Command.{Command}
 use Rattle.geos_model.specs.declared.command.Command.TheVariants as commands
 use Rattle.geos_model.proofs.Refusals.{none_applies, or_none}
-use Rattle.geos_model.proofs.InFront.{edit-accepted}
+use Rattle.geos_model.proofs.FirstRefusals.{edit-accepted}
 use Rattle.geos_model.proofs.Locks.{no_locks-valid, kept_locks-valid, empty_locks-valid, locked-live, lock-valid, unlock-valid}
 use Rattle.geos_model.proofs.ChainEdits.{chain-copy, chain-free}
 use Rattle.geos_model.proofs.Undoing.{OnDone, IsAt, on_done, done_by-stays, same_machine, not_in_group}

@@ -7,7 +7,7 @@ use Rattle.geos_model.specs.Document.{Document}
 use Rattle.geos_model.specs.Reply.{Accepted, reply_of_done}
 use Rattle.geos_model.specs.Machine as machine
 use Rattle.geos_model.specs.Machine.{Machine, UndoStep, Answers, edit_needs, is_barred}
-use Rattle.geos_model.proofs.InFront.{edit-passed}
+use Rattle.geos_model.proofs.FirstRefusals.{edit-passed}
 use Rattle.geos_model.specs.declared.command.Done.{Done}
 use Rattle.geos_model.specs.declared.command.Edit.{Edit}
 use Rattle.geos_model.specs.declared.command.Command.TheVariants as commands

@@ -20,7 +20,7 @@ use Rattle.vm_blocks.specs.declared.change.Change.TheVariants as changes
 use Rattle.chunk_edits.specs.declared.direction.Direction.{Direction}
 use Rattle.vm_blocks.proofs.KeepingLaws.{keeps-by, keeps-passes, lacks-since, none-open, shut-full, steady-honest, steady-on}
 use Rattle.vm_blocks.proofs.Preparing.{all_listed_on, made_on}
-use Rattle.vm_blocks.proofs.Turned.{lacks_of}
+use Rattle.vm_blocks.proofs.ChangeOutcomes.{lacks_of}
 
 pub made_all_on : (cs : List Change) (honest : Bool) (a b : Document) → SameUnlessCorrupt honest a b → SameUnlessCorrupt honest (after_changes cs a) (after_changes cs b)
 made_all_on [] honest a b unless_corrupt = unless_corrupt

@@ -9,5 +9,5 @@ pub mod KindLemmas
 pub mod Preparing
 pub mod Residents
 pub mod Locking
-pub mod Sounds
-pub mod Turned
+pub mod StateValidity
+pub mod ChangeOutcomes

@@ -8,8 +8,8 @@ use Rattle.vm_blocks.specs.Keeping.{is_loaded}
 use Rattle.vm_blocks.specs.Parts.{AllowsPart}
 use Rattle.vm_blocks.proofs.KeepingLaws.{loaded-live}
 use Rattle.vm_blocks.proofs.Preparing.{takes_body}
-use Rattle.vm_blocks.proofs.Sounds.{sound_part}
-use Rattle.vm_blocks.proofs.Turned.{part_as_body}
+use Rattle.vm_blocks.proofs.StateValidity.{sound_part}
+use Rattle.vm_blocks.proofs.ChangeOutcomes.{part_as_body}
 use Rattle.vm_blocks.proofs.file_blocks.FileBlocks.carry_out_part.Goals as goal
 
 pub is_heap-requires : goal.is_heap-requires

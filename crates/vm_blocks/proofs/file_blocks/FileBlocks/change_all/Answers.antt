@@ -10,7 +10,7 @@ use Rattle.vm_blocks.specs.Keeping.{KeepsBlocks}
 use Rattle.vm_blocks.specs.Preparing.{AreApplied, CantPrepareAll}
 use Rattle.vm_blocks.proofs.ChangingAll.{not_marked, listed_marked, made_through, unready_through, keeps_back}
 use Rattle.vm_blocks.proofs.KeepingLaws.{keeps-by}
-use Rattle.vm_blocks.proofs.Turned.{same_locks}
+use Rattle.vm_blocks.proofs.ChangeOutcomes.{same_locks}
 use Rattle.vm_blocks.proofs.file_blocks.FileBlocks.change_all.Goals as goal
 
 -- The document couldn't be marked.

@@ -5,7 +5,7 @@ use Rattle.geos_model.specs.declared.fault.Fault.{Fault}
 use Rattle.vm_blocks.specs.Changes.{directed_part}
 use Rattle.vm_blocks.specs.Preparing.{Turns}
 use Rattle.vm_blocks.specs.declared.change.Change.TheVariants as changes
-use Rattle.vm_blocks.proofs.Turned.{turns_ready, turns_unready}
+use Rattle.vm_blocks.proofs.ChangeOutcomes.{turns_ready, turns_unready}
 use Rattle.vm_blocks.proofs.file_blocks.FileBlocks.change_part.Goals as goal
 
 pub returns-in_err-ready_part : goal.returns-in_err-ready_part

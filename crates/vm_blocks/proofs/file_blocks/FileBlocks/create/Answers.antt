@@ -1,4 +1,4 @@
-use Rattle.vm_blocks.proofs.Sounds.{sound_made}
+use Rattle.vm_blocks.proofs.StateValidity.{sound_made}
 use Rattle.vm_blocks.proofs.file_blocks.FileBlocks.create.Goals as goal
 
 pub invariant_of-result : goal.invariant_of-result

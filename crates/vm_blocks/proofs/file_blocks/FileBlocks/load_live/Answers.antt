@@ -6,7 +6,7 @@ use Rattle.block_cache.specs.State.{CacheState, all_locked, is_resident}
 use Rattle.vm_blocks.specs.Keeping.{KeepsBlocks, IsEnvironmentFault, IsCacheFull}
 use Rattle.vm_blocks.proofs.KeepingLaws.{keeps-by, keeps-refl, loaded-resident, resident-open}
 use Rattle.vm_blocks.proofs.Locking.{one_of, room_by}
-use Rattle.vm_blocks.proofs.Turned.{lacks_of, loaded_there}
+use Rattle.vm_blocks.proofs.ChangeOutcomes.{lacks_of, loaded_there}
 use Rattle.vm_blocks.proofs.file_blocks.FileBlocks.load_live.Goals as goal
 
 -- A block that is shut out.

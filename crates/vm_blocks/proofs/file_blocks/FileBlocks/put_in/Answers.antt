@@ -9,8 +9,8 @@ use Rattle.vm_blocks.specs.Preparing.{Turns}
 use Rattle.vm_blocks.specs.declared.change.Change.TheVariants as changes
 use Rattle.vm_blocks.proofs.ChangeLaws.{change_back}
 use Rattle.vm_blocks.proofs.ManyBlocks.{in_handles}
-use Rattle.vm_blocks.proofs.Sounds.{sound_put}
-use Rattle.vm_blocks.proofs.Turned.{away, put_in_turns}
+use Rattle.vm_blocks.proofs.StateValidity.{sound_put}
+use Rattle.vm_blocks.proofs.ChangeOutcomes.{away, put_in_turns}
 use Rattle.vm_blocks.proofs.file_blocks.FileBlocks.put_in.Goals as goal
 
 pub put_blocks-requires-clause-puts : goal.put_blocks-requires-clause-puts

@@ -1,4 +1,4 @@
-use Rattle.vm_blocks.proofs.Sounds.{sound_saved_as}
+use Rattle.vm_blocks.proofs.StateValidity.{sound_saved_as}
 use Rattle.vm_blocks.proofs.file_blocks.FileBlocks.save_as.Goals as goal
 
 pub invariant_of-self : goal.invariant_of-self

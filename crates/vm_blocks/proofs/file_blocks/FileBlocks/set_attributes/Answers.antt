@@ -5,8 +5,8 @@ use Rattle.vm_blocks.specs.Changes.{attributes_for_kind}
 use Rattle.vm_blocks.specs.Sound.{IsValidState}
 use Rattle.vm_blocks.specs.declared.change.Change.TheVariants as changes
 use Rattle.vm_blocks.proofs.KindLemmas.{attributes_for_kind-typed}
-use Rattle.vm_blocks.proofs.Sounds.{sound_attributes}
-use Rattle.vm_blocks.proofs.Turned.{same_locks, turns_exact}
+use Rattle.vm_blocks.proofs.StateValidity.{sound_attributes}
+use Rattle.vm_blocks.proofs.ChangeOutcomes.{same_locks, turns_exact}
 use Rattle.vm_blocks.proofs.file_blocks.FileBlocks.set_attributes.Goals as goal
 
 pub set_attributes-requires : goal.set_attributes-requires

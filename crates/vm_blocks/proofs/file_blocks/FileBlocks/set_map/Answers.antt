@@ -3,8 +3,8 @@ use Rattle.geos_model.specs.Document.{is_live}
 use Rattle.block_cache.specs.State.{CacheState}
 use Rattle.vm_blocks.specs.Sound.{IsValidState}
 use Rattle.vm_blocks.specs.declared.change.Change.TheVariants as changes
-use Rattle.vm_blocks.proofs.Sounds.{sound_map}
-use Rattle.vm_blocks.proofs.Turned.{same_locks, turns_exact}
+use Rattle.vm_blocks.proofs.StateValidity.{sound_map}
+use Rattle.vm_blocks.proofs.ChangeOutcomes.{same_locks, turns_exact}
 use Rattle.vm_blocks.proofs.file_blocks.FileBlocks.set_map.Goals as goal
 
 pub invariant_of-self : goal.invariant_of-self

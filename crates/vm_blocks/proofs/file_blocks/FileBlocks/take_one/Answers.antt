@@ -2,7 +2,7 @@ use Rattle.std.proofs.Common.{◌≡◌, sym, ap, subst, ◌∙◌}
 use Rattle.block_cache.specs.State.{CacheState, locks_of, KeepsLocks}
 use Rattle.block_cache.proofs.Locks.{keeps_removed}
 use Rattle.vm_blocks.specs.Sound.{IsValidState}
-use Rattle.vm_blocks.proofs.Sounds.{sound_taken}
+use Rattle.vm_blocks.proofs.StateValidity.{sound_taken}
 use Rattle.vm_blocks.proofs.file_blocks.FileBlocks.take_one.Goals as goal
 
 pub invariant_of-self : goal.invariant_of-self

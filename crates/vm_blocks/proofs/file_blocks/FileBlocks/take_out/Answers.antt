@@ -1,5 +1,5 @@
 use Rattle.vm_blocks.specs.declared.change.Change.TheVariants as changes
-use Rattle.vm_blocks.proofs.Turned.{turns_exact}
+use Rattle.vm_blocks.proofs.ChangeOutcomes.{turns_exact}
 use Rattle.vm_blocks.proofs.file_blocks.FileBlocks.take_out.Goals as goal
 
 pub returns : goal.returns
