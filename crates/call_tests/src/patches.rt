@@ -223,7 +223,7 @@ fn a_patch_of_many_pieces_goes_there_and_back(rt: HostRuntime) -> Result<(), Fai
     Ok(())
 }
 
-// What a patch tells of its sizes: the bytes that it holds, those of a chunk before it and behind it, and the most on the way.
+// What a patch tells of sizes: the bytes that it holds, those of a chunk before and behind it, and the most on the way.
 type Sizes = (u64, usize, usize, usize);
 
 // What the patch of these pieces tells, if there is one.
