@@ -1,4 +1,5 @@
 //! Arrays that are read where they lie.
+use crate::asserting::{same, same_number};
 use chunk_arrays::{check, create_bytes, empty_bytes};
 use element_arrays::slots_in;
 use geos_model::{
@@ -8,21 +9,21 @@ use geos_model::{
 use std::test::Fail;
 
 // Two elements of two bytes.
-const EVEN: [u8; 12] = [2, 0, 2, 0, 0, 0, 8, 0, 1, 2, 3, 4];
+const EVEN: &[u8] = &[2, 0, 2, 0, 0, 0, 8, 0, 1, 2, 3, 4];
 
 // The element 61 with two references, and a free one.
-const ELEMENTS: [u8; 21] = [
+const ELEMENTS: &[u8] = &[
     2, 0, 0, 0, 0, 0, 10, 0, 1, 0, 14, 0, 18, 0, 2, 0, 0, 0x61, 255, 255, 255,
 ];
 
 #[test]
 fn an_array_is_read_where_it_lies(rt: HostRuntime) -> Result<(), Fail> {
-    let view = check(EVEN.as_slice())?;
-    assert_eq!(rt; view.count(), 2);
-    assert_eq!(rt; view.element_size(), 2);
-    assert_eq!(rt; view.element(1), [3, 4].as_slice());
-    assert_eq!(rt; view.extra().len(), 0);
-    assert_eq!(rt; view.bytes(), EVEN.as_slice());
+    let view = check(EVEN)?;
+    same_number(&rt, view.count(), 2);
+    same_number(&rt, view.element_size(), 2);
+    same(&rt, view.element(1), &[3, 4]);
+    same_number(&rt, view.extra().len(), 0);
+    same(&rt, view.bytes(), EVEN);
     array_law();
     element_array_law();
     name_array_law();
@@ -35,22 +36,22 @@ fn an_array_is_read_where_it_lies(rt: HostRuntime) -> Result<(), Fail> {
 #[test]
 fn an_array_of_no_elements_is_made(rt: HostRuntime) -> Result<(), Fail> {
     let bytes = empty_bytes(rt.alloc(), 3, [9].as_slice())?;
-    assert_eq!(rt; bytes.as_slice(), [0, 0, 3, 0, 0, 0, 9, 0, 9].as_slice());
+    same(&rt, bytes.as_slice(), &[0, 0, 3, 0, 0, 0, 9, 0, 9]);
     let bytes = create_bytes(rt.alloc(), 2, 1)?;
-    assert_eq!(rt; bytes.as_slice(), [0, 0, 2, 0, 0, 0, 9, 0, 0].as_slice());
+    same(&rt, bytes.as_slice(), &[0, 0, 2, 0, 0, 0, 9, 0, 0]);
     Ok(())
 }
 
 #[test]
 fn slots_are_read_where_they_lie(rt: HostRuntime) -> Result<(), Fail> {
-    let slots = slots_in(check(ELEMENTS.as_slice())?, 2)?;
-    assert_eq!(rt; slots.bytes(), ELEMENTS.as_slice());
-    assert_eq!(rt; slots.len(), 2);
-    assert_eq!(rt; slots.element_size(), 0);
-    assert_eq!(rt; slots.more().len(), 0);
+    let slots = slots_in(check(ELEMENTS)?, 2)?;
+    same(&rt, slots.bytes(), ELEMENTS);
+    same_number(&rt, usize::from(slots.len()), 2);
+    same_number(&rt, slots.element_size(), 0);
+    same_number(&rt, slots.more().len(), 0);
     let used = slots.element(Token(0)).ok_or("free")?;
-    assert_eq!(rt; used.count, 2);
-    assert_eq!(rt; used.bytes, [0x61].as_slice());
+    same_number(&rt, used.count as usize, 2);
+    same(&rt, used.bytes, &[0x61]);
     assert!(rt; slots.element(Token(1)).is_none());
     Ok(())
 }

@@ -5,8 +5,8 @@ ghost use Rattle.vm_blocks.specs.declared.change.PartChange.{PartChange};
 
 use crate::calls::{ATTRIBUTES, put};
 use chunk_edits::copied;
-use geos_model::{ChunkHandle, Fault, VmHandle};
-use std::alloc::{AllocError, Global};
+use geos_model::{Bytes, ChunkHandle, Fault, VmHandle};
+use std::alloc::Global;
 use std::test::Fail;
 use vm_blocks::{Change, Content, Direction, FileBlocks, PartChange, imaged_block};
 use vm_store::{FuseStore, MemStore, Store};
@@ -18,28 +18,48 @@ const EMPTY: usize = 3;
 
 const FULL: usize = 9;
 
-// A file of four empty heaps in a store of which one call fails, the one after so many.
+// A new file in a store of which one call fails, the one after so many.
+fn created(alloc: Global, passes: u64) -> Result<Blocks, Fault> {
+    let store = FuseStore::new(MemStore::new(alloc), passes, false);
+    match FileBlocks::create(alloc, store, 1) {
+        Ok(blocks) => Ok(blocks),
+        Err(refused) => Err(refused.fault),
+    }
+}
+
+// Saves four empty heaps.
+fn put_four(alloc: Global, blocks: &mut Blocks) -> Result<(), Fault> {
+    for _ in 0..4 {
+        put(alloc, blocks)?;
+    }
+    blocks.save()
+}
+
+// The store of a file of four empty heaps.
+fn saved_four(alloc: Global, passes: u64) -> Result<FuseStore<MemStore>, Fault> {
+    let mut blocks = created(alloc, passes)?;
+    put_four(alloc, &mut blocks)?;
+    Ok(blocks.close())
+}
+
+// The file in it.
 fn four(alloc: Global, passes: u64) -> Result<Blocks, Fault>
     ensures { IfOk result (λ blocks. blocks.disk.marked ≡ None) }
 {
-    let store = FuseStore::new(MemStore::new(alloc), passes, false);
-    let mut blocks = FileBlocks::create(alloc, store, 1).map_err(|it| it.fault)?;
-    for _ in 0..4 {
-        put(alloc, &mut blocks)?;
-    }
-    blocks.save()?;
-    match FileBlocks::open(alloc, blocks.close(), 1) {
+    match FileBlocks::open(alloc, saved_four(alloc, passes)?, 1) {
         Ok(blocks) => Ok(blocks),
         Err(refused) => Err(refused.fault),
     }
 }
 
 // A chunk comes into a heap.
-fn chunk_in(alloc: Global, handle: VmHandle) -> Result<Change, AllocError>
-    ensures { IfOk result (λ change. (part : PartChange) × (change ≡ Change.Part handle part)) }
+fn chunk_in(handle: VmHandle, bytes: Bytes) -> Change
+    ensures { (part : PartChange) × (result ≡ Change.Part handle part) }
 {
-    let bytes = Content::Bytes(copied(alloc, b"four")?);
-    Ok(Change::Part(handle, PartChange::ChunkIn(ChunkHandle(16), bytes)))
+    Change::Part(
+        handle,
+        PartChange::ChunkIn(ChunkHandle(16), Content::Bytes(bytes)),
+    )
 }
 
 // Whether the four blocks are there.
@@ -64,15 +84,19 @@ fn turn<S: Store>(
     requires { blocks.old.disk.marked ≡ None }
     ensures { blocks.new.disk.marked ≡ None }
 {
-    let changes = [
-        chunk_in(alloc, VmHandle(1))?,
-        chunk_in(alloc, VmHandle(2))?,
-        chunk_in(alloc, VmHandle(3))?,
-        chunk_in(alloc, VmHandle(4))?,
-    ];
     if blocks.has_locks() || !are_live(blocks) {
         return Err(Fault::Range);
     }
+    let first = copied(alloc, b"four")?;
+    let second = copied(alloc, b"four")?;
+    let third = copied(alloc, b"four")?;
+    let fourth = copied(alloc, b"four")?;
+    let changes = [
+        chunk_in(VmHandle(1), first),
+        chunk_in(VmHandle(2), second),
+        chunk_in(VmHandle(3), third),
+        chunk_in(VmHandle(4), fourth),
+    ];
     blocks.change_all(&changes, direction)
 }
 
@@ -98,14 +122,34 @@ fn are_of<S: Store>(alloc: Global, blocks: &mut FileBlocks<S>, bytes: usize) -> 
     Ok(first == bytes && second == bytes && third == bytes && fourth == bytes)
 }
 
+// The chunks come in or go, and then the images of all four have so many bytes.
+fn turns_to(
+    alloc: Global,
+    blocks: &mut Blocks,
+    direction: Direction,
+    bytes: usize,
+) -> Result<bool, Fault>
+    requires { blocks.old.disk.marked ≡ None }
+    ensures { blocks.new.disk.marked ≡ None }
+{
+    turn(alloc, blocks, direction)?;
+    are_of(alloc, blocks, bytes)
+}
+
+// The chunks come in, and go again.
+fn come_and_go(alloc: Global, blocks: &mut Blocks) -> Result<bool, Fault>
+    requires { blocks.old.disk.marked ≡ None }
+{
+    let came = turns_to(alloc, blocks, Direction::Forwards, FULL)?;
+    let went = turns_to(alloc, blocks, Direction::Backwards, EMPTY)?;
+    Ok(came && went)
+}
+
 #[test]
 fn changes_of_four_blocks_take_one_frame(rt: HostRuntime) -> Result<(), Fail> {
     let alloc = rt.alloc();
     let mut blocks = four(alloc, u64::MAX)?;
-    turn(alloc, &mut blocks, Direction::Forwards)?;
-    assert!(rt; are_of(alloc, &mut blocks, FULL)?);
-    turn(alloc, &mut blocks, Direction::Backwards)?;
-    assert!(rt; are_of(alloc, &mut blocks, EMPTY)?);
+    assert!(rt; come_and_go(alloc, &mut blocks)?);
     Ok(())
 }
 
@@ -120,13 +164,28 @@ fn calls_after(alloc: Global) -> Result<u64, Fault> {
     Ok(blocks.close().calls())
 }
 
-// The chunks don't come in where a call of the store fails: then nothing has changed, and they do with the next try.
+// The chunks don't come in, since a call of the store fails, and nothing has changed.
+fn is_refused(alloc: Global, blocks: &mut Blocks) -> Result<bool, Fault>
+    requires { blocks.old.disk.marked ≡ None }
+    ensures { blocks.new.disk.marked ≡ None }
+{
+    let refused = turn(alloc, blocks, Direction::Forwards) == Err(Fault::File);
+    let still = are_of(alloc, blocks, EMPTY)?;
+    Ok(refused && still)
+}
+
+// So it is where one fails, and they do come in with the next try.
+fn come_in_then(alloc: Global, blocks: &mut Blocks) -> Result<bool, Fault>
+    requires { blocks.old.disk.marked ≡ None }
+{
+    let refused = is_refused(alloc, blocks)?;
+    let came = turns_to(alloc, blocks, Direction::Forwards, FULL)?;
+    Ok(refused && came)
+}
+
 fn come_in_again(alloc: Global, passes: u64) -> Result<bool, Fault> {
     let mut blocks = four(alloc, passes)?;
-    let refused = turn(alloc, &mut blocks, Direction::Forwards) == Err(Fault::File);
-    let still = are_of(alloc, &mut blocks, EMPTY)?;
-    turn(alloc, &mut blocks, Direction::Forwards)?;
-    Ok(refused && still && are_of(alloc, &mut blocks, FULL)?)
+    come_in_then(alloc, &mut blocks)
 }
 
 #[test]

@@ -1,86 +1,31 @@
 //! The calls of a heap.
+use crate::asserting::same_number;
 use crate::plain_chunks::handle_of;
 use geos_model::ChunkHandle;
 use lmem_heap::Heap;
 use std::alloc::{AllocError, Global};
+use std::process::Abort;
 use std::test::Fail;
+
+const FIRST: ChunkHandle = ChunkHandle(0x10);
+
+const SECOND: ChunkHandle = ChunkHandle(0x12);
 
 const THIRD: ChunkHandle = ChunkHandle(0x14);
 
-#[test]
-fn a_chunk_comes_under_a_given_handle(rt: HostRuntime) -> Result<(), Fail> {
-    let mut heap = Heap::new(rt.alloc())?;
-    assert!(rt; heap.chunk(THIRD).is_none());
-    assert!(rt; heap.fits_at(THIRD, 5));
-    heap.alloc_at(THIRD, 5);
-    assert!(rt; heap.chunk(THIRD) == Some([0; 5].as_slice()));
-    assert_eq!(rt; heap.next_handle(), Some(ChunkHandle(0x10)));
-    assert_eq!(rt; heap.need(), 32);
-    Ok(())
-}
+const GREATEST: ChunkHandle = ChunkHandle(0xffee);
 
-#[test]
-fn a_chunk_gets_another_size(rt: HostRuntime) -> Result<(), Fail> {
-    let mut heap = Heap::new(rt.alloc())?;
-    assert!(rt; heap.fits_alloc(2));
-    let chunk = heap.alloc(2);
-    assert!(rt; heap.chunk(chunk).is_some());
-    assert!(rt; heap.fits_resize(chunk, 4));
-    heap.resize(chunk, 4);
-    assert!(rt; heap.chunk(chunk) == Some([0; 4].as_slice()));
-    Ok(())
-}
-
-#[test]
-fn a_chunk_is_freed(rt: HostRuntime) -> Result<(), Fail> {
-    let mut heap = Heap::new(rt.alloc())?;
-    assert!(rt; heap.fits_alloc(2));
-    let chunk = heap.alloc(2);
-    assert!(rt; heap.chunk(chunk).is_some());
-    heap.free(chunk);
-    heap.contract();
-    assert!(rt; heap.chunk(chunk).is_none());
-    assert_eq!(rt; heap.need(), 16);
-    Ok(())
-}
-
-#[test]
-fn a_chunk_is_written_where_it_stands(rt: HostRuntime) -> Result<(), Fail> {
-    let mut heap = Heap::new(rt.alloc())?;
-    assert!(rt; heap.fits_alloc(3));
-    let first = heap.alloc(3);
-    assert!(rt; heap.fits_alloc(2));
-    let second = heap.alloc(2);
-    assert!(rt; heap.chunk(second).is_some());
-    heap.chunk_mut(second).fill(7);
-    assert!(rt; heap.chunk(first).is_some());
-    let bytes = heap.chunk_mut(first);
-    assert_eq!(rt; bytes.len(), 3);
-    bytes.copy_from_slice(b"abc");
-    assert!(rt; heap.chunk(first) == Some(b"abc".as_slice()));
-    assert!(rt; heap.chunk(second) == Some([7, 7].as_slice()));
-    Ok(())
-}
-
-#[test]
-fn bytes_stand_at_an_offset(rt: HostRuntime) -> Result<(), Fail> {
-    let mut heap = Heap::new(rt.alloc())?;
-    assert!(rt; heap.fits_alloc(0));
-    let empty = heap.alloc(0);
-    assert!(rt; heap.fits_alloc(65_494));
-    let chunk = heap.alloc(65_494);
-    assert!(rt; heap.offset(empty).is_none());
-    assert!(rt; heap.offset(chunk).is_some_and(|at| at <= 26));
-    assert!(rt; heap.offset(THIRD).is_none());
-    Ok(())
-}
-
-// A new chunk of equal bytes.
-fn put(heap: &mut Heap, n: u32, byte: u8) -> bool {
-    if !heap.fits_alloc(n) {
-        return false;
+// A new chunk, where it fits.
+fn added(heap: &mut Heap, n: u32) -> Option<ChunkHandle> {
+    if heap.fits_alloc(n) {
+        Some(heap.alloc(n))
+    } else {
+        None
     }
-    let chunk = heap.alloc(n);
+}
+
+// All bytes of a chunk become this one.
+fn filled(heap: &mut Heap, chunk: ChunkHandle, byte: u8) -> bool {
     if heap.chunk(chunk).is_none() {
         return false;
     }
@@ -88,7 +33,28 @@ fn put(heap: &mut Heap, n: u32, byte: u8) -> bool {
     true
 }
 
-// One that is freed.
+// A new chunk of equal bytes.
+fn put(heap: &mut Heap, n: u32, byte: u8) -> bool {
+    match added(heap, n) {
+        Some(chunk) => filled(heap, chunk, byte),
+        None => false,
+    }
+}
+
+// Bytes are copied over those of a chunk of as many.
+fn copied(heap: &mut Heap, chunk: ChunkHandle, bytes: &[u8]) -> bool {
+    if heap.chunk(chunk).is_none() {
+        return false;
+    }
+    let place = heap.chunk_mut(chunk);
+    if place.len() != bytes.len() {
+        return false;
+    }
+    place.copy_from_slice(bytes);
+    true
+}
+
+// A chunk that is freed.
 fn freed(heap: &mut Heap, chunk: ChunkHandle) -> bool {
     if heap.chunk(chunk).is_none() {
         return false;
@@ -97,23 +63,17 @@ fn freed(heap: &mut Heap, chunk: ChunkHandle) -> bool {
     true
 }
 
-// A byte behind the last one of a chunk, where it fits.
-fn grown(heap: &mut Heap, chunk: ChunkHandle, byte: u8) -> bool {
-    let size = match heap.chunk(chunk) {
-        Some(bytes) => bytes.len().min(65_520) as u32,
-        None => return false,
-    };
-    if heap.chunk(chunk).is_none() || !heap.fits_resize(chunk, size + 1) {
+// One that gets another size, where it fits.
+fn resized(heap: &mut Heap, chunk: ChunkHandle, n: u32) -> bool {
+    if heap.chunk(chunk).is_none() || !heap.fits_resize(chunk, n) {
         return false;
     }
-    heap.resize(chunk, size + 1);
-    if heap.chunk(chunk).is_none() {
-        return false;
-    }
-    if let Some(last) = heap.chunk_mut(chunk).last_mut() {
-        *last = byte;
-    }
+    heap.resize(chunk, n);
     true
+}
+
+fn has(heap: &Heap, chunk: ChunkHandle, bytes: &[u8]) -> bool {
+    heap.chunk(chunk) == Some(bytes)
 }
 
 fn is_all(heap: &Heap, chunk: ChunkHandle, count: usize, byte: u8) -> bool {
@@ -123,66 +83,177 @@ fn is_all(heap: &Heap, chunk: ChunkHandle, count: usize, byte: u8) -> bool {
     }
 }
 
+// A heap needs so many bytes.
+fn needs(rt: &impl Abort, heap: &Heap, bytes: usize) {
+    same_number(rt, heap.need() as usize, bytes);
+}
+
+#[test]
+fn a_chunk_comes_under_a_given_handle(rt: HostRuntime) -> Result<(), Fail> {
+    let mut heap = Heap::new(rt.alloc())?;
+    assert!(rt; heap.chunk(THIRD).is_none());
+    assert!(rt; heap.fits_at(THIRD, 5));
+    heap.alloc_at(THIRD, 5);
+    assert!(rt; has(&heap, THIRD, &[0; 5]));
+    assert!(rt; heap.next_handle() == Some(FIRST));
+    needs(&rt, &heap, 32);
+    Ok(())
+}
+
+#[test]
+fn a_chunk_gets_another_size(rt: HostRuntime) -> Result<(), Fail> {
+    let mut heap = Heap::new(rt.alloc())?;
+    assert!(rt; added(&mut heap, 2) == Some(FIRST));
+    assert!(rt; resized(&mut heap, FIRST, 4));
+    assert!(rt; has(&heap, FIRST, &[0; 4]));
+    Ok(())
+}
+
+#[test]
+fn a_chunk_is_freed(rt: HostRuntime) -> Result<(), Fail> {
+    let mut heap = Heap::new(rt.alloc())?;
+    assert!(rt; added(&mut heap, 2) == Some(FIRST));
+    assert!(rt; freed(&mut heap, FIRST));
+    heap.contract();
+    assert!(rt; heap.chunk(FIRST).is_none());
+    needs(&rt, &heap, 16);
+    Ok(())
+}
+
+#[test]
+fn a_chunk_is_written_where_it_stands(rt: HostRuntime) -> Result<(), Fail> {
+    let mut heap = Heap::new(rt.alloc())?;
+    assert!(rt; added(&mut heap, 3) == Some(FIRST) && added(&mut heap, 2) == Some(SECOND));
+    assert!(rt; filled(&mut heap, SECOND, 7));
+    assert!(rt; copied(&mut heap, FIRST, b"abc"));
+    assert!(rt; has(&heap, FIRST, b"abc"));
+    assert!(rt; has(&heap, SECOND, &[7, 7]));
+    Ok(())
+}
+
+#[test]
+fn bytes_stand_at_an_offset(rt: HostRuntime) -> Result<(), Fail> {
+    let mut heap = Heap::new(rt.alloc())?;
+    assert!(rt; added(&mut heap, 0) == Some(FIRST) && added(&mut heap, 65_494) == Some(SECOND));
+    assert!(rt; heap.offset(FIRST).is_none());
+    assert!(rt; heap.offset(SECOND).is_some_and(|at| at <= 26));
+    assert!(rt; heap.offset(THIRD).is_none());
+    Ok(())
+}
+
+// A byte behind the last one of a chunk, where it fits.
+fn grown(heap: &mut Heap, chunk: ChunkHandle, byte: u8) -> bool {
+    let size = match heap.chunk(chunk) {
+        Some(bytes) => bytes.len().min(65_520) as u32,
+        None => return false,
+    };
+    if !resized(heap, chunk, size + 1) || heap.chunk(chunk).is_none() {
+        return false;
+    }
+    if let Some(last) = heap.chunk_mut(chunk).last_mut() {
+        *last = byte;
+    }
+    true
+}
+
+// So many such bytes, one after another.
+fn grown_by(heap: &mut Heap, chunk: ChunkHandle, count: u32, byte: u8) -> bool {
+    for _ in 0..count {
+        if !grown(heap, chunk, byte) {
+            return false;
+        }
+    }
+    true
+}
+
+// Eight chunks, each of its number.
+fn eight_put(heap: &mut Heap) -> bool {
+    for i in 0..8_u8 {
+        if !put(heap, 8_000, i) {
+            return false;
+        }
+    }
+    true
+}
+
+// Every other one of them is freed.
+fn four_freed(heap: &mut Heap) -> bool {
+    for i in 0..4_u16 {
+        if !freed(heap, ChunkHandle(16 + 4 * i)) {
+            return false;
+        }
+    }
+    true
+}
+
+// Whether the others are as they were.
+fn has_four(heap: &Heap) -> bool {
+    for i in 0..4_u8 {
+        let chunk = ChunkHandle(18 + 4 * u16::from(i));
+        if !is_all(heap, chunk, 8_000, 2 * i + 1) {
+            return false;
+        }
+    }
+    true
+}
+
 #[test]
 fn a_chunk_grows_by_single_bytes_into_all_the_room_between_others(
     rt: HostRuntime,
 ) -> Result<(), Fail> {
     let mut heap = Heap::new(rt.alloc())?;
-    for i in 0..8_u8 {
-        assert!(rt; put(&mut heap, 8_000, i));
-    }
-    for i in 0..4_u16 {
-        assert!(rt; freed(&mut heap, ChunkHandle(16 + 4 * i)));
-    }
-    assert_eq!(rt; heap.need(), 32_048);
+    assert!(rt; eight_put(&mut heap));
+    assert!(rt; four_freed(&mut heap));
+    needs(&rt, &heap, 32_048);
     assert!(rt; put(&mut heap, 0, 0));
-    for _ in 0..33_470 {
-        assert!(rt; grown(&mut heap, ChunkHandle(16), 0xee));
-    }
-    assert!(rt; !grown(&mut heap, ChunkHandle(16), 0xee));
-    assert_eq!(rt; heap.need(), 65_520);
-    assert!(rt; is_all(&heap, ChunkHandle(16), 33_470, 0xee));
-    for i in 0..4_u8 {
-        let chunk = ChunkHandle(18 + 4 * i as u16);
-        assert!(rt; is_all(&heap, chunk, 8_000, 2 * i + 1));
-    }
+    assert!(rt; grown_by(&mut heap, FIRST, 33_470, 0xee));
+    assert!(rt; !grown(&mut heap, FIRST, 0xee));
+    needs(&rt, &heap, 65_520);
+    assert!(rt; is_all(&heap, FIRST, 33_470, 0xee));
+    assert!(rt; has_four(&heap));
     Ok(())
+}
+
+// An empty chunk under the greatest handle, where one with a byte doesn't fit.
+fn last_put(heap: &mut Heap) -> bool {
+    let greatest = handle_of(32_751);
+    if greatest != GREATEST || heap.chunk(greatest).is_some() {
+        return false;
+    }
+    if !heap.fits_at(greatest, 0) || heap.fits_at(greatest, 1) {
+        return false;
+    }
+    heap.alloc_at(greatest, 0);
+    true
 }
 
 #[test]
 fn the_last_handle_freed_gives_its_table_back(rt: HostRuntime) -> Result<(), Fail> {
     let mut heap = Heap::new(rt.alloc())?;
-    let greatest = handle_of(32_751);
-    assert_eq!(rt; greatest, ChunkHandle(0xffee));
-    assert!(rt; heap.chunk(greatest).is_none());
-    assert!(rt; heap.fits_at(greatest, 0) && !heap.fits_at(greatest, 1));
-    heap.alloc_at(greatest, 0);
-    assert_eq!(rt; heap.need(), 65_520);
+    assert!(rt; last_put(&mut heap));
+    needs(&rt, &heap, 65_520);
     assert!(rt; heap.fits_alloc(0) && !heap.fits_alloc(1));
     assert!(rt; put(&mut heap, 0, 0));
-    assert_eq!(rt; heap.need(), 65_520);
-    assert!(rt; freed(&mut heap, greatest));
-    assert_eq!(rt; heap.need(), 20);
+    needs(&rt, &heap, 65_520);
+    assert!(rt; freed(&mut heap, GREATEST));
+    needs(&rt, &heap, 20);
     assert!(rt; put(&mut heap, 65_498, 7));
-    assert_eq!(rt; heap.need(), 65_520);
-    assert!(rt; is_all(&heap, ChunkHandle(18), 65_498, 7));
+    needs(&rt, &heap, 65_520);
+    assert!(rt; is_all(&heap, SECOND, 65_498, 7));
     Ok(())
 }
 
 #[test]
 fn a_freed_chunk_leaves_the_others_where_they_lie(rt: HostRuntime) -> Result<(), Fail> {
     let mut heap = Heap::new(rt.alloc())?;
-    assert!(rt; heap.fits_alloc(4));
-    let first = heap.alloc(4);
-    assert!(rt; heap.fits_alloc(4));
-    let second = heap.alloc(4);
-    assert!(rt; heap.fits_alloc(4));
-    let third = heap.alloc(4);
-    let places = [heap.offset(second), heap.offset(third)];
-    assert!(rt; places[0].is_some() && places[1].is_some());
-    assert!(rt; heap.chunk(first).is_some());
-    heap.free(first);
-    assert_eq!(rt; [heap.offset(second), heap.offset(third)], places);
+    assert!(rt; added(&mut heap, 4) == Some(FIRST));
+    assert!(rt; added(&mut heap, 4) == Some(SECOND));
+    assert!(rt; added(&mut heap, 4) == Some(THIRD));
+    let second = heap.offset(SECOND);
+    let third = heap.offset(THIRD);
+    assert!(rt; second.is_some() && third.is_some());
+    assert!(rt; freed(&mut heap, FIRST));
+    assert!(rt; heap.offset(SECOND) == second && heap.offset(THIRD) == third);
     Ok(())
 }
 
@@ -220,14 +291,23 @@ fn image_of_one(alloc: Global, size: u16) -> Result<Vec<u8>, AllocError> {
     Ok(image)
 }
 
+// Whether that is the image of a heap.
+fn is_image_of_one(alloc: Global, size: u16) -> Result<bool, AllocError> {
+    Ok(Heap::is_image(&image_of_one(alloc, size)?))
+}
+
+// Whether a heap has that image.
+fn has_image_of_one(alloc: Global, heap: &Heap, size: u16) -> Result<bool, AllocError> {
+    Ok(heap.image()? == image_of_one(alloc, size)?)
+}
+
 #[test]
 fn the_image_of_the_fullest_heap_is_one(rt: HostRuntime) -> Result<(), Fail> {
     let mut heap = Heap::new(rt.alloc())?;
-    assert!(rt; heap.fits_alloc(65_498) && !heap.fits_alloc(65_499));
-    heap.alloc(65_498);
-    let image = heap.image()?;
-    assert!(rt; image == image_of_one(rt.alloc(), 65_498)?);
-    assert!(rt; Heap::is_image(&image));
-    assert!(rt; !Heap::is_image(&image_of_one(rt.alloc(), 65_499)?));
+    assert!(rt; !heap.fits_alloc(65_499));
+    assert!(rt; added(&mut heap, 65_498) == Some(FIRST));
+    assert!(rt; has_image_of_one(rt.alloc(), &heap, 65_498)?);
+    assert!(rt; is_image_of_one(rt.alloc(), 65_498)?);
+    assert!(rt; !is_image_of_one(rt.alloc(), 65_499)?);
     Ok(())
 }

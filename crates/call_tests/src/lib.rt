@@ -4,6 +4,8 @@
 #[cfg(test)]
 mod arrays;
 #[cfg(test)]
+mod asserting;
+#[cfg(test)]
 mod calls;
 #[cfg(test)]
 mod changing_all;

@@ -1,4 +1,5 @@
 //! More regions come and go than there is memory for, if any were kept: in each test 400,000 of 65,520 bytes, 26 GB.
+use crate::asserting::{same, same_number};
 use lmem_heap::Heap;
 use raw_region::{RawBody, Region};
 use std::test::Fail;
@@ -14,7 +15,7 @@ fn regions_come_and_go(rt: HostRuntime) -> Result<(), Fail> {
         region.set_word(7, number);
         last = region;
     }
-    assert_eq!(rt; last.word(7), 6_784);
+    same_number(&rt, usize::from(last.word(7)), 6_784);
     Ok(())
 }
 
@@ -27,7 +28,7 @@ fn raw_bodies_come_and_go(rt: HostRuntime) -> Result<(), Fail> {
         body.insert_zeros(0, count);
         last = body;
     }
-    assert_eq!(rt; last.bytes(), [0].as_slice());
+    same(&rt, last.bytes(), &[0]);
     Ok(())
 }
 
@@ -40,6 +41,6 @@ fn heaps_and_their_images_come_and_go(rt: HostRuntime) -> Result<(), Fail> {
         let image = heap.image()?;
         heap = Heap::from_image(rt.alloc(), &image)?;
     }
-    assert_eq!(rt; heap.need(), 65_520);
+    same_number(&rt, heap.need() as usize, 65_520);
     Ok(())
 }

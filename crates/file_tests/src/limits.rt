@@ -104,14 +104,19 @@ fn has_page(bytes: &[u8], at: usize, page: u32) -> bool {
     }
 }
 
+// Whether a case makes that of the file with these bytes.
+fn is_made(alloc: Global, full: &[u8], case: Case) -> Result<bool, Mismatch> {
+    let (steps, at, page, length) = case;
+    let store = read(alloc, full, steps)?;
+    Ok(has_page(store.bytes(), at, page) && store.bytes().len() == length)
+}
+
 #[test]
 fn a_long_directory_takes_the_first_gap_of_257_pages(rt: HostRuntime) -> Result<(), Fail> {
     let alloc = rt.alloc();
     let full = full_store(alloc)?;
-    for (case, (steps, at, page, length)) in CASES.into_iter().enumerate() {
-        let store = read(alloc, full.bytes(), steps)?;
-        assert!(rt; has_page(store.bytes(), at, page), "case {case}");
-        assert_eq!(rt; store.bytes().len(), length, "case {case}");
+    for (number, case) in CASES.into_iter().enumerate() {
+        assert!(rt; is_made(alloc, full.bytes(), case)?, "case {number}");
     }
     Ok(())
 }

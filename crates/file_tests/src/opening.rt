@@ -524,13 +524,17 @@ fn wanted(alloc: Global, version: u8, as_file: Result<Seen, Fault>) -> Result<An
     }
 }
 
+// Whether that is read of a case.
+fn is_read(alloc: Global, case: Case) -> Result<bool, Fault> {
+    let (version, edits, answer) = case;
+    let answer = wanted(alloc, version, answer)?;
+    Ok(look(alloc, &edited(version, edits))? == answer)
+}
+
 #[test]
 fn each_directory_keeps_the_rules_of_its_version(rt: HostRuntime) -> Result<(), Fail> {
-    let alloc = rt.alloc();
-    for (case, (version, edits, answer)) in CASES.into_iter().enumerate() {
-        let answer = wanted(alloc, version, answer)?;
-        let read = look(alloc, &edited(version, edits))?;
-        assert_eq!(rt; read, answer, "case {case}");
+    for (number, case) in CASES.into_iter().enumerate() {
+        assert!(rt; is_read(rt.alloc(), case)?, "case {number}");
     }
     Ok(())
 }

@@ -73,6 +73,16 @@ impl From<AllocError> for Mismatch {
     }
 }
 
+// Whether just these blocks are live.
+fn has_live<S: Store>(alloc: Global, file: &VmFile<S>, handles: &[u16]) -> Result<bool, Fault> {
+    Ok(live_blocks(alloc, file)?.as_slice() == handles)
+}
+
+// Whether the document tells just these handles.
+fn lists<S: Store>(alloc: Global, file: &VmFile<S>, handles: &[u16]) -> Result<bool, Fault> {
+    Ok(listed(alloc, file)?.as_slice() == handles)
+}
+
 // Whether all is seen that a step says.
 fn sees<S: Store>(alloc: Global, file: &mut VmFile<S>, step: Step) -> Result<bool, Fault> {
     match step {
@@ -83,13 +93,11 @@ fn sees<S: Store>(alloc: Global, file: &mut VmFile<S>, step: Step) -> Result<boo
         Step::HasType(handle, heap_type) => Ok(type_of(file, handle) == Some(heap_type)),
         Step::HasNoBlock(handle) => Ok(user_id_of(file, handle).is_none()),
         Step::MapBlock(handle) => Ok(file.map_block().0 == handle),
-        Step::Lives(handles) => Ok(live_blocks(alloc, file)?.as_slice() == handles),
+        Step::Lives(handles) => has_live(alloc, file, handles),
         Step::IsFull => is_full(alloc, file),
         Step::IsEmpty => Ok(first_block(file) == 0),
-        Step::Lists(handles) => Ok(listed(alloc, file)?.as_slice() == handles),
-        Step::ListsLive => {
-            Ok(listed(alloc, file)?.as_slice() == live_blocks(alloc, file)?.as_slice())
-        }
+        Step::Lists(handles) => lists(alloc, file, handles),
+        Step::ListsLive => lists(alloc, file, &live_blocks(alloc, file)?),
         Step::NextHandle(handle) => Ok(next_handle(file) == handle),
         Step::Finds(user_id, start, handle) => Ok(found(file, user_id, start) == handle),
         _ => Ok(false),
@@ -98,23 +106,24 @@ fn sees<S: Store>(alloc: Global, file: &mut VmFile<S>, step: Step) -> Result<boo
 
 // Takes a step. Returns whether all is seen that it says.
 fn take_step<S: Store>(alloc: Global, file: &mut VmFile<S>, step: Step) -> Result<bool, Fault> {
-    match step {
-        Step::Put(handle, user_id, body) => put(alloc, file, handle, user_id, body)?,
+    let done = match step {
+        Step::Put(handle, user_id, body) => put(alloc, file, handle, user_id, body),
         Step::PutHeap(handle, user_id, heap_type) => {
-            put_heap(alloc, file, handle, Attributes { user_id, heap_type })?
+            put_heap(alloc, file, handle, Attributes { user_id, heap_type })
         }
-        Step::PutAll(body) => put_all(alloc, file, body)?,
-        Step::Remove(handle) => remove(file, handle)?,
-        Step::RemoveOthers(handle) => remove_others(file, handle)?,
+        Step::PutAll(body) => put_all(alloc, file, body),
+        Step::Remove(handle) => remove(file, handle),
+        Step::RemoveOthers(handle) => remove_others(file, handle),
         Step::NoRemove(handle, fault) => return Ok(remove(file, handle) == Err(fault)),
-        Step::SetUserId(handle, user_id) => set_user_id(file, handle, user_id)?,
-        Step::SetType(handle, heap_type) => set_type(file, handle, heap_type)?,
-        Step::SetMap(handle) => set_map_block(file, handle)?,
-        Step::Update => update(file)?,
-        Step::Save => save(file)?,
-        Step::Revert => revert(file)?,
+        Step::SetUserId(handle, user_id) => set_user_id(file, handle, user_id),
+        Step::SetType(handle, heap_type) => set_type(file, handle, heap_type),
+        Step::SetMap(handle) => set_map_block(file, handle),
+        Step::Update => update(file),
+        Step::Save => save(file),
+        Step::Revert => revert(file),
         _ => return sees(alloc, file, step),
-    }
+    };
+    done?;
     Ok(true)
 }
 
