@@ -48,8 +48,8 @@ piece_written target bytes k = if is_zeros (piece_at bytes k) then [] else write
 unfoldable pub bytes_written : Target → List ℕ → List Edit
 bytes_written target bytes = flat_map (piece_written target bytes) (range_with_len 0 ((length bytes + 31) / 32))
 
--- Chunks: one is made for each entry of the table, so that each gets its handle, and those that aren't live are freed again. These are
--- empty, so that the heap never needs more room than in the end.
+-- Chunks: one is made for each entry of the table, so that each gets its handle, and those that aren't live are freed
+-- again. These are empty, so that the heap never needs more room than in the end.
 
 abbrev pub chunk_made : VmHandle → ChunkHandle → Option (List ℕ) → List Edit
 chunk_made b c None = edits.Alloc b 0 ∷ []
@@ -119,7 +119,8 @@ after_block old new p h =
     else if is_live old h then p
     else record p { holes = p.holes + 1 }
 
--- Under these handles, which rise. A block that goes stays until all others are made, so that it takes its handle so long.
+-- Under these handles, which rise. A block that goes stays until all others are made, so that it takes its handle so
+-- long.
 unfoldable pub blocks_changed : Document → Document → Progress → List ℕ → List Edit
 blocks_changed old new p [] = []
 blocks_changed old new p (h ∷ hs) = block_changed old new p h ++ blocks_changed old new (after_block old new p h) hs
@@ -131,7 +132,8 @@ progress_after old new p (h ∷ hs) = progress_after old new (after_block old ne
 abbrev pub map_set : ℕ → ℕ → List Edit
 map_set old new = if old == new then [] else edits.SetMap (block_name new) ∷ []
 
--- A block goes that isn't in the new document: one of the old document, or one that took a handle below the last that was made.
+-- A block goes that isn't in the new document: one of the old document, or one that took a handle below the last that
+-- was made.
 abbrev pub block_freed : Document → Document → ℕ → ℕ → List Edit
 block_freed old new last h = if not (is_live new h) && (is_live old h || nat_lt h last) then edits.FreeBlock (block_name h) ∷ [] else []
 

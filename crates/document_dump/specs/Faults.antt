@@ -22,7 +22,8 @@ dump_fault fault = dump_faults.Damaged
 abbrev pub no_memory : DumpFault
 no_memory = dump_faults.Memory
 
--- Why a dump, or a part of it, ends early: there is no memory; the store failed in this very call; it isn't honest; the writer failed.
+-- Why a dump, or a part of it, ends early: there is no memory; the store failed in this very call; it isn't honest; the
+-- writer failed.
 abbrev pub IsDumpRefusal : StoreFacts → StoreFacts → DumpFault → Type 0
 IsDumpRefusal old new dump_faults.Memory = Unit {0}
 IsDumpRefusal old new dump_faults.File = FailedSince old new

@@ -211,9 +211,9 @@ fn dump_open<S: Store, W: Write>(
     Ok(())
 }
 
-/// Writes a script of commands that makes the documents of a file again where it is fed to `geosvm --new`: first the saved
-/// one, and then, unless that is all that is asked for, the one that is open, which is the updated one where the file was just
-/// opened. Nothing is written to the file. The writer gets many short pieces, so it should be buffered.
+/// Writes a script of commands that makes the documents of a file again where it is fed to `geosvm --new`: first the
+/// saved one, and then, unless that is all that is asked for, the one that is open, which is the updated one where the
+/// file was just opened. Nothing is written to the file. The writer gets many short pieces, so it should be buffered.
 pub fn dump<S: Store, W: Write>(
     alloc: Global,
     file: &mut VmFile<S>,

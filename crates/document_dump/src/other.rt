@@ -32,8 +32,8 @@ fn read_all<S: Store>(alloc: Global, store: &mut S) -> Result<Vec<u8>, Fault>
     }
 }
 
-/// A copy in memory of a file in which the gate of a slot, 0 or 1, is closed, so that it opens to what the other slot leads to.
-/// NotDocument where the file has no such slot; Memory, for twice the bytes of the file; File.
+/// A copy in memory of a file in which the gate of a slot, 0 or 1, is closed, so that it opens to what the other slot
+/// leads to. NotDocument where the file has no such slot; Memory, for twice the bytes of the file; File.
 pub fn copy_with_gate_closed<S: Store>(
     alloc: Global,
     store: &mut S,

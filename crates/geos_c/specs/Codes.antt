@@ -35,8 +35,8 @@ code_of (Err fault) = pos (number_of_fault fault)
 abbrev pub Tells : {T : Type 0} → (Result T Fault → Type 0) → ℤ → Type 0
 Tells {T} holds code = (answer : Result T Fault) × (code ≡ code_of answer) × holds answer
 
--- As many of the bytes, or of the handles, as fit stand at the start of the buffer, the rest of which stays; how many there are is told, and the code
--- whether all of them fit.
+-- As many of the bytes, or of the handles, as fit stand at the start of the buffer, the rest of which stays; how many
+-- there are is told, and the code whether all of them fit.
 pub record HandsOut (bytes old new : List ℕ) (count : ℕ) (code : ℤ) : Type 0 where
   pub count_is : count ≡ length bytes
   pub buffer : new ≡ take (length old) bytes ++ drop (length bytes) old
@@ -48,7 +48,8 @@ IsNamed number old new count code =
     ((fault : Fault) × (number ≡ pos (number_of_fault fault)) × HandsOut (name_of_fault fault) old new count code)
     ⊎ (((number ≤ℤ pos 0) ⊎ (pos 30 ≤ℤ number)) × (new ≡ old) × (count ≡ 0) × (code ≡ bad_argument))
 
--- The bytes or the handles that a reply has are handed out; where it is a refusal none are, and the code is the fault's number.
+-- The bytes or the handles that a reply has are handed out; where it is a refusal none are, and the code is the fault's
+-- number.
 abbrev pub HandsOutReply : Reply → List ℕ → List ℕ → ℕ → ℤ → Type 0
 HandsOutReply (BytesAre bytes) old new count code = HandsOut bytes old new count code
 HandsOutReply (BlocksAre handles) old new count code = HandsOut handles old new count code

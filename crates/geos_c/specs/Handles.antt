@@ -16,8 +16,8 @@ use Rattle.geos_c.specs.Stores.{FileStore, facts, store_on}
 use Rattle.geos_c.specs.Telling.{HandsOutEqual, HandsOutInfo, HandsOutNumber}
 use Rattle.geos_c.specs.declared.handle.Handle.{Handle}
 
--- A call on a handle. One that has a session still has it, and it has done what the code tells; one that has none still has none, and
--- that is what the code says.
+-- A call on a handle. One that has a session still has it, and it has done what the code tells; one that has none still
+-- has none, and that is what the code says.
 pub record OnHandle {T : Type 0} (does : SessionState FileStore → SessionState FileStore → Result T Fault → Type 0) (old new : Handle) (code : ℤ) : Type 0 where
   pub same : new.is_open ≡ old.is_open
   pub told : old.is_open ≡ true → Tells (does old.kept.session new.kept.session) code
@@ -82,7 +82,8 @@ abbrev pub IsCreation : FileStore → ℕ → Begun → Type 0
 IsCreation store frames begun = MatchResult begun (λ session. IsMadeIn facts store (file_of session)) (λ refused. IsNotMade facts store refused.store refused.fault)
     × IfOk begun (λ session. (session.log ≡ empty_log) × (session.frames ≡ frames))
 
--- What was begun is behind the handle; or the handle is as it was, for the fault, or since there is no memory for the box.
+-- What was begun is behind the handle; or the handle is as it was, for the fault, or since there is no memory for the
+-- box.
 abbrev pub IsBegun : Begun → Handle → Handle → ℤ → Type 0
 IsBegun begun old new code = MatchResult begun
     (λ session. ((code ≡ pos 0) × (new.is_open ≡ true) × (new.kept.session ≡ session)) ⊎ ((new ≡ old) × (code ≡ pos (number_of_fault Memory))))

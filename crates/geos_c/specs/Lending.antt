@@ -29,8 +29,8 @@ pub record HandsOutPlace (answer : Result (Bor (List ℕ)) Fault) (at : Ptr) (co
   pub place : MatchResult answer (λ bytes. (at ≡ as_ptr bytes) × (count ≡ length bytes.now)) (λ _. (at ≡ null_ptr) × (count ≡ 0))
   pub code_is : code ≡ code_of answer
 
--- The bytes of a locked block are lent, or it is refused, and the session stays. Whose address is handed out no session can say: that it
--- isn't null, and that as many bytes are lent as are told, is what is left of it.
+-- The bytes of a locked block are lent, or it is refused, and the session stays. Whose address is handed out no session
+-- can say: that it isn't null, and that as many bytes are lent as are told, is what is left of it.
 abbrev pub Lends : {S : Type 0} → Command → ℕ → Ptr → ℕ → SessionState S → SessionState S → Result (List ℕ) Fault → Type 0
 Lends command block at count old new answer = IsLent command block old (reply_by BytesAre answer) × (new ≡ old)
     × MatchResult answer (λ bytes. (at ≢ null_ptr) × (count ≡ length bytes)) (λ _. (at ≡ null_ptr) × (count ≡ 0))

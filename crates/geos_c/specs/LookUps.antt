@@ -15,8 +15,8 @@ use Rattle.undo_log.specs.Sessions.{SessionState, AnswersLookUp, IsStep, KeepsSe
 use Rattle.geos_c.specs.Calls.{AlwaysSteps}
 use Rattle.geos_c.specs.Codes.{HandsOutReply}
 
--- A look-up along chains, whose roots may be refused so, is answered as `undo_log` answers it: the parts have the names that they have
--- at `Session::walk`.
+-- A look-up along chains, whose roots may be refused so, is answered as `undo_log` answers it: the parts have the names
+-- that they have at `Session::walk`.
 pub record AnswersAlongChain {S : Type 0} (facts : S → StoreFacts) (root : Fault → Type 0) (command : Command) (old new : SessionState S) (reply : Reply) : Type 0 where
   pub keeps : KeepsSession facts old new
   pub step : IsStep facts old new command reply

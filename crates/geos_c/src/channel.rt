@@ -1,4 +1,4 @@
-//! A file of the program's, by a number of its own, behind a channel: each call is a message, which is answered at once.
+//! A file of the program's, by a number of its own, behind a channel: each call is a message, answered at once.
 ghost use Rattle.std.specs.Prelude.{◌≡◌};
 ghost use Rattle.vm_store.specs.HostSystem.{host_system_facts, host_system_timely};
 ghost use Rattle.geos_c.specs.Stores.{given_calls, store_on};
@@ -7,7 +7,8 @@ use crate::message::{Operation, message};
 use byteorder::{ByteOrder, LittleEndian};
 use vm_store::{HostStore, System, SystemFault, SystemFile};
 
-/// A file that the program has and goes on to own, so that it isn't closed here. No contract says what it gives and takes.
+/// A file that the program has and goes on to own, so that it isn't closed here. No contract says what it gives and
+/// takes.
 #[derive(Drop)]
 pub(crate) struct ChannelFile {
     number: i32,

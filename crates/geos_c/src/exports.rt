@@ -113,8 +113,8 @@ pub extern "C" fn geosvm_close(handle: &mut Handle, alloc: Global) -> i32
     }
 }
 
-/// Answers one line, without its line feed. `length` becomes how many bytes its reply line has; as many as fit lie in the
-/// buffer.
+/// Answers one line, without its line feed. `length` becomes how many bytes its reply line has; as many as fit lie in
+/// the buffer.
 #[unsafe(no_mangle)]
 pub extern "C" fn geosvm_command(
     handle: &mut Handle,

@@ -1,4 +1,4 @@
-//! Reads the command line: a command, `check`, `dump`, `stat`, `map` or `restore`, with its flags and the name of a file.
+//! Reads the command line: a command, `check`, `dump`, `stat`, `map` or `restore`, its flags and the name of a file.
 use clap::error::ErrorKind;
 use clap::{Arg, ArgAction, ArgMatches, Command, Error, value_parser};
 use geos_model::Bytes;

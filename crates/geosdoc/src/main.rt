@@ -1,4 +1,4 @@
-//! The program that looks at document files: what it is asked for, on standard output. It makes one again by its script, too.
+//! The program that looks at document files: what it is asked for, on standard output. It also makes one by its script.
 #![tactic(auto)]
 
 mod command_line;

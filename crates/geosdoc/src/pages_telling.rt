@@ -20,7 +20,8 @@ impl fmt::Display for Told {
     }
 }
 
-/// Writes which extents of the slot that counts overlap, and how many pages nothing lies on. Nothing where no slot counts.
+/// Writes which extents of the slot that counts overlap, and how many pages nothing lies on. Nothing where no slot
+/// counts.
 pub fn write_pages<W: Write>(alloc: Global, writer: &mut W, report: &Report) -> io::Result<()> {
     let slot = match report.counting() {
         Some(slot) => slot,

@@ -59,7 +59,8 @@ impl fmt::Display for Obstacle {
     }
 }
 
-/// A writer that keeps the front of the last line alone. A run writes the replies to several lines together, the refused one last.
+/// A writer that keeps the front of the last line alone. A run writes the replies to several lines together, the
+/// refused one last.
 #[derive(Drop)]
 pub struct LastReply {
     line: ArrayVec<u8, LONGEST_REFUSAL>,
@@ -118,8 +119,8 @@ fn make<F: Files>(rt: &HostRuntime, files: &mut F, name: &str) -> Result<F::Open
     }
 }
 
-/// Makes a file that isn't there, and in it the document that a script from standard input makes. A line that is refused ends it; the
-/// file is left then as the commits before it made it.
+/// Makes a file that isn't there, and in it the document that a script from standard input makes. A line that is
+/// refused ends it; the file is left then as the commits before it made it.
 pub fn restore(rt: &HostRuntime, name: &str) -> Result<(), NoRestore> {
     // They keep the standard streams guarded until all is closed.
     let mut files = machine_files(rt);

@@ -11,8 +11,8 @@ use crate::handle::{Handle, put, take};
 use crate::lending::{lend_chunk, lend_raw, nowhere};
 use std::alloc::Global;
 
-/// Lends the bytes of a chunk of a locked block. `bytes` becomes their address and `length` how many there are; where they are
-/// refused, null and 0.
+/// Lends the bytes of a chunk of a locked block. `bytes` becomes their address and `length` how many there are; where
+/// they are refused, null and 0.
 #[unsafe(no_mangle)]
 pub extern "C" fn geosvm_locked_chunk(
     handle: &mut Handle,

@@ -81,7 +81,8 @@ fn handles(
 
 // Blocks.
 
-/// Whether a block is a heap, which is 1, or a raw block, 0; its user ID, and the bytes that a heap needs, or that a raw block has.
+/// Whether a block is a heap, which is 1, or a raw block, 0; its user ID, and the bytes that a heap needs, or that a
+/// raw block has.
 #[unsafe(no_mangle)]
 pub extern "C" fn geosvm_info(
     handle: &mut Handle,
