@@ -1,7 +1,8 @@
 -- The documents of the slot that counts, and why a file has none.
 use Rattle.std.proofs.Common.{◌≡◌, ◌<◌, ◌≤◌, ◌==◌, ◌||◌, not, ℕ, Bool, true, false, List, Option, Some, None, Result, Ok, Err, length, refl, sym, ap, ap₂, ◌∙◌, inl, inr, [], ◌∷◌, ◌++◌}
-use Rattle.std.specs.Prelude.{if◌then◌else◌, MatchOption, ◌⊎◌}
-use Rattle.std.specs.Option.{option_and_then, option_map, option_map_or}
+use Rattle.std.specs.Prelude.{if◌then◌else◌, nat_lt, MatchOption, ◌⊎◌}
+use Rattle.std.specs.Option.{option_and_then, option_map}
+use Rattle.std.specs.Result.{result_map_both}
 use Rattle.std.specs.FinMap.{from_entries}
 use Rattle.std.proofs.lemmas.Bool.{cond-true, cond-false, le-ltb, lt-ltb}
 use Rattle.geos_model.specs.Document.{Document}
@@ -12,30 +13,14 @@ use Rattle.geos_model.specs.declared.file.Extent.{Extent}
 use Rattle.geos_model.specs.declared.file.Slot.{Slot}
 use Rattle.vm_file.specs.Calls.{IsResourceFault}
 use Rattle.vm_file.specs.Opened.{IsReadRefusal}
-use Rattle.file_report.specs.Checked.{header_verdict}
+use Rattle.file_report.specs.Checked.{chosen_by, header_verdict}
+use Rattle.file_report.specs.Pages.{file_usages, slot_usages}
+use Rattle.file_report.proofs.SlotLemmas.{pair_right, pair_wrong}
 use Rattle.document_stat.specs.Counted.{Blocks}
 use Rattle.vm_space.specs.Listed.{shown}
-use Rattle.document_stat.specs.Files.{IsChosen, IsCountingSlot, IsDocumentStat, IsSavedStat, extents_at, extents_of, extents_of_slot, extents_with, slots_extent}
+use Rattle.document_stat.specs.Files.{IsChosen, IsCountingSlot, IsDocumentStat, IsSavedStat, counting_usages}
 use Rattle.document_stat.specs.declared.counting.CountingSlot.{CountingSlot}
 use Rattle.document_stat.specs.declared.file_stat.DocumentStat.{DocumentStat}
-
-abbrev pub header_right : Result (Unit {0}) Fault
-header_right = Ok tt
-
-abbrev headed : {T : Type 0} → Bool → Bool → Bool → Result T Fault → Result T Fault
-headed a b c rest = if not a then Err NotDocument else if not b || c then Err Damaged else rest
-
-right_pair : {T : Type 0} (a b c : Bool) (rest : Result T Fault) → headed a b c header_right ≡ header_right → headed a b c rest ≡ rest
-right_pair false b c rest right = absurd (cc right)
-right_pair true false c rest right = absurd (cc right)
-right_pair true true true rest right = absurd (cc right)
-right_pair true true false rest right = refl
-
-wrong_pair : {T : Type 0} (a b c : Bool) (rest : Result T Fault) (fault : Fault) → headed a b c header_right ≡ Err fault → headed a b c rest ≡ Err fault
-wrong_pair false b c rest fault wrong = let same : NotDocument ≡ fault = cc wrong in ap Err same
-wrong_pair true false c rest fault wrong = let same : Damaged ≡ fault = cc wrong in ap Err same
-wrong_pair true true true rest fault wrong = let same : Damaged ≡ fault = cc wrong in ap Err same
-wrong_pair true true false rest fault wrong = absurd (cc wrong)
 
 abbrev pub documents_at : List ℕ → Slot → Result (Document × Document) Fault
 documents_at file s = both (document_at s.version file s.working) (document_at s.version file s.saved)
@@ -45,8 +30,7 @@ stands_counting file counting long is = cond-false _ _ _ (le-ltb (length file) 1
 
 -- those of the slot that counts
 pub stands_chosen : (file : List ℕ) (s : Slot) → IsChosen file s → stands file ≡ documents_at file s
-stands_chosen file s is =
-    stands_counting file (Ok s) is.long is.counts ∙ right_pair (s.version == 1 || s.version == 2) (s.reserved == 0) (s.sequence == 0) (documents_at file s) is.right
+stands_chosen file s is = stands_counting file (Ok s) is.long is.counts ∙ pair_right file s is.right
 
 -- a file that is too short, in which no slot counts, or the one that does leads to none
 pub refused_short : (file : List ℕ) → length file < 1024 → stands file ≡ Err NotDocument
@@ -56,8 +40,7 @@ pub refused_slots : (file : List ℕ) (fault : Fault) → 1024 ≤ length file �
 refused_slots file fault long is = stands_counting file (Err fault) long is
 
 pub refused_header : (file : List ℕ) (s : Slot) (fault : Fault) → 1024 ≤ length file → counting_slot (open_slot file 0) (open_slot file 1) ≡ Ok s → header_verdict s ≡ Err fault → stands file ≡ Err fault
-refused_header file s fault long is wrong =
-    stands_counting file (Ok s) long is ∙ wrong_pair (s.version == 1 || s.version == 2) (s.reserved == 0) (s.sequence == 0) (documents_at file s) fault wrong
+refused_header file s fault long is wrong = stands_counting file (Ok s) long is ∙ pair_wrong file s fault wrong
 
 first_none : (first second : Option Document) → first ≡ None → both first second ≡ Err Damaged
 first_none first second none = ap (λ (d : Option Document). both d second) none
@@ -87,6 +70,24 @@ document_none file d is = ap (option_map (made_of d.map_block)) is
 
 -- What is told of them.
 
+abbrev pub numbered : Slot → ℕ × Slot
+numbered s = (s.sequence, s)
+
+abbrev pub slot_in : Result (ℕ × Slot) Fault → Result Slot Fault
+slot_in choice = result_map_both (λ p. p.1) (λ fault. fault) choice
+
+two_chosen : (same less : Bool) (a b : Slot) → slot_in (if same then Err Damaged else if less then Ok (1, b) else Ok (0, a)) ≡ (if same then Err Damaged else if less then Ok b else Ok a)
+two_chosen true less a b = refl
+two_chosen false true a b = refl
+two_chosen false false a b = refl
+
+-- the slot of those that were chosen by their numbers
+pub chosen_slot : (a b : Option Slot) → slot_in (chosen_by (option_map numbered a) (option_map numbered b)) ≡ counting_slot a b
+chosen_slot None None = refl
+chosen_slot (Some a) None = refl
+chosen_slot None (Some b) = refl
+chosen_slot (Some a) (Some b) = two_chosen (a.sequence == b.sequence) (nat_lt a.sequence b.sequence) a b
+
 pub chosen_from : (file : List ℕ) (first second : Option Slot) (result : Result Slot Fault) → first ≡ open_slot file 0 → second ≡ open_slot file 1 → result ≡ counting_slot first second → counting_slot (open_slot file 0) (open_slot file 1) ≡ result
 chosen_from file first second result one two is = sym (is ∙ ap₂ counting_slot one two)
 
@@ -96,12 +97,8 @@ pub saved_there : (file : List ℕ) (s : Slot) (updated : Document) (stat : Opti
 saved_there file s updated None was same = (updated, ap (document_at s.version file) same ∙ was, refl)
 saved_there file s updated (Some x) was is = is
 
-extents_same : (version : ℕ) (file : List ℕ) (e : Extent) (d : Directory) → directory_of version file e ≡ Some d → extents_with e d.entries ≡ extents_at version file e
-extents_same version file e d is = sym (ap (λ (o : Option Directory). option_map_or (λ d. extents_with e d.entries) o []) is)
-
-pub extents_read : (file : List ℕ) (c : CountingSlot) → IsCountingSlot file c → extents_of_slot c ≡ extents_of file c.slot
-extents_read file c is =
-    ap₂ (λ (a b : List Extent). slots_extent ∷ a ++ b) (extents_same c.slot.version file c.slot.working (shown c.updated) is.updated) (extents_same c.slot.version file c.slot.saved (shown c.saved) is.saved)
+pub usages_read : (file : List ℕ) (c : CountingSlot) → IsCountingSlot file c → counting_usages c ≡ file_usages file c.slot
+usages_read file c is = ap₂ (slot_usages c.slot) (sym is.updated) (sym is.saved)
 
 -- what a reading is refused for is what an opening answers, where damage makes an opening answer so
 pub refused_by : (file : List ℕ) (fault : Fault) → IsReadRefusal fault → (fault ≡ Damaged → stands file ≡ Err Damaged) → IsResourceFault fault ⊎ (stands file ≡ Err fault)

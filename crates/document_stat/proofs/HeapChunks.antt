@@ -10,6 +10,7 @@ use Rattle.geos_model.proofs.HeapTables.{chunk_bytes_le, length-table_of, need_l
 use Rattle.geos_model.proofs.Images.{word-reads_back}
 use Rattle.geos_model.proofs.Table.{table_entries}
 use Rattle.geos_model.proofs.Tables.{entries-table_map, get-table_map, slot_at, table_map-nil}
+use Rattle.file_report.proofs.HeapLemmas.{table_len_le}
 use Rattle.document_stat.specs.Counted.{Chunks, chunks_under}
 
 abbrev pub Slots : Type 0
@@ -56,13 +57,6 @@ entries-empty = ap entries (sym (table_map-nil 2 16)) ∙ entries-table_map (ome
 
 -- They are few.
 
--- the table has no more entries than fill the heap
-pub table_len_le : (m : ChunkMap) → is_heap_map m ≡ true → table_len (keys m) ≤ 32752
-unfolding need
-table_len_le m heap =
-    let room = need_le m heap in
-    omega (arith, room)
-
 few_in : (h : ℕ) (t : Slots) → length (chunks_in h t) ≤ length t
 few_in h [] = omega arith
 few_in h (None ∷ t) = let rest = few_in (h + 2) t in omega (arith, rest)
@@ -73,19 +67,6 @@ few_entries m heap =
     let t = table_of m in
     let all = ap length (sym (entries-table_map (omega arith) 16 t) ∙ ap entries (table_map-table_of m heap)) in
     omega (arith, all, few_in 16 t, length-table_of m, table_len_le m heap)
-
--- the length of the table stands in an image
-pub image-table_len : (m : ChunkMap) → is_heap_map m ≡ true → word_at (image (Heap m)) 1 ≡ table_len (keys m)
-unfolding image
-image-table_len m heap =
-    let t = table_len (keys m) in
-    let sizes = flat_map (size_word m) (handles_to t) in
-    let chunks = flat_map (λ (bytes : List ℕ). bytes) (values m) in
-    ap (λ (l : List ℕ). word_at (1 ∷ l) 1) (append_assoc (word t) sizes chunks) ∙ word-reads_back t (sizes ++ chunks) (omega (arith, table_len_le m heap))
-
-pub length_image-heap : (m : ChunkMap) → 3 ≤ length (image (Heap m))
-unfolding image
-length_image-heap m = omega arith
 
 pub short_chunk : (m : ChunkMap) (h : ℕ) (bytes : List ℕ) → is_heap_map m ≡ true → Some bytes ≡ get m h → length bytes ≤ 65520
 short_chunk m h bytes heap is =

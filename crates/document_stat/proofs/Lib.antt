@@ -4,4 +4,3 @@ pub mod HeapChunks
 pub mod ImageBodies
 pub mod Tallies
 pub mod ValidBlocks
-pub mod Walks

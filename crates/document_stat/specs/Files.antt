@@ -1,40 +1,20 @@
 -- What is counted of a file.
-use Rattle.std.specs.Prelude.{◌≡◌, ◌⊎◌, ◌≤◌, ℕ, IsTrue, List, [], ◌∷◌, ◌++◌, length, map, Option, None, Some, Ok, Err, MatchOption}
-use Rattle.std.specs.Option.{option_map_or}
+use Rattle.std.specs.Prelude.{◌≡◌, ◌⊎◌, ◌≤◌, ℕ, IsTrue, List, length, Option, None, Some, Ok, Err, MatchOption}
 use Rattle.std.specs.FinMap.{entries}
 use Rattle.vm_store.specs.Facts.{StoreFacts}
 use Rattle.geos_model.specs.Document.{Document}
 use Rattle.geos_model.specs.File.{counting_slot, directory_of, document_at, open_slot, pages_of, stands}
 use Rattle.geos_model.specs.declared.fault.Fault.{Fault}
-use Rattle.geos_model.specs.declared.file.Entry.{Entry}
-use Rattle.geos_model.specs.declared.file.Extent.{Extent}
 use Rattle.geos_model.specs.declared.file.Slot.{Slot}
 use Rattle.vm_space.specs.Listed.{shown}
 use Rattle.vm_file.specs.Calls.{IsResourceFault}
 use Rattle.file_report.specs.Checked.{header_verdict}
+use Rattle.file_report.specs.Pages.{AreFreePages, file_usages, slot_usages}
+use Rattle.file_report.specs.declared.pages.Usage.{Usage}
 use Rattle.document_stat.specs.Counted.{IsBlockStat}
-use Rattle.document_stat.specs.Pages.{AreFreeRuns}
 use Rattle.document_stat.specs.declared.counting.CountingSlot.{CountingSlot}
 use Rattle.document_stat.specs.declared.file_stat.DocumentStat.{DocumentStat}
 use Rattle.document_stat.specs.declared.file_stat.FileStat.{FileStat}
-
--- Pages.
-
--- the slots lie on the first two pages
-abbrev pub slots_extent : Extent
-slots_extent = record { page = 0; length = 1024 }
-
--- a directory and the images of its entries
-abbrev pub extents_with : Extent → List Entry → List Extent
-extents_with e es = e ∷ map (λ x. x.extent) es
-
--- those of a document of a file of a version
-abbrev pub extents_at : ℕ → List ℕ → Extent → List Extent
-extents_at version file e = option_map_or (λ d. extents_with e d.entries) (directory_of version file e) []
-
--- what a slot of a file leads to
-abbrev pub extents_of : List ℕ → Slot → List Extent
-extents_of file s = slots_extent ∷ extents_at s.version file s.working ++ extents_at s.version file s.saved
 
 -- What is read of a file, and why it isn't.
 
@@ -49,8 +29,9 @@ pub record IsCountingSlot (file : List ℕ) (c : CountingSlot) : Type 0 where
   pub updated : directory_of c.slot.version file c.slot.working ≡ Some (shown c.updated)
   pub saved : directory_of c.slot.version file c.slot.saved ≡ Some (shown c.saved)
 
-abbrev pub extents_of_slot : CountingSlot → List Extent
-extents_of_slot c = slots_extent ∷ extents_with c.slot.working c.updated.entries.items ++ extents_with c.slot.saved c.saved.entries.items
+-- what it leads to
+abbrev pub counting_usages : CountingSlot → List Usage
+counting_usages c = slot_usages c.slot (Some (shown c.updated)) (Some (shown c.saved))
 
 -- lack of memory, a store that failed, or what an opening of the file answers
 abbrev pub IsRefusal : StoreFacts → Fault → Type 0
@@ -72,7 +53,7 @@ pub record IsFileStat (file : List ℕ) (s : FileStat) : Type 0 where
   pub counts : counting_slot (open_slot file 0) (open_slot file 1) ≡ Ok slot
   pub size : s.file_length ≡ length file
   pub pages : s.pages ≡ pages_of (length file)
-  pub free : AreFreeRuns (extents_of file slot) (pages_of (length file)) s.free
+  pub free : AreFreePages (file_usages file slot) (pages_of (length file)) s.free
   pub updated_document : Document
   pub saved_document : Document
   pub stands : stands file ≡ Ok (updated_document, saved_document)

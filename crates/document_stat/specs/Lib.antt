@@ -1,5 +1,4 @@
 pub mod Arrays
 pub mod Counted
 pub mod Files
-pub mod Pages
 pub mod Tallies

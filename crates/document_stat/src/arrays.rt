@@ -42,8 +42,8 @@ fn kind_of_array(bytes: &[u8]) -> ArrayKind
     }
 }
 
-/// The kind of the array that these bytes read as, and how many elements it has, free ones too; None where they read as none.
-/// It takes time in proportion to the bytes, and no memory.
+/// The kind of the array that these bytes read as, and how many elements it has, free ones too; None where they read as
+/// none. It takes time in proportion to the bytes, and no memory.
 pub fn read_array(bytes: &[u8]) -> Option<(ArrayKind, u32)>
     ensures { MatchOption result (kind_of bytes.now ≡ None)
         (λ a. (kind_of bytes.now ≡ Some a.0) × (a.1 ≡ elements_of bytes.now)) }

@@ -4,7 +4,6 @@ ghost use Rattle.std.specs.BTreeMap.{get};
 ghost use Rattle.std.specs.Ordering.{nat_cmp};
 ghost use Rattle.std.specs.FinMap.{keys};
 ghost use Rattle.geos_model.specs.Heap.{capacity, is_heap_map, table_len};
-ghost use Rattle.geos_model.specs.Words.{word_at};
 ghost use Rattle.geos_model.specs.declared.block.Attributes.{Attributes};
 ghost use Rattle.geos_model.specs.declared.command.Body.TheVariants as bodies;
 ghost use Rattle.document_stat.specs.Counted.{AddsBlocks, IsBlockStat, if_so};
@@ -12,14 +11,15 @@ ghost use Rattle.document_stat.specs.Tallies.{AddsIfAny, most_items};
 
 use crate::chunks::ChunkStat;
 use crate::tally::{Item, Subject, Tally};
+use file_report::read_heap;
 use geos_model::{Attributes, CAPACITY, Fault, VmHandle};
 use lmem_heap::Heap;
 use std::alloc::{AllocError, Global};
 use std::collections::BTreeMap;
 use vm_file::Image;
 
-/// The blocks of a document. A raw block's size is the number of its bytes, and a heap's the number of bytes that it needs of
-/// the 65,520 that each heap has.
+/// The blocks of a document. A raw block's size is the number of its bytes, and a heap's the number of bytes that it
+/// needs of the 65,520 that each heap has.
 #[derive(Drop)]
 pub struct BlockStat {
     pub raw: Tally,
@@ -40,13 +40,6 @@ fn add_type(types: &mut BTreeMap<u16, Tally>, heap_type: u16, item: Item) -> Res
     };
     types.insert(heap_type, tally.with(item))?;
     Ok(())
-}
-
-fn word_at(bytes: &[u8], at: usize) -> usize
-    requires { at + 2 ≤ length bytes.now }
-    ensures { result ≡ word_at bytes.now at }
-{
-    usize::from(bytes[at]) + 256 * usize::from(bytes[at + 1])
 }
 
 impl BlockStat {
@@ -124,8 +117,8 @@ impl BlockStat {
             self.add_raw(block, (bytes.len() - 1) as u32);
             return Ok(());
         }
-        let heap = Heap::from_image(alloc, bytes)?;
-        self.add_heap(block, attributes.heap_type, &heap, word_at(bytes, 1))?;
+        let (heap, slots) = read_heap(alloc, bytes)?;
+        self.add_heap(block, attributes.heap_type, &heap, slots)?;
         Ok(())
     }
 }

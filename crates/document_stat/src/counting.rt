@@ -1,13 +1,13 @@
 //! The slot that counts, and its directories.
 ghost use Rattle.std.specs.Prelude.{◌≡◌, IsTrue, IfOk, IfErr, IsErrOf, Some, None, length};
-ghost use Rattle.std.specs.Option.{option_and_then};
+ghost use Rattle.std.specs.Option.{option_and_then, option_map};
 ghost use Rattle.geos_model.specs.File.{counting_slot, directory_of, if_open, open_slot};
 ghost use Rattle.vm_space.specs.Listed.{shown};
 ghost use Rattle.vm_file.specs.Calls.{IsResourceFault};
 ghost use Rattle.vm_file.specs.Opened.{IsReadRefusal, OnlyReadsStore};
 ghost use Rattle.document_stat.specs.Files.{IsChosen, IsCountingSlot, IsRefusal};
 
-use file_report::{ReadDirectory, header_verdict, read_slot_at};
+use file_report::{ReadDirectory, choose, header_verdict, read_slot_at};
 use geos_model::{Extent, Fault, PAGE, Slot};
 use std::alloc::Global;
 use vm_space::Directory;
@@ -40,23 +40,20 @@ fn read_open_slot<S: Store>(alloc: Global, store: &mut S, page: u32) -> Result<O
     Ok(if_open(read_slot_at(alloc, store, page)?))
 }
 
+fn numbered(slot: Option<Slot>) -> Option<(u64, Slot)>
+    ensures { result ≡ option_map (λ s. (s.sequence, s)) slot }
+{
+    let slot = slot?;
+    Some((slot.sequence, slot))
+}
+
 // The one of two open slots that counts.
 fn counting_slot(first: Option<Slot>, second: Option<Slot>) -> Result<Slot, Fault>
     ensures { result ≡ counting_slot first second }
 {
-    match (first, second) {
-        (None, None) => Err(Fault::NotDocument),
-        (Some(slot), None) => Ok(slot),
-        (None, Some(slot)) => Ok(slot),
-        (Some(first), Some(second)) => {
-            if first.sequence == second.sequence {
-                Err(Fault::Damaged)
-            } else if first.sequence < second.sequence {
-                Ok(second)
-            } else {
-                Ok(first)
-            }
-        }
+    match choose(numbered(first), numbered(second)) {
+        Ok((_, slot)) => Ok(slot),
+        Err(fault) => Err(fault),
     }
 }
 
@@ -100,8 +97,8 @@ fn choose_slot<S: Store>(alloc: Global, store: &mut S, file_length: u64) -> Resu
     Ok(slot)
 }
 
-/// Reads the slot that counts and its two directories, and no image, of a file of so many bytes. NotDocument and Damaged where
-/// an opening answers so and that is seen without the images; Memory, File.
+/// Reads the slot that counts and its two directories, and no image, of a file of so many bytes. NotDocument and
+/// Damaged where an opening answers so and that is seen without the images; Memory, File.
 pub fn read_counting_slot<S: Store>(
     alloc: Global,
     store: &mut S,

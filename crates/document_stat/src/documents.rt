@@ -2,11 +2,11 @@
 ghost use Rattle.std.specs.Prelude.{◌≡◌, IsTrue, IfOk, IfErr, IsErrOf, Some, None};
 ghost use Rattle.geos_model.specs.File.{block_of, blocks_of_entries};
 ghost use Rattle.vm_file.specs.Opened.{IsReadRefusal, OnlyReadsStore};
+ghost use Rattle.file_report.specs.Reading.{block_with};
 ghost use Rattle.document_stat.specs.Counted.{Blocks, IsCount};
 
 use crate::blocks::BlockStat;
-use file_report::read_extent;
-use geos_model::{Bytes, Entry, Fault};
+use geos_model::{Entry, Fault};
 use std::alloc::Global;
 use vm_file::Image;
 use vm_store::Store;
@@ -15,21 +15,19 @@ use vm_store::Store;
 fn read_image<S: Store>(alloc: Global, store: &mut S, entry: &Entry) -> Result<Image, Fault>
     ensures looks { OnlyReadsStore (S.facts store.old) (S.facts store.new) }
     ensures ok { IfOk result (λ image. IsTrue (S.facts store.old).honest
-        → block_of (S.facts store.old).content entry.now
-        ≡ Some (entry.now.handle.0, record { attributes = entry.now.attributes; body = image })) }
+        → block_of (S.facts store.old).content entry.now ≡ Some (block_with entry.now image)) }
     ensures damaged { IsErrOf result Fault.Damaged → IsTrue (S.facts store.old).honest
         → block_of (S.facts store.old).content entry.now ≡ None }
     ensures refusals { IfErr result IsReadRefusal }
 {
-    let bytes = read_extent(alloc, store, entry.extent)?;
-    match Image::from_bytes(Bytes::from_vec(bytes)) {
-        Some(image) if image.is_heap() || entry.attributes.heap_type == 0 => Ok(image),
-        _ => Err(Fault::Damaged),
+    match file_report::read_image(alloc, store, entry)? {
+        Some(image) => Ok(image),
+        None => Err(Fault::Damaged),
     }
 }
 
-/// Counts the blocks of a directory with these entries. Each image is read once, and one at a time is kept. Damaged where the
-/// bytes of one are no image of a body that can have its type; Memory, File.
+/// Counts the blocks of a directory with these entries. Each image is read once, and one at a time is kept. Damaged
+/// where the bytes of one are no image of a body that can have its type; Memory, File.
 pub fn count_blocks<S: Store>(
     alloc: Global,
     store: &mut S,

@@ -9,8 +9,8 @@ ghost use Rattle.document_stat.specs.Files.{IsCountingSlot, IsDocumentStat, IsFi
 use crate::blocks::BlockStat;
 use crate::counting::{CountingSlot, read_counting_slot};
 use crate::documents::count_blocks;
-use crate::pages::{FreeRuns, count_pages};
-use file_report::{page_count, read_length};
+use crate::pages::count_pages;
+use file_report::{FreePages, page_count, read_length};
 use geos_model::{Fault, VmHandle};
 use std::alloc::Global;
 use vm_space::Directory;
@@ -32,7 +32,7 @@ pub struct FileStat {
     /// Of 512 bytes; the last one may not be whole.
     pub pages: u64,
     /// Those on which nothing lies.
-    pub free: FreeRuns,
+    pub free: FreePages,
     pub updated: DocumentStat,
     /// None where both documents have the same directory, so that it is the updated one.
     pub saved: Option<DocumentStat>,
@@ -60,7 +60,8 @@ fn count_document<S: Store>(
     })
 }
 
-// The saved document of a slot, None where the updated one has the same directory. Damaged where an image is none; Memory, File.
+// The saved document of a slot, None where the updated one has the same directory. Damaged where an image is none;
+// Memory, File.
 fn count_saved<S: Store>(
     alloc: Global,
     store: &mut S,
@@ -80,9 +81,9 @@ fn count_saved<S: Store>(
     Ok(Some(count_document(alloc, store, &slot.saved)?))
 }
 
-/// Reads a file and counts what it has. Each directory is read once, and each image once for each of the two documents that has
-/// it; no more memory is taken than for the directories and one image. NotDocument and Damaged where an opening answers so;
-/// Memory, File.
+/// Reads a file and counts what it has. Each directory is read once, and each image once for each of the two documents
+/// that has it; no more memory is taken than for the directories and one image. NotDocument and Damaged where an
+/// opening answers so; Memory, File.
 pub fn stat<S: Store>(alloc: Global, store: &mut S) -> Result<FileStat, Fault>
     ensures looks { OnlyReadsStore (S.facts store.old) (S.facts store.new) }
     ensures ok { IfOk result (λ stat. IsTrue (S.facts store.old).honest → IsFileStat (S.facts store.old).content stat) }

@@ -16,5 +16,5 @@ pub use chunks::{ArrayStat, ChunkStat};
 pub use counting::{CountingSlot, read_counting_slot};
 pub use documents::count_blocks;
 pub use file_stat::{DocumentStat, FileStat, stat};
-pub use pages::{FreeRuns, count_pages};
+pub use pages::count_pages;
 pub use tally::{Item, Subject, Tally};

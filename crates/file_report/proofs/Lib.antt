@@ -1,6 +1,7 @@
 pub mod FindingsLemmas
+pub mod FreeLemmas
+pub mod HeapLemmas
 pub mod ImagesLemmas
 pub mod OverlapLemmas
-pub mod PagesLemmas
 pub mod SlotLemmas
 pub mod StandsLemmas

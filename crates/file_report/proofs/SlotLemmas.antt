@@ -1,5 +1,5 @@
 -- The verdict on a slot.
-use Rattle.std.proofs.Common.{◌≡◌, ◌≢◌, ◌⊎◌, inl, inr, ℕ, ◌==◌, ◌||◌, ◌&&◌, not, Bool, true, false, List, Option, Some, None, Result, Ok, Err, is_some, refl, ◌∙◌, subst, eqb-true}
+use Rattle.std.proofs.Common.{◌≡◌, ◌≢◌, ◌⊎◌, inl, inr, ℕ, ◌==◌, ◌||◌, ◌&&◌, not, Bool, true, false, List, Option, Some, None, Result, Ok, Err, is_some, refl, ap, ◌∙◌, subst, eqb-true}
 use Rattle.std.specs.Prelude.{if◌then◌else◌, IsErr, IsOk}
 use Rattle.geos_model.specs.Document.{Document}
 use Rattle.geos_model.specs.File.{both, pair_of, document_at}
@@ -40,11 +40,27 @@ wrong_pair true true false rest wrong = absurd (cc wrong)
 pub header_pair : (file : List ℕ) (s : Slot) → IsErr (header_verdict s) → header_verdict s ≡ verdict_of (pair_of file s)
 header_pair file s wrong = wrong_pair (s.version == 1 || s.version == 2) (s.reserved == 0) (s.sequence == 0) (both (document_at s.version file s.working) (document_at s.version file s.saved)) wrong
 
-right_pair : (a b c : Bool) (rest : Result (Document × Document) Fault) → headed a b c right_header ≡ right_header → verdict_of (headed a b c rest) ≡ verdict_of rest
-right_pair false b c rest right = absurd (cc right)
-right_pair true false c rest right = absurd (cc right)
-right_pair true true true rest right = absurd (cc right)
-right_pair true true false rest right = refl
+right_rest : {T : Type 0} (a b c : Bool) (rest : Result T Fault) → headed a b c right_header ≡ right_header → headed a b c rest ≡ rest
+right_rest false b c rest right = absurd (cc right)
+right_rest true false c rest right = absurd (cc right)
+right_rest true true true rest right = absurd (cc right)
+right_rest true true false rest right = refl
+
+-- one that is right leads to its two documents, if both stand
+pub pair_right : (file : List ℕ) (s : Slot) → header_verdict s ≡ right_header → pair_of file s ≡ both (document_at s.version file s.working) (document_at s.version file s.saved)
+pair_right file s right =
+    right_rest (s.version == 1 || s.version == 2) (s.reserved == 0) (s.sequence == 0) (both (document_at s.version file s.working) (document_at s.version file s.saved)) right
+
+wrong_rest : {T : Type 0} (a b c : Bool) (rest : Result T Fault) (fault : Fault) → headed a b c right_header ≡ Err fault → headed a b c rest ≡ Err fault
+wrong_rest false b c rest fault wrong = let same : NotDocument ≡ fault = cc wrong in ap Err same
+wrong_rest true false c rest fault wrong = let same : Damaged ≡ fault = cc wrong in ap Err same
+wrong_rest true true true rest fault wrong = let same : Damaged ≡ fault = cc wrong in ap Err same
+wrong_rest true true false rest fault wrong = absurd (cc wrong)
+
+-- one that is wrong leads to none, for what is wrong
+pub pair_wrong : (file : List ℕ) (s : Slot) (fault : Fault) → header_verdict s ≡ Err fault → pair_of file s ≡ Err fault
+pair_wrong file s fault wrong =
+    wrong_rest (s.version == 1 || s.version == 2) (s.reserved == 0) (s.sequence == 0) (both (document_at s.version file s.working) (document_at s.version file s.saved)) fault wrong
 
 both_stand : (updated saved : Option Document) → verdict_of (both updated saved) ≡ (if is_some updated && is_some saved then right_header else Err Damaged)
 both_stand None None = refl
@@ -55,9 +71,7 @@ both_stand (Some d) (Some e) = refl
 -- one that is right leads to them where both stand
 pub pair_stands : (file : List ℕ) (s : Slot) → header_verdict s ≡ right_header
     → verdict_of (pair_of file s) ≡ (if is_some (document_at s.version file s.working) && is_some (document_at s.version file s.saved) then right_header else Err Damaged)
-pair_stands file s right =
-    right_pair (s.version == 1 || s.version == 2) (s.reserved == 0) (s.sequence == 0) (both (document_at s.version file s.working) (document_at s.version file s.saved)) right
-    ∙ both_stand (document_at s.version file s.working) (document_at s.version file s.saved)
+pair_stands file s right = ap verdict_of (pair_right file s right) ∙ both_stand (document_at s.version file s.working) (document_at s.version file s.saved)
 
 not_false : (b : Bool) → not b ≡ false → b ≡ true
 not_false true is = refl

@@ -1,11 +1,13 @@
 -- The verdict on a file, by the states of its slots.
-use Rattle.std.proofs.Common.{◌≡◌, ◌≤◌, ◌==◌, ℕ, Bool, true, false, List, Option, Some, None, Ok, Err, length, arith, refl, sym, ap, ◌∙◌, eq-eqb, ne_eqb}
+use Rattle.std.proofs.Common.{◌≡◌, ◌≤◌, ◌==◌, ℕ, Bool, true, false, List, Option, Some, None, Result, Ok, Err, length, arith, refl, sym, ap, ◌∙◌, eq-eqb, ne_eqb}
 use Rattle.std.specs.Prelude.{if◌then◌else◌, nat_lt}
 use Rattle.std.specs.Option.{option_map, option_and_then}
+use Rattle.std.specs.Result.{result_map_both}
 use Rattle.std.proofs.lemmas.Bool.{cond-true, cond-false, le-ltb}
 use Rattle.geos_model.specs.File.{counting_slot, if_open, open_slot, pair_of, pair_of_counting, stands}
+use Rattle.geos_model.specs.declared.fault.Fault.{Fault}
 use Rattle.geos_model.specs.declared.fault.Fault.TheVariants.{Damaged}
-use Rattle.file_report.specs.Checked.{IsState, chosen, chosen_between, opened, verdict_by, verdict_of}
+use Rattle.file_report.specs.Checked.{IsState, chosen, chosen_between, chosen_by, opened, verdict_by, verdict_of}
 use Rattle.file_report.specs.declared.checking.SlotReport.{SlotReport}
 use Rattle.file_report.specs.declared.checking.SlotState.{SlotState}
 use Rattle.file_report.specs.declared.checking.SlotState.TheVariants.{Short, NoMark, Closed, Open}
@@ -26,6 +28,25 @@ state_opened file page (Open t) long is = record {
   slot = ap (option_and_then if_open) is.0 ∙ cond-true _ _ _ (eq-eqb t.slot.gate 1 is.1);
   verdict = λ r same. sym (ap (λ x. x.verdict) (some_same t r same)) ∙ is.2.verdict ∙ ap (λ x. verdict_of (pair_of file x.slot)) (some_same t r same);
 }
+
+abbrev pub with_second : {T U : Type 0} → (T → U) → ℕ × T → ℕ × U
+with_second f p = (p.0, f p.1)
+
+abbrev pub in_choice : {T U : Type 0} → (T → U) → Result (ℕ × T) Fault → Result (ℕ × U) Fault
+in_choice f choice = result_map_both (with_second f) (λ fault. fault) choice
+
+two_mapped : {T U : Type 0} (f : T → U) (same less : Bool) (one other : T)
+    → in_choice f (if same then Err Damaged else if less then Ok (1, other) else Ok (0, one)) ≡ (if same then Err Damaged else if less then Ok (1, f other) else Ok (0, f one))
+two_mapped {T} {U} f true less one other = refl
+two_mapped {T} {U} f false true one other = refl
+two_mapped {T} {U} f false false one other = refl
+
+-- the choice doesn't look at what goes with the numbers
+pub chosen_mapped : {T U : Type 0} (f : T → U) (a b : Option (ℕ × T)) → in_choice f (chosen_by a b) ≡ chosen_by (option_map (with_second f) a) (option_map (with_second f) b)
+chosen_mapped {T} {U} f None None = refl
+chosen_mapped {T} {U} f (Some p) None = refl
+chosen_mapped {T} {U} f None (Some q) = refl
+chosen_mapped {T} {U} f (Some p) (Some q) = two_mapped f (p.0 == q.0) (nat_lt p.0 q.0) p.1 q.1
 
 two_verdicts : (file : List ℕ) (same less : Bool) (r t : SlotReport) → r.verdict ≡ verdict_of (pair_of file r.slot) → t.verdict ≡ verdict_of (pair_of file t.slot)
     → verdict_by (if same then Err Damaged else if less then Ok (1, t) else Ok (0, r)) ≡ verdict_of (pair_of_counting file (if same then Err Damaged else if less then Ok t.slot else Ok r.slot))

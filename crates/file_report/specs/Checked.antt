@@ -31,7 +31,8 @@ abbrev pub header_verdict : Slot → Result (Unit {0}) Fault
 header_verdict s =
     if not (s.version == 1 || s.version == 2) then Err NotDocument else if not (s.reserved == 0) || s.sequence == 0 then Err Damaged else Ok tt
 
--- whether a slot's documents stand, and what is wrong where they don't; and the directories that it leads to, where it isn't wrong itself
+-- whether a slot's documents stand, and what is wrong where they don't; and the directories that it leads to, where it
+-- isn't wrong itself
 pub record IsSlotReport (file : List ℕ) (r : SlotReport) : Type 0 where
   pub verdict : r.verdict ≡ verdict_of (pair_of file r.slot)
   pub so : All (IsSo file r.slot) r.findings.items
@@ -53,14 +54,20 @@ opened Short = None
 opened NoMark = None
 opened (Closed s) = None
 
--- The slot that counts, 0 or 1, and what was found of it: of two open ones that of the greater sequence number. Else what the file is
--- for want of one.
+-- The slot that counts, 0 or 1, and what there is of it: of two open ones, each with its sequence number, that of the
+-- greater one. Else what the file is for want of one.
+abbrev pub chosen_by : {T : Type 0} → Option (ℕ × T) → Option (ℕ × T) → Result (ℕ × T) Fault
+chosen_by None None = Err NotDocument
+chosen_by (Some a) None = Ok (0, a.1)
+chosen_by None (Some b) = Ok (1, b.1)
+chosen_by (Some a) (Some b) = if a.0 == b.0 then Err Damaged else if nat_lt a.0 b.0 then Ok (1, b.1) else Ok (0, a.1)
+
+abbrev pub numbered : SlotReport → ℕ × SlotReport
+numbered r = (r.slot.sequence, r)
+
+-- with what was found of them
 abbrev pub chosen : Option SlotReport → Option SlotReport → Result (ℕ × SlotReport) Fault
-chosen None None = Err NotDocument
-chosen (Some r) None = Ok (0, r)
-chosen None (Some t) = Ok (1, t)
-chosen (Some r) (Some t) =
-    if r.slot.sequence == t.slot.sequence then Err Damaged else if nat_lt r.slot.sequence t.slot.sequence then Ok (1, t) else Ok (0, r)
+chosen first second = chosen_by (option_map numbered first) (option_map numbered second)
 
 abbrev pub chosen_between : SlotState → SlotState → Result (ℕ × SlotReport) Fault
 chosen_between first second = chosen (opened first) (opened second)

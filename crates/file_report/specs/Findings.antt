@@ -43,7 +43,8 @@ handle_before bytes i = if i == 0 then 0 else word_at bytes (16 * i)
 abbrev pub zeros_of : ℕ → ℕ
 zeros_of version = if version == 1 then 4 else 2
 
--- An entry with this text is wrong in a directory of a version, behind one with the handle `last`, in a file of a version and of n bytes.
+-- An entry with this text is wrong in a directory of a version, behind one with the handle `last`, in a file of a
+-- version and of n bytes.
 abbrev pub IsEntryFault : ℕ → ℕ → ℕ → ℕ → List ℕ → Entry → EntryFault → Type 0
 IsEntryFault file_version n version last text e entry.Order = e.handle.0 ≤ last
 IsEntryFault file_version n version last text e entry.Handle = greatest_handle version < e.handle.0

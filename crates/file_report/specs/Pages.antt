@@ -1,13 +1,18 @@
 -- What lies on the pages of a file.
-use Rattle.std.specs.Prelude.{◌≡◌, ◌⊎◌, true, ℕ, zero, suc, ◌+◌, Bool, not, cond, List, [], ◌∷◌, ◌++◌, map, Option, None, Some}
+use Rattle.std.specs.Prelude.{◌≡◌, ◌⊎◌, ◌<◌, ◌≤◌, true, false, ℕ, zero, suc, ◌+◌, ◌-◌, min, max, Bool, not, ◌&&◌, cond, List, [], ◌∷◌, ◌++◌, map, Option, None, Some}
 use Rattle.std.specs.List.{Contains, list_any}
+use Rattle.std.specs.Option.{option_map}
+use Rattle.geos_model.specs.File.{Directory, directory_of}
 use Rattle.geos_model.specs.declared.file.Extent.{Extent}
 use Rattle.geos_model.specs.declared.file.Entry.{Entry}
+use Rattle.geos_model.specs.declared.file.Slot.{Slot}
 use Rattle.vm_space.specs.Space.{is_on}
-use Rattle.vm_space.specs.declared.format.directory.Directory.{Directory}
+use Rattle.vm_space.specs.Listed.{shown}
 use Rattle.file_report.specs.declared.finding.Named.{Named}
 use Rattle.file_report.specs.declared.finding.Named.TheVariants.{Updated, Saved}
 use Rattle.file_report.specs.declared.checking.SlotReport.{SlotReport}
+use Rattle.file_report.specs.declared.free.FreePages.{FreePages}
+use Rattle.file_report.specs.declared.free.Walk.{Walk}
 use Rattle.file_report.specs.declared.pages.Usage.{Usage}
 use Rattle.file_report.specs.declared.pages.Content.{Content}
 use Rattle.file_report.specs.declared.pages.Content.TheVariants as content
@@ -24,11 +29,19 @@ image_usage name e = record { extent = e.extent; content = content.Image name e.
 -- what one of a slot's documents has in a file: the directory in an extent, and an image for each entry of it
 abbrev pub usages_in : Named → Extent → Option Directory → List Usage
 usages_in name e None = []
-usages_in name e (Some d) = record { extent = e; content = content.Directory name } ∷ map (image_usage name) d.entries.items
+usages_in name e (Some d) = record { extent = e; content = content.Directory name } ∷ map (image_usage name) d.entries
 
--- what a slot leads to
+-- what a slot leads to, with these directories of its documents
+abbrev pub slot_usages : Slot → Option Directory → Option Directory → List Usage
+slot_usages s updated saved = slots_usage ∷ usages_in Updated s.working updated ++ usages_in Saved s.saved saved
+
+-- with those that were found
 abbrev pub usages_of : SlotReport → List Usage
-usages_of r = slots_usage ∷ usages_in Updated r.slot.working r.updated ++ usages_in Saved r.slot.saved r.saved
+usages_of r = slot_usages r.slot (option_map shown r.updated) (option_map shown r.saved)
+
+-- with those that are in a file
+abbrev pub file_usages : List ℕ → Slot → List Usage
+file_usages file s = slot_usages s (directory_of s.version file s.working) (directory_of s.version file s.saved)
 
 -- something lies on a page
 abbrev pub is_used : List Usage → ℕ → Bool
@@ -39,9 +52,35 @@ abbrev pub pages_with : (ℕ → Bool) → ℕ → ℕ
 pages_with is zero = 0
 pages_with is (suc n) = cond (is n) 1 0 + pages_with is n
 
--- how many of the first n pages nothing lies on
-abbrev pub unused_pages : List Usage → ℕ → ℕ
-unused_pages us n = pages_with (λ page. not (is_used us page)) n
+-- nothing lies on a page
+abbrev pub is_free : List Usage → ℕ → Bool
+is_free us page = not (is_used us page)
+
+-- a free page behind one that isn't, or the first page
+abbrev pub begins_run : (ℕ → Bool) → ℕ → Bool
+begins_run free zero = free zero
+begins_run free (suc page) = free (suc page) && not (free page)
+
+-- so many pages from one on are free
+abbrev pub IsRun : (ℕ → Bool) → ℕ → ℕ → Type 0
+IsRun free start count = (page : ℕ) → start ≤ page → page < start + count → free page ≡ true
+
+-- among the first n pages is a run of so many, and none of more
+pub record IsLongest (free : ℕ → Bool) (n count : ℕ) : Type 0 where
+  pub start : ℕ
+  pub within : start + count ≤ n
+  pub run : IsRun free start count
+  pub most : (start count' : ℕ) → start + count' ≤ n → IsRun free start count' → count' ≤ count
+
+-- the first n pages, by a test which are free
+pub record AreRuns (free : ℕ → Bool) (n : ℕ) (f : FreePages) : Type 0 where
+  pub pages : f.pages ≡ pages_with free n
+  pub runs : f.runs ≡ pages_with (begins_run free) n
+  pub longest : IsLongest free n f.longest
+
+-- those of the first n pages on which nothing lies
+abbrev pub AreFreePages : List Usage → ℕ → FreePages → Type 0
+AreFreePages us n f = AreRuns (is_free us) n f
 
 -- what an extent holds, whichever of the two documents has it
 abbrev pub part_of : Content → Part
@@ -70,3 +109,22 @@ pub record IsTold (pairs : List (Usage × Usage)) (u : Usage) : Type 0 where
 -- each of them that overlaps another one is told
 abbrev pub AreTold : List Usage → List (Usage × Usage) → Type 0
 AreTold us pairs = (u v : Usage) → Contains us u → Contains us v → DoOverlap (u, v) → IsTold pairs u
+
+-- The walk over the pages.
+
+-- Of n pages those before the walk's end are counted, and those from `start` on to it are taken. Where the end is none
+-- of the file's, the page before it is taken.
+pub record IsWalk (taken : ℕ → Bool) (n start : ℕ) (w : Walk) : Type 0 where
+  pub counted : AreRuns (λ page. not (taken page)) w.end w.free
+  pub inside : w.end ≤ n
+  pub edge : w.end < n → (page : ℕ) → page + 1 ≡ w.end → taken page ≡ true
+  pub used : (page : ℕ) → start ≤ page → page < w.end → taken page ≡ true
+  pub behind : (page : ℕ) → w.end ≤ page → page < n → taken page ≡ false
+
+-- free pages are counted up to one, where that isn't before the end
+pub record PassesFree (old : Walk) (start : ℕ) (new : Walk) : Type 0 where
+  pub none : start ≤ old.end → new ≡ old
+  pub end : old.end < start → new.end ≡ start
+  pub pages : old.end < start → new.free.pages ≡ min (old.free.pages + (start - old.end)) 18446744073709551615
+  pub runs : old.end < start → new.free.runs ≡ min (old.free.runs + 1) 18446744073709551615
+  pub longest : old.end < start → new.free.longest ≡ max old.free.longest (start - old.end)

@@ -1,7 +1,9 @@
 -- A directory that was read, and what is found by it.
 use Rattle.std.specs.Prelude.{◌≡◌, ℕ, IsTrue, All, List, None, Some, length}
 use Rattle.vm_store.specs.Facts.{StoreFacts}
+use Rattle.geos_model.specs.Document.{Block}
 use Rattle.geos_model.specs.File.{bytes_in, directory_of}
+use Rattle.geos_model.specs.declared.command.Body.{Body}
 use Rattle.geos_model.specs.declared.file.Entry.{Entry}
 use Rattle.geos_model.specs.declared.file.Slot.{Slot}
 use Rattle.geos_model.specs.declared.file.Extent.{Extent}
@@ -17,6 +19,10 @@ abbrev pub IsRead : ℕ → Extent → ReadDirectory → List ℕ → Type 0
 IsRead version e Misplaced file = directory_of version file e ≡ None
 IsRead version e (Wrong bytes) file = (bytes.items ≡ bytes_in file e) × (directory_of version file e ≡ None)
 IsRead version e (Right directory) file = directory_of version file e ≡ Some (shown directory)
+
+-- the block that an entry lists, with its body
+abbrev pub block_with : Entry → Body → ℕ × Block
+block_with e body = (e.handle.0, record { attributes = e.attributes; body = body })
 
 -- it is no directory
 abbrev pub IsWrong : ReadDirectory → Type 0

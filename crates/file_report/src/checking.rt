@@ -6,7 +6,7 @@ ghost use Rattle.vm_file.specs.Calls.{IsResourceFault};
 ghost use Rattle.vm_file.specs.Opened.{OnlyReadsStore};
 ghost use Rattle.file_report.specs.Findings.{FindsMore};
 ghost use Rattle.file_report.specs.Reading.{IsSoOfSlot};
-ghost use Rattle.file_report.specs.Checked.{IsReport, IsSlotReport, IsState, chosen_between, counting_between, counting_number, header_verdict, opened, verdict_by};
+ghost use Rattle.file_report.specs.Checked.{IsReport, IsSlotReport, IsState, chosen_between, chosen_by, counting_between, counting_number, header_verdict, numbered, opened, verdict_by};
 
 use crate::document::check_document;
 use crate::finding::{Finding, Named, note_unless};
@@ -85,8 +85,8 @@ fn is_sequence(sequence: u64) -> bool
     sequence != 0
 }
 
-/// Whether a slot can lead to documents: Ok, or `NotDocument` where its version is none of the format, or `Damaged` where its zeros or
-/// its sequence number are wrong.
+/// Whether a slot can lead to documents: Ok, or `NotDocument` where its version is none of the format, or `Damaged`
+/// where its zeros or its sequence number are wrong.
 pub fn header_verdict(slot: &Slot) -> Result<(), Fault>
     ensures { result ≡ header_verdict slot.now }
 {
@@ -213,24 +213,42 @@ impl Report {
     }
 }
 
+/// Which of two slots counts, 0 or 1, and what there is of it: of two open ones that of the greater sequence number.
+/// Each open one is given with its number. NotDocument where none is open, Damaged where both have one number.
+pub fn choose<T: Copy>(first: Option<(u64, T)>, second: Option<(u64, T)>) -> Result<(u8, T), Fault>
+    ensures { result ≡ chosen_by first second }
+{
+    match (first, second) {
+        (None, None) => Err(Fault::NotDocument),
+        (Some(one), None) => Ok((0, one.1)),
+        (None, Some(other)) => Ok((1, other.1)),
+        (Some(one), Some(other)) => {
+            if one.0 == other.0 {
+                Err(Fault::Damaged)
+            } else if one.0 < other.0 {
+                Ok((1, other.1))
+            } else {
+                Ok((0, one.1))
+            }
+        }
+    }
+}
+
+// What was found of a slot, with its sequence number, where it is open.
+fn numbered(state: &SlotState) -> Option<(u64, &SlotReport)>
+    ensures { option_map (λ p. (p.0, p.1.now)) result ≡ option_map numbered (opened state.now) }
+{
+    match state {
+        SlotState::Open(report) => Some((report.slot.sequence, report)),
+        _ => None,
+    }
+}
+
 // Which slot counts, 0 or 1, and what was found of it, or what the file is where none does.
 fn chosen<'a>(first: &'a SlotState, second: &'a SlotState) -> Result<(u8, &'a SlotReport), Fault>
     ensures { result_map_both (λ p. (p.0, p.1.now)) (λ fault. fault) result ≡ chosen_between first.now second.now }
 {
-    match (first.opened(), second.opened()) {
-        (None, None) => Err(Fault::NotDocument),
-        (Some(one), None) => Ok((0, one)),
-        (None, Some(other)) => Ok((1, other)),
-        (Some(one), Some(other)) => {
-            if one.slot.sequence == other.slot.sequence {
-                Err(Fault::Damaged)
-            } else if one.slot.sequence < other.slot.sequence {
-                Ok((1, other))
-            } else {
-                Ok((0, one))
-            }
-        }
-    }
+    choose(numbered(first), numbered(second))
 }
 
 // Whether the file of two slots opens.
@@ -243,8 +261,8 @@ fn verdict_between(first: &SlotState, second: &SlotState) -> Result<(), Fault>
     }
 }
 
-/// Looks through a file: whether it opens, and what is wrong. Nothing is written, and no more memory is taken than for one image
-/// and the directories. Memory, File.
+/// Looks through a file: whether it opens, and what is wrong. Nothing is written, and no more memory is taken than for
+/// one image and the directories. Memory, File.
 pub fn check<S: Store>(alloc: Global, store: &mut S) -> Result<Report, Fault>
     ensures looks { OnlyReadsStore (S.facts store.old) (S.facts store.new) }
     ensures report { IfOk result (λ r. IsTrue (S.facts store.old).honest → IsReport (S.facts store.old).content r) }

@@ -1,10 +1,11 @@
 //! One of a slot's documents: its directory, and the images of its blocks.
 ghost use Rattle.std.specs.Prelude.{◌≡◌, ◌<◌, IsTrue, OnOk, IfOk, IfErr, false, None, is_some, length};
+ghost use Rattle.std.specs.Option.{option_map};
 ghost use Rattle.geos_model.specs.File.{block_of, blocks_of_entries};
 ghost use Rattle.vm_file.specs.Calls.{IsResourceFault};
 ghost use Rattle.vm_file.specs.Opened.{OnlyReadsStore};
 ghost use Rattle.file_report.specs.Findings.{FindsMore, directory_extent};
-ghost use Rattle.file_report.specs.Reading.{IsSoIn, IsSoOfEntries};
+ghost use Rattle.file_report.specs.Reading.{IsSoIn, IsSoOfEntries, block_with};
 ghost use Rattle.file_report.specs.Checked.{IsChecked};
 
 use crate::directory::{directory_extent, note_directory};
@@ -25,18 +26,32 @@ pub struct CheckedDocument {
     pub stands: bool,
 }
 
-// Whether the image of an entry is one of a body that can have its type. Memory, File.
+/// The image of an entry, None where its bytes are none of a body that can have its type. Memory, File.
+pub fn read_image<S: Store>(
+    alloc: Global,
+    store: &mut S,
+    entry: &Entry,
+) -> Result<Option<Image>, Fault>
+    ensures looks { OnlyReadsStore (S.facts store.old) (S.facts store.new) }
+    ensures image { IfOk result (λ image. IsTrue (S.facts store.old).honest
+        → block_of (S.facts store.old).content entry.now ≡ option_map (block_with entry.now) image) }
+    ensures refusals { IfErr result IsResourceFault }
+{
+    let bytes = read_extent(alloc, store, entry.extent)?;
+    match Image::from_bytes(Bytes::from_vec(bytes)) {
+        Some(image) if image.is_heap() || entry.attributes.heap_type == 0 => Ok(Some(image)),
+        _ => Ok(None),
+    }
+}
+
+// Whether there is one. Memory, File.
 fn has_image<S: Store>(alloc: Global, store: &mut S, entry: &Entry) -> Result<bool, Fault>
     ensures looks { OnlyReadsStore (S.facts store.old) (S.facts store.new) }
     ensures image { IfOk result (λ has. IsTrue (S.facts store.old).honest
         → has ≡ is_some (block_of (S.facts store.old).content entry.now)) }
     ensures refusals { IfErr result IsResourceFault }
 {
-    let bytes = read_extent(alloc, store, entry.extent)?;
-    match Image::from_bytes(Bytes::from_vec(bytes)) {
-        Some(image) => Ok(image.is_heap() || entry.attributes.heap_type == 0),
-        None => Ok(false),
-    }
+    Ok(read_image(alloc, store, entry)?.is_some())
 }
 
 // Whether each of these entries has its image. Memory, File.

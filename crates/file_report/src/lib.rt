@@ -6,10 +6,15 @@ mod directory;
 mod document;
 mod entry;
 mod finding;
+mod free;
+mod heaps;
 mod pages;
 mod reading;
 
-pub use checking::{Report, SlotReport, SlotState, check, header_verdict};
+pub use checking::{Report, SlotReport, SlotState, check, choose, header_verdict};
+pub use document::read_image;
 pub use finding::{EntryFault, Finding, HeaderFault, Named};
-pub use pages::{Content, FreePages, Usage, free_pages, overlaps, page_behind, page_count, usages};
+pub use free::{FreePages, free_pages};
+pub use heaps::read_heap;
+pub use pages::{Content, Usage, overlaps, page_behind, page_count, slot_usages, usages};
 pub use reading::{ReadDirectory, read_directory, read_extent, read_length, read_slot_at};

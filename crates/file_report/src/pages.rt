@@ -1,14 +1,16 @@
 //! What lies on the pages of a file.
-ghost use Rattle.std.specs.Prelude.{◌≡◌, ◌⊎◌, ◌↔◌, ◌≤◌, ◌<◌, ◌+◌, ◌-◌, ◌^◌, ◌++◌, All, IfOk, OnOk, IsTrue, IsPermutation, Some, length, map, max, min, nat_lt};
+ghost use Rattle.std.specs.Prelude.{◌≡◌, ◌⊎◌, ◌↔◌, ◌≤◌, ◌++◌, All, IfOk, OnOk, IsTrue, IsPermutation, Some, length, map, max, min, nat_lt};
 ghost use Rattle.std.specs.List.{Contains};
 ghost use Rattle.std.specs.List.Sorted.{IsNonDecreasingBy};
+ghost use Rattle.std.specs.Option.{option_copied, option_map};
 ghost use Rattle.geos_model.specs.File.{end_page, pages_of};
-ghost use Rattle.file_report.specs.Pages.{AreTold, DoOverlap, IsShared, IsTold, image_usage, part_of, unused_pages, usages_in, usages_of};
+ghost use Rattle.vm_space.specs.Listed.{shown};
+ghost use Rattle.file_report.specs.Pages.{AreTold, DoOverlap, IsShared, IsTold, image_usage, part_of, slot_usages, usages_in, usages_of};
 ghost use Rattle.file_report.specs.declared.pages.Usage.{Usage};
 
 use crate::checking::SlotReport;
 use crate::finding::Named;
-use geos_model::{Extent, PAGE, VmHandle};
+use geos_model::{Extent, PAGE, Slot, VmHandle};
 use std::alloc::{AllocError, Global};
 use vm_space::Directory;
 
@@ -27,16 +29,6 @@ pub enum Content {
 pub struct Usage {
     pub extent: Extent,
     pub content: Content,
-}
-
-/// The pages of a file on which nothing lies.
-#[derive(Clone, Copy)]
-pub struct FreePages {
-    pub pages: u64,
-    /// How many runs of neighbours they form.
-    pub runs: u64,
-    /// The pages of the longest run.
-    pub longest: u64,
 }
 
 // What the slots take.
@@ -66,9 +58,10 @@ fn push_document(
     usages: &mut Vec<Usage>,
     name: Named,
     extent: Extent,
-    directory: &Option<Directory>,
+    directory: Option<&Directory>,
 ) -> Result<(), AllocError>
-    ensures { OnOk result (usages.new.items ≡ usages.old.items ++ usages_in name extent directory.now) }
+    ensures { OnOk result (usages.new.items
+        ≡ usages.old.items ++ usages_in name extent (option_map shown (option_copied directory.entry))) }
 {
     if let Some(directory) = directory {
         usages.push(Usage {
@@ -96,61 +89,37 @@ fn push_images(
     Ok(())
 }
 
-/// What a slot leads to, by first pages. What both of its documents have is there for each of them.
-pub fn usages(alloc: Global, slot: &SlotReport) -> Result<Vec<Usage>, AllocError>
-    ensures all { IfOk result (λ usages. IsPermutation (usages_of slot.now) usages.items) }
+/// What a slot leads to with these directories of its documents, by first pages. What both have is there for each of
+/// them.
+pub fn slot_usages(
+    alloc: Global,
+    slot: &Slot,
+    updated: Option<&Directory>,
+    saved: Option<&Directory>,
+) -> Result<Vec<Usage>, AllocError>
+    ensures all { IfOk result (λ usages. IsPermutation (slot_usages slot.now
+        (option_map shown (option_copied updated.entry)) (option_map shown (option_copied saved.entry))) usages.items) }
     ensures order { IfOk result (λ usages. IsNonDecreasingBy (λ u. u.extent.page) usages.items) }
 {
     let mut usages = Vec::new(alloc);
     usages.push(SLOTS)?;
-    push_document(
-        &mut usages,
-        Named::Updated,
-        slot.slot.working,
-        &slot.updated,
-    )?;
-    push_document(&mut usages, Named::Saved, slot.slot.saved, &slot.saved)?;
+    push_document(&mut usages, Named::Updated, slot.working, updated)?;
+    push_document(&mut usages, Named::Saved, slot.saved, saved)?;
     usages.sort_by_key(|usage| usage.extent.page)?;
     Ok(usages)
 }
 
-impl FreePages {
-    // With a run of so many more pages, none where it is 0.
-    fn with_run(self, run: u64) -> FreePages
-        requires room { self.pages + run < 2 ^ 64 }
-        requires runs { self.runs ≤ self.pages }
-        ensures pages { result.pages ≡ self.pages + run }
-        ensures runs { result.runs ≤ result.pages }
-    {
-        if run == 0 {
-            return self;
-        }
-        FreePages {
-            pages: self.pages + run,
-            runs: self.runs + 1,
-            longest: self.longest.max(run),
-        }
-    }
-}
-
-/// Of a file of so many pages those on which none of these extents lies. Each page counts once, however many lie on it.
-pub fn free_pages(usages: &[Usage], pages: u64) -> FreePages
-    requires { IsNonDecreasingBy (λ u. u.extent.page) usages.now }
-    ensures { result.pages ≡ unused_pages usages.now pages }
+/// The same with the directories that were found.
+pub fn usages(alloc: Global, slot: &SlotReport) -> Result<Vec<Usage>, AllocError>
+    ensures all { IfOk result (λ usages. IsPermutation (usages_of slot.now) usages.items) }
+    ensures order { IfOk result (λ usages. IsNonDecreasingBy (λ u. u.extent.page) usages.items) }
 {
-    let mut free = FreePages {
-        pages: 0,
-        runs: 0,
-        longest: 0,
-    };
-    // Each page before this one is used or counted.
-    let mut end = 0;
-    for usage in usages {
-        let start = pages.min(u64::from(usage.extent.page));
-        free = free.with_run(start.saturating_sub(end));
-        end = pages.min(end.max(page_behind(usage.extent)));
-    }
-    free.with_run(pages - end)
+    slot_usages(
+        alloc,
+        &slot.slot,
+        slot.updated.as_ref(),
+        slot.saved.as_ref(),
+    )
 }
 
 /// What an extent holds, in whichever document.
@@ -222,8 +191,9 @@ fn further(furthest: Option<Usage>, usage: Usage) -> Usage
     }
 }
 
-/// Of extents by their first pages those that begin on a page of one before, each with the one before that reaches furthest. What
-/// both of a slot's documents have in the same place doesn't overlap; where a third lies on its pages it is told once.
+/// Of extents by their first pages those that begin on a page of one before, each with the one before that reaches
+/// furthest. What both of a slot's documents have in the same place doesn't overlap; where a third lies on its pages it
+/// is told once.
 pub fn overlaps(alloc: Global, usages: &[Usage]) -> Result<Vec<(Usage, Usage)>, AllocError>
     ensures overlap { IfOk result (λ pairs. All DoOverlap pairs.items) }
     ensures all { IfOk result (λ pairs. IsNonDecreasingBy (λ u. u.extent.page) usages.now

@@ -5,12 +5,12 @@ use Rattle.vm_file.specs.Calls.{IsResourceFault}
 use Rattle.vm_file.proofs.OpenedDirectoryLemmas.{directory_formed}
 use Rattle.geos_model.specs.Document.{Document}
 use Rattle.geos_model.specs.File.{both, bytes_in, document_of, pages_of, stands}
-use Rattle.geos_model.specs.declared.file.Extent.{Extent}
 use Rattle.geos_model.proofs.FileDocuments.{directory_of-some}
 use Rattle.vm_space.specs.Listed.{shown}
-use Rattle.document_stat.specs.Files.{IsCountingSlot, IsDocumentStat, IsSavedStat, extents_of_slot}
-use Rattle.document_stat.specs.Pages.{AreFreeRuns}
-use Rattle.document_stat.proofs.Files.{document_there, extents_read, refused_by, refused_saved, refused_updated, saved_there, stands_chosen}
+use Rattle.document_stat.specs.Files.{IsCountingSlot, IsDocumentStat, IsSavedStat, counting_usages}
+use Rattle.file_report.specs.Pages.{AreFreePages}
+use Rattle.file_report.specs.declared.pages.Usage.{Usage}
+use Rattle.document_stat.proofs.Files.{document_there, refused_by, refused_saved, refused_updated, saved_there, stands_chosen, usages_read}
 use Rattle.document_stat.proofs.file_stat.stat.Goals as goal
 
 pub returns-in_err-slot-clause-err : goal.returns-in_err-slot-clause-err
@@ -81,8 +81,8 @@ returns-clause-ok g c = λ so.
       counts = counting.chosen.counts;
       size = size;
       pages = c.page_count.ensures ∙ ap pages_of size;
-      free = subst (λ (es : List Extent). AreFreeRuns es (pages_of (length file)) c.in_ok-free.free) (extents_read file slot counting)
-          (subst (λ (n : ℕ). AreFreeRuns (extents_of_slot slot) (pages_of n) c.in_ok-free.free) size c.in_ok-free.ensures);
+      free = subst (λ (us : List Usage). AreFreePages us (pages_of (length file)) c.in_ok-free.free) (usages_read file slot counting)
+          (subst (λ (n : ℕ). AreFreePages (counting_usages slot) (pages_of n) c.in_ok-free.free) size c.in_ok-free.ensures);
       updated_document = updated.0;
       saved_document = saved.0;
       stands = stands_chosen file s counting.chosen ∙ ap₂ both there saved.1;

@@ -1,4 +1,4 @@
-use Rattle.file_report.proofs.FindingsLemmas.{finds_nothing, finds_both}
+use Rattle.file_report.proofs.FindingsLemmas.{finds_both}
 use Rattle.file_report.proofs.directory.note_bytes.Goals as goal
 
 pub returns : goal.returns

@@ -1,10 +1,10 @@
-use Rattle.std.proofs.Common.{rules, ◌≡◌, Some, All, get_or, subst, sym, ap, ◌∙◌}
+use Rattle.std.proofs.Common.{rules, ◌≡◌, Some, get_or, subst}
 use Rattle.std.specs.List.{Contains}
 use Rattle.std.proofs.lemmas.List.Elements.{Contains-get_or}
 use Rattle.geos_model.specs.File.{directory_of}
 use Rattle.vm_space.specs.Listed.{shown}
 use Rattle.vm_file.proofs.LooksLemmas.{OnlyReadsStore-trans, held_before, still_holds}
-use Rattle.file_report.specs.Findings.{IsListed, IsSo, directory_extent}
+use Rattle.file_report.specs.Findings.{IsSo, directory_extent}
 use Rattle.file_report.specs.Reading.{IsRead, IsSoIn, IsSoOfEntries, IsSoOfRead}
 use Rattle.file_report.specs.declared.reading.ReadDirectory.TheVariants.{Right}
 use Rattle.file_report.proofs.FindingsLemmas.{finds_both, finds_as}

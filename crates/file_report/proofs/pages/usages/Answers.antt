@@ -1,6 +1,13 @@
-use Rattle.std.proofs.Common.{rules}
-use Rattle.std.proofs.lemmas.List.Sorted.{IsNonDecreasingBy-from_sort_by_key}
+use Rattle.std.proofs.Common.{subst}
+use Rattle.std.specs.Prelude.{IfOk, IsPermutation, Option}
+use Rattle.std.specs.Option.{option_copied, option_map}
+use Rattle.vm_space.specs.Listed.{shown}
+use Rattle.vm_space.specs.declared.format.directory.Directory.{Directory}
+use Rattle.file_report.specs.Pages.{slot_usages}
 use Rattle.file_report.proofs.pages.usages.Goals as goal
 
-pub returns-clause-order : goal.returns-clause-order
-returns-clause-order c = IsNonDecreasingBy-from_sort_by_key (λ u. u.extent.page) _ c.in_ok-sort_by_key.ensures.sorted (λ a r q k. search rules)
+pub returns-clause-all : goal.returns-clause-all
+returns-clause-all c =
+    let s = c.args.slot.now in
+    subst (λ (saved : Option Directory). IfOk c.slot_usages.result (λ us. IsPermutation (slot_usages s.slot (option_map shown s.updated) (option_map shown saved)) us.items)) c.as_ref-2.ensures.value
+    (subst (λ (updated : Option Directory). IfOk c.slot_usages.result (λ us. IsPermutation (slot_usages s.slot (option_map shown updated) (option_map shown (option_copied c.as_ref-2.result))) us.items)) c.as_ref.ensures.value c.slot_usages.ensures.all)

@@ -1,10 +1,9 @@
 use Rattle.std.proofs.Common.{◌∷◌, [], ap, arith, length, refl, sym, subst, ◌∙◌, List, ℕ}
-use Rattle.geos_model.specs.Words.{word_at}
 use Rattle.geos_model.specs.declared.command.Body.{Body}
 use Rattle.geos_model.proofs.Images.{length_image_body_le}
 use Rattle.document_stat.specs.Counted.{AddsBlocks}
-use Rattle.document_stat.proofs.HeapChunks.{image-table_len, length_image-heap}
-use Rattle.document_stat.proofs.ImageBodies.{heap_image, image-not_empty, raw_body}
+use Rattle.file_report.proofs.HeapLemmas.{heap_image, image-not_empty}
+use Rattle.document_stat.proofs.ImageBodies.{raw_body}
 use Rattle.document_stat.proofs.blocks.BlockStat.add.Goals as goal
 
 pub overflow_sub-bytes : goal.overflow_sub-bytes
@@ -18,16 +17,8 @@ returns-then-not-is_heap-clause-ok c =
     let raw = raw_body c.args.image.now c.as_slice-bytes.result.now (sym c.if-not-is_heap.ensures) c.as_slice-bytes.ensures in
     subst (λ (body : Body). AddsBlocks ((c.args.block.0, record { attributes = c.args.attributes; body = body }) ∷ []) c.args.self.now c.add_raw.new.self) (sym raw.1) (c.add_raw.ensures c.args.attributes raw.0 raw.2)
 
-pub word_at-requires : goal.word_at-requires
-word_at-requires c = let made = c.in_ok-heap.ensures.ok in omega (arith, length_image-heap c.in_ok-heap.heap.chunks, ap length made.0)
-
-pub add_heap-requires-clause-slots : goal.add_heap-requires-clause-slots
-add_heap-requires-clause-slots c =
-    let made = c.in_ok-heap.ensures.ok in
-    c.word_at.ensures ∙ ap (λ (l : List ℕ). word_at l 1) (sym made.0) ∙ image-table_len c.in_ok-heap.heap.chunks made.1
-
 pub returns-clause-ok : goal.returns-clause-ok
 returns-clause-ok c =
-    let made = c.in_ok-heap.ensures.ok in
+    let made = c.in_ok-heap.ensures.heap in
     subst (λ (body : Body). AddsBlocks ((c.args.block.0, record { attributes = c.args.attributes; body = body }) ∷ []) c.args.self.now c.add_heap.new.self)
-    (sym (heap_image c.args.image.now c.in_ok-heap.heap.chunks c.as_slice-bytes.result.now c.validity.ensures made.1 (sym c.as_slice-bytes.ensures) made.0)) (c.in_ok-add_heap.ensures c.args.attributes refl)
+    (sym (heap_image c.args.image.now _ c.as_slice-bytes.result.now c.validity.ensures made.1 (sym c.as_slice-bytes.ensures) made.0)) (c.in_ok-add_heap.ensures c.args.attributes refl)

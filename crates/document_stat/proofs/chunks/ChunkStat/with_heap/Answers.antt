@@ -4,7 +4,8 @@ use Rattle.geos_model.specs.Heap.{handle_of}
 use Rattle.geos_model.proofs.HeapTables.{table_of}
 use Rattle.document_stat.specs.Counted.{chunks_under}
 use Rattle.document_stat.proofs.Adding.{adds_more_chunks, adds_no_chunk, adds_same_chunks}
-use Rattle.document_stat.proofs.HeapChunks.{chunks_all, chunks_in, chunks_more, table_len_le}
+use Rattle.file_report.proofs.HeapLemmas.{table_len_le}
+use Rattle.document_stat.proofs.HeapChunks.{chunks_all, chunks_in, chunks_more}
 use Rattle.document_stat.proofs.chunks.ChunkStat.with_heap.Goals as goal
 
 pub loop-i-init : goal.loop-i-init

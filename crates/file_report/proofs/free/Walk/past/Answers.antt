@@ -1,8 +1,8 @@
 use Rattle.std.proofs.Common.{◌≡◌, ◌<◌, ◌≤◌, ℕ, min, max, arith, refl, subst}
 use Rattle.geos_model.specs.File.{end_page}
-use Rattle.document_stat.specs.Pages.{PassesFree}
-use Rattle.document_stat.proofs.Walks.{walk_more, walk_none}
-use Rattle.document_stat.proofs.pages.Walk.past.Goals as goal
+use Rattle.file_report.specs.Pages.{PassesFree}
+use Rattle.file_report.proofs.FreeLemmas.{walk_more, walk_none}
+use Rattle.file_report.proofs.free.Walk.past.Goals as goal
 
 pub returns-then-extent-eq0 : goal.returns-then-extent-eq0
 returns-then-extent-eq0 c taken start is from =

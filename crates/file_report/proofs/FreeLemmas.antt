@@ -5,21 +5,27 @@ use Rattle.std.proofs.lemmas.List.{take_all}
 use Rattle.std.proofs.lemmas.List.Folds.{list_any_more}
 use Rattle.std.specs.Prelude.{IsPermutation}
 use Rattle.std.proofs.lemmas.List.Sorted.{list_any-IsPermutation}
-use Rattle.std.specs.List.{list_any}
 use Rattle.std.specs.List.Sorted.{IsNonDecreasingBy}
 use Rattle.geos_model.proofs.Files.{get_or_same}
 use Rattle.geos_model.specs.File.{end_page}
 use Rattle.geos_model.specs.declared.file.Extent.{Extent}
 use Rattle.vm_space.specs.Space.{is_on}
 use Rattle.vm_space.proofs.SpaceLemmas.{within_yes, within_no}
-use Rattle.file_report.specs.Pages.{pages_with}
-use Rattle.file_report.proofs.PagesLemmas.{pages_with_most}
-use Rattle.document_stat.specs.Pages.{AreFreeRuns, AreRuns, IsLongest, IsRun, IsWalk, PassesFree, begins_run, is_free}
-use Rattle.document_stat.specs.declared.pages.FreeRuns.{FreeRuns}
-use Rattle.document_stat.specs.declared.pages.Walk.{Walk}
+use Rattle.file_report.specs.Pages.{AreFreePages, AreRuns, IsLongest, IsRun, IsWalk, PassesFree, begins_run, is_free, is_used, pages_with}
+use Rattle.file_report.specs.declared.free.FreePages.{FreePages}
+use Rattle.file_report.specs.declared.free.Walk.{Walk}
+use Rattle.file_report.specs.declared.pages.Usage.{Usage}
 
 abbrev once : Bool → ℕ
 once b = cond b 1 0
+
+at_most_one : (b : Bool) → once b ≤ 1
+at_most_one true = omega arith
+at_most_one false = omega arith
+
+pages_with_most : (f : ℕ → Bool) (n : ℕ) → pages_with f n ≤ n
+pages_with_most f zero = omega arith
+pages_with_most f (suc n) = let rest = pages_with_most f n in let one = at_most_one (f n) in omega (arith, rest, one)
 
 same_count : (f g : ℕ → Bool) (n : ℕ) → ((p : ℕ) → p < n → f p ≡ g p) → pages_with f n ≡ pages_with g n
 same_count f g zero same = refl
@@ -33,7 +39,7 @@ same_run : (f g : ℕ → Bool) (n start count : ℕ) → ((p : ℕ) → p < n �
 same_run f g n start count same inside run = λ p from below. sym (same p (omega (arith, inside, below))) ∙ run p from below
 
 -- the pages behind don't matter
-same_runs : (f g : ℕ → Bool) (n : ℕ) (r : FreeRuns) → ((p : ℕ) → p < n → f p ≡ g p) → AreRuns f n r → AreRuns g n r
+same_runs : (f g : ℕ → Bool) (n : ℕ) (r : FreePages) → ((p : ℕ) → p < n → f p ≡ g p) → AreRuns f n r → AreRuns g n r
 same_runs f g n r same is =
     let back : (p : ℕ) → p < n → g p ≡ f p = λ p below. sym (same p below) in
     record {
@@ -63,7 +69,7 @@ cut_run f n start count most taken inside run below = elim (cases_lt n (start + 
   | inr short ↦ below start count short run
 ]
 
-taken_one : (f : ℕ → Bool) (n : ℕ) (r : FreeRuns) → f n ≡ false → AreRuns f n r → AreRuns f (suc n) r
+taken_one : (f : ℕ → Bool) (n : ℕ) (r : FreePages) → f n ≡ false → AreRuns f n r → AreRuns f (suc n) r
 taken_one f n r taken is =
     let page : once (f n) ≡ 0 = ap once taken in
     let begin : once (begins_run f n) ≡ 0 = ap once (not_begun f n taken) in
@@ -81,13 +87,13 @@ taken_one f n r taken is =
       };
     }
 
-taken_more : (f : ℕ → Bool) (n k : ℕ) (r : FreeRuns) → ((p : ℕ) → n ≤ p → p < n + k → f p ≡ false) → AreRuns f n r → AreRuns f (n + k) r
+taken_more : (f : ℕ → Bool) (n k : ℕ) (r : FreePages) → ((p : ℕ) → n ≤ p → p < n + k → f p ≡ false) → AreRuns f n r → AreRuns f (n + k) r
 taken_more f n zero r taken is = subst (λ (m : ℕ). AreRuns f m r) (let same : n ≡ n + 0 = omega arith in same) is
 taken_more f n (suc k) r taken is =
     let rest = taken_more f n k r (λ p from below. taken p from (omega (arith, below))) is in
     subst (λ (m : ℕ). AreRuns f m r) (let same : suc (n + k) ≡ n + suc k = omega arith in same) (taken_one f (n + k) r (taken (n + k) (omega arith) (omega arith)) rest)
 
-taken_to : (f : ℕ → Bool) (n e : ℕ) (r : FreeRuns) → n ≤ e → ((p : ℕ) → n ≤ p → p < e → f p ≡ false) → AreRuns f n r → AreRuns f e r
+taken_to : (f : ℕ → Bool) (n e : ℕ) (r : FreePages) → n ≤ e → ((p : ℕ) → n ≤ p → p < e → f p ≡ false) → AreRuns f n r → AreRuns f e r
 taken_to f n e r up taken is =
     let end : n + (e - n) ≡ e = omega (arith, up) in
     subst (λ (m : ℕ). AreRuns f m r) end (taken_more f n (e - n) r (λ p from below. taken p from (omega (arith, below, end))) is)
@@ -147,7 +153,7 @@ longer f n k most edge free is =
           record { start = is.start; within = omega (arith, within, old); run = subst (λ (c : ℕ). IsRun f is.start c) size is.run; most = none }
     ]
 
-free_more : (f : ℕ → Bool) (n k : ℕ) (r new : FreeRuns) → 0 < k → n + k ≤ 18446744073709551615 → ((p : ℕ) → p + 1 ≡ n → f p ≡ false) → ((p : ℕ) → n ≤ p → p < n + k → f p ≡ true) → AreRuns f n r
+free_more : (f : ℕ → Bool) (n k : ℕ) (r new : FreePages) → 0 < k → n + k ≤ 18446744073709551615 → ((p : ℕ) → p + 1 ≡ n → f p ≡ false) → ((p : ℕ) → n ≤ p → p < n + k → f p ≡ true) → AreRuns f n r
     → new.pages ≡ min (r.pages + k) 18446744073709551615 → new.runs ≡ min (r.runs + 1) 18446744073709551615 → new.longest ≡ max r.longest k → AreRuns f (n + k) new
 free_more f n zero r new some fits edge free is pages runs longest = absurd (omega (arith, some))
 free_more f n (suc k) r new some fits edge free is pages runs longest =
@@ -237,7 +243,7 @@ module _ (taken : ℕ → Bool) (n start : ℕ) (w : Walk) (is : IsWalk taken n 
       taken_to (λ p. not (with_extent p)) m (min n (max m b)) passed.free (omega (arith, inside))
       (λ p low high. ap not (on p (omega (arith, low, high)) (omega (arith, low, high)))) past.runs in
       record {
-        counted = subst (λ (f : FreeRuns). AreRuns (λ p. not (with_extent p)) new.end f) (sym free_is) (subst (λ (k : ℕ). AreRuns (λ p. not (with_extent p)) k passed.free) (sym end) counted);
+        counted = subst (λ (f : FreePages). AreRuns (λ p. not (with_extent p)) new.end f) (sym free_is) (subst (λ (k : ℕ). AreRuns (λ p. not (with_extent p)) k passed.free) (sym end) counted);
         inside = omega (arith, end);
         edge = λ less p at. elim (cases_lt p b) [
           | inl below ↦ elim (cases_lt p e.page) [
@@ -279,14 +285,14 @@ walk_same f g n start w same is = record {
 -- Extents by their first pages.
 
 -- the first i are passed
-pub record IsPassed (es : List Extent) (n i : ℕ) (w : Walk) : Type 0 where
+pub record IsPassed (us : List Usage) (n i : ℕ) (w : Walk) : Type 0 where
   pub start : ℕ
-  pub walk : IsWalk (λ page. list_any (is_on page) (take i es)) n start w
-  pub later : (j : ℕ) (d : Extent) → i ≤ j → j < length es → start ≤ (get_or es j d).page
+  pub walk : IsWalk (is_used (take i us)) n start w
+  pub later : (j : ℕ) (d : Usage) → i ≤ j → j < length us → start ≤ (get_or us j d).extent.page
 
-pub passed_none : (es : List Extent) (n : ℕ) (w : Walk) → w.end ≡ 0 → w.free.pages ≡ 0 → w.free.runs ≡ 0 → w.free.longest ≡ 0 → IsPassed es n 0 w
-passed_none es n w end pages runs longest =
-    let none : AreRuns (λ page. not (list_any (is_on page) (take 0 es))) 0 w.free = record {
+pub passed_none : (us : List Usage) (n : ℕ) (w : Walk) → w.end ≡ 0 → w.free.pages ≡ 0 → w.free.runs ≡ 0 → w.free.longest ≡ 0 → IsPassed us n 0 w
+passed_none us n w end pages runs longest =
+    let none : AreRuns (is_free (take 0 us)) 0 w.free = record {
       pages = pages;
       runs = runs;
       longest = record {
@@ -299,7 +305,7 @@ passed_none es n w end pages runs longest =
     record {
       start = 0;
       walk = record {
-        counted = subst (λ (k : ℕ). AreRuns (λ page. not (list_any (is_on page) (take 0 es))) k w.free) (sym end) none;
+        counted = subst (λ (k : ℕ). AreRuns (is_free (take 0 us)) k w.free) (sym end) none;
         inside = omega (arith, end);
         edge = λ less p at. absurd (omega (arith, at, end));
         used = λ p low high. absurd (omega (arith, high, end));
@@ -308,28 +314,28 @@ passed_none es n w end pages runs longest =
       later = λ j d from within. omega arith;
     }
 
-pub passed_more : (es : List Extent) (n i : ℕ) (d : Extent) (w new : Walk) → IsNonDecreasingBy (λ e. e.page) es → i < length es → IsPassed es n i w
-    → ((taken : ℕ → Bool) (start : ℕ) → IsWalk taken n start w → start ≤ (get_or es i d).page → IsWalk (λ page. taken page || is_on page (get_or es i d)) n (get_or es i d).page new) → IsPassed es n (i + 1) new
-passed_more es n i d w new order within p step =
-    let e = get_or es i d in
-    let next = step (λ page. list_any (is_on page) (take i es)) p.start p.walk (p.later i d (omega arith) within) in
+pub passed_more : (us : List Usage) (n i : ℕ) (d : Usage) (w new : Walk) → IsNonDecreasingBy (λ u. u.extent.page) us → i < length us → IsPassed us n i w
+    → ((taken : ℕ → Bool) (start : ℕ) → IsWalk taken n start w → start ≤ (get_or us i d).extent.page → IsWalk (λ page. taken page || is_on page (get_or us i d).extent) n (get_or us i d).extent.page new) → IsPassed us n (i + 1) new
+passed_more us n i d w new order within p step =
+    let e = (get_or us i d).extent in
+    let next = step (is_used (take i us)) p.start p.walk (p.later i d (omega arith) within) in
     record {
       start = e.page;
-      walk = walk_same (λ page. list_any (is_on page) (take i es) || is_on page e) (λ page. list_any (is_on page) (take (i + 1) es)) n e.page new (λ page. sym (list_any_more (is_on page) es i d within)) next;
+      walk = walk_same (λ page. is_used (take i us) page || is_on page e) (is_used (take (i + 1) us)) n e.page new (λ page. sym (list_any_more (λ u. is_on page u.extent) us i d within)) next;
       later = λ j x past inside.
           let rises = order i j x (omega (arith, past)) inside in
-          let same : (get_or es i x).page ≡ e.page = ap (λ (v : Extent). v.page) (get_or_same es i x d within) in
+          let same : (get_or us i x).extent.page ≡ e.page = ap (λ (v : Usage). v.extent.page) (get_or_same us i x d within) in
           omega (arith, rises, same);
     }
 
-pub passed_all : (es : List Extent) (n i : ℕ) (w new : Walk) → n ≤ 18446744073709551615 → length es ≤ i → IsPassed es n i w → PassesFree w n new → AreRuns (λ page. not (list_any (is_on page) es)) n new.free
-passed_all es n i w new fits past p passes =
-    let taken : ℕ → Bool = λ page. list_any (is_on page) (take i es) in
+pub passed_all : (us : List Usage) (n i : ℕ) (w new : Walk) → n ≤ 18446744073709551615 → length us ≤ i → IsPassed us n i w → PassesFree w n new → AreFreePages us n new.free
+passed_all us n i w new fits past p passes =
+    let taken = is_used (take i us) in
     let inside = p.walk.inside in
     let end : max w.end n ≡ n = omega (arith, inside) in
     let runs = passed_free (λ page. not (taken page)) n w new fits p.walk.counted (λ less page at. ap not (p.walk.edge less page at)) (λ page low high. ap not (p.walk.behind page low high)) passes in
-    subst (λ (l : List Extent). AreRuns (λ page. not (list_any (is_on page) l)) n new.free) (take_all i es past) (subst (λ (k : ℕ). AreRuns (λ page. not (taken page)) k new.free) end runs.runs)
+    subst (λ (l : List Usage). AreFreePages l n new.free) (take_all i us past) (subst (λ (k : ℕ). AreRuns (λ page. not (taken page)) k new.free) end runs.runs)
 
 -- in whatever order
-pub runs_moved : (es fs : List Extent) (n : ℕ) (r : FreeRuns) → IsPermutation es fs → AreFreeRuns fs n r → AreFreeRuns es n r
-runs_moved es fs n r moved is = same_runs (is_free fs) (is_free es) n r (λ p below. ap not (sym (list_any-IsPermutation (is_on p) es fs moved))) is
+pub free_moved : (us vs : List Usage) (n : ℕ) (f : FreePages) → IsPermutation us vs → AreFreePages vs n f → AreFreePages us n f
+free_moved us vs n f moved is = same_runs (is_free vs) (is_free us) n f (λ p below. ap not (sym (list_any-IsPermutation (λ u. is_on p u.extent) us vs moved))) is
