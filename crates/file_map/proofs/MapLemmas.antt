@@ -1,10 +1,11 @@
 -- What lies in a file, by what was found of it.
 use Rattle.std.proofs.Common.{◌≡◌, ℕ, ◌<◌, ◌≤◌, ◌==◌, ◌||◌, not, Bool, true, false, List, ◌∷◌, ◌++◌, length, map, get_or, Option, Some, None, Result, Ok, Err, arith, refl, sym, subst, ap, ap₂, ◌∙◌, inl, inr}
-use Rattle.std.specs.Prelude.{if◌then◌else◌, nat_lt, IfErr, IsOk, IsErr, IsTrue, IsPermutation}
+use Rattle.std.specs.Prelude.{if◌then◌else◌, nat_lt, IfErr, IsOk, IsErr, IsTrue, IsPermutation, OnOk}
 use Rattle.std.specs.Option.{option_map}
 use Rattle.std.specs.Result.{result_ok}
 use Rattle.std.specs.List.Sorted.{IsNonDecreasingBy}
 use Rattle.std.proofs.lemmas.Bool.{cases_lt, lt-ltb}
+use Rattle.std.proofs.lemmas.Result.{on_ok_weaker}
 use Rattle.std.proofs.lemmas.List as lists
 use Rattle.std.proofs.lemmas.List.{length-map}
 use Rattle.geos_model.specs.Document.{Document}
@@ -13,17 +14,14 @@ use Rattle.geos_model.specs.declared.fault.Fault.{Fault}
 use Rattle.geos_model.specs.declared.fault.Fault.TheVariants.{Damaged, NotDocument}
 use Rattle.geos_model.specs.declared.file.Extent.{Extent}
 use Rattle.geos_model.specs.declared.file.Slot.{Slot}
-use Rattle.vm_space.specs.Listed.{shown}
-use Rattle.vm_space.specs.declared.format.directory.Directory.{Directory}
+use Rattle.file_report.proofs.SlotLemmas.{pair_wrong}
 use Rattle.file_report.proofs.StandsLemmas.{state_opened, file_verdict}
 use Rattle.file_report.specs.Checked.{IsReport, IsSlotReport, IsState, chosen, counting_between, header_verdict, opened, verdict_by, verdict_of}
-use Rattle.file_report.specs.Pages.{slots_usage, usages_in, usages_of}
+use Rattle.file_report.specs.Pages.{file_usages, slot_usages, slots_usage, usages_of}
 use Rattle.file_report.specs.declared.checking.Report.{Report}
 use Rattle.file_report.specs.declared.checking.SlotReport.{SlotReport}
 use Rattle.file_report.specs.declared.checking.SlotState.{SlotState}
 use Rattle.file_report.specs.declared.checking.SlotState.TheVariants.{Short, NoMark, Closed, Open}
-use Rattle.file_report.specs.declared.finding.Named.{Named}
-use Rattle.file_report.specs.declared.finding.Named.TheVariants as names
 use Rattle.file_report.specs.declared.pages.Usage.{Usage}
 use Rattle.vm_store.specs.Facts.{StoreFacts}
 use Rattle.vm_file.specs.Opened.{OnlyReadsStore}
@@ -33,38 +31,22 @@ use Rattle.file_map.specs.Drawn.{IsDrawn, IsFileMap}
 use Rattle.file_map.specs.Faults.{IsLack, IsMapRefusal, IsUncounted}
 use Rattle.file_map.specs.declared.fault.MapFault.{MapFault}
 use Rattle.file_map.specs.declared.fault.MapFault.TheVariants.{Memory, File, Unopened, Write}
-use Rattle.file_map.specs.Parts.{document_usages, file_usages, part_of}
+use Rattle.file_map.specs.Parts.{part_of}
 use Rattle.file_map.specs.declared.part.Part.{Part}
 use Rattle.file_map.specs.declared.reading.FileMap.{FileMap}
 
 -- What a slot leads to.
 
-usages_same : (name : Named) (e : Extent) (d : Option Directory) → usages_in name e d ≡ document_usages name e (option_map shown d)
-usages_same name e None = refl
-usages_same name e (Some d) = refl
+usages_found : (file : List ℕ) (r : SlotReport) → IsSlotReport file r → IsOk (header_verdict r.slot) → usages_of r ≡ file_usages file r.slot
+usages_found file r is right = ap₂ (slot_usages r.slot) (is.updated right) (is.saved right)
 
-slot_usages : (file : List ℕ) (r : SlotReport) → IsSlotReport file r → IsOk (header_verdict r.slot) → usages_of r ≡ file_usages file r.slot
-slot_usages file r is right =
-    ap₂ (λ us vs. slots_usage ∷ us ++ vs)
-    (usages_same names.Updated r.slot.working r.updated ∙ ap (document_usages names.Updated r.slot.working) (is.updated right))
-    (usages_same names.Saved r.slot.saved r.saved ∙ ap (document_usages names.Saved r.slot.saved) (is.saved right))
-
-abbrev headed : {T : Type 0} → Bool → Bool → Bool → Result T Fault → Result T Fault
-headed a b c rest = if not a then Err NotDocument else if not b || c then Err Damaged else rest
-
-abbrev fine : Result (Unit {0}) Fault
-fine = Ok tt
-
-right_part : (a b c : Bool) (rest : Result (Document × Document) Fault) → IsOk (verdict_of (headed a b c rest)) → IsOk (headed a b c fine)
-right_part false b c rest ok = ok
-right_part true false c rest ok = ok
-right_part true true true rest ok = ok
-right_part true true false rest ok = refl
+right_of : (v : Result (Unit {0}) Fault) (pair : Result (Document × Document) Fault) → ((fault : Fault) → v ≡ Err fault → pair ≡ Err fault) → IsOk (verdict_of pair) → IsOk v
+right_of (Ok u) pair wrong ok = refl
+right_of (Err fault) pair wrong ok = let none : IsOk (verdict_of (Err fault)) = subst (λ (p : Result (Document × Document) Fault). IsOk (verdict_of p)) (wrong fault refl) ok in absurd (cc none)
 
 -- a slot that leads to documents isn't wrong itself
 right_header : (file : List ℕ) (s : Slot) → IsOk (verdict_of (pair_of file s)) → IsOk (header_verdict s)
-right_header file s ok =
-    right_part (s.version == 1 || s.version == 2) (s.reserved == 0) (s.sequence == 0) (both (document_at s.version file s.working) (document_at s.version file s.saved)) ok
+right_header file s ok = right_of (header_verdict s) (pair_of file s) (pair_wrong file s) ok
 
 -- The slot that counts.
 
@@ -179,7 +161,7 @@ file_map file r s us m is ok counts lists sorted parts pages =
         opens = verdict_ok (stands file) opens;
         slot = s.slot;
         counts = ap₂ counting_slot a.slot b.slot ∙ found.counts;
-        lists = subst (λ vs. IsPermutation vs us) (slot_usages file s found.report (right_header file s.slot stands_slot)) lists;
+        lists = subst (λ vs. IsPermutation vs us) (usages_found file s found.report (right_header file s.slot stands_slot)) lists;
         sorted = sorted;
       };
       parts = parts;
@@ -218,11 +200,17 @@ pub lacks_refuse : {T : Type 0} (store : StoreFacts) (r : Result T MapFault) →
 lacks_refuse store (Ok t) is = tt
 lacks_refuse store (Err fault) is = lack_is store fault is
 
--- The whole picture, which was drawn of a file as it was read.
-pub drawn_of : (picture : List ℕ → List Part → ℕ → List ℕ) (file : List ℕ) (m : FileMap) (from to : Option (List ℕ)) → IsFileMap file m → Appends from to (picture file m.parts.items m.pages)
+drawn_of : (picture : List ℕ → List Part → ℕ → List ℕ) (file : List ℕ) (m : FileMap) (from to : Option (List ℕ)) → IsFileMap file m → Appends from to (picture file m.parts.items m.pages)
     → IsDrawn picture file from to
 drawn_of picture file m from to is sent = record {
   usages = is.usages;
   list = is.list;
   appends = subst (Appends from to) (ap₂ (picture file) is.parts is.pages) sent;
 }
+
+-- The whole picture, which was drawn of a file as it was read.
+pub picture_drawn : (picture : List ℕ → List Part → ℕ → List ℕ) (old read : StoreFacts) (m : FileMap) (from to : Option (List ℕ)) (end : Result (Unit {0}) MapFault)
+    → OnlyReadsStore old read → (IsTrue old.honest → IsFileMap old.content m) → OnOk end (IsTrue read.honest → Appends from to (picture read.content m.parts.items m.pages))
+    → OnOk end (IsTrue old.honest → IsDrawn picture old.content from to)
+picture_drawn picture old read m from to end looks is sent =
+    on_ok_weaker end (λ told so. drawn_of picture old.content m from to (is so) (held_before (λ f. Appends from to (picture f m.parts.items m.pages)) old read looks told so)) sent

@@ -4,11 +4,12 @@ use Rattle.std.specs.List.Sorted.{IsNonDecreasingBy}
 use Rattle.std.specs.Io.KnownBytes.{Appends}
 use Rattle.geos_model.specs.File.{counting_slot, open_slot, pages_of, stands}
 use Rattle.geos_model.specs.declared.file.Slot.{Slot}
+use Rattle.file_report.specs.Pages.{file_usages}
 use Rattle.file_report.specs.declared.pages.Usage.{Usage}
 use Rattle.file_map.specs.Bars.{bars_drawn}
 use Rattle.file_map.specs.Heaps.{heap_lines}
 use Rattle.file_map.specs.Pages.{page_picture}
-use Rattle.file_map.specs.Parts.{drawn, file_usages, is_heap, part_of}
+use Rattle.file_map.specs.Parts.{drawn, is_heap, part_of}
 use Rattle.file_map.specs.Svg.{gaps, heaps_top, labels, parts_drawn, start_drawn}
 use Rattle.file_map.specs.declared.heaps.TheConstants.{HEADING}
 use Rattle.file_map.specs.declared.part.Part.{Part}

@@ -16,8 +16,8 @@ read_fault fault = File
 abbrev pub no_memory : MapFault
 no_memory = Memory
 
--- A file that doesn't open is refused for what an opening of it answers; of the others it is only said that there is lack of memory, or
--- that the store or the writer failed.
+-- A file that doesn't open is refused for what an opening of it answers; of the others it is only said that there is
+-- lack of memory, or that the store or the writer failed.
 abbrev pub IsMapRefusal : StoreFacts → MapFault → Type 0
 IsMapRefusal store (Unopened fault) = IsTrue store.honest → stands store.content ≡ Err fault
 IsMapRefusal store Memory = Unit {0}

@@ -34,8 +34,8 @@ abbrev pub content_at : List Part → ℕ → Content
 content_at ps page =
     content (lies is_slots ps page) (lies is_directory ps page) (lies is_raw ps page) (lies is_heap ps page) (users (lies is_updated ps page) (lies is_saved ps page))
 
--- how it is drawn: directories as `D`, `d` and `~`, raw blocks as `R`, `r` and `-`, heaps as `H`, `h` and `=`, in both documents, the
--- updated and the saved one
+-- how it is drawn: directories as `D`, `d` and `~`, raw blocks as `R`, `r` and `-`, heaps as `H`, `h` and `=`, in both
+-- documents, the updated and the saved one
 abbrev pub glyph : Content → ℕ
 glyph Nothing = 46
 glyph Slots = 83

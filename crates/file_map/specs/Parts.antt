@@ -1,11 +1,7 @@
 -- What lies in the extents of a file, and whose it is.
 use Rattle.std.specs.Prelude.{ℕ, ◌-◌, ◌*◌, ◌==◌, ◌&&◌, Bool, true, false, not, List, [], ◌∷◌, ◌++◌, map, fold, take, slice_get, Option, None, Some, length, if◌then◌else◌}
-use Rattle.geos_model.specs.File as files
-use Rattle.geos_model.specs.File.{directory_of}
 use Rattle.geos_model.specs.declared.file.Extent.{Extent}
-use Rattle.geos_model.specs.declared.file.Slot.{Slot}
 use Rattle.vm_store.specs.Facts.{byte}
-use Rattle.file_report.specs.Pages.{image_usage, slots_usage}
 use Rattle.file_report.specs.declared.finding.Named.{Named}
 use Rattle.file_report.specs.declared.finding.Named.TheVariants as names
 use Rattle.file_report.specs.declared.pages.Content.{Content}
@@ -16,19 +12,6 @@ use Rattle.file_map.specs.declared.part.Kind.TheVariants as kinds
 use Rattle.file_map.specs.declared.part.Part.{Part}
 use Rattle.file_map.specs.declared.part.Users.{Users}
 use Rattle.file_map.specs.declared.part.Users.TheVariants.{Updated, Saved, Both}
-
--- What a slot leads to.
-
--- what one of a slot's documents has: the directory in an extent, and an image for each entry of it
-abbrev pub document_usages : Named → Extent → Option files.Directory → List Usage
-document_usages name e None = []
-document_usages name e (Some d) = record { extent = e; content = contents.Directory name } ∷ map (image_usage name) d.entries
-
-abbrev pub file_usages : List ℕ → Slot → List Usage
-file_usages file s =
-    slots_usage
-    ∷ document_usages names.Updated s.working (directory_of s.version file s.working)
-    ++ document_usages names.Saved s.saved (directory_of s.version file s.saved)
 
 -- What a part of a picture is.
 

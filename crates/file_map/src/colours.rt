@@ -5,8 +5,8 @@ ghost use Rattle.file_map.specs.Svg.{content_fill, fill};
 use crate::pages::Content;
 use crate::part::{Kind, Users};
 
-/// The patterns that fills name. A colour is a kind, dark to light also in grey: directories, heaps, raw blocks. Strokes are the
-/// updated document's, dots the saved one's.
+/// The patterns that fills name. A colour is a kind, dark to light also in grey: directories, heaps, raw blocks.
+/// Strokes are the updated document's, dots the saved one's.
 pub const PATTERNS: &[u8] =
     b"<defs><pattern id='n' width='14' height='14' patternUnits='userSpaceOnUse'><rect width='12' height='12' fill='#eee'/></pattern>
 <pattern id='g' width='14' height='14' patternUnits='userSpaceOnUse'><rect x='13' width='1' height='14' fill='#fff' fill-opacity='.4'/></pattern>

@@ -108,9 +108,10 @@ fn write_text<S: Store, W: Write>(
     write_heaps(alloc, store, &once, writer)
 }
 
-/// Writes a picture of a file as text: a character for each page in rows of 64, what the characters mean with how many pages
-/// each has, and a line for each heap. A file that doesn't open is refused for what an opening answers, and nothing is written
-/// then. The writer gets short pieces, so it should be buffered. Memory is taken for what lies in the file and for one image.
+/// Writes a picture of a file as text: a character for each page in rows of 64, what the characters mean with how many
+/// pages each has, and a line for each heap. A file that doesn't open is refused for what an opening answers, and
+/// nothing is written then. The writer gets short pieces, so it should be buffered. Memory is taken for what lies in
+/// the file and for one image.
 pub fn draw_text<S: Store, W: Write>(
     alloc: Global,
     store: &mut S,
@@ -164,8 +165,9 @@ fn write_svg<S: Store, W: Write>(
     send(b"</svg>\n", writer)
 }
 
-/// Writes a picture of a file as one SVG file: a rectangle for each part and row of pages, with what it is as its title, and a bar
-/// for each heap, with its chunks. Refused as the text is, and the same holds of the writer and of memory.
+/// Writes a picture of a file as one SVG file: a rectangle for each part and row of pages, with what it is as its
+/// title, and a bar for each heap, with its chunks. Refused as the text is, and the same holds of the writer and of
+/// memory.
 pub fn draw_svg<S: Store, W: Write>(
     alloc: Global,
     store: &mut S,

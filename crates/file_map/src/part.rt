@@ -104,8 +104,8 @@ impl Part {
     }
 }
 
-/// Puts a part behind those before it. What the updated document has there and the saved one too, one behind the other, is one part
-/// of both.
+/// Puts a part behind those before it. What the updated document has there and the saved one too, one behind the other,
+/// is one part of both.
 pub fn push_part(parts: &mut Vec<Part>, part: Part) -> Result<(), AllocError>
     ensures { OnOk result (parts.new.items ≡ drawn_more parts.old.items part) }
 {
