@@ -7,7 +7,6 @@ ghost use Rattle.std.specs.FinMap.{get, keys};
 ghost use Rattle.geos_model.specs.Document.{is_valid_body};
 ghost use Rattle.geos_model.specs.Heap.{most_chunks, handle_of, table_len};
 ghost use Rattle.geos_model.specs.Image.{image};
-ghost use Rattle.geos_model.specs.Words.{word_at};
 ghost use Rattle.geos_model.specs.declared.command.Body.{Body};
 ghost use Rattle.geos_model.specs.declared.command.Body.TheVariants as model_bodies;
 ghost use Rattle.document_dump.specs.Faults.{IsHeapImage, IsImage, IsRefusalOf};
@@ -18,6 +17,7 @@ use crate::fault::DumpFault;
 use crate::lines::{
     push_alloc, push_free, push_new_heap, push_new_raw, push_type, push_write, push_write_raw,
 };
+use file_report::read_heap;
 use geos_model::{Attributes, ChunkHandle, VmHandle};
 use lmem_heap::Heap;
 use std::alloc::{AllocError, Global};
@@ -197,13 +197,6 @@ fn push_heap(
     push_entries(out, Pass::Freeing, block, heap, slots)
 }
 
-fn word_at(bytes: &[u8], at: usize) -> usize
-    requires { at + 2 ≤ length bytes.now }
-    ensures { result ≡ word_at bytes.now at }
-{
-    usize::from(bytes[at]) + 256 * usize::from(bytes[at + 1])
-}
-
 // The body is a heap, if any.
 fn push_heap_image(
     alloc: Global,
@@ -216,8 +209,7 @@ fn push_heap_image(
     ensures ok { OnOk result ((body : Body) → is_valid_body body ≡ true → image body ≡ bytes.now
         → out.new.items ≡ out.old.items ++ text (block_made block attributes body)) }
 {
-    let heap = Heap::from_image(alloc, bytes)?;
-    let slots = word_at(bytes, 1);
+    let (heap, slots) = read_heap(alloc, bytes)?;
     push_heap(out, block, attributes, &heap, slots)?;
     Ok(())
 }

@@ -7,7 +7,8 @@ use Rattle.document_dump.specs.Changes.{block_made}
 use Rattle.std.proofs.lemmas.Result.{IfErr-weaker}
 use Rattle.document_dump.specs.Faults.{IsHeapImage, IsImage, IsRefusalOf}
 use Rattle.document_dump.proofs.Failing.{image-of_heap, part-narrower}
-use Rattle.document_dump.proofs.Images.{image-not_empty, raw_image}
+use Rattle.file_report.proofs.HeapLemmas.{image-not_empty}
+use Rattle.document_dump.proofs.Images.{raw_image}
 use Rattle.document_dump.proofs.bodies.push_block.Goals as goal
 
 pub returns-clause-ok : goal.returns-clause-ok
@@ -19,8 +20,8 @@ returns-clause-ok c = λ body valid same.
 
 pub returns-then-is_empty-clause-err : goal.returns-then-is_empty-clause-err
 returns-then-is_empty-clause-err c = λ i.
-    let some = image-not_empty i.0 c.args.bytes.now i.2 in
-    grind (arith, some)
+    let some = image-not_empty i.0 in
+    grind (arith, some, ap length i.2)
 
 pub returns-then-bytes-ne-RAW-clause-err : goal.returns-then-bytes-ne-RAW-clause-err
 returns-then-bytes-ne-RAW-clause-err c =
