@@ -1,5 +1,6 @@
 -- What is looked up of a document, and what refuses it.
 use Rattle.std.proofs.Common.{◌≡◌, ◌⊎◌, ℕ, List, [], ◌++◌, ◌∷◌, not, false, true, Bool, Option, Some, None, is_none, unwrap_or, MatchOption, Result, Ok, Err, MatchResult, refl, sym, ap, subst, ◌∙◌, inl, inr}
+use Rattle.std.proofs.lemmas.Bool.{true≢false}
 use Rattle.std.proofs.lemmas.Result.{MatchResult-weaker}
 use Rattle.std.specs.Option.{option_map, option_map_or}
 use Rattle.std.specs.Prelude.{IfErr, IsOk}
@@ -22,15 +23,16 @@ use Rattle.geos_model.specs.declared.handle.Token.{Token}
 use Rattle.geos_model.specs.declared.handle.VmHandle.{VmHandle}
 use Rattle.element_arrays.specs.Answering.{IsAnswered, IsRefused}
 use Rattle.block_cache.specs.State.{CacheState}
-use Rattle.vm_chains.specs.Answers.{AnswersChain}
+use Rattle.vm_chains.specs.Answers.{AnswersChain, IsWalkRefusal}
 use Rattle.vm_store.specs.Facts.{StoreFacts}
-use Rattle.vm_blocks.specs.Keeping.{KeepsBlocks, IsEnvironmentFault, IsCacheFull, is_loaded, is_shut_out}
+use Rattle.vm_blocks.specs.Keeping.{KeepsBlocks, IsEnvironmentFault, IsHonest, IsCacheFull, is_full, is_loaded, is_shut_out}
+use Rattle.vm_blocks.proofs.KeepingLaws.{keeps-refl}
 use Rattle.vm_blocks.specs.Kinds.{IsWrongBlock}
 use Rattle.doc_edits.specs.Found.{AreLate, IsChunkAt}
-use Rattle.doc_edits.specs.LookUps.{answer_of, chunk_asked, makes_list, FindsInMemory, LooksUp, LooksUpInMemory, RefusesChunk, Sees}
-use Rattle.doc_edits.specs.Room.{has_no_room, ReadsNothing}
-use Rattle.doc_edits.proofs.Refusals.{past_chunk}
-use Rattle.doc_edits.proofs.RoomLemmas.{LooksFor, looks_for_heap, refused_for, unchanged, room_at}
+use Rattle.doc_edits.specs.LookUps.{answer_of, chunk_asked, makes_list, FindsInMemory, IsWrongRootOf, LooksUp, LooksUpInMemory, RefusesChunk, Sees, SeesAlongChain}
+use Rattle.doc_edits.specs.Room.{has_no_room, IsChainRefusal, IsRefusedEarly, ReadsNothing}
+use Rattle.doc_edits.proofs.Refusals.{carried_so, past_chunk}
+use Rattle.doc_edits.proofs.RoomLemmas.{LooksFor, early_of_chain, looks_for_heap, refused_for, unchanged, room_at}
 
 module _ (lacks : Fault → Type 0) (no_room : Bool) where
   -- a look-up that is refused
@@ -67,13 +69,43 @@ module _ (lacks : Fault → Type 0) (no_room : Bool) where
     chain_answered f P (Err fault) does (inl lack) = lacked fault lack
     chain_answered f P (Err fault) does (inr first) = refused_with_room fault first
 
--- a look-up along a chain that is refused since each frame has a locked block
-pub answered_so : {T : Type 0} (full : Bool) (command : Command) (d : Document) (f : T → Reply) (r : Result T Fault) (fault : Fault) → full ≡ true → IsErrAnd r (λ e. e ≡ fault)
-    → first_refusal ((CacheFull, full) ∷ look_up_conditions command d) ≡ Some fault → answer_of true command d ≡ Some (reply_by f r)
-answered_so full command d f (Ok x) fault is refused first = absurd refused
-answered_so full command d f (Err e) fault is refused first =
-    ap (λ (o : Option Fault). option_map_or (λ x. Some (Refused x)) o (look_up command d)) (ap (λ (b : Bool). first_refusal ((CacheFull, b) ∷ look_up_conditions command d)) (sym is) ∙ first)
-    ∙ ap (λ (x : Fault). Some (Refused x)) (sym refused)
+-- what a reply is refused for, as its result is
+refused_reply : {T : Type 0} (f : T → Reply) (P : Fault → Type 0) → ((x : T) (fault : Fault) → f x ≡ Refused fault → ⊥)
+    → (r : Result T Fault) → IfErr r P → (fault : Fault) → reply_by f r ≡ Refused fault → P fault
+refused_reply f P never (Ok x) why fault is = absurd (never x fault is)
+refused_reply f P never (Err e) why fault is = let same : e ≡ fault = cc is in subst P same why
+
+-- A look-up along chains,
+module _ {S T : Type 0} (facts : S → StoreFacts) (command : Command) (f : T → Reply) (never : (x : T) (fault : Fault) → f x ≡ Refused fault → ⊥) (r : Result T Fault) (a : CacheState S) where
+  -- that is refused before any block is looked into,
+  pub refused_along : (fault : Fault) → IsErrAnd r (λ e. e ≡ fault) → first_refusal ((CacheFull, is_full a) ∷ look_up_conditions command a.document) ≡ Some fault
+      → IsRefusedEarly (IsWrongRootOf command a.document) (is_full a) fault → SeesAlongChain facts a a command (reply_by f r)
+  refused_along fault is first early =
+      let lacks = IsEnvironmentFault facts a.disk.store a.disk.store in
+      let root = IsWrongRootOf command a.document in
+      record {
+        keeps = keeps-refl facts a;
+        value = λ steady. refused_as lacks (is_full a) command a.document f r fault is (look_up_refused lacks (is_full a) command a.document fault first);
+        shut = λ full. (refl, answered_so r is (ap (λ (b : Bool). first_refusal ((CacheFull, b) ∷ look_up_conditions command a.document)) (sym full) ∙ first));
+        refusals = refused_reply f (IsChainRefusal lacks root (is_full a)) never r (carried_so r (IsChainRefusal lacks root (is_full a)) fault is (early_of_chain lacks root (is_full a) fault early));
+      }
+    where
+      answered_so : (r : Result T Fault) → IsErrAnd r (λ e. e ≡ fault) → first_refusal ((CacheFull, true) ∷ look_up_conditions command a.document) ≡ Some fault → answer_of true command a.document ≡ Some (reply_by f r)
+      answered_so (Ok x) is first = absurd is
+      answered_so (Err e) is first = ap (λ (o : Option Fault). option_map_or (λ x. Some (Refused x)) o (look_up command a.document)) first ∙ ap (λ (x : Fault). Some (Refused x)) (sym is)
+
+  -- or goes along them.
+  pub seen_along : (b : CacheState S) (P : T → Type 0) → is_full a ≡ false → KeepsBlocks facts a b → ((x : T) → P x → look_up command b.document ≡ Some (f x))
+      → (IsHonest facts a.disk.store → AnswersChain (IsEnvironmentFault facts a.disk.store b.disk.store) (look_up_conditions command b.document) P r)
+      → IfErr r (IsWalkRefusal (IsEnvironmentFault facts a.disk.store b.disk.store) (IsWrongRootOf command a.document)) → SeesAlongChain facts a b command (reply_by f r)
+  seen_along b P room keeps does answers refusals =
+      let lacks = IsEnvironmentFault facts a.disk.store b.disk.store in
+      record {
+        keeps = keeps;
+        value = λ steady. chain_answered lacks (is_full a) room command b.document f P r does (answers steady);
+        shut = λ full. absurd (true≢false (sym full ∙ room));
+        refusals = λ fault is. inl (refused_reply f (IsWalkRefusal lacks (IsWrongRootOf command a.document)) never r refusals fault is);
+      }
 
 -- the refusals of a look-up into a chunk are those for the chunk, and later ones
 abbrev FirstOfLookUp : Command → Document → VmHandle × ChunkHandle → Type 0

@@ -3,7 +3,7 @@ use Rattle.std.specs.Prelude.{◌≡◌, ◌⊎◌, ⊤, Bool, true, false, ◌�
 use Rattle.std.specs.Option.{option_map_or}
 use Rattle.std.specs.Borrow.{follows_so, Fml, RattleType, MutBor}
 use Rattle.geos_model.specs.Refusal.{first_refusal}
-use Rattle.geos_model.specs.Document.{Document}
+use Rattle.geos_model.specs.Document.{Document, is_raw}
 use Rattle.geos_model.specs.Machine.{OneBody, look_up_needs}
 use Rattle.geos_model.specs.Reply.{Reply, Refused, look_up_conditions, look_up}
 use Rattle.geos_model.specs.declared.fault.Fault.{Fault}
@@ -14,8 +14,10 @@ use Rattle.geos_model.specs.declared.handle.ChunkHandle.{ChunkHandle}
 use Rattle.geos_model.specs.declared.handle.VmHandle.{VmHandle}
 use Rattle.vm_store.specs.Facts.{StoreFacts}
 use Rattle.block_cache.specs.State.{CacheState}
-use Rattle.vm_blocks.specs.Keeping.{KeepsBlocks, IsEnvironmentFault}
-use Rattle.doc_edits.specs.Room.{has_no_room, ReadsNothing}
+use Rattle.vm_blocks.specs.Keeping.{KeepsBlocks, IsEnvironmentFault, IsHonest, is_full}
+use Rattle.vm_blocks.specs.Kinds.{IsWrongBlock}
+use Rattle.vm_chains.specs.Answers.{IsWrongRoot}
+use Rattle.doc_edits.specs.Room.{has_no_room, IsChainRefusal, ReadsNothing}
 use mathlib.Core.Option.{none}
 
 -- the first refusal of a look-up, for which there may be no room, or what it answers where nothing refuses it
@@ -61,6 +63,22 @@ pub record Sees {S : Type 0} (facts : S → StoreFacts) (old new : CacheState S)
   pub keeps : KeepsBlocks facts old new
   pub value : LooksUp (IsEnvironmentFault facts old.disk.store new.disk.store) (has_no_room old (look_up_needs command)) command new.document reply
   pub already : ReadsNothing old (look_up_needs command) (look_up_conditions command old.document) → (new.disk ≡ old.disk) × (new.document ≡ old.document) × LooksUpInMemory command old.document reply
+
+-- why a look-up along chains is refused for their roots, without a look into any block
+abbrev pub IsWrongRootOf : Command → Document → Fault → Type 0
+IsWrongRootOf (commands.Walk b) d = IsWrongBlock is_raw d b.0
+IsWrongRootOf (commands.ChainSize b) d = IsWrongBlock is_raw d b.0
+IsWrongRootOf (commands.ChainEqual b other) d = IsWrongRoot d b.0 other.0
+IsWrongRootOf command d = λ fault. ⊥
+
+-- What a look-up along chains comes to: the file is kept, and, if the store gives back what it has, the document as it is held from then on
+-- is looked up. Where each frame has a locked block nothing changes, and the document before is.
+pub record SeesAlongChain {S : Type 0} (facts : S → StoreFacts) (old new : CacheState S) (command : Command) (reply : Reply) : Type 0 where
+  pub keeps : KeepsBlocks facts old new
+  pub value : IsHonest facts old.disk.store → LooksUp (IsEnvironmentFault facts old.disk.store new.disk.store) (is_full old) command new.document reply
+  pub shut : is_full old ≡ true → (new ≡ old) × (answer_of true command old.document ≡ Some reply)
+  pub refusals : (fault : Fault) → reply ≡ Refused fault
+      → IsChainRefusal (IsEnvironmentFault facts old.disk.store new.disk.store) (IsWrongRootOf command old.document) (is_full old) fault
 
 -- A chunk is looked for without the store where no body has to be read for a look-up into it, which is then refused by the rules alone.
 abbrev pub FindsInMemory : {S T : Type 0} → CacheState S → CacheState S → VmHandle → ChunkHandle → Result T Fault → Type 0

@@ -4,20 +4,16 @@
 //! each frame has a locked block and it is none of them, and of a chain wherever each frame has one; then what its body refuses.
 //! Memory, File or Damaged may come in place of what follows CacheFull; not where the block is in memory: then no store is called, and
 //! memory is taken for a list alone.
-ghost use Rattle.std.specs.Prelude.{◌≡◌, [], true, false, IfErr, MatchResult, Some, get_or, length};
+ghost use Rattle.std.specs.Prelude.{◌≡◌, [], false, MatchResult, get_or, length};
 ghost use Rattle.std.specs.Borrow.{sem};
 ghost use Rattle.geos_model.specs.ArrayEdits.{array_in, on_array, on_element};
-ghost use Rattle.geos_model.specs.Document.{is_raw};
 ghost use Rattle.geos_model.specs.Reply.{AreEqual, BytesAre, NumberIs, TokenIs, reply_by, info_is, blocks_are, chunks_are};
 ghost use Rattle.geos_model.specs.declared.command.Command.TheVariants as commands;
 ghost use Rattle.vm_blocks.specs.contracts.file_blocks.FileBlocks.{the_row};
-ghost use Rattle.vm_blocks.specs.Keeping.{KeepsBlocks, IsHonest, IsEnvironmentFault, is_full, is_shut_out};
+ghost use Rattle.vm_blocks.specs.Keeping.{KeepsBlocks, IsEnvironmentFault, is_shut_out};
 ghost use Rattle.element_arrays.specs.Answering.{IsAnswered, IsRefused};
 ghost use Rattle.doc_edits.specs.Found.{IsChunkAt};
-ghost use Rattle.doc_edits.specs.LookUps.{FindsInMemory, AfterLoan, LooksUp, RefusesChunk, Sees, answer_of};
-ghost use Rattle.vm_blocks.specs.Kinds.{IsWrongBlock};
-ghost use Rattle.vm_chains.specs.Answers.{IsWrongRoot};
-ghost use Rattle.doc_edits.specs.Room.{IsChainRefusal};
+ghost use Rattle.doc_edits.specs.LookUps.{FindsInMemory, AfterLoan, RefusesChunk, Sees, SeesAlongChain};
 
 use crate::found::{bytes_in, heap_at, raw_at};
 use crate::room::{test_chain, test_chains};
@@ -279,16 +275,8 @@ pub fn walk<S: Store>(
     blocks: &mut FileBlocks<S>,
     root: VmHandle,
 ) -> Result<Vec<VmHandle>, Fault>
-    ensures keeps { KeepsBlocks S.facts blocks.old blocks.new }
-    ensures value { IsHonest S.facts blocks.old.disk.store
-        → LooksUp (IsEnvironmentFault S.facts blocks.old.disk.store blocks.new.disk.store) (is_full blocks.old)
-        (commands.Walk root) blocks.new.document (reply_by (λ handles. blocks_are handles.items) result) }
-    ensures shut { is_full blocks.old ≡ true → (blocks.new ≡ blocks.old)
-        × (answer_of true (commands.Walk root) blocks.old.document ≡ Some
-        (reply_by (λ handles. blocks_are handles.items) result)) }
-    ensures refusals { IfErr result
-        (IsChainRefusal (IsEnvironmentFault S.facts blocks.old.disk.store blocks.new.disk.store)
-        (IsWrongBlock is_raw blocks.old.document root.0) (is_full blocks.old)) }
+    ensures { SeesAlongChain S.facts blocks.old blocks.new (commands.Walk root)
+        (reply_by (λ handles. blocks_are handles.items) result) }
 {
     test_chain(blocks, root)?;
     vm_chains::walk(alloc, blocks, root)
@@ -300,15 +288,7 @@ pub fn chain_size<S: Store>(
     blocks: &mut FileBlocks<S>,
     root: VmHandle,
 ) -> Result<u32, Fault>
-    ensures keeps { KeepsBlocks S.facts blocks.old blocks.new }
-    ensures value { IsHonest S.facts blocks.old.disk.store
-        → LooksUp (IsEnvironmentFault S.facts blocks.old.disk.store blocks.new.disk.store) (is_full blocks.old)
-        (commands.ChainSize root) blocks.new.document (reply_by NumberIs result) }
-    ensures shut { is_full blocks.old ≡ true → (blocks.new ≡ blocks.old)
-        × (answer_of true (commands.ChainSize root) blocks.old.document ≡ Some (reply_by NumberIs result)) }
-    ensures refusals { IfErr result
-        (IsChainRefusal (IsEnvironmentFault S.facts blocks.old.disk.store blocks.new.disk.store)
-        (IsWrongBlock is_raw blocks.old.document root.0) (is_full blocks.old)) }
+    ensures { SeesAlongChain S.facts blocks.old blocks.new (commands.ChainSize root) (reply_by NumberIs result) }
 {
     test_chain(blocks, root)?;
     vm_chains::size(alloc, blocks, root)
@@ -321,15 +301,8 @@ pub fn chain_equal<S: Store>(
     first: VmHandle,
     second: VmHandle,
 ) -> Result<bool, Fault>
-    ensures keeps { KeepsBlocks S.facts blocks.old blocks.new }
-    ensures value { IsHonest S.facts blocks.old.disk.store
-        → LooksUp (IsEnvironmentFault S.facts blocks.old.disk.store blocks.new.disk.store) (is_full blocks.old)
-        (commands.ChainEqual first second) blocks.new.document (reply_by AreEqual result) }
-    ensures shut { is_full blocks.old ≡ true → (blocks.new ≡ blocks.old)
-        × (answer_of true (commands.ChainEqual first second) blocks.old.document ≡ Some (reply_by AreEqual result)) }
-    ensures refusals { IfErr result
-        (IsChainRefusal (IsEnvironmentFault S.facts blocks.old.disk.store blocks.new.disk.store)
-        (IsWrongRoot blocks.old.document first.0 second.0) (is_full blocks.old)) }
+    ensures { SeesAlongChain S.facts blocks.old blocks.new (commands.ChainEqual first second)
+        (reply_by AreEqual result) }
 {
     test_chains(blocks, first, second)?;
     vm_chains::equal(alloc, blocks, first, second)

@@ -1,30 +1,12 @@
 -- A look-up of a session, over any store, and what it hands out.
-use Rattle.std.specs.Prelude.{◌≡◌, ℕ, ℤ, Bool, true, false, List, Some}
-use Rattle.geos_model.specs.Document.{is_raw}
-use Rattle.geos_model.specs.Reply.{Reply, Refused}
+use Rattle.std.specs.Prelude.{◌≡◌, ℕ, ℤ, Bool, true, false, List}
+use Rattle.geos_model.specs.Reply.{Reply}
 use Rattle.geos_model.specs.declared.command.Command.{Command}
 use Rattle.geos_model.specs.declared.command.Command.TheVariants as commands
-use Rattle.geos_model.specs.declared.fault.Fault.{Fault}
 use Rattle.vm_store.specs.Facts.{StoreFacts}
-use Rattle.vm_blocks.specs.Keeping.{IsEnvironmentFault, IsHonest, is_full}
-use Rattle.vm_blocks.specs.Kinds.{IsWrongBlock}
-use Rattle.vm_chains.specs.Answers.{IsWrongRoot}
-use Rattle.doc_edits.specs.LookUps.{LooksUp, answer_of}
-use Rattle.doc_edits.specs.Room.{IsChainRefusal}
-use Rattle.undo_log.specs.Sessions.{SessionState, AnswersLookUp, IsStep, KeepsSession, cache_of}
+use Rattle.undo_log.specs.Sessions.{SessionState, AnswersAlongChain, AnswersLookUp}
 use Rattle.geos_c.specs.Calls.{AlwaysSteps}
 use Rattle.geos_c.specs.Codes.{HandsOutReply}
-
--- A look-up along chains, whose roots may be refused so, is answered as `undo_log` answers it: the parts have the names
--- that they have at `Session::walk`.
-pub record AnswersAlongChain {S : Type 0} (facts : S → StoreFacts) (root : Fault → Type 0) (command : Command) (old new : SessionState S) (reply : Reply) : Type 0 where
-  pub keeps : KeepsSession facts old new
-  pub step : IsStep facts old new command reply
-  pub value : IsHonest facts old.disk.store
-      → LooksUp (IsEnvironmentFault facts old.disk.store new.disk.store) (is_full (cache_of old)) command new.document reply
-  pub shut : is_full (cache_of old) ≡ true → (new ≡ old) × (answer_of true command old.document ≡ Some reply)
-  pub refusals : (fault : Fault) → reply ≡ Refused fault
-      → IsChainRefusal (IsEnvironmentFault facts old.disk.store new.disk.store) root (is_full (cache_of old)) fault
 
 -- one for which no body is looked into: over any store it is the step of the machine, and the session stays
 abbrev pub AnswersAtRest : {S : Type 0} → Command → SessionState S → SessionState S → Reply → Type 0
@@ -38,9 +20,9 @@ Asks facts (commands.Find uid start) old new reply = AnswersAtRest (commands.Fin
 Asks facts commands.MapBlock old new reply = AnswersAtRest commands.MapBlock old new reply
 Asks facts commands.Undos old new reply = AnswersAtRest commands.Undos old new reply
 Asks facts commands.Redos old new reply = AnswersAtRest commands.Redos old new reply
-Asks facts (commands.Walk b) old new reply = AnswersAlongChain facts (IsWrongBlock is_raw old.document b.0) (commands.Walk b) old new reply
-Asks facts (commands.ChainSize b) old new reply = AnswersAlongChain facts (IsWrongBlock is_raw old.document b.0) (commands.ChainSize b) old new reply
-Asks facts (commands.ChainEqual b other) old new reply = AnswersAlongChain facts (IsWrongRoot old.document b.0 other.0) (commands.ChainEqual b other) old new reply
+Asks facts (commands.Walk b) old new reply = AnswersAlongChain facts old new (commands.Walk b) reply
+Asks facts (commands.ChainSize b) old new reply = AnswersAlongChain facts old new (commands.ChainSize b) reply
+Asks facts (commands.ChainEqual b other) old new reply = AnswersAlongChain facts old new (commands.ChainEqual b other) reply
 Asks facts command old new reply = AnswersLookUp facts old new command reply
 
 -- what a look-up answers is handed out so

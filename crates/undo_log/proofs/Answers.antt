@@ -20,7 +20,9 @@ use Rattle.undo_log.specs.Logging.{AreExclusive, Log, after_all, after_entry, al
 use Rattle.undo_log.specs.Sessions.{opposite, AreSteps}
 use Rattle.undo_log.specs.declared.entry.LogEntry.{LogEntry}
 use Rattle.undo_log.specs.declared.entry.LogEntry.TheVariants as entries
-use Rattle.undo_log.proofs.Keeping.{machine_with}
+use Rattle.undo_log.specs.Turning.{turn_command}
+use Rattle.undo_log.proofs.Directions.{log_by}
+use Rattle.undo_log.proofs.Keeping.{answers_on, machine_with}
 use Rattle.undo_log.proofs.Steps.{entry_back, goes_back}
 
 -- a list of at least one isn't empty
@@ -88,33 +90,30 @@ steps_back : (direction : Direction) (e : LogEntry) (es : List LogEntry) (d new 
     → steps (opposite direction) (turned_over e ∷ es) new ≡ record { kind = kind_of_entry e; cost = entry_cost e; document = d } ∷ steps (opposite direction) es d
 steps_back direction e es d new gives = λ i. record { kind = kind_turned e i; cost = cost_turned e i; document = gives i } ∷ steps (opposite direction) es (gives i)
 
--- what undo does of a past that isn't empty, and redo of such a future
-undo_one : (m : Machine) (d : Document) (s : UndoStep) (past future : List UndoStep) → machine.has_locks m ≡ false
-    → Answers (record m { document = d; past = s ∷ past; future = future; group = None }) (Some commands.Undo) Accepted
-    (record m { document = s.document; past = past; future = record s { document = d } ∷ future; group = None })
-undo_one m d s past future none = rw (none, some_steps s past) refl
+-- the machine in which no group is open, with these steps to take in a direction, and these in the opposite one
+abbrev machine_by : Direction → Machine → Document → List UndoStep → List UndoStep → Machine
+machine_by Backwards m d from to = record m { document = d; past = from; future = to; group = None }
+machine_by Forwards m d from to = record m { document = d; past = to; future = from; group = None }
 
-redo_one : (m : Machine) (d : Document) (s : UndoStep) (past future : List UndoStep) → machine.has_locks m ≡ false
-    → Answers (record m { document = d; past = past; future = s ∷ future; group = None }) (Some commands.Redo) Accepted
-    (record m { document = s.document; past = record s { document = d } ∷ past; future = future; group = None })
-redo_one m d s past future none = rw (none, some_steps s future) refl
+machine_by-is : (direction : Direction) (m : Machine) (d : Document) (from to : List LogEntry) → machine_with m d (log_by direction from to) ≡ machine_by direction m d (steps direction from d) (steps (opposite direction) to d)
+machine_by-is Backwards m d from to = refl
+machine_by-is Forwards m d from to = refl
 
--- the newest entry of the past is taken back
-pub undo_moved : (m : Machine) (d : Document) (e : LogEntry) (undo redo : List LogEntry) → machine.has_locks m ≡ false → AreSteps Backwards d (all_changes (e ∷ undo)) (all_changes redo)
-    → Answers (machine_with m d (log_of (e ∷ undo) redo None)) (Some commands.Undo) Accepted (machine_with m (after_entry Backwards e d) (log_of undo (turned_over e ∷ redo) None))
-undo_moved m d e undo redo none are =
-    let new = after_entry Backwards e d in
-    subst (λ (future : List UndoStep). Answers (machine_with m d (log_of (e ∷ undo) redo None)) (Some commands.Undo) Accepted (record m { document = new; past = steps Backwards undo new; future = future; group = None }))
-    (sym (steps_back Backwards e redo d new (entry_back Backwards d e undo are.valid are.first)))
-    (undo_one m d (step Backwards e d) (steps Backwards undo new) (steps Forwards redo d) none)
+-- what undo and redo do where there is a step
+step_taken : (direction : Direction) (m : Machine) (d : Document) (s : UndoStep) (from to : List UndoStep) → machine.has_locks m ≡ false
+    → Answers (machine_by direction m d (s ∷ from) to) (Some (turn_command direction)) Accepted (machine_by direction m s.document from (record s { document = d } ∷ to))
+step_taken Backwards m d s from to none = rw (none, some_steps s from) refl
+step_taken Forwards m d s from to none = rw (none, some_steps s from) refl
 
-pub redo_moved : (m : Machine) (d : Document) (e : LogEntry) (undo redo : List LogEntry) → machine.has_locks m ≡ false → AreSteps Forwards d (all_changes (e ∷ redo)) (all_changes undo)
-    → Answers (machine_with m d (log_of undo (e ∷ redo) None)) (Some commands.Redo) Accepted (machine_with m (after_entry Forwards e d) (log_of (turned_over e ∷ undo) redo None))
-redo_moved m d e undo redo none are =
-    let new = after_entry Forwards e d in
-    subst (λ (past : List UndoStep). Answers (machine_with m d (log_of undo (e ∷ redo) None)) (Some commands.Redo) Accepted (record m { document = new; past = past; future = steps Forwards redo new; group = None }))
-    (sym (steps_back Forwards e undo d new (entry_back Forwards d e redo are.valid are.first)))
-    (redo_one m d (step Forwards e d) (steps Backwards undo d) (steps Forwards redo new) none)
+-- the next entry is made
+pub turn_answers : (direction : Direction) (m : Machine) (d : Document) (e : LogEntry) (from to : List LogEntry) → machine.has_locks m ≡ false → AreSteps direction d (all_changes (e ∷ from)) (all_changes to)
+    → Answers (machine_with m d (log_by direction (e ∷ from) to)) (Some (turn_command direction)) Accepted (machine_with m (after_entry direction e d) (log_by direction from (turned_over e ∷ to)))
+turn_answers direction m d e from to none are =
+    let new = after_entry direction e d in
+    let back = steps_back direction e to d new (entry_back direction d e from are.valid are.first) in
+    answers_on _ _ _ _ (Some (turn_command direction)) Accepted (machine_by-is direction m d (e ∷ from) to)
+    (machine_by-is direction m new from (turned_over e ∷ to) ∙ ap (λ (xs : List UndoStep). machine_by direction m new (steps direction from new) xs) back)
+    (step_taken direction m d (step direction e d) (steps direction from new) (steps (opposite direction) to d) none)
 
 -- A group begins, ends, and is abandoned.
 

@@ -12,14 +12,16 @@ use Rattle.block_cache.specs.State.{CacheState}
 use Rattle.vm_blocks.specs.Changes.{directed}
 use Rattle.vm_blocks.specs.Preparing.{CanApplyAllByHandle, AreApplied}
 use Rattle.vm_blocks.specs.declared.change.Change.{Change}
+use Rattle.chunk_edits.specs.declared.direction.Direction.{Direction}
 use Rattle.chunk_edits.specs.declared.direction.Direction.TheVariants.{Forwards, Backwards}
-use Rattle.undo_log.specs.Logging.{AreExclusive, IsHead, Log, after_all, all_changes, before, changes_in, closed_with, group_of, open_changes, newest_redone, steps, to_redo, to_undo, turned_over, newest_undone, with_group_closed}
-use Rattle.undo_log.specs.Sessions.{SessionState, machine_of, CanApplyBothByHandle, AreSteps, IsExact}
+use Rattle.undo_log.specs.Logging.{AreExclusive, IsHead, Log, after_all, all_changes, before, changes_in, closed_with, group_of, next_entries, next_moved, open_changes, steps, to_redo, to_undo, turned_over, with_group_closed}
+use Rattle.undo_log.specs.Sessions.{SessionState, machine_of, opposite, CanApplyBothByHandle, AreSteps, IsExact}
 use Rattle.undo_log.specs.Turning.{IsEntryApplied}
 use Rattle.undo_log.specs.declared.entry.LogEntry.{LogEntry}
 use Rattle.undo_log.proofs.Answers.{begin_moved, end_moved}
+use Rattle.undo_log.proofs.Directions.{listed_by, listed_of, log_moved}
 use Rattle.undo_log.proofs.Keeping.{Holds, answers_on, machine_with, none_marked}
-use Rattle.undo_log.proofs.Listing.{are_listed_alike, drifted, entry_listed, listed_behind, listed_front, moved_listed, swapped_back_listed, swapped_listed}
+use Rattle.undo_log.proofs.Listing.{are_listed_alike, drifted, entry_listed, listed_behind, listed_front, moved_listed}
 use Rattle.undo_log.proofs.Steps.{before-valid}
 use Rattle.undo_log.proofs.Turns.{entry_document, entry_passes}
 
@@ -93,41 +95,24 @@ module _ {S : Type 0} (s : SessionState S) where
       (ap (λ (g : Option (List Change)). machine_with m s.document (closed_with g (log_of s.log.undo s.log.redo g))) is_open) (end_moved m s.document s.log.undo s.log.redo cs))
 
 module _ {S : Type 0} (facts : S → StoreFacts) (old new : CacheState S) (log : Log) where
-  -- An entry was made.
-  module _ (e : LogEntry) (none : log.group ≡ None) (known : IsFileDocument (facts old.disk.store).honest old.document) where
-    undo_known : (first : IsHead e log.undo) → Holds old log → CanApplyBothByHandle Backwards old.document (all_changes (e ∷ first.others)) (all_changes log.redo)
-    undo_known first holds =
-        subst (λ (es : List LogEntry). CanApplyBothByHandle Backwards old.document (all_changes es) (all_changes log.redo)) first.are
-        (subst (λ (g : Option (List Change)). CanApplyBothByHandle Backwards old.document (open_changes g ++ all_changes log.undo) (all_changes log.redo)) none holds.0)
+  -- The next entry in a direction was made.
+  module _ (direction : Direction) (e : LogEntry) (none : log.group ≡ None) (first : IsHead e (next_entries direction log)) where
+    next_known : Holds old log → CanApplyBothByHandle direction old.document (all_changes (e ∷ first.others)) (all_changes (next_entries (opposite direction) log))
+    next_known holds =
+        subst (λ (es : List LogEntry). CanApplyBothByHandle direction old.document (all_changes es) (all_changes (next_entries (opposite direction) log))) first.are
+        (listed_by direction old.document log none holds.0)
 
-    redo_known : (first : IsHead e log.redo) → Holds old log → CanApplyBothByHandle Forwards old.document (all_changes (e ∷ first.others)) (all_changes log.undo)
-    redo_known first holds =
-        subst (λ (es : List LogEntry). CanApplyBothByHandle Forwards old.document (all_changes es) (all_changes log.undo)) first.are
-        (swapped_listed old.document (all_changes log.undo) (all_changes log.redo) (subst (λ (g : Option (List Change)). CanApplyBothByHandle Backwards old.document (open_changes g ++ all_changes log.undo) (all_changes log.redo)) none holds.0))
+    pub next_listed : Holds old log → CanApplyAllByHandle (map (directed direction) (changes_in e)) old.document
+    next_listed holds = entry_listed direction e first.others old.document (next_known holds).first
 
-    pub undo_listed : IsHead e log.undo → Holds old log → CanApplyAllByHandle (map (directed Backwards) (changes_in e)) old.document
-    undo_listed first holds = entry_listed Backwards e first.others old.document (undo_known first holds).first
-
-    pub redo_listed : IsHead e log.redo → Holds old log → CanApplyAllByHandle (map (directed Forwards) (changes_in e)) old.document
-    redo_listed first holds = entry_listed Forwards e first.others old.document (redo_known first holds).first
-
-    pub undone_invariant : IsHead e log.undo → IsEntryApplied facts Backwards e old new → Holds old log → Holds new (newest_undone log)
-    undone_invariant first makes holds =
-        let is : newest_undone log ≡ log_of first.others (turned_over e ∷ log.redo) None = rw (first.are, none) refl in
-        let honest = (facts old.disk.store).honest in (
-          subst (λ (l : Log). CanApplyBothByHandle Backwards new.document (to_undo l) (to_redo l)) (sym is)
-              (moved_listed honest Backwards old.document new.document e first.others log.redo known (drifted honest _ new.document (entry_document facts Backwards e old new makes)) (undo_known first holds)),
-          none_marked honest old.disk.marked new.disk.marked holds.1 (entry_passes facts Backwards e old new makes).marked,
-        )
-
-    pub redone_invariant : IsHead e log.redo → IsEntryApplied facts Forwards e old new → Holds old log → Holds new (newest_redone log)
-    redone_invariant first makes holds =
-        let is : newest_redone log ≡ log_of (turned_over e ∷ log.undo) first.others None = rw (first.are, none) refl in
-        let honest = (facts old.disk.store).honest in (
-          subst (λ (l : Log). CanApplyBothByHandle Backwards new.document (to_undo l) (to_redo l)) (sym is)
-              (swapped_back_listed new.document (all_changes (turned_over e ∷ log.undo)) (all_changes first.others)
-              (moved_listed honest Forwards old.document new.document e first.others log.undo known (drifted honest _ new.document (entry_document facts Forwards e old new makes)) (redo_known first holds))),
-          none_marked honest old.disk.marked new.disk.marked holds.1 (entry_passes facts Forwards e old new makes).marked,
+    pub moved_invariant : IsFileDocument (facts old.disk.store).honest old.document → IsEntryApplied facts direction e old new → Holds old log → Holds new (next_moved direction log)
+    moved_invariant known makes holds =
+        let honest = (facts old.disk.store).honest in
+        let others = next_entries (opposite direction) log in (
+          subst (λ (l : Log). CanApplyBothByHandle Backwards new.document (to_undo l) (to_redo l)) (sym (log_moved e log none direction first))
+              (listed_of direction new.document first.others (turned_over e ∷ others)
+              (moved_listed honest direction old.document new.document e first.others others known (drifted honest _ new.document (entry_document facts direction e old new makes)) (next_known holds))),
+          none_marked honest old.disk.marked new.disk.marked holds.1 (entry_passes facts direction e old new makes).marked,
         )
 
   -- The group that is open is taken back.

@@ -4,6 +4,7 @@ pub mod Lists
 pub mod Keeping
 pub mod Locking
 pub mod Steps
+pub mod Directions
 pub mod Answers
 pub mod Edited
 pub mod Turns

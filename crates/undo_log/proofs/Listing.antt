@@ -265,12 +265,6 @@ edited_listed honest d new c undo redo known same listed are =
     let moved : CanApplyBothByHandle Forwards new [] (c ∷ undo) = moved_known Forwards d new c [] undo (listed_known honest d known) same (record { first = (listed, tt); second = are.first }) in
     record { first = moved.second; second = tt }
 
-pub swapped_listed : (d : Document) (undo redo : List Change) → CanApplyBothByHandle Backwards d undo redo → CanApplyBothByHandle Forwards d redo undo
-swapped_listed d undo redo are = record { first = are.second; second = are.first }
-
-pub swapped_back_listed : (d : Document) (undo redo : List Change) → CanApplyBothByHandle Forwards d redo undo → CanApplyBothByHandle Backwards d undo redo
-swapped_back_listed d undo redo are = record { first = are.second; second = are.first }
-
 -- with nothing to undo or to redo
 pub none_listed : (d : Document) → CanApplyBothByHandle Backwards d [] []
 none_listed d = record { first = tt; second = tt }

@@ -1,10 +1,10 @@
 -- What is looked up of a session's document is a step of its machine.
-use Rattle.std.proofs.Common.{◌≡◌, true, IsTrue, Option, Some, None, ◌∷◌, map, refl, ap, subst, inl, inr}
+use Rattle.std.proofs.Common.{◌≡◌, true, IsTrue, Option, Some, None, ◌∷◌, map, refl, sym, ap, subst, inl, inr}
 use Rattle.std.specs.Option.{option_map, option_map_or}
 use Rattle.geos_model.specs.Refusal.{first_refusal}
 use Rattle.geos_model.specs.ElementArray.{all_distinct}
 use Rattle.geos_model.specs.Machine as machine
-use Rattle.geos_model.specs.Machine.{Machine, Step, takes_memory, calls_store, command_conditions, done_by, look_up_needs}
+use Rattle.geos_model.specs.Machine.{Machine, ManyBodies, Needs, Step, takes_memory, calls_store, command_conditions, done_by, look_up_needs}
 use Rattle.geos_model.specs.Reply.{Reply, Refused, look_up_conditions, look_up}
 use Rattle.geos_model.specs.declared.fault.Fault.{Fault}
 use Rattle.geos_model.specs.declared.fault.Fault.TheVariants.{CacheFull}
@@ -12,12 +12,12 @@ use Rattle.geos_model.specs.declared.command.Command.{Command}
 use Rattle.geos_model.specs.Document.{Document}
 use Rattle.vm_store.specs.Facts.{StoreFacts}
 use Rattle.block_cache.specs.State.{CacheState}
-use Rattle.vm_blocks.specs.Keeping.{KeepsBlocks, IsEnvironmentFault, IsHonest, is_full}
+use Rattle.vm_blocks.specs.Keeping.{KeepsBlocks, IsEnvironmentFault}
 use Rattle.vm_blocks.proofs.KeepingLaws.{honest-steady}
-use Rattle.doc_edits.specs.LookUps.{LooksUp, Sees}
+use Rattle.doc_edits.specs.LookUps.{LooksUp, Sees, SeesAlongChain}
 use Rattle.doc_edits.specs.Room.{has_no_room}
 use Rattle.undo_log.specs.Logging.{Log}
-use Rattle.undo_log.specs.Sessions.{SessionState, cache_of, machine_of, failed_since, IsStep, KeepsSession, AnswersLookUp}
+use Rattle.undo_log.specs.Sessions.{SessionState, cache_of, machine_of, failed_since, IsStep, KeepsSession, AnswersAlongChain, AnswersLookUp}
 use Rattle.undo_log.proofs.Keeping.{gives_up, kept_exact, kept_machine, kept_document}
 use Rattle.undo_log.proofs.Locks.{has_no_room-is}
 
@@ -60,30 +60,24 @@ module _ {S : Type 0} (facts : S → StoreFacts) (old new : SessionState S) (kee
   pub looked : (c : Command) (reply : Reply) → IsLookUp c → Sees facts (cache_of old) (cache_of new) c reply → AnswersLookUp facts old new c reply
   looked c reply is sees = record { keeps = keeps; step = look_up_step c reply is (λ _. sees.value); sees = sees }
 
-  -- of a chain
-  pub chain_step : (c : Command) (reply : Reply) → IsLookUp c → (IsHonest facts old.disk.store → LooksUp (IsEnvironmentFault facts old.disk.store new.disk.store) (has_no_room (cache_of old) (look_up_needs c)) c new.document reply) → IsStep facts old new c reply
-  chain_step c reply is value = look_up_step c reply is (λ so. value (honest-steady facts old.disk.store so))
+  pub along : (c : Command) (reply : Reply) → IsLookUp c → look_up_needs c ≡ ManyBodies → SeesAlongChain facts (cache_of old) (cache_of new) c reply → AnswersAlongChain facts old new c reply
+  along c reply is many sees = record {
+    keeps = keeps;
+    step = look_up_step c reply is (λ so. subst (λ (needs : Needs). LooksUp (IsEnvironmentFault facts old.disk.store new.disk.store) (has_no_room (cache_of old) needs) c new.document reply) (sym many) (sees.value (honest-steady facts old.disk.store so)));
+    sees = sees;
+  }
 
 -- So it is of a session that is seen to be one of these blocks.
 module _ {S : Type 0} (facts : S → StoreFacts) (old new : CacheState S) (log : Log) (keeps : KeepsBlocks facts old new) (s : SessionState S) (is : session_with old log ≡ s) where
-  pub kept_session : KeepsSession facts s (session_with new log)
-  kept_session = subst (λ (x : SessionState S). KeepsSession facts x (session_with new log)) is (record { blocks = keeps; log = refl })
-
   module _ (distinct : all_distinct (map (λ s. s.0) old.resident) ≡ true) (c : Command) (reply : Reply) (asks : IsLookUp c) where
     pub looked_at : Sees facts old new c reply → AnswersLookUp facts s (session_with new log) c reply
     looked_at sees =
         subst (λ (x : SessionState S). AnswersLookUp facts x (session_with new log) c reply) is (looked facts (session_with old log) (session_with new log) (record { blocks = keeps; log = refl }) distinct c reply asks sees)
 
-    pub chain_stepped : (IsHonest facts old.disk.store → LooksUp (IsEnvironmentFault facts old.disk.store new.disk.store) (has_no_room old (look_up_needs c)) c new.document reply) → IsStep facts s (session_with new log) c reply
-    chain_stepped value =
-        subst (λ (x : SessionState S). IsStep facts x (session_with new log) c reply) is (chain_step facts (session_with old log) (session_with new log) (record { blocks = keeps; log = refl }) distinct c reply asks value)
+    pub looked_along : look_up_needs c ≡ ManyBodies → SeesAlongChain facts old new c reply → AnswersAlongChain facts s (session_with new log) c reply
+    looked_along many sees =
+        subst (λ (x : SessionState S). AnswersAlongChain facts x (session_with new log) c reply) is (along facts (session_with old log) (session_with new log) (record { blocks = keeps; log = refl }) distinct c reply asks many sees)
 
 -- sessions of the same parts are the same
 pub same_session : {S : Type 0} (old new : CacheState S) (log log' : Log) → new ≡ old → log' ≡ log → session_with new log' ≡ session_with old log
 same_session old new log log' p q = λ i. session_with (p i) (q i)
-
--- A chain isn't followed where each frame has a locked block.
-pub chain_shut : {S : Type 0} (old new : CacheState S) (log : Log) (s : SessionState S) (is : session_with old log ≡ s) (P : Document → Type 0)
-    → (is_full old ≡ true → (new ≡ old) × P old.document) → is_full (cache_of s) ≡ true → (session_with new log ≡ s) × P s.document
-chain_shut old new log s is P shut = subst (λ x. is_full (cache_of x) ≡ true → (session_with new log ≡ x) × P x.document) is
-    (λ full. let kept = shut full in (same_session old new log log kept.0 refl, kept.1))

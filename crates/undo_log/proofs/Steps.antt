@@ -85,13 +85,6 @@ module _ (d : Document) (log : Log) (are : AreSteps Backwards d (to_undo log) (t
   pub future-valid : AreValid (steps Forwards log.redo d)
   future-valid = steps-valid Forwards log.redo d are.valid are.second
 
--- The two lists in the other order.
-pub swapped : (d : Document) (undo redo : List Change) → AreSteps Backwards d undo redo → AreSteps Forwards d redo undo
-swapped d undo redo are = record { valid = are.valid; first = are.second; second = are.first }
-
-pub swapped_back : (d : Document) (undo redo : List Change) → AreSteps Forwards d redo undo → AreSteps Backwards d undo redo
-swapped_back d undo redo are = record { valid = are.valid; first = are.second; second = are.first }
-
 -- an edit puts its change before the others, and nothing is left to redo
 pub edited_steps : (d : Document) (undo redo : List Change) (c : Change) → AreSteps Backwards d undo redo → CanApply c d → AreSteps Backwards (after_change c d) (c ∷ undo) []
 edited_steps d undo redo c are applies =

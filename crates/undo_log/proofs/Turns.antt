@@ -6,7 +6,7 @@ use Rattle.std.proofs.lemmas.Bool.{true≢false}
 use Rattle.std.proofs.lemmas.List.{length-reverse}
 use Rattle.geos_model.specs.Document.{Document}
 use Rattle.geos_model.specs.Machine as machine
-use Rattle.geos_model.specs.Machine.{Machine, Step, newest_takes, undo_takes, redo_takes, has_edits}
+use Rattle.geos_model.specs.Machine.{Machine, Step, calls_store, newest_takes, takes_memory, undo_takes, redo_takes, has_edits}
 use Rattle.geos_model.specs.Refusal.{first_refusal}
 use Rattle.geos_model.specs.Reply.{Accepted, Refused}
 use Rattle.geos_model.specs.declared.command.Command.TheVariants as commands
@@ -26,14 +26,15 @@ use Rattle.chunk_edits.specs.declared.direction.Direction.TheVariants.{Forwards,
 use Rattle.vm_blocks.proofs.KeepingLaws.{honest-steady, open-shut}
 use Rattle.vm_blocks.proofs.Preparing.{applies_takes}
 use Rattle.doc_edits.specs.Planning.{kind_of_change}
-use Rattle.undo_log.specs.Logging.{AreExclusive, IsHead, Log, after_all, after_entry, all_changes, before, group_of, kind_of_entry, open_changes, newest_redone, steps, to_redo, to_undo, turned_over, newest_undone}
-use Rattle.undo_log.specs.Sessions.{SessionState, cache_of, has_locks, machine_of, CanApplyAll, AreSteps, IsExact, IsStep, KeepsSession}
-use Rattle.undo_log.specs.Turning.{IsEntryApplied, MovesEntry, CanApplyEntry, CantApply, CantApplyEntry, CantApplyLog, IsSure, IsSureKind, abandon_fault, newest_made, busy_fault}
+use Rattle.undo_log.specs.Logging.{AreExclusive, IsHead, Log, after_all, after_entry, all_changes, before, group_of, kind_of_entry, next_entries, next_moved, open_changes, steps, to_redo, to_undo, turned_over}
+use Rattle.undo_log.specs.Sessions.{SessionState, cache_of, has_locks, machine_of, opposite, CanApplyAll, AreSteps, IsExact, IsStep, KeepsSession}
+use Rattle.undo_log.specs.Turning.{IsEntryApplied, MovesEntry, CanApplyEntry, CantApply, CantApplyEntry, CantApplyLog, IsSure, IsSureKind, abandon_fault, newest_made, nothing_to_turn, turn_command, busy_fault}
 use Rattle.undo_log.specs.declared.entry.LogEntry.{LogEntry}
 use Rattle.undo_log.specs.declared.entry.LogEntry.TheVariants as entries
-use Rattle.undo_log.proofs.Answers.{abandon_moved, redo_moved, some_steps, undo_moved}
+use Rattle.undo_log.proofs.Answers.{abandon_moved, some_steps, turn_answers}
+use Rattle.undo_log.proofs.Directions.{log_by, log_moved, log_was, next_of, none_of, opposite_of, steps_by, steps_of}
 use Rattle.undo_log.proofs.Keeping.{answers_on, gives_up, kept_exact, kept_machine, machine_with, passed_machine}
-use Rattle.undo_log.proofs.Steps.{all_back, can_split, moved_entry, swapped, swapped_back}
+use Rattle.undo_log.proofs.Steps.{all_back, can_split, moved_entry}
 
 -- whether carrying a step of this kind out may take memory
 abbrev turn_takes : Direction → Kind → Bool
@@ -188,11 +189,8 @@ module _ {S : Type 0} (facts : S → StoreFacts) where
   none_sure s direction from none sure = subst (IsSure facts s direction) none sure
 
   -- What can be taken of an exact session in which no group is open.
-  pub undo_can : (s : SessionState S) → busy_fault s ≡ None → IsExact facts s → CanApplyAll Backwards (all_changes s.log.undo) s.document
-  undo_can s free exact = subst (λ (g : Option (List Change)). CanApplyAll Backwards (open_changes g ++ all_changes s.log.undo) s.document) (none_open s free) exact.steps.first
-
-  pub redo_can : (s : SessionState S) → IsExact facts s → CanApplyAll Forwards (all_changes s.log.redo) s.document
-  redo_can s exact = exact.steps.second
+  pub next_can : (s : SessionState S) (direction : Direction) → busy_fault s ≡ None → IsExact facts s → CanApplyAll direction (all_changes (next_entries direction s.log)) s.document
+  next_can s direction free exact = (steps_by direction s.document s.log (none_open s free) exact.steps).first
 
   pub newest_can : (direction : Direction) (e : LogEntry) (from : List LogEntry) (d : Document) → (first : IsHead e from) → CanApplyAll direction (all_changes from) d → CanApplyAll direction (all_changes (e ∷ first.others)) d
   newest_can direction e from d first can = subst (λ (es : List LogEntry). CanApplyAll direction (all_changes es) d) first.are can
@@ -229,93 +227,60 @@ module _ {S : Type 0} (facts : S → StoreFacts) where
     newest_may : (direction : Direction) (e : LogEntry) (es from : List LogEntry) (d : Document) → from ≡ e ∷ es → (CanApplyEntry direction e (cache_of old) → ⊥) → newest_takes (turn_takes direction) (steps direction from d) ≡ true
     newest_may direction e es from d is unsure = ap (λ (xs : List LogEntry). newest_takes (turn_takes direction) (steps direction xs d)) is ∙ may_take direction e (cache_of old) unsure
 
-    module _ (fault : Fault) (keeps : KeepsSession facts old new) (e : LogEntry) where
-      pub undo_refused : IsHead e old.log.undo → (CanApplyEntry Backwards e (cache_of old) → ⊥) → CantApplyLog facts old new fault → IsStep facts old new commands.Undo (Refused fault)
-      undo_refused first unsure why = λ exact. (
+    may_turn : (direction : Direction) (e : LogEntry) → IsHead e (next_entries direction old.log) → (CanApplyEntry direction e (cache_of old) → ⊥) → (target : Bool)
+        → (takes_memory (turn_command direction) (machine_of target old) ≡ true) × (calls_store (turn_command direction) (machine_of target old) ≡ true)
+    may_turn Backwards e first unsure target = let takes = newest_may Backwards e first.others old.log.undo (before old.log.group old.document) first.are unsure in (takes, takes)
+    may_turn Forwards e first unsure target = let takes = newest_may Forwards e first.others old.log.redo old.document first.are unsure in (takes, takes)
+
+    module _ (direction : Direction) (e : LogEntry) (first : IsHead e (next_entries direction old.log)) where
+      -- The next entry in a direction isn't made,
+      pub turn_refused : (fault : Fault) → KeepsSession facts old new → (CanApplyEntry direction e (cache_of old) → ⊥) → CantApplyLog facts old new fault → IsStep facts old new (turn_command direction) (Refused fault)
+      turn_refused fault keeps unsure why = λ exact. (
         kept_exact facts old new keeps exact,
         λ target.
-            let takes = newest_may Backwards e first.others old.log.undo (before old.log.group old.document) first.are unsure in
-            gives_up facts old.disk.store new.disk.store (machine_of target old) (machine_of target new) commands.Undo fault exact.honest (lacking fault exact why) (kept_machine facts old new keeps target exact) takes takes,
+            let may = may_turn direction e first unsure target in
+            gives_up facts old.disk.store new.disk.store (machine_of target old) (machine_of target new) (turn_command direction) fault exact.honest (lacking fault exact why) (kept_machine facts old new keeps target exact) may.0 may.1,
       )
 
-      pub redo_refused : IsHead e old.log.redo → (CanApplyEntry Forwards e (cache_of old) → ⊥) → CantApplyLog facts old new fault → IsStep facts old new commands.Redo (Refused fault)
-      redo_refused first unsure why = λ exact. (
-        kept_exact facts old new keeps exact,
-        λ target.
-            let takes = newest_may Forwards e first.others old.log.redo old.document first.are unsure in
-            gives_up facts old.disk.store new.disk.store (machine_of target old) (machine_of target new) commands.Redo fault exact.honest (lacking fault exact why) (kept_machine facts old new keeps target exact) takes takes,
-      )
+      -- or it is.
+      module _ (free : busy_fault old ≡ None) (log : new.log ≡ next_moved direction old.log) (makes : IsEntryApplied facts direction e (cache_of old) (cache_of new)) where
+        abbrev others : List LogEntry
+        others = next_entries (opposite direction) old.log
 
-    -- One is taken.
-    module _ (e : LogEntry) (free : busy_fault old ≡ None) where
-      log_undone : (first : IsHead e old.log.undo) → newest_undone old.log ≡ record { undo = first.others; redo = turned_over e ∷ old.log.redo; group = None }
-      log_undone first = rw (first.are, none_open old free) refl
+        log_is : new.log ≡ log_by direction first.others (turned_over e ∷ others)
+        log_is = log ∙ log_moved e old.log (none_open old free) direction first
 
-      log_redone : (first : IsHead e old.log.redo) → newest_redone old.log ≡ record { undo = turned_over e ∷ old.log.undo; redo = first.others; group = None }
-      log_redone first = rw (first.are, none_open old free) refl
+        pub turn_moves : MovesEntry facts direction (cache_of old) (cache_of new) (next_entries direction old.log) others (next_entries direction new.log) (next_entries (opposite direction) new.log)
+        turn_moves = record {
+          entry = e;
+          makes = makes;
+          from_was = first.are ∙ ap (λ (es : List LogEntry). e ∷ es) (sym (ap (next_entries direction) log_is ∙ next_of direction first.others (turned_over e ∷ others)));
+          to_is = ap (next_entries (opposite direction)) log_is ∙ opposite_of direction first.others (turned_over e ∷ others);
+        }
 
-      log_was_undo : (first : IsHead e old.log.undo) → old.log ≡ record { undo = e ∷ first.others; redo = old.log.redo; group = None }
-      log_was_undo first = λ i. record { undo = first.are i; redo = old.log.redo; group = none_open old free i }
+        pub turn_group : new.log.group ≡ old.log.group
+        turn_group = ap (λ (l : Log). l.group) log_is ∙ none_of direction first.others (turned_over e ∷ others) ∙ sym (none_open old free)
 
-      log_was_redo : (first : IsHead e old.log.redo) → old.log ≡ record { undo = old.log.undo; redo = e ∷ first.others; group = None }
-      log_was_redo first = λ i. record { undo = old.log.undo; redo = first.are i; group = none_open old free i }
-
-      pub undo_moves : IsHead e old.log.undo → new.log ≡ newest_undone old.log → IsEntryApplied facts Backwards e (cache_of old) (cache_of new)
-          → MovesEntry facts Backwards (cache_of old) (cache_of new) old.log.undo old.log.redo new.log.undo new.log.redo
-      undo_moves first log makes =
-          let is : new.log ≡ record { undo = first.others; redo = turned_over e ∷ old.log.redo; group = None } = log ∙ log_undone first in
-          record { entry = e; makes = makes; from_was = first.are ∙ ap (λ (es : List LogEntry). e ∷ es) (sym (ap (λ (l : Log). l.undo) is)); to_is = ap (λ (l : Log). l.redo) is }
-
-      pub redo_moves : IsHead e old.log.redo → new.log ≡ newest_redone old.log → IsEntryApplied facts Forwards e (cache_of old) (cache_of new)
-          → MovesEntry facts Forwards (cache_of old) (cache_of new) old.log.redo old.log.undo new.log.redo new.log.undo
-      redo_moves first log makes =
-          let is : new.log ≡ record { undo = turned_over e ∷ old.log.undo; redo = first.others; group = None } = log ∙ log_redone first in
-          record { entry = e; makes = makes; from_was = first.are ∙ ap (λ (es : List LogEntry). e ∷ es) (sym (ap (λ (l : Log). l.redo) is)); to_is = ap (λ (l : Log). l.undo) is }
-
-      pub undo_taken : IsHead e old.log.undo → new.log ≡ newest_undone old.log → IsEntryApplied facts Backwards e (cache_of old) (cache_of new) → IsStep facts old new commands.Undo Accepted
-      undo_taken first log makes = λ exact.
-          let so = exact.honest in
-          let passes = entry_passes Backwards e (cache_of old) (cache_of new) makes in
-          let document : new.document ≡ after_entry Backwards e old.document = (entry_document Backwards e (cache_of old) (cache_of new) makes).same so in
-          let was_log = log_was_undo first in
-          let is_log : new.log ≡ record { undo = first.others; redo = turned_over e ∷ old.log.redo; group = None } = log ∙ log_undone first in
-          let are : AreSteps Backwards old.document (all_changes (e ∷ first.others)) (all_changes old.log.redo) = subst (λ (l : Log). AreSteps Backwards old.document (to_undo l) (to_redo l)) was_log exact.steps in
-          let moved = moved_entry Backwards old.document e first.others old.log.redo are in (
-            record {
-              honest = subst IsTrue (sym passes.honest) so;
-              steps = subst (λ (d : Document). AreSteps Backwards d (to_undo new.log) (to_redo new.log)) (sym document)
-                  (subst (λ (l : Log). AreSteps Backwards (after_entry Backwards e old.document) (to_undo l) (to_redo l)) (sym is_log) moved);
-            },
-            λ target.
-                let m = machine_of target old in
-                let is = passed_machine facts old new target so passes (entry_frames Backwards e (cache_of old) (cache_of new) makes) (entry_locks Backwards e (cache_of old) (cache_of new) makes)
-                ∙ ap (λ (d : Document). machine_with m d new.log) document ∙ ap (λ (l : Log). machine_with m (after_entry Backwards e old.document) l) is_log in
-                inl (answers_on m _ (machine_of target new) _ (Some commands.Undo) Accepted (ap (λ (l : Log). machine_with m old.document l) was_log) is
-                (undo_moved m old.document e first.others old.log.redo (at_rest old free).1 are)),
-          )
-
-      pub redo_taken : IsHead e old.log.redo → new.log ≡ newest_redone old.log → IsEntryApplied facts Forwards e (cache_of old) (cache_of new) → IsStep facts old new commands.Redo Accepted
-      redo_taken first log makes = λ exact.
-          let so = exact.honest in
-          let passes = entry_passes Forwards e (cache_of old) (cache_of new) makes in
-          let document : new.document ≡ after_entry Forwards e old.document = (entry_document Forwards e (cache_of old) (cache_of new) makes).same so in
-          let was_log = log_was_redo first in
-          let is_log : new.log ≡ record { undo = turned_over e ∷ old.log.undo; redo = first.others; group = None } = log ∙ log_redone first in
-          let are : AreSteps Forwards old.document (all_changes (e ∷ first.others)) (all_changes old.log.undo) =
-          swapped old.document (all_changes old.log.undo) (all_changes (e ∷ first.others)) (subst (λ (l : Log). AreSteps Backwards old.document (to_undo l) (to_redo l)) was_log exact.steps) in
-          let moved = swapped_back (after_entry Forwards e old.document) (all_changes (turned_over e ∷ old.log.undo)) (all_changes first.others) (moved_entry Forwards old.document e first.others old.log.undo are) in (
-            record {
-              honest = subst IsTrue (sym passes.honest) so;
-              steps = subst (λ (d : Document). AreSteps Backwards d (to_undo new.log) (to_redo new.log)) (sym document)
-                  (subst (λ (l : Log). AreSteps Backwards (after_entry Forwards e old.document) (to_undo l) (to_redo l)) (sym is_log) moved);
-            },
-            λ target.
-                let m = machine_of target old in
-                let is = passed_machine facts old new target so passes (entry_frames Forwards e (cache_of old) (cache_of new) makes) (entry_locks Forwards e (cache_of old) (cache_of new) makes)
-                ∙ ap (λ (d : Document). machine_with m d new.log) document ∙ ap (λ (l : Log). machine_with m (after_entry Forwards e old.document) l) is_log in
-                inl (answers_on m _ (machine_of target new) _ (Some commands.Redo) Accepted (ap (λ (l : Log). machine_with m old.document l) was_log) is
-                (redo_moved m old.document e old.log.undo first.others (at_rest old free).1 are)),
-          )
+        pub turn_taken : IsStep facts old new (turn_command direction) Accepted
+        turn_taken = λ exact.
+            let so = exact.honest in
+            let passes = entry_passes direction e (cache_of old) (cache_of new) makes in
+            let document : new.document ≡ after_entry direction e old.document = (entry_document direction e (cache_of old) (cache_of new) makes).same so in
+            let are : AreSteps direction old.document (all_changes (e ∷ first.others)) (all_changes others) =
+            subst (λ (es : List LogEntry). AreSteps direction old.document (all_changes es) (all_changes others)) first.are (steps_by direction old.document old.log (none_open old free) exact.steps) in
+            let moved = steps_of direction (after_entry direction e old.document) first.others (turned_over e ∷ others) (moved_entry direction old.document e first.others others are) in (
+              record {
+                honest = subst IsTrue (sym passes.honest) so;
+                steps = subst (λ (d : Document). AreSteps Backwards d (to_undo new.log) (to_redo new.log)) (sym document)
+                    (subst (λ (l : Log). AreSteps Backwards (after_entry direction e old.document) (to_undo l) (to_redo l)) (sym log_is) moved);
+              },
+              λ target.
+                  let m = machine_of target old in
+                  let is = passed_machine facts old new target so passes (entry_frames direction e (cache_of old) (cache_of new) makes) (entry_locks direction e (cache_of old) (cache_of new) makes)
+                  ∙ ap (λ (d : Document). machine_with m d new.log) document ∙ ap (λ (l : Log). machine_with m (after_entry direction e old.document) l) log_is in
+                  inl (answers_on m _ (machine_of target new) _ (Some (turn_command direction)) Accepted (ap (λ (l : Log). machine_with m old.document l) (log_was e old.log (none_open old free) direction first)) is
+                  (turn_answers direction m old.document e first.others others (at_rest old free).1 are)),
+            )
 
   -- It is refused before all else.
   module _ (s : SessionState S) (fault : Fault) (held : busy_fault s ≡ Some fault) where
@@ -325,29 +290,23 @@ module _ {S : Type 0} (facts : S → StoreFacts) where
     held_first nothing by_parts target none =
         ap (λ (x : Bool). first_refusal ((nothing, none) ∷ (GroupOpen, x) ∷ (Locked, has_locks s) ∷ [])) (group_open (group_of s.document) s.log.group) ∙ by_parts (is_some s.log.group) (has_locks s) none held
 
-    undo_parts : (is_open locked none : Bool) → (if is_open then Some GroupOpen else if locked then Some Locked else None) ≡ Some fault → first_refusal ((NothingToUndo, none) ∷ (GroupOpen, is_open) ∷ (Locked, locked) ∷ []) ≡ Some fault
-    undo_parts true locked none is = is
-    undo_parts false true none is = is
-    undo_parts false false none is = absurd (cc is)
+    parts_first : (direction : Direction) (is_open locked none : Bool) → (if is_open then Some GroupOpen else if locked then Some Locked else None) ≡ Some fault
+        → first_refusal ((nothing_to_turn direction, none) ∷ (GroupOpen, is_open) ∷ (Locked, locked) ∷ []) ≡ Some fault
+    parts_first Backwards true locked none is = is
+    parts_first Backwards false true none is = is
+    parts_first Backwards false false none is = absurd (cc is)
+    parts_first Forwards true locked none is = is
+    parts_first Forwards false true none is = is
+    parts_first Forwards false false none is = absurd (cc is)
 
-    redo_parts : (is_open locked none : Bool) → (if is_open then Some GroupOpen else if locked then Some Locked else None) ≡ Some fault → first_refusal ((NothingToRedo, none) ∷ (GroupOpen, is_open) ∷ (Locked, locked) ∷ []) ≡ Some fault
-    redo_parts true locked none is = is
-    redo_parts false true none is = is
-    redo_parts false false none is = absurd (cc is)
-
-    pub undo_held : IsStep facts s s commands.Undo (Refused fault)
-    undo_held = λ exact. (exact, λ target. inl (rw (held_first NothingToUndo undo_parts target (length (machine_of target s).past == 0)) refl))
-
-    pub redo_held : IsStep facts s s commands.Redo (Refused fault)
-    redo_held = λ exact. (exact, λ target. inl (rw (held_first NothingToRedo redo_parts target (length (machine_of target s).future == 0)) refl))
+    pub turn_held : (direction : Direction) → IsStep facts s s (turn_command direction) (Refused fault)
+    turn_held Backwards = λ exact. (exact, λ target. inl (rw (held_first NothingToUndo (parts_first Backwards) target (length (machine_of target s).past == 0)) refl))
+    turn_held Forwards = λ exact. (exact, λ target. inl (rw (held_first NothingToRedo (parts_first Forwards) target (length (machine_of target s).future == 0)) refl))
 
   -- There is none.
-  module _ (s : SessionState S) (free : busy_fault s ≡ None) where
-    pub undo_none : s.log.undo ≡ [] → IsStep facts s s commands.Undo (Refused NothingToUndo)
-    undo_none none = λ exact. (exact, λ target. inl (rw (none_open s free, (at_rest s free).1, none) refl))
-
-    pub redo_none : s.log.redo ≡ [] → IsStep facts s s commands.Redo (Refused NothingToRedo)
-    redo_none none = λ exact. (exact, λ target. inl (rw (none_open s free, (at_rest s free).1, none) refl))
+  pub turn_none : (s : SessionState S) (free : busy_fault s ≡ None) (direction : Direction) → next_entries direction s.log ≡ [] → IsStep facts s s (turn_command direction) (Refused (nothing_to_turn direction))
+  turn_none s free Backwards none = λ exact. (exact, λ target. inl (rw (none_open s free, (at_rest s free).1, none) refl))
+  turn_none s free Forwards none = λ exact. (exact, λ target. inl (rw (none_open s free, (at_rest s free).1, none) refl))
 
   -- What keeps a group from being abandoned.
   module _ (s : SessionState S) (fault : Fault) (held : abandon_fault s ≡ Some fault) where

@@ -9,7 +9,7 @@ use Rattle.vm_blocks.specs.Changes.{after_directed, directed, weight}
 use Rattle.vm_blocks.specs.Preparing.{after_changes}
 use Rattle.vm_blocks.specs.declared.change.Change.{Change}
 use Rattle.chunk_edits.specs.declared.direction.Direction.{Direction}
-use Rattle.chunk_edits.specs.declared.direction.Direction.TheVariants.{Backwards}
+use Rattle.chunk_edits.specs.declared.direction.Direction.TheVariants.{Backwards, Forwards}
 use Rattle.doc_edits.specs.Planning.{kind_of_change, change_cost}
 use Rattle.undo_log.specs.declared.entry.LogEntry.{LogEntry}
 use Rattle.undo_log.specs.declared.entry.LogEntry.TheVariants as entries
@@ -105,6 +105,11 @@ to_undo log = open_changes log.group ++ all_changes log.undo
 abbrev pub to_redo : Log → List Change
 to_redo log = all_changes log.redo
 
+-- what can be made in a direction, the next entry first: to go backwards is to undo
+abbrev pub next_entries : Direction → Log → List LogEntry
+next_entries Backwards log = log.undo
+next_entries Forwards log = log.redo
+
 -- the document before the group that is open
 abbrev pub before : Option (List Change) → Document → Document
 before group d = after_all Backwards (open_changes group) d
@@ -132,20 +137,14 @@ closed_with (Some (c ∷ cs)) log = record log { undo = entries.Group (c ∷ cs)
 abbrev pub with_group_closed : Log → Log
 with_group_closed log = closed_with log.group log
 
--- the newest entry of one list is the newest of the other
-abbrev pub undone_from : List LogEntry → Log → Log
-undone_from [] log = log
-undone_from (e ∷ es) log = record log { undo = es; redo = turned_over e ∷ log.redo }
+-- the next entry in a direction is the next in the opposite one
+abbrev pub moved_from : Direction → List LogEntry → Log → Log
+moved_from direction [] log = log
+moved_from Backwards (e ∷ es) log = record log { undo = es; redo = turned_over e ∷ log.redo }
+moved_from Forwards (e ∷ es) log = record log { undo = turned_over e ∷ log.undo; redo = es }
 
-abbrev pub newest_undone : Log → Log
-newest_undone log = undone_from log.undo log
-
-abbrev pub redone_from : List LogEntry → Log → Log
-redone_from [] log = log
-redone_from (e ∷ es) log = record log { undo = turned_over e ∷ log.undo; redo = es }
-
-abbrev pub newest_redone : Log → Log
-newest_redone log = redone_from log.redo log
+abbrev pub next_moved : Direction → Log → Log
+next_moved direction log = moved_from direction (next_entries direction log) log
 
 -- A log, and whether there is room for one change more.
 pub record LogState : Type 0 where

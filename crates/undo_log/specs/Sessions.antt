@@ -19,7 +19,7 @@ use Rattle.vm_blocks.specs.Preparing.{CanApplyAllByHandle}
 use Rattle.vm_blocks.specs.declared.change.Change.{Change}
 use Rattle.chunk_edits.specs.declared.direction.Direction.{Direction}
 use Rattle.chunk_edits.specs.declared.direction.Direction.TheVariants.{Forwards, Backwards}
-use Rattle.doc_edits.specs.LookUps.{Sees}
+use Rattle.doc_edits.specs.LookUps.{Sees, SeesAlongChain}
 use Rattle.undo_log.specs.Logging.{Log, before, group_of, steps, to_redo, to_undo, with_change}
 use Rattle.undo_log.specs.Making.{IsEditApplied}
 
@@ -111,6 +111,12 @@ pub record AnswersLookUp {S : Type 0} (facts : S → StoreFacts) (old new : Sess
   pub keeps : KeepsSession facts old new
   pub step : IsStep facts old new command reply
   pub sees : Sees facts (cache_of old) (cache_of new) command reply
+
+-- what a look-up along chains comes to
+pub record AnswersAlongChain {S : Type 0} (facts : S → StoreFacts) (old new : SessionState S) (command : Command) (reply : Reply) : Type 0 where
+  pub keeps : KeepsSession facts old new
+  pub step : IsStep facts old new command reply
+  pub sees : SeesAlongChain facts (cache_of old) (cache_of new) command reply
 
 -- The edit's change is made, and is the newest of the log.
 pub record PushesEdit {S : Type 0} (facts : S → StoreFacts) (edit : Edit) (done : Done) (old new : SessionState S) : Type 0 where

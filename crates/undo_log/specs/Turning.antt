@@ -1,10 +1,12 @@
 -- A step from one list of the log to the other, and taking back the group that is open.
 use Rattle.std.specs.Prelude.{◌≡◌, ◌≢◌, ◌⊎◌, true, List, [], ◌∷◌, map, Option, Some, None, is_some, if◌then◌else◌}
 use Rattle.geos_model.specs.Document.{Document}
+use Rattle.geos_model.specs.declared.command.Command.{Command}
+use Rattle.geos_model.specs.declared.command.Command.TheVariants as commands
 use Rattle.geos_model.specs.declared.command.Kind.{Kind}
 use Rattle.geos_model.specs.declared.command.Kind.TheVariants.{Plain, In, Made, Freed, Group}
 use Rattle.geos_model.specs.declared.fault.Fault.{Fault}
-use Rattle.geos_model.specs.declared.fault.Fault.TheVariants.{Damaged, GroupOpen, Locked, NoGroup}
+use Rattle.geos_model.specs.declared.fault.Fault.TheVariants.{Damaged, GroupOpen, Locked, NoGroup, NothingToRedo, NothingToUndo}
 use Rattle.vm_store.specs.Facts.{StoreFacts}
 use Rattle.block_cache.specs.State.{CacheState}
 use Rattle.vm_blocks.specs.Changes.{directed, incoming_blocks}
@@ -48,6 +50,15 @@ pub record MovesEntry {S : Type 0} (facts : S → StoreFacts) (direction : Direc
   pub makes : IsEntryApplied facts direction entry old new
   pub from_was : from ≡ entry ∷ from'
   pub to_is : to' ≡ turned_over entry ∷ to
+
+-- the command that makes the next step in a direction, and its fault where there is none
+abbrev pub turn_command : Direction → Command
+turn_command Backwards = commands.Undo
+turn_command Forwards = commands.Redo
+
+abbrev pub nothing_to_turn : Direction → Fault
+nothing_to_turn Backwards = NothingToUndo
+nothing_to_turn Forwards = NothingToRedo
 
 -- what the newest entry of a list makes of a document
 abbrev pub newest_made : Direction → List LogEntry → Document → Document

@@ -1,14 +1,15 @@
 //! The log: what can be undone, what can be made again, and the group that is open.
 ghost use Rattle.std.specs.Prelude.{◌≡◌, ◌<◌, ◌+◌, ◌-◌, ◌^◌, [], true, Some, None, OnOk, MatchOption, is_some, length, min, reverse};
 ghost use Rattle.std.specs.Option.{option_map};
-ghost use Rattle.undo_log.specs.Logging.{AreExclusive, IsHead, TurnsOverAt, empty_log, open_changes, newest_redone, to_redo, to_undo, total_weight, newest_undone, with_change, with_group_closed};
+ghost use Rattle.chunk_edits.specs.declared.direction.Direction.TheVariants.{Backwards, Forwards};
+ghost use Rattle.undo_log.specs.Logging.{AreExclusive, IsHead, TurnsOverAt, empty_log, open_changes, next_entries, next_moved, to_redo, to_undo, total_weight, with_change, with_group_closed};
 
 use crate::entry::{Changes, LogEntry};
 use crate::growing::reserve_one;
 use crate::weighing::{entries_weight, total_weight};
 use std::alloc::{AllocError, Global};
 use std::marker::Model;
-use vm_blocks::Change;
+use vm_blocks::{Change, Direction};
 
 /// What is kept of the steps that can be undone or made again, and of the group that is open.
 #[derive(Drop)]
@@ -95,24 +96,32 @@ impl UndoLog {
         }
     }
 
-    /// The newest entry that can be undone.
-    pub(crate) fn newest_undo(&self) -> Option<&LogEntry>
-        ensures { MatchOption result (self.now.lists.undo ≡ []) (λ entry. IsHead entry.now self.now.lists.undo) }
+    /// The next entry in a direction: to go backwards is to undo.
+    pub(crate) fn next_entry(&self, direction: Direction) -> Option<&LogEntry>
+        ensures { MatchOption result (next_entries direction self.now.lists ≡ [])
+            (λ entry. IsHead entry.now (next_entries direction self.now.lists)) }
     {
-        self.made().last()
+        match direction {
+            Direction::Backwards => self.made().last(),
+            Direction::Forwards => self.undone().first(),
+        }
     }
 
-    /// The next entry that can be made again.
-    pub(crate) fn newest_redo(&self) -> Option<&LogEntry>
-        ensures { MatchOption result (self.now.lists.redo ≡ []) (λ entry. IsHead entry.now self.now.lists.redo) }
-    {
-        self.undone().first()
-    }
-
-    /// The newest entry, if there is one, was undone: it is the next that can be made again.
-    pub(crate) fn move_undone(&mut self)
+    /// The next entry in a direction, if there is one, was made: it is the next in the opposite one.
+    pub(crate) fn move_next(&mut self, direction: Direction)
         requires { self.old.lists.group ≡ None }
-        ensures { self.new.lists ≡ newest_undone self.old.lists }
+        ensures { self.new.lists ≡ next_moved direction self.old.lists }
+    {
+        match direction {
+            Direction::Backwards => self.move_undone(),
+            Direction::Forwards => self.move_redone(),
+        }
+    }
+
+    // The newest entry, if there is one, was undone.
+    fn move_undone(&mut self)
+        requires { self.old.lists.group ≡ None }
+        ensures { self.new.lists ≡ next_moved Backwards self.old.lists }
     {
         if self.done > 0 {
             self.done -= 1;
@@ -120,10 +129,10 @@ impl UndoLog {
         }
     }
 
-    /// The next entry, if there is one, was made again: it is the newest that can be undone.
-    pub(crate) fn move_redone(&mut self)
+    // The next entry that can be made again, if there is one, was.
+    fn move_redone(&mut self)
         requires { self.old.lists.group ≡ None }
-        ensures { self.new.lists ≡ newest_redone self.old.lists }
+        ensures { self.new.lists ≡ next_moved Forwards self.old.lists }
     {
         if self.done < self.entries.len() {
             turn_over_at(self.entries.as_mut_slice(), self.done);

@@ -26,15 +26,15 @@ ghost use Rattle.doc_edits.specs.Room.{has_no_room, ReadsNothing};
 ghost use Rattle.undo_log.specs.Editing.{EditsInMemory};
 ghost use Rattle.undo_log.specs.Locking.{IsBarred};
 ghost use Rattle.undo_log.specs.Committing.{IsBusy, IsSaveAsRefused, IsSessionCommit};
-ghost use Rattle.undo_log.specs.Logging.{AreExclusive, empty_log, open_changes, to_redo, to_undo, total_weight, with_group_closed};
-ghost use Rattle.undo_log.specs.Sessions.{cache_of, file_of, has_locks, machine_of, failed_since, total_cost, IsExact, IsStep, KeepsSession, PushesEdit};
-ghost use Rattle.undo_log.specs.Turning.{Abandons, IsNotAbandoned, IsRefusedUndoOrRedo, IsSure, MovesEntry, abandon_fault, newest_made, busy_fault};
+ghost use Rattle.undo_log.specs.Logging.{AreExclusive, empty_log, next_entries, open_changes, to_redo, to_undo, total_weight, with_group_closed};
+ghost use Rattle.undo_log.specs.Sessions.{cache_of, file_of, has_locks, machine_of, opposite, failed_since, total_cost, IsExact, IsStep, KeepsSession, PushesEdit};
+ghost use Rattle.undo_log.specs.Turning.{Abandons, IsNotAbandoned, IsRefusedUndoOrRedo, IsSure, MovesEntry, abandon_fault, newest_made, busy_fault, nothing_to_turn, turn_command};
 
 mod look_ups;
 
 use crate::log::UndoLog;
 use crate::making::{is_barred, make};
-use crate::turning::{make_entry, take_back};
+use crate::turning::{make_entry, nothing_to_turn, take_back};
 use geos_model::{ChunkHandle, Done, Edit, Fault, VmHandle};
 use std::alloc::Global;
 use std::marker::Model;
@@ -303,19 +303,7 @@ impl<S: Store> Session<S> {
             → IsOk result × (self.new.disk ≡ self.old.disk)
             × (self.new.document ≡ newest_made Backwards self.old.log.undo self.old.document) }
     {
-        self.blocks.validity();
-        if let Some(fault) = self.busy_fault() {
-            // Before it is asked whether there is anything to undo.
-            return Err(fault);
-        }
-        match self.log.newest_undo() {
-            None => Err(Fault::NothingToUndo),
-            Some(entry) => {
-                make_entry(&mut self.blocks, entry, Direction::Backwards)?;
-                self.log.move_undone();
-                Ok(())
-            }
-        }
+        self.turn(Direction::Backwards)
     }
 
     /// Makes the step again that the newest undo took back. Refused as an undo is; NothingToRedo.
@@ -338,15 +326,41 @@ impl<S: Store> Session<S> {
             → IsOk result × (self.new.disk ≡ self.old.disk)
             × (self.new.document ≡ newest_made Forwards self.old.log.redo self.old.document) }
     {
+        self.turn(Direction::Forwards)
+    }
+
+    // Makes the next step in a direction: to go backwards is to undo.
+    fn turn(&mut self, direction: Direction) -> Result<(), Fault>
+        // What is done.
+        ensures step { IsStep S.facts self.old self.new (turn_command direction) (reply_by (λ _. Accepted) result) }
+        ensures ok { OnOk result (MovesEntry S.facts direction (cache_of self.old) (cache_of self.new)
+            (next_entries direction self.old.log) (next_entries (opposite direction) self.old.log)
+            (next_entries direction self.new.log) (next_entries (opposite direction) self.new.log)) }
+        ensures err { OnErr result (KeepsSession S.facts self.old self.new) }
+        // Refusals.
+        ensures refusals { IfErr result (IsRefusedUndoOrRedo S.facts (nothing_to_turn direction)
+            (next_entries direction self.old.log) self.old self.new) }
+        ensures held { (fault : Fault) → busy_fault self.old ≡ Some fault
+            → (result ≡ Err fault) × (self.new ≡ self.old) }
+        // What stays.
+        ensures group { self.new.log.group ≡ self.old.log.group }
+        ensures passes { KeepsCommitted S.facts self.old.disk self.new.disk }
+        // When the answer is known beforehand.
+        ensures sure { busy_fault self.old ≡ None
+            → IsSure S.facts self.old direction (next_entries direction self.old.log)
+            → IsOk result × (self.new.disk ≡ self.old.disk)
+            × (self.new.document ≡ newest_made direction (next_entries direction self.old.log) self.old.document) }
+    {
         self.blocks.validity();
         if let Some(fault) = self.busy_fault() {
+            // Before it is asked whether there is a step.
             return Err(fault);
         }
-        match self.log.newest_redo() {
-            None => Err(Fault::NothingToRedo),
+        match self.log.next_entry(direction) {
+            None => Err(nothing_to_turn(direction)),
             Some(entry) => {
-                make_entry(&mut self.blocks, entry, Direction::Forwards)?;
-                self.log.move_redone();
+                make_entry(&mut self.blocks, entry, direction)?;
+                self.log.move_next(direction);
                 Ok(())
             }
         }

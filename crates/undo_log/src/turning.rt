@@ -6,12 +6,22 @@ ghost use Rattle.vm_blocks.specs.Keeping.{KeepsBlocks};
 ghost use Rattle.vm_blocks.specs.Preparing.{CanApplyAllByHandle, CantPrepareAll, AreApplied};
 ghost use Rattle.chunk_edits.specs.declared.direction.Direction.TheVariants.{Backwards};
 ghost use Rattle.undo_log.specs.Logging.{after_entry, changes_in};
-ghost use Rattle.undo_log.specs.Turning.{CanApplyEntry, CantApplyEntry, IsEntryApplied};
+ghost use Rattle.undo_log.specs.Turning.{CanApplyEntry, CantApplyEntry, IsEntryApplied, nothing_to_turn};
 
 use crate::entry::LogEntry;
 use geos_model::Fault;
 use vm_blocks::{Change, Direction, FileBlocks};
 use vm_store::Store;
+
+/// What a turn in a direction is refused for where there is no step to make.
+pub fn nothing_to_turn(direction: Direction) -> Fault
+    ensures { result ≡ nothing_to_turn direction }
+{
+    match direction {
+        Direction::Backwards => Fault::NothingToUndo,
+        Direction::Forwards => Fault::NothingToRedo,
+    }
+}
 
 /// Makes the changes of an entry in a direction, all or none. No block is locked.
 pub fn make_entry<S: Store>(

@@ -1,17 +1,12 @@
 //! What is looked up of a session: its blocks, and what is in them.
-ghost use Rattle.std.specs.Prelude.{◌≡◌, Bool, true, false, Some, IfErr};
+ghost use Rattle.std.specs.Prelude.{◌≡◌, Bool, false, Some};
 ghost use Rattle.std.specs.Borrow.{sem};
 ghost use Rattle.std.specs.Option.{option_map};
-ghost use Rattle.geos_model.specs.Document.{is_raw};
 ghost use Rattle.geos_model.specs.Reply.{AreEqual, BytesAre, NumberIs, TokenIs, reply_by, info_is, blocks_are, chunks_are, found};
 ghost use Rattle.geos_model.specs.Machine.{Step};
 ghost use Rattle.geos_model.specs.declared.command.Command.TheVariants as commands;
-ghost use Rattle.vm_blocks.specs.Keeping.{IsHonest, IsEnvironmentFault, is_full};
-ghost use Rattle.vm_blocks.specs.Kinds.{IsWrongBlock};
-ghost use Rattle.vm_chains.specs.Answers.{IsWrongRoot};
-ghost use Rattle.doc_edits.specs.LookUps.{AfterLoan, LooksUp, answer_of};
-ghost use Rattle.doc_edits.specs.Room.{IsChainRefusal};
-ghost use Rattle.undo_log.specs.Sessions.{cache_of, machine_of, IsStep, KeepsSession, AnswersLookUp};
+ghost use Rattle.doc_edits.specs.LookUps.{AfterLoan};
+ghost use Rattle.undo_log.specs.Sessions.{machine_of, AnswersAlongChain, AnswersLookUp};
 ghost use Rattle.undo_log.specs.contracts.session.Session.{the_row};
 
 use super::Session;
@@ -236,17 +231,8 @@ impl<S: Store> Session<S> {
 
     /// The blocks of a chain, each before those that it links to, branches in order.
     pub fn walk(&mut self, root: VmHandle) -> Result<Vec<VmHandle>, Fault>
-        ensures keeps { KeepsSession S.facts self.old self.new }
-        ensures step { IsStep S.facts self.old self.new (commands.Walk root)
+        ensures { AnswersAlongChain S.facts self.old self.new (commands.Walk root)
             (reply_by (λ handles. blocks_are handles.items) result) }
-        ensures value { IsHonest S.facts self.old.disk.store
-            → LooksUp (IsEnvironmentFault S.facts self.old.disk.store self.new.disk.store) (is_full (cache_of self.old))
-            (commands.Walk root) self.new.document (reply_by (λ handles. blocks_are handles.items) result) }
-        ensures shut { is_full (cache_of self.old) ≡ true → (self.new ≡ self.old) × (answer_of true
-            (commands.Walk root) self.old.document ≡ Some (reply_by (λ handles. blocks_are handles.items) result)) }
-        ensures refusals { IfErr result
-            (IsChainRefusal (IsEnvironmentFault S.facts self.old.disk.store self.new.disk.store)
-            (IsWrongBlock is_raw self.old.document root.0) (is_full (cache_of self.old))) }
     {
         self.blocks.validity();
         look_ups::walk(self.alloc, &mut self.blocks, root)
@@ -254,16 +240,7 @@ impl<S: Store> Session<S> {
 
     /// How many bytes the blocks of a chain have.
     pub fn chain_size(&mut self, root: VmHandle) -> Result<u32, Fault>
-        ensures keeps { KeepsSession S.facts self.old self.new }
-        ensures step { IsStep S.facts self.old self.new (commands.ChainSize root) (reply_by NumberIs result) }
-        ensures value { IsHonest S.facts self.old.disk.store
-            → LooksUp (IsEnvironmentFault S.facts self.old.disk.store self.new.disk.store)
-            (is_full (cache_of self.old)) (commands.ChainSize root) self.new.document (reply_by NumberIs result) }
-        ensures shut { is_full (cache_of self.old) ≡ true → (self.new ≡ self.old)
-            × (answer_of true (commands.ChainSize root) self.old.document ≡ Some (reply_by NumberIs result)) }
-        ensures refusals { IfErr result
-            (IsChainRefusal (IsEnvironmentFault S.facts self.old.disk.store self.new.disk.store)
-            (IsWrongBlock is_raw self.old.document root.0) (is_full (cache_of self.old))) }
+        ensures { AnswersAlongChain S.facts self.old self.new (commands.ChainSize root) (reply_by NumberIs result) }
     {
         self.blocks.validity();
         look_ups::chain_size(self.alloc, &mut self.blocks, root)
@@ -271,16 +248,8 @@ impl<S: Store> Session<S> {
 
     /// Whether two chains are equal, but for handles and user IDs.
     pub fn chain_equal(&mut self, first: VmHandle, second: VmHandle) -> Result<bool, Fault>
-        ensures keeps { KeepsSession S.facts self.old self.new }
-        ensures step { IsStep S.facts self.old self.new (commands.ChainEqual first second) (reply_by AreEqual result) }
-        ensures value { IsHonest S.facts self.old.disk.store
-            → LooksUp (IsEnvironmentFault S.facts self.old.disk.store self.new.disk.store) (is_full (cache_of self.old))
-            (commands.ChainEqual first second) self.new.document (reply_by AreEqual result) }
-        ensures shut { is_full (cache_of self.old) ≡ true → (self.new ≡ self.old)
-            × (answer_of true (commands.ChainEqual first second) self.old.document ≡ Some (reply_by AreEqual result)) }
-        ensures refusals { IfErr result
-            (IsChainRefusal (IsEnvironmentFault S.facts self.old.disk.store self.new.disk.store)
-            (IsWrongRoot self.old.document first.0 second.0) (is_full (cache_of self.old))) }
+        ensures { AnswersAlongChain S.facts self.old self.new (commands.ChainEqual first second)
+            (reply_by AreEqual result) }
     {
         self.blocks.validity();
         look_ups::chain_equal(self.alloc, &mut self.blocks, first, second)

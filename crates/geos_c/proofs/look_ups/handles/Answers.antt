@@ -1,6 +1,5 @@
 use Rattle.std.proofs.Common.{refl, rules}
 use Rattle.geos_model.specs.Reply.{blocks_are, chunks_are, reply_by}
-use Rattle.geos_c.proofs.Asking.{refused}
 use Rattle.geos_c.proofs.look_ups.handles.Goals as goal
 
 pub returns-in-List : goal.returns-in-List
@@ -11,5 +10,4 @@ returns-in-Chunks g c = rw c.in-Chunks.is (reply_by (λ handles. chunks_are hand
 
 pub returns-in-Walk : goal.returns-in-Walk
 returns-in-Walk g c =
-    let did = c.walk.ensures in
-    rw c.in-Walk.is (reply_by (λ handles. blocks_are handles.items) c.walk.result, record { keeps = did.keeps; step = did.step; value = did.value; shut = did.shut; refusals = refused (λ handles. blocks_are handles.items) _ (λ x fault e. cc e) c.walk.result did.refusals }, search rules)
+    rw c.in-Walk.is (reply_by (λ handles. blocks_are handles.items) c.walk.result, c.walk.ensures, search rules)

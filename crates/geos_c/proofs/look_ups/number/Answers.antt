@@ -2,7 +2,6 @@ use Rattle.std.proofs.Common.{refl, rules}
 use Rattle.geos_model.specs.Reply.{NumberIs, reply_by}
 use Rattle.undo_log.specs.Sessions.{machine_of}
 use Rattle.geos_shell.proofs.LookUps.{undos_step, redos_step}
-use Rattle.geos_c.proofs.Asking.{refused}
 use Rattle.geos_c.proofs.look_ups.number.Goals as goal
 
 pub returns-in-ArrayCount : goal.returns-in-ArrayCount
@@ -22,8 +21,7 @@ returns-in-NameReferences g c = rw c.in-NameReferences.is (reply_by NumberIs c.n
 
 pub returns-in-ChainSize : goal.returns-in-ChainSize
 returns-in-ChainSize g c =
-    let did = c.chain_size.ensures in
-    rw c.in-ChainSize.is (reply_by NumberIs c.chain_size.result, record { keeps = did.keeps; step = did.step; value = did.value; shut = did.shut; refusals = refused NumberIs _ (λ x fault e. cc e) c.chain_size.result did.refusals }, search rules)
+    rw c.in-ChainSize.is (reply_by NumberIs c.chain_size.result, c.chain_size.ensures, search rules)
 
 pub returns-in-Undos : goal.returns-in-Undos
 returns-in-Undos g c =

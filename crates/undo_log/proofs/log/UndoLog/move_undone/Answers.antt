@@ -1,6 +1,7 @@
 use Rattle.std.proofs.Common.{◌≡◌, ◌+◌, ◌-◌, List, length, vec_len, ap, subst, ◌∙◌, arith}
 use Rattle.std.proofs.lemmas.List.{with_items_is}
-use Rattle.undo_log.specs.Logging.{LogState, TurnsOverAt, newest_undone}
+use Rattle.chunk_edits.specs.declared.direction.Direction.TheVariants.{Backwards}
+use Rattle.undo_log.specs.Logging.{LogState, TurnsOverAt, next_moved}
 use Rattle.undo_log.specs.declared.entry.LogEntry.{LogEntry}
 use Rattle.undo_log.proofs.Moving.{undone_at}
 use Rattle.undo_log.proofs.log.UndoLog.move_undone.Goals as goal
@@ -13,4 +14,4 @@ returns-then-self-gt0 c =
     let turned : TurnsOverAt place old new = subst (λ (es : List LogEntry). TurnsOverAt place es new) c.as_mut_slice.ensures.value c.turn_over_at.ensures in
     let next : place + 1 ≡ c.self.inside.done = omega (arith, c.if-self-gt0.true) in
     rw (with_items_is c.self.inside.entries new many)
-    (undone_at place c.self.inside.done old new _ next turned ∙ ap (λ (l : LogState). newest_undone l.lists) c.self.view_is)
+    (undone_at place c.self.inside.done old new _ next turned ∙ ap (λ (l : LogState). next_moved Backwards l.lists) c.self.view_is)

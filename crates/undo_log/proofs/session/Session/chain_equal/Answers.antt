@@ -1,22 +1,13 @@
-use Rattle.std.proofs.Common.{◌≡◌, true, Some, refl}
-use Rattle.geos_model.specs.Reply.{AreEqual, reply_by}
+use Rattle.std.proofs.Common.{refl}
 use Rattle.geos_model.specs.declared.command.Command.TheVariants as commands
-use Rattle.doc_edits.specs.LookUps.{answer_of}
 use Rattle.undo_log.proofs.Keeping.{kept_invariant}
-use Rattle.undo_log.proofs.LookUps.{chain_shut, chain_stepped, kept_session}
+use Rattle.undo_log.proofs.LookUps.{looked_along}
 use Rattle.undo_log.proofs.session.Session.chain_equal.Goals as goal
 
-pub returns-clause-keeps : goal.returns-clause-keeps
-returns-clause-keeps g c = kept_session g.S.Store.facts _ _ c.self.inside.log.lists c.chain_equal.ensures.keeps _ c.self.view_is
-
-pub returns-clause-step : goal.returns-clause-step
-returns-clause-step g c =
-    chain_stepped g.S.Store.facts _ _ c.self.inside.log.lists c.chain_equal.ensures.keeps _ c.self.view_is c.validity.ensures.distinct (commands.ChainEqual c.args.first c.args.second) _
-    (record { takes = λ _. refl; calls = λ _. refl; refuses = λ _. refl; answers = λ _. refl }) c.chain_equal.ensures.value
-
-pub returns-clause-shut : goal.returns-clause-shut
-returns-clause-shut g c =
-    chain_shut _ _ c.self.inside.log.lists _ c.self.view_is (λ d. answer_of true (commands.ChainEqual c.args.first c.args.second) d ≡ Some (reply_by AreEqual c.chain_equal.result)) c.chain_equal.ensures.shut
+pub returns : goal.returns
+returns g c =
+    looked_along g.S.Store.facts _ _ c.self.inside.log.lists c.chain_equal.ensures.keeps _ c.self.view_is c.validity.ensures.distinct (commands.ChainEqual c.args.first c.args.second) _
+    (record { takes = λ _. refl; calls = λ _. refl; refuses = λ _. refl; answers = λ _. refl }) refl c.chain_equal.ensures
 
 pub invariant_of-self : goal.invariant_of-self
 invariant_of-self g c = kept_invariant g.S.Store.facts _ _ c.self.inside.log.lists c.chain_equal.ensures.keeps c.self.invariant
