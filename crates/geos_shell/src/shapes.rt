@@ -81,7 +81,8 @@ pub(crate) fn two<A: Operand, B: LastOperand, R: Made, F: FnOnce(A, B) -> R + Dr
 ) -> Result<(), Fault>
     requires { F.IsAlwaysCallable make }
     ensures { Makes (λ t. B.is_kept t.1.0) (λ t c. (r : R) × F.post make t.0 t.1.0 r × (c ≡ R.as_command r))
-        (operand_then A.spelled (operand_then B.spelled_last nothing) (map (λ w. w.now) words.now)) (putting result place.new) }
+        (operand_then A.spelled (operand_then B.spelled_last nothing) (map (λ w. w.now) words.now))
+        (putting result place.new) }
 {
     put_made! { place, words; [a, b] => make(A::read(a)?, B::read_last(alloc, b)?).into_command() }
 }

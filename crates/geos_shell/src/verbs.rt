@@ -48,7 +48,8 @@ pub(crate) fn command_of(
     name: &[u8],
     words: &[&[u8]],
 ) -> Result<(), Fault>
-    ensures { ReadsAs command_has_bytes (named_from 0 name.now (map (λ w. w.now) words.now)) (putting result place.new) }
+    ensures { ReadsAs command_has_bytes (named_from 0 name.now (map (λ w. w.now) words.now))
+        (putting result place.new) }
 {
     commands! { row_of(edits, name, session_command(alloc, place, name, words)), alloc, place, words }
 }
@@ -61,7 +62,8 @@ fn session_command(
     name: &[u8],
     words: &[&[u8]],
 ) -> Result<(), Fault>
-    ensures { ReadsAs command_has_bytes (named_from 33 name.now (map (λ w. w.now) words.now)) (putting result place.new) }
+    ensures { ReadsAs command_has_bytes (named_from 33 name.now (map (λ w. w.now) words.now))
+        (putting result place.new) }
 {
     commands! { row_of(steps, name, look_up(alloc, place, name, words)), alloc, place, words }
 }
@@ -69,7 +71,8 @@ fn session_command(
 /// Look-ups of blocks, chunks, arrays of any kind and chains, and locks and counts.
 #[tactic(none)]
 fn look_up(alloc: Global, place: &mut Command, name: &[u8], words: &[&[u8]]) -> Result<(), Fault>
-    ensures { ReadsAs command_has_bytes (named_from 42 name.now (map (λ w. w.now) words.now)) (putting result place.new) }
+    ensures { ReadsAs command_has_bytes (named_from 42 name.now (map (λ w. w.now) words.now))
+        (putting result place.new) }
 {
     commands! { row_of(look_ups, name, Err(Fault::BadCommand)), alloc, place, words }
 }
