@@ -1,10 +1,10 @@
 -- What the answer of a part of a parse shows of the whole.
-use Rattle.std.proofs.Common.{◌≡◌, ◌⊎◌, inl, inr, Option, Some, None, Result, Ok, Err, IfOk, IfErr, refl, sym, ap, ◌∙◌}
+use Rattle.std.proofs.Common.{◌≡◌, ◌⊎◌, inl, inr, Option, Some, None, Result, Ok, Err, OnOk, IfErr, refl, sym, ap, ◌∙◌}
 use Rattle.std.specs.Prelude.{ok_or, ◌↔◌, IsSomeAnd, IsTrue}
 use Rattle.geos_model.specs.declared.command.Command.{Command}
 use Rattle.geos_model.specs.declared.fault.Fault.{Fault}
 use Rattle.geos_model.specs.declared.fault.Fault.TheVariants as faults
-use Rattle.geos_shell.specs.Reading.{ReadsAs, FailsToRead, command_has_bytes}
+use Rattle.geos_shell.specs.Reading.{ReadsAs, FailsToRead, command_has_bytes, putting}
 
 -- the value that a word spells, where its operand was read
 pub spelled : {A : Type 0} (o : Option A) (a : A) → Ok a ≡ ok_or o faults.BadCommand → o ≡ Some a
@@ -17,9 +17,9 @@ unspelled None fault h = (cc, refl)
 unspelled (Some x) fault h = (cc, cc)
 
 module _ (o : Option Command) where
-  pub reads_ok : (r : Result Command Fault) → ReadsAs command_has_bytes o r → IfOk r (λ c. o ≡ Some c)
-  reads_ok (Ok c) h = h
-  reads_ok (Err fault) h = tt
+  pub reads_ok : {T : Type 0} (r : Result T Fault) (c : Command) → ReadsAs command_has_bytes o (putting r c) → OnOk r (o ≡ Some c)
+  reads_ok (Ok x) c h = h
+  reads_ok (Err fault) c h = tt
 
   none_is_bad : (fault : Fault) → FailsToRead command_has_bytes o fault → o ≡ None → fault ≡ faults.BadCommand
   none_is_bad fault (inl bad) none = bad.0
@@ -29,12 +29,12 @@ module _ (o : Option Command) where
   bad_is_none fault (inl bad) e = bad.1
   bad_is_none fault (inr memory) e = cc (sym e ∙ memory.0)
 
-  pub reads_bad : (r : Result Command Fault) → ReadsAs command_has_bytes o r → (r ≡ Err faults.BadCommand) ↔ (o ≡ None)
-  reads_bad (Ok c) h = (λ e. cc, λ none. cc (sym h ∙ none))
-  reads_bad (Err fault) h = (λ e. bad_is_none fault h (cc), λ none. ap Err (none_is_bad fault h none))
+  pub reads_bad : {T : Type 0} (r : Result T Fault) (c : Command) → ReadsAs command_has_bytes o (putting r c) → (r ≡ Err faults.BadCommand) ↔ (o ≡ None)
+  reads_bad (Ok x) c h = (λ e. cc, λ none. cc (sym h ∙ none))
+  reads_bad (Err fault) c h = (λ e. bad_is_none fault h (cc), λ none. ap Err (none_is_bad fault h none))
 
-  pub reads_memory : (r : Result Command Fault) → ReadsAs command_has_bytes o r
+  pub reads_memory : {T : Type 0} (r : Result T Fault) (c : Command) → ReadsAs command_has_bytes o (putting r c)
       → IfErr r (λ fault. (fault ≡ faults.BadCommand) ⊎ ((fault ≡ faults.Memory) × IsSomeAnd o (λ c. IsTrue (command_has_bytes c))))
-  reads_memory (Ok c) h = tt
-  reads_memory (Err fault) (inl bad) = inl (bad.0)
-  reads_memory (Err fault) (inr memory) = inr memory
+  reads_memory (Ok x) c h = tt
+  reads_memory (Err fault) c (inl bad) = inl (bad.0)
+  reads_memory (Err fault) c (inr memory) = inr memory

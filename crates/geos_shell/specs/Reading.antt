@@ -1,5 +1,5 @@
 -- What reading a command answers.
-use Rattle.std.specs.Prelude.{◌≡◌, ◌⊎◌, ℕ, List, [], ◌∷◌, Bool, true, false, ◌||◌, Option, Some, None, IsSomeAnd, IsTrue, Result, MatchResult}
+use Rattle.std.specs.Prelude.{◌≡◌, ◌⊎◌, ℕ, List, [], ◌∷◌, Bool, true, false, ◌||◌, Option, Some, None, IsSomeAnd, IsTrue, Result, Ok, Err, MatchResult}
 use Rattle.geos_model.specs.declared.fault.Fault.{Fault}
 use Rattle.geos_model.specs.declared.fault.Fault.TheVariants as faults
 use Rattle.geos_model.specs.declared.command.Edit.{Edit}
@@ -36,3 +36,8 @@ FailsToRead has meant fault = ((fault ≡ faults.BadCommand) × (meant ≡ None)
 -- what reading answers: what is meant, or why it fails
 abbrev pub ReadsAs : {A : Type 0} → (A → Bool) → Option A → Result A Fault → Type 0
 ReadsAs has meant result = MatchResult result (λ x. meant ≡ Some x) (FailsToRead has meant)
+
+-- what a call answers that puts what it reads in a place
+abbrev pub putting : {A T E : Type 0} → Result T E → A → Result A E
+putting (Ok _) x = Ok x
+putting (Err e) x = Err e

@@ -1,12 +1,13 @@
 //! A line of a script as a command: its words, the first of which is a name.
-ghost use Rattle.std.specs.Prelude.{◌≡◌, ◌⊎◌, ◌↔◌, ◌<◌, ◌≤◌, None, Some, IfOk, IfErr, IsSomeAnd, IsTrue, List, ℕ, length, map, not, slice_index, take};
+ghost use Rattle.std.specs.Prelude.{◌≡◌, ◌⊎◌, ◌↔◌, ◌<◌, ◌≤◌, None, Some, IfOk, IfErr, OnOk, IsSomeAnd, IsTrue, List, ℕ, length, false, map, not, slice_index, true, take};
 ghost use Rattle.geos_model.specs.Script.{command};
 ghost use Rattle.geos_model.specs.Script as script;
-ghost use Rattle.geos_shell.specs.Reading.{ReadsAs, command_has_bytes};
+ghost use Rattle.geos_shell.specs.Reading.{ReadsAs, command_has_bytes, putting};
 
 use crate::verbs::command_of;
 use arrayvec::ArrayVec;
 use geos_model::{Command, Fault};
+use memchr::memchr3;
 use std::alloc::Global;
 
 /// A line of more bytes is no command.
@@ -14,6 +15,9 @@ const LONGEST_LINE: usize = 140_000;
 
 /// One word more than the longest command has: more words are no command, however many.
 const MOST_WORDS: usize = 7;
+
+/// How many bytes `memchr3` tests at once; fewer it tests one by one.
+const VECTOR: usize = 32;
 
 /// The command that a line is, without its line feed. A line that is none, or longer than 140,000 bytes, is a BadCommand.
 /// Only for the bytes that a command is given is memory taken.
@@ -23,24 +27,40 @@ pub fn parse(alloc: Global, line: &[u8]) -> Result<Command, Fault>
     ensures memory { IfErr result (λ fault. (fault ≡ Fault.BadCommand)
         ⊎ ((fault ≡ Fault.Memory) × IsSomeAnd (command line.now) (λ c. IsTrue (command_has_bytes c)))) }
 {
+    let mut command = Command::Blank;
+    match read_command(alloc, &mut command, line) {
+        Ok(()) => Ok(command),
+        Err(fault) => Err(fault),
+    }
+}
+
+/// Puts the command that a line is in its place, as `parse` gives it.
+pub(crate) fn read_command(alloc: Global, place: &mut Command, line: &[u8]) -> Result<(), Fault>
+    requires { place.old ≡ Command.Blank }
+    ensures ok { OnOk result (command line.now ≡ Some place.new) }
+    ensures bad { (result ≡ Err Fault.BadCommand) ↔ (command line.now ≡ None) }
+    ensures memory { IfErr result (λ fault. (fault ≡ Fault.BadCommand)
+        ⊎ ((fault ≡ Fault.Memory) × IsSomeAnd (command line.now) (λ c. IsTrue (command_has_bytes c)))) }
+{
     if line.len() > LONGEST_LINE {
         return Err(Fault::BadCommand);
     }
-    command_of_words(alloc, first_words(line).as_slice())
+    command_of_words(alloc, place, first_words(line).as_slice())
 }
 
-/// The command that the words of a line are, of which these are the first ones, or all.
-fn command_of_words(alloc: Global, first: &[&[u8]]) -> Result<Command, Fault>
+/// Puts the command that the words of a line are in its place. These are the first of the words, or all.
+fn command_of_words(alloc: Global, place: &mut Command, first: &[&[u8]]) -> Result<(), Fault>
+    requires { place.old ≡ Command.Blank }
     ensures { (words : List (List ℕ)) → map (λ w. w.now) first.now ≡ take MOST_WORDS words
-        → ReadsAs command_has_bytes (script.command_of_words words) result }
+        → ReadsAs command_has_bytes (script.command_of_words words) (putting result place.new) }
 {
     let Some((name, operands)) = first.split_first() else {
-        return Ok(Command::Blank);
+        return Ok(());
     };
     if name.starts_with(b"#") {
-        return Ok(Command::Blank);
+        return Ok(());
     }
-    command_of(alloc, name, operands)
+    command_of(alloc, place, name, operands)
 }
 
 /// How many bytes at the front are blanks, or how many are none.
@@ -53,6 +73,29 @@ fn run_of(blank: bool, text: &[u8]) -> usize
     text.iter()
         .position(|byte| is_blank(*byte) != blank)
         .unwrap_or(text.len())
+}
+
+/// How many bytes at the front are no blanks. A search by vectors costs more than a few bytes one by one, and less than many.
+#[inline(always)]
+fn word_len(text: &[u8]) -> usize
+    ensures within { result ≤ length text.now }
+    ensures before { (k : ℕ) → k < result → script.is_blank (slice_index text.now k) ≡ false }
+    ensures ends { result < length text.now → script.is_blank (slice_index text.now result) ≡ true }
+{
+    if text.len() < VECTOR {
+        return run_of(false, text);
+    }
+    long_word_len(text)
+}
+
+// Never inlined, since it would set up its vectors for each word.
+#[inline(never)]
+fn long_word_len(text: &[u8]) -> usize
+    ensures within { result ≤ length text.now }
+    ensures before { (k : ℕ) → k < result → script.is_blank (slice_index text.now k) ≡ false }
+    ensures ends { result < length text.now → script.is_blank (slice_index text.now result) ≡ true }
+{
+    memchr3(b' ', b'\t', b'\r', text).unwrap_or(text.len())
 }
 
 /// Whether a byte parts the words of a line.
@@ -70,7 +113,7 @@ fn first_words<'a>(line: &'a [u8]) -> ArrayVec<&'a [u8], MOST_WORDS>
     let mut words = ArrayVec::new();
     let mut rest = &line[run_of(true, line)..];
     while !rest.is_empty() && !words.is_full() {
-        let end = run_of(false, rest);
+        let end = word_len(rest);
         words.push(&rest[..end]);
         let tail = &rest[end..];
         rest = &tail[run_of(true, tail)..];

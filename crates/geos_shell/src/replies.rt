@@ -6,7 +6,7 @@ ghost use Rattle.geos_model.specs.declared.command.Command.TheVariants as comman
 ghost use Rattle.geos_shell.specs.Holdings.{AreExact, MayServe, ServesRequest, holding};
 ghost use Rattle.geos_shell.specs.Replies.{Extends, Replied, Responds, Told, asks_chunk, asks_no_body, is_look_up};
 
-use crate::parser::parse;
+use crate::parser::read_command;
 use crate::text::push_reply;
 use geos_model::{Command, Fault, Reply, VmHandle};
 use std::alloc::{AllocError, Global};
@@ -178,9 +178,10 @@ fn push_answer<S: Store>(
         (holding session.new target.new former.new)) }
     ensures extends { Extends out.old.items out.new.items }
 {
-    match parse(alloc, line) {
-        Ok(Command::Blank) => Ok(()),
-        Ok(command) => {
+    let mut command = Command::Blank;
+    match read_command(alloc, &mut command, line) {
+        Ok(()) if matches!(&command, Command::Blank) => Ok(()),
+        Ok(()) => {
             push_response(session, target, former, &command, out)?;
             Ok(out.push(b'\n')?)
         }

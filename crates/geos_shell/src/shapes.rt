@@ -1,8 +1,10 @@
-//! What so many words make, where each spells an operand.
+//! What so many words make, where each spells an operand. It is put in a place that the caller lends, since each return of a value
+//! as long as a command costs a copy of it.
 ghost use Rattle.std.specs.Prelude.{◌≡◌, map, false};
 ghost use Rattle.geos_model.specs.declared.command.Command.{Command};
 ghost use Rattle.geos_model.specs.declared.command.Command.TheVariants as commands;
 ghost use Rattle.geos_shell.specs.Making.{Makes, nothing, operand_then};
+ghost use Rattle.geos_shell.specs.Reading.{putting};
 
 use crate::operands::{LastOperand, Operand};
 use geos_model::{Command, Edit, Fault};
@@ -32,11 +34,14 @@ impl Made for Edit {
     }
 }
 
-/// What is made of just so many words. Any other number of them is no command.
-macro_rules! made_of {
-    ($words:expr; $all:pat => $made:expr) => {
+/// Puts what is made of just so many words in its place. Any other number of them is no command.
+macro_rules! put_made {
+    ($place:expr, $words:expr; $all:pat => $made:expr) => {
         match $words {
-            $all => Ok($made),
+            $all => {
+                *$place = $made;
+                Ok(())
+            }
             _ => Err(Fault::BadCommand),
         }
     };
@@ -45,37 +50,41 @@ macro_rules! made_of {
 /// No word.
 // Inlined, since it costs less than a call.
 #[inline(always)]
-pub(crate) fn none<R: Drop>(words: &[&[u8]], made: R) -> Result<R, Fault>
-    ensures { Makes (λ _. false) (λ _ r. r ≡ made) (nothing (map (λ w. w.now) words.now)) result }
+pub(crate) fn none(place: &mut Command, words: &[&[u8]], made: Command) -> Result<(), Fault>
+    ensures { Makes (λ _. false) (λ _ c. c ≡ made) (nothing (map (λ w. w.now) words.now))
+        (putting result place.new) }
 {
-    made_of! { words; [] => made }
+    put_made! { place, words; [] => made }
 }
 
 // Never inlined, and so the others below: else a table sets up the stack of each of its rows for each name.
 #[inline(never)]
 pub(crate) fn one<A: LastOperand, R: Made, F: FnOnce(A) -> R + Drop>(
     alloc: Global,
+    place: &mut Command,
     words: &[&[u8]],
     make: F,
-) -> Result<Command, Fault>
+) -> Result<(), Fault>
     requires { F.IsAlwaysCallable make }
     ensures { Makes (λ t. A.is_kept t.0) (λ t c. (r : R) × F.post make t.0 r × (c ≡ R.as_command r))
-        (operand_then A.spelled_last nothing (map (λ w. w.now) words.now)) result }
+        (operand_then A.spelled_last nothing (map (λ w. w.now) words.now)) (putting result place.new) }
 {
-    made_of! { words; [a] => make(A::read_last(alloc, a)?).into_command() }
+    put_made! { place, words; [a] => make(A::read_last(alloc, a)?).into_command() }
 }
 
 #[inline(never)]
 pub(crate) fn two<A: Operand, B: LastOperand, R: Made, F: FnOnce(A, B) -> R + Drop>(
     alloc: Global,
+    place: &mut Command,
     words: &[&[u8]],
     make: F,
-) -> Result<Command, Fault>
+) -> Result<(), Fault>
     requires { F.IsAlwaysCallable make }
     ensures { Makes (λ t. B.is_kept t.1.0) (λ t c. (r : R) × F.post make t.0 t.1.0 r × (c ≡ R.as_command r))
-        (operand_then A.spelled (operand_then B.spelled_last nothing) (map (λ w. w.now) words.now)) result }
+        (operand_then A.spelled (operand_then B.spelled_last nothing) (map (λ w. w.now) words.now))
+        (putting result place.new) }
 {
-    made_of! { words; [a, b] => make(A::read(a)?, B::read_last(alloc, b)?).into_command() }
+    put_made! { place, words; [a, b] => make(A::read(a)?, B::read_last(alloc, b)?).into_command() }
 }
 
 #[inline(never)]
@@ -85,14 +94,14 @@ pub(crate) fn three<
     C: LastOperand,
     R: Made,
     F: FnOnce(A, B, C) -> R + Drop,
->(alloc: Global, words: &[&[u8]], make: F) -> Result<Command, Fault>
+>(alloc: Global, place: &mut Command, words: &[&[u8]], make: F) -> Result<(), Fault>
     requires { F.IsAlwaysCallable make }
     ensures { Makes (λ t. C.is_kept t.1.1.0)
         (λ t c. (r : R) × F.post make t.0 t.1.0 t.1.1.0 r × (c ≡ R.as_command r))
         (operand_then A.spelled (operand_then B.spelled (operand_then C.spelled_last nothing))
-        (map (λ w. w.now) words.now)) result }
+        (map (λ w. w.now) words.now)) (putting result place.new) }
 {
-    made_of! { words; [a, b, c] => make(A::read(a)?, B::read(b)?, C::read_last(alloc, c)?).into_command() }
+    put_made! { place, words; [a, b, c] => make(A::read(a)?, B::read(b)?, C::read_last(alloc, c)?).into_command() }
 }
 
 #[inline(never)]
@@ -103,13 +112,13 @@ pub(crate) fn four<
     D: LastOperand,
     R: Made,
     F: FnOnce(A, B, C, D) -> R + Drop,
->(alloc: Global, words: &[&[u8]], make: F) -> Result<Command, Fault>
+>(alloc: Global, place: &mut Command, words: &[&[u8]], make: F) -> Result<(), Fault>
     requires { F.IsAlwaysCallable make }
     ensures { Makes (λ t. D.is_kept t.1.1.1.0)
         (λ t c. (r : R) × F.post make t.0 t.1.0 t.1.1.0 t.1.1.1.0 r × (c ≡ R.as_command r))
         (operand_then A.spelled (operand_then B.spelled (operand_then C.spelled (operand_then D.spelled_last nothing)))
-        (map (λ w. w.now) words.now)) result }
+        (map (λ w. w.now) words.now)) (putting result place.new) }
 {
-    made_of! { words; [a, b, c, d] =>
+    put_made! { place, words; [a, b, c, d] =>
         make(A::read(a)?, B::read(b)?, C::read(c)?, D::read_last(alloc, d)?).into_command() }
 }

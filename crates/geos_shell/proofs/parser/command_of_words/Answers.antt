@@ -1,6 +1,6 @@
 use Rattle.std.proofs.Common.{subst, sym, ap, ◌∙◌}
 use Rattle.geos_shell.specs.Making.{named_from}
-use Rattle.geos_shell.specs.Reading.{ReadsAs, command_has_bytes}
+use Rattle.geos_shell.specs.Reading.{ReadsAs, command_has_bytes, putting}
 use Rattle.geos_shell.proofs.Counted.{named_by_six}
 use Rattle.geos_shell.proofs.Names.{named_by_first}
 use Rattle.geos_shell.proofs.parser.command_of_words.Goals as goal
@@ -10,4 +10,4 @@ returns c words front =
     let name = c.in-Some.name.now in
     let n = named_by_first c.args.first.now name c.in-Some.operands.now words c.in-Some.ensures.cases.0 c.if-starts_with.ensures.value front in
     let same = ap (named_from 0 name.now) n.front ∙ named_by_six name.now n.operands ∙ sym n.named in
-    subst (λ o. ReadsAs command_has_bytes o c.command_of.result) same c.command_of.ensures
+    subst (λ o. ReadsAs command_has_bytes o (putting c.command_of.result c.command_of.new.place)) same c.command_of.ensures

@@ -18,13 +18,13 @@ loop-words-init c =
 pub loop-words-preserved : goal.loop-words-preserved
 loop-words-preserved c =
     let xs = c.loop-words.rest.now in
-    let end = c.run_of-end.result in
+    let end = c.word_len-end.result in
     let tail : List ℕ = take (length xs - end) (drop end xs) in
     let skip = c.run_of-in-loop-words.result in
     let rest : List ℕ = take (length tail - skip) (drop skip tail) in
     let some : 0 < length xs = grind (arith, nat_tests) in
     let room : length c.loop-words.words.items < 7 = grind (arith, nat_tests) in
-    let word = c.run_of-end.ensures in
+    let word = c.word_len-end.ensures in
     let blanks = c.run_of-in-loop-words.ensures in
     let step = words-step xs tail rest end skip some (c.loop-words.invariant.solid some) word.within word.before word.ends (take_rest xs end) blanks.within blanks.before (take_rest tail skip) in
     record {

@@ -1,19 +1,16 @@
-use Rattle.std.proofs.Common.{◌≡◌, length, refl, sym, ◌∙◌, inl, arith}
+use Rattle.std.proofs.Common.{refl, sym, ◌∙◌, inl, arith}
 use Rattle.std.proofs.lemmas.Bool.Decides.{nat_tests}
 use Rattle.std.proofs.lemmas.Result.{err_from_is_err_and}
 use Rattle.geos_shell.proofs.AddingNames.{all_five, no_chunk, no_flag, no_name, no_part, not_five, some_of}
 use Rattle.geos_shell.proofs.Parses.{spelled, unspelled}
 use Rattle.geos_shell.proofs.verbs.add_name.Goals as goal
-use Rattle.geos_shell.proofs.verbs.add_name.Goals.{in_default-via-then-words-lt5, in_default-via-else-words-lt5+else-words-lt6}
 
+-- There are fewer words than five, or more.
 pub returns-in_default : goal.returns-in_default
-returns-in_default c =
-    let ws = c.args.words.now in
-    let other : length ws ≡ 5 → ⊥ = elim c.in_default.branch [
-      | in_default-via-then-words-lt5 w ↦ λ e. grind (arith, nat_tests)
-      | in_default-via-else-words-lt5+else-words-lt6 w ↦ λ e. grind (arith, nat_tests)
-    ] in
-    inl (refl, not_five ws other)
+returns-in_default c = inl (refl, not_five c.args.words.now (λ e. grind (arith, nat_tests)))
+
+pub returns-in_default-2 : goal.returns-in_default-2
+returns-in_default-2 c = inl (refl, not_five c.args.words.now (λ e. grind (arith, nat_tests)))
 
 pub returns-in_err-chunk : goal.returns-in_err-chunk
 returns-in_err-chunk c =

@@ -3,7 +3,7 @@ use Rattle.geos_model.specs.declared.command.Edit.TheVariants as edits
 use Rattle.geos_model.specs.Script.{block, bytes, number, user_id, chunk, token}
 use Rattle.geos_model.specs.declared.command.Command.TheVariants as commands
 use Rattle.geos_shell.proofs.Rows.{at_row, behind, passed, made_1, made_2, made_3, made_4}
-use Rattle.geos_shell.proofs.verbs.edit.Goals as goal
+use Rattle.geos_shell.proofs.verbs.command_of.Goals as goal
 
 pub returns-then-is : goal.returns-then-is
 returns-then-is c = at_row 0 _ (codes "newraw") _ _ _ c.if-is.ensures refl (made_2 user_id number _ _ (λ u n. commands.Edit (edits.NewRaw u n)) c.args.words.now _ c.two.ensures (λ a b x h. h.2 ∙ ap commands.Edit h.1) (λ a b. refl))
