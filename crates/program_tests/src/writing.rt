@@ -69,22 +69,23 @@ fn each_run_over_a_writer_goes(rt: HostRuntime) -> Result<(), Fail> {
     each_goes(rt.alloc(), WRITING)
 }
 
+const LINES: &[Line] = &[
+    Line("newheap 7\n", 0),
+    Line("undo\nundo\nli", 11),
+    Line("st\n", 34),
+    Line("# note\n", 41),
+    Line("list", 41),
+];
+
 #[test]
 fn replies_are_flushed_before_the_next_read(rt: HostRuntime) -> Result<(), Fail> {
-    let lines = [
-        Line("newheap 7\n", 0),
-        Line("undo\nundo\nli", 11),
-        Line("st\n", 34),
-        Line("# note\n", 41),
-        Line("list", 41),
-    ];
     let desk = Desk {
         written: Cell::new(0),
         flushed: Cell::new(0),
     };
     let mut reader = Waiting {
         desk: &desk,
-        left: lines.as_slice(),
+        left: LINES,
     };
     assert_eq!(rt;
         fault_of(rt.alloc(), &mut reader, &mut Counting(&desk))?,
