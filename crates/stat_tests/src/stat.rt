@@ -1,9 +1,9 @@
 //! What is counted of small files.
 use crate::files::{SMALL, block, chunk, make, opens, stat_made, stat_of};
 use document_stat::{Item, Tally};
-use file_report::{FreePages, SlotReport, check, free_pages, page_count, usages};
+use file_report::{Usage, check, page_count, usages};
 use geos_model::Fault;
-use std::alloc::{AllocError, Global};
+use std::alloc::Global;
 use std::test::Fail;
 use vm_store::MemStore;
 
@@ -117,21 +117,44 @@ fn the_saved_document_beside_the_updated_one(rt: HostRuntime) -> Result<(), Fail
     Ok(())
 }
 
-// The free pages by the extents of a slot.
-fn free_pages_of(alloc: Global, slot: &SlotReport, pages: u64) -> Result<FreePages, AllocError> {
-    let usages = usages(alloc, slot)?;
-    Ok(free_pages(&usages, pages))
+// Whether one of the extents lies on the page.
+fn is_taken(usages: &[Usage], page: u64) -> bool {
+    usages.iter().any(|usage| {
+        let first = u64::from(usage.extent.page);
+        let count = u64::from(usage.extent.length.div_ceil(512));
+        first <= page && page < first.wrapping_add(count)
+    })
 }
 
-// Whether the free pages are those that `check` tells, which are counted otherwise.
+// On how many of the pages nothing lies, how many runs they form, and how many the longest has, counted page by page.
+fn free_by_pages(usages: &[Usage], pages: u64) -> (u64, u64, u64) {
+    let (mut free, mut runs, mut longest) = (0_u64, 0_u64, 0_u64);
+    let mut run = 0_u64;
+    for page in 0..pages {
+        if is_taken(usages, page) {
+            run = 0;
+        } else {
+            runs = runs.wrapping_add(u64::from(run == 0));
+            run = run.wrapping_add(1);
+            free = free.wrapping_add(1);
+            longest = longest.max(run);
+        }
+    }
+    (free, runs, longest)
+}
+
+// Whether the free pages are those that are counted page by page, by what the slot leads to that `check` tells.
 fn has_same_free_pages(alloc: Global, bytes: &[u8]) -> Result<bool, Fail> {
     let report = check(alloc, &mut MemStore::from_bytes(alloc, bytes)?)?;
     let Some(slot) = report.counting() else {
         return Err(Fail::new("no slot counts"));
     };
-    let wanted = free_pages_of(alloc, slot, page_count(report.file_length))?;
+    let usages = usages(alloc, slot)?;
     let told = stat_of(alloc, bytes)?.free;
-    Ok(told.pages == wanted.pages && told.runs == wanted.runs && told.longest == wanted.longest)
+    Ok(
+        (told.pages, told.runs, told.longest)
+            == free_by_pages(&usages, page_count(report.file_length)),
+    )
 }
 
 #[test]
