@@ -2,7 +2,7 @@
 use Rattle.std.proofs.Common.{◌≡◌, ℕ, ◌+◌, ◌<◌, ◌≤◌, true, false, cond, List, length, get_or, set, sym, ap, ◌∙◌, arith, leb, ltb, inl, inr, ◌⊎◌, zero, suc, ◌*◌, ◌-◌, max, min, [], ◌∷◌, replicate, count_by, refl, subst}
 use Rattle.std.proofs.lemmas.Bool.{cases_lt, cases_eq, cases_Bool, le-leb, lt-ltb, leb-true, ltb-true, and_parts, and_from, false≢true}
 use Rattle.std.proofs.lemmas.List.{get_or-set_same, get_or-set_other, length-set, get_or-replicate, length-replicate}
-use Rattle.vm_space.specs.Space.{is_within, AreRaised, IsRun, Space, is_on, AreTaken, IsFirstRun, IsHint, IsSpaceSound}
+use Rattle.vm_space.specs.Space.{is_within, AreRaised, IsRun, Space, is_on, AreTaken, IsFirstRun, IsHint, IsLargestHint, IsSpaceSound}
 use Rattle.std.specs.List.Sorted.{IsPermutation}
 use Rattle.std.proofs.lemmas.List.Sorted.{sum_by-IsPermutation, length_permutation, All-permutation}
 use Rattle.std.proofs.lemmas.List.Sums.{count_by-le-length}
@@ -138,6 +138,46 @@ searched-on counts from n start page is within l free =
       ];
       first = is.first;
     }
+
+-- The search for the largest hint: that of so many pages, and of those for fewer the ones before `next`, were compared.
+pub record Compared (hints : List ℕ) (n next largest : ℕ) : Type 0 where
+  pub one : (k : ℕ) × (k ≤ n) × (largest ≡ get_or hints k 0)
+  pub last : get_or hints n 0 ≤ largest
+  pub before : (k : ℕ) → k < next → get_or hints k 0 ≤ largest
+
+pub compared-start : (hints : List ℕ) (n : ℕ) → Compared hints n 0 (get_or hints n 0)
+compared-start hints n = record {
+  one = (n, omega arith, refl);
+  last = omega arith;
+  before = λ k below. absurd (omega (arith, below));
+}
+
+pub compared-next : (hints : List ℕ) (n next largest hint : ℕ) → Compared hints n next largest → next < n → hint ≡ get_or hints next 0 → Compared hints n (next + 1) (max largest hint)
+compared-next hints n next largest hint is below at = record {
+  one = elim (cases_lt largest hint) [
+    | inl above ↦ (next, omega (arith, below), (let more : max largest hint ≡ hint = omega (arith, above) in more ∙ at))
+    | inr not ↦ (is.one.0, is.one.1, (let same : max largest hint ≡ largest = omega (arith, not) in same ∙ is.one.2))
+  ];
+  last = (let was = is.last in omega (arith, was));
+  before = λ k low. elim (cases_lt k next) [
+    | inl past ↦ (let was = is.before k past in omega (arith, was))
+    | inr here ↦
+        let same : k ≡ next = omega (arith, here, low) in
+        let is_hint : get_or hints k 0 ≡ hint = ap (λ i. get_or hints i 0) same ∙ sym at in
+        omega (arith, is_hint)
+  ];
+}
+
+pub compared-all : (hints : List ℕ) (n next largest : ℕ) → Compared hints n next largest → n ≤ next → IsLargestHint hints n largest
+compared-all hints n next largest is all = record {
+  one = is.one;
+  largest = λ k up_to. elim (cases_lt k n) [
+    | inl fewer ↦ is.before k (omega (arith, fewer, all))
+    | inr many ↦
+        let same : k ≡ n = omega (arith, many, up_to) in
+        subst (λ i. get_or hints i 0 ≤ largest) (sym same) is.last
+  ];
+}
 
 -- ---- what the counts say of the extents that are taken
 
@@ -292,25 +332,35 @@ sound-less old new hints lowered count first e rest sound are raised is long low
   hint = λ n l. subst (λ h. IsHint new n h) (sym (lower n)) (hint-lowered e.page (end_page e) n (get_or hints n 0) first old new raised (omega (arith, l)) (omega (arith, is)) (first_near e.page first is) (sound.hint n l));
 }
 
--- a hint that was found
-pub sound-hinted : (old new hints : List ℕ) (start end from pages page count : ℕ) → IsSpaceSound new hints count → AreRaised start end old new → IsHint old pages from → IsFirstRun old from pages page → pages < 258 → IsSpaceSound new (set hints pages page) count
-sound-hinted old new hints start end from pages page count sound raised hint is l = record {
+-- A hint that was found: those pages are taken now, and before them no others were free.
+pub sound-hinted : (old new hints : List ℕ) (from n page count : ℕ) → IsSpaceSound new hints count → AreRaised page (page + n) old new → IsHint old n from → IsFirstRun old from n page → 1 ≤ n → n < 258 → IsSpaceSound new (set hints n (page + n)) count
+sound-hinted old new hints from n page count sound raised hint is some l = record {
   taken = sound.taken;
   are = sound.are;
-  hint_count = length-set hints pages page ∙ sound.hint_count;
-  hint = λ n below. elim (cases_eq n pages) [
-    | inl at ↦ subst (λ h. IsHint new n h) (sym (ap (λ i. get_or (set hints pages page) i 0) at ∙ get_or-set_same hints pages page 0 (omega (arith, l, sound.hint_count)))) (subst (λ i. IsHint new i page) (sym at) found)
-    | inr other ↦ subst (λ h. IsHint new n h) (sym (get_or-set_other hints pages n page 0 other)) (sound.hint n below)
+  hint_count = length-set hints n (page + n) ∙ sound.hint_count;
+  hint = λ m below. elim (cases_eq m n) [
+    | inl at ↦ subst (λ h. IsHint new m h) (sym (ap (λ i. get_or (set hints n (page + n)) i 0) at ∙ get_or-set_same hints n (page + n) 0 (omega (arith, l, sound.hint_count)))) (subst (λ i. IsHint new i (page + n)) (sym at) found)
+    | inr other ↦ subst (λ h. IsHint new m h) (sym (get_or-set_other hints n m (page + n) 0 other)) (sound.hint m below)
   ];
 }
   where
-    found : IsHint new pages page
+    before_page : (q : ℕ) → 2 ≤ q → q < page → IsRun new n q → ⊥
+    before_page q low before run = (let old_run = run_less page (page + n) n q old new raised run in elim (cases_lt q from) [
+      | inl below ↦ hint.none q low below old_run
+      | inr past ↦ is.first q past before old_run
+    ])
+
+    found : IsHint new n (page + n)
     found = record {
       behind_slots = (let low = hint.behind_slots in let on = is.from_on in omega (arith, low, on));
-      none = λ q low before run. (let old_run = run_less start end pages q old new raised run in elim (cases_lt q from) [
-        | inl below ↦ hint.none q low below old_run
-        | inr past ↦ is.first q past before old_run
-      ]);
+      none = λ q low before run. elim (cases_lt q page) [
+        | inl early ↦ before_page q low early run
+        | inr on ↦
+            let none = run q (omega arith) (omega (arith, some)) in
+            let more = raised q in
+            let here = once_yes page (page + n) q on before in
+            absurd (omega (arith, none, more, here))
+      ];
     }
 
 -- At first nothing is taken.
@@ -326,12 +376,25 @@ sound-none = record {
 pub taken-raised : (taken : List Extent) (e : Extent) (old new : List ℕ) (count more : ℕ) → AreTaken taken (record { counts = old; count = count }) → AreTaken (e ∷ taken) (record { counts = new; count = more }) → AreRaised e.page (end_page e) old new
 taken-raised taken e old new count more before behind page = behind.pages page ∙ count_cons (is_on page) e taken ∙ ap (λ n. once e.page (end_page e) page + n) (sym (before.pages page))
 
--- What a search from the hint for so many bytes found.
-pub found_from : (counts view hints : List ℕ) (len pages page : ℕ) → view ≡ counts → pages ≡ pages_of len → IsFirstRun view (get_or hints pages 0) pages page → IsFirstRun counts (get_or hints (pages_of len) 0) (pages_of len) page
-found_from counts view hints len pages page is many found = subst (λ xs. IsFirstRun xs (get_or hints (pages_of len) 0) (pages_of len) page) is (subst (λ n. IsFirstRun view (get_or hints n 0) n page) many found)
+-- What a search for so many bytes found.
+pub found_from : (counts view : List ℕ) (len from pages page : ℕ) → view ≡ counts → pages ≡ pages_of len → IsFirstRun view from pages page → IsFirstRun counts from (pages_of len) page
+found_from counts view len from pages page is many found = subst (λ xs. IsFirstRun xs from (pages_of len) page) is (subst (λ n. IsFirstRun view from n page) many found)
 
-pub hint_for : (counts hints : List ℕ) (count len : ℕ) → IsSpaceSound counts hints count → IsLength len → IsHint counts (pages_of len) (get_or hints (pages_of len) 0)
-hint_for counts hints count len sound is_length = (let wanted = pages_few len is_length in sound.hint (pages_of len) (omega (arith, wanted)))
+-- A hint for fewer pages is one for more, since a run of more begins with one of fewer.
+pub hint-more : (counts : List ℕ) (fewer n hint : ℕ) → fewer ≤ n → IsHint counts fewer hint → IsHint counts n hint
+hint-more counts fewer n hint most is = record {
+  behind_slots = is.behind_slots;
+  none = λ q low before run. is.none q low before (λ k from high. run k from (omega (arith, high, most)));
+}
+
+-- So the search begins at the largest hint for so many pages or fewer.
+pub hint_from : (counts hints : List ℕ) (count len pages from : ℕ) → IsSpaceSound counts hints count → IsLength len → pages ≡ pages_of len → IsLargestHint hints pages from → IsHint counts (pages_of len) from
+hint_from counts hints count len pages from sound is_length many largest =
+    let wanted = pages_few len is_length in
+    let fewer : ℕ = largest.one.0 in
+    let most = largest.one.1 in
+    let is : IsHint counts fewer (get_or hints fewer 0) = sound.hint fewer (omega (arith, wanted, most, many)) in
+    subst (λ h. IsHint counts (pages_of len) h) (sym largest.one.2) (hint-more counts fewer (pages_of len) (get_or hints fewer 0) (omega (arith, most, many)) is)
 
 -- Where no page is free that wasn't, the hints stay.
 pub hint-kept : (start end n hint : ℕ) (old new : List ℕ) → AreRaised start end new old → ((page : ℕ) → start ≤ page → page < end → 1 ≤ get_or new page 0) → IsHint old n hint → IsHint new n hint

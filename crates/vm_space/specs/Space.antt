@@ -44,6 +44,11 @@ pub record IsHint (counts : List ℕ) (n hint : ℕ) : Type 0 where
   pub behind_slots : 2 ≤ hint
   pub none : (q : ℕ) → 2 ≤ q → q < hint → IsRun counts n q → ⊥
 
+-- Of the hints for up to so many pages this is the largest.
+pub record IsLargestHint (hints : List ℕ) (n hint : ℕ) : Type 0 where
+  pub one : (k : ℕ) × (k ≤ n) × (hint ≡ slice_index hints k)
+  pub largest : (k : ℕ) → k ≤ n → slice_index hints k ≤ hint
+
 -- Some extents are the ones that are taken, and there is a hint for each number of pages.
 pub record IsSpaceSound (counts hints : List ℕ) (count : ℕ) : Type 0 where
   pub taken : List Extent

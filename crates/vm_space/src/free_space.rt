@@ -2,7 +2,7 @@
 ghost use Rattle.std.specs.Prelude.{◌≡◌, ◌∷◌, [], ◌+◌, ◌^◌, ◌<◌, ◌≤◌, List, All, ℕ, length, min, replicate, false, IfOk, OnOk, OnErr, slice_index};
 ghost use Rattle.geos_model.specs.declared.file.Extent.{Extent};
 ghost use Rattle.vm_space.specs.Placing.{IsFirstFit, IsLength};
-ghost use Rattle.vm_space.specs.Space.{AreRaised, AreTaken, IsFirstRun, IsTaken};
+ghost use Rattle.vm_space.specs.Space.{AreRaised, AreTaken, IsFirstRun, IsLargestHint, IsTaken};
 
 use crate::MOST_EXTENTS;
 use crate::pages::{FIRST_PAGE, page_behind, page_count};
@@ -78,10 +78,12 @@ impl FreeSpace {
         ensures refused { OnErr result (self.new ≡ self.old) }
     {
         let pages = page_count(len) as usize;
-        let page = first_run(&self.counts, self.hints[pages] as usize, pages) as u32;
+        let from = largest_hint(&self.hints, pages) as usize;
+        let page = first_run(&self.counts, from, pages) as u32;
         let extent = Extent { page, length: len };
         self.hold(extent)?;
-        self.hints[pages] = page;
+        // So many are free nowhere before the page, and its own are taken now.
+        self.hints[pages] = page + pages as u32;
         Ok(extent)
     }
 
@@ -161,6 +163,18 @@ fn lower(hints: &mut [u32], page: u32)
     for hint in hints {
         *hint = (*hint).min(page);
     }
+}
+
+// The largest hint for so many pages or fewer: where fewer aren't free, so many aren't either.
+fn largest_hint(hints: &[u32], pages: usize) -> u32
+    requires known { pages < length hints.now }
+    ensures { IsLargestHint hints.now pages result }
+{
+    let mut largest = hints[pages];
+    for hint in &hints[..pages] {
+        largest = largest.max(*hint);
+    }
+    largest
 }
 
 // The first page from one on at which so many are free.
