@@ -1,16 +1,9 @@
--- Who opens files, and which files a run of the program opens.
-use Rattle.std.specs.Prelude.{◌≡◌, ◌⊎◌, Bool, true, Option, Some, None, Result, Ok, Err}
+-- Which files a run of the program opens.
+use Rattle.std.specs.Prelude.{◌≡◌, ◌⊎◌, true, Option, Some, None, Ok, Err}
 use Rattle.clap.specs.Words.{Text}
 use Rattle.vm_store.specs.declared.fault.StoreFault.{StoreFault}
+use Rattle.vm_store.specs.Files.{Opener}
 use Rattle.geos_shell.specs.Options.{CommandLine}
-
--- what the calls of one who opens files do, from one state to another
-pub record Opener (F S : Type 0) : Type 1 where
-  -- the standard streams are guarded, or can't be
-  pub guards : F → Result (Unit {0}) StoreFault → F → Type 0
-  -- the file of a name is opened, and made where it is missing if that is asked for
-  pub opens : F → Text → Bool → Result S StoreFault → F → Type 0
-  pub closes : F → S → F → Type 0
 
 -- FILE is opened, after the streams are guarded; it is made only where that is asked for
 pub record OpensFile {F S : Type 0} (calls : Opener F S) (line : CommandLine) (old : F) (store : S) (new : F) : Type 0 where

@@ -10,7 +10,8 @@ use Rattle.vm_file.specs.Calls.{IsResourceFault, IsOpenRefusal}
 use Rattle.vm_file.specs.Disk.{IsCrashConsistent, HasSequence}
 use Rattle.vm_file.specs.Documents.{sequence_in}
 use Rattle.undo_log.specs.Sessions.{SessionState, IsExact, machine_of}
-use Rattle.geos_shell.specs.Files.{Opener, OpensFile, FileFails, OpensTarget, TargetFails, ClosesAny}
+use Rattle.vm_store.specs.Files.{Opener}
+use Rattle.geos_shell.specs.Files.{OpensFile, FileFails, OpensTarget, TargetFails, ClosesAny}
 use Rattle.geos_shell.specs.Options.{CommandLine, IsUsable, RefusesWords, command_line}
 use Rattle.geos_shell.specs.Holdings.{Holding, AreExact, holding}
 use Rattle.geos_shell.specs.Runs.{AnswersAll, EndsBy}

@@ -4,9 +4,7 @@
 mod answering;
 mod command_line;
 mod commands;
-mod files;
 mod hex_text;
-mod host_files;
 mod operands;
 mod outcome;
 mod parser;
@@ -19,8 +17,6 @@ mod text;
 mod verbs;
 
 pub use command_line::options;
-pub use files::Files;
-pub use host_files::{HostFiles, machine_files};
 pub use outcome::Outcome;
 pub use parser::parse;
 pub use program::serve;

@@ -6,7 +6,6 @@ ghost use Rattle.geos_shell.specs.Program.{FromFile, BeginsSession, ComesTo, IsS
 ghost use Rattle.geos_shell.specs.Holdings.{holding};
 
 use crate::command_line::options;
-use crate::files::Files;
 use crate::outcome::Outcome;
 use crate::runner::{READS, run_in_manner};
 use crate::settings::{Manner, Options};
@@ -15,7 +14,7 @@ use std::alloc::Global;
 use std::convert::AsStr;
 use std::io::{Read, Write};
 use undo_log::Session;
-use vm_store::{Store, StoreFault};
+use vm_store::{Files, Store, StoreFault};
 
 /// Runs the program on the words of a command line, of which the first is its name: it opens the files that they name, answers
 /// the script that the reader gives, closes the files, and tells what that came to.

@@ -1,13 +1,13 @@
 //! A restore: a script makes the document of a file that wasn't there.
 use arrayvec::ArrayVec;
 use geos_model::Fault;
-use geos_shell::{Files, Manner, RunFault, machine_files, run_in_manner};
+use geos_shell::{Manner, RunFault, run_in_manner};
 use std::fmt;
 use std::fs::File;
 use std::io::{self, ErrorKind, Write};
 use std::str::from_utf8;
 use undo_log::Session;
-use vm_store::{HostFile, HostStore, Store};
+use vm_store::{Files, HostFile, HostStore, Store, machine_files};
 
 /// How many frames the cache has, as of a `geosvm` that isn't told.
 const FRAMES: usize = 8;

@@ -5,11 +5,12 @@ mod prompt;
 
 use crate::prompt::Prompting;
 use geos_model::Bytes;
-use geos_shell::{Outcome, RunFault, machine_files, serve};
+use geos_shell::{Outcome, RunFault, serve};
 use std::alloc::Global;
 use std::env;
 use std::io::{self, ErrorKind, IsTerminal};
 use std::process::ExitCode;
+use vm_store::machine_files;
 
 /// What `clap` writes of a word that isn't text.
 const NOT_TEXT: &[u8] = b"error: invalid UTF-8 was detected in one or more arguments\n";

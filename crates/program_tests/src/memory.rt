@@ -1,7 +1,6 @@
 //! Files in memory, and what is asked of them.
-use geos_shell::Files;
 use std::alloc::{AllocError, Global};
-use vm_store::{MemStore, StoreFault};
+use vm_store::{Files, MemStore, StoreFault};
 
 /// A file, while it isn't open.
 #[derive(Drop)]

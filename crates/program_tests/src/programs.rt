@@ -1,10 +1,11 @@
 //! Runs of the program on files of the machine, step by step.
 use crate::documents::{Content, bytes_of};
 use crate::mismatches::{Mismatch, holds, same};
-use geos_shell::{machine_files, serve};
+use geos_shell::serve;
 use std::fs;
 use std::os::unix::fs::symlink;
 use std::test::Fail;
+use vm_store::machine_files;
 
 /// A step, and what must come of it.
 #[derive(Clone, Copy)]

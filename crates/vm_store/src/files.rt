@@ -1,7 +1,7 @@
 //! Who opens files by their names: the machine for the program, and files in memory in tests.
-ghost use Rattle.geos_shell.specs.Files.{Opener};
+ghost use Rattle.vm_store.specs.Files.{Opener};
 
-use vm_store::{Store, StoreFault};
+use crate::{Store, StoreFault};
 
 /// Who opens files. What its calls do is known by the relations of `calls` alone, so that where a contract has one of them, just
 /// that call was made.

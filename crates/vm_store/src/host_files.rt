@@ -2,12 +2,11 @@
 ghost use Rattle.std.specs.Prelude.{MatchResult, ◌≡◌};
 ghost use Rattle.vm_store.specs.System.{IsNotOpenedOrLocked, IsOpenedAndLocked};
 
-use crate::files::Files;
+use crate::{Files, HostFile, HostStore, HostSystem, StoreFault, System, SystemFile};
 use std::fs::File;
 use std::io;
 use std::marker::PhantomData;
 use std::rt::HostRuntime;
-use vm_store::{HostFile, HostStore, HostSystem, StoreFault, System, SystemFile};
 
 /// The file that is empty, and takes nothing where it is opened to be read.
 const NULL: &str = "/dev/null";
