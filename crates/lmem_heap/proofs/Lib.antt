@@ -14,3 +14,6 @@ pub mod ResizingLemmas
 pub mod LendsChunkLemmas
 pub mod MovingLemmas
 pub mod HeapImageLemmas
+pub mod MergingLemmas
+pub mod ClosingLemmas
+pub mod RaisingLemmas

@@ -305,7 +305,7 @@ used_append [] ds = omega arith
 used_append (Used i b ∷ cs) ds = omega (arith, used_append cs ds)
 used_append (Free s ∷ cs) ds = used_append cs ds
 
-frees_append : (cs ds : List Piece) → frees (cs ++ ds) ≡ frees cs + frees ds
+pub frees_append : (cs ds : List Piece) → frees (cs ++ ds) ≡ frees cs + frees ds
 frees_append [] ds = omega arith
 frees_append (Used i b ∷ cs) ds = frees_append cs ds
 frees_append (Free s ∷ cs) ds = omega (arith, frees_append cs ds)

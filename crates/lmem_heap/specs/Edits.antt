@@ -74,6 +74,23 @@ pub record AreLowered (xs ys : List ℕ) (t m by : ℕ) : Type 0 where
   pub each : (j : ℕ) → j < t → IsLow xs ys m by j
   pub beyond : (k : ℕ) → 16 + 2 * t ≤ k → get_or ys k 0 ≡ get_or xs k 0
 
+-- a word that is a place from `from` to `to` goes up; another is the same
+pub record IsWordRaised (v w from to by : ℕ) : Type 0 where
+  pub below : v < from → w ≡ v
+  pub moved : from ≤ v → v < to → w ≡ v + by
+  pub above : to ≤ v → w ≡ v
+
+-- each word does
+pub record AreWordsRaised (xs ys : List ℕ) (from to by : ℕ) : Type 0 where
+  pub long : length ys ≡ length xs
+  pub each : (j : ℕ) → 2 * j + 2 ≤ length xs → IsWordRaised (word_in xs (2 * j)) (word_in ys (2 * j)) from to by
+
+-- each entry does
+pub record AreRaised (xs ys : List ℕ) (t from to by : ℕ) : Type 0 where
+  pub long : length ys ≡ length xs
+  pub each : (j : ℕ) → j < t → IsWordRaised (entry xs j) (entry ys j) from to by
+  pub beyond : (k : ℕ) → 16 + 2 * t ≤ k → get_or ys k 0 ≡ get_or xs k 0
+
 -- the piece at p, of `size` bytes, has n: those behind the first `size` are zeros
 pub record IsSized (xs ys : List ℕ) (p size n : ℕ) : Type 0 where
   pub long : length ys ≡ length xs

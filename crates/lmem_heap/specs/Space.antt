@@ -105,6 +105,20 @@ pub record IsNext (s : Space) (prev place : ℕ) : Type 0 where
 abbrev pub IsLinked : Space → ℕ → ℕ → Type 0
 IsLinked s prev place = IsFirst s prev place ⊎ IsNext s prev place
 
+-- between the free pieces at g and at h lie only chunks, and the one at h alone is not in the list
+pub record HasBelow (s : Space) (g h : ℕ) : Type 0 where
+  pub before : List Piece
+  pub room : ℕ
+  pub run : List Piece
+  pub last : ℕ
+  pub after : List Piece
+  pub free : List ℕ
+  pub held : HasPieces s (before ++ (Free room ∷ (run ++ (Free last ∷ after)))) free 1
+  pub chunks : frees run ≡ 0
+  pub place : g ≡ s.low + spaces before
+  pub next : h ≡ g + room + spaces run
+  pub other : IsOther h free
+
 -- slot i has another chunk, and every other one its own, where it lay
 pub record IsChanged (s u : Space) (i : ℕ) (chunk : Option (List ℕ)) : Type 0 where
   pub slots : u.slots ≡ s.slots

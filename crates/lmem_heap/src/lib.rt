@@ -5,6 +5,7 @@ mod compaction;
 mod entries;
 mod heap;
 mod image;
+mod merging;
 mod pieces;
 mod resizing;
 mod sizes;

@@ -177,7 +177,7 @@ impl Space {
         }
     }
 
-    /// A free piece of this room, in no list. Where none is found the chunks are packed first.
+    /// A free piece of this room, in no list. Where none is found free pieces are joined first, or the chunks packed.
     pub(crate) fn room_for(&mut self, room: usize) -> usize
         // The room.
         requires well_formed { IsWellFormed self.old }
@@ -207,7 +207,7 @@ impl Space {
 /// How many pieces of the free list a search looks at. A list whose first so many pieces lack the room is walked in vain
 /// again and again. Packing ends it, and is paid for by the chunks that were freed, cut short or moved since the last
 /// time: each of these put one piece on the list.
-const LOOKS: usize = 128;
+pub(crate) const LOOKS: usize = 128;
 
 /// A free piece of the list, and the one before it, or 0.
 #[derive(Clone, Copy)]

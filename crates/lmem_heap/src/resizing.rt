@@ -211,8 +211,8 @@ impl Space {
         }
     }
 
-    /// The same when the chunks are packed first: it moves where that makes such a piece, else it gets what it lacks where it
-    /// lies.
+    /// The same when free pieces are joined first, or the chunks packed: it moves where that makes such a piece, else it gets
+    /// what it lacks where it lies.
     fn enlarge_packed(&mut self, i: usize, n: usize, room: usize)
         // A slot whose chunk has bytes.
         requires well_formed { IsWellFormed self.old }
