@@ -1,7 +1,7 @@
 -- What stands before, in and behind a spliced part, and that a splice leads back.
-use Rattle.std.proofs.Common.{◌≡◌, ℕ, ◌+◌, ◌-◌, ◌≤◌, List, [], ◌∷◌, ◌++◌, length, take, drop, replicate, inl, inr, arith, refl, sym, ap, ap₂, ◌∙◌, length-append, length-drop}
+use Rattle.std.proofs.Common.{◌≡◌, ℕ, ◌+◌, ◌-◌, ◌≤◌, List, ◌++◌, length, take, drop, arith, refl, sym, ap, ap₂, ◌∙◌, append_assoc, length-append, length-drop}
 use Rattle.std.proofs.lemmas.List.{take-append-drop, take_at, drop_at, drop-drop, length-take-le}
-use Rattle.std.specs.List.{splice, AllClonesOf}
+use Rattle.std.specs.List.{splice}
 use Rattle.chunk_edits.specs.Splicing.{Splice, OccursAt, Leads, backwards}
 
 module _ (xs ys : List ℕ) (at end : ℕ) (within : at ≤ length xs) where
@@ -49,7 +49,7 @@ leads_back s from to held leads = (
 )
 
 -- A splice that holds the old part and the new one in a row.
-abbrev parts : ℕ → List ℕ → List ℕ → Splice
+abbrev pub parts : ℕ → List ℕ → List ℕ → Splice
 parts at old new = record { at = at; old = old; new = new }
 
 pub parts_in_row : (at : ℕ) (old new row : List ℕ) → row ≡ old ++ new → parts at (take (length old) row) (drop (length old) row) ≡ parts at old new
@@ -57,7 +57,11 @@ parts_in_row at old new row is =
     ap₂ (parts at)
     (ap (take (length old)) is ∙ take_at old new (length old) refl) (ap (drop (length old)) is ∙ drop_at old new (length old) refl)
 
--- clones of zero are zeros
-pub cloned_zeros : (ys : List ℕ) → AllClonesOf (λ x y. y ≡ x) 0 ys → ys ≡ replicate (length ys) 0
-cloned_zeros [] all = refl
-cloned_zeros (y ∷ ys) all = ap₂ (λ (a : ℕ) (l : List ℕ). a ∷ l) (elim all.0 [ inl same ↦ same | inr same ↦ same ]) (cloned_zeros ys all.1)
+-- Both parts, each written over the first bytes of what was left: the bytes begin with both.
+pub row_of_both : (old new first second rest behind : List ℕ) → first ≡ old → second ≡ new
+    → take (length old + length new) (take (length old) (first ++ rest) ++ (second ++ behind)) ≡ old ++ new
+row_of_both old new first second rest behind one two =
+    ap (λ (l : List ℕ). take (length old + length new) (take (length old) (l ++ rest) ++ (second ++ behind))) one
+    ∙ (ap₂ (λ (l m : List ℕ). take (length old + length new) (l ++ (m ++ behind))) (take_at old rest (length old) refl) two
+    ∙ (ap (take (length old + length new)) (sym (append_assoc old new behind))
+    ∙ take_at (old ++ new) behind (length old + length new) (length-append old new)))

@@ -11,8 +11,10 @@ use crate::direction::Direction;
 use byteorder::{ByteOrder, LittleEndian};
 use geos_model::ChunkHandle;
 use lmem_heap::Heap;
+use smallvec::SmallVec;
 use std::alloc::{AllocError, Global};
 use std::marker::Model;
+use std::mem::size_of;
 
 /// A piece as a patch keeps it: what becomes of how many bytes, without the bytes.
 #[derive(Clone, Copy)]
@@ -56,13 +58,19 @@ impl Span {
 /// How many spans a patch has room for when it is made; it takes more as it grows.
 const USUAL_SPANS: usize = 8;
 
+/// For how many of the bytes that go or come a patch has room when it is made; for more it takes an allocation.
+const USUAL_BYTES: usize = 40;
+
 /// All bytes of a chunk in pieces, of which some stay and others change. Contracts see it as the pieces, the first one first.
 #[derive(Drop)]
 pub struct Patch {
     spans: Vec<Span>,
-    /// Of each piece the bytes that go, and behind them those that come.
-    content: Vec<u8>,
+    /// Of each piece the bytes that go, and behind them those that come. They lie in a box, so that the patch itself is short.
+    content: Box<SmallVec<u8, USUAL_BYTES>>,
 }
+
+// A change has room for either, so a patch is no longer than a splice.
+const _: () = prove!(size_of::<Patch>() <= 32);
 
 impl Model for Patch {
     ghost use Rattle.std.specs.Prelude.{◌≡◌, List, length};
@@ -71,9 +79,9 @@ impl Model for Patch {
 
     ghost Value = { List Piece };
 
-    ghost view = { λ p. pieces_of p.spans.items p.content.items };
+    ghost view = { λ p. pieces_of p.spans.items p.content.value.items };
 
-    ghost invariant = { λ p. total_own p.spans.items ≡ length p.content.items };
+    ghost invariant = { λ p. total_own p.spans.items ≡ length p.content.value.items };
 }
 
 impl Patch {
@@ -83,7 +91,7 @@ impl Patch {
     {
         Ok(Patch {
             spans: Vec::with_capacity(alloc, USUAL_SPANS)?,
-            content: Vec::new(alloc),
+            content: Box::new(alloc, SmallVec::new(alloc))?,
         })
     }
 
@@ -107,11 +115,12 @@ impl Patch {
             old: old.len() as u32,
             new: new.len() as u32,
         };
+        let content = &mut *self.content;
         self.spans.reserve(1)?;
-        self.content.reserve(span.own())?;
+        content.reserve(span.own())?;
         self.spans.push_reserved(span);
-        self.content.extend_from_slice(old)?;
-        self.content.extend_from_slice(new)?;
+        content.extend_from_slice(old)?;
+        content.extend_from_slice(new)?;
         Ok(())
     }
 

@@ -1,10 +1,10 @@
 //! A splice: a part of some bytes, and what comes in its place.
-ghost use Rattle.std.specs.Prelude.{◌≡◌, ◌+◌, ◌<◌, ◌^◌, IfOk, length, replicate};
+ghost use Rattle.std.specs.Prelude.{◌≡◌, ◌+◌, ◌<◌, ◌≤◌, ◌^◌, ◌++◌, IfOk, length, replicate};
 
 use geos_model::Bytes;
-use smallvec::SmallVec;
 use std::alloc::{AllocError, Global};
 use std::marker::Model;
+use std::mem::size_of;
 
 /// How many bytes a splice holds without an allocation.
 const FEW: usize = 24;
@@ -12,83 +12,143 @@ const FEW: usize = 24;
 /// A part of some bytes, and what takes its place.
 #[derive(Drop)]
 pub struct Splice {
-    at: u32,
-    /// How many bytes the part has.
-    cut: u32,
-    /// The part as it stands, and behind it what takes its place.
-    bytes: SmallVec<u8, FEW>,
+    held: Held,
+}
+
+// Millions of splices may be kept, each in so many bytes.
+const _: () = prove!(size_of::<Splice>() <= 32);
+
+/// The part as it stands, and behind it what takes its place; how many bytes the part has, and where it begins. The
+/// numbers come first, where they share a word with the tag.
+#[derive(Drop)]
+enum Held {
+    /// The first `len` of these bytes.
+    Few {
+        len: u8,
+        cut: u16,
+        at: u32,
+        bytes: [u8; FEW],
+    },
+    /// More bytes, in an allocation.
+    Many {
+        cut: u16,
+        at: u32,
+        bytes: Vec<u8>,
+    },
 }
 
 impl Model for Splice {
-    ghost use Rattle.std.specs.Prelude.{◌≤◌, length, take, drop};
+    ghost use Rattle.chunk_edits.specs.Holding.{AreThere, held_splice};
     ghost use Rattle.chunk_edits.specs.Splicing.{Splice as Parts};
 
     ghost Value = { Parts };
 
-    ghost view = { λ s. record { at = s.at; old = take s.cut s.bytes.items; new = drop s.cut s.bytes.items } };
+    ghost view = { λ s. held_splice s.held };
 
-    ghost invariant = { λ s. s.cut ≤ length s.bytes.items };
+    ghost invariant = { λ s. AreThere s.held };
 }
 
 impl Splice {
     /// The splice that puts bytes in the place of a part that begins at `at`.
     pub(crate) fn of(alloc: Global, at: u32, old: &[u8], new: &[u8]) -> Result<Splice, AllocError>
-        requires old { length old.now < 2 ^ 32 }
+        requires old { length old.now < 2 ^ 16 }
         requires new { length new.now < 2 ^ 32 }
         ensures { IfOk result (λ s. s ≡ record { at = at; old = old.now; new = new.now }) }
     {
-        let mut bytes = SmallVec::with_capacity(alloc, old.len() + new.len())?;
+        let count = old.len() + new.len();
+        if count <= FEW {
+            return Ok(Splice::of_few(at, old, new));
+        }
+        let mut bytes = Vec::with_capacity(alloc, count)?;
         bytes.extend_from_slice(old)?;
         bytes.extend_from_slice(new)?;
-        Ok(Splice {
-            at,
-            cut: old.len() as u32,
-            bytes,
-        })
+        let cut = old.len() as u16;
+        let held = Held::Many { cut, at, bytes };
+        Ok(Splice { held })
     }
 
     /// The splice that puts `n` zeros in the place of a part that begins at `at`.
     pub(crate) fn of_zeros(alloc: Global, at: u32, old: &[u8], n: u32) -> Result<Splice, AllocError>
-        requires { length old.now < 2 ^ 32 }
+        requires { length old.now < 2 ^ 16 }
         ensures { IfOk result (λ s. s ≡ record { at = at; old = old.now; new = replicate n 0 }) }
     {
         let count = old.len() + n as usize;
-        let mut bytes = SmallVec::with_capacity(alloc, count)?;
+        if count <= FEW {
+            return Ok(Splice::of_few(at, old, &[0; FEW][..n as usize]));
+        }
+        let mut bytes = Vec::with_capacity(alloc, count)?;
         bytes.extend_from_slice(old)?;
         bytes.resize(count, 0)?;
-        Ok(Splice {
+        let cut = old.len() as u16;
+        let held = Held::Many { cut, at, bytes };
+        Ok(Splice { held })
+    }
+
+    // The same of few bytes.
+    fn of_few(at: u32, old: &[u8], new: &[u8]) -> Splice
+        requires { length old.now + length new.now ≤ 24 }
+        ensures { result ≡ record { at = at; old = old.now; new = new.now } }
+    {
+        let count = old.len() + new.len();
+        let mut bytes = [0; FEW];
+        bytes[..old.len()].copy_from_slice(old);
+        bytes[old.len()..count].copy_from_slice(new);
+        let held = Held::Few {
+            len: count as u8,
+            cut: old.len() as u16,
             at,
-            cut: old.len() as u32,
             bytes,
-        })
+        };
+        Splice { held }
     }
 
     /// Where the part begins.
     pub fn at(&self) -> u32
         ensures { result ≡ self.now.at }
     {
-        self.at
+        match &self.held {
+            Held::Few { at, .. } | Held::Many { at, .. } => *at,
+        }
     }
 
     /// The part as it stands.
     pub fn old(&self) -> &[u8]
         ensures { result.now ≡ self.now.old }
     {
-        &self.bytes.as_slice()[..self.cut as usize]
+        &self.row()[..self.cut()]
     }
 
     /// What takes its place.
     pub fn new(&self) -> &[u8]
         ensures { result.now ≡ self.now.new }
     {
-        &self.bytes.as_slice()[self.cut as usize..]
+        &self.row()[self.cut()..]
     }
 
     /// How many bytes it holds.
     pub fn byte_count(&self) -> usize
         ensures { result ≡ length self.now.old + length self.now.new }
     {
-        self.bytes.len()
+        self.row().len()
+    }
+
+    // The part, and behind it what takes its place.
+    fn row(&self) -> &[u8]
+        ensures { result.now ≡ self.now.old ++ self.now.new }
+    {
+        match &self.held {
+            Held::Few { len, bytes, .. } => &bytes[..usize::from(*len)],
+            Held::Many { bytes, .. } => bytes.as_slice(),
+        }
+    }
+
+    // How many bytes the part has.
+    fn cut(&self) -> usize
+        ensures { result ≡ length self.now.old }
+    {
+        match &self.held {
+            Held::Few { cut, .. } | Held::Many { cut, .. } => usize::from(*cut),
+        }
     }
 }
 

@@ -4,6 +4,7 @@ ghost use Rattle.undo_log.specs.Logging.{entry_weight, turned_over};
 
 use crate::weighing::total_weight;
 use std::marker::Model;
+use std::mem::size_of;
 use vm_blocks::Change;
 
 /// The changes of a group. Contracts see them as a list, the one that is made next first.
@@ -57,6 +58,9 @@ pub enum LogEntry {
     /// The changes of a group of edits.
     Group(Changes),
 }
+
+// Millions of entries may be kept, each in so many bytes.
+const _: () = prove!(size_of::<LogEntry>() <= 56);
 
 impl LogEntry {
     /// How many content bytes its changes hold, 2^64 - 1 where these are more.

@@ -8,7 +8,7 @@ use Rattle.chunk_edits.proofs.patch.Patch.keep.Goals as goal
 
 pub returns-clause-ok : goal.returns-clause-ok
 returns-clause-ok c =
-    let row = c.self.inside.content.items in
+    let row = c.self.inside.content.value.items in
     ap (λ (ss : List Span). pieces_of ss row) c.in_ok-push.ensures.items
     ∙ (pieces_of-kept c.self.inside.spans.items (spans.Keep c.args.n) row c.self.invariant
     ∙ ap (λ (ps : List Piece). ps ++ Keep c.args.n ∷ []) c.self.view_is)

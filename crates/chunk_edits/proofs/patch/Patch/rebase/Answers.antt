@@ -8,7 +8,7 @@ use Rattle.chunk_edits.proofs.patch.Patch.rebase.Goals as goal
 
 pub returns-clause-ok : goal.returns-clause-ok
 returns-clause-ok c =
-    let row = c.self.inside.content.items in
+    let row = c.self.inside.content.value.items in
     ap (λ (ss : List Span). pieces_of ss row) c.in_ok-push.ensures.items
     ∙ (pieces_of-kept c.self.inside.spans.items (spans.Rebase c.args.words c.args.from c.args.to) row c.self.invariant
     ∙ ap (λ (ps : List Piece). ps ++ Rebase c.args.words c.args.from c.args.to ∷ []) c.self.view_is)

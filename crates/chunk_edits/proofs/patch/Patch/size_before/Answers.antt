@@ -13,5 +13,5 @@ returns c =
     take_all c.loop-span.span-index c.deref-span-items.result.now (omega arith) ∙ items in
     c.loop-span.invariant
     ∙ ap (λ (n : ℕ). min n (2 ^ 64 - 1)) (ap (sum_by (extent d)) all
-    ∙ (sym (pieces-extent d c.self.inside.spans.items c.self.inside.content.items c.self.invariant)
+    ∙ (sym (pieces-extent d c.self.inside.spans.items c.self.inside.content.value.items c.self.invariant)
     ∙ ap (λ (ps : List Piece). total_taken (directed_pieces d ps)) c.self.view_is))
