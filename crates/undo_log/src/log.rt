@@ -107,7 +107,7 @@ impl UndoLog {
         }
     }
 
-    /// The next entry in a direction, if there is one, was made: it is the next in the opposite one.
+    /// The next entry in a direction was made: it becomes the next in the opposite one. Without one, nothing changes.
     pub(crate) fn move_next(&mut self, direction: Direction)
         requires { self.old.lists.group ≡ None }
         ensures { self.new.lists ≡ next_moved direction self.old.lists }
@@ -118,7 +118,7 @@ impl UndoLog {
         }
     }
 
-    // The newest entry, if there is one, was undone.
+    // The newest entry was undone: it becomes the next that can be made again. Without one, nothing changes.
     fn move_undone(&mut self)
         requires { self.old.lists.group ≡ None }
         ensures { self.new.lists ≡ next_moved Backwards self.old.lists }
@@ -129,7 +129,7 @@ impl UndoLog {
         }
     }
 
-    // The next entry that can be made again, if there is one, was.
+    // The next entry was made again: it becomes the newest that can be undone. Without one, nothing changes.
     fn move_redone(&mut self)
         requires { self.old.lists.group ≡ None }
         ensures { self.new.lists ≡ next_moved Forwards self.old.lists }
