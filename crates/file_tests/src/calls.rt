@@ -9,18 +9,26 @@ use std::alloc::Global;
 use vm_file::{BlockImage, Image, Member, Refused, VmFile};
 use vm_store::{MemStore, Store};
 
-pub(crate) fn why<S: Store>(refused: Refused<S>) -> Fault {
-    refused.fault
+/// The file, or why there is none.
+pub(crate) fn file_of<S: Store>(answer: Result<VmFile<S>, Refused<S>>) -> Result<VmFile<S>, Fault> {
+    match answer {
+        Ok(file) => Ok(file),
+        Err(refused) => Err(refused.fault),
+    }
+}
+
+/// The document file that a store has.
+pub(crate) fn open_in<S: Store>(alloc: Global, store: S) -> Result<VmFile<S>, Fault> {
+    file_of(VmFile::open(alloc, store))
 }
 
 /// A document file in memory with these bytes.
 pub(crate) fn open(alloc: Global, bytes: &[u8]) -> Result<VmFile<MemStore>, Fault> {
-    let store = MemStore::from_bytes(alloc, bytes)?;
-    VmFile::open(alloc, store).map_err(why)
+    open_in(alloc, MemStore::from_bytes(alloc, bytes)?)
 }
 
 pub(crate) fn create<S: Store>(alloc: Global, store: S) -> Result<VmFile<S>, Fault> {
-    VmFile::create(alloc, store).map_err(why)
+    file_of(VmFile::create(alloc, store))
 }
 
 /// A raw block. Range where there can be none like it.
@@ -264,19 +272,24 @@ pub(crate) fn live_blocks<S: Store>(alloc: Global, file: &VmFile<S>) -> Result<V
 pub(crate) fn is_full<S: Store>(alloc: Global, file: &VmFile<S>) -> Result<bool, Fault> {
     let live = live_blocks(alloc, file)?;
     let mut is_each = live.len() == usize::from(MOST_BLOCKS);
-    for handle in live {
-        is_each = is_each && user_id_of(file, handle) == Some(handle);
+    for handle in &live {
+        is_each = is_each && user_id_of(file, *handle) == Some(*handle);
     }
     Ok(is_each)
 }
 
-/// The handles that the document tells.
-pub(crate) fn listed<S: Store>(alloc: Global, file: &VmFile<S>) -> Result<Vec<u16>, Fault> {
+// The numbers of these handles.
+fn numbers(alloc: Global, blocks: &[VmHandle]) -> Result<Vec<u16>, Fault> {
     let mut handles = Vec::new(alloc);
-    for block in file.list()? {
+    for block in blocks {
         handles.push(block.0)?;
     }
     Ok(handles)
+}
+
+/// The handles that the document tells.
+pub(crate) fn listed<S: Store>(alloc: Global, file: &VmFile<S>) -> Result<Vec<u16>, Fault> {
+    numbers(alloc, &file.list()?)
 }
 
 pub(crate) fn next_handle<S: Store>(file: &VmFile<S>) -> Option<u16> {

@@ -1,10 +1,11 @@
 //! A document that is copied into another store.
-use crate::calls::{copy, create, first_other_byte, why};
+use crate::asserting::{no_other, same_number};
+use crate::calls::{copy, create, file_of, first_other_byte};
+use crate::example::put_at;
 use crate::steps::Step::{
     Has, HasType, HasUserId, Lives, MapBlock, Put, PutHeap, Revert, Save, SetMap, Update,
 };
 use crate::steps::{Mismatch, Step, closed, given_back, made, read, take};
-use geos_model::Fault;
 use std::alloc::Global;
 use std::test::Fail;
 use vm_file::VmFile;
@@ -29,25 +30,27 @@ fn source(alloc: Global) -> Result<Fused, Mismatch> {
     made(alloc, fused(alloc, u64::MAX), &[], &SOURCE)
 }
 
-// The slots, and the two images from page 2 on, the second of two pages.
-fn copied_images() -> [u8; 2_560] {
-    let mut bytes = [0; 2_560];
-    bytes[..32].copy_from_slice(
-        b"GVMF\x01\x02\0\0\x01\0\0\0\0\0\0\0\x05\0\0\0\x30\0\0\0\x05\0\0\0\x30\0\0\0",
-    );
-    bytes[512..516].copy_from_slice(b"GVMF");
-    bytes[1_024..1_027].copy_from_slice(b"\x01\0\0");
-    bytes[1_537..2_049].fill(5);
+const COPIED_SLOT: &[u8; 32] =
+    b"GVMF\x01\x02\0\0\x01\0\0\0\0\0\0\0\x05\0\0\0\x30\0\0\0\x05\0\0\0\x30\0\0\0";
+
+const COPIED_DIRECTORY: &[u8; 48] = b"GDIR\x02\0\x02\0\x03\0\0\0\0\0\0\0\
+    \x01\0\x07\0\x02\0\0\0\x03\0\0\0\x34\x12\0\0\
+    \x03\0\x09\0\x03\0\0\0\x01\x02\0\0\0\0\0\0";
+
+// The slots, the two images from page 2 on, the second of two pages, and behind them the directory.
+fn copied() -> [u8; 2_608] {
+    let mut bytes = [0; 2_608];
+    put_at(&mut bytes, 0, COPIED_SLOT);
+    put_at(&mut bytes, 512, b"GVMF");
+    put_at(&mut bytes, 1_024, b"\x01\0\0");
+    put_at(&mut bytes, 1_537, &[5; 512]);
+    put_at(&mut bytes, 2_560, COPIED_DIRECTORY);
     bytes
 }
 
-// Behind the images lies the directory.
-fn copied(alloc: Global) -> Result<Vec<u8>, Fault> {
-    let mut bytes = copied_images().to_vec(alloc)?;
-    bytes.extend_from_slice(b"GDIR\x02\0\x02\0\x03\0\0\0\0\0\0\0")?;
-    bytes.extend_from_slice(b"\x01\0\x07\0\x02\0\0\0\x03\0\0\0\x34\x12\0\0")?;
-    bytes.extend_from_slice(b"\x03\0\x09\0\x03\0\0\0\x01\x02\0\0\0\0\0\0")?;
-    Ok(bytes)
+// Where a store has other bytes than those.
+fn first_other(store: &Fused) -> Option<usize> {
+    first_other_byte(store.inner().bytes(), &copied())
 }
 
 // The document that is copied.
@@ -62,9 +65,7 @@ const COPIED: [Step; 6] = [
 
 // The file of a copy into a store that serves, when the steps were taken on it.
 fn copied_file(alloc: Global, file: &mut VmFile<Fused>, steps: &[Step]) -> Result<Fused, Mismatch> {
-    let mut copy = copy(file, fused(alloc, u64::MAX))
-        .map_err(why)
-        .map_err(Mismatch::NoFile)?;
+    let mut copy = file_of(copy(file, fused(alloc, u64::MAX)))?;
     let end = take(alloc, &mut copy, steps);
     closed(copy, end)
 }
@@ -83,7 +84,7 @@ fn make_and_copy(
 
 // The files of that document and of its copy, when the steps were taken on both.
 fn both_files(alloc: Global, steps: &[Step]) -> Result<(Fused, Fused), Mismatch> {
-    let mut file = create(alloc, fused(alloc, u64::MAX)).map_err(Mismatch::NoFile)?;
+    let mut file = create(alloc, fused(alloc, u64::MAX))?;
     let copied = make_and_copy(alloc, &mut file, steps);
     let store = file.close();
     Ok((store, copied?))
@@ -91,12 +92,10 @@ fn both_files(alloc: Global, steps: &[Step]) -> Result<(Fused, Fused), Mismatch>
 
 #[test]
 fn a_copy_is_a_file_of_the_document_as_it_is(rt: HostRuntime) -> Result<(), Fail> {
-    let alloc = rt.alloc();
-    let (_, store) = both_files(alloc, &[])?;
+    let (_, store) = both_files(rt.alloc(), &[])?;
     // The length, two images, the directory, two slots, the gate, and two syncs.
-    assert_eq!(rt; store.calls(), 9);
-    let copied = copied(alloc)?;
-    assert_eq!(rt; first_other_byte(store.inner().bytes(), &copied), None);
+    same_number(&rt, store.calls(), 9);
+    no_other(&rt, first_other(&store));
     Ok(())
 }
 
@@ -106,13 +105,16 @@ fn a_copy_has_the_document(rt: HostRuntime) -> Result<(), Fail> {
     Ok(())
 }
 
+// Where the file of the document that was copied has other bytes than before.
+fn first_changed(alloc: Global, before: &Fused) -> Result<Option<usize>, Mismatch> {
+    let (after, _) = both_files(alloc, &COPIED)?;
+    Ok(first_other_byte(after.inner().bytes(), before.inner().bytes()))
+}
+
 #[test]
 fn what_is_copied_stays(rt: HostRuntime) -> Result<(), Fail> {
-    let alloc = rt.alloc();
-    let before = source(alloc)?;
-    let (after, _) = both_files(alloc, &COPIED)?;
-    let other = first_other_byte(after.inner().bytes(), before.inner().bytes());
-    assert_eq!(rt; other, None);
+    let before = source(rt.alloc())?;
+    no_other(&rt, first_changed(rt.alloc(), &before)?);
     Ok(())
 }
 
@@ -163,7 +165,7 @@ fn refused_files(
     target_passes: u64,
     steps: &[Step],
 ) -> Result<(Fused, Fused), Mismatch> {
-    let mut file = create(alloc, fused(alloc, passes)).map_err(Mismatch::NoFile)?;
+    let mut file = create(alloc, fused(alloc, passes))?;
     let target = make_and_refuse(alloc, &mut file, fused(alloc, target_passes), steps);
     let store = file.close();
     Ok((store, target?))
@@ -179,7 +181,7 @@ fn refused_and_saved(alloc: Global, passes: u64) -> Result<u64, Mismatch> {
 #[test]
 fn a_refused_copy_gives_the_target_back(rt: HostRuntime) -> Result<(), Fail> {
     for passes in 0..9 {
-        assert_eq!(rt; refused_and_saved(rt.alloc(), passes)?, passes + 1);
+        same_number(&rt, refused_and_saved(rt.alloc(), passes)?, passes + 1);
     }
     Ok(())
 }
@@ -197,7 +199,7 @@ fn refused_later(alloc: Global, later: u64) -> Result<u64, Mismatch> {
 fn a_copy_of_what_cannot_be_read_is_refused(rt: HostRuntime) -> Result<(), Fail> {
     for images in 0..2 {
         // Its length, and the images that were read.
-        assert_eq!(rt; refused_later(rt.alloc(), images)?, 1 + images);
+        same_number(&rt, refused_later(rt.alloc(), images)?, 1 + images);
     }
     Ok(())
 }

@@ -1,5 +1,5 @@
 //! What a crash leaves while the store fails: the documents last acknowledged, or those of a commit tried since.
-use crate::calls::{create, image_of, open, put, revert, save, update, why};
+use crate::calls::{create, image_of, open, open_in, put, revert, save, update};
 use crate::example::{LENGTH, example, with};
 use crate::steps::closed;
 use geos_model::Fault;
@@ -14,7 +14,7 @@ type Fused = FuseStore<MemStore>;
 type Byte = Option<u8>;
 
 // The updated and the saved document.
-#[derive(Clone, Copy, Debug, PartialEq, Eq)]
+#[derive(Clone, Copy, PartialEq, Eq)]
 struct Pair {
     updated: Byte,
     saved: Byte,
@@ -77,46 +77,48 @@ struct Record {
 }
 
 impl Record {
-    fn new(alloc: Global) -> Record {
+    fn new(alloc: Global, acknowledged: Pair) -> Record {
         Record {
-            live: None,
-            acknowledged: NONE,
+            live: acknowledged.updated,
+            acknowledged,
             tried: Vec::new(alloc),
         }
     }
 
     // Whether the step was done.
     fn step(&mut self, alloc: Global, file: &mut VmFile<Fused>, step: Step) -> Result<bool, Fault> {
-        let pair = match step {
-            Step::Put(byte) => return Ok(self.put(alloc, file, byte)),
-            Step::Update => Pair {
-                updated: self.live,
-                saved: self.acknowledged.saved,
-            },
-            Step::Save => Pair {
-                updated: self.live,
-                saved: self.live,
-            },
-            Step::Revert => Pair {
-                updated: self.acknowledged.saved,
-                saved: self.acknowledged.saved,
-            },
-        };
-        let answer = match step {
-            Step::Revert => revert(file),
-            Step::Save => save(file),
-            _ => update(file),
-        };
+        match step {
+            Step::Put(byte) => Ok(self.put(alloc, file, byte)),
+            Step::Update => self.commit(update(file), self.live, self.acknowledged.saved),
+            Step::Save => self.commit(save(file), self.live, self.live),
+            Step::Revert => self.revert(file),
+        }
+    }
+
+    // Whether a commit that leads to these documents was done, as the file answered.
+    fn commit(
+        &mut self,
+        answer: Result<(), Fault>,
+        updated: Byte,
+        saved: Byte,
+    ) -> Result<bool, Fault> {
+        let pair = Pair { updated, saved };
         if answer.is_err() {
             self.tried.push(pair)?;
             return Ok(false);
         }
         self.acknowledged = pair;
         self.tried.clear();
-        if matches!(step, Step::Revert) {
-            self.live = pair.saved;
-        }
         Ok(true)
+    }
+
+    fn revert(&mut self, file: &mut VmFile<Fused>) -> Result<bool, Fault> {
+        let saved = self.acknowledged.saved;
+        let is_done = self.commit(revert(file), saved, saved)?;
+        if is_done {
+            self.live = saved;
+        }
+        Ok(is_done)
     }
 
     fn put(&mut self, alloc: Global, file: &mut VmFile<Fused>, byte: u8) -> bool {
@@ -215,13 +217,22 @@ fn may_be_left(left: Pair, commits: usize, is_tried: bool) -> bool {
     left == PAIRS[commits] || (is_tried && next < PAIRS.len() && left == PAIRS[next])
 }
 
-// The store of a new file on which the steps were played, where its call after so many fails, and what may be read after a crash.
-fn played(alloc: Global, passes: u64, steps: &[Step]) -> Result<(Fused, Record), Fault> {
-    let store = FuseStore::new(MemStore::new(alloc), passes, false);
-    let mut record = Record::new(alloc);
-    let mut file = create(alloc, store)?;
+// The store of a file with these documents on which the steps were played, and what may be read after a crash.
+fn played_from(
+    alloc: Global,
+    mut file: VmFile<Fused>,
+    documents: Pair,
+    steps: &[Step],
+) -> Result<(Fused, Record), Fault> {
+    let mut record = Record::new(alloc, documents);
     let end = record.play(alloc, &mut file, steps);
     Ok((closed(file, end)?, record))
+}
+
+// The same of a new file, where its call after so many fails.
+fn played(alloc: Global, passes: u64, steps: &[Step]) -> Result<(Fused, Record), Fault> {
+    let store = FuseStore::new(MemStore::new(alloc), passes, false);
+    played_from(alloc, create(alloc, store)?, NONE, steps)
 }
 
 // The store of a new file on which the first steps were played, where all its calls after so many fail, with how many commits there
@@ -229,7 +240,7 @@ fn played(alloc: Global, passes: u64, steps: &[Step]) -> Result<(Fused, Record),
 fn played_up(alloc: Global, passes: u64) -> Result<(Fused, usize, bool), Fault> {
     let store = FuseStore::new(MemStore::new(alloc), passes, true);
     let mut file = create(alloc, store)?;
-    let end = Record::new(alloc).play_up(alloc, &mut file);
+    let end = Record::new(alloc, NONE).play_up(alloc, &mut file);
     let store = file.close();
     let (commits, is_tried) = end?;
     Ok((store, commits, is_tried))
@@ -241,33 +252,48 @@ fn all_calls(alloc: Global) -> Result<u64, Fault> {
     Ok(store.calls())
 }
 
-// What a crash may not leave: the documents, behind so many commits, where it keeps so many writes and fills in a byte.
-type Left = (Pair, usize, usize, u8);
+// Which bytes a crash fills in.
+const FILLS: &[u8] = &[0, 1, 255];
 
-// What a crash wrongly leaves of a store.
-fn wrongly_left(
+// Whether a crash that keeps so many writes leaves what it may leave, whichever byte it fills in.
+fn leaves_well(
+    alloc: Global,
+    store: &MemStore,
+    keep: usize,
+    commits: usize,
+    is_tried: bool,
+) -> Result<bool, Fault> {
+    for fill in FILLS {
+        let left = crashed(store, alloc, keep, *fill)?;
+        if !may_be_left(left, commits, is_tried) {
+            return Ok(false);
+        }
+    }
+    Ok(true)
+}
+
+// The number of writes that a crash keeps where it leaves of a store what it may not leave.
+fn wrongly_kept(
     alloc: Global,
     store: &MemStore,
     commits: usize,
     is_tried: bool,
-) -> Result<Option<Left>, Fault> {
+) -> Result<Option<usize>, Fault> {
     for keep in 0..=MOST_PENDING {
-        for fill in [0, 1, 255] {
-            let left = crashed(store, alloc, keep, fill)?;
-            if !may_be_left(left, commits, is_tried) {
-                return Ok(Some((left, commits, keep, fill)));
-            }
+        if !leaves_well(alloc, store, keep, commits, is_tried)? {
+            return Ok(Some(keep));
         }
     }
     Ok(None)
 }
 
-// What a crash wrongly leaves where all calls after so many fail, and whether it could keep more writes.
-fn left_after(alloc: Global, passes: u64) -> Result<(Option<Left>, bool), Fault> {
+// That number where all calls after so many fail, or one more than all where it could keep more writes.
+fn wrongly_kept_after(alloc: Global, passes: u64) -> Result<Option<usize>, Fault> {
     let (store, commits, is_tried) = played_up(alloc, passes)?;
-    let are_more = !are_all(store.inner(), MOST_PENDING)?;
-    let left = wrongly_left(alloc, store.inner(), commits, is_tried)?;
-    Ok((left, are_more))
+    if !are_all(store.inner(), MOST_PENDING)? {
+        return Ok(Some(MOST_PENDING + 1));
+    }
+    wrongly_kept(alloc, store.inner(), commits, is_tried)
 }
 
 #[test]
@@ -276,9 +302,8 @@ fn a_crash_of_a_failing_store_leaves_the_last_documents_or_the_next(
 ) -> Result<(), Fail> {
     let alloc = rt.alloc();
     for passes in MAKING..=all_calls(alloc)? {
-        let (left, are_more) = left_after(alloc, passes)?;
-        assert!(rt; !are_more, "after {passes} calls");
-        assert_eq!(rt; left, None, "after {passes} calls");
+        let kept = wrongly_kept_after(alloc, passes)?;
+        assert!(rt; kept.is_none(), "after {passes} calls");
     }
     Ok(())
 }
@@ -289,28 +314,41 @@ fn is_kept(alloc: Global, passes: u64, steps: &[Step], fill: u8) -> Result<bool,
     record.stands(alloc, store.inner(), fill)
 }
 
+// The same of all steps, with each of those bytes.
+fn is_kept_with_each(alloc: Global, passes: u64) -> Result<bool, Fault> {
+    for fill in FILLS {
+        if !is_kept(alloc, passes, &STEPS, *fill)? {
+            return Ok(false);
+        }
+    }
+    Ok(true)
+}
+
 #[test]
 fn a_failing_call_loses_no_commit_of_those_that_follow(rt: HostRuntime) -> Result<(), Fail> {
     let alloc = rt.alloc();
     for passes in MAKING..=all_calls(alloc)? {
-        for fill in [0, 1, 255] {
-            assert!(rt;
-                is_kept(alloc, passes, &STEPS, fill)?,
-                "call {passes} failed, {fill}"
-            );
-        }
+        assert!(rt; is_kept_with_each(alloc, passes)?, "call {passes} failed");
     }
     crash_law::<Fused>();
     Ok(())
 }
 
+// Whether a crash behind each of the first steps leaves what it may leave.
+fn is_kept_behind_each(alloc: Global, passes: u64, fill: u8) -> Result<bool, Fault> {
+    for steps in 1..=FIRST_STEPS {
+        if !is_kept(alloc, passes, &STEPS[..steps], fill)? {
+            return Ok(false);
+        }
+    }
+    Ok(true)
+}
+
 // Each of the first store calls fails alone. Returns the one after whose failure a crash behind some step leaves other documents.
 fn first_loss(alloc: Global, fill: u8) -> Result<Option<u64>, Fault> {
     for passes in MAKING..=all_calls(alloc)? {
-        for steps in 1..=FIRST_STEPS {
-            if !is_kept(alloc, passes, &STEPS[..steps], fill)? {
-                return Ok(Some(passes));
-            }
+        if !is_kept_behind_each(alloc, passes, fill)? {
+            return Ok(Some(passes));
         }
     }
     Ok(None)
@@ -318,7 +356,7 @@ fn first_loss(alloc: Global, fill: u8) -> Result<Option<u64>, Fault> {
 
 #[test]
 fn a_crash_behind_any_step_leaves_what_was_tried_under_zeros(rt: HostRuntime) -> Result<(), Fail> {
-    assert_eq!(rt; first_loss(rt.alloc(), 0)?, None);
+    assert!(rt; first_loss(rt.alloc(), 0)?.is_none());
     Ok(())
 }
 
@@ -326,7 +364,7 @@ fn a_crash_behind_any_step_leaves_what_was_tried_under_zeros(rt: HostRuntime) ->
 fn a_crash_behind_any_step_leaves_what_was_tried_under_open_gates(
     rt: HostRuntime,
 ) -> Result<(), Fail> {
-    assert_eq!(rt; first_loss(rt.alloc(), 1)?, None);
+    assert!(rt; first_loss(rt.alloc(), 1)?.is_none());
     Ok(())
 }
 
@@ -334,7 +372,7 @@ fn a_crash_behind_any_step_leaves_what_was_tried_under_open_gates(
 fn a_crash_behind_any_step_leaves_what_was_tried_under_great_numbers(
     rt: HostRuntime,
 ) -> Result<(), Fail> {
-    assert_eq!(rt; first_loss(rt.alloc(), 255)?, None);
+    assert!(rt; first_loss(rt.alloc(), 255)?.is_none());
     Ok(())
 }
 
@@ -351,15 +389,15 @@ const OF_VERSION_1: Pair = Pair {
 // The store calls that open it.
 const OPENING: u64 = 7;
 
-// The store of that file on which the steps were played, where its call after so many fails, and what may be read after a crash.
-fn played_on(alloc: Global, passes: u64, steps: &[Step]) -> Result<(Fused, Record), Fault> {
+// That file, whose call after so many fails.
+fn opened_on(alloc: Global, passes: u64) -> Result<VmFile<Fused>, Fault> {
     let store = MemStore::from_bytes(alloc, &file_of_version_1())?;
-    let mut record = Record::new(alloc);
-    record.live = OF_VERSION_1.updated;
-    record.acknowledged = OF_VERSION_1;
-    let mut file = VmFile::open(alloc, FuseStore::new(store, passes, false)).map_err(why)?;
-    let end = record.play(alloc, &mut file, steps);
-    Ok((closed(file, end)?, record))
+    open_in(alloc, FuseStore::new(store, passes, false))
+}
+
+// The store of that file on which the steps were played, and what may be read after a crash.
+fn played_on(alloc: Global, passes: u64, steps: &[Step]) -> Result<(Fused, Record), Fault> {
+    played_from(alloc, opened_on(alloc, passes)?, OF_VERSION_1, steps)
 }
 
 // Whether each crash behind the steps leaves what it may leave.

@@ -1,5 +1,7 @@
 //! A file that was made.
+use crate::asserting::{no_other, same_number};
 use crate::calls::first_other_byte;
+use crate::example::put_at;
 use crate::steps::Step::{IsEmpty, MapBlock};
 use crate::steps::{Mismatch, given_back, made};
 use std::alloc::Global;
@@ -12,9 +14,9 @@ const SLOT: &[u8; 32] =
 
 fn made_bytes() -> [u8; 1_040] {
     let mut bytes = [0; 1_040];
-    bytes[..32].copy_from_slice(SLOT);
-    bytes[512..516].copy_from_slice(b"GVMF");
-    bytes[1_024..1_030].copy_from_slice(b"GDIR\x02\0");
+    put_at(&mut bytes, 0, SLOT);
+    put_at(&mut bytes, 512, b"GVMF");
+    put_at(&mut bytes, 1_024, b"GDIR\x02\0");
     bytes
 }
 
@@ -27,7 +29,7 @@ fn first_other(store: &MemStore) -> Option<usize> {
 fn a_made_file_has_1040_bytes(rt: HostRuntime) -> Result<(), Fail> {
     let alloc = rt.alloc();
     let store = made(alloc, MemStore::new(alloc), &[], &[IsEmpty, MapBlock(0)])?;
-    assert_eq!(rt; first_other(&store), None);
+    no_other(&rt, first_other(&store));
     Ok(())
 }
 
@@ -41,8 +43,8 @@ fn made_over(alloc: Global, bytes: &[u8]) -> Result<(MemStore, MemStore), Mismat
 #[test]
 fn a_file_is_made_over_any_bytes(rt: HostRuntime) -> Result<(), Fail> {
     let (store, left) = made_over(rt.alloc(), &[7; 5_000])?;
-    assert_eq!(rt; first_other(&store), None);
-    assert_eq!(rt; first_other(&left), None);
+    no_other(&rt, first_other(&store));
+    no_other(&rt, first_other(&left));
     Ok(())
 }
 
@@ -64,8 +66,10 @@ fn given_back_and_made(alloc: Global, passes: u64) -> Result<(u64, u64, Option<u
 #[test]
 fn a_refused_making_gives_the_store_back(rt: HostRuntime) -> Result<(), Fail> {
     for passes in 0..7 {
-        let answer = given_back_and_made(rt.alloc(), passes)?;
-        assert_eq!(rt; answer, (passes + 1, passes + 1 + 7, None));
+        let (refused, made, other) = given_back_and_made(rt.alloc(), passes)?;
+        same_number(&rt, refused, passes + 1);
+        same_number(&rt, made, passes + 1 + 7);
+        no_other(&rt, other);
     }
     Ok(())
 }

@@ -12,29 +12,38 @@ const SAVED: &[u8; 6] = b"GDIR\x01\0";
 
 pub(crate) const LENGTH: usize = 2_051;
 
+/// Puts others in the place of bytes, as far as both go.
+pub(crate) fn put_at(bytes: &mut [u8], at: usize, others: &[u8]) {
+    for (byte, other) in bytes.iter_mut().skip(at).zip(others) {
+        *byte = *other;
+    }
+}
+
+// What is other in version 2.
+fn put_version_2(bytes: &mut [u8]) {
+    put_at(bytes, 5, &[2]);
+    put_at(bytes, 1_028, &[2]);
+    put_at(bytes, 1_052, b"\x34\x12");
+    put_at(bytes, 1_540, &[2]);
+    put_at(bytes, 2_048, b"\x01\0\0");
+}
+
 /// That of version 1, or else of version 2.
 pub(crate) fn example(version: u8) -> [u8; LENGTH] {
     let mut bytes = [0; LENGTH];
-    bytes[..32].copy_from_slice(SLOT);
-    bytes[1_024..1_056].copy_from_slice(UPDATED);
-    bytes[1_536..1_542].copy_from_slice(SAVED);
-    bytes[2_048..].copy_from_slice(b"\0ab");
-    if version == 1 {
-        return bytes;
+    put_at(&mut bytes, 0, SLOT);
+    put_at(&mut bytes, 1_024, UPDATED);
+    put_at(&mut bytes, 1_536, SAVED);
+    put_at(&mut bytes, 2_048, b"\0ab");
+    if version != 1 {
+        put_version_2(&mut bytes);
     }
-    bytes[5] = 2;
-    bytes[1_028] = 2;
-    bytes[1_052..1_054].copy_from_slice(b"\x34\x12");
-    bytes[1_540] = 2;
-    bytes[2_048..].copy_from_slice(b"\x01\0\0");
     bytes
 }
 
 /// These bytes with others from a place on.
 pub(crate) fn with(bytes: &[u8; LENGTH], at: usize, others: &[u8]) -> [u8; LENGTH] {
     let mut edited = *bytes;
-    for (byte, other) in edited.iter_mut().skip(at).zip(others) {
-        *byte = *other;
-    }
+    put_at(&mut edited, at, others);
     edited
 }

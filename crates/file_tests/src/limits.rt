@@ -1,4 +1,5 @@
 //! As much as a file can hold.
+use crate::asserting::same_number;
 use crate::calls::{attributes_of, create, has, heap_block, open, put, save};
 use crate::steps::Step::{
     Finds, Has, IsFull, ListsLive, Lives, MapBlock, NextHandle, NoRemove, PutAll, Remove,
@@ -22,7 +23,11 @@ fn each_handle_has_a_block(rt: HostRuntime) -> Result<(), Fail> {
     let alloc = rt.alloc();
     let store = full_store(alloc)?;
     // The slots, the first directory, the images, and 256 whole pages and 16 bytes of the new directory.
-    assert_eq!(rt; store.bytes().len(), (3 + 8_192 + 256) * 512 + 16);
+    same_number(
+        &rt,
+        store.bytes().len() as u64,
+        (3 + 8_192 + 256) * 512 + 16,
+    );
     let steps = [IsFull, Has(1, b"\0a"), Has(8_192, b"\0a")];
     read(alloc, store.bytes(), &steps)?;
     Ok(())
@@ -153,13 +158,18 @@ fn first_other(file: &mut VmFile<MemStore>, image: &[u8]) -> Result<Option<u16>,
     Ok(None)
 }
 
+// Whether blocks with this body have that image when the file is opened in which they were saved.
+fn are_kept(alloc: Global, body: &[u8], image: &[u8]) -> Result<bool, Fault> {
+    let store = long_file(alloc, body)?;
+    Ok(first_wrong(alloc, store.bytes(), image)?.is_none())
+}
+
 #[test]
 fn raw_bodies_have_up_to_65520_bytes(rt: HostRuntime) -> Result<(), Fail> {
     let alloc = rt.alloc();
     let mut image = vec![in alloc; 7; 65_521]?;
     image[0] = 0;
-    let store = long_file(alloc, &image[1..])?;
-    assert_eq!(rt; first_wrong(alloc, store.bytes(), &image)?, None);
+    assert!(rt; are_kept(alloc, &image[1..], &image)?);
     Ok(())
 }
 
@@ -181,16 +191,21 @@ fn heap_file(alloc: Global, heap: &Heap) -> Result<MemStore, Fault> {
     closed(file, end)
 }
 
-// Whether that block has this image, and its attributes, in a file with these bytes.
-fn has_heap(
-    alloc: Global,
-    bytes: &[u8],
-    image: &[u8],
-) -> Result<(bool, Option<Attributes>), Fault> {
+// Whether that block has this image, and those attributes.
+fn has_heap(file: &mut VmFile<MemStore>, image: &[u8]) -> Result<bool, Fault> {
+    Ok(has(file, 5, image)? && attributes_of(file, 5) == Some(TYPED))
+}
+
+// The same in a file with these bytes.
+fn holds_heap(alloc: Global, bytes: &[u8], image: &[u8]) -> Result<bool, Fault> {
     let mut file = open(alloc, bytes)?;
-    let has_image = has(&mut file, 5, image);
-    let attributes = attributes_of(&file, 5);
-    Ok((has_image?, attributes))
+    has_heap(&mut file, image)
+}
+
+// Whether a heap is there when the file is opened in which it was saved.
+fn is_kept(alloc: Global, heap: &Heap) -> Result<bool, Fault> {
+    let store = heap_file(alloc, heap)?;
+    holds_heap(alloc, store.bytes(), &heap.image()?)
 }
 
 // One chunk takes all of a heap but for its header and its entry.
@@ -200,10 +215,7 @@ fn a_heap_has_up_to_65520_bytes(rt: HostRuntime) -> Result<(), Fail> {
     let mut heap = Heap::new(alloc)?;
     assert!(rt; heap.fits_alloc(65_498));
     heap.alloc(65_498);
-    let image = heap.image()?;
-    let store = heap_file(alloc, &heap)?;
-    let answer = has_heap(alloc, store.bytes(), &image)?;
-    assert_eq!(rt; answer, (true, Some(TYPED)));
+    assert!(rt; is_kept(alloc, &heap)?);
     Ok(())
 }
 

@@ -1,8 +1,9 @@
 //! What opens, and to which documents.
 ghost use Rattle.std.specs.Prelude.{◌<◌, ◌≤◌};
 
+use crate::asserting::{no_other, same_number};
 use crate::calls::{attributes_of, first_block, first_other_byte, has_saved_block, image_of, open};
-use crate::example::{LENGTH, example, with};
+use crate::example::{LENGTH, example, put_at, with};
 use crate::steps::Step::{Has, HasType, HasUserId, IsEmpty, Lives, MapBlock, Revert, Update};
 use crate::steps::{Mismatch, given_back, kept, read};
 use geos_model::{Attributes, Fault};
@@ -36,37 +37,38 @@ fn an_open_file_has_its_two_documents(rt: HostRuntime) -> Result<(), Fail> {
 
 // The example with the slot of an update, which has the next number and leads to a directory on the first free page. Whatever the
 // version, that of both is 2, and the saved directory is the one that was there.
-fn updated_pages(version: u8) -> [u8; 2_560] {
-    let mut bytes = [0; 2_560];
-    bytes[..LENGTH].copy_from_slice(&example(version));
-    bytes[512..544].copy_from_slice(
-        b"GVMF\x01\x02\0\0\x06\0\0\0\0\0\0\0\x05\0\0\0\x20\0\0\0\x03\0\0\0\x10\0\0\0",
-    );
+fn updated(version: u8, heap_type: u16) -> [u8; 2_592] {
+    let mut bytes = [0; 2_592];
+    put_at(&mut bytes, 0, &example(version));
+    put_at(&mut bytes, 512, UPDATED_SLOT);
+    put_at(&mut bytes, 2_560, UPDATED_DIRECTORY);
+    put_at(&mut bytes, 2_588, &heap_type.to_le_bytes());
     bytes
 }
 
-fn updated(alloc: Global, version: u8, heap_type: u16) -> Result<Vec<u8>, Fault> {
-    let mut file = updated_pages(version).to_vec(alloc)?;
-    file.extend_from_slice(b"GDIR\x02\0\x01\0\x01\0\0\0\0\0\0\0")?;
-    file.extend_from_slice(b"\x01\0\x07\0\x04\0\0\0\x03\0\0\0")?;
-    file.extend_from_slice(&heap_type.to_le_bytes())?;
-    file.extend_from_slice(b"\0\0")?;
-    Ok(file)
+const UPDATED_SLOT: &[u8; 32] =
+    b"GVMF\x01\x02\0\0\x06\0\0\0\0\0\0\0\x05\0\0\0\x20\0\0\0\x03\0\0\0\x10\0\0\0";
+
+// Behind these bytes come the type and two zeros.
+const UPDATED_DIRECTORY: &[u8; 28] =
+    b"GDIR\x02\0\x01\0\x01\0\0\0\0\0\0\0\x01\0\x07\0\x04\0\0\0\x03\0\0\0";
+
+// Where the example that is updated has other bytes.
+fn other_updated(alloc: Global, version: u8, heap_type: u16) -> Result<Option<usize>, Mismatch> {
+    let store = read(alloc, &example(version), &[Update])?;
+    Ok(first_other_byte(store.bytes(), &updated(version, heap_type)))
 }
 
 #[test]
 fn an_update_writes_the_other_slot(rt: HostRuntime) -> Result<(), Fail> {
-    let alloc = rt.alloc();
     for (version, heap_type, _) in EXAMPLES {
-        let store = read(alloc, &example(version), &[Update])?;
-        let updated = updated(alloc, version, heap_type)?;
-        assert_eq!(rt; first_other_byte(store.bytes(), &updated), None);
+        no_other(&rt, other_updated(rt.alloc(), version, heap_type)?);
     }
     Ok(())
 }
 
 // What is read of a file: the one block of the updated document, where the saved one has none.
-#[derive(Debug, PartialEq, Eq, Drop)]
+#[derive(PartialEq, Eq, Drop)]
 enum Answer {
     Refused(Fault),
     Block {
@@ -83,6 +85,11 @@ fn look(alloc: Global, bytes: &[u8]) -> Result<Answer, Fault> {
         Ok(mut file) => look_into(&mut file),
         Err(fault) => Ok(Answer::Refused(fault)),
     }
+}
+
+// Whether that is read of a file with these bytes.
+fn is_read(alloc: Global, bytes: &[u8], answer: &Answer) -> Result<bool, Fault> {
+    Ok(look(alloc, bytes)? == *answer)
 }
 
 fn look_into(file: &mut VmFile<MemStore>) -> Result<Answer, Fault> {
@@ -195,7 +202,7 @@ fn is_answered(alloc: Global, version: u8, at: usize, value: u8) -> Result<bool,
         answer_to(alloc, version, at, value)?
     };
     bytes[at] = value;
-    Ok(look(alloc, &bytes)? == want)
+    is_read(alloc, &bytes, &want)
 }
 
 // The first byte that has another answer at a place.
@@ -320,18 +327,25 @@ fn each_byte_from_1920_on_is_set_to_each_value(rt: HostRuntime) -> Result<(), Wr
     have_answers(rt.alloc(), 1_920, LENGTH)
 }
 
+// Whether a file with these bytes, which end too early, is refused by the fault that is due.
+fn is_refused(alloc: Global, bytes: &[u8]) -> bool {
+    let fault = if bytes.len() < 1_024 {
+        Fault::NotDocument
+    } else {
+        Fault::Damaged
+    };
+    match open(alloc, bytes) {
+        Ok(_) => false,
+        Err(given) => given == fault,
+    }
+}
+
 #[test]
 fn a_file_that_is_cut_is_refused(rt: HostRuntime) {
-    let alloc = rt.alloc();
     for version in [1, 2] {
+        let bytes = example(version);
         for len in 0..LENGTH {
-            let fault = if len < 1_024 {
-                Fault::NotDocument
-            } else {
-                Fault::Damaged
-            };
-            let answer = look(alloc, &example(version)[..len]);
-            assert_eq!(rt; answer, Ok(Answer::Refused(fault)), "{len} bytes");
+            assert!(rt; is_refused(rt.alloc(), &bytes[..len]), "{len} bytes");
         }
     }
 }
@@ -348,30 +362,38 @@ fn extended(alloc: Global, version: u8, more: usize, value: u8) -> Result<Vec<u8
 // Whether that is the same.
 fn is_same_extended(alloc: Global, version: u8, more: usize, value: u8) -> Result<bool, Fault> {
     let bytes = extended(alloc, version, more, value)?;
-    Ok(look(alloc, &bytes)? == same(alloc, version)?)
+    is_read(alloc, &bytes, &same(alloc, version)?)
+}
+
+// Whether so it is with each of these numbers of bytes.
+fn are_same(alloc: Global, version: u8, value: u8) -> Result<bool, Fault> {
+    for more in [1, 509, 510, 1_100] {
+        if !is_same_extended(alloc, version, more, value)? {
+            return Ok(false);
+        }
+    }
+    Ok(true)
 }
 
 #[test]
 fn a_file_with_bytes_appended_is_the_same(rt: HostRuntime) -> Result<(), Fail> {
     for version in [1, 2] {
         for value in VALUES {
-            for more in [1, 509, 510, 1_100] {
-                let is_same = is_same_extended(rt.alloc(), version, more, value)?;
-                assert!(rt; is_same, "{more} bytes");
-            }
+            assert!(rt; are_same(rt.alloc(), version, value)?, "{value}");
         }
     }
     Ok(())
 }
 
+const OTHER_SLOT: &[u8; 32] =
+    b"GVMF\x01\x01\0\0\x05\0\0\0\0\0\0\0\x03\0\0\0\x10\0\0\0\x02\0\0\0\x20\0\0\0";
+
 // The other slot of version 1 is open too: there the saved document is the updated one, and the updated one the saved one.
 fn with_two_slots(version: u8, number: u8) -> [u8; LENGTH] {
     let mut bytes = example(1);
-    bytes[512..544].copy_from_slice(
-        b"GVMF\x01\x01\0\0\x05\0\0\0\0\0\0\0\x03\0\0\0\x10\0\0\0\x02\0\0\0\x20\0\0\0",
-    );
-    bytes[517] = version;
-    bytes[520] = number;
+    put_at(&mut bytes, 512, OTHER_SLOT);
+    put_at(&mut bytes, 517, &[version]);
+    put_at(&mut bytes, 520, &[number]);
     bytes
 }
 
@@ -398,9 +420,8 @@ fn has_block(alloc: Global, bytes: &[u8]) -> Result<bool, Fault> {
 fn of_two_open_slots_the_greater_number_counts(rt: HostRuntime) -> Result<(), Fail> {
     let alloc = rt.alloc();
     for (version, number, answer) in SLOTS {
-        assert_eq!(rt;
-            has_block(alloc, &with_two_slots(version, number)),
-            answer,
+        assert!(rt;
+            has_block(alloc, &with_two_slots(version, number)) == answer,
             "version {version}, number {number}"
         );
     }
@@ -525,16 +546,16 @@ fn wanted(alloc: Global, version: u8, as_file: Result<Seen, Fault>) -> Result<An
 }
 
 // Whether that is read of a case.
-fn is_read(alloc: Global, case: Case) -> Result<bool, Fault> {
+fn is_case_read(alloc: Global, case: Case) -> Result<bool, Fault> {
     let (version, edits, answer) = case;
     let answer = wanted(alloc, version, answer)?;
-    Ok(look(alloc, &edited(version, edits))? == answer)
+    is_read(alloc, &edited(version, edits), &answer)
 }
 
 #[test]
 fn each_directory_keeps_the_rules_of_its_version(rt: HostRuntime) -> Result<(), Fail> {
     for (number, case) in CASES.into_iter().enumerate() {
-        assert!(rt; is_read(rt.alloc(), case)?, "case {number}");
+        assert!(rt; is_case_read(rt.alloc(), case)?, "case {number}");
     }
     Ok(())
 }
@@ -561,8 +582,10 @@ fn given_back_and_opened(
 #[test]
 fn a_refused_opening_gives_the_store_back(rt: HostRuntime) -> Result<(), Fail> {
     for passes in 0..7 {
-        let answer = given_back_and_opened(rt.alloc(), passes)?;
-        assert_eq!(rt; answer, (passes + 1, passes + 1 + 7, None));
+        let (refused, opened, other) = given_back_and_opened(rt.alloc(), passes)?;
+        same_number(&rt, refused, passes + 1);
+        same_number(&rt, opened, passes + 1 + 7);
+        no_other(&rt, other);
     }
     Ok(())
 }

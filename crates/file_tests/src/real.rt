@@ -6,7 +6,21 @@ use std::alloc::Global;
 use std::fs;
 use std::test::Fail;
 use vm_file::VmFile;
-use vm_store::{HostStore, HostSystem, Store};
+use vm_store::{HostFile, HostStore, HostSystem, Store, StoreFault};
+
+const PATH: &str = "file_tests_document";
+
+fn open(system: &mut HostSystem, make: bool) -> Result<HostStore<HostFile>, StoreFault> {
+    HostStore::open(system, PATH, make)
+}
+
+// Whether the file has so many bytes.
+fn is_long(rt: &HostRuntime, length: usize) -> bool {
+    match fs::read(rt, PATH) {
+        Ok(bytes) => bytes.len() == length,
+        Err(_) => false,
+    }
+}
 
 // A block, which is saved, another one, which is updated, and a third one.
 const FILL: [Step; 5] = [
@@ -24,6 +38,14 @@ fn fill<S: Store>(alloc: Global, mut file: VmFile<S>) -> Result<(), Mismatch> {
     Ok(())
 }
 
+// Makes a document, and fills it. Returns whether its file had as many bytes before as a document without blocks.
+fn make_and_fill(rt: &HostRuntime, system: &mut HostSystem) -> Result<bool, Fail> {
+    let file = create(rt.alloc(), open(system, true)?)?;
+    let is_made = is_long(rt, 1_040);
+    fill(rt.alloc(), file)?;
+    Ok(is_made)
+}
+
 // Two blocks are updated and one is saved.
 const FILLED: [Step; 5] = [
     Lives(&[1, 2]),
@@ -33,16 +55,18 @@ const FILLED: [Step; 5] = [
     Lives(&[1]),
 ];
 
+// Opens the document that was filled.
+fn keep(rt: &HostRuntime, system: &mut HostSystem) -> Result<(), Fail> {
+    kept(rt.alloc(), open(system, false)?, &FILLED)?;
+    Ok(())
+}
+
 #[test]
 fn a_real_file_is_made_committed_and_opened(rt: HostRuntime) -> Result<(), Fail> {
-    let path = "file_tests_document";
-    let alloc = rt.alloc();
     let mut system = HostSystem::new(rt);
-    let _ = fs::remove_file(&rt, path);
-    let file = create(alloc, HostStore::open(&mut system, path, true)?)?;
-    assert_eq!(rt; fs::read(&rt, path)?.len(), 1_040);
-    fill(alloc, file)?;
-    kept(alloc, HostStore::open(&mut system, path, false)?, &FILLED)?;
-    fs::remove_file(&rt, path)?;
+    let _ = fs::remove_file(&rt, PATH);
+    assert!(rt; make_and_fill(&rt, &mut system)?);
+    keep(&rt, &mut system)?;
+    fs::remove_file(&rt, PATH)?;
     Ok(())
 }

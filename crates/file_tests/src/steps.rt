@@ -1,8 +1,8 @@
 //! Work on a document file as a list of steps, and where it went another way.
 use crate::calls::{
-    create, first_block, found, has, is_full, is_worn_out, listed, live_blocks, next_handle, put,
-    put_all, put_heap, remove, remove_others, revert, save, set_map_block, set_type, set_user_id,
-    type_of, update, user_id_of, why,
+    create, first_block, found, has, is_full, is_worn_out, listed, live_blocks, next_handle,
+    open_in, put, put_all, put_heap, remove, remove_others, revert, save, set_map_block, set_type,
+    set_user_id, type_of, update, user_id_of,
 };
 use geos_model::{Attributes, Fault};
 use std::alloc::{AllocError, Global};
@@ -10,7 +10,7 @@ use vm_file::{Refused, VmFile};
 use vm_store::{MemStore, Store};
 
 /// A step of work on a document file, or something that has to be seen there.
-#[derive(Clone, Copy, Debug)]
+#[derive(Clone, Copy)]
 pub(crate) enum Step {
     /// A raw block with a user ID comes into the document.
     Put(u16, u16, &'static [u8]),
@@ -53,16 +53,16 @@ pub(crate) enum Step {
     Finds(u16, u16, Option<u16>),
 }
 
-/// Why work on a document file did not go as its steps say.
+/// Why work on a document file did not go as its steps say, each of which is told by its place, from 0 on.
 #[derive(Debug, Drop)]
 pub(crate) enum Mismatch {
     Memory,
     /// There is no file.
     NoFile(Fault),
-    /// A step is refused.
-    Refused(Step, Fault),
-    /// Something else is seen.
-    Seen(Step),
+    /// The step at this place is refused.
+    Refused(usize, Fault),
+    /// At this place something else is seen.
+    Seen(usize),
     /// A store that fails is made a file.
     NotRefused,
 }
@@ -70,6 +70,12 @@ pub(crate) enum Mismatch {
 impl From<AllocError> for Mismatch {
     fn from(_: AllocError) -> Mismatch {
         Mismatch::Memory
+    }
+}
+
+impl From<Fault> for Mismatch {
+    fn from(fault: Fault) -> Mismatch {
+        Mismatch::NoFile(fault)
     }
 }
 
@@ -81,6 +87,11 @@ fn has_live<S: Store>(alloc: Global, file: &VmFile<S>, handles: &[u16]) -> Resul
 // Whether the document tells just these handles.
 fn lists<S: Store>(alloc: Global, file: &VmFile<S>, handles: &[u16]) -> Result<bool, Fault> {
     Ok(listed(alloc, file)?.as_slice() == handles)
+}
+
+// Whether it tells those of the live blocks.
+fn lists_live<S: Store>(alloc: Global, file: &VmFile<S>) -> Result<bool, Fault> {
+    lists(alloc, file, &live_blocks(alloc, file)?)
 }
 
 // Whether all is seen that a step says.
@@ -97,7 +108,7 @@ fn sees<S: Store>(alloc: Global, file: &mut VmFile<S>, step: Step) -> Result<boo
         Step::IsFull => is_full(alloc, file),
         Step::IsEmpty => Ok(first_block(file) == 0),
         Step::Lists(handles) => lists(alloc, file, handles),
-        Step::ListsLive => lists(alloc, file, &live_blocks(alloc, file)?),
+        Step::ListsLive => lists_live(alloc, file),
         Step::NextHandle(handle) => Ok(next_handle(file) == handle),
         Step::Finds(user_id, start, handle) => Ok(found(file, user_id, start) == handle),
         _ => Ok(false),
@@ -127,20 +138,31 @@ fn take_step<S: Store>(alloc: Global, file: &mut VmFile<S>, step: Step) -> Resul
     Ok(true)
 }
 
+// Takes steps, of which the first has a place, up to one that does not go as it says.
+fn take_from<S: Store>(
+    alloc: Global,
+    file: &mut VmFile<S>,
+    first: usize,
+    steps: &[Step],
+) -> Result<(), Mismatch> {
+    let mut place = first;
+    for step in steps {
+        match take_step(alloc, file, *step) {
+            Ok(true) => place = place.saturating_add(1),
+            Ok(false) => return Err(Mismatch::Seen(place)),
+            Err(fault) => return Err(Mismatch::Refused(place, fault)),
+        }
+    }
+    Ok(())
+}
+
 /// Takes the steps up to one that does not go as it says.
 pub(crate) fn take<S: Store>(
     alloc: Global,
     file: &mut VmFile<S>,
     steps: &[Step],
 ) -> Result<(), Mismatch> {
-    for step in steps {
-        match take_step(alloc, file, *step) {
-            Ok(true) => {}
-            Ok(false) => return Err(Mismatch::Seen(*step)),
-            Err(fault) => return Err(Mismatch::Refused(*step, fault)),
-        }
-    }
-    Ok(())
+    take_from(alloc, file, 0, steps)
 }
 
 /// The store of a file, where all that was done with it has ended well.
@@ -160,7 +182,7 @@ fn take_both<S: Store>(
     steps: &[Step],
 ) -> Result<(), Mismatch> {
     take(alloc, file, begun)?;
-    take(alloc, file, steps)
+    take_from(alloc, file, begun.len(), steps)
 }
 
 /// The store of a new document, when the steps were taken on it: some that begin it, and the others.
@@ -170,16 +192,14 @@ pub(crate) fn made<S: Store>(
     begun: &[Step],
     steps: &[Step],
 ) -> Result<S, Mismatch> {
-    let mut file = create(alloc, store).map_err(Mismatch::NoFile)?;
+    let mut file = create(alloc, store)?;
     let end = take_both(alloc, &mut file, begun, steps);
     closed(file, end)
 }
 
 /// The store of the document that it has, when the steps were taken on it.
 pub(crate) fn kept<S: Store>(alloc: Global, store: S, steps: &[Step]) -> Result<S, Mismatch> {
-    let mut file = VmFile::open(alloc, store)
-        .map_err(why)
-        .map_err(Mismatch::NoFile)?;
+    let mut file = open_in(alloc, store)?;
     let end = take(alloc, &mut file, steps);
     closed(file, end)
 }

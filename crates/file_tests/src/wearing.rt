@@ -1,4 +1,5 @@
 //! A file whose number is at its last value.
+use crate::asserting::no_other;
 use crate::calls::first_other_byte;
 use crate::example::{LENGTH, example};
 use crate::steps::Step::{
@@ -30,7 +31,7 @@ const EDITED: [Step; 10] = [
 #[test]
 fn a_worn_file_is_edited_and_not_committed(rt: HostRuntime) -> Result<(), Fail> {
     let store = read(rt.alloc(), &worn(), &EDITED)?;
-    assert_eq!(rt; first_other_byte(store.bytes(), &worn()), None);
+    no_other(&rt, first_other_byte(store.bytes(), &worn()));
     Ok(())
 }
 
