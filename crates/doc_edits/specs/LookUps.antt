@@ -71,14 +71,17 @@ IsWrongRootOf (commands.ChainSize b) d = IsWrongBlock is_raw d b.0
 IsWrongRootOf (commands.ChainEqual b other) d = IsWrongRoot d b.0 other.0
 IsWrongRootOf command d = λ fault. ⊥
 
--- What a look-up along chains comes to: the file is kept, and, if the store gives back what it has, the document as it is held from then on
--- is looked up. Where each frame has a locked block nothing changes, and the document before is.
-pub record SeesAlongChain {S : Type 0} (facts : S → StoreFacts) (old new : CacheState S) (command : Command) (reply : Reply) : Type 0 where
+-- What a look-up along chains comes to: the file is kept, and, if the store gives back what it has, the document as it
+-- is held from then on is looked up. Where each frame has a locked block nothing changes, and the document before is.
+pub record SeesAlongChain {S : Type 0} (facts : S → StoreFacts) (old new : CacheState S) (command : Command)
+    (reply : Reply) : Type 0 where
   pub keeps : KeepsBlocks facts old new
-  pub value : IsHonest facts old.disk.store → LooksUp (IsEnvironmentFault facts old.disk.store new.disk.store) (is_full old) command new.document reply
+  pub value : IsHonest facts old.disk.store
+      → LooksUp (IsEnvironmentFault facts old.disk.store new.disk.store) (is_full old) command new.document reply
   pub shut : is_full old ≡ true → (new ≡ old) × (answer_of true command old.document ≡ Some reply)
   pub refusals : (fault : Fault) → reply ≡ Refused fault
-      → IsChainRefusal (IsEnvironmentFault facts old.disk.store new.disk.store) (IsWrongRootOf command old.document) (is_full old) fault
+      → IsChainRefusal (IsEnvironmentFault facts old.disk.store new.disk.store)
+      (IsWrongRootOf command old.document) (is_full old) fault
 
 -- A chunk is looked for without the store where no body has to be read for a look-up into it, which is then refused by the rules alone.
 abbrev pub FindsInMemory : {S T : Type 0} → CacheState S → CacheState S → VmHandle → ChunkHandle → Result T Fault → Type 0

@@ -113,7 +113,8 @@ pub record AnswersLookUp {S : Type 0} (facts : S → StoreFacts) (old new : Sess
   pub sees : Sees facts (cache_of old) (cache_of new) command reply
 
 -- what a look-up along chains comes to
-pub record AnswersAlongChain {S : Type 0} (facts : S → StoreFacts) (old new : SessionState S) (command : Command) (reply : Reply) : Type 0 where
+pub record AnswersAlongChain {S : Type 0} (facts : S → StoreFacts) (old new : SessionState S) (command : Command)
+    (reply : Reply) : Type 0 where
   pub keeps : KeepsSession facts old new
   pub step : IsStep facts old new command reply
   pub sees : SeesAlongChain facts (cache_of old) (cache_of new) command reply
