@@ -1,7 +1,9 @@
--- What look-ups hand out that is no list.
-use Rattle.std.specs.Prelude.{◌≡◌, ℕ, ℤ, pos, if◌then◌else◌}
+-- What look-ups hand out that is no list, and the numbers of handles.
+use Rattle.std.specs.Prelude.{◌≡◌, ℕ, ℤ, List, map, pos, if◌then◌else◌}
 use Rattle.geos_model.specs.Refusal.{number_of_fault}
 use Rattle.geos_model.specs.Reply.{Reply, AreEqual, BlockIs, HeapIs, NumberIs, RawIs, Refused, TokenIs}
+use Rattle.geos_c.specs.declared.telling.Handles.{Handles}
+use Rattle.geos_c.specs.declared.telling.Handles.TheVariants as lists
 
 -- What a reply tells is handed out; where it is a refusal, 0, and the code is the fault's number.
 
@@ -25,3 +27,8 @@ HandsOutInfo is_heap user_id size (HeapIs uid n) code = (is_heap ≡ 1) × (user
 HandsOutInfo is_heap user_id size (Refused fault) code =
     (is_heap ≡ 0) × (user_id ≡ 0) × (size ≡ 0) × (code ≡ pos (number_of_fault fault))
 HandsOutInfo is_heap user_id size reply code = ⊥
+
+-- the handles of a list, as numbers
+abbrev pub numbers_of : Handles → List ℕ
+numbers_of (lists.Blocks handles) = map (λ h. h.0) handles.now
+numbers_of (lists.Chunks handles) = map (λ h. h.0) handles.now

@@ -1,8 +1,8 @@
 //! What look-ups answer, handed out through references; 0 where they are refused.
-ghost use Rattle.std.specs.Prelude.{◌≡◌, if◌then◌else◌, map, nat_le, pos};
+ghost use Rattle.std.specs.Prelude.{◌≡◌, if◌then◌else◌, length, nat_le, pos, slice_index};
 ghost use Rattle.geos_model.specs.Reply.{AreEqual, NumberIs, TokenIs, blocks_are, chunks_are, info_is, reply_by};
 ghost use Rattle.geos_c.specs.Codes.{HandsOut, HandsOutReply, cut_off};
-ghost use Rattle.geos_c.specs.Telling.{HandsOutEqual, HandsOutInfo, HandsOutNumber};
+ghost use Rattle.geos_c.specs.Telling.{HandsOutEqual, HandsOutInfo, HandsOutNumber, numbers_of};
 
 use crate::codes::CUT_OFF;
 use geos_model::{ChunkHandle, Fault, Info, Token, VmHandle};
@@ -22,19 +22,20 @@ pub(crate) fn tell_size(answer: Result<usize, Fault>, number: &mut usize) -> i32
     }
 }
 
+// The same answer, as wide as a number is handed out.
+fn widened(answer: Result<u32, Fault>) -> Result<usize, Fault>
+    ensures { reply_by NumberIs result ≡ reply_by NumberIs answer }
+{
+    match answer {
+        Ok(n) => Ok(n as usize),
+        Err(fault) => Err(fault),
+    }
+}
+
 pub(crate) fn tell_count(answer: Result<u32, Fault>, number: &mut usize) -> i32
     ensures { HandsOutNumber number.new (reply_by NumberIs answer) result }
 {
-    match answer {
-        Ok(n) => {
-            *number = n as usize;
-            0
-        }
-        Err(fault) => {
-            *number = 0;
-            i32::from(fault.number())
-        }
-    }
+    tell_size(widened(answer), number)
 }
 
 pub(crate) fn tell_type(answer: Result<u16, Fault>, word: &mut u16) -> i32
@@ -117,23 +118,47 @@ fn tell_length(count: usize, room: usize, length: &mut usize) -> i32
     if count <= room { 0 } else { CUT_OFF }
 }
 
-// Puts as many of the handles as fit into the buffer, and how many there are into the length.
-fn put_blocks(handles: &[VmHandle], buffer: &mut [u16], length: &mut usize) -> i32
-    ensures { HandsOut (map (λ h. h.0) handles.now) buffer.old buffer.new length.new result }
-{
-    let most = handles.len().min(buffer.len());
-    for i in 0..most {
-        buffer[i] = handles[i].0;
-    }
-    tell_length(handles.len(), buffer.len(), length)
+// The handles of blocks or of chunks, which are told alike.
+#[derive(Clone, Copy)]
+enum Handles<'a> {
+    Blocks(&'a [VmHandle]),
+    Chunks(&'a [ChunkHandle]),
 }
 
-fn put_chunks(handles: &[ChunkHandle], buffer: &mut [u16], length: &mut usize) -> i32
-    ensures { HandsOut (map (λ h. h.0) handles.now) buffer.old buffer.new length.new result }
+impl<'a> Handles<'a> {
+    fn len(&self) -> usize
+        ensures { result ≡ length (numbers_of self.now) }
+    {
+        match self {
+            Handles::Blocks(handles) => handles.len(),
+            Handles::Chunks(handles) => handles.len(),
+        }
+    }
+
+    // That of the handle at a place, 0 behind the last one.
+    fn number(&self, i: usize) -> u16
+        ensures { result ≡ slice_index (numbers_of self.now) i }
+    {
+        match self {
+            Handles::Blocks(handles) => match handles.get(i) {
+                Some(handle) => handle.0,
+                None => 0,
+            },
+            Handles::Chunks(handles) => match handles.get(i) {
+                Some(handle) => handle.0,
+                None => 0,
+            },
+        }
+    }
+}
+
+// Puts as many of the handles as fit into the buffer, and how many there are into the length.
+fn put_handles(handles: Handles, buffer: &mut [u16], length: &mut usize) -> i32
+    ensures { HandsOut (numbers_of handles.entry) buffer.old buffer.new length.new result }
 {
     let most = handles.len().min(buffer.len());
     for i in 0..most {
-        buffer[i] = handles[i].0;
+        buffer[i] = handles.number(i);
     }
     tell_length(handles.len(), buffer.len(), length)
 }
@@ -147,7 +172,7 @@ pub(crate) fn tell_blocks(
         buffer.old buffer.new length.new result }
 {
     match answer {
-        Ok(handles) => put_blocks(&handles, buffer, length),
+        Ok(handles) => put_handles(Handles::Blocks(&handles), buffer, length),
         Err(fault) => {
             *length = 0;
             i32::from(fault.number())
@@ -164,7 +189,7 @@ pub(crate) fn tell_chunks(
         buffer.old buffer.new length.new result }
 {
     match answer {
-        Ok(handles) => put_chunks(&handles, buffer, length),
+        Ok(handles) => put_handles(Handles::Chunks(&handles), buffer, length),
         Err(fault) => {
             *length = 0;
             i32::from(fault.number())
