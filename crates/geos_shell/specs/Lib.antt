@@ -10,4 +10,5 @@ pub mod Program
 pub mod Progress
 pub mod Reading
 pub mod Replies
+pub mod RunFaults
 pub mod Runs
