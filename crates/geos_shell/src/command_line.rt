@@ -120,14 +120,11 @@ fn told<'a>(matches: &ArgMatches<'a>) -> Options<'a>
     ensures said { told_by result ≡ said (rows_of (found_of matches.now)) }
     ensures cache { (1 ≤ result.cache) × (result.cache ≤ 64) }
 {
-    let Some(file) = matches.get_str("file") else {
-        unreachable!()
-    };
     Options {
         new: matches.get_flag("new"),
         cache: matches.get_one::<u8>("cache").unwrap_or(FRAMES),
         target: matches.get_str("as"),
-        file,
+        file: matches.get_str("file").unwrap(),
         manner: Manner {
             bails: matches.get_flag("bail"),
             echoes: matches.get_flag("echo"),
