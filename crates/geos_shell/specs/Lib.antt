@@ -1,5 +1,4 @@
 pub mod Files
-pub mod Given
 pub mod Help
 pub mod Holdings
 pub mod Making

@@ -1,9 +1,8 @@
 //! A run over a script: pieces are read, their lines answered, and the replies written.
-ghost use Rattle.std.specs.Prelude.{◌≡◌, ◌⊎◌, ◌<◌, [], true, IfOk, IfErr, OnOk, Err, None, Option, is_ok, length};
-ghost use Rattle.std.specs.Io.KnownBytes.{Appends, Keeps};
+ghost use Rattle.std.specs.Prelude.{◌≡◌, ◌⊎◌, [], true, IfOk, IfErr, OnOk, Err, None, Option, is_ok};
+ghost use Rattle.std.specs.Io.KnownBytes.{Appends};
 ghost use Rattle.undo_log.specs.Sessions.{IsExact};
 ghost use Rattle.geos_shell.specs.Holdings.{AreExact, Holding, holding};
-ghost use Rattle.geos_shell.specs.Given.{Gives};
 ghost use Rattle.geos_shell.specs.Manners.{plain};
 ghost use Rattle.geos_shell.specs.Runs.{AnswersAll, EndsBy, RunsTo};
 
@@ -149,44 +148,20 @@ pub fn run_in_manner<S: Store, R: Read, W: Write>(
     };
     let mut piece = [0u8; PIECE];
     for _ in 0..reads {
-        match read_piece(reader, &mut piece)? {
-            Given::Interrupted => {}
-            Given::End => {
+        match reader.read(&mut piece) {
+            Ok(0) => {
                 let ended = answering.end(alloc, manner, session, target, former);
                 return send(ended, &mut answering.replies, writer);
             }
-            Given::Bytes(count) => {
+            Ok(count) => {
                 let fed = answering.feed(alloc, manner, session, target, former, &piece[..count]);
                 send(fed, &mut answering.replies, writer)?;
             }
+            Err(error) if error.kind() == ErrorKind::Interrupted => {}
+            Err(_) => return Err(RunFault::Read),
         }
     }
     Err(RunFault::Read)
-}
-
-/// What one read gave.
-enum Given {
-    /// Nothing, since it was interrupted.
-    Interrupted,
-    /// Nothing, since the script has ended.
-    End,
-    /// So many bytes.
-    Bytes(usize),
-}
-
-/// Reads once.
-fn read_piece<R: Read>(reader: &mut R, piece: &mut [u8]) -> Result<Given, RunFault>
-    requires { 0 < length piece.old }
-    ensures ok { IfOk result (λ given. Gives (R.remaining reader.old) (R.remaining reader.new) piece.new given) }
-    ensures err { IfErr result
-        (λ fault. (fault ≡ RunFault.Read) × Keeps (R.remaining reader.old) (R.remaining reader.new)) }
-{
-    match reader.read(piece) {
-        Ok(0) => Ok(Given::End),
-        Ok(count) => Ok(Given::Bytes(count)),
-        Err(error) if error.kind() == ErrorKind::Interrupted => Ok(Given::Interrupted),
-        Err(_) => Err(RunFault::Read),
-    }
 }
 
 /// Writes the replies so far, so that they are seen before the next read, also where the run stopped in a line.
