@@ -8,7 +8,7 @@ use Rattle.geos_shell.specs.Runs.{AnswersLines, StopsBy}
 use Rattle.geos_shell.specs.Progress.{HasNoFeed, IsAnswered, IsStopped, Progress, StandsFor}
 use Rattle.geos_shell.specs.declared.runner.RunFault.{RunFault}
 use Rattle.geos_shell.specs.declared.runner.RunFault.TheVariants as faults
-use Rattle.geos_shell.specs.declared.settings.Manner.{Manner}
+use Rattle.geos_shell.specs.declared.runner.Manner.{Manner}
 use Rattle.geos_shell.proofs.Steps.{Answered-last, Progress-feed, Progress-part, Progress-some, Refused-feed, Refused-last, StopsBy-feed, StopsBy-last}
 
 module _ {S : Type 0} (facts : S → StoreFacts) (manner : Manner) (start now new : Holding S) (read kept sent old replies : List ℕ) where

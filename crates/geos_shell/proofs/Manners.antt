@@ -18,7 +18,7 @@ use Rattle.geos_shell.specs.Progress.{IsAnswered, StandsFor}
 use Rattle.geos_shell.specs.Replies.{Responds}
 use Rattle.geos_shell.specs.Runs.{AnswersLines, AnswersOf, EndsBy, RefusesRequest, replies_of}
 use Rattle.geos_shell.specs.declared.runner.RunFault.TheVariants as faults
-use Rattle.geos_shell.specs.declared.settings.Manner.{Manner}
+use Rattle.geos_shell.specs.declared.runner.Manner.{Manner}
 use Rattle.geos_shell.proofs.Composed.{AnswersOf-append, AnswersOf-asked, AnswersOf-none, AnswersOf-one, AnswersOf-unasked}
 use Rattle.geos_shell.proofs.Lines.{StandsFor-command, longest_kept-is}
 

@@ -91,11 +91,6 @@ made_4 p q r s is_kept made_by to ws result m same has =
     let means = operand_is p (λ a. with_3 q r s (to a)) (operand_then q (operand_then r (operand_then s nothing))) (λ t. to t.0 t.1.0 t.1.1.0 t.1.1.1.0) (λ a. operand_is q (λ b. with_2 r s (to a b)) (operand_then r (operand_then s nothing)) (λ t. to a t.0 t.1.0 t.1.1.0) (λ b. operand_is r (λ c. with_1 s (to a b c)) (operand_then s nothing) (λ t. to a b t.0 t.1.0) (λ c. operand_is s (λ d. with_none (to a b c d)) nothing (λ t. to a b c t.0) (λ d. nothing_is (λ _. to a b c d))))) (map (λ w. w.now) ws) in
     rw means (made is_kept made_by (λ t. to t.0 t.1.0 t.1.1.0 t.1.1.1.0) _ result m (λ t. same t.0 t.1.0 t.1.1.0 t.1.1.1.0) (λ t. has t.0 t.1.0 t.1.1.0 t.1.1.1.0))
 
--- what is made of the rows behind is what the rows from one on make, where none before them has the name
-pub behind : (from to : ℕ) (name : List ℕ) (operands : List (List ℕ)) (result : Result Command Fault) → named_from from name operands ≡ named_from to name operands
-    → ReadsAs command_has_bytes (named_from to name operands) result → ReadsAs command_has_bytes (named_from from name operands) result
-behind from to name operands result others made = subst (λ o. ReadsAs command_has_bytes o result) (sym others) made
-
 -- behind the last row there is none
 pub none_behind : (from : ℕ) (name : List ℕ) (operands : List (List ℕ)) → named_from from name operands ≡ named_from 70 name operands
     → ReadsAs command_has_bytes (named_from from name operands) (Err faults.BadCommand)

@@ -12,7 +12,7 @@ use Rattle.geos_shell.specs.Progress.{AnswersPiece, AnswersRest, Ends, GoesOver,
 use Rattle.geos_shell.specs.Runs.{AnswersAll, AnswersFinished, AnswersSome, AnswersUnsent, EndsBy, StoppedWith, StopsBy}
 use Rattle.geos_shell.specs.declared.runner.RunFault.{RunFault}
 use Rattle.geos_shell.specs.declared.runner.RunFault.TheVariants as faults
-use Rattle.geos_shell.specs.declared.settings.Manner.{Manner}
+use Rattle.geos_shell.specs.declared.runner.Manner.{Manner}
 use Rattle.geos_shell.proofs.Calls.{was_ok}
 use Rattle.geos_shell.proofs.Steps.{Progress-none, Answered-finished, StoppedWith-now}
 

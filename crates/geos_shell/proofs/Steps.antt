@@ -8,7 +8,7 @@ use Rattle.geos_shell.specs.Runs.{AnswersLines, MayServeNext, RefusesRequest, St
 use Rattle.geos_shell.specs.Progress.{HasNoFeed, StandsFor, Progress, GoesOver, Moment, StopsIn}
 use Rattle.geos_shell.specs.declared.runner.RunFault.{RunFault}
 use Rattle.geos_shell.specs.declared.runner.RunFault.TheVariants as faults
-use Rattle.geos_shell.specs.declared.settings.Manner.{Manner}
+use Rattle.geos_shell.specs.declared.runner.Manner.{Manner}
 use Rattle.geos_shell.proofs.Lines.{lines-at_feed, lines-one, lines-some, finished_lines-at_feed, finished_lines-none, HasNoFeed-append, StandsFor-command, StandsFor-none, StandsFor-some, StandsFor-trans}
 use Rattle.geos_shell.proofs.Manners.{AnswersLines-StandsFor, AnswersLines-append, AnswersLines-none, RefusesRequest-StandsFor}
 

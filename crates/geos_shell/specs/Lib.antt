@@ -1,5 +1,4 @@
 pub mod Files
-pub mod Given
 pub mod Help
 pub mod Holdings
 pub mod Making
@@ -10,4 +9,5 @@ pub mod Program
 pub mod Progress
 pub mod Reading
 pub mod Replies
+pub mod RunFaults
 pub mod Runs

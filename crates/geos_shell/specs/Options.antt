@@ -11,8 +11,8 @@ use Rattle.clap.specs.declared.builder.action.ArgAction.TheVariants.{Set, SetTru
 use Rattle.clap.specs.declared.builder.value_parser.ValueParser.TheVariants as parsers
 use Rattle.clap.specs.declared.error.kind.ErrorKind.{ErrorKind}
 use Rattle.clap.specs.declared.error.kind.ErrorKind.TheVariants.{DisplayHelp, DisplayVersion, OutOfMemory}
-use Rattle.geos_shell.specs.declared.settings.Manner.{Manner}
-use Rattle.geos_shell.specs.declared.settings.Options.{Options}
+use Rattle.geos_shell.specs.declared.runner.Manner.{Manner}
+use Rattle.geos_shell.specs.declared.program.Options.{Options}
 use Rattle.geos_shell.specs.declared.outcome.Outcome.{Outcome}
 use Rattle.geos_shell.specs.declared.outcome.Outcome.TheVariants as outcomes
 use Rattle.geos_shell.specs.declared.runner.RunFault.TheVariants as faults

@@ -6,7 +6,7 @@ use Rattle.geos_model.specs.Refusal.{number_of_fault, name_of_fault}
 use Rattle.geos_model.specs.declared.fault.Fault.{Fault}
 use Rattle.geos_model.specs.declared.fault.Fault.TheVariants.{File}
 use Rattle.geos_shell.specs.declared.runner.RunFault.{RunFault}
-use Rattle.geos_shell.specs.declared.runner.RunFault.TheVariants as faults
+use Rattle.geos_shell.specs.RunFaults.{run_fault_text}
 use Rattle.geos_shell.specs.declared.outcome.Outcome.{Outcome}
 use Rattle.geos_shell.specs.declared.outcome.Outcome.TheVariants as outcomes
 
@@ -27,10 +27,7 @@ abbrev pub fault_line : List ℕ → Fault → List ℕ
 fault_line place fault = codes "geosvm: " ++ place ++ codes " " ++ decimal (number_of_fault fault) ++ codes " " ++ name_of_fault fault ++ line_feed ∷ []
 
 abbrev pub run_line : RunFault → List ℕ
-run_line faults.Read = codes "geosvm: read fault" ++ line_feed ∷ []
-run_line faults.Write = codes "geosvm: write fault" ++ line_feed ∷ []
-run_line faults.Memory = codes "geosvm: memory" ++ line_feed ∷ []
-run_line faults.Refused = codes "geosvm: refused" ++ line_feed ∷ []
+run_line fault = codes "geosvm: " ++ run_fault_text fault ++ line_feed ∷ []
 
 -- what is written: help and the version on standard output, all else on standard error
 abbrev pub outcome_text : Outcome → List ℕ

@@ -17,7 +17,7 @@ use Rattle.geos_shell.specs.Holdings.{Holding, AreExact, holding}
 use Rattle.geos_shell.specs.Runs.{AnswersAll, EndsBy}
 use Rattle.geos_shell.specs.declared.outcome.Outcome.{Outcome}
 use Rattle.geos_shell.specs.declared.outcome.Outcome.TheVariants as outcomes
-use Rattle.geos_shell.specs.declared.settings.Manner.{Manner}
+use Rattle.geos_shell.specs.declared.runner.Manner.{Manner}
 
 -- ---- sessions
 

@@ -9,7 +9,7 @@ use Rattle.geos_shell.specs.Runs.{AnswersLines, RefusesRequest, StoppedWith, Sto
 use Rattle.geos_shell.specs.declared.answering.Answering.{Answering}
 use Rattle.geos_shell.specs.declared.runner.RunFault.{RunFault}
 use Rattle.geos_shell.specs.declared.runner.RunFault.TheVariants as faults
-use Rattle.geos_shell.specs.declared.settings.Manner.{Manner}
+use Rattle.geos_shell.specs.declared.runner.Manner.{Manner}
 
 -- ---- one line
 

@@ -9,7 +9,7 @@ use Rattle.geos_model.specs.declared.fault.Fault.{Fault}
 use Rattle.vm_store.specs.Facts.{StoreFacts, last_count}
 use Rattle.geos_shell.specs.Holdings.{Holding, AreExact, MayServe, ServesRequest, Serving, machine}
 use Rattle.geos_shell.specs.Manners.{is_refusal, lead, written_of}
-use Rattle.geos_shell.specs.declared.settings.Manner.{Manner}
+use Rattle.geos_shell.specs.declared.runner.Manner.{Manner}
 use Rattle.geos_shell.specs.declared.runner.RunFault.{RunFault}
 use Rattle.geos_shell.specs.declared.runner.RunFault.TheVariants as faults
 

@@ -7,14 +7,14 @@ ghost use Rattle.geos_shell.specs.Progress.{Ends, GoesOver, HasNoFeed, IsAnswere
 ghost use Rattle.geos_shell.specs.Replies.{Extends, Responds};
 
 use crate::replies::answer_line;
-use crate::runner::RunFault;
-use crate::settings::Manner;
+use crate::runner::{Manner, RunFault};
 use bstr::ByteSlice;
 use std::alloc::{AllocError, Global};
 use undo_log::Session;
 use vm_store::Store;
 
-/// How many bytes of a line are kept, and echoed. One that is longer than the longest command is a bad one whatever it holds.
+/// How many bytes of a line are kept, and echoed. One that is longer than the longest command is a bad one whatever it
+/// holds.
 const LONGEST_KEPT: usize = 140_001;
 
 /// What is kept of a script that is being answered, between two pieces of it.
@@ -176,6 +176,5 @@ fn keep(begun: &mut Vec<u8>, part: &[u8]) -> Result<(), AllocError>
     ensures bounded { length begun.old.items ≤ LONGEST_KEPT → length begun.new.items ≤ LONGEST_KEPT }
 {
     let room = LONGEST_KEPT.saturating_sub(begun.len());
-    let most = part.len().min(room);
-    begun.extend_from_slice(&part[..most])
+    begun.extend_from_slice(&part[..part.len().min(room)])
 }

@@ -6,8 +6,8 @@ ghost use Rattle.geos_shell.specs.Options.{IsMatched, IsUsable, RefusesWords, Tu
 
 use crate::commands::command_list;
 use crate::outcome::Outcome;
-use crate::runner::RunFault;
-use crate::settings::{Manner, Options};
+use crate::program::Options;
+use crate::runner::{Manner, RunFault};
 use clap::error::ErrorKind;
 use clap::{Arg, ArgAction, ArgMatches, Command, Error, value_parser};
 use geos_model::Bytes;
@@ -120,14 +120,11 @@ fn told<'a>(matches: &ArgMatches<'a>) -> Options<'a>
     ensures said { told_by result ≡ said (rows_of (found_of matches.now)) }
     ensures cache { (1 ≤ result.cache) × (result.cache ≤ 64) }
 {
-    let Some(file) = matches.get_str("file") else {
-        unreachable!()
-    };
     Options {
         new: matches.get_flag("new"),
         cache: matches.get_one::<u8>("cache").unwrap_or(FRAMES),
         target: matches.get_str("as"),
-        file,
+        file: matches.get_str("file").unwrap(),
         manner: Manner {
             bails: matches.get_flag("bail"),
             echoes: matches.get_flag("echo"),
@@ -139,15 +136,12 @@ fn told<'a>(matches: &ArgMatches<'a>) -> Options<'a>
 fn outcome_of(alloc: Global, error: &Error) -> Outcome
     ensures { TurnsInto (kind_of error.now) result }
 {
-    let kind = error.kind();
-    if kind == ErrorKind::OutOfMemory {
-        return Outcome::Run(RunFault::Memory);
-    }
     let Ok(text) = error.to_string(alloc) else {
         return Outcome::Run(RunFault::Memory);
     };
     let text = Bytes::from_vec(text.into_bytes());
-    match kind {
+    match error.kind() {
+        ErrorKind::OutOfMemory => Outcome::Run(RunFault::Memory),
         ErrorKind::DisplayHelp => Outcome::Help(text),
         ErrorKind::DisplayVersion => Outcome::Version(text),
         _ => Outcome::Usage(text),

@@ -11,15 +11,12 @@ mod parser;
 mod program;
 mod replies;
 mod runner;
-mod settings;
 mod shapes;
 mod text;
-mod verbs;
 
 pub use command_line::options;
 pub use outcome::Outcome;
 pub use parser::parse;
-pub use program::serve;
+pub use program::{Options, serve};
 pub use replies::answer_line;
-pub use runner::{RunFault, run, run_in, run_in_manner, run_in_reads};
-pub use settings::{Manner, Options};
+pub use runner::{Manner, RunFault, run, run_in, run_in_manner};

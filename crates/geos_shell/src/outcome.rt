@@ -54,10 +54,7 @@ impl Outcome {
             Outcome::Create(fault) => write_fault(writer, "create", *fault),
             Outcome::Open(fault) => write_fault(writer, "open", *fault),
             Outcome::Target => write_fault(writer, "target", Fault::File),
-            Outcome::Run(RunFault::Read) => writer.write_all(b"geosvm: read fault\n"),
-            Outcome::Run(RunFault::Write) => writer.write_all(b"geosvm: write fault\n"),
-            Outcome::Run(RunFault::Memory) => writer.write_all(b"geosvm: memory\n"),
-            Outcome::Run(RunFault::Refused) => writer.write_all(b"geosvm: refused\n"),
+            Outcome::Run(fault) => writeln!(writer, "geosvm: {fault}"),
             Outcome::Done => Ok(()),
         }
     }

@@ -4,7 +4,7 @@ ghost use Rattle.geos_model.specs.Script.{command};
 ghost use Rattle.geos_model.specs.Script as script;
 ghost use Rattle.geos_shell.specs.Reading.{ReadsAs, command_has_bytes, putting};
 
-use crate::verbs::command_of;
+use crate::commands::command_of;
 use arrayvec::ArrayVec;
 use geos_model::{Command, Fault};
 use memchr::memchr3;
@@ -28,10 +28,8 @@ pub fn parse(alloc: Global, line: &[u8]) -> Result<Command, Fault>
         ⊎ ((fault ≡ Fault.Memory) × IsSomeAnd (command line.now) (λ c. IsTrue (command_has_bytes c)))) }
 {
     let mut command = Command::Blank;
-    match read_command(alloc, &mut command, line) {
-        Ok(()) => Ok(command),
-        Err(fault) => Err(fault),
-    }
+    read_command(alloc, &mut command, line)?;
+    Ok(command)
 }
 
 /// Puts the command that a line is in its place, as `parse` gives it.
@@ -75,7 +73,8 @@ fn run_of(blank: bool, text: &[u8]) -> usize
         .unwrap_or(text.len())
 }
 
-/// How many bytes at the front are no blanks. A search by vectors costs more than a few bytes one by one, and less than many.
+/// How many bytes at the front are no blanks. A search by vectors costs more than a few bytes one by one, and less than
+/// many.
 #[inline(always)]
 fn word_len(text: &[u8]) -> usize
     ensures within { result ≤ length text.now }

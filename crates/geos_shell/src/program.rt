@@ -7,14 +7,28 @@ ghost use Rattle.geos_shell.specs.Holdings.{holding};
 
 use crate::command_line::options;
 use crate::outcome::Outcome;
-use crate::runner::{READS, run_in_manner};
-use crate::settings::{Manner, Options};
+use crate::runner::{Manner, READS, run_in_manner};
 use geos_model::Fault;
 use std::alloc::Global;
 use std::convert::AsStr;
 use std::io::{Read, Write};
 use undo_log::Session;
-use vm_store::{Files, Store, StoreFault};
+use vm_store::{Files, StoreFault};
+
+/// What the words of a command line ask for. The names are as they were given.
+#[derive(Clone, Copy, Debug, PartialEq, Eq)]
+pub struct Options<'a> {
+    /// The file is made, or made anew; else it must be there.
+    pub new: bool,
+    /// How many frames the cache has, 1 to 64.
+    pub cache: u8,
+    /// The file that a save-as writes, if there is one.
+    pub target: Option<&'a str>,
+    /// The file of the document.
+    pub file: &'a str,
+    /// How the script is run.
+    pub manner: Manner,
+}
 
 /// Runs the program on the words of a command line, of which the first is its name: it opens the files that they name, answers
 /// the script that the reader gives, closes the files, and tells what that came to.
@@ -41,11 +55,7 @@ pub fn serve<'a, F: Files, T: AsStr, R: Read, W: Write>(
 }
 
 /// A session, and a target if there is one.
-#[derive(Drop)]
-struct Begun<S: Store> {
-    session: Session<S>,
-    target: Option<S>,
-}
+type Begun<S> = (Session<S>, Option<S>);
 
 /// Opens what a command line names, and begins a session on FILE.
 fn begin<F: Files>(
@@ -57,7 +67,7 @@ fn begin<F: Files>(
     ensures ok { IfOk result
         (λ begun. FromFile F.calls (told_by options.entry) files.old
         (λ store opened. BeginsSession F.calls F.Opened.facts
-        (told_by options.entry) store opened begun.session begun.target files.new)) }
+        (told_by options.entry) store opened begun.0 begun.1 files.new)) }
     ensures err { IfErr result (IsNotBegun F.calls F.Opened.facts (told_by options.entry) files.old files.new) }
 {
     match open_file(files, options) {
@@ -99,7 +109,7 @@ fn create<F: Files>(
     requires new { options.new ≡ true }
     ensures ok { IfOk result
         (λ begun. BeginsSession F.calls F.Opened.facts
-        (told_by options.entry) store files.old begun.session begun.target files.new) }
+        (told_by options.entry) store files.old begun.0 begun.1 files.new) }
     ensures err { IfErr result (IsGivenUp F.calls F.Opened.facts (told_by options.entry) store files.old files.new) }
 {
     let Ok(target) = open_target(files, options) else {
@@ -107,7 +117,7 @@ fn create<F: Files>(
         return Err(Outcome::Target);
     };
     match Session::create(alloc, store, usize::from(options.cache)) {
-        Ok(session) => Ok(Begun { session, target }),
+        Ok(session) => Ok((session, target)),
         Err(refused) => {
             files.close(refused.store);
             close_any(files, target);
@@ -127,7 +137,7 @@ fn open<F: Files>(
     requires old { options.new ≡ false }
     ensures ok { IfOk result
         (λ begun. BeginsSession F.calls F.Opened.facts
-        (told_by options.entry) store files.old begun.session begun.target files.new) }
+        (told_by options.entry) store files.old begun.0 begun.1 files.new) }
     ensures err { IfErr result (IsGivenUp F.calls F.Opened.facts (told_by options.entry) store files.old files.new) }
 {
     let session = match Session::open(alloc, store, usize::from(options.cache)) {
@@ -138,7 +148,7 @@ fn open<F: Files>(
         }
     };
     match open_target(files, options) {
-        Ok(target) => Ok(Begun { session, target }),
+        Ok(target) => Ok((session, target)),
         Err(_) => {
             files.close(session.close());
             Err(Outcome::Target)
@@ -155,13 +165,10 @@ fn answer<F: Files, R: Read, W: Write>(
     reader: &mut R,
     writer: &mut W,
 ) -> Outcome
-    ensures { IsScriptAnswered F.calls F.Opened.facts manner (holding begun.session begun.target None) files.old files.new
+    ensures { IsScriptAnswered F.calls F.Opened.facts manner (holding begun.0 begun.1 None) files.old files.new
         (R.remaining reader.old) (R.remaining reader.new) (W.contents writer.old) (W.contents writer.new) result }
 {
-    let Begun {
-        mut session,
-        mut target,
-    } = begun;
+    let (mut session, mut target) = begun;
     let mut old = None;
     let ended = run_in_manner(
         alloc,

@@ -1,14 +1,12 @@
 //! A run over a script: pieces are read, their lines answered, and the replies written.
-ghost use Rattle.std.specs.Prelude.{◌≡◌, ◌⊎◌, ◌<◌, [], true, IfOk, IfErr, OnOk, Err, None, Option, is_ok, length};
-ghost use Rattle.std.specs.Io.KnownBytes.{Appends, Keeps};
+ghost use Rattle.std.specs.Prelude.{◌≡◌, ◌⊎◌, [], true, IfOk, IfErr, OnOk, Err, None, Option, is_ok};
+ghost use Rattle.std.specs.Io.KnownBytes.{Appends};
 ghost use Rattle.undo_log.specs.Sessions.{IsExact};
 ghost use Rattle.geos_shell.specs.Holdings.{AreExact, Holding, holding};
 ghost use Rattle.geos_shell.specs.Manners.{plain};
 ghost use Rattle.geos_shell.specs.Runs.{AnswersAll, EndsBy, RunsTo};
-ghost use Rattle.geos_shell.specs.Given.{Gives};
 
 use crate::answering::Answering;
-use crate::settings::Manner;
 use std::alloc::{AllocError, Global};
 use std::fmt;
 use std::io::{ErrorKind, Read, Write};
@@ -21,11 +19,14 @@ const PIECE: usize = 4_096;
 /// How many reads a run makes at most, so that it ends with any reader.
 pub(crate) const READS: u32 = 1 << 24;
 
-/// A run goes to its script's end, and writes nothing but replies.
-const PLAIN: Manner = Manner {
-    bails: false,
-    echoes: false,
-};
+/// How a script is run. A plain run goes to its script's end, and writes nothing but replies.
+#[derive(Clone, Copy, Debug, Default, PartialEq, Eq)]
+pub struct Manner {
+    /// The run ends behind the first refusal.
+    pub bails: bool,
+    /// Each line is written before its reply.
+    pub echoes: bool,
+}
 
 /// Why a run ended before its script did.
 #[derive(Clone, Copy, Debug, PartialEq, Eq)]
@@ -41,12 +42,17 @@ pub enum RunFault {
 }
 
 impl fmt::Display for RunFault {
+    ghost use Rattle.std.specs.Prelude.{Some};
+    ghost use Rattle.geos_shell.specs.RunFaults.{run_fault_text};
+
+    ghost output = { λ fault. Some (run_fault_text fault) };
+
     fn fmt<W: fmt::Write>(&self, f: &mut fmt::Formatter<W>) -> fmt::Result {
         match self {
-            RunFault::Read => write!(f, "read fault"),
-            RunFault::Write => write!(f, "write fault"),
-            RunFault::Memory => write!(f, "memory"),
-            RunFault::Refused => write!(f, "refused"),
+            RunFault::Read => f.write_str("read fault"),
+            RunFault::Write => f.write_str("write fault"),
+            RunFault::Memory => f.write_str("memory"),
+            RunFault::Refused => f.write_str("refused"),
         }
     }
 }
@@ -114,29 +120,14 @@ pub fn run_in<S: Store, R: Read, W: Write>(
         (R.remaining reader.new) (W.contents writer.old) (W.contents writer.new)
         (holding session.new target.new former.new) }
 {
-    run_in_reads(alloc, session, target, former, reader, writer, READS)
+    let plain = Manner::default();
+    run_in_manner(alloc, plain, session, target, former, reader, writer, READS)
 }
 
-/// Answers a script as `run_in` does, in so many reads at most: a reader that hasn't ended after them has failed.
-pub fn run_in_reads<S: Store, R: Read, W: Write>(
-    alloc: Global,
-    session: &mut Session<S>,
-    target: &mut Option<S>,
-    former: &mut Option<S>,
-    reader: &mut R,
-    writer: &mut W,
-    reads: u32,
-) -> Result<(), RunFault>
-    ensures { RunsTo result S.facts plain (holding session.old target.old former.old) (R.remaining reader.old)
-        (R.remaining reader.new) (W.contents writer.old) (W.contents writer.new)
-        (holding session.new target.new former.new) }
-{
-    run_in_manner(alloc, PLAIN, session, target, former, reader, writer, reads)
-}
-
-/// Answers a script as `run_in_reads` does, in a manner of the caller's. Where lines are echoed, the line and a line feed go before
-/// its reply; of a line of more than 140,001 bytes, which is no command, so many. A run that bails ends by `Refused` behind the first
-/// reply that is a refusal, and carries out nothing further, whatever else was read.
+/// Answers a script as `run_in` does, in a manner of the caller's, and in so many reads at most: a reader that hasn't ended after
+/// them has failed. Where lines are echoed, the line and a line feed go before its reply; of a line of more than 140,001 bytes, which
+/// is no command, so many. A run that bails ends by `Refused` behind the first reply that is a refusal, and carries out nothing
+/// further, whatever else was read.
 pub fn run_in_manner<S: Store, R: Read, W: Write>(
     alloc: Global,
     manner: Manner,
@@ -157,44 +148,20 @@ pub fn run_in_manner<S: Store, R: Read, W: Write>(
     };
     let mut piece = [0u8; PIECE];
     for _ in 0..reads {
-        match read_piece(reader, &mut piece)? {
-            Given::Interrupted => {}
-            Given::End => {
+        match reader.read(&mut piece) {
+            Ok(0) => {
                 let ended = answering.end(alloc, manner, session, target, former);
                 return send(ended, &mut answering.replies, writer);
             }
-            Given::Bytes(count) => {
+            Ok(count) => {
                 let fed = answering.feed(alloc, manner, session, target, former, &piece[..count]);
                 send(fed, &mut answering.replies, writer)?;
             }
+            Err(error) if error.kind() == ErrorKind::Interrupted => {}
+            Err(_) => return Err(RunFault::Read),
         }
     }
     Err(RunFault::Read)
-}
-
-/// What one read gave.
-enum Given {
-    /// Nothing, since it was interrupted.
-    Interrupted,
-    /// Nothing, since the script has ended.
-    End,
-    /// So many bytes.
-    Bytes(usize),
-}
-
-/// Reads once.
-fn read_piece<R: Read>(reader: &mut R, piece: &mut [u8]) -> Result<Given, RunFault>
-    requires { 0 < length piece.old }
-    ensures ok { IfOk result (λ given. Gives (R.remaining reader.old) (R.remaining reader.new) piece.new given) }
-    ensures err { IfErr result
-        (λ fault. (fault ≡ RunFault.Read) × Keeps (R.remaining reader.old) (R.remaining reader.new)) }
-{
-    match reader.read(piece) {
-        Ok(0) => Ok(Given::End),
-        Ok(count) => Ok(Given::Bytes(count)),
-        Err(error) if error.kind() == ErrorKind::Interrupted => Ok(Given::Interrupted),
-        Err(_) => Err(RunFault::Read),
-    }
 }
 
 /// Writes the replies so far, so that they are seen before the next read, also where the run stopped in a line.

@@ -1,5 +1,5 @@
-//! What so many words make, where each spells an operand. It is put in a place that the caller lends, since each return of a value
-//! as long as a command costs a copy of it.
+//! What so many words make, where each spells an operand. It is put in a place that the caller lends, since each return of
+//! a value as long as a command costs a copy of it.
 ghost use Rattle.std.specs.Prelude.{◌≡◌, map, false};
 ghost use Rattle.geos_model.specs.declared.command.Command.{Command};
 ghost use Rattle.geos_model.specs.declared.command.Command.TheVariants as commands;

@@ -38,13 +38,8 @@ fn push_hex(out: &mut Vec<u8>, bytes: &[u8]) -> Result<(), AllocError>
     ensures err { OnErr result (Extends out.old.items out.new.items) }
 {
     let start = out.len();
-    let Some(end) = bytes
-        .len()
-        .checked_mul(2)
-        .and_then(|digits| start.checked_add(digits))
-    else {
-        return Err(AllocError);
-    };
+    let digits = bytes.len().checked_mul(2).ok_or(AllocError)?;
+    let end = start.checked_add(digits).ok_or(AllocError)?;
     out.resize(end, 0)?;
     hex::encode_to_slice(bytes, &mut out[start..]).unwrap();
     Ok(())

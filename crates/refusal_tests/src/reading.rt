@@ -2,7 +2,7 @@
 use crate::driver::Driver;
 use crate::running::{Lent, Script, ended_by, is_led_to, lend, what_is_left};
 use crate::scenarios::{SCENARIOS, Scenario};
-use geos_shell::{RunFault, run_in, run_in_reads};
+use geos_shell::{Manner, RunFault, run_in, run_in_manner};
 use std::alloc::Global;
 use std::io::{self, ErrorKind, Read};
 use std::test::Fail;
@@ -129,8 +129,9 @@ fn stopped(
     reads: u32,
 ) -> Result<Vec<u8>, Fail> {
     let mut written = Vec::new(alloc);
-    let end = run_in_reads(
+    let end = run_in_manner(
         alloc,
+        Manner::default(),
         &mut lent.session,
         &mut lent.target,
         &mut lent.former,

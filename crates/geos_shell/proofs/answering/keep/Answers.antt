@@ -10,4 +10,4 @@ returns-clause-ok c =
     let old = c.args.begun.now in
     let room = c.saturating_sub-room.result in
     let wide : 140000 < length old.items + room = omega (arith, old.ok.0, c.len.ensures, c.saturating_sub-room.ensures) in
-    on_ok_weaker c.extend_from_slice.result (λ e. rw e (StandsFor-front old.items c.args.part.now room c.min-most.result wide c.min-most.ensures)) (on_ok_if c.extend_from_slice.result _ _ _ c.extend_from_slice.ensures.items)
+    on_ok_weaker c.extend_from_slice.result (λ e. rw e (StandsFor-front old.items c.args.part.now room c.min.result wide c.min.ensures)) (on_ok_if c.extend_from_slice.result _ _ _ c.extend_from_slice.ensures.items)

@@ -10,5 +10,5 @@ returns-in-Ok-begin g c =
       told_by c.in-Ok.options,
       c.in-Ok.ensures.ok.0,
       c.in-Ok.ensures.ok.1,
-      inr (record { begun = c.begin.new.files; session = begun.session; target = begun.target; begins = c.in-Ok-begin.ensures.ok; answers = c.answer.ensures }),
+      inr (record { begun = c.begin.new.files; session = begun.0; target = begun.1; begins = c.in-Ok-begin.ensures.ok; answers = c.answer.ensures }),
     )

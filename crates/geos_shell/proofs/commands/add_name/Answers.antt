@@ -3,7 +3,7 @@ use Rattle.std.proofs.lemmas.Bool.Decides.{nat_tests}
 use Rattle.std.proofs.lemmas.Result.{err_from_is_err_and}
 use Rattle.geos_shell.proofs.AddingNames.{all_five, no_chunk, no_flag, no_name, no_part, not_five, some_of}
 use Rattle.geos_shell.proofs.Parses.{spelled, unspelled}
-use Rattle.geos_shell.proofs.verbs.add_name.Goals as goal
+use Rattle.geos_shell.proofs.commands.add_name.Goals as goal
 
 -- There are fewer words than five, or more.
 pub returns-in_default : goal.returns-in_default
