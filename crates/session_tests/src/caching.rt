@@ -36,11 +36,11 @@ pub(crate) const EDIT: &str = "vwrite 0001 0 61 = ok";
 
 // Whether the first block is in memory alone, or else the other one.
 fn is_first_alone(session: &Fused) -> Result<bool, Fail> {
-    match (session.is_resident(BLOCK), session.is_resident(OTHER)) {
-        (true, false) => Ok(true),
-        (false, true) => Ok(false),
-        _ => Err(Fail::new("none of the blocks is in memory, or both are")),
+    let is_first = session.is_resident(BLOCK);
+    if is_first == session.is_resident(OTHER) {
+        return Err(Fail::new("none of the blocks is in memory, or both are"));
     }
+    Ok(is_first)
 }
 
 // Takes a step while the other block is in memory, and reads that again. Returns whether the step brings the first one in.
@@ -66,14 +66,16 @@ fn first_lost(alloc: Global, session: &mut Fused) -> Result<Option<&'static str>
     Ok(None)
 }
 
+fn lost_step(alloc: Global) -> Result<Option<&'static str>, Fail> {
+    let mut session = create_in(alloc, fused(alloc, u64::MAX, false), 1)?;
+    first_lost(alloc, &mut session)
+}
+
 #[test]
 fn a_block_is_in_memory_behind_an_edit_of_it_an_undo_and_a_redo(
     rt: HostRuntime,
 ) -> Result<(), Fail> {
-    let alloc = rt.alloc();
-    let mut session = create_in(alloc, fused(alloc, u64::MAX, false), 1)?;
-    let lost = first_lost(alloc, &mut session);
-    assert_eq!(rt; lost?, None);
+    assert!(rt; lost_step(rt.alloc())?.is_none());
     Ok(())
 }
 

@@ -18,7 +18,7 @@ pub(crate) type Byte = Option<u8>;
 pub(crate) type Fused = Session<FuseStore<MemStore>>;
 
 /// The updated and the saved document of a file.
-#[derive(Clone, Copy, Debug, PartialEq, Eq)]
+#[derive(Clone, Copy, PartialEq, Eq)]
 pub(crate) struct Pair {
     pub(crate) updated: Byte,
     pub(crate) saved: Byte,
@@ -187,9 +187,25 @@ fn pair_of(session: &mut Session<MemStore>) -> Result<Pair, Fault> {
 }
 
 /// The documents of a file.
-pub(crate) fn pair_in(alloc: Global, bytes: &[u8]) -> Result<Pair, Fault> {
+fn pair_in(alloc: Global, bytes: &[u8]) -> Result<Pair, Fault> {
     let mut session = open(alloc, bytes)?;
     pair_of(&mut session)
+}
+
+/// Whether these are the documents of a file.
+pub(crate) fn has_pair(alloc: Global, file: &MemStore, pair: Pair) -> Result<bool, Fault> {
+    Ok(pair_in(alloc, file.bytes())? == pair)
+}
+
+/// The documents of a file that a crash leaves which keeps so many writes, and has this in place of those that are lost.
+pub(crate) fn left_by_crash(
+    alloc: Global,
+    store: &MemStore,
+    keep: usize,
+    fill: u8,
+) -> Result<Pair, Fault> {
+    let file = store.crashed(keep, fill)?;
+    pair_in(alloc, file.bytes())
 }
 
 /// Whether the store has had no more writes since the last sync, so that a crash that keeps so many keeps all.

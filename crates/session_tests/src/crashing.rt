@@ -1,5 +1,5 @@
 //! What a crash leaves while the store fails: the documents last acknowledged, or those of the commit tried next.
-use crate::calls::{Byte, Pair, answer, are_all, create, fused, pair_in};
+use crate::calls::{Byte, Pair, answer, are_all, create, fused, left_by_crash};
 use dialogues::Mismatch;
 use geos_model::Fault;
 use std::alloc::Global;
@@ -72,7 +72,7 @@ fn may_be_left(left: Pair, commits: usize) -> bool {
 fn wrongly_left(alloc: Global, store: &MemStore, commits: usize) -> Result<Option<Pair>, Fault> {
     for keep in 0..=MOST_PENDING {
         for fill in [0, 1, 255] {
-            let left = pair_in(alloc, store.crashed(keep, fill)?.bytes())?;
+            let left = left_by_crash(alloc, store, keep, fill)?;
             if !may_be_left(left, commits) {
                 return Ok(Some(left));
             }
@@ -81,19 +81,35 @@ fn wrongly_left(alloc: Global, store: &MemStore, commits: usize) -> Result<Optio
     Ok(None)
 }
 
+// Whether crashes that keep that many writes keep all, and each leaves what it may.
+fn are_left(alloc: Global, store: &MemStore, commits: usize) -> Result<bool, Fault> {
+    Ok(are_all(store, MOST_PENDING)? && wrongly_left(alloc, store, commits)?.is_none())
+}
+
+// Looks at what each crash leaves of a store that fails after so many calls. Returns whether all commits were acknowledged.
+fn is_left(alloc: Global, passes: u64) -> Result<bool, Fail> {
+    let (store, commits) = played(alloc, passes)?;
+    if are_left(alloc, store.inner(), commits)? {
+        return Ok(commits == 4);
+    }
+    Err(Fail::new("there are more writes, or a crash leaves other documents"))
+}
+
+// How many calls the store gets that fails after so many, and how many commits are acknowledged.
+fn calls_and_commits(alloc: Global, passes: u64) -> Result<(u64, usize), Fail> {
+    let (store, commits) = played(alloc, passes)?;
+    Ok((store.calls(), commits))
+}
+
 #[test]
 fn a_crash_of_a_failing_store_leaves_the_last_documents_or_the_next(
     rt: HostRuntime,
 ) -> Result<(), Fail> {
-    let alloc = rt.alloc();
-    let (whole, done) = played(alloc, u64::MAX)?;
-    assert_eq!(rt; done, 4);
-    for passes in MAKING..=whole.calls() {
-        let (store, commits) = played(alloc, passes)?;
-        assert!(rt; are_all(store.inner(), MOST_PENDING)?);
-        assert_eq!(rt; commits == 4, passes == whole.calls());
-        let wrong = wrongly_left(alloc, store.inner(), commits)?;
-        assert_eq!(rt; wrong, None, "after {passes} calls");
+    let (calls, done) = calls_and_commits(rt.alloc(), u64::MAX)?;
+    assert!(rt; done == 4);
+    for passes in MAKING..=calls {
+        let is_done = is_left(rt.alloc(), passes)?;
+        assert!(rt; is_done == (passes == calls), "after {passes} calls");
     }
     Ok(())
 }

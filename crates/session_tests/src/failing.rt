@@ -1,8 +1,10 @@
 //! A call of the store that fails once.
 use crate::calls::{
-    FRAMES, Fused, answer, both, create, create_in, expect_replies, fused, made, pair_in,
+    FRAMES, Fused, answer, both, create, create_in, expect_replies, fused, has_pair, left_by_crash,
+    made,
 };
 use dialogues::Mismatch;
+use geos_model::Fault;
 use std::alloc::Global;
 use std::test::Fail;
 use vm_store::{FuseStore, MemStore};
@@ -51,8 +53,40 @@ fn asked(alloc: Global, session: &mut Fused, questions: &str) -> Result<(Vec<u8>
     Ok((second, differ))
 }
 
-// Gives a command, and if it is refused since the store failed, gives it again. Returns whether it was, or a question before it. A
-// refusal changes nothing.
+// Whether the questions are answered so.
+fn is_as_before(
+    alloc: Global,
+    session: &mut Fused,
+    questions: &str,
+    before: &[u8],
+) -> Result<bool, Fail> {
+    let (after, _) = asked(alloc, session, questions)?;
+    Ok(after.as_slice() == before)
+}
+
+// Gives a command, and if it is refused since the store failed, gives it again. Returns whether it was. A refusal changes nothing: the
+// questions are answered as before.
+fn give_twice(
+    alloc: Global,
+    session: &mut Fused,
+    questions: &str,
+    before: &[u8],
+    command: &str,
+    reply: &str,
+) -> Result<bool, Fail> {
+    if is_answered(alloc, session, command, reply)? {
+        return Ok(false);
+    }
+    if !is_as_before(alloc, session, questions, before)? {
+        return Err(Fail::new("a refused command changed something"));
+    }
+    if !is_answered(alloc, session, command, reply)? {
+        return Err(Fail::new("a command is refused again"));
+    }
+    Ok(true)
+}
+
+// The same. Returns whether the command was refused, or a question before it, of which not both can be.
 fn give(
     alloc: Global,
     session: &mut Fused,
@@ -61,17 +95,13 @@ fn give(
     reply: &str,
 ) -> Result<bool, Fail> {
     let (before, is_refused) = asked(alloc, session, questions)?;
-    if is_answered(alloc, session, command, reply)? {
-        return Ok(is_refused);
+    match give_twice(alloc, session, questions, &before, command, reply) {
+        Ok(is_given_again) if is_given_again && is_refused => {
+            Err(Fail::new("a command is refused behind a question"))
+        }
+        Ok(is_given_again) => Ok(is_given_again || is_refused),
+        Err(fail) => Err(fail),
     }
-    let (after, _) = asked(alloc, session, questions)?;
-    if is_refused || before.as_slice() != after.as_slice() {
-        return Err(Fail::new("a refused command changed something"));
-    }
-    if !is_answered(alloc, session, command, reply)? {
-        return Err(Fail::new("a command is refused again"));
-    }
-    Ok(true)
 }
 
 // Gives each command. Returns how many were refused.
@@ -92,15 +122,25 @@ fn given(alloc: Global, passes: u64) -> Result<(u32, FuseStore<MemStore>), Fail>
     Ok((refusals?, store))
 }
 
+// How many commands are refused, and how many calls the store gets.
+fn refusals_and_calls(alloc: Global, passes: u64) -> Result<(u32, u64), Fail> {
+    let (refusals, store) = given(alloc, passes)?;
+    Ok((refusals, store.calls()))
+}
+
+// Whether one command is refused, and the file has the last byte that was saved.
+fn is_refused_once(alloc: Global, passes: u64) -> Result<bool, Fail> {
+    let (refusals, store) = given(alloc, passes)?;
+    Ok(refusals == 1 && has_pair(alloc, store.inner(), both(0x62))?)
+}
+
 #[test]
 fn a_store_call_that_fails_is_told_and_changes_nothing(rt: HostRuntime) -> Result<(), Fail> {
-    let alloc = rt.alloc();
-    let (refusals, whole) = given(alloc, u64::MAX)?;
-    assert_eq!(rt; refusals, 0);
-    for passes in MAKING..whole.calls() {
-        let (refusals, store) = given(alloc, passes)?;
-        assert_eq!(rt; refusals, 1, "after {passes} calls");
-        assert_eq!(rt; pair_in(alloc, store.inner().bytes())?, both(0x62));
+    let (refusals, calls) = refusals_and_calls(rt.alloc(), u64::MAX)?;
+    assert!(rt; refusals == 0);
+    for passes in MAKING..calls {
+        let is_once = is_refused_once(rt.alloc(), passes)?;
+        assert!(rt; is_once, "after {passes} calls");
     }
     Ok(())
 }
@@ -145,20 +185,25 @@ fn is_refused_first(alloc: Global, passes: u64) -> Result<bool, Fail> {
     come_back(alloc, &mut session)
 }
 
-// The store calls up to the freed chain, and up to its coming back.
-fn calls_of_a_chain(alloc: Global) -> Result<(u64, u64), Fail> {
-    let freed = made(alloc, fused(alloc, u64::MAX, false), 1, &[FREED])?;
+// The store calls up to the freed chain.
+fn calls_of_freeing(alloc: Global) -> Result<u64, Mismatch> {
+    Ok(made(alloc, fused(alloc, u64::MAX, false), 1, &[FREED])?.calls())
+}
+
+// The store calls up to its coming back.
+fn calls_of_coming_back(alloc: Global) -> Result<u64, Fail> {
     let mut session = create_in(alloc, fused(alloc, u64::MAX, false), 1)?;
-    let is_refused = free_and_undo(alloc, &mut session);
-    let store = session.close();
-    is_refused?;
-    Ok((freed.calls(), store.calls()))
+    let end = free_and_undo(alloc, &mut session);
+    let calls = session.close().calls();
+    end?;
+    Ok(calls)
 }
 
 #[test]
 fn a_freed_chain_comes_back_whichever_call_fails(rt: HostRuntime) -> Result<(), Fail> {
     let alloc = rt.alloc();
-    let (freed, back) = calls_of_a_chain(alloc)?;
+    let freed = calls_of_freeing(alloc)?;
+    let back = calls_of_coming_back(alloc)?;
     assert!(rt; freed < back);
     for passes in freed..back {
         assert!(rt; is_refused_first(alloc, passes)?, "after {passes} calls");
@@ -188,29 +233,32 @@ fn with_a_failed_sync(alloc: Global, last: &str) -> Result<FuseStore<MemStore>, 
     saved(alloc, calls.saturating_sub(1), "save = no 2 File", last)
 }
 
+const REVERTED: &str = "vwrite 0001 0 62 = ok
+    revert = ok
+    vread 0001 = bytes 00
+    undos = number 0";
+
+// Whether the file has 00 when it is reverted behind that.
+fn is_reverted(alloc: Global) -> Result<bool, Fail> {
+    let store = with_a_failed_sync(alloc, REVERTED)?;
+    Ok(has_pair(alloc, store.inner(), both(0))?)
+}
+
 #[test]
 fn a_save_whose_last_sync_fails_is_refused_and_the_next_commits_are_done(
     rt: HostRuntime,
 ) -> Result<(), Fail> {
-    let alloc = rt.alloc();
-    let store = with_a_failed_sync(
-        alloc,
-        "vwrite 0001 0 62 = ok
-        revert = ok
-        vread 0001 = bytes 00
-        undos = number 0",
-    )?;
-    assert_eq!(rt; pair_in(alloc, store.inner().bytes())?, both(0));
+    assert!(rt; is_reverted(rt.alloc())?);
     Ok(())
 }
 
 // How many of the crashes leave 00, and how many 61.
-fn left_by_crashes(alloc: Global, store: &MemStore) -> Result<(u32, u32), Fail> {
+fn left_by_crashes(alloc: Global, store: &MemStore) -> Result<(u32, u32), Fault> {
     let mut zeros = 0_u32;
     let mut others = 0_u32;
     for keep in 0..=7 {
         for fill in [0, 1, 255] {
-            let left = pair_in(alloc, store.crashed(keep, fill)?.bytes())?;
+            let left = left_by_crash(alloc, store, keep, fill)?;
             if left == both(0) {
                 zeros = zeros.saturating_add(1);
             }
@@ -222,13 +270,16 @@ fn left_by_crashes(alloc: Global, store: &MemStore) -> Result<(u32, u32), Fail> 
     Ok((zeros, others))
 }
 
+fn left_behind_a_failed_sync(alloc: Global) -> Result<(u32, u32), Fail> {
+    let store = with_a_failed_sync(alloc, "")?;
+    Ok(left_by_crashes(alloc, store.inner())?)
+}
+
 #[test]
 fn a_crash_behind_a_failed_last_sync_leaves_either_document(rt: HostRuntime) -> Result<(), Fail> {
-    let alloc = rt.alloc();
-    let store = with_a_failed_sync(alloc, "")?;
-    let (zeros, others) = left_by_crashes(alloc, store.inner())?;
+    let (zeros, others) = left_behind_a_failed_sync(rt.alloc())?;
     assert!(rt; zeros > 0);
     assert!(rt; others > 0);
-    assert_eq!(rt; zeros.saturating_add(others), 24);
+    assert!(rt; zeros.saturating_add(others) == 24);
     Ok(())
 }

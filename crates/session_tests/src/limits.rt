@@ -112,13 +112,14 @@ fn has_all_chunks(session: &mut Session<MemStore>) -> Result<bool, Fault> {
     )
 }
 
+fn keeps_all_chunks(alloc: Global) -> Result<bool, Fail> {
+    let store = full(alloc, Limit::Chunks)?;
+    Ok(has_all_chunks(&mut open(alloc, store.bytes())?)?)
+}
+
 #[test]
 fn a_heap_of_the_most_chunks_is_saved_and_opened(rt: HostRuntime) -> Result<(), Fail> {
-    let alloc = rt.alloc();
-    let store = full(alloc, Limit::Chunks)?;
-    let mut session = open(alloc, store.bytes())?;
-    let is_each = has_all_chunks(&mut session);
-    assert!(rt; is_each?);
+    assert!(rt; keeps_all_chunks(rt.alloc())?);
     Ok(())
 }
 
@@ -127,12 +128,13 @@ fn has_long_body(alloc: Global, session: &mut Session<MemStore>) -> Result<bool,
     Ok(session.read_raw(BLOCK)? == body.as_slice())
 }
 
+fn keeps_long_body(alloc: Global) -> Result<bool, Fail> {
+    let store = full(alloc, Limit::Bytes)?;
+    Ok(has_long_body(alloc, &mut open(alloc, store.bytes())?)?)
+}
+
 #[test]
 fn a_raw_block_of_the_most_bytes_is_saved_and_opened(rt: HostRuntime) -> Result<(), Fail> {
-    let alloc = rt.alloc();
-    let store = full(alloc, Limit::Bytes)?;
-    let mut session = open(alloc, store.bytes())?;
-    let is_each = has_long_body(alloc, &mut session);
-    assert!(rt; is_each?);
+    assert!(rt; keeps_long_body(rt.alloc())?);
     Ok(())
 }

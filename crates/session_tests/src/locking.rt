@@ -1,10 +1,10 @@
 //! Locks: what they refuse, what they keep in memory, and the bytes that are lent of a locked block.
 use crate::calls::{
-    BLOCK, create, create_in, expect_all_replies, expect_replies, fused, kept, made,
+    BLOCK, Fused, create, create_in, expect_all_replies, expect_replies, fused, kept, made,
 };
 use dialogues::{Dialogue, Mismatch};
 use geos_model::{ChunkHandle, Fault, VmHandle};
-use std::alloc::Global;
+use std::alloc::{AllocError, Global};
 use std::process::Abort;
 use std::test::Fail;
 use undo_log::Session;
@@ -15,14 +15,31 @@ const OTHER: VmHandle = VmHandle(2);
 
 const CHUNK: ChunkHandle = ChunkHandle(16);
 
-// The same dialogue on a new document that is held in so many frames.
-fn expect_replies_in(alloc: Global, frames: usize, text: &str) -> Result<(), Mismatch> {
-    let mut dialogue = Dialogue::new(alloc);
-    dialogue.add_lines(text)?;
+// Has a dialogue on a new document that is held in so many frames.
+fn expect_dialogue_in(dialogue: &Dialogue, frames: usize) -> Result<(), Mismatch> {
     if frames == 0 || frames > 64 {
         return Err(Mismatch::Refused(Fault::Range));
     }
     dialogue.expect_replies_in(frames)
+}
+
+// The same of texts that stand one behind the other.
+fn expect_texts_in(alloc: Global, frames: usize, texts: &[&str]) -> Result<(), Mismatch> {
+    let mut dialogue = Dialogue::new(alloc);
+    add_texts(&mut dialogue, texts)?;
+    expect_dialogue_in(&dialogue, frames)
+}
+
+fn add_texts(dialogue: &mut Dialogue, texts: &[&str]) -> Result<(), AllocError> {
+    for text in texts {
+        dialogue.add_lines(text)?;
+    }
+    Ok(())
+}
+
+// The same of one text.
+fn expect_replies_in(alloc: Global, frames: usize, text: &str) -> Result<(), Mismatch> {
+    expect_texts_in(alloc, frames, &[text])
 }
 
 #[test]
@@ -52,26 +69,53 @@ fn a_locked_block_bars_undo_and_other_blocks_while_it_takes_the_only_frame(
     Ok(())
 }
 
+// Lines, and how often they stand one behind the other.
+const OFTEN: [(u32, &str); 5] = [
+    (1, "newheap 0 = block 0001"),
+    (255, "lock 0001 = ok"),
+    (
+        1,
+        "lock 0001 = no 26 LockLimit
+        locks 0001 = number 255",
+    ),
+    (
+        255,
+        "undo = no 19 Locked
+        unlock 0001 = ok",
+    ),
+    (
+        1,
+        "unlock 0001 = no 20 NotLocked
+        locks 0001 = number 0
+        undo = ok
+        locks 0001 = no 5 NoBlock",
+    ),
+];
+
+fn add_often(dialogue: &mut Dialogue, count: u32, text: &str) -> Result<(), AllocError> {
+    for _ in 0..count {
+        dialogue.add_lines(text)?;
+    }
+    Ok(())
+}
+
+fn add_all(dialogue: &mut Dialogue) -> Result<(), AllocError> {
+    for (count, text) in OFTEN {
+        add_often(dialogue, count, text)?;
+    }
+    Ok(())
+}
+
+fn expect_all_in(alloc: Global, frames: usize) -> Result<(), Mismatch> {
+    let mut dialogue = Dialogue::new(alloc);
+    add_all(&mut dialogue)?;
+    expect_dialogue_in(&dialogue, frames)
+}
+
 #[test]
 fn a_block_is_locked_255_times_and_no_more(rt: HostRuntime) -> Result<(), Fail> {
-    let alloc = rt.alloc();
     for frames in [1, 2] {
-        let mut dialogue = Dialogue::new(alloc);
-        dialogue.add_line("newheap 0", "block 0001")?;
-        for _ in 0..255 {
-            dialogue.add_line("lock 0001", "ok")?;
-        }
-        dialogue.add_line("lock 0001", "no 26 LockLimit")?;
-        dialogue.add_line("locks 0001", "number 255")?;
-        for _ in 0..255 {
-            dialogue.add_line("undo", "no 19 Locked")?;
-            dialogue.add_line("unlock 0001", "ok")?;
-        }
-        dialogue.add_line("unlock 0001", "no 20 NotLocked")?;
-        dialogue.add_line("locks 0001", "number 0")?;
-        dialogue.add_line("undo", "ok")?;
-        dialogue.add_line("locks 0001", "no 5 NoBlock")?;
-        dialogue.expect_replies_in(frames)?;
+        expect_all_in(rt.alloc(), frames)?;
     }
     Ok(())
 }
@@ -200,42 +244,59 @@ const SHUT_OUT: &str = "
     redos                  = number 1
     ";
 
+// What is barred stays so behind what is not.
+const LOCKED: [&str; 6] = [
+    MADE,
+    "lock 0001 = ok",
+    BARRED,
+    FREE,
+    BARRED,
+    "unlock 0001 = ok
+    redo = ok
+    undos = number 5",
+];
+
 #[test]
 fn what_a_lock_bars_is_refused_before_all_else_and_changes_nothing(
     rt: HostRuntime,
 ) -> Result<(), Fail> {
-    let alloc = rt.alloc();
     for frames in [1, 2, 8, 64] {
-        expect_replies_in(
-            alloc,
-            frames,
-            &format!(in alloc;
-                "{MADE} lock 0001 = ok {BARRED} {FREE} {BARRED} unlock 0001 = ok\nredo = ok\nundos = number 5"
-            )?,
-        )?;
+        expect_texts_in(rt.alloc(), frames, &LOCKED)?;
     }
     Ok(())
 }
+
+const SHUT_OUT_BY_ONE: [&str; 5] = [
+    MADE,
+    "lock 0001 = ok",
+    SHUT_OUT,
+    BARRED,
+    "unlock 0001 = ok
+    redo = ok
+    vread 0003 = bytes 0000",
+];
+
+const SHUT_OUT_BY_TWO: [&str; 3] = [
+    "newraw 9 0 = block 0001
+    vfree 0001 = ok",
+    MADE,
+    "newraw 8 1 = block 0004
+    lock 0004 = ok
+    lock 0001 = ok
+    vread 0003 = no 21 CacheFull
+    vread 0004 = bytes 00
+    unlock 0004 = ok
+    vread 0003 = bytes 0000
+    vread 0001 = bytes 0000
+    locks 0001 = number 1",
+];
 
 #[test]
 fn other_blocks_are_shut_out_while_each_frame_has_a_locked_one(
     rt: HostRuntime,
 ) -> Result<(), Fail> {
-    let alloc = rt.alloc();
-    expect_replies_in(
-        alloc,
-        1,
-        &format!(in alloc;
-            "{MADE} lock 0001 = ok {SHUT_OUT} {BARRED} unlock 0001 = ok\nredo = ok\nvread 0003 = bytes 0000"
-        )?,
-    )?;
-    expect_replies_in(
-        alloc,
-        2,
-        &format!(in alloc;
-            "newraw 9 0 = block 0001\nvfree 0001 = ok {MADE} newraw 8 1 = block 0004\nlock 0004 = ok\nlock 0001 = ok\nvread 0003 = no 21 CacheFull\nvread 0004 = bytes 00\nunlock 0004 = ok\nvread 0003 = bytes 0000\nvread 0001 = bytes 0000\nlocks 0001 = number 1"
-        )?,
-    )?;
+    expect_texts_in(rt.alloc(), 1, &SHUT_OUT_BY_ONE)?;
+    expect_texts_in(rt.alloc(), 2, &SHUT_OUT_BY_TWO)?;
     Ok(())
 }
 
@@ -334,6 +395,38 @@ const BOTH: &str = "
     write 0002 0010 0 78797a = ok
     ";
 
+const EDITED: &str = "
+    vwrite 0001 1 63       = ok
+    write 0002 0010 0 61   = ok
+    ";
+
+// Whether these are the bytes that are lent of the raw block and of the chunk.
+fn lends_both<S: Store>(session: &Session<S>, raw: &[u8], chunk: &[u8]) -> bool {
+    session.locked_raw(BLOCK) == Some(raw) && session.locked_chunk(OTHER, CHUNK) == Some(chunk)
+}
+
+// Whether nothing is lent of the blocks as the other kind, nor of a chunk or a block that isn't there.
+fn lends_no_other<S: Store>(session: &Session<S>) -> bool {
+    session.locked_raw(OTHER).is_none()
+        && session.locked_chunk(BLOCK, CHUNK).is_none()
+        && session.locked_chunk(OTHER, ChunkHandle(18)).is_none()
+        && lends_nothing(session, VmHandle(3))
+        && lends_nothing(session, VmHandle(0))
+}
+
+fn lock<S: Store>(session: &mut Session<S>, block: VmHandle) -> Result<(), Fault> {
+    session.lock(block)
+}
+
+fn unlock<S: Store>(session: &mut Session<S>, block: VmHandle) -> Result<(), Fault> {
+    session.unlock(block)
+}
+
+// Whether any block is locked, and whether this one lends nothing.
+fn locked_and_idle<S: Store>(session: &Session<S>, block: VmHandle) -> (bool, bool) {
+    (session.has_locks(), lends_nothing(session, block))
+}
+
 // What a session on that document lends while its blocks are locked, and what not.
 fn lends_locked(
     rt: &impl Abort,
@@ -341,18 +434,13 @@ fn lends_locked(
     session: &mut Session<MemStore>,
 ) -> Result<(), Fail> {
     expect_replies(alloc, session, None, BOTH)?;
-    assert!(rt; !session.has_locks());
-    assert!(rt; lends_nothing(session, BLOCK) && lends_nothing(session, OTHER));
-    session.lock(BLOCK)?;
-    session.lock(OTHER)?;
+    assert!(rt; locked_and_idle(session, BLOCK) == (false, true));
+    assert!(rt; lends_nothing(session, OTHER));
+    lock(session, BLOCK)?;
+    lock(session, OTHER)?;
     assert!(rt; session.has_locks());
-    assert_eq!(rt; session.locked_raw(BLOCK), Some(b"ab".as_slice()));
-    assert_eq!(rt; session.locked_chunk(OTHER, CHUNK), Some(b"xyz".as_slice()));
-    // nothing as the other kind, nor of a chunk or a block that isn't there
-    assert!(rt; session.locked_raw(OTHER).is_none());
-    assert!(rt; session.locked_chunk(BLOCK, CHUNK).is_none());
-    assert!(rt; session.locked_chunk(OTHER, ChunkHandle(18)).is_none());
-    assert!(rt; lends_nothing(session, VmHandle(3)) && lends_nothing(session, VmHandle(0)));
+    assert!(rt; lends_both(session, b"ab", b"xyz"));
+    assert!(rt; lends_no_other(session));
     Ok(())
 }
 
@@ -362,19 +450,13 @@ fn lends_edited(
     alloc: Global,
     session: &mut Session<MemStore>,
 ) -> Result<(), Fail> {
-    expect_replies(
-        alloc,
-        session,
-        None,
-        "vwrite 0001 1 63 = ok\nwrite 0002 0010 0 61 = ok",
-    )?;
-    assert_eq!(rt; session.locked_raw(BLOCK), Some(b"ac".as_slice()));
-    assert_eq!(rt; session.locked_chunk(OTHER, CHUNK), Some(b"ayz".as_slice()));
-    session.unlock(BLOCK)?;
-    assert!(rt; lends_nothing(session, BLOCK) && session.has_locks());
-    session.unlock(OTHER)?;
-    assert!(rt; lends_nothing(session, OTHER) && !session.has_locks());
-    assert_eq!(rt; session.unlock(OTHER), Err(Fault::NotLocked));
+    expect_replies(alloc, session, None, EDITED)?;
+    assert!(rt; lends_both(session, b"ac", b"ayz"));
+    unlock(session, BLOCK)?;
+    assert!(rt; locked_and_idle(session, BLOCK) == (true, true));
+    unlock(session, OTHER)?;
+    assert!(rt; locked_and_idle(session, OTHER) == (false, true));
+    assert!(rt; unlock(session, OTHER) == Err(Fault::NotLocked));
     Ok(())
 }
 
@@ -471,7 +553,7 @@ fn a_dirty_block_is_written_by_the_next_update(rt: HostRuntime) -> Result<(), Fa
         alloc,
         "lock 0001 = ok\ndirty 0001 = ok\nunlock 0001 = ok\nupdate = ok",
     )?;
-    assert_eq!(rt; clean.checked_add(1), Some(dirty));
+    assert!(rt; clean.checked_add(1) == Some(dirty));
     Ok(())
 }
 
@@ -482,15 +564,23 @@ const LOCKED_AGAIN: &str = "lock 0001 = no 2 File
     lock 0001 = ok
     locks 0001 = number 1";
 
+// Whether the first block is in memory behind that.
+fn is_resident_behind(alloc: Global, session: &mut Fused) -> Result<bool, Mismatch> {
+    expect_all_replies(alloc, session, &[FOUR, LOCKED_AGAIN])?;
+    Ok(session.is_resident(BLOCK))
+}
+
+// The same over a store whose call after so many fails.
+fn is_locked_again(alloc: Global, passes: u64) -> Result<bool, Mismatch> {
+    let store = fused(alloc, passes, false);
+    let mut session = create_in(alloc, store, 2).map_err(Mismatch::Refused)?;
+    is_resident_behind(alloc, &mut session)
+}
+
 #[test]
 fn a_lock_that_the_store_fails_locks_nothing(rt: HostRuntime) -> Result<(), Fail> {
-    let alloc = rt.alloc();
-    let passes = calls(alloc, "")?;
-    let mut session = create_in(alloc, fused(alloc, passes, false), 2)?;
-    let end = expect_all_replies(alloc, &mut session, &[FOUR, LOCKED_AGAIN]);
-    let is_resident = session.is_resident(BLOCK);
-    end?;
-    assert!(rt; is_resident);
+    let passes = calls(rt.alloc(), "")?;
+    assert!(rt; is_locked_again(rt.alloc(), passes)?);
     Ok(())
 }
 

@@ -4,6 +4,7 @@ ghost use Rattle.session_tests.specs.Lying.{lying_facts, lying_timely};
 
 use crate::calls::{FRAMES, answer, made, open_in};
 use geos_model::Fault;
+use geos_shell::RunFault;
 use std::alloc::Global;
 use std::test::Fail;
 use undo_log::Session;
@@ -113,23 +114,45 @@ fn may_be_refused(command: &str, reply: &[u8]) -> bool {
     }
 }
 
-// Gives a command. Returns whether it was refused, in which it may change nothing.
-fn give(
+// Whether the questions are answered so.
+fn is_as_before(
     alloc: Global,
     session: &mut Session<Liar>,
-    target: Liar,
-    command: &str,
-) -> Result<bool, Fail> {
-    let before = answer(alloc, session, None, QUESTIONS)?;
-    let reply = answer(alloc, session, Some(target), command)?;
+    before: &[u8],
+) -> Result<bool, RunFault> {
     let after = answer(alloc, session, None, QUESTIONS)?;
-    if !is_refusal(&reply) {
+    Ok(after.as_slice() == before)
+}
+
+// Whether a command was refused, in which it may change nothing: the questions are answered as before, or not.
+fn is_refused(command: &str, reply: &[u8], is_as_before: bool) -> Result<bool, Fail> {
+    if !is_refusal(reply) {
         return Ok(false);
     }
-    if !may_be_refused(command, &reply) || before.as_slice() != after.as_slice() {
+    if !may_be_refused(command, reply) || !is_as_before {
         return Err(Fail::new("a refusal is wrong, or changed something"));
     }
     Ok(true)
+}
+
+// Gives a command behind these answers.
+fn give_behind(
+    alloc: Global,
+    session: &mut Session<Liar>,
+    byte: u8,
+    command: &str,
+    before: &[u8],
+) -> Result<bool, Fail> {
+    let target = lying(MemStore::new(alloc), 0, byte);
+    let reply = answer(alloc, session, Some(target), command)?;
+    let is_same = is_as_before(alloc, session, before)?;
+    is_refused(command, &reply, is_same)
+}
+
+// Gives a command, with a target that lies too. Returns whether it was refused.
+fn give(alloc: Global, session: &mut Session<Liar>, byte: u8, command: &str) -> Result<bool, Fail> {
+    let before = answer(alloc, session, None, QUESTIONS)?;
+    give_behind(alloc, session, byte, command, &before)
 }
 
 fn lying(store: MemStore, passes: u64, byte: u8) -> Liar {
@@ -141,12 +164,11 @@ fn lying(store: MemStore, passes: u64, byte: u8) -> Liar {
     }
 }
 
-// Gives each command, each with a target that lies too. Returns how many were refused.
+// Gives each command. Returns how many were refused.
 fn give_all(alloc: Global, session: &mut Session<Liar>, byte: u8) -> Result<u32, Fail> {
     let mut refusals = 0_u32;
     for command in COMMANDS {
-        let target = lying(MemStore::new(alloc), 0, byte);
-        let is_refused = give(alloc, session, target, command)?;
+        let is_refused = give(alloc, session, byte, command)?;
         refusals = refusals.saturating_add(u32::from(is_refused));
     }
     Ok(refusals)
@@ -171,12 +193,11 @@ fn played(alloc: Global, bytes: &[u8], passes: u64, byte: u8) -> Result<Option<u
 }
 
 // Lies from each of the first calls on. Returns how many files weren't opened, and how many commands were refused.
-fn all_refusals(alloc: Global, byte: u8) -> Result<(u32, u32), Fail> {
-    let file = made(alloc, MemStore::new(alloc), FRAMES, &[BLOCKS])?;
+fn refusals_of(alloc: Global, file: &[u8], byte: u8) -> Result<(u32, u32), Fail> {
     let mut unopened = 0_u32;
     let mut refusals = 0_u32;
     for passes in 0..80 {
-        match played(alloc, file.bytes(), passes, byte)? {
+        match played(alloc, file, passes, byte)? {
             Some(count) => refusals = refusals.saturating_add(count),
             None => unopened = unopened.saturating_add(1),
         }
@@ -184,13 +205,16 @@ fn all_refusals(alloc: Global, byte: u8) -> Result<(u32, u32), Fail> {
     Ok((unopened, refusals))
 }
 
+fn all_refusals(alloc: Global, byte: u8) -> Result<(u32, u32), Fail> {
+    let file = made(alloc, MemStore::new(alloc), FRAMES, &[BLOCKS])?;
+    refusals_of(alloc, file.bytes(), byte)
+}
+
 #[test]
 fn a_call_over_a_store_that_lies_ends_and_is_refused_or_done(rt: HostRuntime) -> Result<(), Fail> {
     for byte in [0, 1, 255] {
         let (unopened, refusals) = all_refusals(rt.alloc(), byte)?;
-        assert!(rt; unopened > 0, "{byte}");
-        assert!(rt; refusals > 0, "{byte}");
-        assert!(rt; unopened < 80, "{byte}");
+        assert!(rt; 0 < unopened && unopened < 80 && 0 < refusals, "{byte}");
     }
     Ok(())
 }

@@ -102,8 +102,8 @@ fn refused_for(alloc: Global, places: &[Place]) -> Result<Option<Fault>, Mismatc
 
 #[test]
 fn a_file_of_either_version_is_read_and_reverted_and_no_other(rt: HostRuntime) -> Result<(), Fail> {
-    for (places, fault) in VERSIONS {
-        assert_eq!(rt; refused_for(rt.alloc(), places)?, fault, "{places:?}");
+    for (case, (places, fault)) in VERSIONS.into_iter().enumerate() {
+        assert!(rt; refused_for(rt.alloc(), places)? == fault, "case {case}");
     }
     Ok(())
 }
@@ -246,24 +246,26 @@ fn a_file_of_version_1_takes_types_and_is_of_version_2_with_its_next_commit(
     Ok(())
 }
 
+const WORN: &str = "update = no 27 Worn
+    uid 0001 8 = ok
+    undo = ok
+    save = no 27 Worn
+    revert = no 27 Worn
+    saveas = no 27 Worn
+    saveas = no 27 Worn
+    redos = number 1
+    info 0001 = raw 7 2";
+
+// Whether a worn file has the same bytes behind that.
+fn stays_worn(alloc: Global) -> Result<bool, Mismatch> {
+    let bytes = worn_example();
+    let store = read(alloc, &bytes, Some(MemStore::new(alloc)), WORN)?;
+    Ok(store.bytes() == bytes.as_slice())
+}
+
 #[test]
 fn a_worn_file_takes_edits_and_no_commit(rt: HostRuntime) -> Result<(), Fail> {
-    let alloc = rt.alloc();
-    let store = read(
-        alloc,
-        worn_example().as_slice(),
-        Some(MemStore::new(alloc)),
-        "update = no 27 Worn
-        uid 0001 8 = ok
-        undo = ok
-        save = no 27 Worn
-        revert = no 27 Worn
-        saveas = no 27 Worn
-        saveas = no 27 Worn
-        redos = number 1
-        info 0001 = raw 7 2",
-    )?;
-    assert_eq!(rt; store.bytes(), worn_example().as_slice());
+    assert!(rt; stays_worn(rt.alloc())?);
     Ok(())
 }
 
