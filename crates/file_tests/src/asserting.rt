@@ -6,9 +6,9 @@ pub(crate) fn same_number(rt: &impl Abort, given: u64, wanted: u64) {
     assert_eq!(rt; given, wanted);
 }
 
-/// There is no place where bytes are others.
+/// There is no place, from 0 on, where something is other.
 pub(crate) fn no_other(rt: &impl Abort, other: Option<usize>) {
     if let Some(at) = other {
-        panic!(rt; "another byte at {at}");
+        panic!(rt; "it is other at {at}");
     }
 }

@@ -135,12 +135,16 @@ const LEFT: [Step; 13] = [
     MapBlock(3),
 ];
 
+// What the crash leaves.
+fn left(alloc: Global) -> Result<MemStore, Mismatch> {
+    let (_, store) = both_files(alloc, &[])?;
+    Ok(store.inner().crashed(0, 255)?)
+}
+
 #[test]
 fn a_copy_is_whole_after_a_crash(rt: HostRuntime) -> Result<(), Fail> {
-    let alloc = rt.alloc();
-    let (_, store) = both_files(alloc, &[])?;
-    let left = store.inner().crashed(0, 255)?;
-    read(alloc, left.bytes(), &LEFT)?;
+    let left = left(rt.alloc())?;
+    read(rt.alloc(), left.bytes(), &LEFT)?;
     Ok(())
 }
 

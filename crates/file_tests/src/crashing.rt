@@ -406,18 +406,27 @@ fn is_kept_on(alloc: Global, passes: u64, steps: &[Step]) -> Result<bool, Fault>
     Ok(record.stands(alloc, store.inner(), 0)? && record.stands(alloc, store.inner(), 255)?)
 }
 
+// Whether so it is behind each of the first four steps.
+fn are_kept_on(alloc: Global, passes: u64) -> Result<bool, Fault> {
+    for steps in 1..=4 {
+        if !is_kept_on(alloc, passes, &STEPS[..steps])? {
+            return Ok(false);
+        }
+    }
+    Ok(true)
+}
+
+// The store calls that open the file, and of those steps.
+fn calls_on(alloc: Global) -> Result<u64, Fault> {
+    let (store, _) = played_on(alloc, u64::MAX, &STEPS[..4])?;
+    Ok(store.calls())
+}
+
 // A save and an update, each of which is made of a file whose slot is of version 1 where the one before failed.
 #[test]
 fn a_file_of_version_1_stands_until_a_commit_is_done(rt: HostRuntime) -> Result<(), Fail> {
-    let alloc = rt.alloc();
-    let (store, _) = played_on(alloc, u64::MAX, &STEPS[..4])?;
-    for passes in OPENING..=store.calls() {
-        for steps in 1..=4 {
-            assert!(rt;
-                is_kept_on(alloc, passes, &STEPS[..steps])?,
-                "call {passes} failed, {steps} steps"
-            );
-        }
+    for passes in OPENING..=calls_on(rt.alloc())? {
+        assert!(rt; are_kept_on(rt.alloc(), passes)?, "call {passes} failed");
     }
     Ok(())
 }
