@@ -1,5 +1,7 @@
 //! Sessions with one frame: which block is in memory, and how often the store is called for it.
-use crate::calls::{BLOCK, Fused, create_in, expect_replies, fused, made};
+use crate::calls::{
+    BLOCK, Fused, create_in, expect_all_replies, expect_made, expect_replies, fused, made,
+};
 use dialogues::Mismatch;
 use geos_model::VmHandle;
 use std::alloc::Global;
@@ -54,11 +56,14 @@ fn is_brought_in(alloc: Global, session: &mut Fused, step: &str) -> Result<bool,
     Ok(is_in)
 }
 
+const AWAY: [&str; 2] = [SAVED, "vread 0002 = bytes 00"];
+
+const STEPS: [&str; 3] = [EDIT, "undo = ok", "redo = ok"];
+
 // The first of the steps that does not bring the first block in.
 fn first_lost(alloc: Global, session: &mut Fused) -> Result<Option<&'static str>, Fail> {
-    expect_replies(alloc, session, None, SAVED)?;
-    expect_replies(alloc, session, None, "vread 0002 = bytes 00")?;
-    for step in [EDIT, "undo = ok", "redo = ok"] {
+    expect_all_replies(alloc, session, &AWAY)?;
+    for step in STEPS {
         if !is_brought_in(alloc, session, step)? {
             return Ok(Some(step));
         }
@@ -167,26 +172,32 @@ fn an_undo_of_an_edit_in_a_block_in_memory_calls_no_store(rt: HostRuntime) -> Re
     Ok(())
 }
 
+// What is answered while the store fails, behind the saved document and its edit.
+const SURE: [&str; 3] = [
+    SAVED,
+    EDIT,
+    "undo = ok
+    vread 0001 = bytes 00
+    redo = ok
+    vread 0001 = bytes 61
+    settype 0003 9 = ok
+    undo = ok
+    gettype 0003 = number 0
+    redo = ok
+    gettype 0003 = number 9
+    undo = ok
+    vread 0002 = no 2 File
+    update = no 2 File
+    undo = ok
+    vread 0001 = bytes 00
+    undos = number 4
+    redos = number 2",
+];
+
 #[test]
 fn such_an_undo_is_sure_while_the_store_fails(rt: HostRuntime) -> Result<(), Fail> {
     let alloc = rt.alloc();
     let passes = calls(alloc, EDIT)?;
-    let sure = "undo = ok
-        vread 0001 = bytes 00
-        redo = ok
-        vread 0001 = bytes 61
-        settype 0003 9 = ok
-        undo = ok
-        gettype 0003 = number 0
-        redo = ok
-        gettype 0003 = number 9
-        undo = ok
-        vread 0002 = no 2 File
-        update = no 2 File
-        undo = ok
-        vread 0001 = bytes 00
-        undos = number 4
-        redos = number 2";
-    made(alloc, fused(alloc, passes, true), 1, &[SAVED, EDIT, sure])?;
+    expect_made(alloc, fused(alloc, passes, true), 1, &SURE)?;
     Ok(())
 }

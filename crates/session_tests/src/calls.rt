@@ -92,19 +92,44 @@ pub(crate) fn answer<S: Store>(
     Ok(replies)
 }
 
+fn mismatch_at(
+    alloc: Global,
+    number: usize,
+    want: &str,
+    give: &str,
+) -> Result<Mismatch, AllocError> {
+    let wanted = want.to_string(alloc)?;
+    let given = give.to_string(alloc)?;
+    Ok(Mismatch::Reply {
+        number,
+        wanted,
+        given,
+    })
+}
+
 // The first reply that differs.
-fn first_mismatch(alloc: Global, wanted: &str, given: &[u8]) -> Result<Mismatch, AllocError> {
-    let given = String::from_utf8_lossy(alloc, given)?;
+fn first_mismatch(alloc: Global, wanted: &str, given: &str) -> Result<Mismatch, AllocError> {
     for (number, (want, give)) in wanted.lines().zip(given.lines()).enumerate() {
         if want != give {
-            return Ok(Mismatch::Reply {
-                number,
-                wanted: want.to_string(alloc)?,
-                given: give.to_string(alloc)?,
-            });
+            return mismatch_at(alloc, number, want, give);
         }
     }
     Ok(Mismatch::ReplyCount)
+}
+
+// Compares replies.
+fn expect_same(alloc: Global, wanted: &str, given: &[u8]) -> Result<(), Mismatch> {
+    if given == wanted.as_bytes() {
+        return Ok(());
+    }
+    let given = String::from_utf8_lossy(alloc, given)?;
+    Err(first_mismatch(alloc, wanted, given.as_str())?)
+}
+
+fn read(alloc: Global, text: &str) -> Result<Dialogue, AllocError> {
+    let mut dialogue = Dialogue::new(alloc);
+    dialogue.add_lines(text)?;
+    Ok(dialogue)
 }
 
 /// Has a dialogue with a session, written in lines, where a save-as may make a file of the target.
@@ -114,13 +139,9 @@ pub(crate) fn expect_replies<S: Store>(
     target: Option<S>,
     text: &str,
 ) -> Result<(), Mismatch> {
-    let mut dialogue = Dialogue::new(alloc);
-    dialogue.add_lines(text)?;
+    let dialogue = read(alloc, text)?;
     let replies = answer(alloc, session, target, dialogue.script())?;
-    if replies.as_slice() == dialogue.replies().as_bytes() {
-        return Ok(());
-    }
-    Err(first_mismatch(alloc, dialogue.replies(), &replies)?)
+    expect_same(alloc, dialogue.replies(), &replies)
 }
 
 /// Has one dialogue behind the other.
@@ -154,6 +175,17 @@ pub(crate) fn made<S: Store>(
     let mut session = create_in(alloc, store, frames).map_err(Mismatch::Refused)?;
     let end = expect_all_replies(alloc, &mut session, texts);
     closed(session, end)
+}
+
+/// Has these dialogues on a new file with so many frames.
+pub(crate) fn expect_made<S: Store>(
+    alloc: Global,
+    store: S,
+    frames: usize,
+    texts: &[&str],
+) -> Result<(), Mismatch> {
+    let mut session = create_in(alloc, store, frames).map_err(Mismatch::Refused)?;
+    expect_all_replies(alloc, &mut session, texts)
 }
 
 /// The store of a file behind a dialogue with so many frames.

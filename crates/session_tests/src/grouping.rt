@@ -1,7 +1,7 @@
 //! Groups of edits, and calls of the store.
 // None is called where a group is opened or ended, nor where one without an edit is abandoned.
 use crate::caching::{EDIT, SAVED, calls, takes};
-use crate::calls::{fused, made};
+use crate::calls::{expect_made, fused};
 use std::test::Fail;
 
 // What stands before, with one frame, and what calls no store behind it.
@@ -80,7 +80,10 @@ fn a_group_is_opened_and_ended_and_an_empty_one_abandoned_without_a_store_call(
 }
 
 // What is so while the store fails, behind an edit of the one block in memory.
-const SURE: &str = "begin = ok
+const SURE: [&str; 3] = [
+    SAVED,
+    EDIT,
+    "begin = ok
     end              = ok
     begin            = ok
     abandon          = ok
@@ -95,12 +98,13 @@ const SURE: &str = "begin = ok
     undos            = number 6
     save             = no 2 File
     undos            = number 6
-    vread 0001       = bytes 63";
+    vread 0001       = bytes 63",
+];
 
 #[test]
 fn a_group_is_opened_and_ended_while_the_store_fails(rt: HostRuntime) -> Result<(), Fail> {
     let alloc = rt.alloc();
     let passes = calls(alloc, EDIT)?;
-    made(alloc, fused(alloc, passes, true), 1, &[SAVED, EDIT, SURE])?;
+    expect_made(alloc, fused(alloc, passes, true), 1, &SURE)?;
     Ok(())
 }

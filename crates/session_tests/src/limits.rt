@@ -41,19 +41,26 @@ fn long_body(alloc: Global) -> Result<Vec<u8>, Fault> {
     Ok(body)
 }
 
+fn fill_chunks(session: &mut Session<MemStore>) -> Result<(), Fail> {
+    repeat(session, &Edit::NewHeap(7), 1)?;
+    repeat(session, &Edit::Alloc(BLOCK, 0), 32_752)?;
+    Ok(())
+}
+
+fn fill_bytes(alloc: Global, session: &mut Session<MemStore>) -> Result<(), Fail> {
+    let body = long_body(alloc)?;
+    repeat(session, &Edit::NewRaw(7, 0), 1)?;
+    repeat(session, &Edit::Attach(BLOCK, Bytes::from_vec(body)), 1)?;
+    Ok(())
+}
+
 fn fill(alloc: Global, session: &mut Session<MemStore>, limit: Limit) -> Result<(), Fail> {
-    match limit {
-        Limit::Blocks => fill_blocks(session)?,
-        Limit::Chunks => {
-            session.edit(&Edit::NewHeap(7))?;
-            repeat(session, &Edit::Alloc(BLOCK, 0), 32_752)?;
-        }
-        Limit::Bytes => {
-            session.edit(&Edit::NewRaw(7, 0))?;
-            let edit = Edit::Attach(BLOCK, Bytes::from_vec(long_body(alloc)?));
-            session.edit(&edit)?;
-        }
-    }
+    let end = match limit {
+        Limit::Blocks => fill_blocks(session),
+        Limit::Chunks => fill_chunks(session),
+        Limit::Bytes => fill_bytes(alloc, session),
+    };
+    end?;
     session.save()?;
     Ok(())
 }
@@ -112,9 +119,14 @@ fn has_all_chunks(session: &mut Session<MemStore>) -> Result<bool, Fault> {
     )
 }
 
+fn has_all_chunks_in(alloc: Global, file: &[u8]) -> Result<bool, Fault> {
+    let mut session = open(alloc, file)?;
+    has_all_chunks(&mut session)
+}
+
 fn keeps_all_chunks(alloc: Global) -> Result<bool, Fail> {
     let store = full(alloc, Limit::Chunks)?;
-    Ok(has_all_chunks(&mut open(alloc, store.bytes())?)?)
+    Ok(has_all_chunks_in(alloc, store.bytes())?)
 }
 
 #[test]
@@ -128,9 +140,14 @@ fn has_long_body(alloc: Global, session: &mut Session<MemStore>) -> Result<bool,
     Ok(session.read_raw(BLOCK)? == body.as_slice())
 }
 
+fn has_long_body_in(alloc: Global, file: &[u8]) -> Result<bool, Fault> {
+    let mut session = open(alloc, file)?;
+    has_long_body(alloc, &mut session)
+}
+
 fn keeps_long_body(alloc: Global) -> Result<bool, Fail> {
     let store = full(alloc, Limit::Bytes)?;
-    Ok(has_long_body(alloc, &mut open(alloc, store.bytes())?)?)
+    Ok(has_long_body_in(alloc, store.bytes())?)
 }
 
 #[test]
