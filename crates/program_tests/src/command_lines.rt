@@ -1,138 +1,105 @@
 //! What command lines give: options, or the outcome that the program ends with.
+use crate::manners::{BAILS, BOTH, ECHOES, QUIET};
+use crate::mismatches::{Mismatch, named};
+use crate::outcomes::{is_told, line_of};
 use geos_shell::{Manner, Options, Outcome, options};
-use std::alloc::Global;
+use std::alloc::{AllocError, Global};
 use std::test::Fail;
 
-const QUIET: Manner = Manner {
-    bails: false,
-    echoes: false,
-};
+/// Words, and what they give: whether the file is made, the frames, the target, the file, and the manner.
+type Line = (
+    &'static [&'static str],
+    bool,
+    u8,
+    Option<&'static str>,
+    &'static str,
+    Manner,
+);
 
-const BAILS: Manner = Manner {
-    bails: true,
-    echoes: false,
-};
-
-const ECHOES: Manner = Manner {
-    bails: false,
-    echoes: true,
-};
-
-const BOTH: Manner = Manner {
-    bails: true,
-    echoes: true,
-};
-
-/// Words, and the options that they give.
-type Line = (&'static [&'static str], Options<'static>);
-
-const PLAIN: Options = Options {
-    new: false,
-    cache: 8,
-    target: None,
-    file: "F",
-    manner: QUIET,
-};
-
-const LINES: &[Line] = &[
-    (&["geosvm", "F"], PLAIN),
-    (&["geosvm", "--new", "F"], Options { new: true, ..PLAIN }),
-    (&["geosvm", "F", "--new"], Options { new: true, ..PLAIN }),
-    (
-        &["geosvm", "--cache", "1", "F"],
-        Options { cache: 1, ..PLAIN },
-    ),
-    (
-        &["geosvm", "--cache=64", "F"],
-        Options { cache: 64, ..PLAIN },
-    ),
+const LINES: [Line; 15] = [
+    (&["geosvm", "F"], false, 8, None, "F", QUIET),
+    (&["geosvm", "--new", "F"], true, 8, None, "F", QUIET),
+    (&["geosvm", "F", "--new"], true, 8, None, "F", QUIET),
+    (&["geosvm", "--cache", "1", "F"], false, 1, None, "F", QUIET),
+    (&["geosvm", "--cache=64", "F"], false, 64, None, "F", QUIET),
     (
         &["geosvm", "--cache", "+007", "F"],
-        Options { cache: 7, ..PLAIN },
+        false,
+        7,
+        None,
+        "F",
+        QUIET,
     ),
     (
         &["geosvm", "--as", "G", "F"],
-        Options {
-            target: Some("G"),
-            ..PLAIN
-        },
+        false,
+        8,
+        Some("G"),
+        "F",
+        QUIET,
     ),
-    (
-        &["geosvm", "--as=", "F"],
-        Options {
-            target: Some(""),
-            ..PLAIN
-        },
-    ),
+    (&["geosvm", "--as=", "F"], false, 8, Some(""), "F", QUIET),
     (
         &["geosvm", "--new", "--cache", "9", "--as", "G", "F"],
-        Options {
-            new: true,
-            cache: 9,
-            target: Some("G"),
-            ..PLAIN
-        },
+        true,
+        9,
+        Some("G"),
+        "F",
+        QUIET,
     ),
     (
         &["geosvm", "--as=G", "é/F", "--cache=9", "--new"],
-        Options {
-            new: true,
-            cache: 9,
-            target: Some("G"),
-            file: "é/F",
-            ..PLAIN
-        },
+        true,
+        9,
+        Some("G"),
+        "é/F",
+        QUIET,
     ),
-    (
-        &["geosvm", "--bail", "F"],
-        Options {
-            manner: BAILS,
-            ..PLAIN
-        },
-    ),
-    (
-        &["geosvm", "F", "--echo"],
-        Options {
-            manner: ECHOES,
-            ..PLAIN
-        },
-    ),
+    (&["geosvm", "--bail", "F"], false, 8, None, "F", BAILS),
+    (&["geosvm", "F", "--echo"], false, 8, None, "F", ECHOES),
     (
         &["geosvm", "--echo", "--new", "--bail", "F"],
-        Options {
-            new: true,
-            manner: BOTH,
-            ..PLAIN
-        },
+        true,
+        8,
+        None,
+        "F",
+        BOTH,
     ),
-    (
-        &["geosvm", "--", "--new"],
-        Options {
-            file: "--new",
-            ..PLAIN
-        },
-    ),
-    (&["geosvm", "-"], Options { file: "-", ..PLAIN }),
+    (&["geosvm", "--", "--new"], false, 8, None, "--new", QUIET),
+    (&["geosvm", "-"], false, 8, None, "-", QUIET),
 ];
 
-// Compares the options that words give.
-fn is_read_as(alloc: Global, line: &Line) -> Result<(), Fail> {
-    match options(alloc, line.0) {
-        Ok(got) if got == line.1 => Ok(()),
-        Ok(got) => Err(Fail::new(format_args!("{:?}: {got:?}", line.0))),
-        Err(_) => Err(Fail::new(format_args!("{:?}: refused", line.0))),
+fn options_of(line: Line) -> Options<'static> {
+    let (_, new, cache, target, file, manner) = line;
+    Options {
+        new,
+        cache,
+        target,
+        file,
+        manner,
+    }
+}
+
+// Whether words give these options.
+fn are_read(alloc: Global, words: &[&str], wanted: Options<'_>) -> bool {
+    match options(alloc, words) {
+        Ok(given) => given == wanted,
+        Err(_) => false,
     }
 }
 
 #[test]
-fn options_are_read_in_any_order(rt: HostRuntime) -> Result<(), Fail> {
+fn options_are_read_in_any_order(rt: HostRuntime) {
     for line in LINES {
-        is_read_as(rt.alloc(), line)?;
+        assert!(rt;
+            are_read(rt.alloc(), line.0, options_of(line)),
+            "{:?}",
+            line.0
+        );
     }
-    Ok(())
 }
 
-const BAD_LINES: &[&[&str]] = &[
+const BAD_LINES: [&[&str]; 16] = [
     &[],
     &["geosvm"],
     &["geosvm", "--cache", "0", "F"],
@@ -152,55 +119,62 @@ const BAD_LINES: &[&[&str]] = &[
     &["geosvm", "--cache", "0", "--as", "F", "F"],
 ];
 
-fn is_bad(alloc: Global, words: &[&str]) -> Result<(), Fail> {
+fn is_bad(alloc: Global, words: &[&str]) -> bool {
     match options(alloc, words) {
-        Ok(_) => Err(Fail::new(format_args!("{words:?}: taken"))),
-        Err(outcome) if matches!(outcome, Outcome::Usage(_)) && outcome.status() == 2 => Ok(()),
-        Err(_) => Err(Fail::new(format_args!("{words:?}: another outcome"))),
+        Ok(_) => false,
+        Err(outcome) => matches!(outcome, Outcome::Usage(_)) && outcome.status() == 2,
     }
 }
 
 #[test]
-fn bad_command_lines_end_with_status_2(rt: HostRuntime) -> Result<(), Fail> {
+fn bad_command_lines_end_with_status_2(rt: HostRuntime) {
     for words in BAD_LINES {
-        is_bad(rt.alloc(), words)?;
+        assert!(rt; is_bad(rt.alloc(), words), "{words:?}");
     }
-    Ok(())
 }
 
-// The status of a command line that gives no options, and what is written of it.
-fn told_of<'a>(alloc: Global, words: &'a [&'a str]) -> Result<(u8, String), Fail> {
-    let Err(outcome) = options(alloc, words) else {
-        return Err(Fail::from("taken"));
-    };
-    let mut written = Vec::new(alloc);
-    outcome.write_line(&mut written)?;
-    let text = String::from_utf8(written).map_err(|_| Fail::from("no text"))?;
-    Ok((outcome.status(), text))
-}
-
-// Compares what is told of a command line that gives no options.
-fn is_told<'a>(alloc: Global, words: &'a [&'a str], wanted: &str) -> Result<(), Fail> {
-    let (status, text) = told_of(alloc, words)?;
-    if status == 2 && text.as_str() == wanted {
-        return Ok(());
+/// Compares the status of words that give no options, and what is told of them.
+pub(crate) fn ends_with(
+    alloc: Global,
+    words: &[&str],
+    status: u8,
+    line: &str,
+) -> Result<(), Mismatch> {
+    match options(alloc, words) {
+        Ok(_) => Err(Mismatch::IsTaken),
+        Err(outcome) => is_told(alloc, outcome, status, line),
     }
-    Err(Fail::new(format_args!("{words:?}: {status} {text}")))
 }
 
-const LACKS: &str =
-    "error: the following required arguments were not provided:\n  <FILE>\n\nUsage: geosvm --new <FILE>\n\nFor more information, try '--help'.\n";
+const LACKS: &str = "error: the following required arguments were not provided:\n  <FILE>\n\n\
+    Usage: geosvm --new <FILE>\n\nFor more information, try '--help'.\n";
+
+/// What the words tell that ask for help.
+pub(crate) fn help(alloc: Global, words: &[&str]) -> Result<Vec<u8>, Mismatch> {
+    match options(alloc, words) {
+        Ok(_) => Err(Mismatch::IsTaken),
+        Err(outcome) if outcome.status() == 0 => Ok(line_of(alloc, &outcome)?),
+        Err(outcome) => Err(Mismatch::Status(outcome.status())),
+    }
+}
+
+// Whether a text is a part of these bytes.
+fn contains(alloc: Global, bytes: &[u8], part: &str) -> Result<bool, AllocError> {
+    Ok(String::from_utf8_lossy(alloc, bytes)?.contains(part))
+}
 
 #[test]
 fn what_is_wrong_is_told(rt: HostRuntime) -> Result<(), Fail> {
     let alloc = rt.alloc();
-    is_told(
+    let end = ends_with(
         alloc,
         &["geosvm", "--as", "F", "F"],
+        2,
         "geosvm: FILE2 is FILE\n",
-    )?;
-    is_told(alloc, &["geosvm", "--new"], LACKS)?;
-    let (status, text) = told_of(alloc, &["geosvm", "F", "--help"])?;
-    assert!(rt; status == 0 && text.as_str().contains("Usage: geosvm [OPTIONS] <FILE>\n"));
+    );
+    named("one file", end)?;
+    named("no file", ends_with(alloc, &["geosvm", "--new"], 2, LACKS))?;
+    let text = help(alloc, &["geosvm", "F", "--help"])?;
+    assert!(rt; contains(alloc, &text, "Usage: geosvm [OPTIONS] <FILE>\n")?);
     Ok(())
 }

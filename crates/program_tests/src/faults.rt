@@ -1,5 +1,6 @@
 //! The texts of faults.
 use geos_shell::RunFault;
+use std::alloc::{AllocError, Global};
 use std::test::Fail;
 
 const FAULTS: &[(RunFault, &str)] = &[
@@ -9,10 +10,14 @@ const FAULTS: &[(RunFault, &str)] = &[
     (RunFault::Refused, "refused"),
 ];
 
+fn is_told(alloc: Global, fault: RunFault, text: &str) -> Result<bool, AllocError> {
+    Ok(fault.to_string(alloc)?.as_str() == text)
+}
+
 #[test]
 fn faults_of_a_run_are_told(rt: HostRuntime) -> Result<(), Fail> {
     for (fault, text) in FAULTS {
-        assert_eq!(rt; fault.to_string(rt.alloc())?.as_str(), *text);
+        assert!(rt; is_told(rt.alloc(), *fault, text)?, "{text}");
     }
     Ok(())
 }

@@ -1,15 +1,15 @@
 //! Lines and scripts that are answered in places which their caller keeps.
-use crate::fakes::{Piece, Pieces, new_session, writer_that_tires};
-use crate::mismatches::{Mismatch, same};
+use crate::fakes::{Piece, Pieces, Tiring, new_session, writer_that_tires};
+use crate::mismatches::{Mismatch, named, same};
 use geos_shell::{RunFault, answer_line, run_in};
-use std::alloc::Global;
+use std::alloc::{AllocError, Global};
 use std::io::ErrorKind;
 use std::test::Fail;
 use undo_log::Session;
 use vm_store::MemStore;
 
 // What a session has beside it, with no target for a save-as.
-fn nothing_beside() -> Beside {
+pub(crate) fn nothing_beside() -> Beside {
     Beside {
         target: None,
         former: None,
@@ -18,13 +18,45 @@ fn nothing_beside() -> Beside {
 
 // The target of a save-as, and the store that one left.
 #[derive(Drop)]
-struct Beside {
+pub(crate) struct Beside {
     target: Option<MemStore>,
     former: Option<MemStore>,
 }
 
-// Answers lines, and compares the replies.
-fn answers(
+// Answers a line, of which nothing is promised here: a test says by itself what it wants of the replies.
+fn answer(
+    alloc: Global,
+    session: &mut Session<MemStore>,
+    beside: &mut Beside,
+    line: &str,
+    out: &mut Vec<u8>,
+) -> Result<(), AllocError> {
+    answer_line(
+        alloc,
+        session,
+        &mut beside.target,
+        &mut beside.former,
+        line.as_bytes(),
+        out,
+    )
+}
+
+// Answers lines behind what is there.
+fn answer_each(
+    alloc: Global,
+    session: &mut Session<MemStore>,
+    beside: &mut Beside,
+    lines: &[&str],
+    out: &mut Vec<u8>,
+) -> Result<(), AllocError> {
+    for line in lines {
+        answer(alloc, session, beside, line, out)?;
+    }
+    Ok(())
+}
+
+/// Answers lines, and compares the replies.
+pub(crate) fn answers(
     alloc: Global,
     session: &mut Session<MemStore>,
     beside: &mut Beside,
@@ -32,60 +64,41 @@ fn answers(
     wanted: &str,
 ) -> Result<(), Mismatch> {
     let mut out = Vec::new(alloc);
-    for line in lines {
-        answer_line(
-            alloc,
-            session,
-            &mut beside.target,
-            &mut beside.former,
-            line.as_bytes(),
-            &mut out,
-        )?;
-    }
+    answer_each(alloc, session, beside, lines, &mut out)?;
     same(alloc, &out, wanted)
 }
 
-// Opens the file in a store, if there is one, answers lines and compares the replies.
-fn opens_to(
-    alloc: Global,
-    store: Option<MemStore>,
-    lines: &[&str],
-    wanted: &str,
-) -> Result<(), Mismatch> {
-    let Some(store) = store else {
-        return Err(Mismatch::Count(0));
-    };
-    let mut session = Session::open(alloc, store, 8).map_err(|refused| refused.fault)?;
-    answers(alloc, &mut session, &mut nothing_beside(), lines, wanted)
+// Opens the file in a store, answers lines and compares the replies.
+fn opens_to(alloc: Global, store: MemStore, lines: &[&str], wanted: &str) -> Result<(), Mismatch> {
+    match Session::open(alloc, store, 8) {
+        Ok(mut session) => answers(alloc, &mut session, &mut nothing_beside(), lines, wanted),
+        Err(refused) => Err(Mismatch::Refused(refused.fault)),
+    }
 }
 
-// Answers lines behind what is there.
+// Answers lines in a new session behind what is there.
 fn put_behind(alloc: Global, lines: &[&str], out: &mut Vec<u8>) -> Result<(), Mismatch> {
     let mut session = new_session(alloc)?;
-    let mut beside = nothing_beside();
-    for line in lines {
-        answer_line(
-            alloc,
-            &mut session,
-            &mut beside.target,
-            &mut beside.former,
-            line.as_bytes(),
-            out,
-        )?;
-    }
+    answer_each(alloc, &mut session, &mut nothing_beside(), lines, out)?;
     Ok(())
+}
+
+// Answers lines behind a text, and compares both.
+fn stands_behind(alloc: Global, lines: &[&str], wanted: &str) -> Result<(), Mismatch> {
+    let mut out = b"> ".to_vec(alloc)?;
+    put_behind(alloc, lines, &mut out)?;
+    same(alloc, &out, wanted)
 }
 
 #[test]
 fn a_reply_is_put_behind_what_was_there(rt: HostRuntime) -> Result<(), Fail> {
-    let mut out = b"> ".to_vec(rt.alloc())?;
     let lines = ["newheap 7", "", "# a note", "nothing"];
-    put_behind(rt.alloc(), lines.as_slice(), &mut out)?;
-    assert_eq!(rt;
-        out.as_slice(),
-        b"> block 0001\nno 25 BadCommand\n".as_slice()
+    let end = stands_behind(
+        rt.alloc(),
+        lines.as_slice(),
+        "> block 0001\nno 25 BadCommand\n",
     );
-    Ok(())
+    named("behind a text", end)
 }
 
 const SAVED_AS: [&str; 6] = [
@@ -97,32 +110,49 @@ const SAVED_AS: [&str; 6] = [
     "saveas",
 ];
 
+const SAVED_AS_REPLIES: &str = "block 0001\nok\nchunk 0010\nok\nok\nno 24 NoTarget\n";
+
+// Saves as a new target in a session. Returns the store that the session left, where the target was taken.
+fn left(alloc: Global, session: &mut Session<MemStore>) -> Result<Option<MemStore>, Mismatch> {
+    let mut beside = Beside {
+        target: Some(MemStore::new(alloc)),
+        former: None,
+    };
+    answers(
+        alloc,
+        session,
+        &mut beside,
+        SAVED_AS.as_slice(),
+        SAVED_AS_REPLIES,
+    )?;
+    if beside.target.is_some() {
+        return Ok(None);
+    }
+    Ok(beside.former)
+}
+
+// The store that the session left, and the one in which it went on.
+fn both_stores(alloc: Global) -> Result<(Option<MemStore>, MemStore), Mismatch> {
+    let mut session = new_session(alloc)?;
+    let former = left(alloc, &mut session)?;
+    Ok((former, session.close()))
+}
+
+// Compares what is in both.
+fn are_saved(alloc: Global) -> Result<(), Mismatch> {
+    let (former, store) = both_stores(alloc)?;
+    opens_to(alloc, store, ["chunks 0001"].as_slice(), "chunks 0010\n")?;
+    let before = ["chunks 0001", "revert", "chunks 0001"];
+    match former {
+        Some(store) => opens_to(alloc, store, before.as_slice(), "chunks\nok\nchunks\n"),
+        None => Err(Mismatch::Count(0)),
+    }
+}
+
 // What was updated last is gone from the old store, but not what was saved; the session goes on in the target.
 #[test]
 fn a_save_as_hands_the_old_store_back(rt: HostRuntime) -> Result<(), Fail> {
-    let alloc = rt.alloc();
-    let mut session = new_session(alloc)?;
-    let mut beside = nothing_beside();
-    beside.target = Some(MemStore::new(alloc));
-    let wanted = "block 0001\nok\nchunk 0010\nok\nok\nno 24 NoTarget\n";
-    answers(
-        alloc,
-        &mut session,
-        &mut beside,
-        SAVED_AS.as_slice(),
-        wanted,
-    )?;
-    assert!(rt; beside.target.is_none());
-    let before = ["chunks 0001", "revert", "chunks 0001"];
-    opens_to(
-        alloc,
-        beside.former,
-        before.as_slice(),
-        "chunks\nok\nchunks\n",
-    )?;
-    let after = Some(session.close());
-    opens_to(alloc, after, ["chunks 0001"].as_slice(), "chunks 0010\n")?;
-    Ok(())
+    named("both stores", are_saved(rt.alloc()))
 }
 
 /// A run that ends early, in a session that is lent.
@@ -168,19 +198,28 @@ const LENT: &[Lent] = &[
     },
 ];
 
-// Has the run, and compares how it ends.
-fn ends_so(alloc: Global, session: &mut Session<MemStore>, lent: &Lent) -> Result<(), Mismatch> {
-    let mut reader = Pieces(lent.script);
-    let mut writer = writer_that_tires(alloc, usize::MAX, lent.writes, 100);
+// Runs a script in a session, with nothing beside it.
+fn runs(
+    alloc: Global,
+    session: &mut Session<MemStore>,
+    script: &[Piece],
+    writer: &mut Tiring,
+) -> Result<(), RunFault> {
     let mut beside = nothing_beside();
-    let ended = run_in(
+    run_in(
         alloc,
         session,
         &mut beside.target,
         &mut beside.former,
-        &mut reader,
-        &mut writer,
-    );
+        &mut Pieces(script),
+        writer,
+    )
+}
+
+// Has the run, and compares how it ends.
+fn ends_so(alloc: Global, session: &mut Session<MemStore>, lent: &Lent) -> Result<(), Mismatch> {
+    let mut writer = writer_that_tires(alloc, usize::MAX, lent.writes, 100);
+    let ended = runs(alloc, session, lent.script, &mut writer);
     if ended != Err(lent.ends) {
         return Err(Mismatch::Ends(ended.err()));
     }
@@ -202,9 +241,7 @@ fn is_left(alloc: Global, lent: &Lent) -> Result<(), Mismatch> {
 #[test]
 fn each_session_keeps_what_the_lines_led_to(rt: HostRuntime) -> Result<(), Fail> {
     for lent in LENT {
-        if let Err(mismatch) = is_left(rt.alloc(), lent) {
-            return Err(Fail::new(format_args!("{}: {mismatch:?}", lent.name)));
-        }
+        named(lent.name, is_left(rt.alloc(), lent))?;
     }
     Ok(())
 }

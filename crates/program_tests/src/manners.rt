@@ -1,29 +1,30 @@
 //! Runs that end behind a refusal, and runs that write each line before its reply.
 use crate::fakes::{Piece, Pieces, new_session, writer_that_tires};
-use crate::mismatches::{Mismatch, are, same};
-use geos_shell::{Manner, RunFault, answer_line, run_in_manner};
+use crate::lending::{answers, nothing_beside};
+use crate::mismatches::{Mismatch, are, named, same};
+use geos_shell::{Manner, RunFault, run_in_manner};
 use std::alloc::Global;
 use std::io::{ErrorKind, Read, Write};
 use std::test::Fail;
 use undo_log::Session;
 use vm_store::MemStore;
 
-const PLAIN: Manner = Manner {
+pub(crate) const QUIET: Manner = Manner {
     bails: false,
     echoes: false,
 };
 
-const BAILS: Manner = Manner {
+pub(crate) const BAILS: Manner = Manner {
     bails: true,
     echoes: false,
 };
 
-const ECHOES: Manner = Manner {
+pub(crate) const ECHOES: Manner = Manner {
     bails: false,
     echoes: true,
 };
 
-const BOTH: Manner = Manner {
+pub(crate) const BOTH: Manner = Manner {
     bails: true,
     echoes: true,
 };
@@ -60,7 +61,7 @@ const ACCEPTED: &[Piece] = &[
 const RUNS: &[Run] = &[
     Run {
         name: "without a manner a refusal is one of the replies",
-        manner: PLAIN,
+        manner: QUIET,
         script: MIDDLE,
         writes: 100,
         ends: Ok(()),
@@ -114,7 +115,8 @@ const RUNS: &[Run] = &[
         script: MIDDLE,
         writes: 100,
         ends: Ok(()),
-        written: "newraw 1 1\nblock 0001\n\nvfree 0002\nno 5 NoBlock\nnewraw 2 2\nblock 0002\n# a note\nlist\nblocks 0001 0002\nnewraw 3 3\nblock 0003\n",
+        written: "newraw 1 1\nblock 0001\n\nvfree 0002\nno 5 NoBlock\nnewraw 2 2\nblock 0002\n# a note\nlist\n\
+            blocks 0001 0002\nnewraw 3 3\nblock 0003\n",
         left: 0,
         blocks: "blocks 0001 0002 0003\n",
     },
@@ -176,34 +178,45 @@ fn runs<R: Read, W: Write>(
     )
 }
 
-fn goes(alloc: Global, run: &Run) -> Result<(), Mismatch> {
-    let mut session = new_session(alloc)?;
-    let mut reader = Pieces(run.script);
-    let mut writer = writer_that_tires(alloc, usize::MAX, run.writes, 100);
-    let ended = runs(alloc, run.manner, &mut session, &mut reader, &mut writer);
+// Compares how a run ends that writes these bytes and leaves so many pieces.
+fn is_so(
+    alloc: Global,
+    run: &Run,
+    ended: Result<(), RunFault>,
+    written: &[u8],
+    left: usize,
+) -> Result<(), Mismatch> {
     if ended != run.ends {
         return Err(Mismatch::Ends(ended.err()));
     }
-    same(alloc, &writer.taken, run.written)?;
-    are(run.left, reader.0.len())?;
-    let mut blocks = Vec::new(alloc);
-    answer_line(
+    same(alloc, written, run.written)?;
+    are(run.left, left)
+}
+
+// Has the run in a session.
+fn ends_so(alloc: Global, session: &mut Session<MemStore>, run: &Run) -> Result<(), Mismatch> {
+    let mut reader = Pieces(run.script);
+    let mut writer = writer_that_tires(alloc, usize::MAX, run.writes, 100);
+    let ended = runs(alloc, run.manner, session, &mut reader, &mut writer);
+    is_so(alloc, run, ended, &writer.taken, reader.0.len())
+}
+
+fn goes(alloc: Global, run: &Run) -> Result<(), Mismatch> {
+    let mut session = new_session(alloc)?;
+    ends_so(alloc, &mut session, run)?;
+    answers(
         alloc,
         &mut session,
-        &mut None,
-        &mut None,
-        b"list",
-        &mut blocks,
-    )?;
-    same(alloc, &blocks, run.blocks)
+        &mut nothing_beside(),
+        &["list"],
+        run.blocks,
+    )
 }
 
 #[test]
 fn each_run_in_a_manner_goes(rt: HostRuntime) -> Result<(), Fail> {
     for run in RUNS {
-        if let Err(mismatch) = goes(rt.alloc(), run) {
-            return Err(Fail::new(format_args!("{}: {mismatch:?}", run.name)));
-        }
+        named(run.name, goes(rt.alloc(), run))?;
     }
     Ok(())
 }
@@ -217,29 +230,47 @@ fn long_line(alloc: Global, count: usize) -> Result<String, Mismatch> {
     Ok(line)
 }
 
+// Runs a script in a session, and compares what is written.
+fn writes(
+    alloc: Global,
+    session: &mut Session<MemStore>,
+    script: &str,
+    wanted: &str,
+) -> Result<(), Mismatch> {
+    let mut written = Vec::new(alloc);
+    let mut reader = script.as_bytes();
+    match runs(alloc, ECHOES, session, &mut reader, &mut written) {
+        Ok(()) => same(alloc, &written, wanted),
+        Err(fault) => Err(Mismatch::Ends(Some(fault))),
+    }
+}
+
+// The same in a new session.
+fn writes_anew(alloc: Global, script: &str, wanted: &str) -> Result<(), Mismatch> {
+    let mut session = new_session(alloc)?;
+    writes(alloc, &mut session, script, wanted)
+}
+
 // Has a run that echoes a long line as this text, and gives it this reply.
 fn echoes_as(alloc: Global, line: &str, echo: &str, reply: &str) -> Result<(), Mismatch> {
     let script = format!(in alloc; "newraw 7 65000\n{line}\n")?;
     let wanted = format!(in alloc; "newraw 7 65000\nblock 0001\n{echo}\n{reply}\n")?;
-    let mut session = new_session(alloc)?;
-    let mut written = Vec::new(alloc);
-    let mut reader = script.as_bytes();
-    match runs(alloc, ECHOES, &mut session, &mut reader, &mut written) {
-        Ok(()) => same(alloc, &written, &wanted),
-        Err(fault) => Err(Mismatch::Ends(Some(fault))),
+    writes_anew(alloc, &script, &wanted)
+}
+
+// Has a run that echoes so many bytes of a long line.
+fn echoes(alloc: Global, count: usize, length: usize, reply: &str) -> Result<(), Mismatch> {
+    let line = long_line(alloc, count)?;
+    match line.get(..length) {
+        Some(echo) => echoes_as(alloc, &line, echo, reply),
+        None => Err(Mismatch::Count(line.len())),
     }
 }
 
 #[test]
 fn a_line_longer_than_a_piece_is_echoed(rt: HostRuntime) -> Result<(), Fail> {
-    let alloc = rt.alloc();
-    // The first takes two pieces, and the second more than a command has.
-    let line = long_line(alloc, 3_000)?;
-    echoes_as(alloc, &line, &line, "ok")?;
-    let line = long_line(alloc, 75_000)?;
-    let Some(echo) = line.get(..140_001) else {
-        return Err(Fail::from("short"));
-    };
-    echoes_as(alloc, &line, echo, "no 25 BadCommand")?;
-    Ok(())
+    // The first takes two pieces and is echoed whole, and the second has more than a command.
+    named("two pieces", echoes(rt.alloc(), 3_000, 6_014, "ok"))?;
+    let end = echoes(rt.alloc(), 75_000, 140_001, "no 25 BadCommand");
+    named("more than a command", end)
 }

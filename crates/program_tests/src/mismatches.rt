@@ -3,12 +3,15 @@ use geos_model::Fault;
 use geos_shell::RunFault;
 use std::alloc::{AllocError, Global};
 use std::io;
+use std::test::Fail;
 
 #[derive(Debug, Drop)]
 pub(crate) enum Mismatch {
     Memory,
     /// A call of the machine fails, or of a reader or a writer.
     Io(io::Error),
+    /// The words give options.
+    IsTaken,
     /// There is no session.
     Refused(Fault),
     /// A run ends otherwise.
@@ -40,6 +43,14 @@ impl From<io::Error> for Mismatch {
 impl From<Fault> for Mismatch {
     fn from(fault: Fault) -> Mismatch {
         Mismatch::Refused(fault)
+    }
+}
+
+/// Begins the failure, if there is one, with the name of what it differs from.
+pub(crate) fn named(name: &str, end: Result<(), Mismatch>) -> Result<(), Fail> {
+    match end {
+        Ok(()) => Ok(()),
+        Err(mismatch) => Err(Fail::new(format_args!("{name}: {mismatch:?}"))),
     }
 }
 

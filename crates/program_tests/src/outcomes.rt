@@ -1,8 +1,9 @@
 //! Outcomes of the program.
-use crate::mismatches::{Mismatch, same};
+use crate::mismatches::{Mismatch, named, same};
 use geos_model::{Bytes, Fault};
 use geos_shell::{Outcome, RunFault};
 use std::alloc::Global;
+use std::io;
 use std::test::Fail;
 
 /// Faults by which a run ends, each with its line.
@@ -13,25 +14,39 @@ const RUN_FAULTS: &[(RunFault, &str)] = &[
     (RunFault::Refused, "geosvm: refused\n"),
 ];
 
-// Compares the status and the line of an outcome.
-fn is_told(alloc: Global, outcome: Outcome, status: u8, line: &str) -> Result<(), Mismatch> {
+/// What there is to tell of an outcome.
+pub(crate) fn line_of(alloc: Global, outcome: &Outcome) -> io::Result<Vec<u8>> {
     let mut written = Vec::new(alloc);
     outcome.write_line(&mut written)?;
-    same(alloc, &written, line)?;
+    Ok(written)
+}
+
+fn has_told(alloc: Global, outcome: &Outcome, status: u8, line: &str) -> Result<(), Mismatch> {
+    same(alloc, &line_of(alloc, outcome)?, line)?;
     if outcome.status() == status {
         return Ok(());
     }
     Err(Mismatch::Status(outcome.status()))
 }
 
-#[test]
-fn each_outcome_has_its_status_and_line(rt: HostRuntime) -> Result<(), Fail> {
-    let alloc = rt.alloc();
-    let text = Bytes::from_vec(vec![in alloc; b'a', b'b']?);
+/// Compares the status and the line of an outcome.
+pub(crate) fn is_told(
+    alloc: Global,
+    outcome: Outcome,
+    status: u8,
+    line: &str,
+) -> Result<(), Mismatch> {
+    has_told(alloc, &outcome, status, line)
+}
+
+fn texts_are_told(alloc: Global) -> Result<(), Mismatch> {
+    let text = Bytes::from_vec(b"ab".to_vec(alloc)?);
     is_told(alloc, Outcome::Help(text), 0, "ab")?;
-    let version = Bytes::from_vec(vec![in alloc; b'v', b'1']?);
-    is_told(alloc, Outcome::Version(version), 0, "v1")?;
-    is_told(alloc, Outcome::Done, 0, "")?;
+    let version = Bytes::from_vec(b"v1".to_vec(alloc)?);
+    is_told(alloc, Outcome::Version(version), 0, "v1")
+}
+
+fn refusals_are_told(alloc: Global) -> Result<(), Mismatch> {
     let refused = Outcome::Create(Fault::File);
     is_told(alloc, refused, 1, "geosvm: create 2 File\n")?;
     let refused = Outcome::Open(Fault::NotDocument);
@@ -39,9 +54,24 @@ fn each_outcome_has_its_status_and_line(rt: HostRuntime) -> Result<(), Fail> {
     let refused = Outcome::Open(Fault::Worn);
     is_told(alloc, refused, 1, "geosvm: open 27 Worn\n")?;
     is_told(alloc, Outcome::Target, 1, "geosvm: target 2 File\n")?;
+    is_told(alloc, Outcome::SameFile, 2, "geosvm: FILE2 is FILE\n")
+}
+
+fn run_faults_are_told(alloc: Global) -> Result<(), Mismatch> {
     for (fault, line) in RUN_FAULTS {
         is_told(alloc, Outcome::Run(*fault), 1, line)?;
     }
-    is_told(alloc, Outcome::SameFile, 2, "geosvm: FILE2 is FILE\n")?;
     Ok(())
+}
+
+fn all_are_told(alloc: Global) -> Result<(), Mismatch> {
+    texts_are_told(alloc)?;
+    is_told(alloc, Outcome::Done, 0, "")?;
+    refusals_are_told(alloc)?;
+    run_faults_are_told(alloc)
+}
+
+#[test]
+fn each_outcome_has_its_status_and_line(rt: HostRuntime) -> Result<(), Fail> {
+    named("outcomes", all_are_told(rt.alloc()))
 }

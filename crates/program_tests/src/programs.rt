@@ -1,7 +1,8 @@
 //! Runs of the program on files of the machine, step by step.
 use crate::documents::{Content, bytes_of};
 use crate::mismatches::{Mismatch, holds, same};
-use geos_shell::serve;
+use crate::outcomes::is_told;
+use geos_shell::{Outcome, serve};
 use std::fs;
 use std::os::unix::fs::symlink;
 use std::test::Fail;
@@ -35,6 +36,18 @@ pub(crate) enum Step {
 /// What a list of steps shows, and the steps.
 pub(crate) type Case = (&'static str, &'static [Step]);
 
+// Runs the program.
+fn served(rt: &HostRuntime, words: &[&str], script: &str, replies: &mut Vec<u8>) -> Outcome {
+    let mut files = machine_files(rt);
+    serve(
+        rt.alloc(),
+        &mut files,
+        words,
+        &mut script.as_bytes(),
+        replies,
+    )
+}
+
 // Runs the program. Its status must be this one, and what it replies and what it tells must be these texts.
 fn comes_to(
     rt: &HostRuntime,
@@ -43,24 +56,10 @@ fn comes_to(
     status: u8,
     texts: (&str, &str),
 ) -> Result<(), Mismatch> {
-    let alloc = rt.alloc();
-    let mut replies = Vec::new(alloc);
-    let mut files = machine_files(rt);
-    let outcome = serve(
-        alloc,
-        &mut files,
-        words,
-        &mut script.as_bytes(),
-        &mut replies,
-    );
-    let mut line = Vec::new(alloc);
-    outcome.write_line(&mut line)?;
-    same(alloc, &line, texts.1)?;
-    same(alloc, &replies, texts.0)?;
-    if outcome.status() == status {
-        return Ok(());
-    }
-    Err(Mismatch::Status(outcome.status()))
+    let mut replies = Vec::new(rt.alloc());
+    let outcome = served(rt, words, script, &mut replies);
+    is_told(rt.alloc(), outcome, status, texts.1)?;
+    same(rt.alloc(), &replies, texts.0)
 }
 
 fn write(rt: &HostRuntime, path: &str, content: Content) -> Result<(), Mismatch> {
@@ -89,32 +88,59 @@ fn is_missing(rt: &HostRuntime, path: &str) -> Result<(), Mismatch> {
     Ok(())
 }
 
+fn is_long(rt: &HostRuntime, path: &str, length: usize) -> Result<(), Mismatch> {
+    holds(fs::read(rt, path)?.len() == length)
+}
+
+fn link(rt: &HostRuntime, path: &str, name: &str) -> Result<(), Mismatch> {
+    symlink(rt, path, name)?;
+    Ok(())
+}
+
+fn remove(rt: &HostRuntime, path: &str) -> Result<(), Mismatch> {
+    fs::remove_file(rt, path)?;
+    Ok(())
+}
+
+fn forget(rt: &HostRuntime, path: &str) -> Result<(), Mismatch> {
+    let _ = fs::remove_file(rt, path);
+    Ok(())
+}
+
 fn take(rt: &HostRuntime, step: Step) -> Result<(), Mismatch> {
     match step {
-        Step::Forget(path) => {
-            let _ = fs::remove_file(rt, path);
-            Ok(())
-        }
+        Step::Forget(path) => forget(rt, path),
         Step::Write(path, content) => write(rt, path, content),
-        Step::Link(path, name) => Ok(symlink(rt, path, name)?),
+        Step::Link(path, name) => link(rt, path, name),
         Step::Answers(words, script, replies) => comes_to(rt, words, script, 0, (replies, "")),
         Step::Ends(words, status, line) => comes_to(rt, words, "list\n", status, ("", line)),
         Step::Has(path, content) => has(rt, path, content),
         Step::BeginsWith(path, content) => begins_with(rt, path, content),
-        Step::IsLong(path, length) => holds(fs::read(rt, path)?.len() == length),
+        Step::IsLong(path, length) => is_long(rt, path, length),
         Step::IsMissing(path) => is_missing(rt, path),
-        Step::Remove(path) => Ok(fs::remove_file(rt, path)?),
+        Step::Remove(path) => remove(rt, path),
     }
 }
 
-/// Takes the steps of each case. Where one differs, the failure begins with what the case shows, and says which step it is, from 0 on.
+// Takes a step. Where it differs, the failure begins with what its case shows, and says which step it is.
+fn take_at(rt: &HostRuntime, name: &str, place: usize, step: Step) -> Result<(), Fail> {
+    match take(rt, step) {
+        Ok(()) => Ok(()),
+        Err(mismatch) => Err(Fail::new(format_args!("{name}, step {place}: {mismatch:?}"))),
+    }
+}
+
+fn take_all(rt: &HostRuntime, name: &str, steps: &[Step]) -> Result<(), Fail> {
+    for (place, step) in steps.iter().enumerate() {
+        take_at(rt, name, place, *step)?;
+    }
+    Ok(())
+}
+
+/// Takes the steps of each case, which are counted from 0 on.
 pub(crate) fn take_each(rt: &HostRuntime, cases: &[Case]) -> Result<(), Fail> {
     for (name, steps) in cases {
-        for (place, step) in steps.iter().enumerate() {
-            if let Err(mismatch) = take(rt, *step) {
-                return Err(Fail::new(format_args!("{name}, step {place}: {mismatch:?}")));
-            }
-        }
+        take_all(rt, name, steps)?;
     }
     Ok(())
 }

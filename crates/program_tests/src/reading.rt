@@ -1,8 +1,11 @@
 //! Readers that fail, are interrupted, or give a byte a read.
+use crate::asserting::same_number;
 use crate::fakes::{Drops, Piece, fault_of};
 use crate::runs::{Run, each_goes};
 use dialogues::Dialogue;
+use geos_model::Fault;
 use geos_shell::RunFault;
+use std::alloc::{AllocError, Global};
 use std::io::ErrorKind;
 use std::test::Fail;
 
@@ -58,19 +61,37 @@ fn each_run_over_a_reader_goes(rt: HostRuntime) -> Result<(), Fail> {
     each_goes(rt.alloc(), READING)
 }
 
-#[test]
-fn a_script_of_many_bytes_comes_a_byte_a_read(rt: HostRuntime) -> Result<(), Fail> {
-    let mut dialogue = Dialogue::new(rt.alloc());
+fn add_often(dialogue: &mut Dialogue) -> Result<(), AllocError> {
     for _ in 0..7_000 {
         dialogue.add_text("newheap 0\nundo\n", "block 0001\nok\n")?;
     }
+    Ok(())
+}
+
+// Whether the script that comes a byte a read has these replies, and its run ends without a fault.
+fn is_answered(alloc: Global, script: &[u8], replies: &[u8]) -> Result<bool, Fault> {
     let mut reader = Drops {
-        left: dialogue.script().as_bytes(),
+        left: script,
         is_interrupted: false,
     };
-    let mut written = Vec::new(rt.alloc());
-    assert_eq!(rt; reader.left.len(), 105_000);
-    assert_eq!(rt; fault_of(rt.alloc(), &mut reader, &mut written)?, None);
-    assert!(rt; written.as_slice() == dialogue.replies().as_bytes());
+    let mut written = Vec::new(alloc);
+    let fault = fault_of(alloc, &mut reader, &mut written)?;
+    Ok(fault.is_none() && written.as_slice() == replies)
+}
+
+fn is_dialogue_held(alloc: Global, dialogue: &Dialogue) -> Result<bool, Fault> {
+    is_answered(
+        alloc,
+        dialogue.script().as_bytes(),
+        dialogue.replies().as_bytes(),
+    )
+}
+
+#[test]
+fn a_script_of_many_bytes_comes_a_byte_a_read(rt: HostRuntime) -> Result<(), Fail> {
+    let mut dialogue = Dialogue::new(rt.alloc());
+    add_often(&mut dialogue)?;
+    same_number(&rt, dialogue.script().len() as u64, 105_000);
+    assert!(rt; is_dialogue_held(rt.alloc(), &dialogue)?);
     Ok(())
 }

@@ -1,6 +1,6 @@
 //! Runs over pieces of a script, and how they end.
 use crate::fakes::{Piece, Pieces, fault_of, writer_that_tires};
-use crate::mismatches::{Mismatch, are, same};
+use crate::mismatches::{Mismatch, are, named, same};
 use geos_shell::RunFault;
 use std::alloc::Global;
 use std::test::Fail;
@@ -22,23 +22,32 @@ pub(crate) struct Run {
     pub(crate) left: usize,
 }
 
+// Compares how a run ends that writes these replies and leaves so many pieces.
+fn is_so(
+    alloc: Global,
+    run: &Run,
+    fault: Option<RunFault>,
+    replies: &[u8],
+    left: usize,
+) -> Result<(), Mismatch> {
+    if fault != run.ends {
+        return Err(Mismatch::Ends(fault));
+    }
+    same(alloc, replies, run.replies)?;
+    are(run.left, left)
+}
+
 fn goes(alloc: Global, run: &Run) -> Result<(), Mismatch> {
     let mut reader = Pieces(run.script);
     let mut writer = writer_that_tires(alloc, run.most, run.writes, run.flushes);
     let fault = fault_of(alloc, &mut reader, &mut writer)?;
-    if fault != run.ends {
-        return Err(Mismatch::Ends(fault));
-    }
-    same(alloc, &writer.taken, run.replies)?;
-    are(run.left, reader.0.len())
+    is_so(alloc, run, fault, &writer.taken, reader.0.len())
 }
 
 /// Has each run. Where one differs, the failure begins with what it shows.
 pub(crate) fn each_goes(alloc: Global, runs: &[Run]) -> Result<(), Fail> {
     for run in runs {
-        if let Err(mismatch) = goes(alloc, run) {
-            return Err(Fail::new(format_args!("{}: {mismatch:?}", run.name)));
-        }
+        named(run.name, goes(alloc, run))?;
     }
     Ok(())
 }

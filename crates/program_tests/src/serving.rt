@@ -2,7 +2,8 @@
 use crate::documents::{Content, FIFTH, bytes_of};
 use crate::fakes::{Piece, Pieces, writer_that_tires};
 use crate::memory::MemFiles;
-use crate::mismatches::{Mismatch, are, holds, same};
+use crate::mismatches::{Mismatch, are, holds, named, same};
+use crate::outcomes::is_told;
 use geos_shell::serve;
 use std::alloc::Global;
 use std::io::ErrorKind;
@@ -204,14 +205,8 @@ fn goes(alloc: Global, files: &mut MemFiles, run: Run) -> Result<(), Mismatch> {
     let mut reader = Pieces(run.script);
     let mut writer = writer_that_tires(alloc, usize::MAX, run.writes, 100);
     let outcome = serve(alloc, files, run.words, &mut reader, &mut writer);
-    let mut line = Vec::new(alloc);
-    outcome.write_line(&mut line)?;
-    same(alloc, &line, run.line)?;
-    same(alloc, &writer.taken, run.replies)?;
-    if outcome.status() == run.status {
-        return Ok(());
-    }
-    Err(Mismatch::Status(outcome.status()))
+    is_told(alloc, outcome, run.status, run.line)?;
+    same(alloc, &writer.taken, run.replies)
 }
 
 // Opens the bytes of a file, in a run of its own: its blocks must be these.
@@ -249,22 +244,23 @@ fn have(alloc: Global, stores: &[MemStore], closed: &[Closed]) -> Result<(), Mis
     Ok(())
 }
 
-fn is_served(alloc: Global, serving: &Serving) -> Result<(), Mismatch> {
-    let mut files = MemFiles::new(alloc);
+fn goes_on(alloc: Global, files: &mut MemFiles, serving: &Serving) -> Result<(), Mismatch> {
     files.can_guard = serving.can_guard;
-    let document = bytes_of(alloc, serving.document)?;
-    files.keep("document", &document)?;
-    goes(alloc, &mut files, serving.run)?;
+    files.keep("document", &bytes_of(alloc, serving.document)?)?;
+    goes(alloc, files, serving.run)?;
     same(alloc, files.asked.as_bytes(), serving.asked)?;
     have(alloc, &files.closed, serving.closed)
+}
+
+fn is_served(alloc: Global, serving: &Serving) -> Result<(), Mismatch> {
+    let mut files = MemFiles::new(alloc);
+    goes_on(alloc, &mut files, serving)
 }
 
 #[test]
 fn each_run_closes_its_files(rt: HostRuntime) -> Result<(), Fail> {
     for serving in SERVINGS {
-        if let Err(mismatch) = is_served(rt.alloc(), serving) {
-            return Err(Fail::new(format_args!("{}: {mismatch:?}", serving.name)));
-        }
+        named(serving.name, is_served(rt.alloc(), serving))?;
     }
     Ok(())
 }

@@ -1,4 +1,5 @@
 //! What the records of a session hold.
+use crate::asserting::same_number;
 use crate::fakes::new_session;
 use geos_model::{Bytes, ChunkHandle, Done, Edit, Fault, VmHandle};
 use std::alloc::{AllocError, Global};
@@ -73,32 +74,52 @@ fn with_chunk<R: Abort + AllocGlobal>(rt: &R, size: u32) -> Result<Weighed, Fail
     Ok(session)
 }
 
-#[test]
-fn three_edits_weigh_no_more_than_what_they_changed(rt: HostRuntime) -> Result<(), Fail> {
-    let mut session = with_chunk(&rt, 3)?;
-    let edit = written(rt.alloc(), b"abc")?;
-    assert!(rt; session.edit(&edit).is_ok());
+// Writes over the first bytes of the chunk. Returns whether that is taken.
+fn writes(alloc: Global, session: &mut Weighed, bytes: &[u8]) -> Result<bool, AllocError> {
+    Ok(session.edit(&written(alloc, bytes)?).is_ok())
+}
+
+fn weigh_what_they_changed(rt: &impl Abort, session: &mut Weighed) {
     assert!(rt; session.is_resident(BLOCK));
     assert!(rt; session.weight() <= 12);
     for _ in 0..3 {
-        assert_eq!(rt; session.undo(), Ok(()));
+        assert!(rt; session.undo().is_ok());
     }
     assert!(rt; session.weight() <= 12);
     assert!(rt; !session.is_resident(BLOCK));
+}
+
+#[test]
+fn three_edits_weigh_no_more_than_what_they_changed(rt: HostRuntime) -> Result<(), Fail> {
+    let mut session = with_chunk(&rt, 3)?;
+    assert!(rt; writes(rt.alloc(), &mut session, b"abc")?);
+    weigh_what_they_changed(&rt, &mut session);
     Ok(())
+}
+
+// Whether a thousand writes are taken.
+fn writes_often(alloc: Global, session: &mut Weighed) -> Result<bool, AllocError> {
+    for _ in 0..1_000 {
+        if !writes(alloc, session, b"z")? {
+            return Ok(false);
+        }
+    }
+    Ok(true)
 }
 
 #[test]
 fn a_thousand_small_writes_weigh_little_beside_their_chunk(rt: HostRuntime) -> Result<(), Fail> {
     let mut session = with_chunk(&rt, 60_000)?;
-    for _ in 0..1_000 {
-        let edit = written(rt.alloc(), b"z")?;
-        assert!(rt; session.edit(&edit).is_ok());
-    }
+    assert!(rt; writes_often(rt.alloc(), &mut session)?);
     assert!(rt; session.weight() <= 62_003);
-    assert_eq!(rt; session.undo_count(), 1_002);
+    has_records(&rt, &session, 1_002);
     session.validity();
     Ok(())
+}
+
+// So many edits can be undone.
+fn has_records(rt: &impl Abort, session: &Weighed, count: u64) {
+    same_number(rt, session.undo_count() as u64, count);
 }
 
 // Whether a session weighs more than it did, and no more than so many bytes beside that.
@@ -128,34 +149,49 @@ fn gains_of_each(alloc: Global, session: &mut Weighed, before: u64) -> Result<()
     gains(session, &Edit::FreeBlock(VmHandle(2)), before, 28)
 }
 
+// A session weighs so much.
+fn weighs(rt: &impl Abort, session: &Weighed, weight: u64) {
+    same_number(rt, session.weight(), weight);
+}
+
+// An open group ends, is undone and redone, and weighs the same all along.
+fn ends(rt: &impl Abort, session: &mut Weighed) {
+    let weight = session.weight();
+    has_records(rt, session, 2);
+    assert!(rt; session.end().is_ok());
+    weighs(rt, session, weight);
+    has_records(rt, session, 3);
+    assert!(rt; session.undo().is_ok());
+    weighs(rt, session, weight);
+    assert!(rt; session.redo().is_ok());
+    weighs(rt, session, weight);
+}
+
 #[test]
 fn an_open_group_weighs_no_more_than_its_edits_cost_and_the_same_once_it_ends(
     rt: HostRuntime,
 ) -> Result<(), Fail> {
     let mut session = with_chunk(&rt, 3)?;
     let before = session.weight();
-    assert_eq!(rt; session.begin(), Ok(()));
+    assert!(rt; session.begin().is_ok());
     gains_of_each(rt.alloc(), &mut session, before)?;
-    let weight = session.weight();
-    assert_eq!(rt; session.undo_count(), 2);
-    assert_eq!(rt; session.end(), Ok(()));
-    assert_eq!(rt; session.weight(), weight);
-    assert_eq!(rt; session.undo_count(), 3);
-    assert_eq!(rt; session.undo(), Ok(()));
-    assert_eq!(rt; session.weight(), weight);
-    assert_eq!(rt; session.redo(), Ok(()));
-    assert_eq!(rt; session.weight(), weight);
+    ends(&rt, &mut session);
+    Ok(())
+}
+
+// A group is begun, gets an edit and is abandoned, and the session weighs what it did.
+fn is_abandoned(rt: &impl Abort, alloc: Global, session: &mut Weighed) -> Result<(), Fail> {
+    let before = session.weight();
+    assert!(rt; session.begin().is_ok());
+    weighs(rt, session, before);
+    gains(session, &written(alloc, b"abc")?, before, 6)?;
+    assert!(rt; session.abandon().is_ok());
+    weighs(rt, session, before);
     Ok(())
 }
 
 #[test]
 fn an_abandoned_group_weighs_nothing(rt: HostRuntime) -> Result<(), Fail> {
     let mut session = with_chunk(&rt, 3)?;
-    let before = session.weight();
-    assert_eq!(rt; session.begin(), Ok(()));
-    assert_eq!(rt; session.weight(), before);
-    gains(&mut session, &written(rt.alloc(), b"abc")?, before, 6)?;
-    assert_eq!(rt; session.abandon(), Ok(()));
-    assert_eq!(rt; session.weight(), before);
-    Ok(())
+    is_abandoned(&rt, rt.alloc(), &mut session)
 }

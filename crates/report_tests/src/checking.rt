@@ -41,28 +41,45 @@ fn is_faulted(report: &Report) -> bool {
 // Whether a file opens.
 type Verdict = Result<(), Fault>;
 
+// Whether that is the verdict of a report, in which something is found just where it is a refusal.
+fn is_told(report: &Report, verdict: Verdict) -> bool {
+    report.verdict == verdict && is_faulted(report) == verdict.is_err()
+}
+
 // The verdict of a check of these bytes, where it is what an opening answers, and something is found just where that is refused.
 fn verdict_told(alloc: Global, bytes: &[u8]) -> Result<Option<Verdict>, Fault> {
-    let report = checked(alloc, bytes)?;
     let verdict = opens(alloc, bytes)?;
-    if report.verdict == verdict && is_faulted(&report) == verdict.is_err() {
+    if is_told(&checked(alloc, bytes)?, verdict) {
         return Ok(Some(verdict));
     }
     Ok(None)
 }
 
+// Whether a check of these bytes tells how many they are.
+fn is_length_told(alloc: Global, bytes: &[u8]) -> Result<bool, Fault> {
+    Ok(checked(alloc, bytes)?.file_length as usize == bytes.len())
+}
+
+// Whether nothing is found in a file with these bytes, which opens.
+fn is_sound(alloc: Global, bytes: &[u8]) -> Result<bool, Fault> {
+    Ok(is_length_told(alloc, bytes)? && verdict_told(alloc, bytes)? == Some(Ok(())))
+}
+
+fn makes_sound(alloc: Global, script: &str) -> Result<bool, Fail> {
+    let made = make(alloc, script.as_bytes())?;
+    Ok(is_sound(alloc, made.file.bytes())?)
+}
+
+const SOUND: [&str; 3] = [
+    "",
+    SMALL,
+    "newraw 1 600\nsave\nnewheap 2\nalloc 0002 9\nsave\nupdate\n",
+];
+
 #[test]
 fn nothing_is_found_in_files_that_open(rt: HostRuntime) -> Result<(), Fail> {
-    let alloc = rt.alloc();
-    for script in [
-        "",
-        SMALL,
-        "newraw 1 600\nsave\nnewheap 2\nalloc 0002 9\nsave\nupdate\n",
-    ] {
-        let made = make(alloc, script.as_bytes())?;
-        let report = checked(alloc, made.file.bytes())?;
-        assert_eq!(rt; report.file_length as usize, made.file.bytes().len());
-        assert_eq!(rt; verdict_told(alloc, made.file.bytes())?, Some(Ok(())));
+    for script in SOUND {
+        assert!(rt; makes_sound(rt.alloc(), script)?, "{script}");
     }
     Ok(())
 }
@@ -197,21 +214,35 @@ const CASES: [Case; 28] = [
     ),
 ];
 
+// Whether this is said of slot 0 in a file with these bytes.
+fn is_said_in(alloc: Global, bytes: &[u8], text: &str) -> Result<bool, Fault> {
+    let report = checked(alloc, bytes)?;
+    Ok(is_said(alloc, &report.first, text)?)
+}
+
+// Whether a file with these bytes has that verdict.
+fn has_verdict(alloc: Global, bytes: &[u8], verdict: Verdict) -> Result<bool, Fault> {
+    Ok(verdict_told(alloc, bytes)? == Some(verdict))
+}
+
+// Whether a case is found in the document with these bytes.
+fn is_found(alloc: Global, small: &[u8], case: Case) -> Result<bool, Fault> {
+    let (places, text, verdict) = case;
+    let bytes = changed(alloc, small, places)?;
+    Ok(is_said_in(alloc, &bytes, text)? && has_verdict(alloc, &bytes, verdict)?)
+}
+
 #[test]
 fn what_is_wrong_is_found(rt: HostRuntime) -> Result<(), Fail> {
-    let alloc = rt.alloc();
-    let small = small(alloc)?;
-    for (places, text, verdict) in CASES {
-        let bytes = changed(alloc, &small, places)?;
-        let report = checked(alloc, &bytes)?;
-        assert!(rt; is_said(alloc, &report.first, text)?, "{text}");
-        assert_eq!(rt; verdict_told(alloc, &bytes)?, Some(verdict), "{text}");
+    let small = small(rt.alloc())?;
+    for case in CASES {
+        assert!(rt; is_found(rt.alloc(), &small, case)?, "{}", case.1);
     }
     Ok(())
 }
 
 // What stands at the page of a slot.
-#[derive(Clone, Copy, Debug, PartialEq, Eq)]
+#[derive(Clone, Copy, PartialEq, Eq)]
 enum State {
     Short,
     NoMark,
@@ -255,41 +286,53 @@ const SLOT_CASES: [SlotCase; 7] = [
     ),
 ];
 
+// Whether the slots are these in a report, and this one counts.
+fn are_slots(report: &Report, first: State, second: State, counting: Option<u8>) -> bool {
+    seen(&report.first) == first
+        && seen(&report.second) == second
+        && report.counting_slot() == counting
+}
+
+// Whether a case is seen in the document with these bytes.
+fn is_seen(alloc: Global, small: &[u8], case: SlotCase) -> Result<bool, Fault> {
+    let (places, first, second, counting, verdict) = case;
+    let bytes = changed(alloc, small, places)?;
+    let are_slots = are_slots(&checked(alloc, &bytes)?, first, second, counting);
+    Ok(are_slots && has_verdict(alloc, &bytes, verdict)?)
+}
+
 #[test]
 fn the_slot_of_the_greater_number_counts(rt: HostRuntime) -> Result<(), Fail> {
-    let alloc = rt.alloc();
-    let small = small(alloc)?;
-    for (places, first, second, counting, verdict) in SLOT_CASES {
-        let bytes = changed(alloc, &small, places)?;
-        let report = checked(alloc, &bytes)?;
-        assert_eq!(rt; seen(&report.first), first, "{places:?}");
-        assert_eq!(rt; seen(&report.second), second, "{places:?}");
-        assert_eq!(rt; report.counting_slot(), counting, "{places:?}");
-        assert_eq!(rt; verdict_told(alloc, &bytes)?, Some(verdict), "{places:?}");
+    let small = small(rt.alloc())?;
+    for case in SLOT_CASES {
+        assert!(rt; is_seen(rt.alloc(), &small, case)?, "{:?}", case.0);
     }
     Ok(())
 }
 
+// Whether slot 0 is told to be short just where no slots are whole in a file with these bytes.
+fn is_short_told(alloc: Global, bytes: &[u8]) -> Result<bool, Fault> {
+    let is_short = seen(&checked(alloc, bytes)?.first) == State::Short;
+    Ok(is_short == (bytes.len() < 1_024))
+}
+
+// Whether the document that is cut to so many bytes opens just where it is whole, as its check tells.
+fn is_cut_told(alloc: Global, small: &[u8], length: usize) -> Result<bool, Fault> {
+    let Some(bytes) = small.get(..length) else {
+        return Ok(false);
+    };
+    let is_short_told = is_short_told(alloc, bytes)?;
+    match verdict_told(alloc, bytes)? {
+        Some(verdict) => Ok(is_short_told && verdict.is_ok() == (length == 3_120)),
+        None => Ok(false),
+    }
+}
+
 #[test]
 fn a_file_that_is_cut_is_told_as_it_is_opened(rt: HostRuntime) -> Result<(), Fail> {
-    let alloc = rt.alloc();
-    let small = small(alloc)?;
+    let small = small(rt.alloc())?;
     for length in [0, 1, 1_023, 1_024, 1_030, 3_072, 3_087, 3_119, 3_120] {
-        let Some(bytes) = small.get(..length) else {
-            return Err(Fail::new("the document is short"));
-        };
-        let report = checked(alloc, bytes)?;
-        assert_eq!(rt;
-            seen(&report.first) == State::Short,
-            length < 1_024,
-            "{length}"
-        );
-        let is_whole = length == 3_120;
-        assert_eq!(rt;
-            verdict_told(alloc, bytes)?.map(|verdict| verdict.is_ok()),
-            Some(is_whole),
-            "{length}"
-        );
+        assert!(rt; is_cut_told(rt.alloc(), &small, length)?, "{length}");
     }
     Ok(())
 }
@@ -305,29 +348,56 @@ const READ: [(usize, usize); 7] = [
     (3_072, 3_120),
 ];
 
+// The verdict of a check with another byte at a place, where it is what an opening answers.
+fn verdict_with(
+    alloc: Global,
+    bytes: &[u8],
+    at: usize,
+    other: u8,
+) -> Result<Option<Verdict>, Fault> {
+    verdict_told(alloc, &changed(alloc, bytes, &[(at, other)])?)
+}
+
+// Whether another byte at a place keeps the file from opening.
+fn is_refused(alloc: Global, bytes: &[u8], at: usize, other: u8) -> Result<bool, Fail> {
+    match verdict_with(alloc, bytes, at, other)? {
+        Some(verdict) => Ok(verdict.is_err()),
+        None => Err(Fail::new(format_args!("{other} at {at}"))),
+    }
+}
+
 // How many ways to change a byte keep the file from opening.
 fn refusals(alloc: Global, bytes: &[u8], at: usize) -> Result<u32, Fail> {
     let byte = bytes.get(at).copied().unwrap_or(0);
     let mut refusals = 0_u32;
     for other in [byte ^ 1, byte ^ 128, 255] {
-        let Some(verdict) = verdict_told(alloc, &changed(alloc, bytes, &[(at, other)])?)? else {
-            return Err(Fail::new(format_args!("{other} at {at}")));
-        };
-        refusals = refusals.wrapping_add(u32::from(verdict.is_err()));
+        refusals = refusals.wrapping_add(u32::from(is_refused(alloc, bytes, at, other)?));
     }
     Ok(refusals)
 }
 
-#[test]
-fn each_byte_that_is_changed_is_told_as_the_file_is_opened(rt: HostRuntime) -> Result<(), Fail> {
-    let alloc = rt.alloc();
-    let small = small(alloc)?;
+// How many ways to change one of these bytes do.
+fn refusals_in(alloc: Global, bytes: &[u8], start: usize, end: usize) -> Result<u32, Fail> {
+    let mut refused = 0_u32;
+    for at in start..end {
+        refused = refused.wrapping_add(refusals(alloc, bytes, at)?);
+    }
+    Ok(refused)
+}
+
+// How many ways to change one of the bytes that are read do.
+fn all_refusals(alloc: Global, bytes: &[u8]) -> Result<u32, Fail> {
     let mut refused = 0_u32;
     for (start, end) in READ {
-        for at in start..end {
-            refused = refused.wrapping_add(refusals(alloc, &small, at)?);
-        }
+        refused = refused.wrapping_add(refusals_in(alloc, bytes, start, end)?);
     }
+    Ok(refused)
+}
+
+#[test]
+fn each_byte_that_is_changed_is_told_as_the_file_is_opened(rt: HostRuntime) -> Result<(), Fail> {
+    let small = small(rt.alloc())?;
+    let refused = all_refusals(rt.alloc(), &small)?;
     assert!(rt; refused > 250, "{refused}");
     Ok(())
 }

@@ -1,9 +1,10 @@
 //! Documents, their dumps, and what is made of these again.
+use crate::asserting::same_number;
 use crate::chance;
 use crate::files::{SMALL, dump_of, make};
 use crate::format::documents_in;
 use document_dump::Which;
-use std::alloc::Global;
+use std::alloc::{AllocError, Global};
 use std::io::{self, Write};
 use std::test::Fail;
 
@@ -32,50 +33,85 @@ fn has_short_lines(alloc: Global, script: &[u8]) -> Result<bool, Fail> {
     Ok(text.lines().all(|line| line.len() <= 96))
 }
 
+// Each line of a dump has a reply, and none is refused.
+fn are_answered(alloc: Global, script: &[u8], replies: &[u8]) -> Result<(), Fail> {
+    match refused_line(alloc, script, replies)? {
+        Some(line) => Err(Fail::new(format_args!("line {line} of a dump is refused"))),
+        None => Ok(()),
+    }
+}
+
 // The bytes of the file that a dump makes of none, none of whose lines is refused.
 pub(crate) fn made_again(alloc: Global, script: &[u8]) -> Result<Vec<u8>, Fail> {
     let again = make(alloc, script)?;
-    if let Some(line) = refused_line(alloc, script, &again.replies)? {
-        return Err(Fail::new(format_args!("line {line} of a dump is refused")));
-    }
+    are_answered(alloc, script, &again.replies)?;
     Ok(again.file.bytes().to_vec(alloc)?)
+}
+
+// Whether both documents of a file are the saved one of another.
+fn are_saved(alloc: Global, bytes: &[u8], again: &[u8]) -> Result<bool, AllocError> {
+    let wanted = documents_in(alloc, bytes)?;
+    let given = documents_in(alloc, again)?;
+    Ok(wanted.saved.is_same(&given.saved) && wanted.saved.is_same(&given.updated))
+}
+
+// Whether both documents of a file are those of another.
+fn are_same(alloc: Global, bytes: &[u8], again: &[u8]) -> Result<bool, AllocError> {
+    let wanted = documents_in(alloc, bytes)?;
+    let given = documents_in(alloc, again)?;
+    Ok(wanted.saved.is_same(&given.saved) && wanted.updated.is_same(&given.updated))
 }
 
 // Whether the saved document's dump alone makes it again, as both documents of a file.
 fn saves_alone(alloc: Global, bytes: &[u8]) -> Result<bool, Fail> {
     let again = made_again(alloc, &dump_of(alloc, bytes, Which::Saved)?)?;
-    let wanted = documents_in(alloc, bytes)?;
-    let given = documents_in(alloc, &again)?;
-    Ok(wanted.saved.is_same(&given.saved) && wanted.saved.is_same(&given.updated))
+    Ok(are_saved(alloc, bytes, &again)?)
+}
+
+// Whether a file with these bytes has this dump.
+fn has_dump(alloc: Global, bytes: &[u8], dump: &[u8]) -> Result<bool, Fail> {
+    Ok(dump_of(alloc, bytes, Which::Both)?.as_slice() == dump)
 }
 
 // Whether a dump of both documents makes both again.
 fn makes_both(alloc: Global, bytes: &[u8], script: &[u8]) -> Result<bool, Fail> {
     let again = made_again(alloc, script)?;
-    let wanted = documents_in(alloc, bytes)?;
-    let given = documents_in(alloc, &again)?;
-    let is_same = wanted.saved.is_same(&given.saved) && wanted.updated.is_same(&given.updated);
-    Ok(is_same && dump_of(alloc, &again, Which::Both)?.as_slice() == script)
+    Ok(are_same(alloc, bytes, &again)? && has_dump(alloc, &again, script)?)
+}
+
+// Whether a dump of both documents begins with that of the saved one.
+fn begins_with_saved(alloc: Global, bytes: &[u8], dump: &[u8]) -> Result<bool, Fail> {
+    Ok(dump.starts_with(&dump_of(alloc, bytes, Which::Saved)?))
+}
+
+// Looks at all that is known of the dump of a file with these bytes.
+fn try_dump(alloc: Global, bytes: &[u8], dump: &[u8]) -> Result<(), Fail> {
+    if !has_short_lines(alloc, dump)? {
+        return Err(Fail::new("a line of a dump is long"));
+    }
+    if !begins_with_saved(alloc, bytes, dump)? {
+        return Err(Fail::new("the saved document's dump is another one"));
+    }
+    if !makes_both(alloc, bytes, dump)? {
+        return Err(Fail::new("a dump makes other documents"));
+    }
+    if !saves_alone(alloc, bytes)? {
+        return Err(Fail::new("a dump makes another saved document"));
+    }
+    Ok(())
 }
 
 // The dump of the documents that a script makes, when all that is known of it was looked at.
 fn dump_tried(alloc: Global, script: &[u8]) -> Result<Vec<u8>, Fail> {
     let file = make(alloc, script)?.file;
     let dump = dump_of(alloc, file.bytes(), Which::Both)?;
-    let saved = dump_of(alloc, file.bytes(), Which::Saved)?;
-    if !has_short_lines(alloc, &dump)? {
-        return Err(Fail::new("a line of a dump is long"));
-    }
-    if !dump.starts_with(&saved) {
-        return Err(Fail::new("the saved document's dump is another one"));
-    }
-    if !makes_both(alloc, file.bytes(), &dump)? {
-        return Err(Fail::new("a dump makes other documents"));
-    }
-    if !saves_alone(alloc, file.bytes())? {
-        return Err(Fail::new("a dump makes another saved document"));
-    }
+    try_dump(alloc, file.bytes(), &dump)?;
     Ok(dump)
+}
+
+// How many lines it has.
+fn lines_tried(alloc: Global, script: &[u8]) -> Result<usize, Fail> {
+    Ok(line_count(&dump_tried(alloc, script)?))
 }
 
 // A script, and the dump of what it makes.
@@ -123,23 +159,29 @@ vwrite 0001 0 0000000000000000000000000000000000000000000000000000000000000001\n
     ),
 ];
 
+// Whether a script has this dump.
+fn is_dumped(alloc: Global, script: &str, wanted: &str) -> Result<bool, Fail> {
+    Ok(dump_tried(alloc, script.as_bytes())?.as_slice() == wanted.as_bytes())
+}
+
 #[test]
 fn a_dump_is_this_text_and_makes_both_documents_again(rt: HostRuntime) -> Result<(), Fail> {
-    let alloc = rt.alloc();
     for (script, wanted) in DUMPS {
-        let dump = dump_tried(alloc, script.as_bytes())?;
-        let dump = String::from_utf8_lossy(alloc, &dump)?;
-        assert_eq!(rt; dump.as_str(), wanted, "{script}");
+        assert!(rt; is_dumped(rt.alloc(), script, wanted)?, "{script}");
     }
     Ok(())
 }
 
-// How many lines the dumps of the documents by these seeds have.
+// How many lines the dump of the documents by a seed has.
+fn lines_by_seed(alloc: Global, seed: u32) -> Result<usize, Fail> {
+    lines_tried(alloc, &chance::script(alloc, seed)?)
+}
+
+// How many those by these seeds have.
 fn lines_by_chance(alloc: Global, first: u32, end: u32) -> Result<usize, Fail> {
     let mut lines = 0_usize;
     for seed in first..end {
-        let dump = dump_tried(alloc, &chance::script(alloc, seed)?)?;
-        lines = lines.wrapping_add(line_count(&dump));
+        lines = lines.wrapping_add(lines_by_seed(alloc, seed)?);
     }
     Ok(lines)
 }
@@ -204,39 +246,31 @@ fn write_full_heap(script: &mut Vec<u8>) -> io::Result<()> {
 
 #[test]
 fn a_block_of_the_most_bytes_is_made_again_by_its_dump(rt: HostRuntime) -> Result<(), Fail> {
-    let alloc = rt.alloc();
-    let mut script = Vec::new(alloc);
+    let mut script = Vec::new(rt.alloc());
     write_longest(&mut script)?;
-    let dump = dump_tried(alloc, &script)?;
     // In either document the block is made, 38 pieces are written, and a commit ends them. The updated one frees the saved one's first.
-    assert_eq!(rt; line_count(&dump), 40 + 41);
+    same_number(&rt, lines_tried(rt.alloc(), &script)?, 40 + 41);
     Ok(())
 }
 
 #[test]
 fn many_blocks_are_made_again_by_their_dump(rt: HostRuntime) -> Result<(), Fail> {
-    let alloc = rt.alloc();
-    let mut script = Vec::new(alloc);
+    let mut script = Vec::new(rt.alloc());
     write_many_blocks(&mut script)?;
-    let dump = dump_tried(alloc, &script)?;
     // Of the saved document 99 handles are taken and freed, and two lines make each of 201 blocks; then there are the map block and the
     // commit. Of the updated one block 1 is freed and made, as is block 7, which has a write, above two free handles; then there are
     // the type and the commit.
-    assert_eq!(rt; line_count(&dump), 2 * 99 + 2 * 201 + 2 + 2 + 3 + 2 * 2 + 2);
+    let lines = lines_tried(rt.alloc(), &script)?;
+    same_number(&rt, lines, 2 * 99 + 2 * 201 + 2 + 2 + 3 + 2 * 2 + 2);
     Ok(())
 }
 
 #[test]
 fn a_full_heap_with_free_handles_is_made_again_by_its_dump(rt: HostRuntime) -> Result<(), Fail> {
-    let alloc = rt.alloc();
-    let mut script = Vec::new(alloc);
+    let mut script = Vec::new(rt.alloc());
     write_full_heap(&mut script)?;
-    let dump = dump_tried(alloc, &script)?;
+    let lines = lines_tried(rt.alloc(), &script)?;
     // Each of its handles is made, 257 are freed, and one write stands there, in either document.
-    assert!(rt;
-        line_count(&dump) > 2 * (1 + 301 + 257),
-        "{}",
-        line_count(&dump)
-    );
+    assert!(rt; lines > 2 * (1 + 301 + 257), "{lines}");
     Ok(())
 }

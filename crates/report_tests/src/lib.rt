@@ -2,6 +2,8 @@
 #![tactic(auto)]
 
 #[cfg(test)]
+mod asserting;
+#[cfg(test)]
 mod chance;
 #[cfg(test)]
 mod checking;

@@ -80,27 +80,48 @@ fn usages_in(alloc: Global, bytes: &[u8]) -> Result<Vec<Usage>, Fail>
     }
 }
 
+// What is free of a file of so many bytes that has these documents, as it is marked page by page.
+fn free_of(
+    alloc: Global,
+    length: usize,
+    documents: &Documents<'_>,
+) -> Result<(u64, u64, u64), AllocError> {
+    Ok(pages_of(alloc, length, documents)?.free())
+}
+
+// How many extents there are: the slots, the directories and the images.
+fn extents_of(documents: &Documents<'_>) -> usize {
+    let updated = documents.updated.blocks.len();
+    let saved = documents.saved.blocks.len();
+    updated.wrapping_add(saved).wrapping_add(3)
+}
+
+fn have_overlaps(alloc: Global, usages: &[Usage]) -> Result<bool, AllocError> {
+    Ok(!overlaps(alloc, usages)?.is_empty())
+}
+
+// Compares what is told of a file with its bytes.
+fn are_told(alloc: Global, bytes: &[u8], usages: &[Usage], told: FreePages) -> Result<(), Fail> {
+    let documents = documents_in(alloc, bytes)?;
+    if (told.pages, told.runs, told.longest) != free_of(alloc, bytes.len(), &documents)? {
+        return Err(Fail::new("other pages are free"));
+    }
+    if usages.len() != extents_of(&documents) {
+        return Err(Fail::new("there are more extents, or fewer"));
+    }
+    if have_overlaps(alloc, usages)? {
+        return Err(Fail::new("extents overlap"));
+    }
+    Ok(())
+}
+
 // Whether of this file what lies on pages is told as it is marked page by page; how many pages are free.
 fn free_told(alloc: Global, bytes: &[u8]) -> Result<u64, Fail> {
     let usages = usages_in(alloc, bytes)?;
-    let documents = documents_in(alloc, bytes)?;
-    let pages = pages_of(alloc, bytes.len(), &documents)?;
-    let told: FreePages = free_pages(&usages, page_count(bytes.len() as u64));
-    if (told.pages, told.runs, told.longest) != pages.free() {
-        return Err(Fail::new("other pages are free"));
-    }
-    let blocks = documents
-        .updated
-        .blocks
-        .len()
-        .wrapping_add(documents.saved.blocks.len());
-    if usages.len() != blocks.wrapping_add(3) {
-        return Err(Fail::new("there are more extents, or fewer"));
-    }
-    if !overlaps(alloc, &usages)?.is_empty() {
-        return Err(Fail::new("extents overlap"));
-    }
-    Ok(told.pages)
+    let told = free_pages(&usages, page_count(bytes.len() as u64));
+    let pages = told.pages;
+    are_told(alloc, bytes, &usages, told)?;
+    Ok(pages)
 }
 
 // Edits and commits of the small document, by which pages are freed and taken.
@@ -115,33 +136,63 @@ const COMMITS: [&str; 8] = [
     "vfree 0004\nsave\n",
 ];
 
-#[test]
-fn the_free_pages_of_a_worn_file_are_those_without_a_mark(rt: HostRuntime) -> Result<(), Fail> {
-    let alloc = rt.alloc();
-    let mut bytes = make(alloc, SMALL.as_bytes())?.file.bytes().to_vec(alloc)?;
-    // All seven pages are used.
-    assert_eq!(rt; free_told(alloc, &bytes)?, 0);
+// The bytes of the file that a script makes.
+fn made(alloc: Global, script: &[u8]) -> Result<Vec<u8>, Fail> {
+    let made = make(alloc, script)?;
+    Ok(made.file.bytes().to_vec(alloc)?)
+}
+
+// The bytes of a file after one more commit.
+fn committed(alloc: Global, bytes: &[u8], commit: &str) -> Result<Vec<u8>, Fail> {
+    let file = go_on(alloc, bytes, commit.as_bytes())?;
+    Ok(file.bytes().to_vec(alloc)?)
+}
+
+// Commits once more. Returns how many pages are free then.
+fn free_behind(alloc: Global, bytes: &mut Vec<u8>, commit: &str) -> Result<u64, Fail> {
+    *bytes = committed(alloc, bytes, commit)?;
+    free_told(alloc, bytes)
+}
+
+// The same with each of the commits.
+fn free_behind_each(alloc: Global, bytes: &mut Vec<u8>) -> Result<u64, Fail> {
+    let mut free = 0;
+    for commit in COMMITS {
+        free = free_behind(alloc, bytes, commit)?;
+    }
+    Ok(free)
+}
+
+// The same so often that the file is worn.
+fn free_behind_all(alloc: Global, bytes: &mut Vec<u8>) -> Result<u64, Fail> {
     let mut free = 0;
     for _ in 0..4 {
-        for commit in COMMITS {
-            bytes = go_on(alloc, &bytes, commit.as_bytes())?
-                .bytes()
-                .to_vec(alloc)?;
-            free = free_told(alloc, &bytes)?;
-        }
+        free = free_behind_each(alloc, bytes)?;
     }
+    Ok(free)
+}
+
+#[test]
+fn the_free_pages_of_a_worn_file_are_those_without_a_mark(rt: HostRuntime) -> Result<(), Fail> {
+    let mut bytes = made(rt.alloc(), SMALL.as_bytes())?;
+    // All seven pages are used.
+    assert!(rt; free_told(rt.alloc(), &bytes)? == 0);
+    let free = free_behind_all(rt.alloc(), &mut bytes)?;
     assert!(rt; free > 10, "{free}");
     Ok(())
+}
+
+// How many pages are free of the documents by a seed.
+fn free_by_seed(alloc: Global, seed: u32) -> Result<u64, Fail> {
+    free_told(alloc, &made(alloc, &chance::script(alloc, seed)?)?)
 }
 
 #[test]
 fn the_free_pages_of_documents_by_chance_are_those_without_a_mark(
     rt: HostRuntime,
 ) -> Result<(), Fail> {
-    let alloc = rt.alloc();
     for seed in 21..=26 {
-        let file = make(alloc, &chance::script(alloc, seed)?)?.file;
-        free_told(alloc, file.bytes())?;
+        free_by_seed(rt.alloc(), seed)?;
     }
     Ok(())
 }
@@ -192,14 +243,27 @@ const BENT: [Bent; 6] = [
     (&[(1_556, 2), (1_560, 6)], &[(1_002, 2_001)]),
 ];
 
+// Whether these extents overlap.
+fn are_pairs(alloc: Global, usages: &[Usage], wanted: &[(u16, u16)]) -> Result<bool, AllocError> {
+    Ok(pairs(alloc, usages)?.as_slice() == wanted)
+}
+
+// Whether these overlap in a file with these bytes.
+fn are_pairs_in(alloc: Global, bytes: &[u8], wanted: &[(u16, u16)]) -> Result<bool, Fail> {
+    Ok(are_pairs(alloc, &usages_in(alloc, bytes)?, wanted)?)
+}
+
+// Whether a case makes that of the document with these bytes.
+fn is_bent(alloc: Global, small: &[u8], bent: Bent) -> Result<bool, Fail> {
+    let (places, wanted) = bent;
+    are_pairs_in(alloc, &changed(alloc, small, places)?, wanted)
+}
+
 #[test]
 fn an_extent_that_lies_on_another_ones_pages_is_told(rt: HostRuntime) -> Result<(), Fail> {
-    let alloc = rt.alloc();
-    let small = make(alloc, SMALL.as_bytes())?.file;
-    for (places, wanted) in BENT {
-        let bytes = changed(alloc, small.bytes(), places)?;
-        let pairs = pairs(alloc, &usages_in(alloc, &bytes)?)?;
-        assert_eq!(rt; pairs.as_slice(), wanted, "{places:?}");
+    let small = made(rt.alloc(), SMALL.as_bytes())?;
+    for bent in BENT {
+        assert!(rt; is_bent(rt.alloc(), &small, bent)?, "{:?}", bent.0);
     }
     Ok(())
 }
@@ -217,7 +281,6 @@ fn image(block: u16, page: u32, pages: u32) -> Usage {
 
 #[test]
 fn each_extent_on_the_pages_of_a_long_one_is_told(rt: HostRuntime) -> Result<(), Fail> {
-    let alloc = rt.alloc();
     // The first reaches over the second and the third to the page before the last; the third over the fourth and to the last.
     let usages = [
         image(1, 2, 10),
@@ -226,9 +289,7 @@ fn each_extent_on_the_pages_of_a_long_one_is_told(rt: HostRuntime) -> Result<(),
         image(4, 9, 1),
         image(5, 12, 1),
     ];
-    assert_eq!(rt;
-        pairs(alloc, &usages)?.as_slice(),
-        [(1_001, 1_002), (1_001, 1_003), (1_001, 1_004)].as_slice()
-    );
+    let wanted = [(1_001, 1_002), (1_001, 1_003), (1_001, 1_004)];
+    assert!(rt; are_pairs(rt.alloc(), &usages, &wanted)?);
     Ok(())
 }
