@@ -1,20 +1,21 @@
 -- A reply's line is what is written for its request.
-use Rattle.std.proofs.Common.{◌≡◌, List, ℕ, ◌++◌, Bool, true, false, length, refl, ap, subst, Option, Result, Ok, OnOk, Err, Some, inr}
+use Rattle.std.proofs.Common.{◌≡◌, List, ℕ, ◌++◌, Bool, true, false, length, refl, ap, subst, sym, Option, Result, Ok, OnOk, Err, Some, inr, ◌∷◌, [], ◌∙◌, is_err, rules, None}
 use Rattle.std.specs.Prelude.{IsOkAnd, MatchResult}
-use Rattle.std.proofs.lemmas.List.{take_at}
-use Rattle.geos_model.specs.Reply.{Reply, reply_by, reply_of}
+use Rattle.std.proofs.lemmas.List.{append_assoc, take_at}
+use Rattle.geos_model.specs.Reply.{Refused, Reply, reply_by, reply_of}
 use Rattle.geos_model.specs.declared.fault.Fault.{Fault}
+use Rattle.geos_model.specs.declared.fault.Fault.TheVariants as faults
 use Rattle.geos_model.specs.declared.reply.Reply.{Reply as GivenReply}
-use Rattle.geos_model.specs.Machine.{Step}
-use Rattle.geos_model.specs.Script.{reply_text}
+use Rattle.geos_model.specs.Machine.{Request, Step}
+use Rattle.geos_model.specs.Script.{reply_line, reply_text}
 use Rattle.geos_model.specs.declared.command.Command.{Command}
 use Rattle.geos_model.specs.declared.command.Command.TheVariants as commands
 use Rattle.vm_store.specs.Facts.{StoreFacts}
 use Rattle.vm_file.specs.Disk.{KeepsCommitted}
 use Rattle.vm_file.proofs.PassingLemmas.{KeepsCommitted-refl}
 use Rattle.undo_log.specs.Sessions.{SessionState, IsStep, failed_since, machine_of}
-use Rattle.geos_shell.specs.Holdings.{AreExact, CommitsNothing, Holding, IsTakenIfSure, LeavesFiles, ServesRequest, SameFiles, holding}
-use Rattle.geos_shell.specs.Replies.{Extends, Replied, Told, asks_no_body, is_look_up}
+use Rattle.geos_shell.specs.Holdings.{AreExact, CommitsNothing, Holding, IsTakenIfSure, LeavesFiles, MayServe, ServesRequest, SameFiles, failed_since_in, holding, machine}
+use Rattle.geos_shell.specs.Replies.{Extends, Replied, Responds, Told, asks_no_body, is_look_up}
 use Rattle.geos_shell.proofs.Serving.{serves_passing, step_any}
 
 extends_by : (old more new : List ℕ) → new ≡ old ++ more → Extends old new
@@ -106,3 +107,32 @@ module _ {S T E A : Type 0} (facts : S → StoreFacts) (put : Result T E) (c : C
   -- what is served, whose answer is made a reply, and that put
   pub replied_mapped : (old new : Holding S) → ServesRequest facts old (Some c) (reply_by f r) new → Replied put facts old c new before after
   replied_mapped old new serves = replied facts put old new c (reply_by f r) before after serves put_so
+
+module _ {S : Type 0} (facts : S → StoreFacts) (old new : Holding S) where
+  -- a command that gets a reply, whose reply line is put
+  responds_some : (c : Command) (reply : Reply) (before after : List ℕ) → (c ≡ commands.Blank → ⊥) → ServesRequest facts old (Some c) reply new → after ≡ before ++ reply_line reply
+      → Responds facts old (Some c) new before after
+  responds_some commands.Blank reply before after some serves said = absurd (some refl)
+  responds_some c reply before after some serves said = (reply, serves, said)
+
+  -- the text of a reply, and a line feed, are its line
+  pub responds_by : {T E : Type 0} (put : Result T E) (c : Command) (request : Request) (before mid after : List ℕ) → (c ≡ commands.Blank → ⊥) → request ≡ Some c
+      → is_err put ≡ false → after ≡ mid ++ 10 ∷ [] → Replied put facts old c new before mid → Responds facts old request new before after
+  responds_by (Ok x) c request before mid after some is well feed told =
+      let said : after ≡ before ++ reply_line told.reply = feed ∙ ap (λ l. l ++ 10 ∷ []) told.text ∙ append_assoc before (reply_text told.reply) (10 ∷ []) in
+      rw is (responds_some c told.reply before after some told.serves said)
+  responds_by (Err e) c request before mid after some is well feed told = cc well
+
+  -- whether its text is put or not, it may be served
+  pub may_serve_by : {T E : Type 0} (put : Result T E) (c : Command) (request : Request) (before after : List ℕ) → request ≡ Some c
+      → Replied put facts old c new before after → MayServe facts old request new
+  may_serve_by (Ok x) c request before after is told = rw is (inr (told.reply, told.serves))
+  may_serve_by (Err e) c request before after is told = rw is told
+
+-- a line that is no command
+pub responds_bad : {S : Type 0} (facts : S → StoreFacts) (old : Holding S) (before mid after : List ℕ) → AreExact facts old → mid ≡ before ++ reply_text (Refused faults.BadCommand)
+    → after ≡ mid ++ 10 ∷ [] → Responds facts old None old before after
+responds_bad facts old before mid after exact text feed =
+    let step : Step (failed_since_in facts old old) (machine old) None (Refused faults.BadCommand) (machine old) = search rules in
+    let serves : ServesRequest facts old None (Refused faults.BadCommand) old = record { exact = exact; step = step; files = record { disk = refl; target = refl; former = refl }; sure = tt } in
+    (Refused faults.BadCommand, serves, feed ∙ ap (λ l. l ++ 10 ∷ []) text ∙ append_assoc before (reply_text (Refused faults.BadCommand)) (10 ∷ []))

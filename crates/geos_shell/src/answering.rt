@@ -152,22 +152,13 @@ fn push_lines<S: Store>(
         (holding session.new target.new former.new)) }
     ensures err { OnErr result (Extends out.old.items out.new.items) }
 {
-    push_lead(echoes, line, out)?;
+    if echoes {
+        out.extend_from_slice(&line[..line.len().min(LONGEST_KEPT)])?;
+        out.push(b'\n')?;
+    }
     let reply = out.len();
     answer_line(alloc, session, target, former, line, out)?;
     Ok(out[reply..].starts_with(b"no "))
-}
-
-/// Puts the line behind `out`, if it is to be echoed.
-fn push_lead(echoes: bool, line: &[u8], out: &mut Vec<u8>) -> Result<(), AllocError>
-    ensures ok { OnOk result (out.new.items ≡ out.old.items ++ lead echoes line.now) }
-    ensures err { OnErr result (Extends out.old.items out.new.items) }
-{
-    if !echoes {
-        return Ok(());
-    }
-    out.extend_from_slice(&line[..line.len().min(LONGEST_KEPT)])?;
-    Ok(out.push(b'\n')?)
 }
 
 /// Puts a part of a line behind what is kept of it.

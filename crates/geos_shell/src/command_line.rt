@@ -2,7 +2,7 @@
 ghost use Rattle.std.specs.Prelude.{◌≡◌, ◌≤◌, codes, drop, true, false, IfOk, IfErr, map};
 ghost use Rattle.std.specs.List.{Contains};
 ghost use Rattle.clap.specs.Words.{FailsBy, app_of, fault_of, found_of, kind_of, matches_of, rows_of, rule_of};
-ghost use Rattle.geos_shell.specs.Options.{IsMatched, IsUsable, RefusesWords, TurnsInto, as_option, cache_option, command_line, file_operand, flag, geosvm, said, told_by};
+ghost use Rattle.geos_shell.specs.Options.{IsMatched, IsUsable, RefusesWords, TurnsInto, command_line, flag, geosvm, said, told_by};
 
 use crate::commands::command_list;
 use crate::outcome::Outcome;
@@ -68,9 +68,28 @@ fn command<'a>(alloc: Global) -> Result<Command<'a>, AllocError>
         ))?
         .arg(flag(alloc, "bail", "End at the first refusal, with status 1"))?
         .arg(flag(alloc, "echo", "Write each line before its reply"))?
-        .arg(cache_option(alloc))?
-        .arg(as_option(alloc))?
-        .arg(file_operand(alloc))
+        .arg(
+            Arg::new(alloc, "cache")
+                .long("cache")
+                .action(ArgAction::Set)
+                .value_name("N")
+                .value_parser(value_parser!(u8).range(1..=64))
+                .help("Keep at most N blocks in memory, 1 to 64 [default: 8]"),
+        )?
+        .arg(
+            Arg::new(alloc, "as")
+                .long("as")
+                .action(ArgAction::Set)
+                .value_name("FILE2")
+                .help("The file that `saveas` writes; it is made if it is missing"),
+        )?
+        .arg(
+            Arg::new(alloc, "file")
+                .action(ArgAction::Set)
+                .value_name("FILE")
+                .required(true)
+                .help("The file of the document"),
+        )
 }
 
 fn flag<'a>(alloc: Global, name: &'a str, help: &'a str) -> Arg<'a>
@@ -81,37 +100,6 @@ fn flag<'a>(alloc: Global, name: &'a str, help: &'a str) -> Arg<'a>
         .action(ArgAction::SetTrue)
         .value_parser(value_parser!(bool))
         .help(help)
-}
-
-fn cache_option<'a>(alloc: Global) -> Arg<'a>
-    ensures { (rule_of result ≡ cache_option) × (result.global ≡ false) }
-{
-    Arg::new(alloc, "cache")
-        .long("cache")
-        .action(ArgAction::Set)
-        .value_name("N")
-        .value_parser(value_parser!(u8).range(1..=64))
-        .help("Keep at most N blocks in memory, 1 to 64 [default: 8]")
-}
-
-fn as_option<'a>(alloc: Global) -> Arg<'a>
-    ensures { (rule_of result ≡ as_option) × (result.global ≡ false) }
-{
-    Arg::new(alloc, "as")
-        .long("as")
-        .action(ArgAction::Set)
-        .value_name("FILE2")
-        .help("The file that `saveas` writes; it is made if it is missing")
-}
-
-fn file_operand<'a>(alloc: Global) -> Arg<'a>
-    ensures { (rule_of result ≡ file_operand) × (result.global ≡ false) }
-{
-    Arg::new(alloc, "file")
-        .action(ArgAction::Set)
-        .value_name("FILE")
-        .required(true)
-        .help("The file of the document")
 }
 
 /// The options that were matched.

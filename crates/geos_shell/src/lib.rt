@@ -4,7 +4,6 @@
 mod answering;
 mod command_line;
 mod commands;
-mod hex_text;
 mod operands;
 mod outcome;
 mod parser;

@@ -1,10 +1,11 @@
 //! What a word spells, where an operand of some kind is wanted.
-ghost use Rattle.std.specs.Prelude.{◌≡◌, Bool, false, is_some, ok_or, List, ℕ, Option};
+ghost use Rattle.std.specs.Prelude.{◌≡◌, ◌*◌, Bool, true, false, is_some, length, ok_or, List, ℕ, Option, Some, Ok};
+ghost use Rattle.std.specs.List.{AllPass, list_all};
+ghost use Rattle.hex.specs.Hex.{decode_pairs, hex_digit_value, is_hex_digit, pair_value};
 ghost use Rattle.geos_model.specs.Script as script;
 ghost use Rattle.geos_model.specs.declared.fault.Fault.TheVariants as faults;
 ghost use Rattle.geos_shell.specs.Reading.{ReadsAs, has_bytes};
 
-use crate::hex_text::{are_digits, byte_of, decode_into};
 use geos_model::{Bytes, ChunkHandle, Fault, Token, VmHandle};
 use std::alloc::Global;
 
@@ -87,13 +88,11 @@ impl Operand for bool {
     ghost spelled = { script.is_set };
 
     fn read(word: &[u8]) -> Result<bool, Fault> {
-        if word == b"set".as_slice() {
-            return Ok(true);
+        match word {
+            b"set" => Ok(true),
+            b"keep" => Ok(false),
+            _ => Err(Fault::BadCommand),
         }
-        if word == b"keep".as_slice() {
-            return Ok(false);
-        }
-        Err(Fault::BadCommand)
     }
 }
 
@@ -140,5 +139,46 @@ impl LastOperand for Bytes {
         let mut items = vec![in alloc; 0; word.len() / 2]?;
         decode_into(word, items.as_mut_slice());
         Ok(Bytes::from_vec(items))
+    }
+}
+
+// Hexadecimal digits, tested and read without a branch for each.
+
+/// Whether all are digits, in either case.
+fn are_digits(word: &[u8]) -> bool
+    ensures { result ≡ list_all is_hex_digit word.now }
+{
+    let mut all = true;
+    for digit in word {
+        all &= digit.is_ascii_hexdigit();
+    }
+    all
+}
+
+// A letter's low four bits are 1 to 6, and the bit for 64 is set in letters alone.
+#[inline(always)]
+fn value_of(digit: u8) -> u8
+    requires { is_hex_digit digit ≡ true }
+    ensures { hex_digit_value digit ≡ Some result }
+{
+    digit % 16 + 9 * (digit / 64)
+}
+
+/// The byte of two digits.
+#[inline(always)]
+fn byte_of(high: u8, low: u8) -> u8
+    requires { (is_hex_digit high ≡ true) × (is_hex_digit low ≡ true) }
+    ensures { (i : ℕ) → pair_value high low i ≡ Ok result }
+{
+    16 * value_of(high) + value_of(low)
+}
+
+/// Writes the bytes that pairs of digits spell.
+fn decode_into(digits: &[u8], out: &mut [u8])
+    requires { (length digits.now ≡ 2 * length out.old) × AllPass is_hex_digit digits.now }
+    ensures { decode_pairs 0 digits.now ≡ Ok out.new }
+{
+    'bytes: for i in 0..out.len() {
+        out[i] = byte_of(digits[2 * i], digits[2 * i + 1]);
     }
 }

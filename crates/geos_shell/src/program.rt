@@ -55,14 +55,10 @@ pub fn serve<'a, F: Files, T: AsStr, R: Read, W: Write>(
 }
 
 /// A session, and a target if there is one.
-type Begun<S> = (Session<S>, Option<S>);
+type Begun<F> = (Session<<F as Files>::Opened>, Option<<F as Files>::Opened>);
 
 /// Opens what a command line names, and begins a session on FILE.
-fn begin<F: Files>(
-    alloc: Global,
-    files: &mut F,
-    options: Options,
-) -> Result<Begun<F::Opened>, Outcome>
+fn begin<F: Files>(alloc: Global, files: &mut F, options: Options) -> Result<Begun<F>, Outcome>
     requires { (1 ≤ options.cache) × (options.cache ≤ 64) }
     ensures ok { IfOk result
         (λ begun. FromFile F.calls (told_by options.entry) files.old
@@ -104,7 +100,7 @@ fn create<F: Files>(
     files: &mut F,
     options: Options,
     store: F::Opened,
-) -> Result<Begun<F::Opened>, Outcome>
+) -> Result<Begun<F>, Outcome>
     requires frames { (1 ≤ options.cache) × (options.cache ≤ 64) }
     requires new { options.new ≡ true }
     ensures ok { IfOk result
@@ -132,7 +128,7 @@ fn open<F: Files>(
     files: &mut F,
     options: Options,
     store: F::Opened,
-) -> Result<Begun<F::Opened>, Outcome>
+) -> Result<Begun<F>, Outcome>
     requires frames { (1 ≤ options.cache) × (options.cache ≤ 64) }
     requires old { options.new ≡ false }
     ensures ok { IfOk result
@@ -147,13 +143,11 @@ fn open<F: Files>(
             return Err(Outcome::Open(refused.fault));
         }
     };
-    match open_target(files, options) {
-        Ok(target) => Ok((session, target)),
-        Err(_) => {
-            files.close(session.close());
-            Err(Outcome::Target)
-        }
-    }
+    let Ok(target) = open_target(files, options) else {
+        files.close(session.close());
+        return Err(Outcome::Target);
+    };
+    Ok((session, target))
 }
 
 /// Answers the script, and closes all files.
@@ -161,7 +155,7 @@ fn answer<F: Files, R: Read, W: Write>(
     alloc: Global,
     manner: Manner,
     files: &mut F,
-    begun: Begun<F::Opened>,
+    begun: Begun<F>,
     reader: &mut R,
     writer: &mut W,
 ) -> Outcome

@@ -141,10 +141,7 @@ fn push_response<S: Store>(
     ensures err { OnErr result (Extends out.old.items out.new.items) }
 {
     match command {
-        Command::Edit(edit) => {
-            let reply = session.edit(edit).map(|done| Reply::from(done));
-            push_reply(out, reply)
-        }
+        Command::Edit(edit) => push_reply(out, session.edit(edit).map(|done| Reply::from(done))),
         Command::Undo => push_accepted(out, session.undo()),
         Command::Redo => push_accepted(out, session.redo()),
         Command::Begin => push_accepted(out, session.begin()),
@@ -158,39 +155,6 @@ fn push_response<S: Store>(
         Command::Unlock(block) => push_accepted(out, session.unlock(*block)),
         Command::Dirty(block) => push_accepted(out, session.dirty(*block)),
         look_up => push_look_up(session, look_up, out),
-    }
-}
-
-// Answers a line, and may leave a part of its reply line where memory runs out.
-fn push_answer<S: Store>(
-    alloc: Global,
-    session: &mut Session<S>,
-    target: &mut Option<S>,
-    former: &mut Option<S>,
-    line: &[u8],
-    out: &mut Vec<u8>,
-) -> Result<(), AllocError>
-    ensures ok { OnOk result (AreExact S.facts (holding session.old target.old former.old)
-        → Responds S.facts (holding session.old target.old former.old) (command line.now)
-        (holding session.new target.new former.new) out.old.items out.new.items) }
-    ensures may { OnErr result (AreExact S.facts (holding session.old target.old former.old)
-        → MayServe S.facts (holding session.old target.old former.old) (command line.now)
-        (holding session.new target.new former.new)) }
-    ensures extends { Extends out.old.items out.new.items }
-{
-    let mut command = Command::Blank;
-    match read_command(alloc, &mut command, line) {
-        Ok(()) if matches!(&command, Command::Blank) => Ok(()),
-        Ok(()) => {
-            push_response(session, target, former, &command, out)?;
-            Ok(out.push(b'\n')?)
-        }
-        Err(Fault::BadCommand) => {
-            push_reply(out, Err(Fault::BadCommand))?;
-            Ok(out.push(b'\n')?)
-        }
-        // The line found no memory.
-        Err(_) => Err(AllocError),
     }
 }
 
@@ -220,9 +184,17 @@ pub fn answer_line<S: Store>(
     ensures err { OnErr result (out.new.items ≡ out.old.items) }
 {
     let start = out.len();
-    let answered = push_answer(alloc, session, target, former, line, out);
-    if answered.is_err() {
+    let mut command = Command::Blank;
+    let answered = match read_command(alloc, &mut command, line) {
+        Ok(()) if matches!(&command, Command::Blank) => return Ok(()),
+        Ok(()) => push_response(session, target, former, &command, out),
+        Err(Fault::BadCommand) => push_reply(out, Err(Fault::BadCommand)),
+        // The line found no memory.
+        Err(_) => Err(AllocError),
+    };
+    if answered.is_err() || out.push(b'\n').is_err() {
         out.truncate(start);
+        return Err(AllocError);
     }
-    answered
+    Ok(())
 }

@@ -32,30 +32,21 @@ fn push_handle(out: &mut Vec<u8>, lead: &[u8], handle: u16) -> Result<(), AllocE
     out.extend_from_slice(&digits)
 }
 
-// Encodes behind `out` in place, since the bytes may be many.
-fn push_hex(out: &mut Vec<u8>, bytes: &[u8]) -> Result<(), AllocError>
-    ensures ok { OnOk result (out.new.items ≡ out.old.items ++ encode_lower bytes.now) }
+fn push_bytes(out: &mut Vec<u8>, bytes: &[u8]) -> Result<(), AllocError>
+    ensures ok { OnOk result (out.new.items ≡ out.old.items ++ (codes "bytes " ++ hex_text bytes.now)) }
     ensures err { OnErr result (Extends out.old.items out.new.items) }
 {
+    if bytes.is_empty() {
+        return out.extend_from_slice(b"bytes -");
+    }
+    out.extend_from_slice(b"bytes ")?;
+    // Encoded in place, since the bytes may be many.
     let start = out.len();
     let digits = bytes.len().checked_mul(2).ok_or(AllocError)?;
     let end = start.checked_add(digits).ok_or(AllocError)?;
     out.resize(end, 0)?;
     hex::encode_to_slice(bytes, &mut out[start..]).unwrap();
     Ok(())
-}
-
-fn push_bytes(out: &mut Vec<u8>, bytes: &[u8]) -> Result<(), AllocError>
-    ensures ok { OnOk result (out.new.items ≡ out.old.items ++ (codes "bytes " ++ hex_text bytes.now)) }
-    ensures err { OnErr result (Extends out.old.items out.new.items) }
-{
-    match bytes {
-        [] => out.extend_from_slice(b"bytes -"),
-        bytes => {
-            out.extend_from_slice(b"bytes ")?;
-            push_hex(out, bytes)
-        }
-    }
 }
 
 fn push_blocks(out: &mut Vec<u8>, blocks: &[VmHandle]) -> Result<(), AllocError>
@@ -101,32 +92,22 @@ fn push_refusal(out: &mut Vec<u8>, fault: Fault) -> Result<(), AllocError>
     out.extend_from_slice(fault.name().as_bytes())
 }
 
-// What an accepted command answers.
-fn push_accepted(out: &mut Vec<u8>, reply: Reply) -> Result<(), AllocError>
-    ensures ok { OnOk result (out.new.items ≡ out.old.items ++ reply_text (reply_of reply.entry)) }
-    ensures err { OnErr result (Extends out.old.items out.new.items) }
-{
-    match reply {
-        Reply::Accepted => out.extend_from_slice(b"ok"),
-        Reply::Block(block) => push_handle(out, b"block ", block.0),
-        Reply::Chunk(chunk) => push_handle(out, b"chunk ", chunk.0),
-        Reply::Token(token) => push_handle(out, b"token ", token.0),
-        Reply::Number(number) => push_number(out, b"number ", number),
-        Reply::Bytes(bytes) => push_bytes(out, bytes),
-        Reply::Blocks(blocks) => push_blocks(out, &blocks),
-        Reply::Chunks(chunks) => push_chunks(out, &chunks),
-        Reply::Info(info) => push_info(out, info),
-        Reply::Equal(true) => out.extend_from_slice(b"same"),
-        Reply::Equal(false) => out.extend_from_slice(b"differ"),
-    }
-}
-
 pub(crate) fn push_reply(out: &mut Vec<u8>, reply: Result<Reply, Fault>) -> Result<(), AllocError>
     ensures ok { OnOk result (out.new.items ≡ out.old.items ++ reply_text (reply_by reply_of reply.entry)) }
     ensures err { OnErr result (Extends out.old.items out.new.items) }
 {
     match reply {
-        Ok(reply) => push_accepted(out, reply),
+        Ok(Reply::Accepted) => out.extend_from_slice(b"ok"),
+        Ok(Reply::Block(block)) => push_handle(out, b"block ", block.0),
+        Ok(Reply::Chunk(chunk)) => push_handle(out, b"chunk ", chunk.0),
+        Ok(Reply::Token(token)) => push_handle(out, b"token ", token.0),
+        Ok(Reply::Number(number)) => push_number(out, b"number ", number),
+        Ok(Reply::Bytes(bytes)) => push_bytes(out, bytes),
+        Ok(Reply::Blocks(blocks)) => push_blocks(out, &blocks),
+        Ok(Reply::Chunks(chunks)) => push_chunks(out, &chunks),
+        Ok(Reply::Info(info)) => push_info(out, info),
+        Ok(Reply::Equal(true)) => out.extend_from_slice(b"same"),
+        Ok(Reply::Equal(false)) => out.extend_from_slice(b"differ"),
         Err(fault) => push_refusal(out, fault),
     }
 }

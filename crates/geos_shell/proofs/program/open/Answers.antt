@@ -3,8 +3,8 @@ use Rattle.geos_shell.proofs.Begun.{is_opened}
 use Rattle.geos_shell.proofs.program.open.Goals as goal
 
 -- The session is that of the document that was there.
-pub returns-in-Ok-open_target-clause-ok : goal.returns-in-Ok-open_target-clause-ok
-returns-in-Ok-open_target-clause-ok g c =
+pub returns-clause-ok : goal.returns-clause-ok
+returns-clause-ok g c =
     let opened = c.in-Ok.ensures in let found = opened.opened in
     let frames : c.in-Ok.session.frames ≡ c.args.options.cache = cc (opened.new.1, c.from.ensures) in
     record {
@@ -13,19 +13,19 @@ returns-in-Ok-open_target-clause-ok g c =
     }
 
 -- The target can't be opened, and the document's store is closed.
-pub returns-in-Err-open_target-clause-err : goal.returns-in-Err-open_target-clause-err
-returns-in-Err-open_target-clause-err g c =
+pub returns-in_default-clause-err : goal.returns-in_default-clause-err
+returns-in_default-clause-err g c =
     let opened = c.in-Ok.ensures in let found = opened.opened in
     let frames : c.in-Ok.session.frames ≡ c.args.options.cache = cc (opened.new.1, c.from.ensures) in
     record {
       failed = c.open_target.new.files;
-      target = c.in-Err-open_target.ensures.err;
-      left = c.close-in-Err-open_target.result;
+      target = c.in_default.ensures.err;
+      left = c.close-in_default.result;
       untouched = λ is. let no : true ≡ false = sym is ∙ c.requires.old in absurd (cc no);
       was_opened = λ is. (
         c.in-Ok.session,
         is_opened g.F.Opened.Store.facts c.args.options.cache c.args.store c.in-Ok.session found.follows.honest found.follows.failures found.unchanged found.documents found.now opened.exact (rw c.from.ensures at opened.machine) frames found.sequence found.numbered found.crash_consistent,
-        c.close-in-Err-open_target.ensures,
+        c.close-in_default.ensures,
       );
-      closes = c.close-in-Err-open_target-2.ensures;
+      closes = c.close-in_default-2.ensures;
     }

@@ -8,7 +8,7 @@ use Rattle.geos_shell.proofs.replies.push_response.Goals as goal
 -- Edits, and undo and redo, commit nothing.
 pub returns-in-Edit-clause-replied : goal.returns-in-Edit-clause-replied
 returns-in-Edit-clause-replied g c = λ exact.
-    rw c.in-Edit.is (replied_mapped g.S.Store.facts c.push_reply.result _ reply_of_done _ c.edit.result c.map-reply.result _ _ c.map-reply.ensures.cases (λ x y h. search rules) c.push_reply.ensures.ok _ _ (serves_passing g.S.Store.facts _ _ _ _ _ _ c.edit.ensures.passes c.edit.ensures.step (λ nothing. nothing) tt exact))
+    rw c.in-Edit.is (replied_mapped g.S.Store.facts c.push_reply.result _ reply_of_done _ c.edit.result c.map.result _ _ c.map.ensures.cases (λ x y h. search rules) c.push_reply.ensures.ok _ _ (serves_passing g.S.Store.facts _ _ _ _ _ _ c.edit.ensures.passes c.edit.ensures.step (λ nothing. nothing) tt exact))
 
 pub returns-in-Undo-clause-replied : goal.returns-in-Undo-clause-replied
 returns-in-Undo-clause-replied g c = λ exact.

@@ -1,6 +1,6 @@
 use Rattle.std.proofs.Common.{◌+◌, ◌*◌, arith}
 use Rattle.hex.proofs.Pairs.{decode_done, decode_start, decode_step}
-use Rattle.geos_shell.proofs.hex_text.decode_into.Goals as goal
+use Rattle.geos_shell.proofs.operands.decode_into.Goals as goal
 
 pub bytes-init : goal.bytes-init
 bytes-init c = decode_start c.args.digits.now c.args.out.now
