@@ -1,5 +1,5 @@
 -- A reply's line is what is written for its request.
-use Rattle.std.proofs.Common.{◌≡◌, List, ℕ, ◌++◌, Bool, true, false, length, refl, ap, subst, sym, Option, Result, Ok, OnOk, Err, Some, inr, ◌∷◌, [], ◌∙◌, is_err, rules, None}
+use Rattle.std.proofs.Common.{◌≡◌, List, ℕ, ◌++◌, Bool, true, false, length, refl, ap, subst, Option, Result, Ok, OnOk, Err, Some, inr, ◌∷◌, [], ◌∙◌, is_err, rules, None}
 use Rattle.std.specs.Prelude.{IsOkAnd, MatchResult}
 use Rattle.std.proofs.lemmas.List.{append_assoc, take_at}
 use Rattle.geos_model.specs.Reply.{Refused, Reply, reply_by, reply_of}

@@ -4,7 +4,7 @@ ghost use Rattle.geos_model.specs.Reply.{Accepted, reply_by};
 ghost use Rattle.geos_model.specs.Script.{command, reply_text};
 ghost use Rattle.geos_model.specs.declared.command.Command.TheVariants as commands;
 ghost use Rattle.geos_shell.specs.Holdings.{AreExact, MayServe, ServesRequest, holding};
-ghost use Rattle.geos_shell.specs.Replies.{Extends, Replied, Responds, Told, asks_chunk, asks_no_body, is_look_up};
+ghost use Rattle.geos_shell.specs.Replies.{Extends, Replied, Responds, Told, asks_no_body, is_look_up};
 
 use crate::parser::read_command;
 use crate::text::push_reply;
@@ -15,44 +15,12 @@ use vm_store::Store;
 
 // Puts the reply behind `out` that the row of what is asked makes. Each row does so itself, since the session may have lent it bytes.
 macro_rules! push_reply_to {
-    ($out:expr, $asked:expr; $($row:pat => $reply:expr),*; $other:pat => $rest:expr) => {
+    ($out:expr, $asked:expr; $($row:pat => $reply:expr,)*) => {
         match $asked {
             $($row => push_reply($out, $reply),)*
-            $other => $rest,
+            _ => unreachable!(),
         }
     };
-}
-
-// Puts the reply to a look-up into a chunk behind `out`, without its line feed.
-fn push_chunk_look_up<S: Store>(
-    session: &mut Session<S>,
-    look_up: &Command,
-    out: &mut Vec<u8>,
-) -> Result<(), AllocError>
-    requires { IsTrue (asks_chunk look_up.now) }
-    ensures told { Told result S.facts session.old look_up.now session.new out.old.items out.new.items }
-    ensures err { OnErr result (Extends out.old.items out.new.items) }
-{
-    push_reply_to! { out, look_up;
-        Command::Read(block, chunk) => session.read_chunk(*block, *chunk).map(Reply::Bytes),
-        Command::ArrayCount(block, chunk) => session.array_count(*block, *chunk).map(|n| Reply::Number(n as u64)),
-        Command::ArrayElement(block, chunk, i) => session.array_element(*block, *chunk, *i).map(Reply::Bytes),
-        Command::ElementReferences(block, chunk, token) =>
-            session.element_refs(*block, *chunk, *token).map(|n| Reply::Number(u64::from(n))),
-        Command::ElementBytes(block, chunk, token) => session.element_bytes(*block, *chunk, *token).map(Reply::Bytes),
-        Command::ElementsUsed(block, chunk) => session.elements_used(*block, *chunk).map(|n| Reply::Number(n as u64)),
-        Command::TokenOfUsed(block, chunk, k) =>
-            session.token_of_used(*block, *chunk, *k).map(|token| Reply::Token(token)),
-        Command::UsedOfToken(block, chunk, token) =>
-            session.used_of_token(*block, *chunk, *token).map(|n| Reply::Number(n as u64)),
-        Command::NameFind(block, chunk, name) =>
-            session.name_find(*block, *chunk, name).map(|token| Reply::Token(token)),
-        Command::NameReferences(block, chunk, token) =>
-            session.name_refs(*block, *chunk, *token).map(|n| Reply::Number(u64::from(n))),
-        Command::NameText(block, chunk, token) => session.name_text(*block, *chunk, *token).map(Reply::Bytes),
-        Command::NamePart(block, chunk, token) => session.name_part(*block, *chunk, *token).map(Reply::Bytes);
-        _ => unreachable!()
-    }
 }
 
 // Puts the reply to a look-up behind `out`, without its line feed.
@@ -74,13 +42,29 @@ fn push_look_up<S: Store>(
         Command::MapBlock => Ok(Reply::Block(session.map_block())),
         Command::ReadRaw(block) => session.read_raw(*block).map(Reply::Bytes),
         Command::Chunks(block) => session.chunks(*block).map(|chunks| Reply::Chunks(chunks)),
+        Command::Read(block, chunk) => session.read_chunk(*block, *chunk).map(Reply::Bytes),
+        Command::ArrayCount(block, chunk) => session.array_count(*block, *chunk).map(|n| Reply::Number(n as u64)),
+        Command::ArrayElement(block, chunk, i) => session.array_element(*block, *chunk, *i).map(Reply::Bytes),
+        Command::ElementReferences(block, chunk, token) =>
+            session.element_refs(*block, *chunk, *token).map(|n| Reply::Number(u64::from(n))),
+        Command::ElementBytes(block, chunk, token) => session.element_bytes(*block, *chunk, *token).map(Reply::Bytes),
+        Command::ElementsUsed(block, chunk) => session.elements_used(*block, *chunk).map(|n| Reply::Number(n as u64)),
+        Command::TokenOfUsed(block, chunk, k) =>
+            session.token_of_used(*block, *chunk, *k).map(|token| Reply::Token(token)),
+        Command::UsedOfToken(block, chunk, token) =>
+            session.used_of_token(*block, *chunk, *token).map(|n| Reply::Number(n as u64)),
+        Command::NameFind(block, chunk, name) =>
+            session.name_find(*block, *chunk, name).map(|token| Reply::Token(token)),
+        Command::NameReferences(block, chunk, token) =>
+            session.name_refs(*block, *chunk, *token).map(|n| Reply::Number(u64::from(n))),
+        Command::NameText(block, chunk, token) => session.name_text(*block, *chunk, *token).map(Reply::Bytes),
+        Command::NamePart(block, chunk, token) => session.name_part(*block, *chunk, *token).map(Reply::Bytes),
         Command::Locks(block) => session.locks(*block).map(|n| Reply::Number(u64::from(n))),
         Command::Walk(root) => session.walk(*root).map(|blocks| Reply::Blocks(blocks)),
         Command::ChainSize(root) => session.chain_size(*root).map(|n| Reply::Number(u64::from(n))),
         Command::ChainEqual(first, second) => session.chain_equal(*first, *second).map(|equal| Reply::Equal(equal)),
         Command::Undos => Ok(Reply::Number(session.undo_count() as u64)),
-        Command::Redos => Ok(Reply::Number(session.redo_count() as u64));
-        chunk_look_up => push_chunk_look_up(session, chunk_look_up, out)
+        Command::Redos => Ok(Reply::Number(session.redo_count() as u64)),
     }
 }
 

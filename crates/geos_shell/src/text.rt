@@ -3,7 +3,6 @@
 
 ghost use Rattle.std.specs.Prelude.{◌≡◌, ◌++◌, OnOk, OnErr, codes, map};
 ghost use Rattle.std.specs.Fmt.{decimal};
-ghost use Rattle.hex.specs.Hex.{encode_lower};
 ghost use Rattle.geos_model.specs.Reply.{Refused, info_is, reply_by, reply_of};
 ghost use Rattle.geos_model.specs.Script.{four_digits, hex_text, listed, reply_text};
 ghost use Rattle.geos_shell.specs.Replies.{Extends};

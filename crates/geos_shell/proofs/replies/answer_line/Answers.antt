@@ -1,4 +1,4 @@
-use Rattle.std.proofs.Common.{◌≡◌, None, false, inl, is_err, is_ok, refl, rules, sym, true}
+use Rattle.std.proofs.Common.{◌≡◌, None, false, inl, is_err, is_ok, refl, rules, true}
 use Rattle.geos_model.specs.Script.{command}
 use Rattle.geos_model.specs.declared.command.Command.TheVariants as commands
 use Rattle.geos_shell.proofs.Calls.{on_ok_if, was_ok}
