@@ -50,8 +50,8 @@ pub record IsChangedBody (es : List (ℕ × Frame)) (h : ℕ) (body : BlockBody)
   pub changed : frame.changed ≡ true
   pub same : frame.body ≡ body
 
--- A frame is of a block of the file and of its kind, also where its body is changed, and is locked 255 times at most. An unchanged one
--- over an honest store has the file's body.
+-- A frame is of a block of the file and of its kind, also where its body is changed, and is locked 255 times at most.
+-- An unchanged one over an honest store has the file's body.
 pub record IsFrameOf (honest : Bool) (file : Document) (h : ℕ) (f : Frame) : Type 0 where
   pub live : is_live file h ≡ true
   pub few : f.locks ≤ 255
@@ -69,5 +69,6 @@ with_frames file es = record { disk = file.disk; document = overlay es file.docu
 pub record KeepsOverlay {S : Type 0} (facts : S → StoreFacts) (file : FileState S) (frames : List (ℕ × Frame))
     (file' : FileState S) (frames' : List (ℕ × Frame)) : Type 0 where
   pub passes : KeepsCommitted facts file.disk file'.disk
-  pub unless_corrupt : SameUnlessCorrupt (facts file.disk.store).honest (overlay frames file.document) (overlay frames' file'.document)
+  pub unless_corrupt : SameUnlessCorrupt (facts file.disk.store).honest (overlay frames file.document)
+      (overlay frames' file'.document)
   pub kept : AreFramesOf (facts file'.disk.store).honest file'.document frames'

@@ -22,4 +22,5 @@ module _ (S : RattleType) (members : store.Ghosts S.Denot) where
 
   -- with other chunks of a heap
   abbrev pub lends_heap : MutBor (CacheState S.Denot) → ℕ → MutBor Placed → Fml
-  lends_heap cache h heap = Lends (the_row S members) heaps.the_row cache heap (λ w. with_body_of cache.now h (Heap w.chunks))
+  lends_heap cache h heap =
+      Lends (the_row S members) heaps.the_row cache heap (λ w. with_body_of cache.now h (Heap w.chunks))

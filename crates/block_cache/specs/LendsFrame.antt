@@ -1,4 +1,5 @@
--- What a frame ends as, once a `&mut` into what its body holds has ended: the file may have another body of the block, of the same kind.
+-- What a frame ends as, once a `&mut` into what its body holds has ended: the file may have another body of the block,
+-- of the same kind.
 use Rattle.std.specs.Prelude.{ℕ, List, true}
 use Rattle.std.specs.Borrow.{Lends, MutBor, Fml}
 use Rattle.raw_region.specs.contracts.body.RawBody as raw_bodies

@@ -11,8 +11,9 @@ use Rattle.vm_file.specs.Documents.{sequence_in}
 use Rattle.vm_file.specs.Effects.{SameStore, IsNewFile}
 use Rattle.vm_file.specs.Making.{first_file}
 
--- A file that was opened. Over an honest store nothing was written, and it has the documents that the bytes stand for, the updated one as
--- it is now, under the number of the slot that counts, all of which is on the disk from then on; over another nothing is said of them.
+-- A file that was opened. Over an honest store nothing was written, and it has the documents that the bytes stand for,
+-- the updated one as it is now, under the number of the slot that counts, all of which is on the disk from then on;
+-- over another nothing is said of them.
 pub record IsOpenedFrom {S : Type 0} (facts : S → StoreFacts) (store : S) (file : FileState S) : Type 0 where
   pub follows : SameStore facts store file.disk.store
   pub unchanged : IsTrue (facts store).honest → IsUnchanged (facts store) (facts file.disk.store)
@@ -23,8 +24,8 @@ pub record IsOpenedFrom {S : Type 0} (facts : S → StoreFacts) (store : S) (fil
   pub numbered : IsTrue (facts store).honest → HasSequence (facts file.disk.store) file.disk.sequence
   pub crash_consistent : IsCrashConsistent facts file.disk
 
--- None was opened, and the store comes back. Over an honest one nothing was written, and the refusal is the one that the bytes stand for,
--- or memory or the store failed.
+-- None was opened, and the store comes back. Over an honest one nothing was written, and the refusal is the one that
+-- the bytes stand for, or memory or the store failed.
 pub record IsNotOpened {S : Type 0} (facts : S → StoreFacts) (store back : S) (fault : Fault) : Type 0 where
   pub follows : SameStore facts store back
   pub unchanged : IsTrue (facts store).honest → IsUnchanged (facts store) (facts back)

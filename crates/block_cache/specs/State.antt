@@ -15,7 +15,8 @@ use Rattle.lru.specs.LruCache.{promoted}
 abbrev pub ResidentBlock : Type 0
 ResidentBlock = ℕ × ℕ
 
--- The disk, the document as it is now, those of its blocks that are in memory, the most recently used first, and how many may be.
+-- The disk, the document as it is now, those of its blocks that are in memory, the most recently used first, and how
+-- many may be.
 pub record CacheState (S : Type 0) : Type 0 where
   pub disk : Disk S
   pub document : Document
@@ -24,7 +25,9 @@ pub record CacheState (S : Type 0) : Type 0 where
 
 abbrev pub cache_state_code : {S : Type 0} → Coded S → Coded (CacheState S)
 cache_state_code {S} s =
-    code_by (Disk S × (Document × (List (ℕ × ℕ) × ℕ))) (coded× (disk_code s) (coded× document_code (coded× (coded_list (coded× coded_ℕ coded_ℕ)) coded_ℕ))) (λ c. (c.disk, (c.document, (c.resident, c.frames))))
+    code_by (Disk S × (Document × (List (ℕ × ℕ) × ℕ)))
+    (coded× (disk_code s) (coded× document_code (coded× (coded_list (coded× coded_ℕ coded_ℕ)) coded_ℕ)))
+    (λ c. (c.disk, (c.document, (c.resident, c.frames))))
     (λ p. record { disk = p.0; document = p.1.0; resident = p.1.1.0; frames = p.1.1.1 }) (λ _. refl)
 
 abbrev pub is_resident : List ResidentBlock → ℕ → Bool
@@ -58,11 +61,12 @@ abbrev pub residents_without : List VmHandle → List ResidentBlock → List Res
 residents_without [] residents = residents
 residents_without (h ∷ handles) residents = residents_without handles (remove_entry (nat_eq h.0) residents)
 
--- What is in memory once a block was loaded: that block first. Where it wasn't there and each frame was taken, the least recently
--- used one that isn't locked had to go.
+-- What is in memory once a block was loaded: that block first. Where it wasn't there and each frame was taken, the
+-- least recently used one that isn't locked had to go.
 abbrev pub after_load : ℕ → ℕ → List ResidentBlock → List ResidentBlock
 after_load frames h residents =
-    cond (is_resident residents h) (promoted (nat_eq h) residents) ((h, 0) ∷ cond (nat_lt (length residents) frames) residents (evicted residents))
+    cond (is_resident residents h) (promoted (nat_eq h) residents)
+    ((h, 0) ∷ cond (nat_lt (length residents) frames) residents (evicted residents))
 
 -- Each block is locked as often as before, one that isn't in memory not at all, so that as many are locked.
 pub record KeepsLocks (old new : List ResidentBlock) : Type 0 where

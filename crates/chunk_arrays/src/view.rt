@@ -33,7 +33,12 @@ impl<'a> Model for View<'a> {
 
     ghost use Rattle.chunk_arrays.specs.Viewing.{IsView};
 
-    ghost view = { λ v. record { array = array_read v.bytes.now; even = v.even; few = v.few; are_bytes = v.are_bytes } };
+    ghost view = { λ v. record {
+      array = array_read v.bytes.now;
+      even = v.even;
+      few = v.few;
+      are_bytes = v.are_bytes;
+    } };
 
     ghost invariant = { IsView };
 }

@@ -6,8 +6,8 @@ use Rattle.geos_model.specs.Words.{word, word_at}
 use Rattle.chunk_edits.specs.declared.direction.Direction.{Direction}
 use Rattle.chunk_edits.specs.declared.direction.Direction.TheVariants.{Forwards, Backwards}
 
--- A piece of some bytes, and what becomes of it: so many bytes stay; these go, and others come in their place; so many words,
--- each as far behind `to` then, modulo 2^16, as it is behind `from`.
+-- A piece of some bytes, and what becomes of it: so many bytes stay; these go, and others come in their place; so many
+-- words, each as far behind `to` then, modulo 2^16, as it is behind `from`.
 pub data Piece : Type 0 where
   Keep : (n : ℕ) → Piece
   Put : (old new : List ℕ) → Piece
@@ -30,7 +30,8 @@ held_by (Keep n) = 0
 held_by (Put old new) = length old + length new
 held_by (Rebase words from to) = 0
 
--- how many bytes all pieces are of, how many come in their place, how many there are at most in between, and how many are held
+-- how many bytes all pieces are of, how many come in their place, how many there are at most in between, and how many
+-- are held
 abbrev pub total_taken : List Piece → ℕ
 total_taken ps = sum_by taken ps
 
@@ -46,7 +47,8 @@ held ps = sum_by held_by ps
 -- so many words, each as far behind a number, modulo 2^16, as it was behind another
 abbrev pub rebased : ℕ → ℕ → ℕ → List ℕ → List ℕ
 rebased zero from to bytes = []
-rebased (suc n) from to bytes = word (word_at bytes 0 + to + (2 ^ 16 - from % 2 ^ 16)) ++ rebased n from to (drop 2 bytes)
+rebased (suc n) from to bytes =
+    word (word_at bytes 0 + to + (2 ^ 16 - from % 2 ^ 16)) ++ rebased n from to (drop 2 bytes)
 
 -- what becomes of the bytes of a piece
 abbrev pub piece_after : Piece → List ℕ → List ℕ
@@ -103,7 +105,8 @@ pub record BuildsPatch (conditions : Conditions) (ps : List Piece) (from to : Li
   pub accepted : first_refusal conditions ≡ None
   pub leads : PatchLeads ps from to
 
--- Where pieces are those of some bytes, the pieces the other way round are those of what becomes of them, and lead back.
+-- Where pieces are those of some bytes, the pieces the other way round are those of what becomes of them, and lead
+-- back.
 abbrev pub PatchLaw : Type 0
 PatchLaw = (ps : List Piece) (bytes : List ℕ) → ArePiecesOf ps bytes
     → ArePiecesOf (reversed_pieces ps) (patched ps bytes) × (patched (reversed_pieces ps) (patched ps bytes) ≡ bytes)

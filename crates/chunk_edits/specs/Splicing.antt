@@ -40,4 +40,5 @@ RefusesToBuild conditions fault = (fault ≡ Memory) ⊎ (first_refusal conditio
 
 -- Where a splice leads, its new part stands, and it leads back.
 abbrev pub SpliceLaw : Type 0
-SpliceLaw = (s : Splice) (from to : List ℕ) (held : ℕ) → Leads s from to held → OccursAt to s.at s.new × (backwards s to ≡ from)
+SpliceLaw =
+    (s : Splice) (from to : List ℕ) (held : ℕ) → Leads s from to held → OccursAt to s.at s.new × (backwards s to ≡ from)

@@ -95,10 +95,12 @@ pub record IsBuilt (part : PartChange) (bytes : List ℕ) : Type 0 where
   pub short : length (chunk_after part bytes) ≤ longest_chunk
 
 -- The part is what an edit comes to in a chunk: nothing but lack of room refuses it.
-pub record MakesPart (edit : Edit) (d : Document) (b : VmHandle) (c : ChunkHandle) (part : PartChange) (done : Done) : Type 0 where
+pub record MakesPart (edit : Edit) (d : Document) (b : VmHandle) (c : ChunkHandle) (part : PartChange) (done : Done)
+    : Type 0 where
   pub chunk : IsOfChunk part c.0
   pub built : IsBuilt part (chunk_at d b.0 c.0)
-  pub refusal : first_refusal (conditions edit d) ≡ (if fits_with (chunks_of d b.0) c.0 (chunk_after part (chunk_at d b.0 c.0)) then None else Some Full)
+  pub refusal : first_refusal (conditions edit d)
+      ≡ (if fits_with (chunks_of d b.0) c.0 (chunk_after part (chunk_at d b.0 c.0)) then None else Some Full)
   pub document : with_chunk d b.0 c.0 (chunk_after part (chunk_at d b.0 c.0)) ≡ (effect edit d).0
   pub answer : done ≡ (effect edit d).1
   pub kind : kind_of edit ≡ In b
@@ -114,7 +116,8 @@ pub record Creates (edit : Edit) (d : Document) (b : VmHandle) (bytes : List ℕ
 -- The same of the place that the edit names: it is this chunk of a heap of these, and has these bytes.
 
 abbrev pub IsAt : Edit → Document → ChunkMap → ℕ → List ℕ → Type 0
-IsAt edit d m k bytes = MatchOption (place_of edit) ⊥ (λ p. IsHeapAt d p.0.0 m × (k ≡ p.1.0) × IsChunkAt d p.0.0 p.1.0 bytes)
+IsAt edit d m k bytes =
+    MatchOption (place_of edit) ⊥ (λ p. IsHeapAt d p.0.0 m × (k ≡ p.1.0) × IsChunkAt d p.0.0 p.1.0 bytes)
 
 abbrev pub MakesAt : Edit → Document → Done → PartChange → Type 0
 MakesAt edit d done part = MatchOption (place_of edit) ⊥ (λ p. MakesPart edit d p.0 p.1 part done)

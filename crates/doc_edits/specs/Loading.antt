@@ -25,8 +25,12 @@ IsThere state (Chunk b c) = (is_loaded state b.0 ≡ true) × (is_heap state.doc
 IsThere state (Chain b) = Unit {0}
 
 -- With the room it has, it was brought in, or the edit is refused first of all.
-pub record IsBrought {S : Type 0} (lacks : Fault → Type 0) (edit : Edit) (a b : CacheState S) (result : Result (Unit {0}) Fault) : Type 0 where
+pub record IsBrought {S : Type 0} (lacks : Fault → Type 0) (edit : Edit) (a b : CacheState S)
+    (result : Result (Unit {0}) Fault) : Type 0 where
   pub room : IfOk result (λ _. has_no_room a (edit_needs edit) ≡ false)
-  pub shut : has_no_room a (edit_needs edit) ≡ true → (b ≡ a) × IfErr result (λ fault. first_refusal ((CacheFull, true) ∷ conditions edit a.document) ≡ Some fault)
+  pub shut : has_no_room a (edit_needs edit) ≡ true
+      → (b ≡ a) × IfErr result (λ fault. first_refusal ((CacheFull, true) ∷ conditions edit a.document) ≡ Some fault)
   pub err : IfErr result (RefusesEdit lacks (has_no_room a (edit_needs edit)) edit b.document)
-  pub already : ReadsNothing a (edit_needs edit) (conditions edit a.document) → (b.disk ≡ a.disk) × (b.document ≡ a.document) × IfErr result (λ fault. first_refusal (conditions edit a.document) ≡ Some fault)
+  pub already : ReadsNothing a (edit_needs edit) (conditions edit a.document)
+      → (b.disk ≡ a.disk) × (b.document ≡ a.document)
+      × IfErr result (λ fault. first_refusal (conditions edit a.document) ≡ Some fault)

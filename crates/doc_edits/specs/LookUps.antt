@@ -22,11 +22,15 @@ use mathlib.Core.Option.{none}
 
 -- the first refusal of a look-up, for which there may be no room, or what it answers where nothing refuses it
 abbrev pub answer_of : Bool → Command → Document → Option Reply
-answer_of no_room command d = option_map_or (λ fault. Some (Refused fault)) (first_refusal ((CacheFull, no_room) ∷ look_up_conditions command d)) (look_up command d)
+answer_of no_room command d =
+    option_map_or (λ fault. Some (Refused fault)) (first_refusal ((CacheFull, no_room) ∷ look_up_conditions command d))
+    (look_up command d)
 
 -- it answers so, or, where there is room, a fault of what the call may lack
 abbrev pub LooksUp : (Fault → Type 0) → Bool → Command → Document → Reply → Type 0
-LooksUp lacks no_room command d reply = ((fault : Fault) × lacks fault × (reply ≡ Refused fault) × (no_room ≡ false)) ⊎ (answer_of no_room command d ≡ Some reply)
+LooksUp lacks no_room command d reply =
+    ((fault : Fault) × lacks fault × (reply ≡ Refused fault) × (no_room ≡ false))
+    ⊎ (answer_of no_room command d ≡ Some reply)
 
 -- the block and the chunk into which a look-up looks
 abbrev pub chunk_asked : Command → Option (VmHandle × ChunkHandle)
@@ -46,7 +50,8 @@ chunk_asked command = None
 
 -- So is each look-up into the chunk refused.
 abbrev pub RefusesChunk : (Fault → Type 0) → Bool → Document → VmHandle → ChunkHandle → Fault → Type 0
-RefusesChunk lacks no_room d b c fault = (command : Command) → chunk_asked command ≡ Some (b, c) → LooksUp lacks no_room command d (Refused fault)
+RefusesChunk lacks no_room d b c fault =
+    (command : Command) → chunk_asked command ≡ Some (b, c) → LooksUp lacks no_room command d (Refused fault)
 
 -- whether a look-up into one block makes a list, for which memory may run out though the block is there
 abbrev pub makes_list : Command → Bool
@@ -55,14 +60,19 @@ makes_list command = false
 
 -- it answers by its rules alone, but for lack of memory for a list
 abbrev pub LooksUpInMemory : Command → Document → Reply → Type 0
-LooksUpInMemory command d reply = LooksUp (λ fault. (fault ≡ Memory) × (makes_list command ≡ true)) false command d reply
+LooksUpInMemory command d reply =
+    LooksUp (λ fault. (fault ≡ Memory) × (makes_list command ≡ true)) false command d reply
 
--- What a look-up into one block comes to: the file is kept, and the document as it is held from then on is looked up, as far as there was
--- room for the block. Where no body has to be read no store is called, and the answer is that of the document before.
-pub record Sees {S : Type 0} (facts : S → StoreFacts) (old new : CacheState S) (command : Command) (reply : Reply) : Type 0 where
+-- What a look-up into one block comes to: the file is kept, and the document as it is held from then on is looked up,
+-- as far as there was room for the block. Where no body has to be read no store is called, and the answer is that of
+-- the document before.
+pub record Sees {S : Type 0} (facts : S → StoreFacts) (old new : CacheState S) (command : Command) (reply : Reply)
+    : Type 0 where
   pub keeps : KeepsBlocks facts old new
-  pub value : LooksUp (IsEnvironmentFault facts old.disk.store new.disk.store) (has_no_room old (look_up_needs command)) command new.document reply
-  pub already : ReadsNothing old (look_up_needs command) (look_up_conditions command old.document) → (new.disk ≡ old.disk) × (new.document ≡ old.document) × LooksUpInMemory command old.document reply
+  pub value : LooksUp (IsEnvironmentFault facts old.disk.store new.disk.store)
+      (has_no_room old (look_up_needs command)) command new.document reply
+  pub already : ReadsNothing old (look_up_needs command) (look_up_conditions command old.document)
+      → (new.disk ≡ old.disk) × (new.document ≡ old.document) × LooksUpInMemory command old.document reply
 
 -- why a look-up along chains is refused for their roots, without a look into any block
 abbrev pub IsWrongRootOf : Command → Document → Fault → Type 0
@@ -83,11 +93,17 @@ pub record SeesAlongChain {S : Type 0} (facts : S → StoreFacts) (old new : Cac
       → IsChainRefusal (IsEnvironmentFault facts old.disk.store new.disk.store)
       (IsWrongRootOf command old.document) (is_full old) fault
 
--- A chunk is looked for without the store where no body has to be read for a look-up into it, which is then refused by the rules alone.
-abbrev pub FindsInMemory : {S T : Type 0} → CacheState S → CacheState S → VmHandle → ChunkHandle → Result T Fault → Type 0
-FindsInMemory old new b c result = (command : Command) → chunk_asked command ≡ Some (b, c) → ReadsNothing old (OneBody b.0) (look_up_conditions command old.document)
-    → (new.disk ≡ old.disk) × (new.document ≡ old.document) × IfErr result (λ fault. first_refusal (look_up_conditions command old.document) ≡ Some fault)
+-- A chunk is looked for without the store where no body has to be read for a look-up into it, which is then refused by
+-- the rules alone.
+abbrev pub FindsInMemory : {S T : Type 0} → CacheState S → CacheState S → VmHandle → ChunkHandle → Result T Fault
+    → Type 0
+FindsInMemory old new b c result =
+    (command : Command) → chunk_asked command ≡ Some (b, c)
+    → ReadsNothing old (OneBody b.0) (look_up_conditions command old.document)
+    → (new.disk ≡ old.disk) × (new.document ≡ old.document)
+    × IfErr result (λ fault. first_refusal (look_up_conditions command old.document) ≡ Some fault)
 
--- What is behind a `&mut` is again what the call left there, once what was lent of it is given back, and this holds of that.
+-- What is behind a `&mut` is again what the call left there, once what was lent of it is given back, and this holds of
+-- that.
 abbrev pub AfterLoan : (R : RattleType) → MutBor R.Denot → (R.Denot → Type 0) → Fml
 AfterLoan R s P = follows_so R R s.ghost_name none (λ _ _. ⊤) P

@@ -38,8 +38,8 @@ freed_by (changes.Part b part) = []
 freed_by (changes.Attributes b old new) = []
 freed_by (changes.Map old new) = []
 
--- How many bytes a step is charged for: those that its change holds, the zeros that it need not hold, and of a patch also those that stay, before and after
--- it.
+-- How many bytes a step is charged for: those that its change holds, the zeros that it need not hold, and of a patch
+-- also those that stay, before and after it.
 
 abbrev pub part_cost : PartChange → ℕ
 part_cost (parts.Raw s) = length s.old + length s.new
@@ -64,14 +64,14 @@ pub record Plans (edit : Edit) (d : Document) (change : Change) (done : Done) : 
   pub kind : kind_of_change change ≡ kind_of edit
   pub cost : change_cost change ≡ cost edit d (effect edit d).0
 
--- What an edit is refused for where the bodies into which it looks are in memory: memory for the change may be lacking, or it is the
--- first refusal.
+-- What an edit is refused for where the bodies into which it looks are in memory: memory for the change may be lacking,
+-- or it is the first refusal.
 abbrev pub RefusesInMemory : Edit → Document → Fault → Type 0
 RefusesInMemory edit d fault = (fault ≡ Memory) ⊎ (first_refusal (conditions edit d) ≡ Some fault)
 
--- What an edit of a chain may be refused for, of the document before: its root for what handles and kinds tell, and else for the chain. Of each
--- body of the chain that is said as it was when it was read, so that over a store that isn't honest no one document need have it as its first
--- refusal.
+-- What an edit of a chain may be refused for, of the document before: its root for what handles and kinds tell, and
+-- else for the chain. Of each body of the chain that is said as it was when it was read, so that over a store that
+-- isn't honest no one document need have it as its first refusal.
 abbrev pub IsChainEditFault : Edit → Document → Fault → Type 0
 IsChainEditFault (edits.CopyChain b) d fault = IsChainFault (IsWrongBlock is_raw d b.0) fault ⊎ (fault ≡ NoHandles)
 IsChainEditFault (edits.FreeChain b) d fault = IsChainFault (IsWrongBlock is_raw d b.0) fault ⊎ (fault ≡ IsMap)
@@ -79,4 +79,5 @@ IsChainEditFault edit d fault = ⊥
 
 -- a fault of what the call may lack, or the first refusal of an edit for which there may be no room
 abbrev pub RefusesEdit : (Fault → Type 0) → Bool → Edit → Document → Fault → Type 0
-RefusesEdit lacks no_room edit d fault = lacks fault ⊎ (first_refusal ((CacheFull, no_room) ∷ conditions edit d) ≡ Some fault)
+RefusesEdit lacks no_room edit d fault =
+    lacks fault ⊎ (first_refusal ((CacheFull, no_room) ∷ conditions edit d) ≡ Some fault)

@@ -8,7 +8,8 @@ use Rattle.block_cache.specs.State.{CacheState}
 use Rattle.vm_blocks.specs.Keeping.{is_full, is_loaded, is_shut_out}
 use Rattle.vm_chains.specs.Answers.{IsWalkRefusal}
 
--- A block that isn't locked can't be brought into memory where each frame has a locked one, and those of a chain are not even looked for.
+-- A block that isn't locked can't be brought into memory where each frame has a locked one, and those of a chain are
+-- not even looked for.
 abbrev pub has_no_room : {S : Type 0} → CacheState S → Needs → Bool
 has_no_room state needs = lacks_room (is_shut_out state) (is_full state) needs
 
@@ -16,8 +17,8 @@ has_no_room state needs = lacks_room (is_shut_out state) (is_full state) needs
 abbrev pub IsRefusedUnseen : Conditions → Type 0
 IsRefusedUnseen conditions = (first_refusal conditions ≡ Some NoBlock) ⊎ (first_refusal conditions ≡ Some WrongKind)
 
--- No body has to be read for a command that is refused so: it looks into none, or into one that is in memory, or into none since the block is
--- refused. A chain is read as it is followed.
+-- No body has to be read for a command that is refused so: it looks into none, or into one that is in memory, or into
+-- none since the block is refused. A chain is read as it is followed.
 abbrev pub ReadsNothing : {S : Type 0} → CacheState S → Needs → Conditions → Type 0
 ReadsNothing state NoBody conditions = Unit {0}
 ReadsNothing state (OneBody b) conditions = (is_loaded state b ≡ true) ⊎ IsRefusedUnseen conditions

@@ -77,7 +77,8 @@ fn build_patch(alloc: Global, bytes: &[u8], edit: &Edit) -> Result<(Patch, Done)
     requires place { IsSome (place_of edit.now) }
     requires array { is_of_bytes edit.now ≡ false }
     ensures { (d : Document) → (m : ChunkMap) → (h : ChunkHandle) → IsAt edit.now d m h.0 bytes.now
-        → MatchResult result (λ built. MakesAt edit.now d built.1 (parts.Patch h built.0)) (RefusesInMemory edit.now d) }
+        → MatchResult result (λ built. MakesAt edit.now d built.1 (parts.Patch h built.0))
+        (RefusesInMemory edit.now d) }
 {
     match edit {
         Edit::AddElement(_, _, element) => {

@@ -43,7 +43,8 @@ write_of (targets.Raw b) at bytes = edits.WriteRaw b at bytes
 write_of (targets.Chunk b c) at bytes = edits.Write b c at bytes
 
 abbrev pub piece_written : Target → List ℕ → ℕ → List Edit
-piece_written target bytes k = if is_zeros (piece_at bytes k) then [] else write_of target (piece_length * k) (piece_at bytes k) ∷ []
+piece_written target bytes k =
+    if is_zeros (piece_at bytes k) then [] else write_of target (piece_length * k) (piece_at bytes k) ∷ []
 
 unfoldable pub bytes_written : Target → List ℕ → List Edit
 bytes_written target bytes = flat_map (piece_written target bytes) (range_with_len 0 ((length bytes + 31) / 32))
@@ -66,10 +67,12 @@ entry_edits passes.Freeing = chunk_freed
 
 -- under so many handles, from the first on
 unfoldable pub entries_passed : Pass → VmHandle → ChunkMap → ℕ → List Edit
-entries_passed pass b m n = flat_map (λ i. entry_edits pass b (chunk_name (handle_of i)) (get m (handle_of i))) (range_with_len 0 n)
+entries_passed pass b m n =
+    flat_map (λ i. entry_edits pass b (chunk_name (handle_of i)) (get m (handle_of i))) (range_with_len 0 n)
 
 abbrev pub heap_filled : VmHandle → ChunkMap → List Edit
-heap_filled b m = let n = table_len (keys m) in entries_passed passes.Making b m n ++ entries_passed passes.Freeing b m n
+heap_filled b m =
+    let n = table_len (keys m) in entries_passed passes.Making b m n ++ entries_passed passes.Freeing b m n
 
 -- Blocks.
 
@@ -99,7 +102,8 @@ is_made old new h = is_live new h && not (is_live old h && has_same_body old new
 
 -- the block goes, and is no map block first
 abbrev pub taken_out : ℕ → ℕ → List Edit
-taken_out map_block h = (if map_block == h then edits.SetMap (block_name 0) ∷ [] else []) ++ edits.FreeBlock (block_name h) ∷ []
+taken_out map_block h =
+    (if map_block == h then edits.SetMap (block_name 0) ∷ [] else []) ++ edits.FreeBlock (block_name h) ∷ []
 
 -- a free handle is taken by an empty block, so that a block above gets its own one
 abbrev pub filler : Edit
@@ -108,8 +112,11 @@ filler = edits.NewRaw 0 0
 -- what is done of the block under a handle, below which the blocks are made so far
 abbrev pub block_changed : Document → Document → Progress → ℕ → List Edit
 block_changed old new p h =
-    if is_made old new h then replicate p.holes filler ++ (if is_live old h then taken_out p.map_block h else []) ++ block_made (block_name h) (attributes_of new h) (block_at new h).body
-    else if is_live old h && is_live new h then attributes_set (block_name h) (attributes_of old h) (attributes_of new h)
+    if is_made old new h then replicate p.holes filler
+    ++ (if is_live old h then taken_out p.map_block h else [])
+    ++ block_made (block_name h) (attributes_of new h) (block_at new h).body
+    else if is_live old h && is_live new h then
+    attributes_set (block_name h) (attributes_of old h) (attributes_of new h)
     else []
 
 -- How far they are made then. A block that is made leaves no handle free below, and is no map block.
@@ -135,7 +142,8 @@ map_set old new = if old == new then [] else edits.SetMap (block_name new) ∷ [
 -- A block goes that isn't in the new document: one of the old document, or one that took a handle below the last that
 -- was made.
 abbrev pub block_freed : Document → Document → ℕ → ℕ → List Edit
-block_freed old new last h = if not (is_live new h) && (is_live old h || nat_lt h last) then edits.FreeBlock (block_name h) ∷ [] else []
+block_freed old new last h =
+    if not (is_live new h) && (is_live old h || nat_lt h last) then edits.FreeBlock (block_name h) ∷ [] else []
 
 unfoldable pub blocks_freed : Document → Document → ℕ → List Edit
 blocks_freed old new last = flat_map (block_freed old new last) vm_handles

@@ -27,7 +27,8 @@ spelled (edits.SetType b heap_type) = codes "settype" ++ with_handle b.0 ++ with
 spelled (edits.SetMap b) = codes "map" ++ with_handle b.0
 spelled (edits.Alloc b n) = codes "alloc" ++ with_handle b.0 ++ with_number n
 spelled (edits.Free b c) = codes "free" ++ with_handle b.0 ++ with_handle c.0
-spelled (edits.Write b c at bytes) = codes "write" ++ with_handle b.0 ++ with_handle c.0 ++ with_number at ++ with_bytes bytes
+spelled (edits.Write b c at bytes) =
+    codes "write" ++ with_handle b.0 ++ with_handle c.0 ++ with_number at ++ with_bytes bytes
 spelled e = []
 
 abbrev pub line : Edit → List ℕ

@@ -70,7 +70,8 @@ fn write_block<S: Store, W: Write>(
     ensures fails { IfErr result (IsDumpRefusal (S.facts file.old.disk.store) (S.facts file.new.disk.store)) }
     ensures holes { IfOk result (λ after. after.progress.holes ≤ progress.holes + 1) }
     ensures ok { IfOk result (λ after. IsTrue (S.facts file.old.disk.store).honest
-        → (after.some ≡ is_some_text (text (block_changed (old_in stage file.old) (new_in stage file.old) progress block.0)))
+        → (after.some
+        ≡ is_some_text (text (block_changed (old_in stage file.old) (new_in stage file.old) progress block.0)))
         × (after.progress ≡ after_block (old_in stage file.old) (new_in stage file.old) progress block.0)
         × Appends (W.contents writer.old) (W.contents writer.new)
         (text (block_changed (old_in stage file.old) (new_in stage file.old) progress block.0))) }
@@ -97,7 +98,8 @@ fn write_blocks<S: Store, W: Write>(
     ensures reads { OnlyReads S.facts file.old file.new }
     ensures fails { IfErr result (IsDumpRefusal (S.facts file.old.disk.store) (S.facts file.new.disk.store)) }
     ensures ok { IfOk result (λ after. IsTrue (S.facts file.old.disk.store).honest
-        → (after.some ≡ is_some_text (text (blocks_changed (old_in stage file.old) (new_in stage file.old) first vm_handles)))
+        → (after.some
+        ≡ is_some_text (text (blocks_changed (old_in stage file.old) (new_in stage file.old) first vm_handles)))
         × (after.progress ≡ progress_after (old_in stage file.old) (new_in stage file.old) first vm_handles)
         × Appends (W.contents writer.old) (W.contents writer.new)
         (text (blocks_changed (old_in stage file.old) (new_in stage file.old) first vm_handles))) }

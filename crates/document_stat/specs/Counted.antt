@@ -42,14 +42,16 @@ heap_items bs = map block_item (filter (λ b. is_heap_body b.1.body) bs)
 
 -- the heaps of a type
 abbrev pub typed_items : ℕ → Blocks → List Item
-typed_items heap_type bs = map block_item (filter (λ b. is_heap_body b.1.body && (b.1.attributes.heap_type == heap_type)) bs)
+typed_items heap_type bs =
+    map block_item (filter (λ b. is_heap_body b.1.body && (b.1.attributes.heap_type == heap_type)) bs)
 
 -- chunks of a block, each with its bytes, and arrays in them, each with its elements
 abbrev pub chunk_item : ℕ → ℕ × List ℕ → Item
 chunk_item block c = record { subject = subjects.Chunk (record { 0 = block }) (record { 0 = c.0 }); size = length c.1 }
 
 abbrev pub array_item : ℕ → ℕ × List ℕ → Item
-array_item block c = record { subject = subjects.Chunk (record { 0 = block }) (record { 0 = c.0 }); size = elements_of c.1 }
+array_item block c =
+    record { subject = subjects.Chunk (record { 0 = block }) (record { 0 = c.0 }); size = elements_of c.1 }
 
 abbrev pub chunk_items : ℕ → Chunks → List Item
 chunk_items block cs = map (chunk_item block) cs
@@ -99,7 +101,8 @@ pub record AddsArray (kind : Option ArrayKind) (item : Item) (old new : ArraySta
 -- these chunks of a block are
 pub record AddsChunks (block : ℕ) (cs : Chunks) (old new : ChunkStat) : Type 0 where
   pub all : Adds (chunk_items block cs) old.all new.all
-  pub arrays : (kind : ArrayKind) → Adds (array_items kind block cs) (tally_of kind old.arrays) (tally_of kind new.arrays)
+  pub arrays : (kind : ArrayKind)
+      → Adds (array_items kind block cs) (tally_of kind old.arrays) (tally_of kind new.arrays)
 
 -- these blocks are
 pub record AddsBlocks (bs : Blocks) (old new : BlockStat) : Type 0 where
@@ -107,7 +110,8 @@ pub record AddsBlocks (bs : Blocks) (old new : BlockStat) : Type 0 where
   pub heaps : Adds (heap_items bs) old.heaps new.heaps
   pub types : (t : ℕ) → AddsIfAny (typed_items t bs) (get nat_cmp old.types t) (get nat_cmp new.types t)
   pub chunks : Adds (all_chunk_items bs) old.chunks.all new.chunks.all
-  pub arrays : (kind : ArrayKind) → Adds (all_array_items kind bs) (tally_of kind old.chunks.arrays) (tally_of kind new.chunks.arrays)
+  pub arrays : (kind : ArrayKind)
+      → Adds (all_array_items kind bs) (tally_of kind old.chunks.arrays) (tally_of kind new.chunks.arrays)
 
 -- no block was counted before them
 pub record IsCount (bs : Blocks) (s : BlockStat) : Type 0 where

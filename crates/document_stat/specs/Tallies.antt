@@ -7,7 +7,8 @@ use Rattle.document_stat.specs.declared.tally.Tally.{Tally}
 abbrev pub IsLargest : List Item → Option Item → Type 0
 IsLargest items None = items ≡ []
 IsLargest items (Some x) =
-    (before : List Item) × (after : List Item) × (items ≡ before ++ x ∷ after) × All (λ y. y.size < x.size) before × All (λ y. y.size ≤ x.size) after
+    (before : List Item) × (after : List Item) × (items ≡ before ++ x ∷ after) × All (λ y. y.size < x.size) before
+    × All (λ y. y.size ≤ x.size) after
 
 pub record IsTally (items : List Item) (t : Tally) : Type 0 where
   pub count : t.count ≡ length items
@@ -25,7 +26,9 @@ most_items = 4294967296
 
 -- these items are counted behind others
 pub record Adds (items : List Item) (old new : Tally) : Type 0 where
-  pub tally : (done : List Item) → length done + length items ≤ most_items → IsTally done old → IsTally (done ++ items) new
+  pub tally : (done : List Item) → length done + length items ≤ most_items → IsTally done old
+      → IsTally (done ++ items) new
 
 pub record AddsIfAny (items : List Item) (old new : Option Tally) : Type 0 where
-  pub tally : (done : List Item) → length done + length items ≤ most_items → IsTallyIfAny done old → IsTallyIfAny (done ++ items) new
+  pub tally : (done : List Item) → length done + length items ≤ most_items → IsTallyIfAny done old
+      → IsTallyIfAny (done ++ items) new

@@ -12,15 +12,18 @@ use Rattle.geos_model.specs.ElementArray.{Element, no_token, slot_read, slots_of
 abbrev pub is_freed : List ℕ → Bool
 is_freed bytes = get_or bytes 2 0 == 0xFF
 
--- an element of so many bytes behind its first three, 0 where sizes vary: a free one has zeros there, a used one is counted
+-- an element of so many bytes behind its first three, 0 where sizes vary: a free one has zeros there, a used one is
+-- counted
 abbrev pub is_slot : ℕ → List ℕ → Bool
 is_slot size bytes =
     nat_le 3 (length bytes)
-    && (if is_freed bytes then length bytes == size + 3 && list_all (λ b. b == 0) (drop 3 bytes) else nat_le 1 (little_number 3 bytes))
+    && (if is_freed bytes then length bytes == size + 3 && list_all (λ b. b == 0) (drop 3 bytes)
+    else nat_le 1 (little_number 3 bytes))
 
 -- a used element of so many bytes at least and at most
 abbrev pub has_length : ℕ → ℕ → Option Element → Bool
-has_length least most slot = option_map_or (λ e. nat_le least (length e.bytes) && nat_le (length e.bytes) most) slot true
+has_length least most slot =
+    option_map_or (λ e. nat_le least (length e.bytes) && nat_le (length e.bytes) most) slot true
 
 -- a used element with these bytes behind its first ones
 abbrev pub has_bytes : ℕ → List ℕ → Option Element → Bool
@@ -31,7 +34,8 @@ is_slot_within size least most bytes = is_slot size bytes && has_length least mo
 
 -- an array of slots, with used elements of so many bytes at least and at most
 abbrev pub are_slots_within : ℕ → ℕ → ℕ → Array → Bool
-are_slots_within extra least most a = is_some (slots_of extra a) && list_all (has_length least most) (slots_read a).slots
+are_slots_within extra least most a =
+    is_some (slots_of extra a) && list_all (has_length least most) (slots_read a).slots
 
 -- the token of a free element
 abbrev pub is_freed_at : List (List ℕ) → ℕ → Bool

@@ -22,11 +22,13 @@ abbrev pub IsOn : Option History → SessionState History → Type 0
 IsOn None session = IsNew session
 IsOn (Some file) session = IsPlayOpened file session
 
--- From this session, with a target for a save-as or none, the machine may answer the lines of the script by these replies, and the
--- session that it leads to has this file.
-pub record Plays (session : SessionState History) (target : Option History) (script replies : List ℕ) (file : History) : Type 0 where
+-- From this session, with a target for a save-as or none, the machine may answer the lines of the script by these
+-- replies, and the session that it leads to has this file.
+pub record Plays (session : SessionState History) (target : Option History) (script replies : List ℕ) (file : History)
+    : Type 0 where
   pub after : SessionState History
   pub there : after.disk.store ≡ file
   pub left : Bool
   pub failed : ℕ
-  pub answered : Answered (machine_of (is_some target) session) (requests (lines script)) replies failed (machine_of left after)
+  pub answered : Answered (machine_of (is_some target) session) (requests (lines script)) replies failed
+      (machine_of left after)

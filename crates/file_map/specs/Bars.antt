@@ -23,7 +23,8 @@ abbrev pub chunk_title : Bool → ℕ → ℕ → List ℕ
 chunk_title dark entry size = chunk_start dark ++ four_digits (handle_of entry) ++ numbered (codes ", bytes ") size
 
 abbrev pub chunk_place : ℕ → ℕ → List ℕ
-chunk_place at width = numbered (codes "</title><rect height='1' x='") at ++ numbered (codes "' width='") width ++ codes "'/></g>\n"
+chunk_place at width =
+    numbered (codes "</title><rect height='1' x='") at ++ numbered (codes "' width='") width ++ codes "'/></g>\n"
 
 -- the chunk of a table entry, from a byte of the heap on
 abbrev pub chunk_drawn : Bool → ℕ → ℕ → ℕ → List ℕ
@@ -32,18 +33,23 @@ chunk_drawn dark at entry size = if is_live size then chunk_title dark entry siz
 -- those of a table from an entry on, one behind the other
 abbrev pub chunks_drawn : Bool → ℕ → ℕ → List ℕ → List ℕ
 chunks_drawn dark at entry [] = []
-chunks_drawn dark at entry (size ∷ table) = chunk_drawn dark at entry size ++ chunks_drawn (flipped dark size) (at + space size) (entry + 1) table
+chunks_drawn dark at entry (size ∷ table) =
+    chunk_drawn dark at entry size ++ chunks_drawn (flipped dark size) (at + space size) (entry + 1) table
 
 -- what a heap is, and its numbers
 abbrev pub caption : Part → ℕ → List ℕ → List ℕ
-caption p y table = numbered (codes "<text x='70' y='") y ++ codes "'>" ++ subject p ++ codes ":" ++ heap_numbers table ++ codes "</text>\n"
+caption p y table =
+    numbered (codes "<text x='70' y='") y ++ codes "'>" ++ subject p ++ codes ":" ++ heap_numbers table
+    ++ codes "</text>\n"
 
 -- its room, and its header and table in it
 abbrev pub room : ℕ → ℕ → List ℕ
-room y width = BAR.now ++ numbered (codes "' y='") (y + 4) ++ FREE.now ++ numbered (codes "' width='") width ++ codes "'/></g>\n"
+room y width =
+    BAR.now ++ numbered (codes "' y='") (y + 4) ++ FREE.now ++ numbered (codes "' width='") width ++ codes "'/></g>\n"
 
 abbrev pub bar_drawn : Part → ℕ → List ℕ → List ℕ
-bar_drawn p y table = caption p y table ++ room y (header table) ++ chunks_drawn false (header table) 0 table ++ codes "</svg>\n"
+bar_drawn p y table =
+    caption p y table ++ room y (header table) ++ chunks_drawn false (header table) 0 table ++ codes "</svg>\n"
 
 -- the heap that a part is, if it is one, and where the next one stands
 abbrev pub bar_of : List ℕ → ℕ → Part → List ℕ

@@ -39,10 +39,12 @@ abbrev pub svg_of : List ℕ → List Part → ℕ → List ℕ
 svg_of file ps pages =
     let once = drawn ps in
     let top = heaps_top pages in
-    start_drawn pages (top + 34 * count_by is_heap once) ++ labels pages ++ parts_drawn once ++ gaps pages ++ bars_drawn file top once ++ codes "</svg>\n"
+    start_drawn pages (top + 34 * count_by is_heap once) ++ labels pages ++ parts_drawn once ++ gaps pages
+    ++ bars_drawn file top once ++ codes "</svg>\n"
 
 -- known bytes grow by a picture of the file
-pub record IsDrawn (picture : List ℕ → List Part → ℕ → List ℕ) (file : List ℕ) (from to : Option (List ℕ)) : Type 0 where
+pub record IsDrawn (picture : List ℕ → List Part → ℕ → List ℕ) (file : List ℕ) (from to : Option (List ℕ))
+    : Type 0 where
   pub usages : List Usage
   pub list : IsUsageList file usages
   pub appends : Appends from to (picture file (map (part_of file) usages) (pages_of (length file)))

@@ -50,13 +50,16 @@ users_name Both = codes "both   "
 
 -- how many chunks there are, entries of the table without one, bytes used and free
 abbrev pub columns : ℕ → ℕ → ℕ → List ℕ
-columns live entries bytes = padded 7 live ++ padded 7 (entries - live) ++ padded 7 bytes ++ padded 7 (capacity - bytes) ++ line_feed ∷ []
+columns live entries bytes =
+    padded 7 live ++ padded 7 (entries - live) ++ padded 7 bytes ++ padded 7 (capacity - bytes) ++ line_feed ∷ []
 
 abbrev pub line_start : VmHandle → Users → List ℕ
 line_start h u = four_digits h.0 ++ codes " " ++ users_name u ++ codes " ["
 
 abbrev pub heap_line : VmHandle → Users → List ℕ → List ℕ
-heap_line h u table = line_start h u ++ bar (header table) (used table) ++ codes "]" ++ columns (count_by is_live table) (length table) (used table)
+heap_line h u table =
+    line_start h u ++ bar (header table) (used table) ++ codes "]"
+    ++ columns (count_by is_live table) (length table) (used table)
 
 -- the same numbers in words
 abbrev pub counts_told : ℕ → ℕ → List ℕ

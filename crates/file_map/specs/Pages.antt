@@ -32,7 +32,8 @@ content slots directory raw heap u = Several
 
 abbrev pub content_at : List Part → ℕ → Content
 content_at ps page =
-    content (lies is_slots ps page) (lies is_directory ps page) (lies is_raw ps page) (lies is_heap ps page) (users (lies is_updated ps page) (lies is_saved ps page))
+    content (lies is_slots ps page) (lies is_directory ps page) (lies is_raw ps page) (lies is_heap ps page)
+    (users (lies is_updated ps page) (lies is_saved ps page))
 
 -- how it is drawn: directories as `D`, `d` and `~`, raw blocks as `R`, `r` and `-`, heaps as `H`, `h` and `=`, in both
 -- documents, the updated and the saved one

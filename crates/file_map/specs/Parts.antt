@@ -55,7 +55,8 @@ users_of names.Saved = Saved
 
 abbrev pub part_in : List ℕ → Extent → Content → Part
 part_in file e contents.Slots = record { extent = e; kind = kinds.Slots; users = Both; block = record { 0 = 0 } }
-part_in file e (contents.Directory name) = record { extent = e; kind = kinds.Directory; users = users_of name; block = record { 0 = 0 } }
+part_in file e (contents.Directory name) =
+    record { extent = e; kind = kinds.Directory; users = users_of name; block = record { 0 = 0 } }
 part_in file e (contents.Image name h) =
     record { extent = e; kind = kind_at file e; users = users_of name; block = h }
 
@@ -88,7 +89,8 @@ is_saved p = users_have_saved p.users
 abbrev pub is_same : Part → Part → Bool
 is_same p q =
     p.extent.page == q.extent.page && p.extent.length == q.extent.length && p.block.0 == q.block.0
-    && same_truth (is_slots p) (is_slots q) && same_truth (is_directory p) (is_directory q) && same_truth (is_raw p) (is_raw q)
+    && same_truth (is_slots p) (is_slots q) && same_truth (is_directory p) (is_directory q)
+    && same_truth (is_raw p) (is_raw q)
 
 -- the updated document has the first and the saved one the other
 abbrev pub is_shared : Part → Part → Bool

@@ -41,7 +41,9 @@ content_fill contents.Several = codes "none"
 -- Pages: a cell is 14 wide and high, with a gap of 2; the first one stands 70 from the left and 98 from the top.
 
 abbrev pub rect : ℕ → ℕ → ℕ → List ℕ
-rect x y width = numbered (codes "<rect x='") x ++ numbered (codes "' y='") y ++ numbered (codes "' width='") width ++ codes "' height='12'/>"
+rect x y width =
+    numbered (codes "<rect x='") x ++ numbered (codes "' y='") y ++ numbered (codes "' width='") width
+    ++ codes "' height='12'/>"
 
 -- those pages of a row that lie from one on and before another
 abbrev pub row_rect : ℕ → ℕ → ℕ → List ℕ
@@ -92,24 +94,32 @@ parts_drawn ps = flat_map part_drawn ps
 
 -- the cells of all pages, as if nothing lay on them: those of whole rows, and those of the last one
 abbrev pub whole_rows : ℕ → List ℕ
-whole_rows pages = codes "<g fill='url(#n)'><title>nothing</title><rect x='70' y='98' width='896'" ++ numbered (codes " height='") (14 * (pages / 64))
+whole_rows pages =
+    codes "<g fill='url(#n)'><title>nothing</title><rect x='70' y='98' width='896'"
+    ++ numbered (codes " height='") (14 * (pages / 64))
 
 abbrev pub last_row : ℕ → List ℕ
-last_row pages = numbered (codes "'/><rect x='70' height='14' y='") (98 + 14 * (pages / 64)) ++ numbered (codes "' width='") (14 * (pages % 64)) ++ codes "'/></g>\n"
+last_row pages =
+    numbered (codes "'/><rect x='70' height='14' y='") (98 + 14 * (pages / 64))
+    ++ numbered (codes "' width='") (14 * (pages % 64)) ++ codes "'/></g>\n"
 
 abbrev pub unused_drawn : ℕ → List ℕ
 unused_drawn pages = whole_rows pages ++ last_row pages
 
 -- the number of the first page of each fourth row
 abbrev pub label : ℕ → List ℕ
-label k = numbered (codes "<text x='62' text-anchor='end' y='") (108 + 56 * k) ++ numbered (codes "'>") (256 * k) ++ codes "</text>\n"
+label k =
+    numbered (codes "<text x='62' text-anchor='end' y='") (108 + 56 * k) ++ numbered (codes "'>") (256 * k)
+    ++ codes "</text>\n"
 
 abbrev pub labels : ℕ → List ℕ
 labels pages = flat_map label (range_with_len 0 ((pages + 255) / 256))
 
 -- what a fill means, in three columns; no part is several
 abbrev pub swatch_text : ℕ → ℕ → List ℕ → List ℕ
-swatch_text x y word = numbered (codes "</g><text x='") (x + 20) ++ numbered (codes "' y='") (y + 10) ++ codes "'>" ++ word ++ codes "</text>\n"
+swatch_text x y word =
+    numbered (codes "</g><text x='") (x + 20) ++ numbered (codes "' y='") (y + 10) ++ codes "'>" ++ word
+    ++ codes "</text>\n"
 
 abbrev pub swatch_at : ℕ → ℕ → Content → List ℕ
 swatch_at x y c = filled (content_fill c) ++ rect x y 12 ++ swatch_text x y (name c)
@@ -122,7 +132,8 @@ legend_drawn = flat_map swatch LEGEND
 
 abbrev pub opening : ℕ → List ℕ
 opening height =
-    codes "<svg xmlns='http://www.w3.org/2000/svg' width='980' font-family='monospace' font-size='12'" ++ numbered (codes " height='") height
+    codes "<svg xmlns='http://www.w3.org/2000/svg' width='980' font-family='monospace' font-size='12'"
+    ++ numbered (codes " height='") height
     ++ codes "'>\n<rect width='980' height='100%' fill='#fff'/>\n"
 
 abbrev pub start_drawn : ℕ → ℕ → List ℕ
@@ -134,7 +145,9 @@ rows_height pages = 14 * ((pages + 63) / 64)
 
 -- gaps between pages, over the parts
 abbrev pub gaps : ℕ → List ℕ
-gaps pages = codes "<rect x='70' y='98' width='896' fill='url(#g)' pointer-events='none'" ++ numbered (codes " height='") (rows_height pages) ++ codes "'/>\n"
+gaps pages =
+    codes "<rect x='70' y='98' width='896' fill='url(#g)' pointer-events='none'"
+    ++ numbered (codes " height='") (rows_height pages) ++ codes "'/>\n"
 
 -- where the heaps begin
 abbrev pub heaps_top : ℕ → ℕ

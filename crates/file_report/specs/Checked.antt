@@ -29,7 +29,8 @@ pub record IsChecked (file : List ℕ) (version : ℕ) (e : Extent) (d : Checked
 -- whether a slot can lead to documents
 abbrev pub header_verdict : Slot → Result (Unit {0}) Fault
 header_verdict s =
-    if not (s.version == 1 || s.version == 2) then Err NotDocument else if not (s.reserved == 0) || s.sequence == 0 then Err Damaged else Ok tt
+    if not (s.version == 1 || s.version == 2) then Err NotDocument
+    else if not (s.reserved == 0) || s.sequence == 0 then Err Damaged else Ok tt
 
 -- whether a slot's documents stand, and what is wrong where they don't; and the directories that it leads to, where it
 -- isn't wrong itself
@@ -37,7 +38,8 @@ pub record IsSlotReport (file : List ℕ) (r : SlotReport) : Type 0 where
   pub verdict : r.verdict ≡ verdict_of (pair_of file r.slot)
   pub so : All (IsSo file r.slot) r.findings.items
   pub some : IsErr r.verdict → 0 < length r.findings.items
-  pub updated : IsOk (header_verdict r.slot) → option_map shown r.updated ≡ directory_of r.slot.version file r.slot.working
+  pub updated : IsOk (header_verdict r.slot)
+      → option_map shown r.updated ≡ directory_of r.slot.version file r.slot.working
   pub saved : IsOk (header_verdict r.slot) → option_map shown r.saved ≡ directory_of r.slot.version file r.slot.saved
 
 -- what stands at a slot's page
@@ -45,7 +47,8 @@ abbrev pub IsState : List ℕ → ℕ → SlotState → Type 0
 IsState file page Short = length file < 1024
 IsState file page NoMark = slot_of (take 32 (drop (512 * page) file)) ≡ None
 IsState file page (Closed s) = (slot_of (take 32 (drop (512 * page) file)) ≡ Some s) × (s.gate ≢ 1)
-IsState file page (Open r) = (slot_of (take 32 (drop (512 * page) file)) ≡ Some r.slot) × (r.slot.gate ≡ 1) × IsSlotReport file r
+IsState file page (Open r) =
+    (slot_of (take 32 (drop (512 * page) file)) ≡ Some r.slot) × (r.slot.gate ≡ 1) × IsSlotReport file r
 
 -- what was found of a slot, where it is open
 abbrev pub opened : SlotState → Option SlotReport

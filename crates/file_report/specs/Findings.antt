@@ -71,13 +71,15 @@ IsSo file s finding.SlotZeros = s.reserved ≢ 0
 IsSo file s finding.SlotSequence = s.sequence ≡ 0
 IsSo file s (finding.NoDirectory name e) = (e ≡ directory_extent s name) × (directory_of s.version file e ≡ None)
 IsSo file s (finding.Outside name e) = (e ≡ directory_extent s name) × (is_in_file s.version (length file) e ≡ false)
-IsSo file s (finding.NoLength name e) = (e ≡ directory_extent s name) × ((e.length < 16) ⊎ (longest_directory < e.length))
+IsSo file s (finding.NoLength name e) =
+    (e ≡ directory_extent s name) × ((e.length < 16) ⊎ (longest_directory < e.length))
 IsSo file s (finding.Header name fault) = IsHeaderFault s.version (bytes_in file (directory_extent s name)) fault
 IsSo file s (finding.MapBlock name h) = IsUnlisted (bytes_in file (directory_extent s name)) h.0
 IsSo file s (finding.Entry name i e fault) =
     let bytes = bytes_in file (directory_extent s name) in
     let version = word_at bytes 4 in
-    (e ≡ entry_read version (text_at bytes i)) × IsEntryFault s.version (length file) version (handle_before bytes i) (text_at bytes i) e fault
+    (e ≡ entry_read version (text_at bytes i))
+    × IsEntryFault s.version (length file) version (handle_before bytes i) (text_at bytes i) e fault
 IsSo file s (finding.Image name e) = IsListed file s name e × (block_of file e ≡ None)
 
 -- more was found, or nothing, and all that is new is so
@@ -94,7 +96,8 @@ pub record IsLooked (file_version n : ℕ) (bytes : List ℕ) (name : Named) (fi
 
 -- so it is in each file where this directory was looked through
 abbrev pub IsSeen : ℕ → ℕ → List ℕ → Named → Finding → Type 0
-IsSeen file_version n bytes name f = (file : List ℕ) (s : Slot) → IsLooked file_version n bytes name file s → IsSo file s f
+IsSeen file_version n bytes name f =
+    (file : List ℕ) (s : Slot) → IsLooked file_version n bytes name file s → IsSo file s f
 
 -- it is this finding, and what it denies doesn't hold
 abbrev pub IsNoted : Bool → Finding → Finding → Type 0

@@ -40,7 +40,8 @@ IsSoOf n s f = (file : List ℕ) → n ≡ length file → IsSo file s f
 
 -- so it is in each file of n bytes from which this directory was read
 abbrev pub IsSoOfRead : ℕ → Slot → Named → ReadDirectory → Finding → Type 0
-IsSoOfRead n s name read f = (file : List ℕ) → n ≡ length file → IsRead s.version (directory_extent s name) read file → IsSo file s f
+IsSoOfRead n s name read f =
+    (file : List ℕ) → n ≡ length file → IsRead s.version (directory_extent s name) read file → IsSo file s f
 
 -- so it is in what an honest store has
 abbrev pub IsSoIn : StoreFacts → Slot → Finding → Type 0

@@ -29,19 +29,22 @@ Steps facts command old new answer = IsStep facts old new command (reply_by (λ 
 
 abbrev pub Undoes : {S : Type 0} → (S → StoreFacts) → SessionState S → SessionState S → Answer → Type 0
 Undoes facts old new answer = Steps facts commands.Undo old new answer
-    × OnOk answer (MovesEntry facts Backwards (cache_of old) (cache_of new) old.log.undo old.log.redo new.log.undo new.log.redo)
+    × OnOk answer
+    (MovesEntry facts Backwards (cache_of old) (cache_of new) old.log.undo old.log.redo new.log.undo new.log.redo)
     × OnErr answer (KeepsSession facts old new)
     × IfErr answer (IsRefusedUndoOrRedo facts NothingToUndo old.log.undo old new)
 
 abbrev pub Redoes : {S : Type 0} → (S → StoreFacts) → SessionState S → SessionState S → Answer → Type 0
 Redoes facts old new answer = Steps facts commands.Redo old new answer
-    × OnOk answer (MovesEntry facts Forwards (cache_of old) (cache_of new) old.log.redo old.log.undo new.log.redo new.log.undo)
+    × OnOk answer
+    (MovesEntry facts Forwards (cache_of old) (cache_of new) old.log.redo old.log.undo new.log.redo new.log.undo)
     × OnErr answer (KeepsSession facts old new)
     × IfErr answer (IsRefusedUndoOrRedo facts NothingToRedo old.log.redo old new)
 
 -- why a commit is refused, but for what the store does
 abbrev pub FailsCommit : {S : Type 0} → (S → StoreFacts) → SessionState S → SessionState S → Answer → Type 0
-FailsCommit facts old new answer = Fails facts (λ fault. IsWorn fault ⊎ IsBusy old fault) old.disk.store new.disk.store answer
+FailsCommit facts old new answer =
+    Fails facts (λ fault. IsWorn fault ⊎ IsBusy old fault) old.disk.store new.disk.store answer
 
 abbrev pub Updates : {S : Type 0} → (S → StoreFacts) → SessionState S → SessionState S → Answer → Type 0
 Updates facts old new answer = Steps facts commands.Update old new answer
@@ -69,7 +72,8 @@ pub record IsMovedTo {S : Type 0} (facts : S → StoreFacts) (target : S) (old n
       → IsExact facts new × Step false (machine_of true old) (Some commands.SaveAs) Accepted (machine_of false new)
 
 -- one that was refused: the session stays where it is, and the target isn't kept
-pub record IsNotMovedTo {S : Type 0} (facts : S → StoreFacts) (target : S) (old new : SessionState S) (fault : Fault) : Type 0 where
+pub record IsNotMovedTo {S : Type 0} (facts : S → StoreFacts) (target : S) (old new : SessionState S) (fault : Fault)
+    : Type 0 where
   pub store : S
   pub refused : IsSaveAsRefused facts target store old new fault
   pub step : IsExact facts old → IsExact facts new
@@ -79,7 +83,8 @@ pub record IsNotMovedTo {S : Type 0} (facts : S → StoreFacts) (target : S) (ol
   pub held : (busy : Fault) → IsBusy old busy → (fault ≡ busy) × (new ≡ old)
 
 abbrev pub SavesAs : {S : Type 0} → (S → StoreFacts) → S → SessionState S → SessionState S → Answer → Type 0
-SavesAs facts target old new answer = MatchResult answer (λ _. IsMovedTo facts target old new) (IsNotMovedTo facts target old new)
+SavesAs facts target old new answer =
+    MatchResult answer (λ _. IsMovedTo facts target old new) (IsNotMovedTo facts target old new)
     × (new.log ≡ old.log)
     × (new.resident ≡ old.resident)
 
@@ -87,7 +92,8 @@ SavesAs facts target old new answer = MatchResult answer (λ _. IsMovedTo facts 
 
 -- over any store it is the step of the machine by this command
 abbrev pub AlwaysSteps : {S : Type 0} → Command → SessionState S → SessionState S → Reply → Type 0
-AlwaysSteps command old new reply = (target : Bool) → Step false (machine_of target old) (Some command) reply (machine_of target new)
+AlwaysSteps command old new reply =
+    (target : Bool) → Step false (machine_of target old) (Some command) reply (machine_of target new)
 
 abbrev pub BeginsGroup : {S : Type 0} → SessionState S → SessionState S → Answer → Type 0
 BeginsGroup old new answer = AlwaysSteps commands.Begin old new (reply_by (λ _. Accepted) answer)
@@ -128,9 +134,11 @@ UnlocksBlock block old new answer = AlwaysSteps (commands.Unlock (vm block)) old
     × OnErr answer (new ≡ old)
 
 abbrev pub Dirties : {S : Type 0} → ℕ → SessionState S → SessionState S → Answer → Type 0
-Dirties block old new answer = AlwaysSteps (commands.Dirty (vm block)) old new (reply_by (λ _. Accepted) answer) × (new ≡ old)
+Dirties block old new answer =
+    AlwaysSteps (commands.Dirty (vm block)) old new (reply_by (λ _. Accepted) answer) × (new ≡ old)
 
 -- how often a block is locked is handed out, none where that is refused
 abbrev pub CountsLocks : {S : Type 0} → ℕ → ℕ → SessionState S → SessionState S → Result ℕ Fault → Type 0
-CountsLocks block count old new answer = AlwaysSteps (commands.Locks (vm block)) old new (reply_by NumberIs answer) × (new ≡ old)
+CountsLocks block count old new answer =
+    AlwaysSteps (commands.Locks (vm block)) old new (reply_by NumberIs answer) × (new ≡ old)
     × (count ≡ result_unwrap_or answer 0)

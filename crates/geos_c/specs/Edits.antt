@@ -22,19 +22,22 @@ use Rattle.undo_log.specs.Locking.{IsBarred}
 use Rattle.undo_log.specs.Sessions.{SessionState, IsStep, KeepsSession, PushesEdit, cache_of, machine_of}
 
 -- The edit is done as `undo_log` does it: the parts have the names that they have at `Session::edit`.
-pub record Edits {S : Type 0} (facts : S → StoreFacts) (edit : Edit) (old new : SessionState S) (answer : Result Done Fault) : Type 0 where
+pub record Edits {S : Type 0} (facts : S → StoreFacts) (edit : Edit) (old new : SessionState S)
+    (answer : Result Done Fault) : Type 0 where
   pub step : IsStep facts old new (commands.Edit edit) (reply_by reply_of_done answer)
   pub ok : IfOk answer (λ done. PushesEdit facts edit done old new)
   pub err : OnErr answer (KeepsSession facts old new)
   pub refusals : IfErr answer (λ fault. IsBarred edit old fault
-      ⊎ (RefusesEdit (IsEnvironmentFault facts old.disk.store new.disk.store) (has_no_room (cache_of old) (edit_needs edit)) edit new.document fault
+      ⊎ (RefusesEdit (IsEnvironmentFault facts old.disk.store new.disk.store)
+      (has_no_room (cache_of old) (edit_needs edit)) edit new.document fault
       ⊎ IsChainEditFault edit old.document fault))
   pub locked : ((target : Bool) → is_barred edit (machine_of target old) ≡ true) → (answer ≡ Err Locked) × (new ≡ old)
   pub shut : has_no_room (cache_of old) (edit_needs edit) ≡ true → (new ≡ old)
       × IsErrAnd answer (λ fault. IsBarred edit old fault ⊎ RefusesEdit (λ f. f ≡ Memory) true edit old.document fault)
   pub in_memory : OnOk answer ((b : VmHandle) → kind_of edit ≡ In b → is_loaded (cache_of new) b.0 ≡ true)
   pub passes : KeepsCommitted facts old.disk new.disk
-  pub already : kind_of edit ≢ Made → ReadsNothing (cache_of old) (edit_needs edit) (conditions edit old.document) → EditsInMemory edit old new answer
+  pub already : kind_of edit ≢ Made → ReadsNothing (cache_of old) (edit_needs edit) (conditions edit old.document)
+      → EditsInMemory edit old new answer
 
 -- the handle or the token of what an edit made, 0 where it makes nothing
 abbrev pub number_of : Done → ℕ
@@ -49,5 +52,6 @@ number_made (Ok done) = number_of done
 number_made (Err fault) = 0
 
 -- the edit is done, and what it made is handed out
-abbrev pub Makes : {S : Type 0} → (S → StoreFacts) → Edit → ℕ → SessionState S → SessionState S → Result Done Fault → Type 0
+abbrev pub Makes : {S : Type 0} → (S → StoreFacts) → Edit → ℕ → SessionState S → SessionState S → Result Done Fault
+    → Type 0
 Makes facts edit made old new answer = Edits facts edit old new answer × (made ≡ number_made answer)

@@ -18,7 +18,9 @@ locked_conditions command block m = (NotLocked, not (is_locked m block)) ∷ loo
 
 -- the first of them, or what the look-up answers
 abbrev pub lent_by : Command → ℕ → Machine → Option Reply
-lent_by command block m = option_map_or (λ fault. Some (Refused fault)) (first_refusal (locked_conditions command block m)) (look_up command m.document)
+lent_by command block m =
+    option_map_or (λ fault. Some (Refused fault)) (first_refusal (locked_conditions command block m))
+    (look_up command m.document)
 
 -- this is what is lent, over any store
 abbrev pub IsLent : {S : Type 0} → Command → ℕ → SessionState S → Reply → Type 0
@@ -26,11 +28,13 @@ IsLent command block session reply = (target : Bool) → lent_by command block (
 
 -- The address of the bytes is handed out, and how many there are; where they are refused, the null address and none.
 pub record HandsOutPlace (answer : Result (Bor (List ℕ)) Fault) (at : Ptr) (count : ℕ) (code : ℤ) : Type 0 where
-  pub place : MatchResult answer (λ bytes. (at ≡ as_ptr bytes) × (count ≡ length bytes.now)) (λ _. (at ≡ null_ptr) × (count ≡ 0))
+  pub place : MatchResult answer (λ bytes. (at ≡ as_ptr bytes) × (count ≡ length bytes.now))
+      (λ _. (at ≡ null_ptr) × (count ≡ 0))
   pub code_is : code ≡ code_of answer
 
 -- The bytes of a locked block are lent, or it is refused, and the session stays. Whose address is handed out no session
 -- can say: that it isn't null, and that as many bytes are lent as are told, is what is left of it.
-abbrev pub Lends : {S : Type 0} → Command → ℕ → Ptr → ℕ → SessionState S → SessionState S → Result (List ℕ) Fault → Type 0
+abbrev pub Lends : {S : Type 0} → Command → ℕ → Ptr → ℕ → SessionState S → SessionState S → Result (List ℕ) Fault
+    → Type 0
 Lends command block at count old new answer = IsLent command block old (reply_by BytesAre answer) × (new ≡ old)
     × MatchResult answer (λ bytes. (at ≢ null_ptr) × (count ≡ length bytes)) (λ _. (at ≡ null_ptr) × (count ≡ 0))

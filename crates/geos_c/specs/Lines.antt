@@ -8,20 +8,26 @@ use Rattle.geos_shell.specs.Replies.{Responds}
 use Rattle.geos_c.specs.Codes.{HandsOut, untold}
 
 -- The line is answered, without a target for a save-as, and its reply line is handed out.
-pub record IsAnswered {S : Type 0} (facts : S → StoreFacts) (line : List ℕ) (old new : SessionState S) (before after : List ℕ) (count : ℕ) (code : ℤ) : Type 0 where
+pub record IsAnswered {S : Type 0} (facts : S → StoreFacts) (line : List ℕ) (old new : SessionState S)
+    (before after : List ℕ) (count : ℕ) (code : ℤ) : Type 0 where
   pub reply : List ℕ
   pub target : Option S
   pub former : Option S
-  pub responds : AreExact facts (holding old None None) → Responds facts (holding old None None) (command line) (holding new target former) [] reply
+  pub responds : AreExact facts (holding old None None)
+      → Responds facts (holding old None None) (command line) (holding new target former) [] reply
   pub handed_out : HandsOut reply before after count code
 
 -- There was no memory for the line or for its reply: at most it is served, by a reply that isn't told.
-pub record IsUntold {S : Type 0} (facts : S → StoreFacts) (line : List ℕ) (old new : SessionState S) (before after : List ℕ) (count : ℕ) (code : ℤ) : Type 0 where
+pub record IsUntold {S : Type 0} (facts : S → StoreFacts) (line : List ℕ) (old new : SessionState S)
+    (before after : List ℕ) (count : ℕ) (code : ℤ) : Type 0 where
   pub target : Option S
   pub former : Option S
-  pub may : AreExact facts (holding old None None) → MayServe facts (holding old None None) (command line) (holding new target former)
+  pub may : AreExact facts (holding old None None)
+      → MayServe facts (holding old None None) (command line) (holding new target former)
   pub code_is : code ≡ untold
   pub none : (count ≡ 0) × (after ≡ before)
 
-abbrev pub AnswersLine : {S : Type 0} → (S → StoreFacts) → List ℕ → SessionState S → SessionState S → List ℕ → List ℕ → ℕ → ℤ → Type 0
-AnswersLine facts line old new before after count code = IsAnswered facts line old new before after count code ⊎ IsUntold facts line old new before after count code
+abbrev pub AnswersLine : {S : Type 0} → (S → StoreFacts) → List ℕ → SessionState S → SessionState S → List ℕ → List ℕ
+    → ℕ → ℤ → Type 0
+AnswersLine facts line old new before after count code =
+    IsAnswered facts line old new before after count code ⊎ IsUntold facts line old new before after count code

@@ -53,7 +53,8 @@ create_conditions size extra = (Range, nat_lt 4096 size || nat_lt 1024 extra) �
 
 abbrev pub insert_conditions : List ℕ → ℕ → List ℕ → Conditions
 insert_conditions bytes i element =
-    on_array bytes ++ (Range, nat_lt (length (array_in bytes).elements) i || is_missized (array_in bytes).size element) ∷ []
+    on_array bytes
+    ++ (Range, nat_lt (length (array_in bytes).elements) i || is_missized (array_in bytes).size element) ∷ []
 
 abbrev pub set_conditions : List ℕ → ℕ → List ℕ → Conditions
 set_conditions bytes i element = on_element bytes i ++ (Range, is_missized (array_in bytes).size element) ∷ []

@@ -1,5 +1,5 @@
--- A chain of blocks. A raw block of one begins with a link, the handle of the next block, 0 at the end; or with the tree mark, and
--- then it has branches, each with a link to the first block of a chain.
+-- A chain of blocks. A raw block of one begins with a link, the handle of the next block, 0 at the end; or with the
+-- tree mark, and then it has branches, each with a link to the first block of a chain.
 use Rattle.std.specs.Prelude.{ℕ, List, [], ◌∷◌, ◌++◌, ◌+◌, ◌*◌, zero, suc, Bool, true, not, ◌==◌, ◌&&◌, nat_le, nat_lt, if◌then◌else◌, length, take, map, filter, sum_by, Option, Some, None, is_none, unwrap_or}
 use Rattle.std.specs.List.{range_with_len, list_any, list_all, fold, zip}
 use Rattle.std.specs.Option.{option_map, option_and_then}
@@ -30,7 +30,8 @@ branch_count bytes = word_at bytes 4
 -- the branches lie behind these three words and within the body, and each is a zero word and then a link
 abbrev pub has_branches : List ℕ → Bool
 has_branches bytes =
-    nat_le 6 (length bytes) && nat_le 6 (branches_at bytes) && nat_le (branches_at bytes + 4 * branch_count bytes) (length bytes)
+    nat_le 6 (length bytes) && nat_le 6 (branches_at bytes)
+    && nat_le (branches_at bytes + 4 * branch_count bytes) (length bytes)
     && list_all (λ i. word_at bytes (branches_at bytes + 4 * i) == 0) (range_with_len 0 (branch_count bytes))
 
 -- a body that a block of a chain can have
@@ -49,12 +50,14 @@ link_place bytes i = first_link bytes + 4 * i
 
 -- the handles that it links to, in order; 0 links to none
 abbrev pub links : List ℕ → List ℕ
-links bytes = filter (λ h. not (h == 0)) (map (λ i. word_at bytes (link_place bytes i)) (range_with_len 0 (link_count bytes)))
+links bytes =
+    filter (λ h. not (h == 0)) (map (λ i. word_at bytes (link_place bytes i)) (range_with_len 0 (link_count bytes)))
 
 -- the body with each of its links renamed
 abbrev pub relinked : (ℕ → ℕ) → List ℕ → List ℕ
 relinked rename bytes =
-    fold (λ new i. let at = link_place bytes i in written new at (word (rename (word_at bytes at)))) bytes (range_with_len 0 (link_count bytes))
+    fold (λ new i. let at = link_place bytes i in written new at (word (rename (word_at bytes at)))) bytes
+    (range_with_len 0 (link_count bytes))
 
 -- The blocks of a chain.
 
@@ -62,8 +65,8 @@ relinked rename bytes =
 abbrev pub is_member : Document → ℕ → Bool
 is_member d h = is_raw d h && is_linked (raw_bytes_of d h)
 
--- The blocks of the chains that begin at these handles, if there are at most so many: a block, those of the chains that it links
--- to, and then those of the other chains.
+-- The blocks of the chains that begin at these handles, if there are at most so many: a block, those of the chains that
+-- it links to, and then those of the other chains.
 unfoldable pub blocks_from : ℕ → Document → List ℕ → Option (List ℕ)
 blocks_from zero d [] = Some []
 blocks_from zero d (h ∷ hs) = None
@@ -74,8 +77,8 @@ blocks_from (suc n) d (h ∷ hs) =
 abbrev pub if_distinct : List ℕ → Option (List ℕ)
 if_distinct hs = if all_distinct hs then Some hs else None
 
--- The blocks of the chain that begins at a handle, each once. There is none where it comes to what is no block of a chain, or to
--- a block twice.
+-- The blocks of the chain that begins at a handle, each once. There is none where it comes to what is no block of a
+-- chain, or to a block twice.
 unfoldable pub chain : Document → ℕ → Option (List ℕ)
 chain d h = option_and_then if_distinct (blocks_from most_blocks d (h ∷ []))
 

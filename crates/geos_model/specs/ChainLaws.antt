@@ -13,11 +13,12 @@ use Rattle.geos_model.specs.declared.command.Done.{Done}
 use Rattle.geos_model.specs.declared.command.Done.TheVariants as done
 use Rattle.geos_model.specs.declared.command.Edit.TheVariants as edits
 
--- The blocks of the chains that begin at these handles, in order. Where there is no handle there is no block. The chain at the
--- first handle is its block and what that links to, and the other chains come behind it.
+-- The blocks of the chains that begin at these handles, in order. Where there is no handle there is no block. The chain
+-- at the first handle is its block and what that links to, and the other chains come behind it.
 pub data IsForest (d : Document) : List ℕ → List ℕ → Type 0 where
   nothing : IsForest d [] []
-  block : (h : ℕ) (more below rest : List ℕ) → is_member d h ≡ true → IsForest d (links (raw_bytes_of d h)) below → IsForest d more rest
+  block : (h : ℕ) (more below rest : List ℕ) → is_member d h ≡ true → IsForest d (links (raw_bytes_of d h)) below
+      → IsForest d more rest
       → IsForest d (h ∷ more) (h ∷ (below ++ rest))
 
 -- those of one chain, none of them twice
@@ -25,8 +26,8 @@ pub record IsWalk (d : Document) (h : ℕ) (hs : List ℕ) : Type 0 where
   pub forest : IsForest d (h ∷ []) hs
   pub once : all_distinct hs ≡ true
 
--- The first is where the chain begins, each is a live raw block that a chain can have, none is there twice, and what one of them
--- links to is one of them.
+-- The first is where the chain begins, each is a live raw block that a chain can have, none is there twice, and what
+-- one of them links to is one of them.
 pub record AreMembers (d : Document) (h : ℕ) (hs : List ℕ) : Type 0 where
   pub first : (rest : List ℕ) × (hs ≡ h ∷ rest)
   pub live : (x : ℕ) → Contains hs x → is_live d x ≡ true
@@ -66,8 +67,9 @@ pub record IsRelinked (rename : ℕ → ℕ) (old new : List ℕ) : Type 0 where
   pub words : link_words new ≡ map rename (link_words old)
   pub others : (k : ℕ) → IsOfNoLink old k → get_or new k 0 ≡ get_or old k 0
 
--- A document with a copy of these blocks under new handles: it is valid, all else is as it was, each copy has the attributes of its
--- block, the copy of the first block begins a chain of the new handles in the same order, and the two chains have the same shape.
+-- A document with a copy of these blocks under new handles: it is valid, all else is as it was, each copy has the
+-- attributes of its block, the copy of the first block begins a chain of the new handles in the same order, and the two
+-- chains have the same shape.
 pub record IsCopied (old : Document) (hs new : List ℕ) (copied : Document) : Type 0 where
   pub valid : IsValid copied
   pub map_block : copied.map_block ≡ old.map_block
@@ -84,33 +86,41 @@ pub record IsFreed (old : Document) (hs : List ℕ) (freed : Document) : Type 0 
   pub gone : (x : ℕ) → Contains hs x → is_live freed x ≡ false
   pub others : (x : ℕ) → (Contains hs x → ⊥) → get freed.blocks x ≡ get old.blocks x
 
--- A link of a chain's block and one of another chain's: neither links to a block, or both to those at one place of their chains.
+-- A link of a chain's block and one of another chain's: neither links to a block, or both to those at one place of
+-- their chains.
 abbrev pub AreAlike : List ℕ → List ℕ → ℕ → ℕ → Type 0
 AreAlike xs ys v w = ((v ≡ 0) × (w ≡ 0)) ⊎ ((i : ℕ) × (i < length xs) × (get_or xs i 0 ≡ v) × (get_or ys i 0 ≡ w))
 
--- the body of a block of one chain and that of another: as long, with links at the same places and alike, and the same other bytes
+-- the body of a block of one chain and that of another: as long, with links at the same places and alike, and the same
+-- other bytes
 pub record AreSameBodies (xs ys left right : List ℕ) : Type 0 where
   pub long : length right ≡ length left
   pub count : link_count right ≡ link_count left
   pub first : first_link right ≡ first_link left
-  pub alike : (i : ℕ) → i < link_count left → AreAlike xs ys (word_at left (link_place left i)) (word_at right (link_place right i))
+  pub alike : (i : ℕ) → i < link_count left
+      → AreAlike xs ys (word_at left (link_place left i)) (word_at right (link_place right i))
   pub others : (k : ℕ) → IsOfNoLink left k → get_or right k 0 ≡ get_or left k 0
 
 -- as many blocks, in the same order with the same bodies
 pub record HaveSameShape (d : Document) (xs ys : List ℕ) : Type 0 where
   pub as_many : length ys ≡ length xs
-  pub bodies : (i : ℕ) → i < length xs → AreSameBodies xs ys (raw_bytes_of d (get_or xs i 0)) (raw_bytes_of d (get_or ys i 0))
+  pub bodies : (i : ℕ) → i < length xs
+      → AreSameBodies xs ys (raw_bytes_of d (get_or xs i 0)) (raw_bytes_of d (get_or ys i 0))
 
 pub record ChainLaw : Type 0 where
   pub walk : (d : Document) (h : ℕ) (hs : List ℕ) → IsValid d → chain d h ≡ Some hs ↔ IsWalk d h hs
   pub members : (d : Document) (h : ℕ) (hs : List ℕ) → chain d h ≡ Some hs → AreMembers d h hs
   pub handles : (d : Document) (n : ℕ) → n ≤ length (free_handles d) → AreNew d n (new_handles d n)
-  pub relinked : (rename : ℕ → ℕ) (bytes : List ℕ) → is_linked bytes ≡ true → ((x : ℕ) → rename x < tree_mark) → IsRelinked rename bytes (relinked rename bytes)
-  pub shapes : (d : Document) (x y : ℕ) (xs ys : List ℕ) → IsValid d → chain d x ≡ Some xs → chain d y ≡ Some ys → same_shape d xs ys ≡ true ↔ HaveSameShape d xs ys
-  pub copy : (d : Document) (h : ℕ) (hs : List ℕ) → IsValid d → chain d h ≡ Some hs → length hs ≤ length (free_handles d)
+  pub relinked : (rename : ℕ → ℕ) (bytes : List ℕ) → is_linked bytes ≡ true → ((x : ℕ) → rename x < tree_mark)
+      → IsRelinked rename bytes (relinked rename bytes)
+  pub shapes : (d : Document) (x y : ℕ) (xs ys : List ℕ) → IsValid d → chain d x ≡ Some xs → chain d y ≡ Some ys
+      → same_shape d xs ys ≡ true ↔ HaveSameShape d xs ys
+  pub copy : (d : Document) (h : ℕ) (hs : List ℕ) → IsValid d → chain d h ≡ Some hs
+      → length hs ≤ length (free_handles d)
       → IsCopied d hs (new_handles d (length hs)) (with_blocks d (copies_of d hs))
 
--- An edit copies the chain that begins at a handle, under the least free handles, and answers that of its first block's copy.
+-- An edit copies the chain that begins at a handle, under the least free handles, and answers that of its first block's
+-- copy.
 pub record CopiesChain (d : Document) (h : ℕ) (after : Document × Done) : Type 0 where
   pub hs : List ℕ
   pub new : List ℕ
@@ -128,5 +138,7 @@ pub record FreesChain (d : Document) (h : ℕ) (after : Document × Done) : Type
 
 -- What edits of chains come to, where nothing refuses them.
 pub record ChainEditsLaw : Type 0 where
-  pub copy : (d : Document) (b : VmHandle) → IsValid d → first_refusal (conditions (edits.CopyChain b) d) ≡ None → CopiesChain d b.0 (effect (edits.CopyChain b) d)
-  pub free : (d : Document) (b : VmHandle) → IsValid d → first_refusal (conditions (edits.FreeChain b) d) ≡ None → FreesChain d b.0 (effect (edits.FreeChain b) d)
+  pub copy : (d : Document) (b : VmHandle) → IsValid d → first_refusal (conditions (edits.CopyChain b) d) ≡ None
+      → CopiesChain d b.0 (effect (edits.CopyChain b) d)
+  pub free : (d : Document) (b : VmHandle) → IsValid d → first_refusal (conditions (edits.FreeChain b) d) ≡ None
+      → FreesChain d b.0 (effect (edits.FreeChain b) d)

@@ -32,9 +32,10 @@ images_length blocks = sum_by (λ p. length (image p.1.body)) blocks
 abbrev pub both_lengths : Document → Document → ℕ → ℕ → ℕ
 both_lengths before after b c = length (chunk_at before b c) + length (chunk_at after b c)
 
--- For a user ID, a type or the map block nothing. For blocks made or freed the lengths of their images, for a chunk made or freed its bytes. For a write twice the bytes
--- written, for other changes within a chunk the bytes that it gains or loses; for a raw body replaced the old and the new one; for an edit of an array all bytes of its
--- chunk before and after.
+-- For a user ID, a type or the map block nothing. For blocks made or freed the lengths of their images, for a chunk
+-- made or freed its bytes. For a write twice the bytes written, for other changes within a chunk the bytes that it
+-- gains or loses; for a raw body replaced the old and the new one; for an edit of an array all bytes of its chunk
+-- before and after.
 abbrev pub cost : Edit → Document → Document → ℕ
 cost (edits.NewRaw uid size) before after = length (image (Raw (replicate size 0)))
 cost (edits.NewHeap uid) before after = length (image (Heap empty))

@@ -138,7 +138,8 @@ with_body d h body = with_block d h (record { attributes = attributes_of d h; bo
 
 -- the document with these attributes of a block, if it is live, with this user ID, and with this type
 abbrev pub with_attributes : Document → ℕ → Attributes → Document
-with_attributes d h attributes = option_map_or (λ b. with_block d h (record b { attributes = attributes })) (get d.blocks h) d
+with_attributes d h attributes =
+    option_map_or (λ b. with_block d h (record b { attributes = attributes })) (get d.blocks h) d
 
 abbrev pub with_user_id : Document → ℕ → ℕ → Document
 with_user_id d h uid = with_attributes d h (record (attributes_of d h) { user_id = uid })

@@ -38,8 +38,8 @@ abbrev pub token_after : List ℕ → ℕ → ℕ
 token_after [] t = no_token
 token_after (x ∷ xs) t = if x == t then first_token xs else token_after xs t
 
--- A used element is its count in three bytes and its bytes. A free one is the free token after it, 0xFF, and zeros where
--- sizes are fixed.
+-- A used element is its count in three bytes and its bytes. A free one is the free token after it, 0xFF, and zeros
+-- where sizes are fixed.
 abbrev pub slot_bytes : Slots → ℕ → Option Element → List ℕ
 slot_bytes s token (Some e) = little_bytes 3 e.count ++ e.bytes
 slot_bytes s token None = word (token_after s.free token) ++ 0xFF ∷ replicate s.size 0
@@ -70,18 +70,21 @@ is_good_slot size (Some e) = nat_le 1 e.count && nat_le e.count greatest_count &
 -- counts and sizes are in bounds, and the free list has each free token once and no other
 unfoldable pub is_sound : Slots → Bool
 is_sound s =
-    nat_le s.size greatest_size && list_all (is_good_slot s.size) s.slots && list_all (is_free s) s.free && all_distinct s.free
+    nat_le s.size greatest_size && list_all (is_good_slot s.size) s.slots && list_all (is_free s) s.free
+    && all_distinct s.free
     && (length s.free == count_by is_none s.slots)
 
 -- the slot that an element's bytes would be
 abbrev pub slot_read : List ℕ → Option Element
-slot_read bytes = if get_or bytes 2 0 == 0xFF then None else Some (record { count = little_number 3 bytes; bytes = drop 3 bytes })
+slot_read bytes =
+    if get_or bytes 2 0 == 0xFF then None else Some (record { count = little_number 3 bytes; bytes = drop 3 bytes })
 
 -- the free tokens from one on, no more than so many
 abbrev pub free_read : ℕ → List (List ℕ) → ℕ → List ℕ
 free_read zero elements token = []
 free_read (suc most) elements token =
-    if nat_lt token (length elements) then token ∷ free_read most elements (word_at (get_or elements token []) 0) else []
+    if nat_lt token (length elements) then token ∷ free_read most elements (word_at (get_or elements token []) 0)
+    else []
 
 abbrev pub slots_read : Array → Slots
 slots_read a = record {
@@ -93,7 +96,8 @@ slots_read a = record {
 abbrev pub same_array : Array → Array → Bool
 same_array a b = same_bytes a.extra b.extra && a.size == b.size && pointwise same_bytes a.elements b.elements
 
--- An array is one of slots, with so many extra bytes, where it is that of some: what is read must give the same array again.
+-- An array is one of slots, with so many extra bytes, where it is that of some: what is read must give the same array
+-- again.
 unfoldable pub slots_of : ℕ → Array → Option Slots
 slots_of extra a =
     let s = slots_read a in

@@ -42,7 +42,8 @@ with_new s bytes = with_new_at s.free s (Some (record { count = 1; bytes = bytes
 
 -- one reference less; with none left the element is free
 abbrev pub unreferenced : Slots → ℕ → Slots
-unreferenced s t = if nat_le (count_at s t) 1 then without_element s t else with_element s t (count_at s t - 1) (bytes_at s t)
+unreferenced s t =
+    if nat_le (count_at s t) 1 then without_element s t else with_element s t (count_at s t - 1) (bytes_at s t)
 
 -- the lowest token whose element passes a test
 abbrev pub token_of : (Element → Bool) → Slots → Option ℕ
@@ -54,7 +55,8 @@ token_of_bytes s bytes = token_of (λ e. same_bytes e.bytes bytes) s
 -- an equal element, the lowest of these, has one reference more; else there is a new one
 abbrev pub added : Slots → List ℕ → Slots × ℕ
 added s bytes =
-    option_map_or (λ t. (with_element s t (count_at s t + 1) (bytes_at s t), t)) (token_of_bytes s bytes) (with_new s bytes)
+    option_map_or (λ t. (with_element s t (count_at s t + 1) (bytes_at s t), t)) (token_of_bytes s bytes)
+    (with_new s bytes)
 
 -- The bytes of an element array after an edit of it.
 
@@ -66,7 +68,8 @@ abbrev pub token_added : List ℕ → List ℕ → ℕ
 token_added bytes element = (added (elements_in bytes) element).1
 
 abbrev pub reference_added : List ℕ → ℕ → List ℕ
-reference_added bytes t = let s = elements_in bytes in element_bytes (with_element s t (count_at s t + 1) (bytes_at s t))
+reference_added bytes t =
+    let s = elements_in bytes in element_bytes (with_element s t (count_at s t + 1) (bytes_at s t))
 
 abbrev pub reference_removed : List ℕ → ℕ → List ℕ
 reference_removed bytes t = element_bytes (unreferenced (elements_in bytes) t)
@@ -113,7 +116,8 @@ create_elements_conditions size = (Range, nat_lt 4096 size) ∷ []
 abbrev pub add_conditions : List ℕ → List ℕ → Conditions
 add_conditions bytes element =
     let s = elements_in bytes in
-    on_elements bytes ++ (CountFull, is_count_full s (token_of_bytes s element)) ∷ (Range, is_missized s.size element) ∷ []
+    on_elements bytes
+    ++ (CountFull, is_count_full s (token_of_bytes s element)) ∷ (Range, is_missized s.size element) ∷ []
 
 abbrev pub add_reference_conditions : List ℕ → ℕ → Conditions
 add_reference_conditions bytes t = on_token bytes t ++ (CountFull, is_count_full (elements_in bytes) (Some t)) ∷ []

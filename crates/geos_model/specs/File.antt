@@ -1,5 +1,5 @@
--- A document file: two slots, of which one counts and names the directories of the updated and of the saved document. The file is of the
--- version of the slot that counts, 1 or 2; a directory has a version of its own.
+-- A document file: two slots, of which one counts and names the directories of the updated and of the saved document.
+-- The file is of the version of the slot that counts, 1 or 2; a directory has a version of its own.
 use Rattle.std.specs.Prelude.{ℕ, List, [], ◌∷◌, ◌++◌, ◌+◌, ◌*◌, ◌/◌, Bool, true, not, ◌==◌, ◌&&◌, ◌||◌, nat_le, nat_lt, length, map, take, drop, slice_index, if◌then◌else◌, Option, Some, None, Result, Ok, Err}
 use Rattle.std.specs.List.{range_with_len, flat_map, list_all, list_any}
 use Rattle.std.specs.Option.{option_and_then, option_map}
@@ -40,7 +40,8 @@ bytes_in file e = take e.length (drop (512 * e.page) file)
 
 -- in a file of a version and of so many bytes, behind its slots, on pages that can be used
 abbrev pub is_in_file : ℕ → ℕ → Extent → Bool
-is_in_file version file_length e = nat_le 2 e.page && nat_le (512 * e.page + e.length) file_length && nat_le (end_page e) (page_limit_of version)
+is_in_file version file_length e =
+    nat_le 2 e.page && nat_le (512 * e.page + e.length) file_length && nat_le (end_page e) (page_limit_of version)
 
 abbrev pub extent_text : Extent → List ℕ
 extent_text e = double_word e.page ++ double_word e.length
@@ -57,7 +58,9 @@ slot_mark = 0x47 ∷ 0x56 ∷ 0x4d ∷ 0x46 ∷ []
 
 -- 32 bytes
 abbrev pub slot_text : Slot → List ℕ
-slot_text s = slot_mark ++ s.gate ∷ s.version ∷ word s.reserved ++ quad_word s.sequence ++ extent_text s.working ++ extent_text s.saved
+slot_text s =
+    slot_mark ++ s.gate ∷ s.version ∷ word s.reserved ++ quad_word s.sequence ++ extent_text s.working
+    ++ extent_text s.saved
 
 -- the fields of a slot's text
 abbrev pub slot_fields : List ℕ → Slot
@@ -84,7 +87,8 @@ open_slot file page = option_and_then if_open (slot_of (take 32 (drop (512 * pag
 
 -- Directories.
 
--- what a directory says of a document: its map block, 0 for none, and its blocks. In one of version 1 no heap has a type.
+-- what a directory says of a document: its map block, 0 for none, and its blocks. In one of version 1 no heap has a
+-- type.
 pub record Directory : Type 0 where
   pub version : ℕ
   pub map_block : ℕ
@@ -100,11 +104,14 @@ type_text version heap_type = if version == 1 then 0 ∷ 0 ∷ [] else word heap
 
 -- 16 bytes, in a directory of a version
 abbrev pub entry_text : ℕ → Entry → List ℕ
-entry_text version e = word e.handle.0 ++ word e.attributes.user_id ++ extent_text e.extent ++ type_text version e.attributes.heap_type ++ 0 ∷ 0 ∷ []
+entry_text version e =
+    word e.handle.0 ++ word e.attributes.user_id ++ extent_text e.extent ++ type_text version e.attributes.heap_type
+    ++ 0 ∷ 0 ∷ []
 
 -- before the entries: 16 bytes, with the version, the count of the entries and the map block
 abbrev pub header_text : ℕ → ℕ → ℕ → List ℕ
-header_text version count map_block = directory_mark ++ word version ++ word count ++ word map_block ++ 0 ∷ 0 ∷ 0 ∷ 0 ∷ 0 ∷ 0 ∷ []
+header_text version count map_block =
+    directory_mark ++ word version ++ word count ++ word map_block ++ 0 ∷ 0 ∷ 0 ∷ 0 ∷ 0 ∷ 0 ∷ []
 
 abbrev pub directory_text : Directory → List ℕ
 directory_text d = header_text d.version (length d.entries) d.map_block ++ flat_map (entry_text d.version) d.entries
@@ -150,7 +157,8 @@ greatest_handle version = if version == 1 then MOST_BLOCKS_OF_VERSION_1 else mos
 -- an entry of a directory of the last of these versions that can stand in a file of the first one and of so many bytes
 abbrev pub is_entry : ℕ → ℕ → ℕ → Entry → Bool
 is_entry file_version file_length version e =
-    nat_le e.handle.0 (greatest_handle version) && nat_le 1 e.extent.length && nat_le e.extent.length longest_image && is_in_file file_version file_length e.extent
+    nat_le e.handle.0 (greatest_handle version) && nat_le 1 e.extent.length && nat_le e.extent.length longest_image
+    && is_in_file file_version file_length e.extent
 
 -- the map block is none or listed
 abbrev pub is_map_block : ℕ → List Entry → Bool
@@ -163,9 +171,11 @@ is_version_in file_version version = version == 1 || (version == 2 && file_versi
 -- a directory that can stand in a file of a version and of so many bytes
 abbrev pub is_directory : ℕ → ℕ → Directory → Bool
 is_directory file_version file_length d =
-    is_version_in file_version d.version && is_rising 0 d.entries && list_all (is_entry file_version file_length d.version) d.entries && is_map_block d.map_block d.entries
+    is_version_in file_version d.version && is_rising 0 d.entries
+    && list_all (is_entry file_version file_length d.version) d.entries && is_map_block d.map_block d.entries
 
--- the directory whose text these bytes are, if they are the text of one that can stand in a file of a version and of so many bytes
+-- the directory whose text these bytes are, if they are the text of one that can stand in a file of a version and of so
+-- many bytes
 abbrev pub directory_in : ℕ → ℕ → List ℕ → Option Directory
 directory_in file_version file_length bytes =
     let d = directory_read bytes in
@@ -173,7 +183,8 @@ directory_in file_version file_length bytes =
 
 -- the directory in an extent of a file of a version
 abbrev pub directory_of : ℕ → List ℕ → Extent → Option Directory
-directory_of version file e = if is_in_file version (length file) e then directory_in version (length file) (bytes_in file e) else None
+directory_of version file e =
+    if is_in_file version (length file) e then directory_in version (length file) (bytes_in file e) else None
 
 -- Documents.
 
@@ -187,7 +198,8 @@ if_typed heap_type body = if is_heap_body body || heap_type == 0 then Some body 
 -- the block of an entry, where its extent has the image of a body that can have its type
 abbrev pub block_of : List ℕ → Entry → Option (ℕ × Block)
 block_of file e =
-    option_map (λ body. (e.handle.0, record { attributes = e.attributes; body = body })) (option_and_then (if_typed e.attributes.heap_type) (body_of (bytes_in file e.extent)))
+    option_map (λ body. (e.handle.0, record { attributes = e.attributes; body = body }))
+    (option_and_then (if_typed e.attributes.heap_type) (body_of (bytes_in file e.extent)))
 
 -- the blocks of these entries, where each of them has one
 abbrev pub blocks_of_entries : List ℕ → List Entry → Option (List (ℕ × Block))
@@ -195,7 +207,9 @@ blocks_of_entries file [] = Some []
 blocks_of_entries file (e ∷ es) = prepended (block_of file e) (blocks_of_entries file es)
 
 abbrev pub document_of : List ℕ → Directory → Option Document
-document_of file d = option_map (λ blocks. record { blocks = from_entries blocks; map_block = d.map_block }) (blocks_of_entries file d.entries)
+document_of file d =
+    option_map (λ blocks. record { blocks = from_entries blocks; map_block = d.map_block })
+    (blocks_of_entries file d.entries)
 
 -- the document of the directory in an extent of a file of a version
 abbrev pub document_at : ℕ → List ℕ → Extent → Option Document
@@ -208,7 +222,8 @@ abbrev pub counting_slot : Option Slot → Option Slot → Result Slot Fault
 counting_slot None None = Err NotDocument
 counting_slot (Some s) None = Ok s
 counting_slot None (Some t) = Ok t
-counting_slot (Some s) (Some t) = if s.sequence == t.sequence then Err Damaged else if nat_lt s.sequence t.sequence then Ok t else Ok s
+counting_slot (Some s) (Some t) =
+    if s.sequence == t.sequence then Err Damaged else if nat_lt s.sequence t.sequence then Ok t else Ok s
 
 abbrev pub both : Option Document → Option Document → Result (Document × Document) Fault
 both (Some updated) (Some saved) = Ok (updated, saved)

@@ -47,22 +47,28 @@ pub record FileLaw : Type 0 where
   pub body : (bytes : List ℕ) (b : Body) → body_of bytes ≡ Some b → (is_valid_body b ≡ true) × (image b ≡ bytes)
   pub body_back : (b : Body) → is_valid_body b ≡ true → body_of (image b) ≡ Some b
   -- A heap can stand under any type, and a raw body under none.
-  pub typed : (b : Block) → IsTyped (is_heap_body b.body) b.attributes → if_typed b.attributes.heap_type b.body ≡ Some b.body
+  pub typed : (b : Block) → IsTyped (is_heap_body b.body) b.attributes
+      → if_typed b.attributes.heap_type b.body ≡ Some b.body
   -- A slot's text has 32 bytes and is read back.
   pub slot_size : (s : Slot) → length (slot_text s) ≡ 32
   pub slot_back : (s : Slot) → FitsSlot s → slot_of (slot_text s) ≡ Some s
   -- A directory's text has 16 bytes and 16 for each entry, and is that of no other directory.
   pub directory_size : (d : Directory) → length (directory_text d) ≡ 16 + 16 * length d.entries
   pub directory_back : (d : Directory) → FitsDirectory d → directory_read (directory_text d) ≡ d
-  -- What is read as a directory can stand in the file, has numbers that fit and at most as many entries as a document can have blocks, and is read from its text alone.
+  -- What is read as a directory can stand in the file, has numbers that fit and at most as many entries as a document
+  -- can have blocks, and is read from its text alone.
   pub directory : (version n : ℕ) (bytes : List ℕ) (d : Directory) → directory_in version n bytes ≡ Some d
-      → (is_directory version n d ≡ true) × (directory_text d ≡ bytes) × FitsDirectory d × (length d.entries ≤ most_blocks)
-  pub directory_reads : (version n : ℕ) (d : Directory) → is_directory version n d ≡ true → All (λ e. FitAttributes e.attributes) d.entries → FitTypes d.version d.entries
+      → (is_directory version n d ≡ true) × (directory_text d ≡ bytes) × FitsDirectory d
+      × (length d.entries ≤ most_blocks)
+  pub directory_reads : (version n : ℕ) (d : Directory) → is_directory version n d ≡ true
+      → All (λ e. FitAttributes e.attributes) d.entries → FitTypes d.version d.entries
       → directory_in version n (directory_text d) ≡ Some d
   -- A document that stands in a file is valid.
-  pub valid : (version : ℕ) (file : List ℕ) (e : Extent) (d : Document) → document_at version file e ≡ Some d → IsValid d
+  pub valid : (version : ℕ) (file : List ℕ) (e : Extent) (d : Document) → document_at version file e ≡ Some d
+      → IsValid d
   -- It stands for as long as the bytes of its directory and of its blocks stay.
-  pub kept : (version : ℕ) (old new : List ℕ) (e : Extent) (d : Directory) → directory_of version old e ≡ Some d → KeepsExtent old new e → All (λ entry. KeepsExtent old new entry.extent) d.entries
+  pub kept : (version : ℕ) (old new : List ℕ) (e : Extent) (d : Directory) → directory_of version old e ≡ Some d
+      → KeepsExtent old new e → All (λ entry. KeepsExtent old new entry.extent) d.entries
       → (directory_of version new e ≡ Some d) × (document_at version new e ≡ document_at version old e)
   -- What stands in a file of any version stands in one of version 2: a commit may keep the saved directory.
   pub newer : (version : ℕ) (file : List ℕ) (e : Extent) (d : Directory) → directory_of version file e ≡ Some d

@@ -35,7 +35,8 @@ image (Heap m) =
 abbrev pub chunks_read : ℕ → List ℕ → List ℕ → List (ℕ × List ℕ)
 chunks_read h [] bytes = []
 chunks_read h (size ∷ sizes) bytes =
-    if size == no_chunk then chunks_read (h + 2) sizes bytes else (h, take size bytes) ∷ chunks_read (h + 2) sizes (drop size bytes)
+    if size == no_chunk then chunks_read (h + 2) sizes bytes
+    else (h, take size bytes) ∷ chunks_read (h + 2) sizes (drop size bytes)
 
 -- the body that an image is of
 unfoldable pub body_read : List ℕ → Body
@@ -43,8 +44,10 @@ body_read bytes =
     if slice_index bytes 0 == 0 then Raw (drop 1 bytes)
     else
     let t = word_at bytes 1 in
-    Heap (from_entries (chunks_read (handle_of 0) (map (λ i. word_at bytes (3 + 2 * i)) (range_with_len 0 t)) (drop (3 + 2 * t) bytes)))
+    Heap (from_entries (chunks_read (handle_of 0) (map (λ i. word_at bytes (3 + 2 * i)) (range_with_len 0 t))
+    (drop (3 + 2 * t) bytes)))
 
 -- the body whose image these bytes are, if they are the image of a body that can be
 unfoldable pub body_of : List ℕ → Option Body
-body_of bytes = let body = body_read bytes in if is_valid_body body && same_bytes (image body) bytes then Some body else None
+body_of bytes =
+    let body = body_read bytes in if is_valid_body body && same_bytes (image body) bytes then Some body else None

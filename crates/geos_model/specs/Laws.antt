@@ -16,18 +16,23 @@ use Rattle.geos_model.specs.declared.command.Body.{Body}
 abbrev pub WordLaw : Type 0
 WordLaw =
     (low high : ℕ) → low < 256 → high < 256
-    → (word (low + 256 * high) ≡ low ∷ high ∷ []) × ((n : ℕ) → n < 65536 → word n ≡ low ∷ high ∷ [] → n ≡ low + 256 * high)
+    → (word (low + 256 * high) ≡ low ∷ high ∷ [])
+    × ((n : ℕ) → n < 65536 → word n ≡ low ∷ high ∷ [] → n ≡ low + 256 * high)
 
--- So it is of k bytes, as of the three of a count of references and the four or eight of a number in a file: numbers below
--- 256 to the k are read back from their bytes, so that no two have the same, and any bytes are those of the number read from them.
+-- So it is of k bytes, as of the three of a count of references and the four or eight of a number in a file: numbers
+-- below 256 to the k are read back from their bytes, so that no two have the same, and any bytes are those of the
+-- number read from them.
 pub record NumberLaw : Type 0 where
   pub read_back : (k n : ℕ) (rest : List ℕ) → n < 256 ^ k → little_number k (little_bytes k n ++ rest) ≡ n
   pub in_range : (bytes : List ℕ) → All (λ b. b < 256) bytes → little_number (length bytes) bytes < 256 ^ length bytes
-  pub written_back : (bytes : List ℕ) → All (λ b. b < 256) bytes → little_bytes (length bytes) (little_number (length bytes) bytes) ≡ bytes
+  pub written_back : (bytes : List ℕ) → All (λ b. b < 256) bytes
+      → little_bytes (length bytes) (little_number (length bytes) bytes) ≡ bytes
 
--- No chunk of a heap is longer than `longest_chunk`, nor is one of a valid document, and one that isn't has room alone in a heap.
+-- No chunk of a heap is longer than `longest_chunk`, nor is one of a valid document, and one that isn't has room alone
+-- in a heap.
 pub record ChunkLaw : Type 0 where
-  pub in_heap : (m : ChunkMap) (h : ℕ) (bytes : List ℕ) → is_heap_map m ≡ true → get m h ≡ Some bytes → length bytes ≤ longest_chunk
+  pub in_heap : (m : ChunkMap) (h : ℕ) (bytes : List ℕ) → is_heap_map m ≡ true → get m h ≡ Some bytes
+      → length bytes ≤ longest_chunk
   pub in_document : (d : Document) (b c : ℕ) → IsValid d → length (chunk_at d b c) ≤ longest_chunk
   pub alone : (bytes : List ℕ) → length bytes ≤ longest_chunk → fits_new empty bytes ≡ true
 
@@ -52,5 +57,7 @@ ElementArrayLaw =
 
 abbrev pub NameArrayLaw : Type 0
 NameArrayLaw =
-    ((bytes : List ℕ) (a : NameArray) → name_array_of bytes ≡ Some a → (is_sound_names a ≡ true) × (name_bytes a ≡ bytes))
-    × ((a : NameArray) → is_sound_names a ≡ true → length (name_bytes a) < 65536 → name_array_of (name_bytes a) ≡ Some a)
+    ((bytes : List ℕ) (a : NameArray) → name_array_of bytes ≡ Some a
+    → (is_sound_names a ≡ true) × (name_bytes a ≡ bytes))
+    × ((a : NameArray) → is_sound_names a ≡ true → length (name_bytes a) < 65536
+    → name_array_of (name_bytes a) ≡ Some a)

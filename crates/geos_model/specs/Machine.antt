@@ -44,8 +44,8 @@ pub record Machine : Type 0 where
   pub target : Bool  -- whether a target for a save-as is left
   pub sequence : ℕ  -- of the last acknowledged commit
 
--- That of a session on a file that was opened: its updated document and its saved one, the sequence number of that commit, the
--- number of frames, and whether a target is left.
+-- That of a session on a file that was opened: its updated document and its saved one, the sequence number of that
+-- commit, the number of frames, and whether a target is left.
 abbrev pub opened_machine : Document → Document → ℕ → ℕ → Bool → Machine
 opened_machine updated saved sequence frames target = record {
   document = updated;
@@ -112,7 +112,8 @@ kind_of (edits.FreeBlock b) = Freed
 kind_of (edits.FreeChain b) = Freed
 kind_of e = kind_of_scope (scope_of e)
 
--- Which bodies a command looks into, so that their blocks have to be in memory: none, that of one block, or those of a chain.
+-- Which bodies a command looks into, so that their blocks have to be in memory: none, that of one block, or those of a
+-- chain.
 pub data Needs : Type 0 where
   NoBody : Needs
   OneBody : (block : ℕ) → Needs
@@ -153,7 +154,8 @@ look_up_needs (commands.ChainSize b) = ManyBodies
 look_up_needs (commands.ChainEqual b other) = ManyBodies
 look_up_needs command = NoBody
 
--- Whether there is no room in memory for what is needed, where there is none for these blocks, and for those of a chain where this says so.
+-- Whether there is no room in memory for what is needed, where there is none for these blocks, and for those of a chain
+-- where this says so.
 abbrev pub lacks_room : (ℕ → Bool) → Bool → Needs → Bool
 lacks_room shut full NoBody = false
 lacks_room shut full (OneBody b) = shut b
@@ -189,7 +191,8 @@ after_lock m b = record m { locks = insert m.locks b (lock_count m b + 1) }
 
 -- and once less; with the last time it isn't locked any more
 abbrev pub after_unlock : Machine → ℕ → Machine
-after_unlock m b = record m { locks = if nat_le (lock_count m b) 1 then remove m.locks b else insert m.locks b (lock_count m b - 1) }
+after_unlock m b =
+    record m { locks = if nat_le (lock_count m b) 1 then remove m.locks b else insert m.locks b (lock_count m b - 1) }
 
 -- What is lent of a block that is locked; nothing of another, nor where it is of the other kind or has no such chunk.
 
@@ -225,7 +228,8 @@ ended g m =
     let undo : UndoStep = record { kind = Group; cost = g.cost; document = g.before } in
     record m { past = if is_empty_group g then m.past else undo ∷ m.past; group = None }
 
--- The document is again the one when the group began. The future stays: edits of the group, if there were any, have emptied it.
+-- The document is again the one when the group began. The future stays: edits of the group, if there were any, have
+-- emptied it.
 abbrev pub abandoned : OpenGroup → Machine → Machine
 abandoned g m = record m { document = g.before; group = None }
 
@@ -243,7 +247,8 @@ on_commit m = (Worn, m.sequence == last_sequence) ∷ at_rest m
 
 -- the refusals of a command
 abbrev pub command_conditions : Command → Machine → Conditions
-command_conditions (commands.Edit e) m = (Locked, is_barred e m) ∷ (CacheFull, has_no_room m (edit_needs e)) ∷ conditions e m.document
+command_conditions (commands.Edit e) m =
+    (Locked, is_barred e m) ∷ (CacheFull, has_no_room m (edit_needs e)) ∷ conditions e m.document
 command_conditions commands.Undo m = (NothingToUndo, length m.past == 0) ∷ at_rest m
 command_conditions commands.Redo m = (NothingToRedo, length m.future == 0) ∷ at_rest m
 command_conditions commands.Begin m = (GroupOpen, in_group m) ∷ []
@@ -253,18 +258,20 @@ command_conditions commands.Update m = on_commit m
 command_conditions commands.Save m = on_commit m
 command_conditions commands.Revert m = on_commit m
 command_conditions commands.SaveAs m = (NoTarget, not m.target) ∷ on_commit m
-command_conditions (commands.Lock b) m = (LockLimit, lock_count m b.0 == most_locks) ∷ (CacheFull, is_shut_out m b.0) ∷ on_block m.document b.0
+command_conditions (commands.Lock b) m =
+    (LockLimit, lock_count m b.0 == most_locks) ∷ (CacheFull, is_shut_out m b.0) ∷ on_block m.document b.0
 command_conditions (commands.Unlock b) m = (NotLocked, not (is_locked m b.0)) ∷ on_block m.document b.0
 command_conditions (commands.Dirty b) m = (NotLocked, not (is_locked m b.0)) ∷ on_block m.document b.0
 command_conditions c m = (CacheFull, has_no_room m (look_up_needs c)) ∷ look_up_conditions c m.document
 
--- The document becomes this one by an edit of this kind and cost, which empties the future. Where no group is open the old document goes
--- on the past; in a group the edit is counted there.
+-- The document becomes this one by an edit of this kind and cost, which empties the future. Where no group is open the
+-- old document goes on the past; in a group the edit is counted there.
 abbrev pub recorded : Option OpenGroup → Kind → ℕ → Document → Machine → Machine
 recorded None kind cost d m =
     let undo : UndoStep = record { kind = kind; cost = cost; document = m.document } in
     record m { document = d; past = undo ∷ m.past; future = [] }
-recorded (Some g) kind cost d m = record m { document = d; future = []; group = Some (record g { edits = g.edits + 1; cost = g.cost + cost }) }
+recorded (Some g) kind cost d m =
+    record m { document = d; future = []; group = Some (record g { edits = g.edits + 1; cost = g.cost + cost }) }
 
 abbrev pub edited : Edit → Machine → Reply × Machine
 edited e m =
@@ -274,12 +281,14 @@ edited e m =
 -- the newest past document is the document again, and the old one is the next of the future
 abbrev pub undone : Machine → List UndoStep → Option Machine
 undone m [] = None
-undone m (s ∷ past) = Some (record m { document = s.document; past = past; future = record s { document = m.document } ∷ m.future })
+undone m (s ∷ past) =
+    Some (record m { document = s.document; past = past; future = record s { document = m.document } ∷ m.future })
 
 -- the next document of the future is the document again, and the old one is the newest of the past
 abbrev pub redone : Machine → List UndoStep → Option Machine
 redone m [] = None
-redone m (s ∷ future) = Some (record m { document = s.document; past = record s { document = m.document } ∷ m.past; future = future })
+redone m (s ∷ future) =
+    Some (record m { document = s.document; past = record s { document = m.document } ∷ m.past; future = future })
 
 -- the document becomes the updated one
 abbrev pub after_update : Machine → Machine
@@ -297,7 +306,8 @@ after_revert m = record m { document = m.saved; past = []; future = []; updated 
 abbrev pub after_save_as : Machine → Machine
 after_save_as m = record m { updated = m.document; saved = m.document; target = false; sequence = 1 }
 
--- What a command that nothing refuses answers, and the machine after it. A look-up leaves the machine; a blank line gets no answer.
+-- What a command that nothing refuses answers, and the machine after it. A look-up leaves the machine; a blank line
+-- gets no answer.
 abbrev pub done_by : Command → Machine → Option (Reply × Machine)
 done_by (commands.Edit e) m = Some (edited e m)
 done_by commands.Undo m = option_map (λ new. (Accepted, new)) (undone m m.past)
@@ -320,10 +330,12 @@ done_by c m = option_map (λ reply. (reply, m)) (look_up c m.document)
 -- the first refusal, which leaves the machine as it was, or what the request does
 abbrev pub next : Request → Machine → Option (Reply × Machine)
 next None m = Some (Refused BadCommand, m)
-next (Some c) m = option_map_or (λ fault. Some (Refused fault, m)) (first_refusal (command_conditions c m)) (done_by c m)
+next (Some c) m =
+    option_map_or (λ fault. Some (Refused fault, m)) (first_refusal (command_conditions c m)) (done_by c m)
 
--- Whether taking a step of this kind back may take memory and call the store, and bringing it back: a block that comes in is
--- written, and one in whose body the step was made may have to be brought into memory. Where it is there, a session says more.
+-- Whether taking a step of this kind back may take memory and call the store, and bringing it back: a block that comes
+-- in is written, and one in whose body the step was made may have to be brought into memory. Where it is there, a
+-- session says more.
 
 abbrev pub undo_takes : Kind → Bool
 undo_takes Plain = false
@@ -395,15 +407,16 @@ abbrev pub is_of_no_body : Kind → Bool
 is_of_no_body Plain = true
 is_of_no_body kind = false
 
--- What calls the store, or the target of a save-as: the commits, and all that may have to bring a block into memory, or another one out
--- of it. The list of blocks is known without, and so is what an edit of a user ID, a type or the map block changes.
+-- What calls the store, or the target of a save-as: the commits, and all that may have to bring a block into memory, or
+-- another one out of it. The list of blocks is known without, and so is what an edit of a user ID, a type or the map
+-- block changes.
 abbrev pub calls_store : Command → Machine → Bool
 calls_store commands.List m = false
 calls_store (commands.Edit e) m = not (is_of_no_body (kind_of e))
 calls_store c m = takes_memory c m
 
--- The faults that no rule decides, of a call in which the store, or the target of a save-as, failed or didn't: lack of memory where
--- some may be taken, and a file fault where the store is called and failed.
+-- The faults that no rule decides, of a call in which the store, or the target of a save-as, failed or didn't: lack of
+-- memory where some may be taken, and a file fault where the store is called and failed.
 abbrev pub may_give_up : Bool → Command → Machine → Fault → Bool
 may_give_up failed c m Memory = takes_memory c m
 may_give_up failed c m File = failed && calls_store c m

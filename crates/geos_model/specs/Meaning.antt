@@ -1,4 +1,5 @@
--- What an edit means: its refusals with their conditions, and where none holds the document after it and what it answers.
+-- What an edit means: its refusals with their conditions, and where none holds the document after it and what it
+-- answers.
 use Rattle.std.specs.Prelude.{ℕ, List, [], ◌∷◌, ◌++◌, ◌+◌, not, ◌==◌, ◌&&◌, nat_lt, length, get_or, replicate, is_none, unwrap_or}
 use Rattle.std.specs.FinMap.{insert, remove, contains_key, empty}
 use Rattle.geos_model.specs.Refusal.{Conditions}
@@ -31,7 +32,8 @@ with_chunk d b c bytes = with_body d b (Heap (insert (chunks_of d b) c bytes))
 abbrev pub without_chunk : Document → ℕ → ℕ → Document
 without_chunk d b c = with_body d b (Heap (remove (chunks_of d b) c))
 
--- Refusals of an edit of bytes: it reaches past their end, the heap has no room for the new ones, or they are too many for a raw body.
+-- Refusals of an edit of bytes: it reaches past their end, the heap has no room for the new ones, or they are too many
+-- for a raw body.
 
 abbrev pub past_end : List ℕ → ℕ → Conditions
 past_end bytes end = (Range, nat_lt (length bytes) end) ∷ []
@@ -83,12 +85,16 @@ conditions (edits.SetMap b) d = (NoBlock, not (b.0 == 0) && not (is_live d b.0))
 conditions (edits.Alloc b n) d = on_heap d b.0 ++ no_place (chunks_of d b.0) (replicate n 0)
 conditions (edits.Free b c) d = on_chunk d b.0 c.0
 conditions (edits.Resize b c n) d = on_chunk d b.0 c.0 ++ no_room (chunks_of d b.0) c.0 (resized (chunk_at d b.0 c.0) n)
-conditions (edits.Insert b c at n) d = on_chunk d b.0 c.0 ++ past_end (chunk_at d b.0 c.0) at ++ no_room (chunks_of d b.0) c.0 (inserted (chunk_at d b.0 c.0) at n)
+conditions (edits.Insert b c at n) d =
+    on_chunk d b.0 c.0 ++ past_end (chunk_at d b.0 c.0) at
+    ++ no_room (chunks_of d b.0) c.0 (inserted (chunk_at d b.0 c.0) at n)
 conditions (edits.Delete b c at n) d = on_chunk d b.0 c.0 ++ past_end (chunk_at d b.0 c.0) (at + n)
 conditions (edits.Write b c at bytes) d = on_chunk d b.0 c.0 ++ past_end (chunk_at d b.0 c.0) (at + length bytes)
-conditions (edits.CreateArray b size extra) d = on_new_chunk d b.0 (create_conditions size extra) (array_bytes (new_array size extra))
+conditions (edits.CreateArray b size extra) d =
+    on_new_chunk d b.0 (create_conditions size extra) (array_bytes (new_array size extra))
 conditions (edits.InsertElement b c i element) d =
-    let old = chunk_at d b.0 c.0 in on_new_bytes d b.0 c.0 (insert_conditions old i element) (element_inserted old i element)
+    let old = chunk_at d b.0 c.0 in
+    on_new_bytes d b.0 c.0 (insert_conditions old i element) (element_inserted old i element)
 conditions (edits.SetElement b c i element) d =
     let old = chunk_at d b.0 c.0 in on_new_bytes d b.0 c.0 (set_conditions old i element) (element_set old i element)
 conditions (edits.ResizeElement b c i n) d =
@@ -97,7 +103,8 @@ conditions (edits.DeleteElements b c i k) d =
     let old = chunk_at d b.0 c.0 in on_new_bytes d b.0 c.0 (delete_conditions old i k) (elements_deleted old i k)
 conditions (edits.ZeroArray b c) d =
     let old = chunk_at d b.0 c.0 in on_new_bytes d b.0 c.0 (on_array old) (array_zeroed old)
-conditions (edits.CreateElementArray b size) d = on_new_chunk d b.0 (create_elements_conditions size) (element_bytes (no_slots size))
+conditions (edits.CreateElementArray b size) d =
+    on_new_chunk d b.0 (create_elements_conditions size) (element_bytes (no_slots size))
 conditions (edits.AddElement b c element) d =
     let old = chunk_at d b.0 c.0 in on_new_bytes d b.0 c.0 (add_conditions old element) (element_added old element)
 conditions (edits.AddReference b c t) d =
@@ -107,12 +114,16 @@ conditions (edits.RemoveReference b c t) d =
 conditions (edits.DeleteElement b c t) d =
     let old = chunk_at d b.0 c.0 in on_new_bytes d b.0 c.0 (on_token old t.0) (element_deleted old t.0)
 conditions (edits.ChangeElement b c t element) d =
-    let old = chunk_at d b.0 c.0 in on_new_bytes d b.0 c.0 (change_conditions old t.0 element) (element_changed old t.0 element)
-conditions (edits.CreateNameArray b part) d = on_new_chunk d b.0 (create_names_conditions part) (name_bytes (no_names part))
+    let old = chunk_at d b.0 c.0 in
+    on_new_bytes d b.0 c.0 (change_conditions old t.0 element) (element_changed old t.0 element)
+conditions (edits.CreateNameArray b part) d =
+    on_new_chunk d b.0 (create_names_conditions part) (name_bytes (no_names part))
 conditions (edits.AddName b c text part replace) d =
-    let old = chunk_at d b.0 c.0 in on_new_bytes d b.0 c.0 (add_name_conditions old text part) (name_added old text part replace)
+    let old = chunk_at d b.0 c.0 in
+    on_new_bytes d b.0 c.0 (add_name_conditions old text part) (name_added old text part replace)
 conditions (edits.ChangeName b c t text) d =
-    let old = chunk_at d b.0 c.0 in on_new_bytes d b.0 c.0 (change_name_conditions old t.0 text) (name_changed old t.0 text)
+    let old = chunk_at d b.0 c.0 in
+    on_new_bytes d b.0 c.0 (change_name_conditions old t.0 text) (name_changed old t.0 text)
 conditions (edits.RemoveName b c t) d =
     let old = chunk_at d b.0 c.0 in on_new_bytes d b.0 c.0 (on_name_token old t.0) (name_reference_removed old t.0)
 conditions (edits.CopyChain b) d = copy_conditions d b.0
@@ -127,12 +138,15 @@ makes_chunk d b bytes = (with_chunk d b (new_chunk d b) bytes, done.Chunk (recor
 
 -- an edit that copies these blocks, and answers the handle of the first one's copy
 abbrev pub copies_blocks : Document → List ℕ → Document × Done
-copies_blocks d hs = (with_blocks d (copies_of d hs), done.Block (record { 0 = get_or (new_handles d (length hs)) 0 0 }))
+copies_blocks d hs =
+    (with_blocks d (copies_of d hs), done.Block (record { 0 = get_or (new_handles d (length hs)) 0 0 }))
 
 -- what an edit does that nothing refuses
 abbrev pub effect : Edit → Document → Document × Done
-effect (edits.NewRaw uid size) d = makes_block d (record { attributes = record { user_id = uid; heap_type = 0 }; body = Raw (replicate size 0) })
-effect (edits.NewHeap uid) d = makes_block d (record { attributes = record { user_id = uid; heap_type = 0 }; body = Heap empty })
+effect (edits.NewRaw uid size) d =
+    makes_block d (record { attributes = record { user_id = uid; heap_type = 0 }; body = Raw (replicate size 0) })
+effect (edits.NewHeap uid) d =
+    makes_block d (record { attributes = record { user_id = uid; heap_type = 0 }; body = Heap empty })
 effect (edits.FreeBlock b) d = (without_block d b.0, done.Nothing)
 effect (edits.CopyBlock b) d = makes_block d (block_at d b.0)
 effect (edits.WriteRaw b at bytes) d = (with_body d b.0 (Raw (written (raw_bytes_of d b.0) at bytes)), done.Nothing)
@@ -147,22 +161,34 @@ effect (edits.Insert b c at n) d = (with_chunk d b.0 c.0 (inserted (chunk_at d b
 effect (edits.Delete b c at n) d = (with_chunk d b.0 c.0 (deleted (chunk_at d b.0 c.0) at n), done.Nothing)
 effect (edits.Write b c at bytes) d = (with_chunk d b.0 c.0 (written (chunk_at d b.0 c.0) at bytes), done.Nothing)
 effect (edits.CreateArray b size extra) d = makes_chunk d b.0 (array_bytes (new_array size extra))
-effect (edits.InsertElement b c i element) d = (with_chunk d b.0 c.0 (element_inserted (chunk_at d b.0 c.0) i element), done.Nothing)
-effect (edits.SetElement b c i element) d = (with_chunk d b.0 c.0 (element_set (chunk_at d b.0 c.0) i element), done.Nothing)
+effect (edits.InsertElement b c i element) d =
+    (with_chunk d b.0 c.0 (element_inserted (chunk_at d b.0 c.0) i element), done.Nothing)
+effect (edits.SetElement b c i element) d =
+    (with_chunk d b.0 c.0 (element_set (chunk_at d b.0 c.0) i element), done.Nothing)
 effect (edits.ResizeElement b c i n) d = (with_chunk d b.0 c.0 (element_resized (chunk_at d b.0 c.0) i n), done.Nothing)
-effect (edits.DeleteElements b c i k) d = (with_chunk d b.0 c.0 (elements_deleted (chunk_at d b.0 c.0) i k), done.Nothing)
+effect (edits.DeleteElements b c i k) d =
+    (with_chunk d b.0 c.0 (elements_deleted (chunk_at d b.0 c.0) i k), done.Nothing)
 effect (edits.ZeroArray b c) d = (with_chunk d b.0 c.0 (array_zeroed (chunk_at d b.0 c.0)), done.Nothing)
 effect (edits.CreateElementArray b size) d = makes_chunk d b.0 (element_bytes (no_slots size))
 effect (edits.AddElement b c element) d =
-    let old = chunk_at d b.0 c.0 in (with_chunk d b.0 c.0 (element_added old element), done.Token (record { 0 = token_added old element }))
+    let old = chunk_at d b.0 c.0 in
+    (with_chunk d b.0 c.0 (element_added old element), done.Token (record { 0 = token_added old element }))
 effect (edits.AddReference b c t) d = (with_chunk d b.0 c.0 (reference_added (chunk_at d b.0 c.0) t.0), done.Nothing)
-effect (edits.RemoveReference b c t) d = (with_chunk d b.0 c.0 (reference_removed (chunk_at d b.0 c.0) t.0), done.Nothing)
+effect (edits.RemoveReference b c t) d =
+    (with_chunk d b.0 c.0 (reference_removed (chunk_at d b.0 c.0) t.0), done.Nothing)
 effect (edits.DeleteElement b c t) d = (with_chunk d b.0 c.0 (element_deleted (chunk_at d b.0 c.0) t.0), done.Nothing)
-effect (edits.ChangeElement b c t element) d = (with_chunk d b.0 c.0 (element_changed (chunk_at d b.0 c.0) t.0 element), done.Nothing)
+effect (edits.ChangeElement b c t element) d =
+    (with_chunk d b.0 c.0 (element_changed (chunk_at d b.0 c.0) t.0 element), done.Nothing)
 effect (edits.CreateNameArray b part) d = makes_chunk d b.0 (name_bytes (no_names part))
 effect (edits.AddName b c text part replace) d =
-    let old = chunk_at d b.0 c.0 in (with_chunk d b.0 c.0 (name_added old text part replace), done.Token (record { 0 = name_token_added old text part replace }))
-effect (edits.ChangeName b c t text) d = (with_chunk d b.0 c.0 (name_changed (chunk_at d b.0 c.0) t.0 text), done.Nothing)
-effect (edits.RemoveName b c t) d = (with_chunk d b.0 c.0 (name_reference_removed (chunk_at d b.0 c.0) t.0), done.Nothing)
+    let old = chunk_at d b.0 c.0 in (
+      with_chunk d b.0 c.0 (name_added old text part replace),
+      done.Token
+          (record { 0 = name_token_added old text part replace }),
+    )
+effect (edits.ChangeName b c t text) d =
+    (with_chunk d b.0 c.0 (name_changed (chunk_at d b.0 c.0) t.0 text), done.Nothing)
+effect (edits.RemoveName b c t) d =
+    (with_chunk d b.0 c.0 (name_reference_removed (chunk_at d b.0 c.0) t.0), done.Nothing)
 effect (edits.CopyChain b) d = copies_blocks d (chain_blocks d b.0)
 effect (edits.FreeChain b) d = (without_blocks d (chain_blocks d b.0), done.Nothing)

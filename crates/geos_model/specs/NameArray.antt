@@ -35,7 +35,8 @@ abbrev pub names_read : Array → Slots → NameArray
 names_read a s = record { part = word_at a.extra 2; names = s }
 
 abbrev pub names_of : Array → Option NameArray
-names_of a = option_and_then (λ s. if is_sound_names (names_read a s) then Some (names_read a s) else None) (slots_of 4 a)
+names_of a =
+    option_and_then (λ s. if is_sound_names (names_read a s) then Some (names_read a s) else None) (slots_of 4 a)
 
 -- bytes are a name array where they are a chunk array of such slots
 unfoldable pub name_array_of : List ℕ → Option NameArray

@@ -26,26 +26,30 @@ text_at a t = option_map_or (text_of a) (element_at a.names t) []
 abbrev pub part_at : NameArray → ℕ → List ℕ
 part_at a t = take a.part (bytes_at a.names t)
 
--- A name that is there, the lowest of these, has one reference more, and gets the part only where it is to be set; else there is a new one.
+-- A name that is there, the lowest of these, has one reference more, and gets the part only where it is to be set; else
+-- there is a new one.
 abbrev pub name_with_reference : NameArray → List ℕ → Bool → ℕ → Slots
 name_with_reference a part replace t =
     with_element a.names t (count_at a.names t + 1) ((if replace then part else part_at a t) ++ text_at a t)
 
 abbrev pub added_name : NameArray → List ℕ → List ℕ → Bool → Slots × ℕ
 added_name a text part replace =
-    option_map_or (λ t. (name_with_reference a part replace t, t)) (token_of_text a text) (with_new a.names (part ++ text))
+    option_map_or (λ t. (name_with_reference a part replace t, t)) (token_of_text a text)
+    (with_new a.names (part ++ text))
 
 -- The bytes of a name array after an edit of it.
 
 abbrev pub name_added : List ℕ → List ℕ → List ℕ → Bool → List ℕ
-name_added bytes text part replace = let a = names_in bytes in name_bytes (record a { names = (added_name a text part replace).0 })
+name_added bytes text part replace =
+    let a = names_in bytes in name_bytes (record a { names = (added_name a text part replace).0 })
 
 abbrev pub name_token_added : List ℕ → List ℕ → List ℕ → Bool → ℕ
 name_token_added bytes text part replace = (added_name (names_in bytes) text part replace).1
 
 abbrev pub name_changed : List ℕ → ℕ → List ℕ → List ℕ
 name_changed bytes t text =
-    let a = names_in bytes in name_bytes (record a { names = with_element a.names t (count_at a.names t) (part_at a t ++ text) })
+    let a = names_in bytes in
+    name_bytes (record a { names = with_element a.names t (count_at a.names t) (part_at a t ++ text) })
 
 abbrev pub name_reference_removed : List ℕ → ℕ → List ℕ
 name_reference_removed bytes t = let a = names_in bytes in name_bytes (record a { names = unreferenced a.names t })
@@ -71,7 +75,9 @@ create_names_conditions part = (Range, nat_lt 64 part) ∷ []
 abbrev pub add_name_conditions : List ℕ → List ℕ → List ℕ → Conditions
 add_name_conditions bytes text part =
     let a = names_in bytes in
-    on_names bytes ++ (CountFull, is_count_full a.names (token_of_text a text)) ∷ (Range, not (is_name text) || not (length part == a.part)) ∷ []
+    on_names bytes
+    ++ (CountFull, is_count_full a.names (token_of_text a text))
+    ∷ (Range, not (is_name text) || not (length part == a.part)) ∷ []
 
 abbrev pub change_name_conditions : List ℕ → ℕ → List ℕ → Conditions
 change_name_conditions bytes t text =

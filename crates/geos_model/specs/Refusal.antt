@@ -69,7 +69,8 @@ name_of_fault NoGroup = codes "NoGroup"
 -- Of the refusals whose conditions hold, the first in this order is answered.
 abbrev pub one_order : List Fault
 one_order =
-    BadCommand ∷ GroupOpen ∷ NoGroup ∷ Locked ∷ NothingToUndo ∷ NothingToRedo ∷ NoTarget ∷ NoBlock ∷ WrongKind ∷ NotLocked ∷ LockLimit
+    BadCommand ∷ GroupOpen ∷ NoGroup ∷ Locked ∷ NothingToUndo ∷ NothingToRedo ∷ NoTarget ∷ NoBlock ∷ WrongKind
+    ∷ NotLocked ∷ LockLimit
     ∷ CacheFull ∷ NoChunk ∷ NotArray ∷ NoElement ∷ NoName ∷ BadChain ∷ IsMap ∷ NameInUse ∷ CountFull ∷ Range
     ∷ TooBig ∷ NoHandles ∷ Full ∷ Worn ∷ []
 

@@ -93,9 +93,11 @@ body_info uid (Heap m) = HeapIs uid (need m)
 
 -- the least handle above the start that has this user ID
 abbrev pub found : Document → ℕ → ℕ → Option ℕ
-found d uid start = option_map (λ e. e.0) (find (λ e. nat_lt start e.0 && (e.1.attributes.user_id == uid)) (entries d.blocks))
+found d uid start =
+    option_map (λ e. e.0) (find (λ e. nat_lt start e.0 && (e.1.attributes.user_id == uid)) (entries d.blocks))
 
--- what a look-up that nothing refuses answers of the document; what is no look-up, or asks of more than the document, has no answer here
+-- what a look-up that nothing refuses answers of the document; what is no look-up, or asks of more than the document,
+-- has no answer here
 abbrev pub look_up : Command → Document → Option Reply
 look_up (commands.Info b) d = option_map (λ block. body_info block.attributes.user_id block.body) (get d.blocks b.0)
 look_up (commands.HeapType b) d = Some (NumberIs (heap_type_of d b.0))
@@ -110,7 +112,8 @@ look_up (commands.ArrayElement b c i) d = Some (BytesAre (get_or (array_in (chun
 look_up (commands.ElementReferences b c t) d = Some (NumberIs (count_at (elements_in (chunk_at d b.0 c.0)) t.0))
 look_up (commands.ElementBytes b c t) d = Some (BytesAre (bytes_at (elements_in (chunk_at d b.0 c.0)) t.0))
 look_up (commands.ElementsUsed b c) d = Some (NumberIs (used_in (elements_in (chunk_at d b.0 c.0))))
-look_up (commands.TokenOfUsed b c k) d = Some (TokenIs (get_or (used_from 0 (elements_in (chunk_at d b.0 c.0)).slots) k 0))
+look_up (commands.TokenOfUsed b c k) d =
+    Some (TokenIs (get_or (used_from 0 (elements_in (chunk_at d b.0 c.0)).slots) k 0))
 look_up (commands.UsedOfToken b c t) d = Some (NumberIs (used_below (elements_in (chunk_at d b.0 c.0)) t.0))
 look_up (commands.NameFind b c text) d = option_map TokenIs (token_of_text (names_in (chunk_at d b.0 c.0)) text)
 look_up (commands.NameReferences b c t) d = Some (NumberIs (count_at (names_in (chunk_at d b.0 c.0)).names t.0))

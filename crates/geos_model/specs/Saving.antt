@@ -14,9 +14,12 @@ is_save request = false
 -- Saves and reverts that are accepted, in a call in which the store failed or didn't.
 pub record SaveLaw : Type 0 where
   -- a save keeps the document as it is
-  pub keeps : (failed : Bool) (old new : Machine) (request : Request) (reply : Reply) → Step failed old request reply new
+  pub keeps : (failed : Bool) (old new : Machine) (request : Request) (reply : Reply)
+      → Step failed old request reply new
       → is_refused reply ≡ false → is_save request ≡ true → (new.saved ≡ old.document) × (new.document ≡ old.document)
-  -- a revert gives back the document that was saved, whatever stands between but accepted saves, and leaves nothing to undo or redo
-  pub gives : (failed : Bool) (old late new : Machine) (calls : List Call) (request : Request) (reply : Reply) → Run old calls late → Step failed late request reply new
+  -- a revert gives back the document that was saved, whatever stands between but accepted saves, and leaves nothing to
+  -- undo or redo
+  pub gives : (failed : Bool) (old late new : Machine) (calls : List Call) (request : Request) (reply : Reply)
+      → Run old calls late → Step failed late request reply new
       → accepted is_save calls ≡ 0 → is_refused reply ≡ false → is_revert request ≡ true
       → (new.document ≡ old.saved) × (new.past ≡ []) × (new.future ≡ [])

@@ -55,7 +55,9 @@ with_digit n x = 10 * n + (x - 48)
 
 -- 1 to 7 decimal digits
 abbrev pub number : List ℕ → Option ℕ
-number word = if nat_le 1 (length word) && nat_le (length word) 7 && list_all is_digit word then Some (fold with_digit 0 word) else None
+number word =
+    if nat_le 1 (length word) && nat_le (length word) 7 && list_all is_digit word then Some (fold with_digit 0 word)
+    else None
 
 -- such digits for a number of two bytes
 abbrev pub user_id : List ℕ → Option ℕ
@@ -72,7 +74,8 @@ if_spelled (Err e) = None
 
 -- a dash for no bytes, or two hexadecimal digits for each byte, at least one
 abbrev pub bytes : List ℕ → Option (List ℕ)
-bytes word = if same_bytes word (codes "-") then Some [] else if length word == 0 then None else if_spelled (decode_of word)
+bytes word =
+    if same_bytes word (codes "-") then Some [] else if length word == 0 then None else if_spelled (decode_of word)
 
 abbrev pub two_bytes : List ℕ → Option ℕ
 two_bytes (high ∷ low ∷ []) = Some (256 * high + low)
@@ -93,7 +96,8 @@ token word = option_map (λ n. record { 0 = n }) (handle word)
 
 -- whether a part is set or kept
 abbrev pub is_set : List ℕ → Option Bool
-is_set word = if same_bytes word (codes "set") then Some true else if same_bytes word (codes "keep") then Some false else None
+is_set word =
+    if same_bytes word (codes "set") then Some true else if same_bytes word (codes "keep") then Some false else None
 
 -- A command of so many operands, each spelled by one word.
 
@@ -101,23 +105,28 @@ abbrev pub with_none : Command → List (List ℕ) → Option Command
 with_none c [] = Some c
 with_none c (w ∷ ws) = None
 
-abbrev pub operand : {A : Type 0} → (List ℕ → Option A) → (A → List (List ℕ) → Option Command) → List (List ℕ) → Option Command
+abbrev pub operand : {A : Type 0} → (List ℕ → Option A) → (A → List (List ℕ) → Option Command) → List (List ℕ)
+    → Option Command
 operand p f [] = None
 operand p f (w ∷ ws) = option_and_then (λ a. f a ws) (p w)
 
 abbrev pub with_1 : {A : Type 0} → (List ℕ → Option A) → (A → Command) → List (List ℕ) → Option Command
 with_1 p f = operand p (λ a. with_none (f a))
 
-abbrev pub with_2 : {A B : Type 0} → (List ℕ → Option A) → (List ℕ → Option B) → (A → B → Command) → List (List ℕ) → Option Command
+abbrev pub with_2 : {A B : Type 0} → (List ℕ → Option A) → (List ℕ → Option B) → (A → B → Command) → List (List ℕ)
+    → Option Command
 with_2 p q f = operand p (λ a. with_1 q (f a))
 
-abbrev pub with_3 : {A B C : Type 0} → (List ℕ → Option A) → (List ℕ → Option B) → (List ℕ → Option C) → (A → B → C → Command) → List (List ℕ) → Option Command
+abbrev pub with_3 : {A B C : Type 0} → (List ℕ → Option A) → (List ℕ → Option B) → (List ℕ → Option C)
+    → (A → B → C → Command) → List (List ℕ) → Option Command
 with_3 p q r f = operand p (λ a. with_2 q r (f a))
 
-abbrev pub with_4 : {A B C D : Type 0} → (List ℕ → Option A) → (List ℕ → Option B) → (List ℕ → Option C) → (List ℕ → Option D) → (A → B → C → D → Command) → List (List ℕ) → Option Command
+abbrev pub with_4 : {A B C D : Type 0} → (List ℕ → Option A) → (List ℕ → Option B) → (List ℕ → Option C)
+    → (List ℕ → Option D) → (A → B → C → D → Command) → List (List ℕ) → Option Command
 with_4 p q r s f = operand p (λ a. with_3 q r s (f a))
 
-abbrev pub with_5 : {A B C D E : Type 0} → (List ℕ → Option A) → (List ℕ → Option B) → (List ℕ → Option C) → (List ℕ → Option D) → (List ℕ → Option E) → (A → B → C → D → E → Command) → List (List ℕ) → Option Command
+abbrev pub with_5 : {A B C D E : Type 0} → (List ℕ → Option A) → (List ℕ → Option B) → (List ℕ → Option C)
+    → (List ℕ → Option D) → (List ℕ → Option E) → (A → B → C → D → E → Command) → List (List ℕ) → Option Command
 with_5 p q r s t f = operand p (λ a. with_4 q r s t (f a))
 
 -- each command by its name, with what its operands make of it
@@ -151,7 +160,11 @@ commands_by_name =
     ∷ (codes "edelete", with_3 block chunk token (λ b c t. commands.Edit (edits.DeleteElement b c t)))
     ∷ (codes "echange", with_4 block chunk token bytes (λ b c t bs. commands.Edit (edits.ChangeElement b c t bs)))
     ∷ (codes "ncreate", with_2 block number (λ b d. commands.Edit (edits.CreateNameArray b d)))
-    ∷ (codes "nadd", with_5 block chunk bytes bytes is_set (λ b c name part replace. commands.Edit (edits.AddName b c name part replace)))
+    ∷ (
+      codes "nadd",
+      with_5 block chunk bytes bytes is_set
+          (λ b c name part replace. commands.Edit (edits.AddName b c name part replace)),
+    )
     ∷ (codes "nname", with_4 block chunk token bytes (λ b c t name. commands.Edit (edits.ChangeName b c t name)))
     ∷ (codes "nunref", with_3 block chunk token (λ b c t. commands.Edit (edits.RemoveName b c t)))
     ∷ (codes "chcopy", with_1 block (λ b. commands.Edit (edits.CopyChain b)))
@@ -203,7 +216,8 @@ by_name name operands (c ∷ cs) = if same_bytes name c.0 then c.1 operands else
 abbrev pub command_of_words : List (List ℕ) → Option Command
 command_of_words [] = Some commands.Blank
 command_of_words ([] ∷ operands) = None
-command_of_words ((x ∷ name) ∷ operands) = if x == 35 then Some commands.Blank else by_name (x ∷ name) operands commands_by_name
+command_of_words ((x ∷ name) ∷ operands) =
+    if x == 35 then Some commands.Blank else by_name (x ∷ name) operands commands_by_name
 
 abbrev pub longest_line : ℕ
 longest_line = 140000
@@ -254,9 +268,10 @@ reply_line reply = reply_text reply ++ line_feed ∷ []
 abbrev pub output : List Reply → List ℕ
 output replies = flat_map reply_line replies
 
--- From old, this may be written for what is asked, and lead to new, the store failing in so many of the calls. What gets no
--- reply is passed over.
-pub record Answered (old : Machine) (asked : List Request) (written : List ℕ) (failed : ℕ) (new : Machine) : Type 0 where
+-- From old, this may be written for what is asked, and lead to new, the store failing in so many of the calls. What
+-- gets no reply is passed over.
+pub record Answered (old : Machine) (asked : List Request) (written : List ℕ) (failed : ℕ) (new : Machine)
+    : Type 0 where
   pub calls : List Call
   pub asks : map (λ c. c.request) calls ≡ filter gets_reply asked
   pub run : Run old calls new

@@ -58,8 +58,8 @@ pub record SamePast (old new : Machine) : Type 0 where
   pub document : new.document ≡ old.document
   pub past : new.past ≡ old.past
 
--- Groups among calls before which none is open: how many undo steps the calls have made, and how many edits the group that is open then
--- has, None where none is.
+-- Groups among calls before which none is open: how many undo steps the calls have made, and how many edits the group
+-- that is open then has, None where none is.
 pub record Tally : Type 0 where
   pub steps : ℕ
   pub group : Option ℕ
@@ -95,9 +95,9 @@ tally cs = after_calls cs (record { steps = 0; group = None })
 abbrev pub steps_made : List Call → ℕ
 steps_made cs = (tally cs).steps
 
--- Where no group is open at the start, after the edits and after the undos: undoing as many steps as the edits made gives back the document
--- and the past of the start. Groups may be abandoned among the edits; with no step and no undo it says what an abandoned group leaves. No
--- step is made among the undos, so that groups there are empty or abandoned.
+-- Where no group is open at the start, after the edits and after the undos: undoing as many steps as the edits made
+-- gives back the document and the past of the start. Groups may be abandoned among the edits; with no step and no undo
+-- it says what an abandoned group leaves. No step is made among the undos, so that groups there are empty or abandoned.
 abbrev pub UndoLaw : Type 0
 UndoLaw =
     (old mid new : Machine) (edits undos : List Call) → old.group ≡ None
@@ -105,9 +105,10 @@ UndoLaw =
     → steps_made edits ≡ accepted is_undo undos → Run old edits mid → Run mid undos new
     → mid.group ≡ None → new.group ≡ None → SamePast old new
 
--- Where no group is open: redoing as many undos as were accepted gives back the document and the past from before them. No edit is accepted
--- between, so that groups between are empty.
+-- Where no group is open: redoing as many undos as were accepted gives back the document and the past from before them.
+-- No edit is accepted between, so that groups between are empty.
 abbrev pub RedoLaw : Type 0
 RedoLaw =
-    (old mid new : Machine) (undos redos : List Call) → old.group ≡ None → only is_undo undos ≡ true → only is_redo redos ≡ true
+    (old mid new : Machine) (undos redos : List Call) → old.group ≡ None → only is_undo undos ≡ true
+    → only is_redo redos ≡ true
     → accepted is_undo undos ≡ accepted is_redo redos → Run old undos mid → Run mid redos new → SamePast old new

@@ -22,10 +22,15 @@ abbrev pub word_asked : Request → ℕ
 word_asked (Some (commands.Edit e)) = word_given e
 word_asked request = 0
 
--- The machine is valid at the start, and where user IDs and types are words, an edit that nothing refuses, each step and each run keep validity.
+-- The machine is valid at the start, and where user IDs and types are words, an edit that nothing refuses, each step
+-- and each run keep validity.
 pub record ValidityLaw : Type 0 where
   pub start : (frames : ℕ) (target : Bool) → IsValidMachine (empty_machine frames target)
-  pub opened : (updated saved : Document) (sequence frames : ℕ) (target : Bool) → IsValid updated → IsValid saved → IsValidMachine (opened_machine updated saved sequence frames target)
-  pub edit : (e : Edit) (d : Document) → word_given e < 65536 → IsValid d → first_refusal (conditions e d) ≡ None → IsValid (effect e d).0
-  pub step : (old new : Machine) (request : Request) (reply : Reply) (failed : Bool) → word_asked request < 65536 → IsValidMachine old → Step failed old request reply new → IsValidMachine new
-  pub run : (old new : Machine) (calls : List Call) → All (λ c. word_asked c.request < 65536) calls → IsValidMachine old → Run old calls new → IsValidMachine new
+  pub opened : (updated saved : Document) (sequence frames : ℕ) (target : Bool) → IsValid updated → IsValid saved
+      → IsValidMachine (opened_machine updated saved sequence frames target)
+  pub edit : (e : Edit) (d : Document) → word_given e < 65536 → IsValid d → first_refusal (conditions e d) ≡ None
+      → IsValid (effect e d).0
+  pub step : (old new : Machine) (request : Request) (reply : Reply) (failed : Bool) → word_asked request < 65536
+      → IsValidMachine old → Step failed old request reply new → IsValidMachine new
+  pub run : (old new : Machine) (calls : List Call) → All (λ c. word_asked c.request < 65536) calls → IsValidMachine old
+      → Run old calls new → IsValidMachine new

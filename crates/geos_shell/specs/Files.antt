@@ -6,7 +6,8 @@ use Rattle.vm_store.specs.Files.{Opener}
 use Rattle.geos_shell.specs.Options.{CommandLine}
 
 -- FILE is opened, after the streams are guarded; it is made only where that is asked for
-pub record OpensFile {F S : Type 0} (calls : Opener F S) (line : CommandLine) (old : F) (store : S) (new : F) : Type 0 where
+pub record OpensFile {F S : Type 0} (calls : Opener F S) (line : CommandLine) (old : F) (store : S) (new : F)
+    : Type 0 where
   pub guarded : F
   pub guards : calls.guards old (Ok tt) guarded
   pub opens : calls.opens guarded line.file line.is_new (Ok store) new
@@ -14,12 +15,14 @@ pub record OpensFile {F S : Type 0} (calls : Opener F S) (line : CommandLine) (o
 -- the streams can't be guarded, or FILE can't be opened
 pub record FileFails {F S : Type 0} (calls : Opener F S) (line : CommandLine) (old new : F) : Type 0 where
   pub fault : StoreFault
-  pub fails : calls.guards old (Err fault) new ⊎ ((guarded : F) × calls.guards old (Ok tt) guarded × calls.opens guarded line.file line.is_new (Err fault) new)
+  pub fails : calls.guards old (Err fault) new
+      ⊎ ((guarded : F) × calls.guards old (Ok tt) guarded × calls.opens guarded line.file line.is_new (Err fault) new)
 
 -- FILE2 is opened, and made where it is missing, if a target is named
 abbrev pub OpensTarget : {F S : Type 0} → Opener F S → Option Text → F → Option S → F → Type 0
 OpensTarget calls None old target new = (target ≡ None) × (new ≡ old)
-OpensTarget {F} {S} calls (Some name) old target new = (store : S) × (target ≡ Some store) × calls.opens old name true (Ok store) new
+OpensTarget {F} {S} calls (Some name) old target new =
+    (store : S) × (target ≡ Some store) × calls.opens old name true (Ok store) new
 
 -- a target is named and can't be opened
 pub record TargetFails {F S : Type 0} (calls : Opener F S) (target : Option Text) (old new : F) : Type 0 where

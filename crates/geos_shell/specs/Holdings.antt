@@ -12,7 +12,8 @@ use Rattle.undo_log.specs.Sessions.{SessionState, IsExact, machine_of, failed_si
 use Rattle.undo_log.specs.Turning.{IsSure, abandon_fault, busy_fault}
 use Rattle.chunk_edits.specs.declared.direction.Direction.TheVariants.{Forwards, Backwards}
 
--- a session, the target of a save-as while one is left, and the store that a save-as went away from, where it was put aside
+-- a session, the target of a save-as while one is left, and the store that a save-as went away from, where it was put
+-- aside
 pub record Holding (S : Type 0) : Type 0 where
   pub session : SessionState S
   pub target : Option S
@@ -29,8 +30,8 @@ machine h = machine_of (is_some h.target) h.session
 abbrev pub AreExact : {S : Type 0} → (S → StoreFacts) → Holding S → Type 0
 AreExact facts h = IsExact facts h.session × IfSome h.target (λ store. IsTrue (facts store).honest)
 
--- Whether a call of a store has failed from one holding to the next: of the session's store, or of the target where it is left in
--- both. An accepted save-as, which uses the target up, is no call that failed.
+-- Whether a call of a store has failed from one holding to the next: of the session's store, or of the target where it
+-- is left in both. An accepted save-as, which uses the target up, is no call that failed.
 
 abbrev pub failed_with : {S : Type 0} → Bool → (S → StoreFacts) → Option S → Option S → Bool
 failed_with failed facts None target = failed
@@ -38,7 +39,8 @@ failed_with failed facts (Some old) (Some new) = failed || failed_since (facts o
 failed_with failed facts (Some old) None = false
 
 abbrev pub failed_since_in : {S : Type 0} → (S → StoreFacts) → Holding S → Holding S → Bool
-failed_since_in facts old new = failed_with (failed_since (facts old.session.disk.store) (facts new.session.disk.store)) facts old.target new.target
+failed_since_in facts old new =
+    failed_with (failed_since (facts old.session.disk.store) (facts new.session.disk.store)) facts old.target new.target
 
 -- What becomes of the files.
 
@@ -54,10 +56,13 @@ pub record SameFiles {S : Type 0} (old new : Holding S) : Type 0 where
   pub target : new.target ≡ old.target
   pub former : new.former ≡ old.former
 
--- This pair is committed to the session's file, or refused. Unless the refusal is that the store failed, nothing is committed.
-pub record CommitsOrKeeps {S : Type 0} (facts : S → StoreFacts) (pair : Documents) (old new : Disk S) (result : Result (Unit {0}) Fault) : Type 0 where
+-- This pair is committed to the session's file, or refused. Unless the refusal is that the store failed, nothing is
+-- committed.
+pub record CommitsOrKeeps {S : Type 0} (facts : S → StoreFacts) (pair : Documents) (old new : Disk S)
+    (result : Result (Unit {0}) Fault) : Type 0 where
   pub commits : MayCommit facts pair old new result
-  pub passes : IfErr result (λ fault. (fault ≡ File → FailedSince (facts old.store) (facts new.store) → ⊥) → KeepsCommitted facts old new)
+  pub passes : IfErr result (λ fault. (fault ≡ File → FailedSince (facts old.store) (facts new.store) → ⊥)
+      → KeepsCommitted facts old new)
 
 -- the result that a reply to a commit tells
 abbrev pub result_told : Reply → Result (Unit {0}) Fault
@@ -65,22 +70,27 @@ result_told (Refused fault) = Err fault
 result_told _ = Ok tt
 
 -- A commit of this pair to the session's file ends as the reply tells.
-pub record CommitsAsTold {S : Type 0} (facts : S → StoreFacts) (pair : Documents) (old : Holding S) (reply : Reply) (new : Holding S) : Type 0 where
+pub record CommitsAsTold {S : Type 0} (facts : S → StoreFacts) (pair : Documents) (old : Holding S) (reply : Reply)
+    (new : Holding S) : Type 0 where
   pub tries : CommitsOrKeeps facts pair old.session.disk new.session.disk (result_told reply)
   pub target : new.target ≡ old.target
   pub former : new.former ≡ old.former
 
--- A save-as is refused: the session's file may have its saved document committed, and the target is back, with any bytes.
-pub record SaveAsRefused {S : Type 0} (facts : S → StoreFacts) (old : Holding S) (lent : S) (fault : Fault) (new : Holding S) : Type 0 where
-  pub tries : CommitsOrKeeps facts (old.session.disk.saved, old.session.disk.saved) old.session.disk new.session.disk (Err fault)
+-- A save-as is refused: the session's file may have its saved document committed, and the target is back, with any
+-- bytes.
+pub record SaveAsRefused {S : Type 0} (facts : S → StoreFacts) (old : Holding S) (lent : S) (fault : Fault)
+    (new : Holding S) : Type 0 where
+  pub tries : CommitsOrKeeps facts (old.session.disk.saved, old.session.disk.saved) old.session.disk new.session.disk
+      (Err fault)
   pub back : S
   pub target : new.target ≡ Some back
   pub failures : (facts lent).failures ≤ (facts back).failures
   pub former : new.former ≡ old.former
 
--- A save-as is accepted: the old file has its saved document committed, and its store is put aside. The target is used up, and
--- the session is in it, which is a new file.
-pub record SaveAsAccepted {S : Type 0} (facts : S → StoreFacts) (old : Holding S) (lent : S) (new : Holding S) : Type 0 where
+-- A save-as is accepted: the old file has its saved document committed, and its store is put aside. The target is used
+-- up, and the session is in it, which is a new file.
+pub record SaveAsAccepted {S : Type 0} (facts : S → StoreFacts) (old : Holding S) (lent : S) (new : Holding S)
+    : Type 0 where
   pub disk : Disk S
   pub commits : MayCommit facts (old.session.disk.saved, old.session.disk.saved) old.session.disk disk (Ok tt)
   pub former : new.former ≡ Some disk.store
@@ -98,9 +108,12 @@ SavesAs facts old (Some target) reply new = SaveAsAccepted facts old target new
 
 -- by the request and the reply
 abbrev pub LeavesFiles : {S : Type 0} → (S → StoreFacts) → Holding S → Request → Reply → Holding S → Type 0
-LeavesFiles facts old (Some commands.Update) reply new = CommitsAsTold facts (old.session.document, old.session.disk.saved) old reply new
-LeavesFiles facts old (Some commands.Save) reply new = CommitsAsTold facts (old.session.document, old.session.document) old reply new
-LeavesFiles facts old (Some commands.Revert) reply new = CommitsAsTold facts (old.session.disk.saved, old.session.disk.saved) old reply new
+LeavesFiles facts old (Some commands.Update) reply new =
+    CommitsAsTold facts (old.session.document, old.session.disk.saved) old reply new
+LeavesFiles facts old (Some commands.Save) reply new =
+    CommitsAsTold facts (old.session.document, old.session.document) old reply new
+LeavesFiles facts old (Some commands.Revert) reply new =
+    CommitsAsTold facts (old.session.disk.saved, old.session.disk.saved) old reply new
 LeavesFiles facts old (Some commands.SaveAs) reply new = SavesAs facts old old.target reply new
 LeavesFiles facts old (Some commands.Begin) reply new = SameFiles old new
 LeavesFiles facts old (Some commands.End) reply new = SameFiles old new
@@ -118,17 +131,21 @@ LeavesFiles facts old None reply new = SameFiles old new
 
 -- Requests.
 
--- An undo or a redo that is sure, as a session says which are, is accepted and calls no store, where no group is open and no block is
--- locked. So is an abandon of a group without an edit, where no block is locked.
+-- An undo or a redo that is sure, as a session says which are, is accepted and calls no store, where no group is open
+-- and no block is locked. So is an abandon of a group without an edit, where no block is locked.
 abbrev pub IsTakenIfSure : {S : Type 0} → (S → StoreFacts) → SessionState S → Request → Reply → SessionState S → Type 0
-IsTakenIfSure facts old (Some commands.Undo) reply new = busy_fault old ≡ None → IsSure facts old Backwards old.log.undo → (reply ≡ Accepted) × (new.disk ≡ old.disk)
-IsTakenIfSure facts old (Some commands.Redo) reply new = busy_fault old ≡ None → IsSure facts old Forwards old.log.redo → (reply ≡ Accepted) × (new.disk ≡ old.disk)
-IsTakenIfSure facts old (Some commands.Abandon) reply new = abandon_fault old ≡ None → old.log.group ≡ Some [] → (reply ≡ Accepted) × (new.disk ≡ old.disk)
+IsTakenIfSure facts old (Some commands.Undo) reply new =
+    busy_fault old ≡ None → IsSure facts old Backwards old.log.undo → (reply ≡ Accepted) × (new.disk ≡ old.disk)
+IsTakenIfSure facts old (Some commands.Redo) reply new =
+    busy_fault old ≡ None → IsSure facts old Forwards old.log.redo → (reply ≡ Accepted) × (new.disk ≡ old.disk)
+IsTakenIfSure facts old (Some commands.Abandon) reply new =
+    abandon_fault old ≡ None → old.log.group ≡ Some [] → (reply ≡ Accepted) × (new.disk ≡ old.disk)
 IsTakenIfSure facts old request reply new = Unit {0}
 
--- The request is answered so: by the machine, with a file fault in place of its answer only where a store failed in this very call.
--- The files are as the reply tells, and all is exact still.
-pub record ServesRequest {S : Type 0} (facts : S → StoreFacts) (old : Holding S) (request : Request) (reply : Reply) (new : Holding S) : Type 0 where
+-- The request is answered so: by the machine, with a file fault in place of its answer only where a store failed in
+-- this very call. The files are as the reply tells, and all is exact still.
+pub record ServesRequest {S : Type 0} (facts : S → StoreFacts) (old : Holding S) (request : Request) (reply : Reply)
+    (new : Holding S) : Type 0 where
   pub exact : AreExact facts new
   pub step : Step (failed_since_in facts old new) (machine old) request reply (machine new)
   pub files : LeavesFiles facts old request reply new
@@ -141,4 +158,6 @@ MayServe facts old request new = (new ≡ old) ⊎ ((reply : Reply) × ServesReq
 -- these calls are served, one after another
 abbrev pub Serving : {S : Type 0} → (S → StoreFacts) → Holding S → List Call → Holding S → Type 0
 Serving {S} facts old [] new = new ≡ old
-Serving {S} facts old (c ∷ cs) new = (mid : Holding S) × (c.failed ≡ failed_since_in facts old mid) × ServesRequest facts old c.request c.reply mid × Serving facts mid cs new
+Serving {S} facts old (c ∷ cs) new =
+    (mid : Holding S) × (c.failed ≡ failed_since_in facts old mid) × ServesRequest facts old c.request c.reply mid
+    × Serving facts mid cs new

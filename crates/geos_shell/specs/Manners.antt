@@ -25,7 +25,8 @@ reply_count line = if gets_reply (command line) then 1 else 0
 -- the lines, each before its reply, if it gets one
 abbrev pub echoed : List (List ℕ) → List Reply → List ℕ
 echoed [] replies = []
-echoed (line ∷ lines) replies = lead true line ++ output (take (reply_count line) replies) ++ echoed lines (drop (reply_count line) replies)
+echoed (line ∷ lines) replies =
+    lead true line ++ output (take (reply_count line) replies) ++ echoed lines (drop (reply_count line) replies)
 
 -- what is written of lines and of the replies to those that get one
 abbrev pub written_of : Bool → List (List ℕ) → List Reply → List ℕ

@@ -55,7 +55,9 @@ with_version = on_top (λ s. record s { has_version = true })
 
 abbrev pub geosvm : App
 geosvm =
-    let flags = with_rule (with_rule (with_rule (with_version (new_app (codes "geosvm"))) (flag (codes "new"))) (flag (codes "bail"))) (flag (codes "echo")) in
+    let flags =
+    with_rule (with_rule (with_rule (with_version (new_app (codes "geosvm"))) (flag (codes "new")))
+    (flag (codes "bail"))) (flag (codes "echo")) in
     with_rule (with_rule (with_rule flags cache_option) as_option) file_operand
 
 -- ---- what a command line says
@@ -94,18 +96,28 @@ IsUsable line = (1 ≤ line.cache) × (line.cache ≤ 64) × (line.target ≡ So
 
 -- what the options say
 abbrev pub told_by : Options → CommandLine
-told_by o = record { is_new = o.new; cache = o.cache; target = option_map (λ t. t.now) o.target; file = o.file.now; manner = o.manner }
+told_by o =
+    record {
+      is_new = o.new;
+      cache = o.cache;
+      target = option_map (λ t. t.now) o.target;
+      file = o.file.now;
+      manner = o.manner;
+    }
 
 -- the flag reads as a truth value
 abbrev pub IsFlag : Found → Text → Type 0
-IsFlag found name = (t : Text) → one_text found name ≡ Some t → (bytes_eq t (codes "true") || bytes_eq t (codes "false")) ≡ true
+IsFlag found name =
+    (t : Text) → one_text found name ≡ Some t → (bytes_eq t (codes "true") || bytes_eq t (codes "false")) ≡ true
 
--- What a match of the command line gives: the flags read as truth values, the number is in its range, and the file is there.
+-- What a match of the command line gives: the flags read as truth values, the number is in its range, and the file is
+-- there.
 pub record IsMatched (found : Found) : Type 0 where
   pub new : IsFlag found (codes "new")
   pub bail : IsFlag found (codes "bail")
   pub echo : IsFlag found (codes "echo")
-  pub number : (t : Text) → one_text found (codes "cache") ≡ Some t → (raw : Text) × (t ≡ without_minus raw) × IsSignedIn (pos 1) (pos 64) raw
+  pub number : (t : Text) → one_text found (codes "cache") ≡ Some t
+      → (raw : Text) × (t ≡ without_minus raw) × IsSignedIn (pos 1) (pos 64) raw
   pub file : is_some (first_value found (codes "file")) ≡ true
 
 -- ---- why there are no options
@@ -120,9 +132,11 @@ TurnsInto kind _ = ⊥
 
 -- the words end in this outcome and give no options
 abbrev pub RefusesWords : List Text → Outcome → Type 0
-RefusesWords words (outcomes.Usage text) = (kind : ErrorKind) × IsAmong kind (fault_of geosvm words) × (kind ≢ DisplayHelp) × (kind ≢ DisplayVersion)
+RefusesWords words (outcomes.Usage text) =
+    (kind : ErrorKind) × IsAmong kind (fault_of geosvm words) × (kind ≢ DisplayHelp) × (kind ≢ DisplayVersion)
 RefusesWords words (outcomes.Help text) = IsAmong DisplayHelp (fault_of geosvm words)
 RefusesWords words (outcomes.Version text) = IsAmong DisplayVersion (fault_of geosvm words)
-RefusesWords words outcomes.SameFile = (line : CommandLine) × (command_line words ≡ Some line) × (line.target ≡ Some line.file)
+RefusesWords words outcomes.SameFile =
+    (line : CommandLine) × (command_line words ≡ Some line) × (line.target ≡ Some line.file)
 RefusesWords words (outcomes.Run faults.Memory) = ⊤
 RefusesWords words _ = ⊥

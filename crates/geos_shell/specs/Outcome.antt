@@ -24,7 +24,9 @@ status_of outcomes.SameFile = 2
 
 -- a line that tells where a fault was met, and which
 abbrev pub fault_line : List ℕ → Fault → List ℕ
-fault_line place fault = codes "geosvm: " ++ place ++ codes " " ++ decimal (number_of_fault fault) ++ codes " " ++ name_of_fault fault ++ line_feed ∷ []
+fault_line place fault =
+    codes "geosvm: " ++ place ++ codes " " ++ decimal (number_of_fault fault) ++ codes " " ++ name_of_fault fault
+    ++ line_feed ∷ []
 
 abbrev pub run_line : RunFault → List ℕ
 run_line fault = codes "geosvm: " ++ run_fault_text fault ++ line_feed ∷ []

@@ -22,7 +22,8 @@ use Rattle.geos_shell.specs.declared.runner.Manner.{Manner}
 -- ---- sessions
 
 -- A session on a new file: the machine of the empty document, of which the file is one under the number 1.
-pub record IsCreated {S : Type 0} (facts : S → StoreFacts) (frames : ℕ) (store : S) (session : SessionState S) : Type 0 where
+pub record IsCreated {S : Type 0} (facts : S → StoreFacts) (frames : ℕ) (store : S) (session : SessionState S)
+    : Type 0 where
   pub honest : (facts session.disk.store).honest ≡ (facts store).honest
   pub failures : (facts store).failures ≤ (facts session.disk.store).failures
   pub exact : IsTrue (facts store).honest → IsExact facts session
@@ -31,15 +32,20 @@ pub record IsCreated {S : Type 0} (facts : S → StoreFacts) (frames : ℕ) (sto
   pub numbered : IsTrue (facts store).honest → HasSequence (facts session.disk.store) 1
   pub crash_consistent : IsCrashConsistent facts session.disk
 
--- A session on the file that a store has, in which nothing was written: the machine of the documents that the file stands for.
-pub record IsOpened {S : Type 0} (facts : S → StoreFacts) (frames : ℕ) (store : S) (session : SessionState S) : Type 0 where
+-- A session on the file that a store has, in which nothing was written: the machine of the documents that the file
+-- stands for.
+pub record IsOpened {S : Type 0} (facts : S → StoreFacts) (frames : ℕ) (store : S) (session : SessionState S)
+    : Type 0 where
   pub honest : (facts session.disk.store).honest ≡ (facts store).honest
   pub failures : (facts store).failures ≤ (facts session.disk.store).failures
   pub unchanged : IsTrue (facts store).honest → IsUnchanged (facts store) (facts session.disk.store)
-  pub stands : IsTrue (facts store).honest → stands (facts store).content ≡ Ok (session.disk.updated, session.disk.saved)
+  pub stands : IsTrue (facts store).honest
+      → stands (facts store).content ≡ Ok (session.disk.updated, session.disk.saved)
   pub sequence : IsTrue (facts store).honest → sequence_in (facts store).content ≡ Some session.disk.sequence
   pub exact : IsTrue (facts store).honest → IsExact facts session
-  pub machine : IsTrue (facts store).honest → (target : Bool) → machine_of target session ≡ opened_machine session.disk.updated session.disk.saved session.disk.sequence frames target
+  pub machine : IsTrue (facts store).honest → (target : Bool)
+      → machine_of target session
+      ≡ opened_machine session.disk.updated session.disk.saved session.disk.sequence frames target
   pub numbered : IsTrue (facts store).honest → HasSequence (facts session.disk.store) session.disk.sequence
   pub frames_are : session.frames ≡ frames
   pub in_doubt : IsTrue (facts store).honest → session.disk.in_doubt ≡ []
@@ -66,14 +72,16 @@ pub record IsOpenFailure {S : Type 0} (facts : S → StoreFacts) (fault : Fault)
 -- ---- what is done with the files
 
 -- FILE is opened as a store, and then there is the rest
-pub record FromFile {F S : Type 0} (calls : Opener F S) (line : CommandLine) (old : F) (Rest : S → F → Type 0) : Type 0 where
+pub record FromFile {F S : Type 0} (calls : Opener F S) (line : CommandLine) (old : F) (Rest : S → F → Type 0)
+    : Type 0 where
   pub store : S
   pub opened : F
   pub file : OpensFile calls line old store opened
   pub rest : Rest store opened
 
 -- FILE2 is opened, if it is named, but no document is made in FILE's store
-pub record CreateFails {F S : Type 0} (calls : Opener F S) (facts : S → StoreFacts) (named : Option Text) (fault : Fault) (store : S) (opened new : F) : Type 0 where
+pub record CreateFails {F S : Type 0} (calls : Opener F S) (facts : S → StoreFacts) (named : Option Text)
+    (fault : Fault) (store : S) (opened new : F) : Type 0 where
   pub target : Option S
   pub both : F
   pub target_is : OpensTarget calls named opened target both
@@ -84,27 +92,33 @@ pub record CreateFails {F S : Type 0} (calls : Opener F S) (facts : S → StoreF
   pub closes_target : ClosesAny calls closed target new
 
 -- FILE's store has no document that could be opened
-pub record OpenFails {F S : Type 0} (calls : Opener F S) (facts : S → StoreFacts) (fault : Fault) (store : S) (opened new : F) : Type 0 where
+pub record OpenFails {F S : Type 0} (calls : Opener F S) (facts : S → StoreFacts) (fault : Fault) (store : S)
+    (opened new : F) : Type 0 where
   pub left : S
   pub fails : IsOpenFailure facts fault store left
   pub closes : calls.closes opened left new
 
--- FILE2 can't be opened. Nothing was written to FILE: where it is to be made anew it wasn't called at all, and else its document was
--- opened before.
-pub record TargetIsShut {F S : Type 0} (calls : Opener F S) (facts : S → StoreFacts) (line : CommandLine) (store : S) (opened new : F) : Type 0 where
+-- FILE2 can't be opened. Nothing was written to FILE: where it is to be made anew it wasn't called at all, and else its
+-- document was opened before.
+pub record TargetIsShut {F S : Type 0} (calls : Opener F S) (facts : S → StoreFacts) (line : CommandLine) (store : S)
+    (opened new : F) : Type 0 where
   pub failed : F
   pub target : TargetFails calls line.target opened failed
   pub left : S
   pub untouched : line.is_new ≡ true → left ≡ store
-  pub was_opened : line.is_new ≡ false → (session : SessionState S) × IsOpened facts line.cache store session × (left ≡ session.disk.store)
+  pub was_opened : line.is_new ≡ false
+      → (session : SessionState S) × IsOpened facts line.cache store session × (left ≡ session.disk.store)
   pub closes : calls.closes failed left new
 
--- A session is begun on FILE's store, and FILE2 is the target if it is named. A new document is made only after both are opened.
-pub record BeginsSession {F S : Type 0} (calls : Opener F S) (facts : S → StoreFacts) (line : CommandLine) (store : S) (opened : F) (session : SessionState S) (target : Option S) (new : F) : Type 0 where
+-- A session is begun on FILE's store, and FILE2 is the target if it is named. A new document is made only after both
+-- are opened.
+pub record BeginsSession {F S : Type 0} (calls : Opener F S) (facts : S → StoreFacts) (line : CommandLine) (store : S)
+    (opened : F) (session : SessionState S) (target : Option S) (new : F) : Type 0 where
   pub target_is : OpensTarget calls line.target opened target new
   pub session_is : IsMadeOrOpened facts line.is_new line.cache store session
 
--- the store of a session is closed, and so are the target and the old store of an accepted save-as, where they are there
+-- the store of a session is closed, and so are the target and the old store of an accepted save-as, where they are
+-- there
 pub record Closes {F S : Type 0} (calls : Opener F S) (all : Holding S) (old new : F) : Type 0 where
   pub first : F
   pub second : F
@@ -128,34 +142,46 @@ IsFileFault line _ = ⊥
 
 -- FILE was opened as a store, and the script isn't answered
 abbrev pub IsGivenUp : {F S : Type 0} → Opener F S → (S → StoreFacts) → CommandLine → S → F → F → Outcome → Type 0
-IsGivenUp calls facts line store opened new (outcomes.Create fault) = (line.is_new ≡ true) × CreateFails calls facts line.target fault store opened new
-IsGivenUp calls facts line store opened new (outcomes.Open fault) = (line.is_new ≡ false) × OpenFails calls facts fault store opened new
+IsGivenUp calls facts line store opened new (outcomes.Create fault) =
+    (line.is_new ≡ true) × CreateFails calls facts line.target fault store opened new
+IsGivenUp calls facts line store opened new (outcomes.Open fault) =
+    (line.is_new ≡ false) × OpenFails calls facts fault store opened new
 IsGivenUp calls facts line store opened new outcomes.Target = TargetIsShut calls facts line store opened new
 IsGivenUp calls facts line store opened new _ = ⊥
 
 -- the script isn't answered
 abbrev pub IsNotBegun : {F S : Type 0} → Opener F S → (S → StoreFacts) → CommandLine → F → F → Outcome → Type 0
 IsNotBegun calls facts line old new outcome =
-    (FileFails calls line old new × IsFileFault line outcome) ⊎ FromFile calls line old (λ store opened. IsGivenUp calls facts line store opened new outcome)
+    (FileFails calls line old new × IsFileFault line outcome)
+    ⊎ FromFile calls line old (λ store opened. IsGivenUp calls facts line store opened new outcome)
 
 -- the script is answered: well, or until the run ended by a fault, which is the one that is told
-abbrev pub IsScriptAnswered : {F S : Type 0} → Opener F S → (S → StoreFacts) → Manner → Holding S → F → F → Option (List ℕ) → Option (List ℕ) → Option (List ℕ) → Option (List ℕ) → Outcome → Type 0
-IsScriptAnswered calls facts manner first old new from to before after outcomes.Done = RunsOn calls (λ left. AreExact facts first → AnswersAll facts manner first from to before after left) old new
-IsScriptAnswered calls facts manner first old new from to before after (outcomes.Run fault) = RunsOn calls (λ left. AreExact facts first → EndsBy fault facts manner first from to before after left) old new
+abbrev pub IsScriptAnswered : {F S : Type 0} → Opener F S → (S → StoreFacts) → Manner → Holding S → F → F
+    → Option (List ℕ) → Option (List ℕ) → Option (List ℕ) → Option (List ℕ) → Outcome → Type 0
+IsScriptAnswered calls facts manner first old new from to before after outcomes.Done =
+    RunsOn calls (λ left. AreExact facts first → AnswersAll facts manner first from to before after left) old new
+IsScriptAnswered calls facts manner first old new from to before after (outcomes.Run fault) =
+    RunsOn calls (λ left. AreExact facts first → EndsBy fault facts manner first from to before after left) old new
 IsScriptAnswered calls facts manner first old new from to before after _ = ⊥
 
 -- a session was begun on FILE, and the script is answered
-pub record ServesFiles {F S : Type 0} (calls : Opener F S) (facts : S → StoreFacts) (line : CommandLine) (old new : F) (from to before after : Option (List ℕ)) (outcome : Outcome) : Type 0 where
+pub record ServesFiles {F S : Type 0} (calls : Opener F S) (facts : S → StoreFacts) (line : CommandLine) (old new : F)
+    (from to before after : Option (List ℕ)) (outcome : Outcome) : Type 0 where
   pub begun : F
   pub session : SessionState S
   pub target : Option S
-  pub begins : FromFile calls line old (λ store opened. BeginsSession calls facts line store opened session target begun)
-  pub answers : IsScriptAnswered calls facts line.manner (holding session target None) begun new from to before after outcome
+  pub begins : FromFile calls line old
+      (λ store opened. BeginsSession calls facts line store opened session target begun)
+  pub answers : IsScriptAnswered calls facts line.manner
+      (holding session target None) begun new from to before after outcome
 
--- Words that are no usable command line end in what says so, or in lack of memory, and no file is opened. Of a usable one the files
--- are opened and the script is answered, or, where that can't begin, nothing of it is read and no reply is written.
-abbrev pub ComesTo : {F S : Type 0} → Opener F S → (S → StoreFacts) → List Text → F → F → Option (List ℕ) → Option (List ℕ) → Option (List ℕ) → Option (List ℕ) → Outcome → Type 0
+-- Words that are no usable command line end in what says so, or in lack of memory, and no file is opened. Of a usable
+-- one the files are opened and the script is answered, or, where that can't begin, nothing of it is read and no reply
+-- is written.
+abbrev pub ComesTo : {F S : Type 0} → Opener F S → (S → StoreFacts) → List Text → F → F → Option (List ℕ)
+    → Option (List ℕ) → Option (List ℕ) → Option (List ℕ) → Outcome → Type 0
 ComesTo calls facts words old new from to before after outcome =
     (RefusesWords words outcome × (new ≡ old) × (to ≡ from) × (after ≡ before))
     ⊎ ((line : CommandLine) × (command_line words ≡ Some line) × IsUsable line
-    × ((IsNotBegun calls facts line old new outcome × (to ≡ from) × (after ≡ before)) ⊎ ServesFiles calls facts line old new from to before after outcome))
+    × ((IsNotBegun calls facts line old new outcome × (to ≡ from) × (after ≡ before))
+    ⊎ ServesFiles calls facts line old new from to before after outcome))

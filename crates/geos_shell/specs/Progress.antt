@@ -14,14 +14,20 @@ use Rattle.geos_shell.specs.declared.runner.Manner.{Manner}
 -- ---- one line
 
 -- The line is answered, and what is written of it was put behind what was there.
-abbrev pub IsAnswered : {S : Type 0} → (S → StoreFacts) → Manner → Holding S → List ℕ → Holding S → List ℕ → List ℕ → Type 0
-IsAnswered facts manner old line new before after = (written : List ℕ) × AnswersLines facts manner old (line ∷ []) written new × (after ≡ before ++ written)
+abbrev pub IsAnswered : {S : Type 0} → (S → StoreFacts) → Manner → Holding S → List ℕ → Holding S → List ℕ → List ℕ
+    → Type 0
+IsAnswered facts manner old line new before after =
+    (written : List ℕ) × AnswersLines facts manner old (line ∷ []) written new × (after ≡ before ++ written)
 
--- The run stopped in the line: there was no memory for it, or it is refused, which only a run doesn't outlast that bails.
-abbrev pub IsStopped : {S : Type 0} → RunFault → (S → StoreFacts) → Manner → Holding S → List ℕ → Holding S → List ℕ → List ℕ → Type 0
-IsStopped faults.Memory facts manner old line new before after = MayServe facts old (command line) new × (after ≡ before)
+-- The run stopped in the line: there was no memory for it, or it is refused, which only a run doesn't outlast that
+-- bails.
+abbrev pub IsStopped : {S : Type 0} → RunFault → (S → StoreFacts) → Manner → Holding S → List ℕ → Holding S → List ℕ
+    → List ℕ → Type 0
+IsStopped faults.Memory facts manner old line new before after =
+    MayServe facts old (command line) new × (after ≡ before)
 IsStopped faults.Refused facts manner old line new before after =
-    IsTrue manner.bails × ((written : List ℕ) × RefusesRequest facts manner old line written new × (after ≡ before ++ written))
+    IsTrue manner.bails
+    × ((written : List ℕ) × RefusesRequest facts manner old line written new × (after ≡ before ++ written))
 IsStopped fault facts manner old line new before after = ⊥
 
 -- ---- lines that come in parts
@@ -34,9 +40,10 @@ HasNoFeed (x ∷ xs) = (x == line_feed ≡ false) × HasNoFeed xs
 abbrev pub StandsFor : List ℕ → List ℕ → Type 0
 StandsFor begun kept = take longest_kept kept ≡ take longest_kept begun
 
--- Of what was read since start, the finished lines are answered, by which this is written, and what is kept stands for the line
--- that has begun.
-pub record Progress {S : Type 0} (facts : S → StoreFacts) (manner : Manner) (start : Holding S) (read written : List ℕ) (now : Holding S) (kept : List ℕ) : Type 0 where
+-- Of what was read since start, the finished lines are answered, by which this is written, and what is kept stands for
+-- the line that has begun.
+pub record Progress {S : Type 0} (facts : S → StoreFacts) (manner : Manner) (start : Holding S) (read written : List ℕ)
+    (now : Holding S) (kept : List ℕ) : Type 0 where
   pub answered : List (List ℕ)
   pub begun : List ℕ
   pub in_lines : (more : List ℕ) → lines (read ++ more) ≡ answered ++ lines (begun ++ more)
@@ -55,12 +62,14 @@ moment holding kept = record { holding = holding; kept = kept }
 
 -- the same, after replies that were sent before
 abbrev pub ProgressOf : {S : Type 0} → (S → StoreFacts) → Manner → Holding S → List ℕ → List ℕ → Moment S → Type 0
-ProgressOf facts manner start read sent now = Progress facts manner start read (sent ++ now.kept.replies.items) now.holding now.kept.begun.items
+ProgressOf facts manner start read sent now =
+    Progress facts manner start read (sent ++ now.kept.replies.items) now.holding now.kept.begun.items
 
 -- From one moment the run comes to another by these bytes.
 abbrev pub GoesOver : {S : Type 0} → (S → StoreFacts) → Manner → Moment S → List ℕ → Moment S → Type 0
 GoesOver {S} facts manner old bytes new =
-    (start : Holding S) (read sent : List ℕ) → ProgressOf facts manner start read sent old → ProgressOf facts manner start (read ++ bytes) sent new
+    (start : Holding S) (read sent : List ℕ) → ProgressOf facts manner start read sent old
+    → ProgressOf facts manner start (read ++ bytes) sent new
 
 -- In these bytes the run stopped, and what it wrote is right so far.
 abbrev pub StopsIn : {S : Type 0} → RunFault → (S → StoreFacts) → Manner → Moment S → List ℕ → Moment S → Type 0
@@ -81,31 +90,40 @@ StopsAtEnd {S} fault facts manner old new =
     → (0 < length read) × StopsBy fault facts manner start read (sent ++ new.kept.replies.items) new.holding
 
 -- The run goes over these bytes, and then writes its replies.
-pub record AnswersPiece {S : Type 0} (facts : S → StoreFacts) (manner : Manner) (old : Moment S) (bytes : List ℕ) (new : Moment S) (before after : Option (List ℕ)) : Type 0 where
+pub record AnswersPiece {S : Type 0} (facts : S → StoreFacts) (manner : Manner) (old : Moment S) (bytes : List ℕ)
+    (new : Moment S) (before after : Option (List ℕ)) : Type 0 where
   pub written : List ℕ
   pub appended : Appends before after written
   pub none_left : new.kept.replies.items ≡ []
-  pub goes : (start : Holding S) (read sent : List ℕ) → ProgressOf facts manner start read sent old → ProgressOf facts manner start (read ++ bytes) (sent ++ written) new
+  pub goes : (start : Holding S) (read sent : List ℕ) → ProgressOf facts manner start read sent old
+      → ProgressOf facts manner start (read ++ bytes) (sent ++ written) new
 
 -- The run stopped in these bytes, and wrote its replies.
-pub record StopsPiece {S : Type 0} (fault : RunFault) (facts : S → StoreFacts) (manner : Manner) (old : Moment S) (bytes : List ℕ) (new : Holding S) (before after : Option (List ℕ)) : Type 0 where
+pub record StopsPiece {S : Type 0} (fault : RunFault) (facts : S → StoreFacts) (manner : Manner) (old : Moment S)
+    (bytes : List ℕ) (new : Holding S) (before after : Option (List ℕ)) : Type 0 where
   pub written : List ℕ
   pub appended : Appends before after written
-  pub stops : (start : Holding S) (read sent : List ℕ) → ProgressOf facts manner start read sent old → StopsBy fault facts manner start (read ++ bytes) (sent ++ written) new
+  pub stops : (start : Holding S) (read sent : List ℕ) → ProgressOf facts manner start read sent old
+      → StopsBy fault facts manner start (read ++ bytes) (sent ++ written) new
 
 -- The run answered the last line too, and wrote its replies.
-pub record AnswersRest {S : Type 0} (facts : S → StoreFacts) (manner : Manner) (old : Moment S) (new : Holding S) (before after : Option (List ℕ)) : Type 0 where
+pub record AnswersRest {S : Type 0} (facts : S → StoreFacts) (manner : Manner) (old : Moment S) (new : Holding S)
+    (before after : Option (List ℕ)) : Type 0 where
   pub written : List ℕ
   pub appended : Appends before after written
-  pub answered : (start : Holding S) (read sent : List ℕ) → ProgressOf facts manner start read sent old → AnswersLines facts manner start (lines read) (sent ++ written) new
+  pub answered : (start : Holding S) (read sent : List ℕ) → ProgressOf facts manner start read sent old
+      → AnswersLines facts manner start (lines read) (sent ++ written) new
 
 -- The run stopped at the last line, which no line feed ends, and wrote the replies to those before.
-pub record StopsRest {S : Type 0} (fault : RunFault) (facts : S → StoreFacts) (manner : Manner) (old : Moment S) (new : Holding S) (before after : Option (List ℕ)) : Type 0 where
+pub record StopsRest {S : Type 0} (fault : RunFault) (facts : S → StoreFacts) (manner : Manner) (old : Moment S)
+    (new : Holding S) (before after : Option (List ℕ)) : Type 0 where
   pub written : List ℕ
   pub appended : Appends before after written
-  pub stops : (start : Holding S) (read sent : List ℕ) → ProgressOf facts manner start read sent old → (0 < length read) × StopsBy fault facts manner start read (sent ++ written) new
+  pub stops : (start : Holding S) (read sent : List ℕ) → ProgressOf facts manner start read sent old
+      → (0 < length read) × StopsBy fault facts manner start read (sent ++ written) new
 
 -- The writer failed behind these bytes or in a line of them.
 abbrev pub Unsent : {S : Type 0} → (S → StoreFacts) → Manner → Moment S → List ℕ → Holding S → Type 0
 Unsent {S} facts manner old bytes new =
-    (start : Holding S) (read sent : List ℕ) → ProgressOf facts manner start read sent old → (replies : List ℕ) × StoppedWith facts manner start (lines (read ++ bytes)) replies new
+    (start : Holding S) (read sent : List ℕ) → ProgressOf facts manner start read sent old
+    → (replies : List ℕ) × StoppedWith facts manner start (lines (read ++ bytes)) replies new

@@ -31,7 +31,8 @@ command_has_bytes _ = false
 
 -- why reading fails: BadCommand where nothing is meant, or Memory where what is meant has bytes
 abbrev pub FailsToRead : {A : Type 0} → (A → Bool) → Option A → Fault → Type 0
-FailsToRead has meant fault = ((fault ≡ faults.BadCommand) × (meant ≡ None)) ⊎ ((fault ≡ faults.Memory) × IsSomeAnd meant (λ x. IsTrue (has x)))
+FailsToRead has meant fault =
+    ((fault ≡ faults.BadCommand) × (meant ≡ None)) ⊎ ((fault ≡ faults.Memory) × IsSomeAnd meant (λ x. IsTrue (has x)))
 
 -- what reading answers: what is meant, or why it fails
 abbrev pub ReadsAs : {A : Type 0} → (A → Bool) → Option A → Result A Fault → Type 0

@@ -58,25 +58,30 @@ asks_no_body commands.Undos = true
 asks_no_body commands.Redos = true
 asks_no_body _ = false
 
--- The machine answers a command so, and nothing is committed. Where there was memory for the reply's text, that was put behind what was
--- there.
-pub record Told {S T E : Type 0} (result : Result T E) (facts : S → StoreFacts) (old : SessionState S) (command : Command) (new : SessionState S) (before after : List ℕ) : Type 0 where
+-- The machine answers a command so, and nothing is committed. Where there was memory for the reply's text, that was put
+-- behind what was there.
+pub record Told {S T E : Type 0} (result : Result T E) (facts : S → StoreFacts) (old : SessionState S)
+    (command : Command) (new : SessionState S) (before after : List ℕ) : Type 0 where
   pub reply : Reply
   pub step : IsStep facts old new command reply
   pub passes : KeepsCommitted facts old.disk new.disk
   pub text : OnOk result (after ≡ before ++ reply_text reply)
 
 -- The command is served, and its reply's text was put behind what was there.
-pub record Tells {S : Type 0} (facts : S → StoreFacts) (old : Holding S) (command : Command) (new : Holding S) (before after : List ℕ) : Type 0 where
+pub record Tells {S : Type 0} (facts : S → StoreFacts) (old : Holding S) (command : Command) (new : Holding S)
+    (before after : List ℕ) : Type 0 where
   pub reply : Reply
   pub serves : ServesRequest facts old (Some command) reply new
   pub text : after ≡ before ++ reply_text reply
 
 -- A command is served, and where there was memory for its reply's text, that was put behind what was there.
-abbrev pub Replied : {S T E : Type 0} → Result T E → (S → StoreFacts) → Holding S → Command → Holding S → List ℕ → List ℕ → Type 0
-Replied result facts old command new before after = MatchResult result (λ _. Tells facts old command new before after) (λ _. MayServe facts old (Some command) new)
+abbrev pub Replied : {S T E : Type 0} → Result T E → (S → StoreFacts) → Holding S → Command → Holding S → List ℕ
+    → List ℕ → Type 0
+Replied result facts old command new before after =
+    MatchResult result (λ _. Tells facts old command new before after) (λ _. MayServe facts old (Some command) new)
 
 -- The request is served, and its reply line was put behind what was there; a blank line does nothing, and gets none.
 abbrev pub Responds : {S : Type 0} → (S → StoreFacts) → Holding S → Request → Holding S → List ℕ → List ℕ → Type 0
 Responds facts old (Some commands.Blank) new before after = (new ≡ old) × (after ≡ before)
-Responds facts old request new before after = (reply : Reply) × ServesRequest facts old request reply new × (after ≡ before ++ reply_line reply)
+Responds facts old request new before after =
+    (reply : Reply) × ServesRequest facts old request reply new × (after ≡ before ++ reply_line reply)

@@ -1,4 +1,5 @@
--- What a run reads and writes, and what it makes of what its caller holds. Where a reader or a writer tells its bytes, it is they.
+-- What a run reads and writes, and what it makes of what its caller holds. Where a reader or a writer tells its bytes,
+-- it is they.
 use Rattle.std.specs.Prelude.{◌≡◌, ◌⊎◌, ℕ, ◌+◌, ◌<◌, ◌≤◌, ◌++◌, ◌&&◌, false, min, map, IsTrue, List, [], ◌∷◌, length, Option, None, Result, MatchResult}
 use Rattle.std.specs.List.{list_any}
 use Rattle.std.specs.Io.KnownBytes.{Appends, Consumes, IsAtEnd}
@@ -13,24 +14,29 @@ use Rattle.geos_shell.specs.declared.runner.Manner.{Manner}
 use Rattle.geos_shell.specs.declared.runner.RunFault.{RunFault}
 use Rattle.geos_shell.specs.declared.runner.RunFault.TheVariants as faults
 
--- Where there is no target to begin with there never is one, and the store failed in no more calls than its count of failures
--- rose by, up to the count's last value.
+-- Where there is no target to begin with there never is one, and the store failed in no more calls than its count of
+-- failures rose by, up to the count's last value.
 abbrev pub CountsFailures : {S : Type 0} → (S → StoreFacts) → Holding S → ℕ → Holding S → Type 0
 CountsFailures facts old failed new =
-    old.target ≡ None → (new.target ≡ None) × (min ((facts old.session.disk.store).failures + failed) last_count ≤ (facts new.session.disk.store).failures)
+    old.target ≡ None
+    → (new.target ≡ None)
+    × (min ((facts old.session.disk.store).failures + failed) last_count ≤ (facts new.session.disk.store).failures)
 
 -- Where no call failed, the pairs of a failed commit that may be read are those from before, or there is none any more.
 abbrev pub AddsNoPair : {S : Type 0} → Holding S → ℕ → Holding S → Type 0
-AddsNoPair old failed new = failed ≡ 0 → (new.session.disk.in_doubt ≡ old.session.disk.in_doubt) ⊎ (new.session.disk.in_doubt ≡ [])
+AddsNoPair old failed new =
+    failed ≡ 0 → (new.session.disk.in_doubt ≡ old.session.disk.in_doubt) ⊎ (new.session.disk.in_doubt ≡ [])
 
 -- What is known of the stores after calls of which so many failed.
-pub record AfterFailures {S : Type 0} (facts : S → StoreFacts) (old : Holding S) (failed : ℕ) (new : Holding S) : Type 0 where
+pub record AfterFailures {S : Type 0} (facts : S → StoreFacts) (old : Holding S) (failed : ℕ) (new : Holding S)
+    : Type 0 where
   pub counted : CountsFailures facts old failed new
   pub adds : AddsNoPair old failed new
 
--- From one holding to another the requests are answered so: together a run of the machine, and call by call served. What the calls
--- show together of the stores is said beside.
-pub record AnswersOf {S : Type 0} (facts : S → StoreFacts) (old : Holding S) (asked : List Request) (written : List ℕ) (new : Holding S) : Type 0 where
+-- From one holding to another the requests are answered so: together a run of the machine, and call by call served.
+-- What the calls show together of the stores is said beside.
+pub record AnswersOf {S : Type 0} (facts : S → StoreFacts) (old : Holding S) (asked : List Request) (written : List ℕ)
+    (new : Holding S) : Type 0 where
   pub exact : AreExact facts new
   pub failed : ℕ
   pub answered : Answered (machine old) asked written failed (machine new)
@@ -38,19 +44,22 @@ pub record AnswersOf {S : Type 0} (facts : S → StoreFacts) (old : Holding S) (
   pub stores : AfterFailures facts old failed new
 
 -- the replies, in order
-abbrev pub replies_of : {S : Type 0} {facts : S → StoreFacts} {old : Holding S} {asked : List Request} {text : List ℕ} {new : Holding S} → AnswersOf facts old asked text new → List Reply
+abbrev pub replies_of : {S : Type 0} {facts : S → StoreFacts} {old : Holding S} {asked : List Request}
+    {text : List ℕ} {new : Holding S} → AnswersOf facts old asked text new → List Reply
 replies_of a = map (λ c. c.reply) a.answered.calls
 
--- These lines are answered so in this manner: what is written is the replies, or the lines with their replies, and a run that bails
--- went on behind no refusal.
-pub record AnswersLines {S : Type 0} (facts : S → StoreFacts) (manner : Manner) (old : Holding S) (asked : List (List ℕ)) (written : List ℕ) (new : Holding S) : Type 0 where
+-- These lines are answered so in this manner: what is written is the replies, or the lines with their replies, and a
+-- run that bails went on behind no refusal.
+pub record AnswersLines {S : Type 0} (facts : S → StoreFacts) (manner : Manner) (old : Holding S)
+    (asked : List (List ℕ)) (written : List ℕ) (new : Holding S) : Type 0 where
   pub replies : List ℕ
   pub answers : AnswersOf facts old (requests asked) replies new
   pub text : written ≡ written_of manner.echoes asked (replies_of answers)
   pub goes_on : (manner.bails && list_any is_refusal (replies_of answers)) ≡ false
 
 -- A script was read to its end, each line of it is answered, and nothing else is written.
-pub record AnswersAll {S : Type 0} (facts : S → StoreFacts) (manner : Manner) (old : Holding S) (from to before after : Option (List ℕ)) (new : Holding S) : Type 0 where
+pub record AnswersAll {S : Type 0} (facts : S → StoreFacts) (manner : Manner) (old : Holding S)
+    (from to before after : Option (List ℕ)) (new : Holding S) : Type 0 where
   pub script : List ℕ
   pub consumed : Consumes from to script
   pub ended : IsAtEnd to
@@ -59,7 +68,8 @@ pub record AnswersAll {S : Type 0} (facts : S → StoreFacts) (manner : Manner) 
   pub appended : Appends before after written
 
 -- Each line of what was read that a line feed ends is answered, and nothing else is written.
-pub record AnswersFinished {S : Type 0} (facts : S → StoreFacts) (manner : Manner) (old : Holding S) (from to before after : Option (List ℕ)) (new : Holding S) : Type 0 where
+pub record AnswersFinished {S : Type 0} (facts : S → StoreFacts) (manner : Manner) (old : Holding S)
+    (from to before after : Option (List ℕ)) (new : Holding S) : Type 0 where
   pub read : List ℕ
   pub consumed : Consumes from to read
   pub written : List ℕ
@@ -76,7 +86,8 @@ MayServeNext facts old [] new = new ≡ old
 MayServeNext facts old (line ∷ lines) new = MayServe facts old (command line) new
 
 -- The first ones of the lines are answered, and of the others at most the next is served, of which nothing is written.
-pub record StoppedWith {S : Type 0} (facts : S → StoreFacts) (manner : Manner) (old : Holding S) (lines : List (List ℕ)) (written : List ℕ) (new : Holding S) : Type 0 where
+pub record StoppedWith {S : Type 0} (facts : S → StoreFacts) (manner : Manner) (old : Holding S)
+    (lines : List (List ℕ)) (written : List ℕ) (new : Holding S) : Type 0 where
   pub answered : List (List ℕ)
   pub others : List (List ℕ)
   pub parts : lines ≡ answered ++ others
@@ -85,14 +96,16 @@ pub record StoppedWith {S : Type 0} (facts : S → StoreFacts) (manner : Manner)
   pub next : MayServeNext facts mid others new
 
 -- The line is refused, and what is written of it is its reply, behind the line itself where lines are echoed.
-pub record RefusesRequest {S : Type 0} (facts : S → StoreFacts) (manner : Manner) (old : Holding S) (line : List ℕ) (written : List ℕ) (new : Holding S) : Type 0 where
+pub record RefusesRequest {S : Type 0} (facts : S → StoreFacts) (manner : Manner) (old : Holding S) (line : List ℕ)
+    (written : List ℕ) (new : Holding S) : Type 0 where
   pub fault : Fault
   pub serves : ServesRequest facts old (command line) (Refused fault) new
   pub text : written ≡ lead manner.echoes line ++ reply_line (Refused fault)
 
--- The first ones of the lines are answered, none of them by a refusal, and the next is refused, whose reply is written too. Those
--- behind it are not looked at.
-pub record StoppedByRefusal {S : Type 0} (facts : S → StoreFacts) (manner : Manner) (old : Holding S) (lines : List (List ℕ)) (written : List ℕ) (new : Holding S) : Type 0 where
+-- The first ones of the lines are answered, none of them by a refusal, and the next is refused, whose reply is written
+-- too. Those behind it are not looked at.
+pub record StoppedByRefusal {S : Type 0} (facts : S → StoreFacts) (manner : Manner) (old : Holding S)
+    (lines : List (List ℕ)) (written : List ℕ) (new : Holding S) : Type 0 where
   pub answered : List (List ℕ)
   pub line : List ℕ
   pub others : List (List ℕ)
@@ -104,15 +117,20 @@ pub record StoppedByRefusal {S : Type 0} (facts : S → StoreFacts) (manner : Ma
   pub refuses : RefusesRequest facts manner mid line last new
   pub text : written ≡ before ++ last
 
--- What was done where the run stopped in a line of what was read: for lack of memory all before was answered, of lines that a line
--- feed ends; by a refusal, which only a run does that bails, this line too.
-abbrev pub StopsBy : {S : Type 0} → RunFault → (S → StoreFacts) → Manner → Holding S → List ℕ → List ℕ → Holding S → Type 0
-StopsBy faults.Memory facts manner old read written new = (stopped : StoppedWith facts manner old (lines read) written new) × AreFirst stopped.answered (finished_lines read)
-StopsBy faults.Refused facts manner old read written new = IsTrue manner.bails × StoppedByRefusal facts manner old (lines read) written new
+-- What was done where the run stopped in a line of what was read: for lack of memory all before was answered, of lines
+-- that a line feed ends; by a refusal, which only a run does that bails, this line too.
+abbrev pub StopsBy : {S : Type 0} → RunFault → (S → StoreFacts) → Manner → Holding S → List ℕ → List ℕ → Holding S
+    → Type 0
+StopsBy faults.Memory facts manner old read written new =
+    (stopped : StoppedWith facts manner old (lines read) written new) × AreFirst stopped.answered (finished_lines read)
+StopsBy faults.Refused facts manner old read written new =
+    IsTrue manner.bails × StoppedByRefusal facts manner old (lines read) written new
 StopsBy fault facts manner old read written new = ⊥
 
--- Something was read, and the run stopped in a line of it. What is said to be written then is written, and nothing else.
-pub record AnswersSome {S : Type 0} (fault : RunFault) (facts : S → StoreFacts) (manner : Manner) (old : Holding S) (from to before after : Option (List ℕ)) (new : Holding S) : Type 0 where
+-- Something was read, and the run stopped in a line of it. What is said to be written then is written, and nothing
+-- else.
+pub record AnswersSome {S : Type 0} (fault : RunFault) (facts : S → StoreFacts) (manner : Manner) (old : Holding S)
+    (from to before after : Option (List ℕ)) (new : Holding S) : Type 0 where
   pub read : List ℕ
   pub some : 0 < length read
   pub consumed : Consumes from to read
@@ -121,20 +139,23 @@ pub record AnswersSome {S : Type 0} (fault : RunFault) (facts : S → StoreFacts
   pub appended : Appends before after written
 
 -- The run stopped in a line of what was read or behind all, and how much is written isn't said.
-pub record AnswersUnsent {S : Type 0} (facts : S → StoreFacts) (manner : Manner) (old : Holding S) (from to : Option (List ℕ)) (new : Holding S) : Type 0 where
+pub record AnswersUnsent {S : Type 0} (facts : S → StoreFacts) (manner : Manner) (old : Holding S)
+    (from to : Option (List ℕ)) (new : Holding S) : Type 0 where
   pub read : List ℕ
   pub consumed : Consumes from to read
   pub replies : List ℕ
   pub stopped : StoppedWith facts manner old (lines read) replies new
 
 -- what a run has done that ends by this fault
-abbrev pub EndsBy : {S : Type 0} → RunFault → (S → StoreFacts) → Manner → Holding S → Option (List ℕ) → Option (List ℕ) → Option (List ℕ) → Option (List ℕ) → Holding S → Type 0
+abbrev pub EndsBy : {S : Type 0} → RunFault → (S → StoreFacts) → Manner → Holding S → Option (List ℕ) → Option (List ℕ)
+    → Option (List ℕ) → Option (List ℕ) → Holding S → Type 0
 EndsBy faults.Read facts manner old from to before after new = AnswersFinished facts manner old from to before after new
 EndsBy faults.Write facts manner old from to before after new = AnswersUnsent facts manner old from to new
 EndsBy fault facts manner old from to before after new = AnswersSome fault facts manner old from to before after new
 
 -- what a run has done that ends with this result
-abbrev pub RunsTo : {S : Type 0} → Result (Unit {0}) RunFault → (S → StoreFacts) → Manner → Holding S → Option (List ℕ) → Option (List ℕ) → Option (List ℕ) → Option (List ℕ) → Holding S → Type 0
+abbrev pub RunsTo : {S : Type 0} → Result (Unit {0}) RunFault → (S → StoreFacts) → Manner → Holding S → Option (List ℕ)
+    → Option (List ℕ) → Option (List ℕ) → Option (List ℕ) → Holding S → Type 0
 RunsTo result facts manner old from to before after new =
     MatchResult result (λ _. AreExact facts old → AnswersAll facts manner old from to before after new)
     (λ fault. AreExact facts old → EndsBy fault facts manner old from to before after new)

@@ -41,8 +41,8 @@ impl Answering {
             (GoesOver S.facts manner (moment (holding session.old target.old former.old) self.old) piece.now
             (moment (holding session.new target.new former.new) self.new)) }
         ensures err { IfErr result
-            (λ fault. StopsIn fault S.facts manner (moment (holding session.old target.old former.old) self.old) piece.now
-            (moment (holding session.new target.new former.new) self.new)) }
+            (λ fault. StopsIn fault S.facts manner (moment (holding session.old target.old former.old) self.old)
+            piece.now (moment (holding session.new target.new former.new) self.new)) }
     {
         let mut rest = piece;
         while let Some(end) = rest.find_byte(b'\n') {
@@ -146,7 +146,8 @@ fn push_lines<S: Store>(
         → Responds S.facts (holding session.old target.old former.old) (command line.now)
         (holding session.new target.new former.new) (out.old.items ++ lead echoes line.now) out.new.items) }
     ensures refused { IfOk result
-        (λ is_refused. is_refused ≡ begins_with_no (drop (length (out.old.items ++ lead echoes line.now)) out.new.items)) }
+        (λ is_refused. is_refused
+        ≡ begins_with_no (drop (length (out.old.items ++ lead echoes line.now)) out.new.items)) }
     ensures may { OnErr result (AreExact S.facts (holding session.old target.old former.old)
         → MayServe S.facts (holding session.old target.old former.old) (command line.now)
         (holding session.new target.new former.new)) }

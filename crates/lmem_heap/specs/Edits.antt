@@ -27,14 +27,16 @@ pub record IsZeroed (xs ys : List ℕ) (p n : ℕ) : Type 0 where
   pub before : (k : ℕ) → k < p → get_or ys k 0 ≡ get_or xs k 0
   pub behind : (k : ℕ) → p + n ≤ k → get_or ys k 0 ≡ get_or xs k 0
 
--- the chunks of the pieces lie one after another from `low` on, with the entries that they have from `target` on; other entries are the same
+-- the chunks of the pieces lie one after another from `low` on, with the entries that they have from `target` on; other
+-- entries are the same
 pub record IsPacked (xs ys : List ℕ) (low target : ℕ) (cs : List Piece) : Type 0 where
   pub long : length ys ≡ 65520
   pub lies : Lies size_head ys low (used cs) (low + spaces (used cs))
   pub points : Points (place_to low target) ys low (used cs)
   pub others : (j : ℕ) → IsFresh j (used cs) → 18 + 2 * j ≤ low → entry ys j ≡ entry xs j
 
--- the pieces lie from `low` to the end with their slots' handles, and the table has the sizes; their chunks have room from `target` on
+-- the pieces lie from `low` to the end with their slots' handles, and the table has the sizes; their chunks have room
+-- from `target` on
 pub record IsReadyToPack (xs : List ℕ) (low target : ℕ) (cs : List Piece) : Type 0 where
   pub long : length xs ≡ 65520
   pub lies : Lies handle_head xs low cs 65520
@@ -43,7 +45,8 @@ pub record IsReadyToPack (xs : List ℕ) (low target : ℕ) (cs : List Piece) : 
   pub distinct : ArePiecesDistinct (used cs)
   pub room : target + spaces (used cs) ≤ 65520
 
--- the chunks that lie first, up to `end`, have their sizes back, and the entries that they have from `target` on; the pieces behind them wait
+-- the chunks that lie first, up to `end`, have their sizes back, and the entries that they have from `target` on; the
+-- pieces behind them wait
 pub record IsRunPacked (xs ys : List ℕ) (start target : ℕ) (cs : List Piece) (end : ℕ) : Type 0 where
   pub run : List Piece
   pub rest : List Piece

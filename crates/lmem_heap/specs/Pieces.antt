@@ -1,4 +1,5 @@
--- What a heap's region holds: behind a header of 16 bytes a word for each slot, its entry, and from the mark `low` to the end the pieces, one after another.
+-- What a heap's region holds: behind a header of 16 bytes a word for each slot, its entry, and from the mark `low` to
+-- the end the pieces, one after another.
 use Rattle.std.specs.Prelude.{◌≡◌, ◌≢◌, ℕ, ◌+◌, ◌-◌, ◌*◌, ◌/◌, ◌<◌, ◌≤◌, List, [], ◌∷◌, length, get_or}
 
 -- the word at a place, its low byte first
@@ -26,7 +27,8 @@ abbrev pub content : Piece → List ℕ
 content (Used i bytes) = bytes
 content (Free s) = []
 
--- the word that a piece begins with: of a chunk its size, or while the heap is packed its handle; of free space the space, made odd
+-- the word that a piece begins with: of a chunk its size, or while the heap is packed its handle; of free space the
+-- space, made odd
 abbrev pub size_head : Piece → ℕ
 size_head (Used i bytes) = length bytes
 size_head (Free s) = s + 1
@@ -48,7 +50,8 @@ Lies head_of xs p (c ∷ cs) q = IsPieceAt head_of xs p c × Lies head_of xs (p 
 -- the entries of the pieces' slots are as `entry_of` says, of the place, the slot and the chunk
 abbrev pub Points : (ℕ → ℕ → List ℕ → ℕ) → List ℕ → ℕ → List Piece → Type 0
 Points entry_of xs p [] = Unit {0}
-Points entry_of xs p (Used i bytes ∷ cs) = (entry xs i ≡ entry_of p i bytes) × Points entry_of xs (p + piece_space (length bytes)) cs
+Points entry_of xs p (Used i bytes ∷ cs) =
+    (entry xs i ≡ entry_of p i bytes) × Points entry_of xs (p + piece_space (length bytes)) cs
 Points entry_of xs p (Free s ∷ cs) = Points entry_of xs (p + s) cs
 
 -- a chunk has bytes, and its entry lies below the mark; a free space is of whole double words
@@ -89,7 +92,8 @@ abbrev pub spaces : List Piece → ℕ
 spaces [] = 0
 spaces (c ∷ cs) = space c + spaces cs
 
--- entries: where the piece lies; where it is to lie, if what lies at `from` goes to `target`; while the heap is packed the size
+-- entries: where the piece lies; where it is to lie, if what lies at `from` goes to `target`; while the heap is packed
+-- the size
 abbrev pub place_of : ℕ → ℕ → List ℕ → ℕ
 place_of p i bytes = p
 

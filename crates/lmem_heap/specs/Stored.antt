@@ -45,4 +45,6 @@ AreBehind m = (i : ℕ) → IfSome (get_or m.offsets i None) (λ at. 18 + 2 * le
 
 -- the region has each chunk's bytes where they lie
 abbrev pub StoredHoldsChunks : List ℕ → Stored → Type 0
-StoredHoldsChunks xs m = (i : ℕ) → IfSome (get_or m.offsets i None) (λ at. let bytes = unwrap_or (get_or m.chunks i None) [] in slice_range xs at (at + length bytes) ≡ bytes)
+StoredHoldsChunks xs m =
+    (i : ℕ) → IfSome (get_or m.offsets i None)
+    (λ at. let bytes = unwrap_or (get_or m.chunks i None) [] in slice_range xs at (at + length bytes) ≡ bytes)

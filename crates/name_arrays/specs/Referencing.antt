@@ -10,4 +10,5 @@ abbrev pub name_bytes_with_reference : NameArray → List ℕ → Bool → ℕ �
 name_bytes_with_reference a part replace t = name_bytes (record a { names = name_with_reference a part replace t })
 
 abbrev pub name_reference_conditions : NameArray → List ℕ → ℕ → Conditions
-name_reference_conditions a part t = (CountFull, is_count_full a.names (Some t)) ∷ (Range, not (length part == a.part)) ∷ []
+name_reference_conditions a part t =
+    (CountFull, is_count_full a.names (Some t)) ∷ (Range, not (length part == a.part)) ∷ []

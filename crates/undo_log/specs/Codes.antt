@@ -11,13 +11,19 @@ use Rattle.undo_log.specs.contracts.entry.LogEntry as entry_type
 
 abbrev pub log_code : Coded Log
 log_code =
-    code_by (List LogEntry × (List LogEntry × Option (List Change))) (coded× (coded_list entry_type.the_row.coded) (coded× (coded_list entry_type.the_row.coded) (coded_option (coded_list change_type.the_row.coded))))
+    code_by (List LogEntry × (List LogEntry × Option (List Change)))
+    (coded× (coded_list entry_type.the_row.coded)
+    (coded× (coded_list entry_type.the_row.coded) (coded_option (coded_list change_type.the_row.coded))))
     (λ l. (l.undo, (l.redo, l.group))) (λ p. record { undo = p.0; redo = p.1.0; group = p.1.1 }) (λ _. refl)
 
 abbrev pub log_state_code : Coded LogState
-log_state_code = code_by (Log × Bool) (coded× log_code coded_bool) (λ l. (l.lists, l.room)) (λ p. record { lists = p.0; room = p.1 }) (λ _. refl)
+log_state_code =
+    code_by (Log × Bool) (coded× log_code coded_bool) (λ l. (l.lists, l.room))
+    (λ p. record { lists = p.0; room = p.1 }) (λ _. refl)
 
 abbrev pub session_code : {S : Type 0} → Coded S → Coded (SessionState S)
 session_code {S} s =
     code_by (CacheState S × Log) (coded× (cache_state_code s) log_code)
-    (λ d. (cache_of d, d.log)) (λ p. record { disk = p.0.disk; document = p.0.document; resident = p.0.resident; frames = p.0.frames; log = p.1 }) (λ _. refl)
+    (λ d. (cache_of d, d.log))
+    (λ p. record { disk = p.0.disk; document = p.0.document; resident = p.0.resident; frames = p.0.frames; log = p.1 })
+    (λ _. refl)

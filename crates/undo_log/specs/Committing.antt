@@ -15,9 +15,10 @@ use Rattle.undo_log.specs.Turning.{busy_fault}
 abbrev pub IsBusy : {S : Type 0} → SessionState S → Fault → Type 0
 IsBusy s fault = busy_fault s ≡ Some fault
 
--- A call that tries to commit a pair, with this document behind it where it does: where no group is open and no block is locked a commit of
--- the file, and otherwise refused before all else.
-pub record IsSessionCommit {S : Type 0} (facts : S → StoreFacts) (pair : Documents) (d : Document) (old new : SessionState S)
+-- A call that tries to commit a pair, with this document behind it where it does: where no group is open and no block
+-- is locked a commit of the file, and otherwise refused before all else.
+pub record IsSessionCommit {S : Type 0} (facts : S → StoreFacts) (pair : Documents) (d : Document)
+    (old new : SessionState S)
     (result : Result (Unit {0}) Fault) : Type 0 where
   pub commits : MayCommit facts pair old.disk new.disk result
   pub passes : IfErr result (λ fault. fault ≢ File → KeepsCommitted facts old.disk new.disk)
@@ -25,8 +26,10 @@ pub record IsSessionCommit {S : Type 0} (facts : S → StoreFacts) (pair : Docum
   pub held : (fault : Fault) → IsBusy old fault → (result ≡ Err fault) × (new ≡ old)
 
 -- A save-as that was refused: where no group is open and no block is locked as one of the file is.
-pub record IsSaveAsRefused {S : Type 0} (facts : S → StoreFacts) (target store : S) (old new : SessionState S) (fault : Fault) : Type 0 where
+pub record IsSaveAsRefused {S : Type 0} (facts : S → StoreFacts) (target store : S) (old new : SessionState S)
+    (fault : Fault) : Type 0 where
   pub commits : MayCommit facts (old.disk.saved, old.disk.saved) old.disk new.disk (Err fault)
-  pub passes : (fault ≡ File → FailedSince (facts old.disk.store) (facts new.disk.store) → ⊥) → KeepsCommitted facts old.disk new.disk
+  pub passes : (fault ≡ File → FailedSince (facts old.disk.store) (facts new.disk.store) → ⊥)
+      → KeepsCommitted facts old.disk new.disk
   pub follows : SameStore facts target store
   pub free : busy_fault old ≡ None → IsNotSavedAs facts target store (file_of old) (file_of new) fault

@@ -73,8 +73,8 @@ abbrev pub steps : Direction → List LogEntry → Document → List UndoStep
 steps direction [] d = []
 steps direction (e ∷ es) d = step direction e d ∷ steps direction es (after_entry direction e d)
 
--- What can be undone and what can be made again, of both the next entry first, and the changes of the group that is open, the newest
--- first; None where none is open.
+-- What can be undone and what can be made again, of both the next entry first, and the changes of the group that is
+-- open, the newest first; None where none is open.
 pub record Log : Type 0 where
   pub undo : List LogEntry
   pub redo : List LogEntry

@@ -15,8 +15,8 @@ use Rattle.doc_edits.specs.Building.{is_of_chain}
 use Rattle.doc_edits.specs.Planning.{kind_of_change, Plans}
 use Rattle.doc_edits.specs.Room.{has_no_room}
 
--- What a change means that was made, over any store: the edit, of the document as it was held once its block was loaded, and the answer.
--- Where no block comes in, the document from then on is just what the edit makes of that one.
+-- What a change means that was made, over any store: the edit, of the document as it was held once its block was
+-- loaded, and the answer. Where no block comes in, the document from then on is just what the edit makes of that one.
 pub record IsMeant {S : Type 0} (facts : S → StoreFacts) (edit : Edit) (old new : CacheState S)
     (change : Change) (done : Done) : Type 0 where
   pub loaded : Document

@@ -74,9 +74,11 @@ failed_since old new = nat_le (raised old.failures) new.failures
 -- each change can be carried out in a direction, one after another
 abbrev pub CanApplyAll : Direction → List Change → Document → Type 0
 CanApplyAll direction [] d = Unit {0}
-CanApplyAll direction (c ∷ cs) d = CanApply (directed direction c) d × CanApplyAll direction cs (after_directed direction c d)
+CanApplyAll direction (c ∷ cs) d =
+    CanApply (directed direction c) d × CanApplyAll direction cs (after_directed direction c d)
 
--- The document is valid, each change of one list can be carried out in this direction, and each of the other one in the opposite one.
+-- The document is valid, each change of one list can be carried out in this direction, and each of the other one in the
+-- opposite one.
 pub record AreSteps (direction : Direction) (d : Document) (from to : List Change) : Type 0 where
   pub valid : IsValid d
   pub first : CanApplyAll direction from d
@@ -87,8 +89,9 @@ pub record CanApplyBothByHandle (direction : Direction) (d : Document) (from to 
   pub first : CanApplyAllByHandle (map (directed direction) from) d
   pub second : CanApplyAllByHandle (map (directed (opposite direction)) to) d
 
--- The store is honest, and the records can be taken from the document, so that undo and redo are exact. Whoever begins with an honest
--- store and saves into honest ones alone has it always; over another store a body may be another than the one that was edited.
+-- The store is honest, and the records can be taken from the document, so that undo and redo are exact. Whoever begins
+-- with an honest store and saves into honest ones alone has it always; over another store a body may be another than
+-- the one that was edited.
 pub record IsExact {S : Type 0} (facts : S → StoreFacts) (s : SessionState S) : Type 0 where
   pub honest : IsTrue (facts s.disk.store).honest
   pub steps : AreSteps Backwards s.document (to_undo s.log) (to_redo s.log)
@@ -105,9 +108,11 @@ pub record KeepsSession {S : Type 0} (facts : S → StoreFacts) (old new : Sessi
   pub blocks : KeepsBlocks facts (cache_of old) (cache_of new)
   pub log : new.log ≡ old.log
 
--- What a look-up into one block comes to: a step of the machine that keeps the session. What is answered is looked up of the document as it
--- is held from then on, or of the one before where no body has to be read, for which no store is called.
-pub record AnswersLookUp {S : Type 0} (facts : S → StoreFacts) (old new : SessionState S) (command : Command) (reply : Reply) : Type 0 where
+-- What a look-up into one block comes to: a step of the machine that keeps the session. What is answered is looked up
+-- of the document as it is held from then on, or of the one before where no body has to be read, for which no store is
+-- called.
+pub record AnswersLookUp {S : Type 0} (facts : S → StoreFacts) (old new : SessionState S) (command : Command)
+    (reply : Reply) : Type 0 where
   pub keeps : KeepsSession facts old new
   pub step : IsStep facts old new command reply
   pub sees : Sees facts (cache_of old) (cache_of new) command reply
@@ -120,7 +125,8 @@ pub record AnswersAlongChain {S : Type 0} (facts : S → StoreFacts) (old new : 
   pub sees : SeesAlongChain facts (cache_of old) (cache_of new) command reply
 
 -- The edit's change is made, and is the newest of the log.
-pub record PushesEdit {S : Type 0} (facts : S → StoreFacts) (edit : Edit) (done : Done) (old new : SessionState S) : Type 0 where
+pub record PushesEdit {S : Type 0} (facts : S → StoreFacts) (edit : Edit) (done : Done) (old new : SessionState S)
+    : Type 0 where
   pub change : Change
   pub made : IsEditApplied facts edit (cache_of old) (cache_of new) change done
   pub log : new.log ≡ with_change change old.log

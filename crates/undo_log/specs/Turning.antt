@@ -21,25 +21,29 @@ use Rattle.undo_log.specs.declared.entry.LogEntry.{LogEntry}
 use Rattle.undo_log.specs.declared.entry.LogEntry.TheVariants as entries
 
 -- The changes of an entry are made.
-abbrev pub IsEntryApplied : {S : Type 0} → (S → StoreFacts) → Direction → LogEntry → CacheState S → CacheState S → Type 0
+abbrev pub IsEntryApplied : {S : Type 0} → (S → StoreFacts) → Direction → LogEntry → CacheState S → CacheState S
+    → Type 0
 IsEntryApplied facts direction (entries.One c) old new = IsApplied facts (directed direction c) old new
 IsEntryApplied facts direction (entries.Group cs) old new = AreApplied facts (map (directed direction) cs) old new
 
--- Why a change can't be made where no block is locked: for a fault of what the call may lack, or a body that doesn't take it, if the store
--- gives back what it has.
+-- Why a change can't be made where no block is locked: for a fault of what the call may lack, or a body that doesn't
+-- take it, if the store gives back what it has.
 abbrev pub CantApply : {S : Type 0} → (S → StoreFacts) → Change → CacheState S → CacheState S → Fault → Type 0
 CantApply facts change old new fault =
     IsEnvironmentFault facts old.disk.store new.disk.store fault
     ⊎ ((fault ≡ Damaged) × (IsHonest facts old.disk.store → AllowsChange change old.document → ⊥))
 
 -- why those of an entry can't
-abbrev pub CantApplyEntry : {S : Type 0} → (S → StoreFacts) → Direction → LogEntry → CacheState S → CacheState S → Fault → Type 0
+abbrev pub CantApplyEntry : {S : Type 0} → (S → StoreFacts) → Direction → LogEntry → CacheState S → CacheState S → Fault
+    → Type 0
 CantApplyEntry facts direction (entries.One c) old new fault = CantApply facts (directed direction c) old new fault
-CantApplyEntry facts direction (entries.Group cs) old new fault = CantPrepareAll facts (map (directed direction) cs) old new fault
+CantApplyEntry facts direction (entries.Group cs) old new fault =
+    CantPrepareAll facts (map (directed direction) cs) old new fault
 
 -- That of one edit can: no block comes in, and the body that changes is in memory and takes the change.
 abbrev pub CanApplyEntry : {S : Type 0} → Direction → LogEntry → CacheState S → Type 0
-CanApplyEntry direction (entries.One c) blocks = (incoming_blocks (directed direction c) ≡ []) × IsInMemory (directed direction c) blocks
+CanApplyEntry direction (entries.One c) blocks =
+    (incoming_blocks (directed direction c) ≡ []) × IsInMemory (directed direction c) blocks
     × AllowsChange (directed direction c) blocks.document
 CanApplyEntry direction (entries.Group cs) blocks = ⊥
 
@@ -65,7 +69,8 @@ abbrev pub newest_made : Direction → List LogEntry → Document → Document
 newest_made direction [] d = d
 newest_made direction (e ∷ es) d = after_entry direction e d
 
--- What is refused before all else where a group is to be closed and no block locked: for an open group, or else for a locked block.
+-- What is refused before all else where a group is to be closed and no block locked: for an open group, or else for a
+-- locked block.
 abbrev pub busy_fault : {S : Type 0} → SessionState S → Option Fault
 busy_fault s = if is_some s.log.group then Some GroupOpen else if has_locks s then Some Locked else None
 
@@ -73,16 +78,19 @@ busy_fault s = if is_some s.log.group then Some GroupOpen else if has_locks s th
 abbrev pub abandon_fault : {S : Type 0} → SessionState S → Option Fault
 abandon_fault s = if is_some s.log.group then (if has_locks s then Some Locked else None) else Some NoGroup
 
--- Why what the log has can't be made: for a fault of what the call may lack; or, in a session that isn't exact, a body that doesn't take a
--- change.
+-- Why what the log has can't be made: for a fault of what the call may lack; or, in a session that isn't exact, a body
+-- that doesn't take a change.
 abbrev pub CantApplyLog : {S : Type 0} → (S → StoreFacts) → SessionState S → SessionState S → Fault → Type 0
-CantApplyLog facts old new fault = IsEnvironmentFault facts old.disk.store new.disk.store fault ⊎ ((fault ≡ Damaged) × (IsExact facts old → ⊥))
+CantApplyLog facts old new fault =
+    IsEnvironmentFault facts old.disk.store new.disk.store fault ⊎ ((fault ≡ Damaged) × (IsExact facts old → ⊥))
 
--- Why an undo or a redo is refused: before all else, for a group or a lock, or since there is nothing to take, which has its own fault, and
--- then nothing changes; or it can't be made.
-abbrev pub IsRefusedUndoOrRedo : {S : Type 0} → (S → StoreFacts) → Fault → List LogEntry → SessionState S → SessionState S → Fault → Type 0
+-- Why an undo or a redo is refused: before all else, for a group or a lock, or since there is nothing to take, which
+-- has its own fault, and then nothing changes; or it can't be made.
+abbrev pub IsRefusedUndoOrRedo : {S : Type 0} → (S → StoreFacts) → Fault → List LogEntry → SessionState S
+    → SessionState S → Fault → Type 0
 IsRefusedUndoOrRedo facts nothing from old new fault = ((busy_fault old ≡ Some fault) × (new ≡ old))
-    ⊎ ((busy_fault old ≡ None) × (((from ≡ []) × (fault ≡ nothing) × (new ≡ old)) ⊎ ((from ≢ []) × CantApplyLog facts old new fault)))
+    ⊎ ((busy_fault old ≡ None)
+    × (((from ≡ []) × (fault ≡ nothing) × (new ≡ old)) ⊎ ((from ≢ []) × CantApplyLog facts old new fault)))
 
 -- The group that is open is taken back, and closed.
 pub record Abandons {S : Type 0} (facts : S → StoreFacts) (old new : SessionState S) : Type 0 where
@@ -90,14 +98,15 @@ pub record Abandons {S : Type 0} (facts : S → StoreFacts) (old new : SessionSt
   pub makes : AreApplied facts (map (directed Backwards) (open_changes old.log.group)) (cache_of old) (cache_of new)
   pub log : new.log ≡ record old.log { group = None }
 
--- Why it isn't: there is none, or a block is locked, and then nothing changes; or its changes can't be taken back, which none always can.
+-- Why it isn't: there is none, or a block is locked, and then nothing changes; or its changes can't be taken back,
+-- which none always can.
 abbrev pub IsNotAbandoned : {S : Type 0} → (S → StoreFacts) → SessionState S → SessionState S → Fault → Type 0
 IsNotAbandoned facts old new fault = ((abandon_fault old ≡ Some fault) × (new ≡ old))
     ⊎ ((abandon_fault old ≡ None) × (open_changes old.log.group ≢ []) × CantApplyLog facts old new fault
     × CantPrepareAll facts (map (directed Backwards) (open_changes old.log.group)) (cache_of old) (cache_of new) fault)
 
--- Whether a step of this kind is sure to be taken, with no memory and no call of the store: by it a user ID or the map block changes, or
--- blocks go; or, in an exact session, the body of a block that is in memory changes.
+-- Whether a step of this kind is sure to be taken, with no memory and no call of the store: by it a user ID or the map
+-- block changes, or blocks go; or, in an exact session, the body of a block that is in memory changes.
 abbrev pub IsSureKind : {S : Type 0} → (S → StoreFacts) → SessionState S → Direction → Kind → Type 0
 IsSureKind facts s direction Plain = Unit {0}
 IsSureKind facts s direction (In b) = IsExact facts s × (is_loaded (cache_of s) b.0 ≡ true)

@@ -75,7 +75,8 @@ abbrev pub directed : Direction → Change → Change
 directed Forwards change = change
 directed Backwards change = reversed change
 
--- the changes that are made by taking changes off a stack, on which the last one lies uppermost, and carrying each out in a direction
+-- the changes that are made by taking changes off a stack, on which the last one lies uppermost, and carrying each out
+-- in a direction
 abbrev pub directed_all : Direction → List Change → List Change
 directed_all direction changes = map (directed direction) (reverse changes)
 
@@ -163,10 +164,12 @@ CanApply (changes.Part b part) d = CanApplyPart b.0 part d
 CanApply (changes.Attributes b old new) d = HasAttributes d b.0 old new
 CanApply (changes.Map old new) d = HasMap d old.0 new.0
 
--- A change of a valid document leaves a valid one, to which the same change the other way round applies and gives back the first.
+-- A change of a valid document leaves a valid one, to which the same change the other way round applies and gives back
+-- the first.
 abbrev pub ChangeLaw : Type 0
 ChangeLaw = (c : Change) (d : Document) → IsValid d → CanApply c d
-    → IsValid (after_change c d) × CanApply (reversed c) (after_change c d) × (after_change (reversed c) (after_change c d) ≡ d)
+    → IsValid (after_change c d) × CanApply (reversed c) (after_change c d)
+    × (after_change (reversed c) (after_change c d) ≡ d)
 
 -- The other way round twice is the change itself.
 abbrev pub ReverseLaw : Type 0

@@ -1,4 +1,5 @@
--- What a call leaves that may bring blocks into memory, and why one may be refused. Crates above know these words by their laws alone.
+-- What a call leaves that may bring blocks into memory, and why one may be refused. Crates above know these words by
+-- their laws alone.
 use Rattle.std.specs.Prelude.{◌≡◌, ◌⊎◌, ◌&&◌, ◌==◌, ℕ, Bool, true, IsTrue}
 use Rattle.vm_store.specs.Facts.{StoreFacts, FailedSince}
 use Rattle.geos_model.specs.Document.{is_live}
@@ -7,7 +8,8 @@ use Rattle.geos_model.specs.declared.fault.Fault.TheVariants.{File, Memory, Cach
 use Rattle.vm_file.specs.Effects.{IsDamage}
 use Rattle.block_cache.specs.State.{CacheState, is_resident, locks_of, all_locked, KeepsLocks, KeepsDocument}
 
--- nothing is committed, the document stays, as far as the store gives back what it has, and each block is locked as often as before
+-- nothing is committed, the document stays, as far as the store gives back what it has, and each block is locked as
+-- often as before
 unfoldable pub KeepsBlocks : {S : Type 0} → (S → StoreFacts) → CacheState S → CacheState S → Type 0
 KeepsBlocks facts old new = KeepsDocument facts old new × KeepsLocks old.resident new.resident
 
@@ -15,10 +17,11 @@ KeepsBlocks facts old new = KeepsDocument facts old new × KeepsLocks old.reside
 unfoldable pub IsHonest : {S : Type 0} → (S → StoreFacts) → S → Type 0
 IsHonest facts store = IsTrue (facts store).honest
 
--- What no rule of the document decides: memory ran out, the store failed in this very call, or what was read is no body, which an
--- honest store never gives.
+-- What no rule of the document decides: memory ran out, the store failed in this very call, or what was read is no
+-- body, which an honest store never gives.
 unfoldable pub IsEnvironmentFault : {S : Type 0} → (S → StoreFacts) → S → S → Fault → Type 0
-IsEnvironmentFault facts old new fault = (fault ≡ Memory) ⊎ (((fault ≡ File) × FailedSince (facts old) (facts new)) ⊎ IsDamage (facts old).honest fault)
+IsEnvironmentFault facts old new fault =
+    (fault ≡ Memory) ⊎ (((fault ≡ File) × FailedSince (facts old) (facts new)) ⊎ IsDamage (facts old).honest fault)
 
 -- the block is in memory, and live, as each that is in memory is
 unfoldable pub is_loaded : {S : Type 0} → CacheState S → ℕ → Bool

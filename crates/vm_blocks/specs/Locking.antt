@@ -15,14 +15,16 @@ pub record GainsLock {S : Type 0} (facts : S → StoreFacts) (h : ℕ) (old new 
   pub one : locks_of new.resident h ≡ locks_of old.resident h + 1
   pub others : (k : ℕ) → k ≢ h → locks_of new.resident k ≡ locks_of old.resident k
 
--- A block that was locked is so once less, and every other one as often as before. Nothing else has changed, not even the order of use.
+-- A block that was locked is so once less, and every other one as often as before. Nothing else has changed, not even
+-- the order of use.
 pub record LosesLock {S : Type 0} (h : ℕ) (old new : CacheState S) : Type 0 where
   pub was : 0 < locks_of old.resident h
   pub is : new ≡ record old { resident = set_value (nat_eq h) old.resident (locks_of old.resident h - 1) }
   pub one : locks_of new.resident h ≡ locks_of old.resident h - 1
   pub others : (k : ℕ) → k ≢ h → locks_of new.resident k ≡ locks_of old.resident k
 
--- why a block isn't locked, which is known without its body: it isn't live, or it is locked as often as it can be, or it is shut out
+-- why a block isn't locked, which is known without its body: it isn't live, or it is locked as often as it can be, or
+-- it is shut out
 abbrev pub CantLock : {S : Type 0} → CacheState S → ℕ → Fault → Type 0
 CantLock state h fault =
     ((fault ≡ NoBlock) × (is_live state.document h ≡ false))

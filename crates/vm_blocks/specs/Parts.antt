@@ -32,7 +32,9 @@ AllowsPart part (Heap m) = HeapAllowsPart part m
 
 abbrev pub body_after_part : PartChange → Body → Body
 body_after_part (parts.Raw s) body = Raw (forwards s (bytes_of_body body))
-body_after_part (parts.Chunk c s) body = Heap (insert (chunks_of_body body) c.0 (forwards s (chunk_bytes (chunks_of_body body) c.0)))
-body_after_part (parts.Patch c ps) body = Heap (insert (chunks_of_body body) c.0 (patched ps (chunk_bytes (chunks_of_body body) c.0)))
+body_after_part (parts.Chunk c s) body =
+    Heap (insert (chunks_of_body body) c.0 (forwards s (chunk_bytes (chunks_of_body body) c.0)))
+body_after_part (parts.Patch c ps) body =
+    Heap (insert (chunks_of_body body) c.0 (patched ps (chunk_bytes (chunks_of_body body) c.0)))
 body_after_part (parts.ChunkIn c content) body = Heap (insert (chunks_of_body body) c.0 (content_bytes content))
 body_after_part (parts.ChunkOut c content) body = Heap (remove (chunks_of_body body) c.0)

@@ -1,5 +1,6 @@
--- What making a change needs, and what it leaves. Half of what lets a change be made is known by handles, attributes and the map block
--- alone, over any store; the other half is what the body of a block has, which can be tested while the block is in memory.
+-- What making a change needs, and what it leaves. Half of what lets a change be made is known by handles, attributes
+-- and the map block alone, over any store; the other half is what the body of a block has, which can be tested while
+-- the block is in memory.
 use Rattle.std.specs.Prelude.{◌≡◌, ◌≢◌, ◌⊎◌, ℕ, Bool, List, [], ◌∷◌, true, Result, Err, IsOk, IfErr, OnOk, OnErr}
 use Rattle.std.specs.List.{All}
 use Rattle.geos_model.specs.Document.{Document, block_at, is_live, handles_of}
@@ -22,7 +23,8 @@ pub record CanRemoveByHandle (d : Document) (hs : List ℕ) : Type 0 where
   pub others : All (λ h. d.map_block ≢ h) hs
   pub distinct : all_distinct hs ≡ true
 
--- What is known by handles, attributes and the map block: blocks come in under free handles, those that go or change are there.
+-- What is known by handles, attributes and the map block: blocks come in under free handles, those that go or change
+-- are there.
 abbrev pub CanApplyByHandle : Change → Document → Type 0
 CanApplyByHandle (changes.BlocksIn ms) d = AreFree d (handles_of (imaged_blocks ms.list.items))
 CanApplyByHandle (changes.BlocksOut ms) d = CanRemoveByHandle d (handles_of (imaged_blocks ms.list.items))
@@ -41,7 +43,8 @@ AllowsChange (changes.Map old new) d = Unit {0}
 -- the blocks that go, if any do, aren't locked
 abbrev pub AreUnlocked : Change → List ResidentBlock → Type 0
 AreUnlocked (changes.BlocksIn ms) residents = Unit {0}
-AreUnlocked (changes.BlocksOut ms) residents = All (λ h. locks_of residents h ≡ 0) (handles_of (imaged_blocks ms.list.items))
+AreUnlocked (changes.BlocksOut ms) residents =
+    All (λ h. locks_of residents h ≡ 0) (handles_of (imaged_blocks ms.list.items))
 AreUnlocked (changes.Part b part) residents = Unit {0}
 AreUnlocked (changes.Attributes b old new) residents = Unit {0}
 AreUnlocked (changes.Map old new) residents = Unit {0}
@@ -68,8 +71,8 @@ pub record CanCarryOut {S : Type 0} (change : Change) (state : CacheState S) : T
   pub takes : AllowsChange change state.document
   pub in_memory : IsInMemory change state
 
--- A change was made: nothing was committed, the document is the one that the change makes of the one before, as far as the store gives
--- back what it has, and each block is locked as often as before.
+-- A change was made: nothing was committed, the document is the one that the change makes of the one before, as far as
+-- the store gives back what it has, and each block is locked as often as before.
 pub record IsApplied {S : Type 0} (facts : S → StoreFacts) (change : Change) (old new : CacheState S) : Type 0 where
   pub passes : KeepsCommitted facts old.disk new.disk
   pub document : SameUnlessCorrupt (facts old.disk.store).honest (after_change change old.document) new.document
@@ -77,16 +80,17 @@ pub record IsApplied {S : Type 0} (facts : S → StoreFacts) (change : Change) (
   pub frames : new.frames ≡ old.frames
   pub locks : KeepsLocks old.resident new.resident
 
--- Why a change isn't made: what bringing a block into memory, or blocks into the document, may be refused for; or the body doesn't take
--- it, as it didn't before, if the store gives back what it has; or the block is shut out.
+-- Why a change isn't made: what bringing a block into memory, or blocks into the document, may be refused for; or the
+-- body doesn't take it, as it didn't before, if the store gives back what it has; or the block is shut out.
 abbrev pub CantPrepare : {S : Type 0} → (S → StoreFacts) → Change → CacheState S → CacheState S → Fault → Type 0
 CantPrepare facts change old new fault =
     IsEnvironmentFault facts old.disk.store new.disk.store fault
     ⊎ (((fault ≡ Damaged) × (IsHonest facts old.disk.store → AllowsChange change old.document → ⊥))
     ⊎ ((fault ≡ CacheFull) × IsShutOut change old))
 
--- What a call leaves that makes a change or is refused. It is sure where no block comes in, and the one that changes is in memory and
--- takes it: then the store isn't called, and over any store the document is the one that the change makes.
+-- What a call leaves that makes a change or is refused. It is sure where no block comes in, and the one that changes is
+-- in memory and takes it: then the store isn't called, and over any store the document is the one that the change
+-- makes.
 pub record Turns {S : Type 0} (facts : S → StoreFacts) (change : Change) (old new : CacheState S)
     (result : Result (Unit {0}) Fault) : Type 0 where
   pub ok : OnOk result (IsApplied facts change old new)
@@ -112,23 +116,26 @@ CanApplyAllByHandle (c ∷ cs) d = CanApplyByHandle c d × CanApplyAllByHandle c
 
 -- What is known by handles alone stays known in a document that drifts from the first, over any store.
 abbrev pub ByHandleLaw : Type 0
-ByHandleLaw = (honest : Bool) (cs : List Change) (old new : Document) → SameUnlessCorrupt honest old new → CanApplyAllByHandle cs old → CanApplyAllByHandle cs new
+ByHandleLaw =
+    (honest : Bool) (cs : List Change) (old new : Document) → SameUnlessCorrupt honest old new
+    → CanApplyAllByHandle cs old → CanApplyAllByHandle cs new
 
 -- the body of each takes it, one after another
 abbrev pub AllowAll : List Change → Document → Type 0
 AllowAll [] d = Unit {0}
 AllowAll (c ∷ cs) d = AllowsChange c d × AllowAll cs (after_change c d)
 
--- Changes were made one after another: nothing was committed, and the document is the one that they make of the one before, as far as
--- the store gives back what it has.
-pub record AreApplied {S : Type 0} (facts : S → StoreFacts) (changes : List Change) (old new : CacheState S) : Type 0 where
+-- Changes were made one after another: nothing was committed, and the document is the one that they make of the one
+-- before, as far as the store gives back what it has.
+pub record AreApplied {S : Type 0} (facts : S → StoreFacts) (changes : List Change) (old new : CacheState S)
+    : Type 0 where
   pub passes : KeepsCommitted facts old.disk new.disk
   pub document : SameUnlessCorrupt (facts old.disk.store).honest (after_changes changes old.document) new.document
   pub frames : new.frames ≡ old.frames
   pub locks : KeepsLocks old.resident new.resident
 
--- Why they aren't made: what bringing a block into memory, or blocks into the file, may be refused for; or a body doesn't take one, as it
--- didn't before, if the store gives back what it has.
+-- Why they aren't made: what bringing a block into memory, or blocks into the file, may be refused for; or a body
+-- doesn't take one, as it didn't before, if the store gives back what it has.
 abbrev pub CantPrepareAll : {S : Type 0} → (S → StoreFacts) → List Change → CacheState S → CacheState S → Fault → Type 0
 CantPrepareAll facts changes old new fault =
     IsEnvironmentFault facts old.disk.store new.disk.store fault

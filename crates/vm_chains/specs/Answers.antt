@@ -12,7 +12,8 @@ RefusesChain lacks conditions fault = lacks fault ⊎ (first_refusal conditions 
 
 -- It is refused so, or nothing refuses it and this holds of what it gives.
 abbrev pub AnswersChain : {A : Type 0} → (Fault → Type 0) → Conditions → (A → Type 0) → Result A Fault → Type 0
-AnswersChain lacks conditions P result = MatchResult result (λ a. (first_refusal conditions ≡ None) × P a) (RefusesChain lacks conditions)
+AnswersChain lacks conditions P result =
+    MatchResult result (λ a. (first_refusal conditions ≡ None) × P a) (RefusesChain lacks conditions)
 
 -- why a root of one of two chains is refused
 abbrev pub IsWrongRoot : Document → ℕ → ℕ → Fault → Type 0

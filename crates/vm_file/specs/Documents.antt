@@ -29,16 +29,19 @@ of_kind false (Heap m) = Raw []
 of_kind true (Raw bytes) = Heap empty
 of_kind true (Heap m) = Heap m
 
--- The block whose image lies at a place. It is of the place's kind over any store, and over an honest one so is the image.
+-- The block whose image lies at a place. It is of the place's kind over any store, and over an honest one so is the
+-- image.
 abbrev pub block_in : List ℕ → Place → Block
-block_in file place = record { attributes = place.attributes; body = of_kind place.is_heap (body_read (bytes_in file place.extent)) }
+block_in file place =
+    record { attributes = place.attributes; body = of_kind place.is_heap (body_read (bytes_in file place.extent)) }
 
 abbrev pub blocks_in : List ℕ → List (Option Place) → List (Option Block)
 blocks_in file places = map (option_map (block_in file)) places
 
 -- the document of a table
 abbrev pub document_in : List ℕ → BlockTable → Document
-document_in file table = record { blocks = table_map 1 1 (blocks_in file table.places.items); map_block = table.map_block }
+document_in file table =
+    record { blocks = table_map 1 1 (blocks_in file table.places.items); map_block = table.map_block }
 
 abbrev pub documents_in : List ℕ → Pair → Documents
 documents_in file pair = (document_in file pair.updated.table, document_in file pair.saved.table)
@@ -53,11 +56,14 @@ attempted_in file (Prepared pair) = documents_in file pair ∷ []
 abbrev pub entries_of : ℕ → List (Option Place) → List Entry
 entries_of h [] = []
 entries_of h (None ∷ places) = entries_of (h + 1) places
-entries_of h (Some place ∷ places) = record { handle = record { 0 = h }; attributes = place.attributes; extent = place.extent } ∷ entries_of (h + 1) places
+entries_of h (Some place ∷ places) =
+    record { handle = record { 0 = h }; attributes = place.attributes; extent = place.extent }
+    ∷ entries_of (h + 1) places
 
 -- its directory, in a version
 abbrev pub directory_of_table : ℕ → BlockTable → Directory
-directory_of_table version table = record { version = version; map_block = table.map_block; entries = entries_of 1 table.places.items }
+directory_of_table version table =
+    record { version = version; map_block = table.map_block; entries = entries_of 1 table.places.items }
 
 -- the place has the image of a body of its kind
 pub record IsImaged (file : List ℕ) (place : Place) : Type 0 where

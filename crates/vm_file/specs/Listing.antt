@@ -25,7 +25,9 @@ pub record IsWidened (puts : List Member) (removals : List VmHandle) (old new : 
 
 -- the least handle above the start whose block has the user ID
 abbrev pub found_in : List (Option Place) → ℕ → ℕ → Option ℕ
-found_in places user_id start = option_map (λ e. e.0) (find (λ e. nat_lt start e.0 && (e.1.attributes.user_id == user_id)) (table_entries 1 1 places))
+found_in places user_id start =
+    option_map (λ e. e.0)
+    (find (λ e. nat_lt start e.0 && (e.1.attributes.user_id == user_id)) (table_entries 1 1 places))
 
 -- what is found for a handle: its place, where a block is live under it
 pub record IsPlaceOf (places : List (Option Place)) (h : ℕ) (result : Option Place) : Type 0 where

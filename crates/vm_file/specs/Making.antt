@@ -20,7 +20,8 @@ use Rattle.vm_file.specs.declared.slot.SpareSlot.TheVariants.{Shut}
 abbrev pub first_slot : Extent → List ℕ
 first_slot directory = slot_mark ++ 0 ∷ gate_text 2 1 directory directory
 
--- Slot 0 has the number 1 and leads to one directory, which has this text, and slot 1 has its mark; all others are as they were.
+-- Slot 0 has the number 1 and leads to one directory, which has this text, and slot 1 has its mark; all others are as
+-- they were.
 pub record IsLaid (gate : ℕ) (directory : Extent) (text old new : List ℕ) : Type 0 where
   pub gate_is : byte new 4 ≡ gate
   pub marked : Holds new 0 slot_mark
@@ -28,7 +29,8 @@ pub record IsLaid (gate : ℕ) (directory : Extent) (text old new : List ℕ) : 
   pub second : Holds new 512 slot_mark
   pub beside : byte new 516 ≡ byte old 516
   pub there : Holds new (start_of directory) text
-  pub others : (i : ℕ) → 32 ≤ i → (i < 512) ⊎ (516 ≤ i) → (i < start_of directory) ⊎ (start_of directory + length text ≤ i) → byte new i ≡ byte old i
+  pub others : (i : ℕ) → 32 ≤ i → (i < 512) ⊎ (516 ≤ i)
+      → (i < start_of directory) ⊎ (start_of directory + length text ≤ i) → byte new i ≡ byte old i
   pub size : length new ≡ max (length old) (start_of directory + length text)
 
 -- the same document, with a directory
@@ -77,7 +79,8 @@ no_blocks = record { version = 2; map_block = 0; entries = [] }
 
 -- the slot that counts
 abbrev pub first_open : Slot
-first_open = record { gate = 1; version = 2; reserved = 0; sequence = 1; working = first_directory; saved = first_directory }
+first_open =
+    record { gate = 1; version = 2; reserved = 0; sequence = 1; working = first_directory; saved = first_directory }
 
 -- its bytes: slot 0 at page 0, the mark of slot 1 at page 1, the directory at page 2, and zeros between them
 unfoldable pub first_file : List ℕ
@@ -86,7 +89,8 @@ first_file = slot_text first_open ++ replicate 480 0 ++ slot_mark ++ replicate 5
 -- which these bytes are
 pub record FirstFileLaw : Type 0 where
   pub size : length first_file ≡ 1040
-  pub slot : take 32 first_file ≡ 0x47 ∷ 0x56 ∷ 0x4d ∷ 0x46 ∷ 1 ∷ 2 ∷ 0 ∷ 0 ∷ 1 ∷ 0 ∷ 0 ∷ 0 ∷ 0 ∷ 0 ∷ 0 ∷ 0 ∷ 2 ∷ 0 ∷ 0 ∷ 0 ∷ 16 ∷ 0 ∷ 0 ∷ 0 ∷ 2 ∷ 0 ∷ 0 ∷ 0 ∷ 16 ∷ 0 ∷ 0 ∷ 0 ∷ []
+  pub slot : take 32 first_file ≡ 0x47 ∷ 0x56 ∷ 0x4d ∷ 0x46 ∷ 1 ∷ 2 ∷ 0 ∷ 0 ∷ 1 ∷ 0 ∷ 0 ∷ 0 ∷ 0 ∷ 0 ∷ 0 ∷ 0 ∷ 2 ∷ 0 ∷ 0
+      ∷ 0 ∷ 16 ∷ 0 ∷ 0 ∷ 0 ∷ 2 ∷ 0 ∷ 0 ∷ 0 ∷ 16 ∷ 0 ∷ 0 ∷ 0 ∷ []
   pub behind_slot : take 480 (drop 32 first_file) ≡ replicate 480 0
   pub mark : take 4 (drop 512 first_file) ≡ 0x47 ∷ 0x56 ∷ 0x4d ∷ 0x46 ∷ []
   pub behind_mark : take 508 (drop 516 first_file) ≡ replicate 508 0
@@ -127,7 +131,8 @@ IsBlockCopied page None honest source old new = new ≡ old
 IsBlockCopied page (Some place) honest source old new = IsImageCopied page place honest source old new
 
 -- The images of these places lie one behind the other, and nothing else is changed in the slots.
-pub record AreCopied (honest : Type 0) (source : List ℕ) (places : List (Option Place)) (old new : List ℕ) : Type 0 where
+pub record AreCopied (honest : Type 0) (source : List ℕ) (places : List (Option Place)) (old new : List ℕ)
+    : Type 0 where
   pub images : AreImaged new (laid_out 2 places)
   pub within : All (λ o. IfSome o (λ p. end_of p.extent ≤ length new)) (laid_out 2 places)
   pub beside : byte new 516 ≡ byte old 516

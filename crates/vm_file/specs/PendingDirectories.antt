@@ -16,5 +16,6 @@ pub record IsPendingDirectory (live : BlockTable) (slots : Slots) (pending : Pen
   pub text : pending.text.items ≡ directory_text (directory_of_table 2 pending.document.table)
   pub size : pending.document.directory.length ≡ length pending.text.items
   pub placed : IsPlaced pending.document.directory
-  pub clear : IsClear (start_of pending.document.directory) pending.document.directory.length (block_extents live.places.items ++ referenced_extents slots)
+  pub clear : IsClear (start_of pending.document.directory) pending.document.directory.length
+      (block_extents live.places.items ++ referenced_extents slots)
   pub attributes : All (λ e. FitAttributes e.attributes) (entries_of 1 pending.document.table.places.items)

@@ -52,7 +52,15 @@ spare_of slots = if slots.second then 0 else 1
 
 -- the slots when what the other one leads to counts: a commit is of version 2
 abbrev pub switched : Slots → Pair → Slots
-switched slots pair = record { second = not slots.second; version = 2; sequence = slots.sequence + 1; committed = pair; spare = Stale; marked = slots.marked }
+switched slots pair =
+    record {
+      second = not slots.second;
+      version = 2;
+      sequence = slots.sequence + 1;
+      committed = pair;
+      spare = Stale;
+      marked = slots.marked;
+    }
 
 -- what a commit that failed before its last step may leave of the slots
 abbrev pub FailedEarly : Slots → Slots → Type 0
@@ -62,14 +70,17 @@ FailedEarly old new = (new ≡ old) ⊎ (new ≡ record old { spare = Shut })
 abbrev pub Failed : Slots → Pair → Slots → Type 0
 Failed old pair new = FailedEarly old new ⊎ (new ≡ record old { spare = Prepared pair })
 
--- what stands behind the gate of a slot: version, two zeros, sequence number, the directories of the updated and the saved document
+-- what stands behind the gate of a slot: version, two zeros, sequence number, the directories of the updated and the
+-- saved document
 unfoldable pub gate_text : ℕ → ℕ → Extent → Extent → List ℕ
-gate_text version sequence updated saved = version ∷ 0 ∷ 0 ∷ little_bytes 8 sequence ++ extent_text updated ++ extent_text saved
+gate_text version sequence updated saved =
+    version ∷ 0 ∷ 0 ∷ little_bytes 8 sequence ++ extent_text updated ++ extent_text saved
 
 abbrev pub behind_gate : ℕ → ℕ → Pair → List ℕ
 behind_gate version sequence pair = gate_text version sequence pair.updated.directory pair.saved.directory
 
--- Whatever its gate, the slot has this version and this number and leads to this pair, whose bytes are those of the file.
+-- Whatever its gate, the slot has this version and this number and leads to this pair, whose bytes are those of the
+-- file.
 pub record LeadsTo (slot version sequence : ℕ) (pair : Pair) (file c : List ℕ) : Type 0 where
   pub marked : Holds c (512 * slot) slot_mark
   pub rest : Holds c (512 * slot + 5) (behind_gate version sequence pair)
@@ -107,7 +118,8 @@ CrashLeavesSlots store slots file = (c : List ℕ) → store.may_leave c → Out
 -- What a crash since some time left is what one before these calls might have left, or such a file.
 pub record Outlives (old new : StoreFacts) (file : List ℕ) (Is : Slots → Type 0) : Type 0 where
   pub later : old.moment ≤ new.moment
-  pub each : (t : ℕ) (c : List ℕ) → t ≤ old.moment → new.left_since t c → old.left_since t c ⊎ ((slots : Slots) × Is slots × Outcome slots file c)
+  pub each : (t : ℕ) (c : List ℕ) → t ≤ old.moment → new.left_since t c
+      → old.left_since t c ⊎ ((slots : Slots) × Is slots × Outcome slots file c)
 
 -- all of that can be
 abbrev pub AreExtentsPlaced : Slots → Type 0
@@ -117,7 +129,9 @@ AreExtentsPlaced slots = All IsPlaced (referenced_extents slots)
 abbrev pub IsBesideOut : SpareSlot → ℕ → ℕ → ℕ → Type 0
 IsBesideOut Shut slot at n = IsOut at n (512 * slot + 4) (512 * slot + 5)
 IsBesideOut Stale slot at n = IsOut at n (512 * slot) (512 * slot + 4) × IsOut at n (512 * slot + 8) (512 * slot + 16)
-IsBesideOut (Prepared pair) slot at n = IsOut at n (512 * slot) (512 * slot + 4) × IsOut at n (512 * slot + 5) (512 * slot + 32) × IsClear at n (pair_extents pair)
+IsBesideOut (Prepared pair) slot at n =
+    IsOut at n (512 * slot) (512 * slot + 4) × IsOut at n (512 * slot + 5) (512 * slot + 32)
+    × IsClear at n (pair_extents pair)
 
 -- a write there changes nothing on which the slots stand
 pub record Spares (at n : ℕ) (slots : Slots) : Type 0 where

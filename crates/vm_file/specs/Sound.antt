@@ -27,11 +27,13 @@ pub record IsPlace (place : Place) : Type 0 where
 abbrev pub ArePlaces : List (Option Place) → Type 0
 ArePlaces places = All (λ place. IfSome place IsPlace) places
 
--- A table that can be: places for the handles up to some number, past which none is live, and the map block none or live.
+-- A table that can be: places for the handles up to some number, past which none is live, and the map block none or
+-- live.
 pub record IsBlockTable (table : BlockTable) : Type 0 where
   pub size : length table.places.items ≤ most_blocks
   pub places : ArePlaces table.places.items
-  pub map_block : (table.map_block ≡ 0) ⊎ ((1 ≤ table.map_block) × (is_some (get_or table.places.items (table.map_block - 1) None) ≡ true))
+  pub map_block : (table.map_block ≡ 0)
+      ⊎ ((1 ≤ table.map_block) × (is_some (get_or table.places.items (table.map_block - 1) None) ≡ true))
 
 -- so are the tables of a pair
 pub record AreTables (pair : Pair) : Type 0 where
@@ -71,7 +73,8 @@ pub record IsSound (store : StoreFacts) (live : BlockTable) (slots : Slots) : Ty
   pub whole : IsTrue store.honest → IsWhole store live slots
 
 -- with the free space: taken is all that lies in the file and stays; and with bounds of the live table
-pub record IsSoundFile (store : StoreFacts) (live : BlockTable) (slots : Slots) (space : Option Space) (bounds : Bounds) : Type 0 where
+pub record IsSoundFile (store : StoreFacts) (live : BlockTable) (slots : Slots) (space : Option Space)
+    (bounds : Bounds) : Type 0 where
   pub sound : IsSound store live slots
   pub bounded : AreBounds live.places.items bounds
   pub known : IsSpaceOf (block_extents live.places.items ++ referenced_extents slots) space

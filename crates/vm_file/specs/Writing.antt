@@ -14,10 +14,13 @@ use Rattle.vm_file.specs.declared.slot.Slots.{Slots}
 -- Extents for the first n images: each as long as its image, and apart from those that are taken and from each other.
 pub record AreFor (taken : List Extent) (puts : List Member) (n : ℕ) (extents : List Extent) : Type 0 where
   pub count : length extents ≡ n
-  pub sizes : (k : ℕ) (e : Extent) (p : Member) → k < n → (get_or extents k e).length ≡ length (image (get_or puts k p).block.image)
+  pub sizes : (k : ℕ) (e : Extent) (p : Member) → k < n
+      → (get_or extents k e).length ≡ length (image (get_or puts k p).block.image)
   pub placed : All IsPlaced extents
   pub clear : All (λ e. IsClear (start_of e) e.length taken) extents
-  pub apart : (i k : ℕ) (e : Extent) → i < k → k < n → IsOut (start_of (get_or extents k e)) (get_or extents k e).length (start_of (get_or extents i e)) (end_of (get_or extents i e))
+  pub apart : (i k : ℕ) (e : Extent) → i < k → k < n
+      → IsOut (start_of (get_or extents k e)) (get_or extents k e).length (start_of (get_or extents i e))
+      (end_of (get_or extents i e))
 
 -- none of these reaches into the extent
 abbrev pub IsAside : List Extent → Extent → Type 0
@@ -31,7 +34,9 @@ pub record Fills (slots : Slots) (extents : List Extent) (old new : StoreFacts) 
 
 -- the first n images stand in their extents
 abbrev pub AreWritten : ℕ → List Member → List Extent → List ℕ → Type 0
-AreWritten n puts extents file = (k : ℕ) (e : Extent) (p : Member) → k < n → Holds file (start_of (get_or extents k e)) (image (get_or puts k p).block.image)
+AreWritten n puts extents file =
+    (k : ℕ) (e : Extent) (p : Member) → k < n
+    → Holds file (start_of (get_or extents k e)) (image (get_or puts k p).block.image)
 
 -- calls that keep these extents, and all that the slots stand on
 pub record IsSpared (extents : List Extent) (slots : Slots) (old new : StoreFacts) : Type 0 where
@@ -54,7 +59,8 @@ placed_at p e = record { attributes = p.block.attributes; is_heap = is_heap_body
 abbrev pub with_places : List Member → List Extent → List (Option Place) → List (Option Place)
 with_places [] extents places = places
 with_places (p ∷ puts) [] places = places
-with_places (p ∷ puts) (e ∷ extents) places = with_places puts extents (slice_set places (p.handle.0 - 1) (Some (placed_at p e)))
+with_places (p ∷ puts) (e ∷ extents) places =
+    with_places puts extents (slice_set places (p.handle.0 - 1) (Some (placed_at p e)))
 
 -- without the block under a handle
 abbrev pub without_place : ℕ → List (Option Place) → List (Option Place)

@@ -16,7 +16,8 @@ shown d = record { version = d.version; map_block = d.map_block.0; entries = d.e
 abbrev pub version_read : List ℕ → ℕ
 version_read bytes = word_at bytes 4
 
--- These bytes begin with the header of a directory that can be in a file of a version, and have room for just the entries that it counts.
+-- These bytes begin with the header of a directory that can be in a file of a version, and have room for just the
+-- entries that it counts.
 pub record HasHeader (file_version : ℕ) (bytes : List ℕ) : Type 0 where
   pub version : is_version_in file_version (version_read bytes) ≡ true
   pub header : take 16 bytes ≡ header_text (version_read bytes) (word_at bytes 6) (word_at bytes 8)
@@ -31,9 +32,11 @@ abbrev pub are_entries : ℕ → ℕ → List ℕ → Bool
 are_entries file_version n bytes =
     let es = entries_read bytes in
     let version = version_read bytes in
-    is_rising 0 es && list_all (is_entry file_version n version) es && same_bytes (flat_map (entry_text version) es) (drop 16 bytes)
+    is_rising 0 es && list_all (is_entry file_version n version) es
+    && same_bytes (flat_map (entry_text version) es) (drop 16 bytes)
 
--- An entry with this text can stand in a directory of a version, in a file of a version and of n bytes, behind one with the handle `last`.
+-- An entry with this text can stand in a directory of a version, in a file of a version and of n bytes, behind one with
+-- the handle `last`.
 pub record IsNextEntry (file_version n version last : ℕ) (text : List ℕ) (e : Entry) : Type 0 where
   pub above : last < e.handle.0
   pub stands : is_entry file_version n version e ≡ true

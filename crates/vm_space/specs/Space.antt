@@ -58,4 +58,5 @@ pub record IsSpaceSound (counts hints : List ℕ) (count : ℕ) : Type 0 where
 
 -- each count with one more from a page on and before another
 abbrev pub AreRaised : ℕ → ℕ → List ℕ → List ℕ → Type 0
-AreRaised start end old new = (page : ℕ) → slice_index new page ≡ cond (is_within start end page) 1 0 + slice_index old page
+AreRaised start end old new =
+    (page : ℕ) → slice_index new page ≡ cond (is_within start end page) 1 0 + slice_index old page

@@ -5,7 +5,14 @@ use Rattle.vm_store.specs.System.{FileFacts}
 
 abbrev pub host_system_facts : FileFacts
 host_system_facts = record {
-  store = record { content = []; honest = false; failures = 0; may_leave = λ c. Unit {0}; moment = 0; left_since = λ t c. Unit {0} };
+  store = record {
+    content = [];
+    honest = false;
+    failures = 0;
+    may_leave = λ c. Unit {0};
+    moment = 0;
+    left_since = λ t c. Unit {0};
+  };
   has_failed_sync = false;
   interruptions = 0;
 }

@@ -4,7 +4,8 @@ use Rattle.vm_store.specs.Facts.{IsTimely}
 use Rattle.vm_store.specs.History.{History, facts_of, timely}
 use Rattle.vm_store.specs.System.{FileFacts}
 
--- the store behind it, how many calls there were, how many of them failed and how many were interrupted, and whether a sync failed
+-- the store behind it, how many calls there were, how many of them failed and how many were interrupted, and whether a
+-- sync failed
 pub record Pieces : Type 0 where
   pub store : History
   pub calls : ℕ

@@ -18,7 +18,8 @@ pub record FileFacts : Type 1 where
 -- a call that fails is counted, as one that failed or as one that was interrupted
 abbrev pub CountsFailure : {T : Type 0} → Result T SystemFault → FileFacts → FileFacts → Type 0
 CountsFailure (Ok v) old new = (new.store.failures ≡ old.store.failures) × (new.interruptions ≡ old.interruptions)
-CountsFailure (Err Interrupted) old new = (new.store.failures ≡ old.store.failures) × (new.interruptions ≡ old.interruptions + 1)
+CountsFailure (Err Interrupted) old new =
+    (new.store.failures ≡ old.store.failures) × (new.interruptions ≡ old.interruptions + 1)
 CountsFailure (Err Failed) old new = FailedSince old.store new.store × (new.interruptions ≡ old.interruptions)
 
 -- a call that was interrupted
@@ -44,8 +45,8 @@ pub record Reads (file : List ℕ) (at k : ℕ) (buffer : List ℕ) : Type 0 whe
   pub each : (i : ℕ) → i < k → byte file (at + i) ≡ byte buffer i
   pub none : k ≡ 0 → 0 < length buffer → length file ≤ at
 
--- The first k of the bytes stand at `at`, and any in the others' range. If some do, or the file gets longer, a gap before them is zeros;
--- nothing else changes.
+-- The first k of the bytes stand at `at`, and any in the others' range. If some do, or the file gets longer, a gap
+-- before them is zeros; nothing else changes.
 pub record WritesFirst (at k : ℕ) (bytes old new : List ℕ) : Type 0 where
   pub below : (i : ℕ) → i < at → byte new i ≡ byte old i
   pub each : (i : ℕ) → i < k → byte new (at + i) ≡ byte bytes i
@@ -76,7 +77,8 @@ WritesPart at bytes (Err Failed) old new = Unit {0}
 
 -- what the calls of a system do, from one state of it to another
 pub record SystemCalls (S H F : Type 0) : Type 1 where
-  -- the file at a path is opened, and made before, empty, if it is missing and that is asked; by what is given its bytes can't be touched
+  -- the file at a path is opened, and made before, empty, if it is missing and that is asked; by what is given its
+  -- bytes can't be touched
   pub opens : S → List ℕ → Bool → Result H SystemFault → S → Type 0
   -- the names in the folder in which a path lies are synced
   pub syncs_folder : S → List ℕ → Result (Unit {0}) SystemFault → S → Type 0
@@ -89,7 +91,8 @@ AreInterrupted call old [] new = new ≡ old
 AreInterrupted call old (s ∷ states) new = AreInterrupted call old states s × call s (Err Interrupted) new
 
 -- a call was made so often, and interrupted each time
-pub record IsInterruptedOften {S T : Type 0} (call : S → Result T SystemFault → S → Type 0) (old : S) (n : ℕ) (new : S) : Type 0 where
+pub record IsInterruptedOften {S T : Type 0} (call : S → Result T SystemFault → S → Type 0) (old : S) (n : ℕ) (new : S)
+    : Type 0 where
   pub states : List S
   pub interrupted : AreInterrupted call old states new
   pub count : length states ≡ n
@@ -111,8 +114,10 @@ abbrev pub SyncsName : {S H F : Type 0} → SystemCalls S H F → List ℕ → B
 SyncsName calls path true old new = Retries (λ s. calls.syncs_folder s path) old (Ok tt) new
 SyncsName calls path false old new = new ≡ old
 
--- the file was opened at this path, then its name was synced if it was to be made, and then it was locked, and no other call was made
-pub record IsOpenedAndLocked {S H F : Type 0} (calls : SystemCalls S H F) (path : List ℕ) (make : Bool) (old : S) (file : F) (new : S) : Type 0 where
+-- the file was opened at this path, then its name was synced if it was to be made, and then it was locked, and no other
+-- call was made
+pub record IsOpenedAndLocked {S H F : Type 0} (calls : SystemCalls S H F) (path : List ℕ) (make : Bool) (old : S)
+    (file : F) (new : S) : Type 0 where
   pub handle : H
   pub opened : S
   pub named : S
@@ -128,7 +133,8 @@ IsNotNamed {S} {H} calls path make old new =
     × GivesUpOn (λ s. calls.syncs_folder s path) opened new)
 
 -- it was opened, and named if it was to be made, and couldn't be locked
-pub record IsInUse {S H F : Type 0} (calls : SystemCalls S H F) (path : List ℕ) (make : Bool) (old new : S) : Type 0 where
+pub record IsInUse {S H F : Type 0} (calls : SystemCalls S H F) (path : List ℕ) (make : Bool) (old new : S)
+    : Type 0 where
   pub handle : H
   pub opened : S
   pub named : S

@@ -58,7 +58,9 @@ impl<F: SystemFile, Y: System<F> + Drop> Files for HostFiles<F, Y> {
     // Of the guards nothing is known. A file is opened by just the calls of the system that open and lock it.
     ghost calls = { record {
       guards = λ old result new. Unit {0};
-      opens = λ old name make result new. MatchResult result (λ store. IsOpenedAndLocked Y.calls name make old.system store.file new.system) (λ _. IsNotOpenedOrLocked Y.calls name make old.system new.system);
+      opens = λ old name make result new. MatchResult result
+          (λ store. IsOpenedAndLocked Y.calls name make old.system store.file new.system)
+          (λ _. IsNotOpenedOrLocked Y.calls name make old.system new.system);
       closes = λ old store new. new ≡ old;
     } };
 

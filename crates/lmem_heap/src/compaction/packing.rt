@@ -33,7 +33,8 @@ fn thread_run(region: &mut Region, start: usize, target: usize) -> usize
 /// the entries that they have from `target` on.
 pub(crate) fn pack(region: &mut Region, low: usize, target: usize)
     requires { (cs : List Piece) × IsReadyToPack region.old low target cs }
-    ensures { (cs : List Piece) → IsReadyToPack region.old low target cs → IsPacked region.old region.new low target cs }
+    ensures { (cs : List Piece) → IsReadyToPack region.old low target cs
+        → IsPacked region.old region.new low target cs }
 {
     let mut p = low;
     let mut q = low;
