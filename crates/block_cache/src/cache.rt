@@ -62,7 +62,8 @@ impl<S: Store> Model for Cache<S> {
 impl<S: Store> Cache<S> {
     ghost use Rattle.block_cache.specs.LendsBlock.{lends_raw, lends_heap};
 
-    /// Makes the store an empty document file with so many frames, whatever was in it. Memory, before the store is called; File.
+    /// Makes the store an empty document file with so many frames, whatever was in it. Memory, before the store is
+    /// called; File.
     pub fn create(alloc: Global, store: S, frames: usize) -> Result<Cache<S>, Refused<S>>
         requires { 1 ≤ frames }
         ensures made { MatchResult result
@@ -84,9 +85,9 @@ impl<S: Store> Cache<S> {
         })
     }
 
-    /// Opens the file that a store has, with so many frames, and its updated document as it is now. Where it is refused the store
-    /// comes back, and nothing was written to an honest one: NotDocument or Damaged where it has no file; Memory, File. Where a
-    /// crash left the store, what is read is on the disk from then on.
+    /// Opens the file that a store has, with so many frames, and its updated document as it is now. Where it is refused
+    /// the store comes back, and nothing was written to an honest one: NotDocument or Damaged where it has no file;
+    /// Memory, File. Where a crash left the store, what is read is on the disk from then on.
     pub fn open(alloc: Global, store: S, frames: usize) -> Result<Cache<S>, Refused<S>>
         requires { 1 ≤ frames }
         ensures opened { MatchResult result
@@ -204,8 +205,8 @@ impl<S: Store> Cache<S> {
         body_in(&self.frames, block.0)
     }
 
-    /// The bytes of a raw block in memory, to be changed: from now on the file may have others. It stays a raw block, whose
-    /// attributes are those of one. No memory, no store.
+    /// The bytes of a raw block in memory, to be changed: from now on the file may have others. It stays a raw block,
+    /// whose attributes are those of one. No memory, no store.
     pub fn raw_mut(&mut self, block: VmHandle) -> &mut RawBody
         requires resident { is_resident self.old.resident block.0 ≡ true }
         requires raw { is_heap self.old.document block.0 ≡ false }
@@ -243,9 +244,9 @@ impl<S: Store> Cache<S> {
         self.file.set_map(block);
     }
 
-    /// Puts blocks into the document, none of which is in memory: their images are written to the file, and their bodies don't come
-    /// into memory. Where it is refused none is put. Memory, before anything is written; File. With nothing
-    /// to put it takes no memory, calls no store and isn't refused.
+    /// Puts blocks into the document, none of which is in memory: their images are written to the file, and their
+    /// bodies don't come into memory. Where it is refused none is put. Memory, before anything is written; File. With
+    /// nothing to put it takes no memory, calls no store and isn't refused.
     pub fn put_blocks(&mut self, puts: &[Member]) -> Result<(), Fault>
         // Asked of the caller.
         requires puts { All IsPut puts.now }
@@ -265,8 +266,8 @@ impl<S: Store> Cache<S> {
         self.file.put_blocks(puts, &[])
     }
 
-    /// Takes blocks out of the document, and out of memory, with what was changed in them and with their locks. The map block
-    /// stays. No memory, no store.
+    /// Takes blocks out of the document, and out of memory, with what was changed in them and with their locks. The map
+    /// block stays. No memory, no store.
     pub fn remove_blocks(&mut self, handles: &[VmHandle])
         requires { All (λ h. h.0 ≢ self.old.document.map_block) handles.now }
         ensures { self.new ≡ record self.old {
@@ -279,9 +280,10 @@ impl<S: Store> Cache<S> {
         let _removed = self.file.put_blocks(&[], handles);
     }
 
-    /// Brings a block into memory, and makes it the most recently used. Where each frame is taken, the least recently used block
-    /// that isn't locked goes; if it is changed, it is first written to the file. Memory, File; Damaged where what is read is no
-    /// image, which an honest store never gives. For a block that is in memory it takes no memory, calls no store and isn't refused.
+    /// Brings a block into memory, and makes it the most recently used. Where each frame is taken, the least recently
+    /// used block that isn't locked goes; if it is changed, it is first written to the file. Memory, File; Damaged
+    /// where what is read is no image, which an honest store never gives. For a block that is in memory it takes no
+    /// memory, calls no store and isn't refused.
     pub fn load(&mut self, block: VmHandle) -> Result<(), Fault>
         // Asked of the caller.
         requires live { is_live self.old.document block.0 ≡ true }
@@ -332,15 +334,16 @@ impl<S: Store> Cache<S> {
         unlock(&mut self.frames, block.0);
     }
 
-    /// Has a block in memory written to the file with the next flush, or when it is evicted. Nothing that a caller sees changes.
+    /// Has a block in memory written to the file with the next flush, or when it is evicted. Nothing that a caller sees
+    /// changes.
     pub fn dirty(&mut self, block: VmHandle)
         ensures { self.new ≡ self.old }
     {
         mark(&mut self.frames, block.0, true);
     }
 
-    /// Writes all blocks in memory that are changed to the file; they stay in memory. Where that is refused, some are written,
-    /// and the others are still changed. Memory, File.
+    /// Writes all blocks in memory that are changed to the file; they stay in memory. Where that is refused, some are
+    /// written, and the others are still changed. Memory, File.
     pub fn flush(&mut self) -> Result<(), Fault>
         ensures stays { KeepsDocument S.facts self.old self.new }
         ensures resident { self.new.resident ≡ self.old.resident }
@@ -349,8 +352,8 @@ impl<S: Store> Cache<S> {
         flush(self.alloc, &mut self.file, &mut self.frames)
     }
 
-    /// Takes all blocks out of memory, the locked ones too; what is changed is written to the file first. Where that is refused
-    /// they stay. Memory, File.
+    /// Takes all blocks out of memory, the locked ones too; what is changed is written to the file first. Where that is
+    /// refused they stay. Memory, File.
     pub fn drop_frames(&mut self) -> Result<(), Fault>
         ensures stays { KeepsDocument S.facts self.old self.new }
         ensures ok { OnOk result (self.new.resident ≡ []) }
@@ -360,8 +363,8 @@ impl<S: Store> Cache<S> {
         drop_all(self.alloc, &mut self.file, &mut self.frames)
     }
 
-    /// Marks the document as it is now, so that `roll_back` can bring it back: what is changed in memory is written to the file first.
-    /// The blocks in memory stay there. Memory, File: then no document is marked.
+    /// Marks the document as it is now, so that `roll_back` can bring it back: what is changed in memory is written to
+    /// the file first. The blocks in memory stay there. Memory, File: then no document is marked.
     pub fn mark(&mut self) -> Result<(), Fault>
         requires { self.old.disk.marked ≡ None }
         ensures ok { OnOk result (Marks S.facts self.old self.new) }
@@ -374,7 +377,8 @@ impl<S: Store> Cache<S> {
         Ok(())
     }
 
-    /// Makes the marked document the one as it is now: none is marked and no block is in memory then. No memory, no store.
+    /// Makes the marked document the one as it is now: none is marked and no block is in memory then. No memory, no
+    /// store.
     pub fn roll_back(&mut self)
         requires { is_some self.old.disk.marked ≡ true }
         ensures document { Some self.new.document ≡ self.old.disk.marked }
@@ -392,9 +396,9 @@ impl<S: Store> Cache<S> {
         self.file.release();
     }
 
-    /// Makes the document as it is now the updated one: what is changed in memory goes into the file first. Worn where the
-    /// sequence number can't rise, before anything is written; Memory, where nothing is committed; File, where what was to be
-    /// may be read after a crash.
+    /// Makes the document as it is now the updated one: what is changed in memory goes into the file first. Worn where
+    /// the sequence number can't rise, before anything is written; Memory, where nothing is committed; File, where what
+    /// was to be may be read after a crash.
     pub fn commit_update(&mut self) -> Result<(), Fault>
         ensures commit { IsCommit S.facts (self.old.document, self.old.disk.saved) self.old.document
             (as_file self.old) (as_file self.new) result }
@@ -414,8 +418,8 @@ impl<S: Store> Cache<S> {
         committing::save(self.alloc, &mut self.file, &mut self.frames)
     }
 
-    /// Makes the saved document the updated one and the document as it is now. All blocks go from memory, the locked ones too,
-    /// with what was changed in them; where it is refused they stay. Refused as an update is.
+    /// Makes the saved document the updated one and the document as it is now. All blocks go from memory, the locked
+    /// ones too, with what was changed in them; where it is refused they stay. Refused as an update is.
     pub fn commit_revert(&mut self) -> Result<(), Fault>
         ensures commit { IsCommit S.facts (self.old.disk.saved, self.old.disk.saved) self.old.disk.saved
             (as_file self.old) (as_file self.new) result }
@@ -427,10 +431,11 @@ impl<S: Store> Cache<S> {
         committing::revert(&mut self.file, &mut self.frames)
     }
 
-    /// Makes the target a file of its own of the document as it is now, and goes on in that, with the same blocks in memory. The
-    /// old file goes back to its saved document, and its store comes back. Where it is refused the file stays, and the target
-    /// comes back, with any bytes; nothing is committed then, but where the store of the old file fails. Worn, before anything
-    /// is written; Damaged where what is read is no image, which an honest store never gives; Memory, File.
+    /// Makes the target a file of its own of the document as it is now, and goes on in that, with the same blocks in
+    /// memory. The old file goes back to its saved document, and its store comes back. Where it is refused the file
+    /// stays, and the target comes back, with any bytes; nothing is committed then, but where the store of the old file
+    /// fails. Worn, before anything is written; Damaged where what is read is no image, which an honest store never
+    /// gives; Memory, File.
     pub fn save_as(&mut self, target: S) -> Result<S, Refused<S>>
         ensures saved_as { MatchResult result
             (λ store. IsSavedAs S.facts target store (as_file self.old) (as_file self.new))
@@ -443,8 +448,8 @@ impl<S: Store> Cache<S> {
         saving_as::save_as(self.alloc, &mut self.file, &mut self.frames, target)
     }
 
-    /// It does nothing: its caller learns what always holds. Of an honest store the updated and the saved document are valid; the
-    /// document as it is now has what was done to it.
+    /// It does nothing: its caller learns what always holds. Of an honest store the updated and the saved document are
+    /// valid; the document as it is now has what was done to it.
     pub fn validity(&self)
         // Of the documents and their file.
         ensures crash_consistent { IsCrashConsistent S.facts self.now.disk }

@@ -14,19 +14,23 @@ use std::alloc::Global;
 use vm_file::VmFile;
 use vm_store::Store;
 
-// Puts what is changed in memory into the file, which a commit follows. Refused as any commit is, whatever it was to commit.
+// Puts what is changed in memory into the file, which a commit follows. Refused as any commit is, whatever it was to
+// commit.
 fn begin<S: Store>(
     alloc: Global,
     file: &mut VmFile<S>,
     frames: &mut LruCache<u16, Frame>,
 ) -> Result<(), Fault>
     requires kept { AreFramesOf (S.facts file.old.disk.store).honest file.old.document frames.old.entries }
+    // The file, and what a commit may be made of.
     ensures moves { KeepsOverlay S.facts file.old frames.old.entries file.new frames.new.entries }
     ensures ok { OnOk result ((file.old.disk.sequence ≢ last_sequence) × AreClean frames.new.entries) }
     ensures err { OnErr result ((pair : Documents) (behind : Document) → IsCommit S.facts pair behind
         (with_frames file.old frames.old.entries) (with_frames file.new frames.new.entries) result) }
+    // What is in memory stays there.
     ensures residents { residents frames.new.entries ≡ residents frames.old.entries }
     ensures cap { frames.new.cap ≡ frames.old.cap }
+    // Refusals.
     ensures fails { Fails S.facts IsWorn file.old.disk.store file.new.disk.store result }
 {
     file.validity();
@@ -37,8 +41,8 @@ fn begin<S: Store>(
     Ok(())
 }
 
-/// Makes the document under the frames the updated one. Worn, before anything is written; Memory, where nothing is committed;
-/// File.
+/// Makes the document under the frames the updated one. Worn, before anything is written; Memory, where nothing is
+/// committed; File.
 pub fn update<S: Store>(
     alloc: Global,
     file: &mut VmFile<S>,
@@ -77,8 +81,8 @@ pub fn save<S: Store>(
     file.commit_save()
 }
 
-/// Makes the saved document the updated one and the one of the file, over which no frame lies any more. Where it is refused the
-/// frames stay: Worn, before anything is written; Memory, where nothing is committed; File.
+/// Makes the saved document the updated one and the one of the file, over which no frame lies any more. Where it is
+/// refused the frames stay: Worn, before anything is written; Memory, where nothing is committed; File.
 pub fn revert<S: Store>(
     file: &mut VmFile<S>,
     frames: &mut LruCache<u16, Frame>,

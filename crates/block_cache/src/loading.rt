@@ -112,8 +112,8 @@ fn evict<S: Store>(
     Ok(frame.body.into_region())
 }
 
-/// Frees a frame, if each one is taken. The region for the block that comes is that of the block that goes, or else a new one.
-/// Memory, File.
+/// Frees a frame, if each one is taken. The region for the block that comes is that of the block that goes, or else a
+/// new one. Memory, File.
 pub fn make_room<S: Store>(
     alloc: Global,
     file: &mut VmFile<S>,
@@ -140,8 +140,8 @@ pub fn make_room<S: Store>(
     evict(alloc, file, frames)
 }
 
-// The body of a block as the file has it, in this region. Damaged where what is read is no image of the block's kind, which an honest
-// store never gives; Memory, File.
+// The body of a block as the file has it, in this region. Damaged where what is read is no image of the block's kind,
+// which an honest store never gives; Memory, File.
 fn read_body<S: Store>(
     file: &mut VmFile<S>,
     block: VmHandle,
@@ -247,8 +247,8 @@ fn first_changed(frames: &LruCache<u16, Frame>) -> Option<u16>
     }
 }
 
-/// Puts all blocks in memory that are changed into the file; they stay in memory. Where that is refused, some are in the file,
-/// and the others are still changed. Memory, File.
+/// Puts all blocks in memory that are changed into the file; they stay in memory. Where that is refused, some are in
+/// the file, and the others are still changed. Memory, File.
 pub fn flush<S: Store>(
     alloc: Global,
     file: &mut VmFile<S>,
@@ -267,8 +267,8 @@ pub fn flush<S: Store>(
     Ok(())
 }
 
-/// Frees all frames, the locked ones too, with each block that is changed written first; where that is refused they stay.
-/// Memory, File.
+/// Frees all frames, the locked ones too, with each block that is changed written first; where that is refused they
+/// stay. Memory, File.
 pub fn drop_all<S: Store>(
     alloc: Global,
     file: &mut VmFile<S>,

@@ -44,10 +44,10 @@ fn mark_all(frames: &mut LruCache<u16, Frame>)
     }
 }
 
-/// Makes the target a file of its own of the document under the frames, which takes the place of the file, and reverts the file so
-/// far to its saved document. Where it is refused the file stays, and the target comes back; nothing is committed then, but where
-/// the store of the old file fails. Worn, before anything is written; Damaged where what is read is no image, which an honest
-/// store never gives; Memory, File.
+/// Makes the target a file of its own of the document under the frames, which takes the place of the file, and reverts
+/// the file so far to its saved document. Where it is refused the file stays, and the target comes back; nothing is
+/// committed then, but where the store of the old file fails. Worn, before anything is written; Damaged where what is
+/// read is no image, which an honest store never gives; Memory, File.
 pub fn save_as<S: Store>(
     alloc: Global,
     file: &mut VmFile<S>,

@@ -57,7 +57,8 @@ fn the_handles_are_those_in_memory_and_not(rt: HostRuntime) -> Result<(), Fail> 
     Ok(())
 }
 
-// A saved document of two raw blocks and a heap: the first is in memory and changed since, and the heap has another type.
+// A saved document of two raw blocks and a heap: the first is in memory and changed since, and the heap has another
+// type.
 const THREE: [Step; 7] = [
     Put(1, b"one"),
     Put(2, b"two"),

@@ -25,7 +25,8 @@ const CHANGED: [Step; 6] = [
     Set(1, b"changed"),
 ];
 
-// The file of such a document with one frame, when the steps were taken on it. One call of the store fails, the one after so many.
+// The file of such a document with one frame, when the steps were taken on it. One call of the store fails, the one
+// after so many.
 fn one_frame(
     alloc: Global,
     passes: u64,

@@ -109,7 +109,8 @@ fn take_both<S: Store>(
     take(alloc, cache, steps)
 }
 
-/// The store of a new document with so many frames, when the steps were taken on it: some that begin it, and the others.
+/// The store of a new document with so many frames, when the steps were taken on it: some that begin it, and the
+/// others.
 pub(crate) fn made<S: Store>(
     alloc: Global,
     store: S,

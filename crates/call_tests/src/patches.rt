@@ -173,7 +173,8 @@ fn turns(alloc: Global, heap: &mut Heap, pieces: &[Plain]) -> Result<bool, Alloc
     }
 }
 
-/// Whether pieces do to the first chunk of so many bytes what they say, and back again, and nothing to the one beside it.
+/// Whether pieces do to the first chunk of so many bytes what they say, and back again, and nothing to the one beside
+/// it.
 fn goes_there_and_back(alloc: Global, n: u32, pieces: &[Plain]) -> Result<bool, AllocError> {
     let mut heap = heap_of(alloc, n)?;
     let beside = bytes_of(alloc, &heap, SECOND)?;

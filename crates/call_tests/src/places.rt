@@ -63,8 +63,8 @@ pub(crate) fn lie_at(heap: &Heap, offsets: &[Option<usize>]) -> bool {
     true
 }
 
-// The pieces of the chunks that have bytes, in the order in which they lie. None where another slot, up to the one behind the
-// last chunk, has a place, or one of these has none.
+// The pieces of the chunks that have bytes, in the order in which they lie. None where another slot, up to the one
+// behind the last chunk, has a place, or one of these has none.
 fn pieces_of(
     alloc: Global,
     heap: &Heap,
@@ -97,7 +97,8 @@ fn lie_apart(pieces: &[Piece], table_end: usize) -> bool {
     end <= CAPACITY
 }
 
-// Whether each piece, filled up to whole double words, ends where the next one begins, and the last one with the region.
+// Whether each piece, filled up to whole double words, ends where the next one begins, and the last one with the
+// region.
 fn lie_last(pieces: &[Piece]) -> bool {
     let mut end = CAPACITY;
     for piece in pieces.iter().rev() {

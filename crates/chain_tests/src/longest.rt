@@ -33,7 +33,8 @@ fn a_ring_has_no_end(rt: HostRuntime) -> Result<(), Mismatch> {
     dialogue.expect_replies()
 }
 
-// The first 64 blocks of such a chain become tree blocks, each with all the branches that it has room for, to the next block.
+// The first 64 blocks of such a chain become tree blocks, each with all the branches that it has room for, to the next
+// block.
 fn add_thicket(alloc: Global, dialogue: &mut Dialogue) -> Result<(), Mismatch> {
     for handle in 1..65 {
         let link = word(alloc, handle + 1)?;
@@ -53,8 +54,8 @@ fn more_branches_than_blocks_are_no_chain(rt: HostRuntime) -> Result<(), Mismatc
     dialogue.expect_replies()
 }
 
-// A tree block under the handle 1 with a branch to each other block that there can be and then to block 2 so often, and all of the
-// others link to none.
+// A tree block under the handle 1 with a branch to each other block that there can be and then to block 2 so often, and
+// all of the others link to none.
 fn add_star(alloc: Global, dialogue: &mut Dialogue, more: u16) -> Result<(), Mismatch> {
     add_blocks(alloc, dialogue, &["-"])?;
     let count = word(alloc, 8_191 + usize::from(more))?;

@@ -20,8 +20,8 @@ pub const GREATEST_SIZE: u32 = 4096;
 /// How many extra bytes an array can be made with at most.
 const GREATEST_EXTRA: u32 = 1024;
 
-/// The bytes of an array without elements: the size that each will have, 0 where sizes vary, and how many zeros as extra
-/// bytes. Range past 4,096 or past 1,024.
+/// The bytes of an array without elements: the size that each will have, 0 where sizes vary, and how many zeros as
+/// extra bytes. Range past 4,096 or past 1,024.
 pub fn create_bytes(alloc: Global, size: u32, extra: u32) -> Result<Vec<u8>, Fault>
     ensures { MatchResult result
         (λ bytes. (first_refusal (create_conditions size extra) ≡ None) ×
@@ -71,8 +71,8 @@ pub fn set(alloc: Global, bytes: &[u8], i: u32, element: &[u8]) -> Result<Patch,
     rewrite(alloc, &view, &[], at, at + 1, Some(whole(element)))
 }
 
-/// The patch that cuts element `i` at its end, or adds zeros there, so that it has `n` bytes. NotArray, NoElement; Range
-/// where the array has elements of one size; Full where the array would be longer than any chunk.
+/// The patch that cuts element `i` at its end, or adds zeros there, so that it has `n` bytes. NotArray, NoElement;
+/// Range where the array has elements of one size; Full where the array would be longer than any chunk.
 pub fn resize(alloc: Global, bytes: &[u8], i: u32, n: u32) -> Result<Patch, Fault>
     ensures { MatchResult result
         (Replaces (resize_conditions bytes.now i) bytes.now (element_resized bytes.now i n))

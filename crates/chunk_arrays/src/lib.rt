@@ -1,5 +1,4 @@
-//! Chunk arrays: a row of elements of one size, or of any, in the bytes of a chunk. An array is read where it lies, and an
-//! edit of it is built as a patch, without a change.
+//! Chunk arrays: a row of elements of one size, or of any, in a chunk's bytes; an edit of one is built as a patch.
 #![tactic(auto)]
 
 mod draft;

@@ -24,9 +24,10 @@ pub struct NewElement<'a> {
     pub zeros: usize,
 }
 
-/// The patch that leaves an array with these bytes as the first of its extra bytes, of which it has as many as before, and
-/// with an element or none in the place of those from `from` to `to`, of which there is one at most where one comes. Full
-/// where its bytes would be more than any chunk has. What the patch holds is in proportion to the elements that change.
+/// The patch that leaves an array with these bytes as the first of its extra bytes, of which it has as many as before,
+/// and with an element or none in the place of those from `from` to `to`, of which there is one at most where one
+/// comes. Full where its bytes would be more than any chunk has. What the patch holds is in proportion to the elements
+/// that change.
 pub fn rewrite(
     alloc: Global,
     view: &View<'_>,
@@ -115,7 +116,8 @@ fn new_len(new: Option<NewElement<'_>>) -> usize
     }
 }
 
-/// Adds what lies before the table of places: the header, with the count then, and the extra bytes, with these as the first.
+/// Adds what lies before the table of places: the header, with the count then, and the extra bytes, with these as the
+/// first.
 fn draft_head(
     draft: &mut Draft,
     view: &View<'_>,

@@ -43,8 +43,8 @@ impl<'a> Model for View<'a> {
     ghost invariant = { IsView };
 }
 
-/// The array that these bytes are: a header of four words, extra bytes, and elements without gaps. NotArray where they are
-/// none. It takes time in proportion to the number of elements, and no memory.
+/// The array that these bytes are: a header of four words, extra bytes, and elements without gaps. NotArray where they
+/// are none. It takes time in proportion to the number of elements, and no memory.
 pub fn check(bytes: &[u8]) -> Result<View<'_>, Fault>
     ensures { MatchResult result (λ view. array_of bytes.now ≡ Some view.array)
         (λ fault. (fault ≡ Fault.NotArray) × (array_of bytes.now ≡ None)) }
@@ -180,8 +180,8 @@ impl<'a> View<'a> {
         &self.bytes[self.start + 2 * from..self.start + 2 * to]
     }
 
-    /// The bytes of an element that begins at this place, and where the next one begins, or where the last one ends. A walk
-    /// over the elements looks each place up but once.
+    /// The bytes of an element that begins at this place, and where the next one begins, or where the last one ends. A
+    /// walk over the elements looks each place up but once.
     pub fn element_from(&self, i: usize, place: usize) -> (&'a [u8], usize)
         requires within { i < length self.now.array.elements }
         requires place { place ≡ element_place self.now.array i }
@@ -193,8 +193,8 @@ impl<'a> View<'a> {
         (bytes, next)
     }
 
-    /// Where an element begins among the array's bytes, or where the last one ends. A table of places gives only places that
-    /// words can hold.
+    /// Where an element begins among the array's bytes, or where the last one ends. A table of places gives only places
+    /// that words can hold.
     pub fn place(&self, i: usize) -> usize
         requires { i ≤ length self.now.array.elements }
         ensures place { result ≡ element_place self.now.array i }

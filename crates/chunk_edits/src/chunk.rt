@@ -110,8 +110,8 @@ pub fn delete(alloc: Global, heap: &Heap, h: ChunkHandle, at: u32, n: u32) -> Re
     Ok(Splice::of(alloc, at, old, &[])?)
 }
 
-/// The splice that cuts a chunk at its end, or adds zeros there, so that it has `n` bytes. Full where the heap has no room
-/// for them.
+/// The splice that cuts a chunk at its end, or adds zeros there, so that it has `n` bytes. Full where the heap has no
+/// room for them.
 pub fn resize(alloc: Global, heap: &Heap, h: ChunkHandle, n: u32) -> Result<Splice, Fault>
     requires { IsTrue (contains_key heap.now.chunks h.0) }
     ensures built { MatchResult result

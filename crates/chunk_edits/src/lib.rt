@@ -1,5 +1,4 @@
-//! Edits of bytes as splices: a part of a chunk or of a raw body, and what takes its place. A splice is built without a
-//! change, and then applied or taken back without a refusal.
+//! Edits of bytes as splices: built without a change, and then applied or taken back without a refusal.
 #![tactic(auto)]
 
 mod chunk;

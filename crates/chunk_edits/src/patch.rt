@@ -61,11 +61,13 @@ const USUAL_SPANS: usize = 8;
 /// For how many of the bytes that go or come a patch has room when it is made; for more it takes an allocation.
 const USUAL_BYTES: usize = 40;
 
-/// All bytes of a chunk in pieces, of which some stay and others change. Contracts see it as the pieces, the first one first.
+/// All bytes of a chunk in pieces, of which some stay and others change. Contracts see it as the pieces, the first one
+/// first.
 #[derive(Drop)]
 pub struct Patch {
     spans: Vec<Span>,
-    /// Of each piece the bytes that go, and behind them those that come. They lie in a box, so that the patch itself is short.
+    /// Of each piece the bytes that go, and behind them those that come. They lie in a box, so that the patch itself is
+    /// short.
     content: Box<SmallVec<u8, USUAL_BYTES>>,
 }
 
@@ -159,7 +161,8 @@ impl Patch {
         size
     }
 
-    /// For how many bytes there must be room while it is carried out, in either direction; 2^64 - 1 where these are more.
+    /// For how many bytes there must be room while it is carried out, in either direction; 2^64 - 1 where these are
+    /// more.
     pub fn peak(&self) -> usize
         ensures { result ≡ min (peak self.now) (2 ^ 64 - 1) }
     {
@@ -210,8 +213,8 @@ fn apply_spans(
     }
 }
 
-/// Makes of the bytes at a place of a chunk what a span's piece makes of them in a direction. The bytes that it holds are
-/// the first of the row. Gives the place behind them.
+/// Makes of the bytes at a place of a chunk what a span's piece makes of them in a direction. The bytes that it holds
+/// are the first of the row. Gives the place behind them.
 fn apply_span(
     heap: &mut Heap,
     h: ChunkHandle,
@@ -220,14 +223,17 @@ fn apply_span(
     row: &[u8],
     direction: Direction,
 ) -> usize
+    // The piece, of a live chunk.
     requires live { IsTrue (contains_key heap.old.chunks h.0) }
     requires whole { own span ≤ length row.now }
+    // What it is made of, and what it makes, within a chunk's room and the heap's.
     requires within { at + taken (directed_piece direction (piece_of span row.now)) ≤
         length (chunk_bytes heap.old.chunks h.0) }
     requires before { at + taken (directed_piece direction (piece_of span row.now)) ≤ capacity }
     requires after { at + given (directed_piece direction (piece_of span row.now)) ≤ capacity }
     requires fits { IsTrue (fits_with heap.old.chunks h.0
         (with_piece (directed_piece direction (piece_of span row.now)) at (chunk_bytes heap.old.chunks h.0))) }
+    // What is done.
     ensures chunks { heap.new.chunks ≡ insert heap.old.chunks h.0
         (with_piece (directed_piece direction (piece_of span row.now)) at (chunk_bytes heap.old.chunks h.0)) }
     ensures place { result ≡ at + given (directed_piece direction (piece_of span row.now)) }

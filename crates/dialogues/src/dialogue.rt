@@ -89,8 +89,8 @@ impl Dialogue {
         self.add_text("\n", "\n")
     }
 
-    /// Lines, each a command, then ` = ` and its reply, or one that gets no reply. Spaces round each are left out. In a word
-    /// `61+00*4` stands for `6100000000`.
+    /// Lines, each a command, then ` = ` and its reply, or one that gets no reply. Spaces round each are left out. In a
+    /// word `61+00*4` stands for `6100000000`.
     pub fn add_lines(&mut self, text: &str) -> Result<(), AllocError> {
         for line in text.lines() {
             match line.split_once(" = ") {
@@ -149,8 +149,8 @@ impl Dialogue {
         }
     }
 
-    /// Runs the script on the document of a session, with what a save-as may make a file of, and compares the replies. Gives the
-    /// session back.
+    /// Runs the script on the document of a session, with what a save-as may make a file of, and compares the replies.
+    /// Gives the session back.
     pub fn expect_replies_on<S: Store>(
         &self,
         session: Session<S>,

@@ -16,8 +16,8 @@ use lmem_heap::Heap;
 use std::alloc::Global;
 use vm_blocks::{Content, PartChange};
 
-/// What an edit changes of a chunk, and what it answers. Whether the heap has room for what an edit of an array makes isn't looked
-/// at.
+/// What an edit changes of a chunk, and what it answers. Whether the heap has room for what an edit of an array makes
+/// isn't looked at.
 pub fn build(
     alloc: Global,
     heap: &Heap,

@@ -1,9 +1,4 @@
-//! What is looked up of a document. A block that is looked into is brought into memory first, which may be refused; the answer
-//! is that of the document as it is held from then on. Of a chain each block is, one after another. Each call answers its first
-//! refusal: NoBlock or WrongKind, which are known without the block; then CacheFull where it can't be brought into memory, since
-//! each frame has a locked block and it is none of them, and of a chain wherever each frame has one; then what its body refuses.
-//! Memory, File or Damaged may come in place of what follows CacheFull; not where the block is in memory: then no store is called, and
-//! memory is taken for a list alone.
+//! What is looked up of a document.
 ghost use Rattle.std.specs.Prelude.{◌≡◌, [], false, MatchResult, get_or, length};
 ghost use Rattle.std.specs.Borrow.{sem};
 ghost use Rattle.geos_model.specs.ArrayEdits.{array_in, on_array, on_element};

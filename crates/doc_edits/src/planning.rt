@@ -26,11 +26,11 @@ use std::alloc::Global;
 use vm_blocks::{Change, FileBlocks};
 use vm_store::Store;
 
-/// The change that an edit means in the document as it is after the call, and what it answers; or its first refusal there, or
-/// what the call lacked. Blocks may be brought into memory, and nothing else changes. NoBlock and WrongKind come first; then
-/// CacheFull, where there is no frame for the block into whose body the edit looks, or some frame has to be free of locks for a
-/// chain and none is: then nothing changes at all. No store is called, and none lacked, where no body has to be read: it is in memory, or the
-/// edit is refused for its block.
+/// The change that an edit means in the document as it is after the call, and what it answers; or its first refusal
+/// there, or what the call lacked. Blocks may be brought into memory, and nothing else changes. NoBlock and WrongKind
+/// come first; then CacheFull, where there is no frame for the block into whose body the edit looks, or some frame has
+/// to be free of locks for a chain and none is: then nothing changes at all. No store is called, and none lacked, where
+/// no body has to be read: it is in memory, or the edit is refused for its block.
 pub fn plan<S: Store>(
     alloc: Global,
     blocks: &mut FileBlocks<S>,
@@ -92,8 +92,8 @@ fn plan_of_block<S: Store>(
     plan_loaded(alloc, blocks, edit)
 }
 
-/// Brings the block into memory into whose body the edit looks, if there is one. NoBlock where it isn't live, WrongKind where it is
-/// of another kind.
+/// Brings the block into memory into whose body the edit looks, if there is one. NoBlock where it isn't live, WrongKind
+/// where it is of another kind.
 fn load_scope<S: Store>(blocks: &mut FileBlocks<S>, edit: &Edit) -> Result<(), Fault>
     requires { is_of_chain edit.now ≡ false }
     ensures keeps { KeepsBlocks S.facts blocks.old blocks.new }

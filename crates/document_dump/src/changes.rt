@@ -75,10 +75,12 @@ fn both_change<S: Store>(
     before: Attributes,
     after: Attributes,
 ) -> Result<Change, DumpFault>
+    // The block, and its attributes in both.
     requires was { is_live file.old.disk.saved block.0 ≡ true }
     requires live { is_live file.old.document block.0 ≡ true }
     requires before { before ≡ attributes_of file.old.disk.saved block.0 }
     requires after { after ≡ attributes_of file.old.document block.0 }
+    // What is read, and found.
     ensures reads { OnlyReads S.facts file.old file.new }
     ensures fails { IfErr result (IsDumpRefusal (S.facts file.old.disk.store) (S.facts file.new.disk.store)) }
     ensures ok { IfOk result (λ change. IsTrue (S.facts file.old.disk.store).honest

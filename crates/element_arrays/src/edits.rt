@@ -37,8 +37,8 @@ pub fn create_bytes(alloc: Global, size: u32) -> Result<Vec<u8>, Fault>
 }
 
 /// The patch that gives an equal element, the lowest of these, one more reference, or else brings a new one, and its
-/// token. NotArray; CountFull where the equal one has as many as any can have; Range where the array has elements of another
-/// size; Full where the array would be longer than any chunk.
+/// token. NotArray; CountFull where the equal one has as many as any can have; Range where the array has elements of
+/// another size; Full where the array would be longer than any chunk.
 pub fn add(alloc: Global, bytes: &[u8], element: &[u8]) -> Result<(Patch, Token), Fault>
     ensures { MatchResult result
         (λ made. Replaces (add_conditions bytes.now element.now) bytes.now
@@ -61,8 +61,8 @@ pub fn add(alloc: Global, bytes: &[u8], element: &[u8]) -> Result<(Patch, Token)
     }
 }
 
-/// The patch that gives an element one more reference. NotArray, NoElement; CountFull where it has as many as any can have;
-/// Full where the array is longer than any chunk.
+/// The patch that gives an element one more reference. NotArray, NoElement; CountFull where it has as many as any can
+/// have; Full where the array is longer than any chunk.
 pub fn add_ref(alloc: Global, bytes: &[u8], token: Token) -> Result<Patch, Fault>
     ensures { MatchResult result
         (Replaces (add_reference_conditions bytes.now token.0) bytes.now (reference_added bytes.now token.0))
@@ -72,8 +72,8 @@ pub fn add_ref(alloc: Global, bytes: &[u8], token: Token) -> Result<Patch, Fault
     with_reference(alloc, &slots, token)
 }
 
-/// The patch that takes a reference of an element, which is freed with the last one. NotArray, NoElement; Full where the
-/// array is longer than any chunk.
+/// The patch that takes a reference of an element, which is freed with the last one. NotArray, NoElement; Full where
+/// the array is longer than any chunk.
 pub fn remove_ref(alloc: Global, bytes: &[u8], token: Token) -> Result<Patch, Fault>
     ensures { MatchResult result
         (Replaces (on_token bytes.now token.0) bytes.now (reference_removed bytes.now token.0))
@@ -88,8 +88,8 @@ pub fn remove_ref(alloc: Global, bytes: &[u8], token: Token) -> Result<Patch, Fa
     }
 }
 
-/// The patch that frees an element, whatever its references. NotArray, NoElement; Full where the array is longer than any
-/// chunk.
+/// The patch that frees an element, whatever its references. NotArray, NoElement; Full where the array is longer than
+/// any chunk.
 pub fn delete(alloc: Global, bytes: &[u8], token: Token) -> Result<Patch, Fault>
     ensures { MatchResult result
         (Replaces (on_token bytes.now token.0) bytes.now (element_deleted bytes.now token.0))
@@ -117,8 +117,8 @@ pub fn change(alloc: Global, bytes: &[u8], token: Token, element: &[u8]) -> Resu
     slots.with_element(alloc, token, used.count, element, &[])
 }
 
-/// The patch that gives an element one more reference. NoElement; CountFull where it has as many as any can have; Full where
-/// the array is longer than any chunk.
+/// The patch that gives an element one more reference. NoElement; CountFull where it has as many as any can have; Full
+/// where the array is longer than any chunk.
 fn with_reference(alloc: Global, slots: &SlotView<'_>, token: Token) -> Result<Patch, Fault>
     ensures { MatchResult result
         (Replaces (element_reference_conditions slots.now.slots token.0) (slotted_bytes slots.now.more slots.now.slots)

@@ -1,5 +1,4 @@
-//! Element arrays: elements under tokens, each with a count of references, in a chunk array. An edit of one leaves the tokens
-//! of all others. The slots that they lie in are those of name arrays too.
+//! Element arrays: elements under tokens, each with a count of references; the slots that they lie in serve names too.
 #![tactic(auto)]
 
 mod edits;

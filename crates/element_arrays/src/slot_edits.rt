@@ -13,8 +13,8 @@ use geos_model::{Fault, Token};
 use std::alloc::{AllocError, Global};
 
 impl<'a> SlotView<'a> {
-    /// The patch that gives a used element this count and these bytes, in two parts. Full where the array would be longer
-    /// than any chunk.
+    /// The patch that gives a used element this count and these bytes, in two parts. Full where the array would be
+    /// longer than any chunk.
     pub fn with_element(
         &self,
         alloc: Global,
@@ -62,8 +62,8 @@ impl<'a> SlotView<'a> {
         rewrite(alloc, array, &number, at, at + 1, Some(element))
     }
 
-    /// The patch that brings a new element of one reference and these bytes, in two parts, and its token: the newest free
-    /// one, else the next. Full where the array would be longer than any chunk.
+    /// The patch that brings a new element of one reference and these bytes, in two parts, and its token: the newest
+    /// free one, else the next. Full where the array would be longer than any chunk.
     pub fn with_new(&self, alloc: Global, head: &[u8], tail: &[u8]) -> Result<(Patch, Token), Fault>
         requires { is_missized self.now.slots.size (head.now ++ tail.now) ≡ false }
         ensures { MatchResult result

@@ -29,8 +29,8 @@ pub struct Used<'a> {
     pub bytes: &'a [u8],
 }
 
-/// The slots of an element array or a name array, read where they lie. Contracts see the slots, and the extra bytes behind
-/// the newest free token.
+/// The slots of an element array or a name array, read where they lie. Contracts see the slots, and the extra bytes
+/// behind the newest free token.
 #[derive(Drop)]
 pub struct SlotView<'a> {
     view: View<'a>,
@@ -49,8 +49,8 @@ impl<'a> Model for SlotView<'a> {
     ghost invariant = { λ v. slots_array (drop 2 v.view.array.extra) (slots_read v.view.array) ≡ v.view.array };
 }
 
-/// The slots of an array that has so many extra bytes, at least two. NotArray where it is none of slots. It takes time in
-/// proportion to the array's bytes, and no memory.
+/// The slots of an array that has so many extra bytes, at least two. NotArray where it is none of slots. It takes time
+/// in proportion to the array's bytes, and no memory.
 pub fn slots_in<'a>(view: View<'a>, extra: usize) -> Result<SlotView<'a>, Fault>
     requires { 2 ≤ extra }
     ensures { MatchResult result
@@ -63,8 +63,8 @@ pub fn slots_in<'a>(view: View<'a>, extra: usize) -> Result<SlotView<'a>, Fault>
     slots_within(view, extra, 0, most)
 }
 
-/// The slots of an array that has so many extra bytes, at least two, where each used element has so many bytes at least and at
-/// most. NotArray where it is none of such slots. One walk over the elements tests both.
+/// The slots of an array that has so many extra bytes, at least two, where each used element has so many bytes at least
+/// and at most. NotArray where it is none of such slots. One walk over the elements tests both.
 pub fn slots_within<'a>(
     view: View<'a>,
     extra: usize,
@@ -86,7 +86,8 @@ pub fn slots_within<'a>(
     }
 }
 
-/// Whether an array with so many extra bytes is one of slots, and each used element has so many bytes at least and at most.
+/// Whether an array with so many extra bytes is one of slots, and each used element has so many bytes at least and at
+/// most.
 fn are_slots(view: &View<'_>, extra: usize, least: usize, most: usize) -> bool
     requires enough { 2 ≤ extra }
     requires order { least ≤ most }
@@ -109,8 +110,8 @@ fn are_slots(view: &View<'_>, extra: usize, least: usize, most: usize) -> bool
     }
 }
 
-/// How many elements are free, if the bytes of each are those of a slot, and each used one has so many bytes at least and at
-/// most.
+/// How many elements are free, if the bytes of each are those of a slot, and each used one has so many bytes at least
+/// and at most.
 fn count_free(view: &View<'_>, size: usize, least: usize, most: usize) -> Option<usize>
     requires order { least ≤ most }
     requires room { most + 3 < 2 ^ 64 }
@@ -131,8 +132,8 @@ fn count_free(view: &View<'_>, size: usize, least: usize, most: usize) -> Option
     Some(free)
 }
 
-/// Whether these are the bytes of a slot with a used element, as far as their number, their third and their first alone tell.
-/// So they do of most, since hardly any element has a multiple of 256 references.
+/// Whether these are the bytes of a slot with a used element, as far as their number, their third and their first alone
+/// tell. So they do of most, since hardly any element has a multiple of 256 references.
 fn is_plain(bytes: &[u8], least: usize, most: usize) -> bool
     requires order { least ≤ most }
     requires room { most + 3 < 2 ^ 64 }
@@ -142,8 +143,8 @@ fn is_plain(bytes: &[u8], least: usize, most: usize) -> bool
     is_within(bytes.len(), least + 3, most + 3) && bytes[2] != FREE && bytes[0] != 0
 }
 
-/// Whether a slot is free, if these are the bytes of one, where each has so many behind the first three, 0 where sizes vary,
-/// and a used element so many at least and at most.
+/// Whether a slot is free, if these are the bytes of one, where each has so many behind the first three, 0 where sizes
+/// vary, and a used element so many at least and at most.
 fn is_free(bytes: &[u8], size: usize, least: usize, most: usize) -> Option<bool>
     requires order { least ≤ most }
     requires room { most + 3 < 2 ^ 64 }
@@ -193,8 +194,8 @@ fn are_zeros(bytes: &[u8]) -> bool
     bytes.iter().all(|b| *b == 0)
 }
 
-/// Whether from a token on so many links lead over free elements to the end. A walk that ends meets no token twice, so one
-/// of as many steps as there are free elements meets each of them.
+/// Whether from a token on so many links lead over free elements to the end. A walk that ends meets no token twice, so
+/// one of as many steps as there are free elements meets each of them.
 fn is_walk(view: &View<'_>, first: u16, steps: usize) -> bool
     ensures { result ≡ is_walk steps view.now.array.elements first }
 {
@@ -273,8 +274,8 @@ impl<'a> SlotView<'a> {
         used_in(self.view.element(i))
     }
 
-    /// The bytes of the slot of a token that begins at this place, and where the next one begins, or where the last one ends. A
-    /// walk over the tokens looks each place up but once.
+    /// The bytes of the slot of a token that begins at this place, and where the next one begins, or where the last one
+    /// ends. A walk over the tokens looks each place up but once.
     fn slot_from(&self, token: Token, place: usize) -> (&'a [u8], usize)
         requires within { token.0 < length self.now.slots.slots }
         requires place { place ≡ element_place (slotted_array self.now) token.0 }
@@ -344,8 +345,8 @@ fn has_bytes(slot: &[u8], skip: usize, bytes: &[u8]) -> bool
     }
 }
 
-/// Whether the last byte is that of the others, if they have any. Of most elements it is another, so that nothing else is
-/// read of them.
+/// Whether the last byte is that of the others, if they have any. Of most elements it is another, so that nothing else
+/// is read of them.
 fn may_end_in(bytes: &[u8], others: &[u8]) -> bool
     requires { 1 ≤ length bytes.now }
     ensures { result ≡ false → (n : ℕ) → same_bytes (drop n bytes.now) others.now ≡ false }

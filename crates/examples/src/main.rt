@@ -9,8 +9,8 @@ use std::process::ExitCode;
 use std::{fs, io};
 use vm_store::MemStore;
 
-/// The examples. Each list begins on a new document, and what comes behind another one goes on with the file that that one left,
-/// with a new file for a save-as.
+/// The examples. Each list begins on a new document, and what comes behind another one goes on with the file that that
+/// one left, with a new file for a save-as.
 const EXAMPLES: [&[&str]; 12] = [
     &["first_path"],
     &["chunk_edits"],
@@ -30,7 +30,8 @@ const EXAMPLES: [&[&str]; 12] = [
     ],
 ];
 
-/// Runs an example on a new document, or on the one in a file and with a new file for a save-as. Gives back the file that it leaves.
+/// Runs an example on a new document, or on the one in a file and with a new file for a save-as. Gives back the file
+/// that it leaves.
 fn play(
     rt: &HostRuntime,
     name: &str,

@@ -45,8 +45,8 @@ pub(crate) fn begin(alloc: Global, left: Option<MemStore>) -> Result<Session<Mem
     }
 }
 
-/// Runs a script on a session, with what a save-as may make a file of, and compares the replies. Gives back the file that it leaves,
-/// where they are as expected.
+/// Runs a script on a session, with what a save-as may make a file of, and compares the replies. Gives back the file
+/// that it leaves, where they are as expected.
 pub(crate) fn answer(
     alloc: Global,
     session: Session<MemStore>,

@@ -26,10 +26,12 @@ fn push_page(
     counts: &mut [u64],
     page: u64,
 ) -> Result<Walk, AllocError>
+    // The page, and what was found below it.
     requires sorted { IsNonDecreasingBy (λ p. p.extent.page) parts.now }
     requires walk { IsWalk parts.now page from }
     requires tally { IsTally parts.now page counts.old }
     requires below { page < 2 ^ 56 }
+    // What is found with it.
     ensures walk { IfOk result (λ walk. IsWalk parts.now (page + 1) walk) }
     ensures tally { OnOk result (IsTally parts.now (page + 1) counts.new) }
     ensures text { OnOk result (out.new.items ≡ out.old.items ++ glyph (content_at parts.now page) ∷ []) }
@@ -50,11 +52,13 @@ fn push_row(
     counts: &mut [u64],
     row: u64,
 ) -> Result<Walk, AllocError>
+    // The row, and what was found below it.
     requires sorted { IsNonDecreasingBy (λ p. p.extent.page) parts.now }
     requires below { pages < 2 ^ 56 }
     requires begins { 64 * row < pages }
     requires walk { IsWalk parts.now (64 * row) from }
     requires tally { IsTally parts.now (64 * row) counts.old }
+    // What is found with it.
     ensures walk { IfOk result (λ walk. IsWalk parts.now (row_end pages row) walk) }
     ensures tally { OnOk result (IsTally parts.now (row_end pages row) counts.new) }
     ensures text { OnOk result (out.new.items ≡ out.old.items ++ row_text parts.now pages row) }

@@ -70,7 +70,8 @@ fn copied_file(alloc: Global, file: &mut VmFile<Fused>, steps: &[Step]) -> Resul
     closed(copy, end)
 }
 
-// Makes that document and copies it, and takes the steps on the copy and then on the document. Returns the file of the copy.
+// Makes that document and copies it, and takes the steps on the copy and then on the document. Returns the file of the
+// copy.
 fn make_and_copy(
     alloc: Global,
     file: &mut VmFile<Fused>,
@@ -148,8 +149,8 @@ fn a_copy_is_whole_after_a_crash(rt: HostRuntime) -> Result<(), Fail> {
     Ok(())
 }
 
-// Makes that document, and takes the steps on it behind a copy of it that is refused since a store fails. Returns the target, which is
-// given back.
+// Makes that document, and takes the steps on it behind a copy of it that is refused since a store fails. Returns the
+// target, which is given back.
 fn make_and_refuse(
     alloc: Global,
     file: &mut VmFile<Fused>,

@@ -143,7 +143,8 @@ impl Record {
         Ok(())
     }
 
-    // Plays the first steps up to one that isn't done. Returns how many commits there were, and whether another one was tried.
+    // Plays the first steps up to one that isn't done. Returns how many commits there were, and whether another one was
+    // tried.
     fn play_up(&mut self, alloc: Global, file: &mut VmFile<Fused>) -> Result<(usize, bool), Fault> {
         let mut commits = 0;
         for step in &STEPS[..FIRST_STEPS] {
@@ -235,8 +236,8 @@ fn played(alloc: Global, passes: u64, steps: &[Step]) -> Result<(Fused, Record),
     played_from(alloc, create(alloc, store)?, NONE, steps)
 }
 
-// The store of a new file on which the first steps were played, where all its calls after so many fail, with how many commits there
-// were, and whether another one was tried.
+// The store of a new file on which the first steps were played, where all its calls after so many fail, with how many
+// commits there were, and whether another one was tried.
 fn played_up(alloc: Global, passes: u64) -> Result<(Fused, usize, bool), Fault> {
     let store = FuseStore::new(MemStore::new(alloc), passes, true);
     let mut file = create(alloc, store)?;
@@ -344,7 +345,8 @@ fn is_kept_behind_each(alloc: Global, passes: u64, fill: u8) -> Result<bool, Fau
     Ok(true)
 }
 
-// Each of the first store calls fails alone. Returns the one after whose failure a crash behind some step leaves other documents.
+// Each of the first store calls fails alone. Returns the one after whose failure a crash behind some step leaves other
+// documents.
 fn first_loss(alloc: Global, fill: u8) -> Result<Option<u64>, Fault> {
     for passes in MAKING..=all_calls(alloc)? {
         if !is_kept_behind_each(alloc, passes, fill)? {

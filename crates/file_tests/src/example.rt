@@ -1,6 +1,6 @@
 //! A file of two documents, in each version of the format.
-// The updated one has one block, handle 1, user ID 7, which is the map block; the saved one has no block. In version 1 the block is raw,
-// with the bytes `ab`. In version 2 it is an empty heap of the type 4660, of which each byte tells.
+// The updated one has one block, handle 1, user ID 7, which is the map block; the saved one has no block. In version 1
+// the block is raw, with the bytes `ab`. In version 2 it is an empty heap of the type 4660, of which each byte tells.
 
 const SLOT: &[u8; 32] =
     b"GVMF\x01\x01\0\0\x05\0\0\0\0\0\0\0\x02\0\0\0\x20\0\0\0\x03\0\0\0\x10\0\0\0";

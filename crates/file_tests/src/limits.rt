@@ -64,8 +64,8 @@ fn each_block_is_put_again(rt: HostRuntime) -> Result<(), Fail> {
     Ok(())
 }
 
-// What is done with a file of all blocks, in which page 2 and those from 8,452 on are free; a place in a slot, and the page that stands
-// there then for that of the updated directory; and the file's length.
+// What is done with a file of all blocks, in which page 2 and those from 8,452 on are free; a place in a slot, and the
+// page that stands there then for that of the updated directory; and the file's length.
 type Case = (&'static [Step], usize, u32, usize);
 
 const CASES: &[Case] = &[

@@ -35,8 +35,8 @@ fn an_open_file_has_its_two_documents(rt: HostRuntime) -> Result<(), Fail> {
     Ok(())
 }
 
-// The example with the slot of an update, which has the next number and leads to a directory on the first free page. Whatever the
-// version, that of both is 2, and the saved directory is the one that was there.
+// The example with the slot of an update, which has the next number and leads to a directory on the first free page.
+// Whatever the version, that of both is 2, and the saved directory is the one that was there.
 fn updated(version: u8, heap_type: u16) -> [u8; 2_592] {
     let mut bytes = [0; 2_592];
     put_at(&mut bytes, 0, &example(version));
@@ -388,7 +388,8 @@ fn a_file_with_bytes_appended_is_the_same(rt: HostRuntime) -> Result<(), Fail> {
 const OTHER_SLOT: &[u8; 32] =
     b"GVMF\x01\x01\0\0\x05\0\0\0\0\0\0\0\x03\0\0\0\x10\0\0\0\x02\0\0\0\x20\0\0\0";
 
-// The other slot of version 1 is open too: there the saved document is the updated one, and the updated one the saved one.
+// The other slot of version 1 is open too: there the saved document is the updated one, and the updated one the saved
+// one.
 fn with_two_slots(version: u8, number: u8) -> [u8; LENGTH] {
     let mut bytes = example(1);
     put_at(&mut bytes, 512, OTHER_SLOT);
@@ -586,7 +587,8 @@ fn refused(alloc: Global, passes: u64) -> Result<FuseStore<MemStore>, Mismatch> 
     given_back(VmFile::open(alloc, store))
 }
 
-// The calls of that store when it is given back and when it is opened then, and where it has other bytes than the example.
+// The calls of that store when it is given back and when it is opened then, and where it has other bytes than the
+// example.
 fn given_back_and_opened(
     alloc: Global,
     passes: u64,

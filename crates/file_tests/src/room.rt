@@ -53,7 +53,8 @@ fn often_updated(alloc: Global) -> Result<(MemStore, bool), Fault> {
     Ok((store, has_last?))
 }
 
-// Each save gives up an image and a directory of one page each, and takes two others: behind the slots four pages are enough.
+// Each save gives up an image and a directory of one page each, and takes two others: behind the slots four pages are
+// enough.
 #[test]
 fn a_thousand_saves_need_six_pages(rt: HostRuntime) -> Result<(), Fail> {
     let (store, has_last) = often_saved(rt.alloc())?;
@@ -100,8 +101,8 @@ fn calls_for(alloc: Global, blocks: u16) -> Result<u64, Fault> {
     Ok(closed(file, end)?.calls())
 }
 
-// The images, the directory, both parts of the slot and its gate, and two syncs. The first commit finds the other gate shut; each
-// later one shuts it and syncs.
+// The images, the directory, both parts of the slot and its gate, and two syncs. The first commit finds the other gate
+// shut; each later one shuts it and syncs.
 #[test]
 fn a_commit_makes_few_store_calls(rt: HostRuntime) -> Result<(), Fail> {
     let made = 7;

@@ -41,7 +41,8 @@ pub enum Edit {
     Delete(VmHandle, ChunkHandle, u32, u32),
     /// Bytes written over those of a chunk, from a place on.
     Write(VmHandle, ChunkHandle, u32, Bytes),
-    /// A new chunk with an array of no elements: the size of each, 0 where sizes vary, and how many zeros as extra bytes.
+    /// A new chunk with an array of no elements: the size of each, 0 where sizes vary, and how many zeros as extra
+    /// bytes.
     CreateArray(VmHandle, u32, u32),
     /// These bytes become an element of the array, before the one that has this number.
     InsertElement(VmHandle, ChunkHandle, u32, Bytes),

@@ -18,7 +18,8 @@ pub fn number_law()
     ensures { NumberLaw }
 {}
 
-/// The texts of slots and directories are read back, and what a file stands for rests on the bytes of its extents alone.
+/// The texts of slots and directories are read back, and what a file stands for rests on the bytes of its extents
+/// alone.
 pub fn file_law()
     ensures { FileLaw }
 {}
@@ -38,7 +39,8 @@ pub fn array_law()
     ensures { ArrayLaw }
 {}
 
-/// What is read as an element array is the bytes of that one, and one with fewer than 65,536 bytes is read back from them.
+/// What is read as an element array is the bytes of that one, and one with fewer than 65,536 bytes is read back from
+/// them.
 pub fn element_array_law()
     ensures { ElementArrayLaw }
 {}
@@ -58,27 +60,28 @@ pub fn array_edits_law()
     ensures { ArrayEditsLaw }
 {}
 
-/// An accepted edit of an element array leaves one, with what the edit means under its token and the elements of other tokens
-/// as they were.
+/// An accepted edit of an element array leaves one, with what the edit means under its token and the elements of other
+/// tokens as they were.
 pub fn element_edits_law()
     ensures { ElementEditsLaw }
 {}
 
-/// An accepted edit of a name array leaves one, with what the edit means under its token, the names of other tokens as they
-/// were, and distinct names distinct.
+/// An accepted edit of a name array leaves one, with what the edit means under its token, the names of other tokens as
+/// they were, and distinct names distinct.
 pub fn name_edits_law()
     ensures { NameEditsLaw }
 {}
 
-/// Where no group is open at the start, after the edits and after the undos, undoing as many steps as the edits made gives back
-/// the document and the past. A step is an accepted edit outside of a group, or a group that ends with edits, and none is made
-/// among the undos. With no step and no undo this says what an abandoned group leaves: the document when it began.
+/// Where no group is open at the start, after the edits and after the undos, undoing as many steps as the edits made
+/// gives back the document and the past. A step is an accepted edit outside of a group, or a group that ends with
+/// edits, and none is made among the undos. With no step and no undo this says what an abandoned group leaves: the
+/// document when it began.
 pub fn undo_law()
     ensures { UndoLaw }
 {}
 
-/// Where no group is open, redoing as many steps as were undone gives back the document and the past from before the undos.
-/// Empty groups may stand between.
+/// Where no group is open, redoing as many steps as were undone gives back the document and the past from before the
+/// undos. Empty groups may stand between.
 pub fn redo_law()
     ensures { RedoLaw }
 {}
@@ -88,28 +91,29 @@ pub fn save_law()
     ensures { SaveLaw }
 {}
 
-/// A refused request changes nothing, and a file fault is answered only where the store failed. Where no block is locked, no
-/// group is open and there is something to take back, an undo is refused only for lack of memory or since the store failed in
-/// that call; so is a redo where there is something to make again. An abandon where a group is open and no block is locked is
-/// refused for nothing else either.
+/// A refused request changes nothing, and a file fault is answered only where the store failed. Where no block is
+/// locked, no group is open and there is something to take back, an undo is refused only for lack of memory or since
+/// the store failed in that call; so is a redo where there is something to make again. An abandon where a group is open
+/// and no block is locked is refused for nothing else either.
 pub fn failing_law()
     ensures { FailingLaw }
 {}
 
-/// What the machine does to a valid document leaves a valid one. Locked blocks stay live, and there are never more of them than
-/// frames. While a group is open, the document is the one when it began, or the group has edits and there is nothing to redo.
+/// What the machine does to a valid document leaves a valid one. Locked blocks stay live, and there are never more of
+/// them than frames. While a group is open, the document is the one when it began, or the group has edits and there is
+/// nothing to redo.
 pub fn validity_law()
     ensures { ValidityLaw }
 {}
 
-/// The blocks of a chain are those that following its links comes to, each once; new handles are free and rise, and a body's
-/// links can be renamed.
+/// The blocks of a chain are those that following its links comes to, each once; new handles are free and rise, and a
+/// body's links can be renamed.
 pub fn chain_law()
     ensures { ChainLaw }
 {}
 
-/// An accepted copy of a chain is one of the same shape under new handles, and an accepted freeing takes its blocks out and
-/// nothing else.
+/// An accepted copy of a chain is one of the same shape under new handles, and an accepted freeing takes its blocks out
+/// and nothing else.
 pub fn chain_edits_law()
     ensures { ChainEditsLaw }
 {}

@@ -1,5 +1,4 @@
-//! What a document is and what its commands mean: the types that every other crate speaks of, and in `specs/` the
-//! definitions that their contracts cite.
+//! What a document is and what its commands mean: the types and definitions that every other crate speaks of.
 #![tactic(auto)]
 
 mod block;

@@ -131,8 +131,8 @@ fn answer<S: Store>(
     }
 }
 
-/// Puts the line behind `out`, if it is to be echoed, and its reply line behind that, and says whether this is a refusal. Where
-/// memory runs out, a part of them may stand there.
+/// Puts the line behind `out`, if it is to be echoed, and its reply line behind that, and says whether this is a
+/// refusal. Where memory runs out, a part of them may stand there.
 fn push_lines<S: Store>(
     alloc: Global,
     echoes: bool,

@@ -19,8 +19,8 @@ const MOST_WORDS: usize = 7;
 /// How many bytes `memchr3` tests at once; fewer it tests one by one.
 const VECTOR: usize = 32;
 
-/// The command that a line is, without its line feed. A line that is none, or longer than 140,000 bytes, is a BadCommand.
-/// Only for the bytes that a command is given is memory taken.
+/// The command that a line is, without its line feed. A line that is none, or longer than 140,000 bytes, is a
+/// BadCommand. Only for the bytes that a command is given is memory taken.
 pub fn parse(alloc: Global, line: &[u8]) -> Result<Command, Fault>
     ensures ok { IfOk result (λ c. command line.now ≡ Some c) }
     ensures bad { (result ≡ Err Fault.BadCommand) ↔ (command line.now ≡ None) }

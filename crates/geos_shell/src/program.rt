@@ -30,11 +30,12 @@ pub struct Options<'a> {
     pub manner: Manner,
 }
 
-/// Runs the program on the words of a command line, of which the first is its name: it opens the files that they name, answers
-/// the script that the reader gives, closes the files, and tells what that came to.
+/// Runs the program on the words of a command line, of which the first is its name: it opens the files that they name,
+/// answers the script that the reader gives, closes the files, and tells what that came to.
 ///
-/// What is wrong is found in this order: the command line, two names that are the same, FILE, the target, the run. A new document is
-/// made only after the target was opened, so that where the target is FILE by another name nothing is written.
+/// What is wrong is found in this order: the command line, two names that are the same, FILE, the target, the run. A
+/// new document is made only after the target was opened, so that where the target is FILE by another name nothing is
+/// written.
 pub fn serve<'a, F: Files, T: AsStr, R: Read, W: Write>(
     alloc: Global,
     files: &mut F,

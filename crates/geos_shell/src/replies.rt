@@ -13,7 +13,8 @@ use std::alloc::{AllocError, Global};
 use undo_log::Session;
 use vm_store::Store;
 
-// Puts the reply behind `out` that the row of what is asked makes. Each row does so itself, since the session may have lent it bytes.
+// Puts the reply behind `out` that the row of what is asked makes. Each row does so itself, since the session may have
+// lent it bytes.
 macro_rules! push_reply_to {
     ($out:expr, $asked:expr; $($row:pat => $reply:expr,)*) => {
         match $asked {
@@ -68,8 +69,8 @@ fn push_look_up<S: Store>(
     }
 }
 
-// Saves to the target, which is used up where that goes well, and then the old store is put aside. Else the target goes back into
-// its place.
+// Saves to the target, which is used up where that goes well, and then the old store is put aside. Else the target goes
+// back into its place.
 fn save_as<S: Store>(
     session: &mut Session<S>,
     target: &mut Option<S>,
@@ -108,8 +109,8 @@ fn push_accepted(out: &mut Vec<u8>, done: Result<(), Fault>) -> Result<(), Alloc
     push_reply(out, done.map(|()| Reply::Accepted))
 }
 
-// Carries out a command that gets a reply, and puts the reply's text behind `out`. Where memory runs out, a part of it may stand
-// there.
+// Carries out a command that gets a reply, and puts the reply's text behind `out`. Where memory runs out, a part of it
+// may stand there.
 fn push_response<S: Store>(
     session: &mut Session<S>,
     target: &mut Option<S>,
@@ -142,14 +143,15 @@ fn push_response<S: Store>(
     }
 }
 
-/// Answers a line, without its line feed, and puts its reply line behind `out`; a blank line and a note get none. A save-as goes to
-/// the target: where it goes well the target is used up, and the old store is put into `former`, whose store before is dropped.
+/// Answers a line, without its line feed, and puts its reply line behind `out`; a blank line and a note get none. A
+/// save-as goes to the target: where it goes well the target is used up, and the old store is put into `former`, whose
+/// store before is dropped.
 ///
-/// Where what is held is exact, over an honest store and target, each answer is the machine's, a file fault stands in its place only
-/// where a store failed in just this call, the files are as the reply tells, and all is exact still.
+/// Where what is held is exact, over an honest store and target, each answer is the machine's, a file fault stands in
+/// its place only where a store failed in just this call, the files are as the reply tells, and all is exact still.
 ///
-/// An `Err` is lack of memory for the line or for the text of its reply. Then `out` is as it was, and the line may be carried out all
-/// the same: what it was answered isn't told.
+/// An `Err` is lack of memory for the line or for the text of its reply. Then `out` is as it was, and the line may be
+/// carried out all the same: what it was answered isn't told.
 pub fn answer_line<S: Store>(
     alloc: Global,
     session: &mut Session<S>,

@@ -71,14 +71,14 @@ impl From<AllocError> for RunFault {
 /// Answers a script line by line, from the session's state on. It reads pieces of at most 4,096 bytes, and writes the
 /// replies to the lines of a piece together. A read that was interrupted is tried again.
 ///
-/// The target is where the script's first save-as goes that goes well: its store is the session's from then on, and the store
-/// before is dropped. A later save-as has no target, as the first one has none where there is none to begin with.
+/// The target is where the script's first save-as goes that goes well: its store is the session's from then on, and the
+/// store before is dropped. A later save-as has no target, as the first one has none where there is none to begin with.
 ///
-/// Where what is held is exact, over an honest store and target, the session handed back is what the answers lead to, and is exact, and
-/// each answer is the machine's, with a file fault in its place only where a store failed in just this call. A crash now leaves the
-/// documents acknowledged last or those of a commit that failed since, as a session's `validity` says; where no call of a store failed
-/// in this run, those of none that failed in it. A session that isn't handed back is dropped, with nothing more written: `run_in`
-/// leaves it with its caller.
+/// Where what is held is exact, over an honest store and target, the session handed back is what the answers lead to,
+/// and is exact, and each answer is the machine's, with a file fault in its place only where a store failed in just
+/// this call. A crash now leaves the documents acknowledged last or those of a commit that failed since, as a session's
+/// `validity` says; where no call of a store failed in this run, those of none that failed in it. A session that isn't
+/// handed back is dropped, with nothing more written: `run_in` leaves it with its caller.
 pub fn run<S: Store, R: Read, W: Write>(
     alloc: Global,
     session: Session<S>,
@@ -91,7 +91,8 @@ pub fn run<S: Store, R: Read, W: Write>(
         × AnswersAll S.facts plain (holding session target None) (R.remaining reader.old) (R.remaining reader.new)
         (W.contents writer.old) (W.contents writer.new) (holding after left former)) }
     ensures exact { IfOk result (λ after. AreExact S.facts (holding session target None) → IsExact S.facts after) }
-    // Where reading fails, each line that had ended is answered; where memory runs out or the writer fails, the first ones.
+    // Where reading fails, each line that had ended is answered; where memory runs out or the writer fails, the first
+    // ones.
     ensures err { IfErr result (λ fault. AreExact S.facts (holding session target None) → (after : Holding S)
         × EndsBy fault S.facts plain (holding session target None) (R.remaining reader.old) (R.remaining reader.new)
         (W.contents writer.old) (W.contents writer.new) after) }
@@ -102,12 +103,12 @@ pub fn run<S: Store, R: Read, W: Write>(
     Ok(session)
 }
 
-/// Answers a script as `run` does, in places that its caller lends, and so keeps however it ends. An accepted save-as puts the old
-/// store into `former`, whose store before is dropped.
+/// Answers a script as `run` does, in places that its caller lends, and so keeps however it ends. An accepted save-as
+/// puts the old store into `former`, whose store before is dropped.
 ///
-/// Where what is held is exact, over an honest store and target, the session is at each end what the answered lines lead to, as
-/// `answer_line` says of each of them. Where memory ran out, the next line may be carried out too, without its reply. Where the writer
-/// failed, some of the replies may not have gone out.
+/// Where what is held is exact, over an honest store and target, the session is at each end what the answered lines
+/// lead to, as `answer_line` says of each of them. Where memory ran out, the next line may be carried out too, without
+/// its reply. Where the writer failed, some of the replies may not have gone out.
 pub fn run_in<S: Store, R: Read, W: Write>(
     alloc: Global,
     session: &mut Session<S>,
@@ -124,10 +125,10 @@ pub fn run_in<S: Store, R: Read, W: Write>(
     run_in_manner(alloc, plain, session, target, former, reader, writer, READS)
 }
 
-/// Answers a script as `run_in` does, in a manner of the caller's, and in so many reads at most: a reader that hasn't ended after
-/// them has failed. Where lines are echoed, the line and a line feed go before its reply; of a line of more than 140,001 bytes, which
-/// is no command, so many. A run that bails ends by `Refused` behind the first reply that is a refusal, and carries out nothing
-/// further, whatever else was read.
+/// Answers a script as `run_in` does, in a manner of the caller's, and in so many reads at most: a reader that hasn't
+/// ended after them has failed. Where lines are echoed, the line and a line feed go before its reply; of a line of more
+/// than 140,001 bytes, which is no command, so many. A run that bails ends by `Refused` behind the first reply that is
+/// a refusal, and carries out nothing further, whatever else was read.
 pub fn run_in_manner<S: Store, R: Read, W: Write>(
     alloc: Global,
     manner: Manner,

@@ -1,5 +1,4 @@
-//! What so many words make, where each spells an operand. It is put in a place that the caller lends, since each return of
-//! a value as long as a command costs a copy of it.
+//! What so many words make, where each spells an operand.
 ghost use Rattle.std.specs.Prelude.{◌≡◌, map, false};
 ghost use Rattle.geos_model.specs.declared.command.Command.{Command};
 ghost use Rattle.geos_model.specs.declared.command.Command.TheVariants as commands;
@@ -34,7 +33,8 @@ impl Made for Edit {
     }
 }
 
-/// Puts what is made of just so many words in its place. Any other number of them is no command.
+/// Puts what is made of just so many words in its place, which the caller lends: each return of a value as long as a
+/// command costs a copy of it. Any other number of words is no command.
 macro_rules! put_made {
     ($place:expr, $words:expr; $all:pat => $made:expr) => {
         match $words {

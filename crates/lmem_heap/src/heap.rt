@@ -208,9 +208,9 @@ impl Heap {
         self.table.pack();
     }
 
-    /// Where the bytes of a chunk stand in the heap's region; None where there is no such chunk, or it has no bytes. A call
-    /// that makes or resizes a chunk may move others, and so may `contract`. `free` and `write` move none, nor does what is
-    /// written through `chunk_mut`.
+    /// Where the bytes of a chunk stand in the heap's region; None where there is no such chunk, or it has no bytes. A
+    /// call that makes or resizes a chunk may move others, and so may `contract`. `free` and `write` move none, nor
+    /// does what is written through `chunk_mut`.
     pub fn offset(&self, h: ChunkHandle) -> Option<usize>
         ensures place { result ≡ get self.now.places h.0 }
         ensures there { is_some result ≡ nat_lt 0 (length (chunk_bytes self.now.chunks h.0)) }
@@ -302,8 +302,8 @@ impl Heap {
         }
     }
 
-    /// The same, in a region that may have any bytes, which is given back where they are the image of no heap that fits. No
-    /// memory is taken.
+    /// The same, in a region that may have any bytes, which is given back where they are the image of no heap that
+    /// fits. No memory is taken.
     pub fn of_image(region: Region, bytes: &[u8]) -> Result<Heap, Region>
         ensures ok { IfOk result (λ h. (image (bodies.Heap h.chunks) ≡ bytes.now) × (is_heap_map h.chunks ≡ true)) }
         ensures err { IfErr result (λ r. (r ≡ region) ×

@@ -48,8 +48,8 @@ impl Space {
         None
     }
 
-    /// Where a free piece lies at `at`, in the list: the one before it, or 0. None where none of the first `LOOKS` pieces is
-    /// it.
+    /// Where a free piece lies at `at`, in the list: the one before it, or 0. None where none of the first `LOOKS`
+    /// pieces is it.
     fn find_link(&self, at: usize) -> Option<usize>
         requires { IsWellFormed self.now }
         ensures { IfSome result (λ prev. IsLinked self.now prev at) }
@@ -69,8 +69,8 @@ impl Space {
         None
     }
 
-    /// The free piece of the list that lies behind a slot's, if both together hold `n` bytes. None where it is as large as
-    /// such a chunk's piece alone: then the chunk is moved in less time.
+    /// The free piece of the list that lies behind a slot's, if both together hold `n` bytes. None where it is as large
+    /// as such a chunk's piece alone: then the chunk is moved in less time.
     pub(crate) fn find_next(&self, i: usize, n: usize) -> Option<Fit>
         requires well_formed { IsWellFormed self.now }
         requires slot { i < self.now.slots }
@@ -160,8 +160,8 @@ impl Space {
         self.head = p;
     }
 
-    /// A free piece of this room, in no list: one below the others while the table leaves the room there, which takes no
-    /// search, and then one of the list. None where neither is found.
+    /// A free piece of this room, in no list: one below the others while the table leaves the room there, which takes
+    /// no search, and then one of the list. None where neither is found.
     pub(crate) fn find_room(&mut self, room: usize) -> Option<usize>
         requires well_formed { IsWellFormed self.old }
         requires some { 0 < room }
@@ -204,9 +204,9 @@ impl Space {
     }
 }
 
-/// How many pieces of the free list a search looks at. A list whose first so many pieces lack the room is walked in vain
-/// again and again. Packing ends it, and is paid for by the chunks that were freed, cut short or moved since the last
-/// time: each of these put one piece on the list.
+/// How many pieces of the free list a search looks at. A list whose first so many pieces lack the room is walked in
+/// vain again and again. Packing ends it, and is paid for by the chunks that were freed, cut short or moved since the
+/// last time: each of these put one piece on the list.
 pub(crate) const LOOKS: usize = 128;
 
 /// A free piece of the list, and the one before it, or 0.

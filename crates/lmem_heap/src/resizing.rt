@@ -28,8 +28,8 @@ impl Space {
         set_size(&mut self.region, p, size, n);
     }
 
-    /// A slot's chunk gets `n` bytes where it lies, in a smaller piece. What is left of the old one becomes a free piece,
-    /// in no list.
+    /// A slot's chunk gets `n` bytes where it lies, in a smaller piece. What is left of the old one becomes a free
+    /// piece, in no list.
     fn shorten(&mut self, i: usize, n: usize) -> usize
         // A slot whose chunk has bytes.
         requires well_formed { IsWellFormed self.old }
@@ -103,8 +103,8 @@ impl Space {
         copy_piece(&mut self.region, p, q, size, n);
     }
 
-    /// A free piece that the list lacks becomes that of a slot's chunk, with the `n` bytes that stand there. The one that
-    /// it had becomes free, in no list.
+    /// A free piece that the list lacks becomes that of a slot's chunk, with the `n` bytes that stand there. The one
+    /// that it had becomes free, in no list.
     fn exchange(&mut self, i: usize, q: usize, n: usize) -> usize
         // The free piece.
         requires detached { IsDetached self.old q (piece_space n) }
@@ -147,8 +147,8 @@ impl Space {
         self.push(p);
     }
 
-    /// A slot's chunk gets `n` bytes where it lies, with a free piece of the list that lies behind its own. What it doesn't
-    /// need of that is free again.
+    /// A slot's chunk gets `n` bytes where it lies, with a free piece of the list that lies behind its own. What it
+    /// doesn't need of that is free again.
     fn join(&mut self, i: usize, n: usize, prev: usize, place: usize)
         // A slot whose chunk has bytes.
         requires well_formed { IsWellFormed self.old }
@@ -171,8 +171,8 @@ impl Space {
         self.cut_down(i, n);
     }
 
-    /// A slot's chunk gets `n` bytes, for which its piece is too small. It grows into the piece behind its own where that
-    /// serves, or moves where a piece is found, else the chunks are packed.
+    /// A slot's chunk gets `n` bytes, for which its piece is too small. It grows into the piece behind its own where
+    /// that serves, or moves where a piece is found, else the chunks are packed.
     fn enlarge(&mut self, i: usize, n: usize)
         // A slot whose chunk has bytes.
         requires well_formed { IsWellFormed self.old }
@@ -211,8 +211,8 @@ impl Space {
         }
     }
 
-    /// The same when free pieces are joined first, or the chunks packed: it moves where that makes such a piece, else it gets
-    /// what it lacks where it lies.
+    /// The same when free pieces are joined first, or the chunks packed: it moves where that makes such a piece, else
+    /// it gets what it lacks where it lies.
     fn enlarge_packed(&mut self, i: usize, n: usize, room: usize)
         // A slot whose chunk has bytes.
         requires well_formed { IsWellFormed self.old }

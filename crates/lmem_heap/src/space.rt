@@ -95,9 +95,11 @@ impl Space {
 
     /// The piece of a slot whose chunk has bytes: where it lies, and how many bytes it holds.
     pub(crate) fn live_piece(&self, i: usize) -> LivePiece
+        // A slot whose chunk has bytes.
         requires held { (detached : ℕ) × IsWellFormedBut self.now detached }
         requires slot { i < self.now.slots }
         requires live { 1 < entry self.now.region i }
+        // Its piece.
         ensures place { result.place ≡ entry self.now.region i }
         ensures size { result.size ≡ word_in self.now.region result.place }
         ensures ends { result.place + piece_space result.size ≤ 65520 }

@@ -31,10 +31,10 @@ pub fn create_bytes(alloc: Global, part: u32) -> Result<Vec<u8>, Fault>
     Ok(empty_bytes(alloc, 0, &extra)?)
 }
 
-/// The patch that gives a name that is there, the lowest such, one more reference, and this part if `replace` says so; or
-/// else brings a new one; and its token. NotArray; CountFull where the name has as many references as any can have; Range
-/// where the name has no byte or more than 256, or the part isn't as long as the array's are; Full where the array would be
-/// longer than any chunk.
+/// The patch that gives a name that is there, the lowest such, one more reference, and this part if `replace` says so;
+/// or else brings a new one; and its token. NotArray; CountFull where the name has as many references as any can have;
+/// Range where the name has no byte or more than 256, or the part isn't as long as the array's are; Full where the
+/// array would be longer than any chunk.
 pub fn add(
     alloc: Global,
     bytes: &[u8],
@@ -64,9 +64,9 @@ pub fn add(
     }
 }
 
-/// The patch that gives a token another name; its part and references stay. NotArray, NoElement; NameInUse where another
-/// token has the name, and this one hasn't; Range where the name has no byte or more than 256; Full where the array would be
-/// longer than any chunk.
+/// The patch that gives a token another name; its part and references stay. NotArray, NoElement; NameInUse where
+/// another token has the name, and this one hasn't; Range where the name has no byte or more than 256; Full where the
+/// array would be longer than any chunk.
 pub fn change_name(alloc: Global, bytes: &[u8], token: Token, name: &[u8]) -> Result<Patch, Fault>
     ensures { MatchResult result
         (Replaces (change_name_conditions bytes.now token.0 name.now) bytes.now
@@ -87,8 +87,8 @@ pub fn change_name(alloc: Global, bytes: &[u8], token: Token, name: &[u8]) -> Re
         .with_element(alloc, token, old.count, old.part, name)
 }
 
-/// The patch that takes a reference of a name, which is freed with the last one. NotArray, NoElement; Full where the array
-/// is longer than any chunk.
+/// The patch that takes a reference of a name, which is freed with the last one. NotArray, NoElement; Full where the
+/// array is longer than any chunk.
 pub fn remove_ref(alloc: Global, bytes: &[u8], token: Token) -> Result<Patch, Fault>
     ensures { MatchResult result
         (Replaces (on_name_token bytes.now token.0) bytes.now (name_reference_removed bytes.now token.0))
@@ -105,9 +105,9 @@ pub fn remove_ref(alloc: Global, bytes: &[u8], token: Token) -> Result<Patch, Fa
     }
 }
 
-/// The patch that gives a used name one more reference, and this part if `replace` says so. CountFull where the name has as
-/// many references as any can have; Range where the part isn't as long as the array's are; Full where the array would be
-/// longer than any chunk.
+/// The patch that gives a used name one more reference, and this part if `replace` says so. CountFull where the name
+/// has as many references as any can have; Range where the part isn't as long as the array's are; Full where the array
+/// would be longer than any chunk.
 fn with_reference(
     alloc: Global,
     names: &Names<'_>,

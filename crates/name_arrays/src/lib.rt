@@ -1,5 +1,4 @@
-//! Name arrays: names under tokens, each with a count of references and a part of one size, in a chunk array. An edit of one
-//! leaves the tokens of all others.
+//! Name arrays: names under tokens, each with a count of references and a part of one size, in a chunk array.
 #![tactic(auto)]
 
 mod edits;

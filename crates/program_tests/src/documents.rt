@@ -52,8 +52,8 @@ fn made(alloc: Global) -> Result<Vec<u8>, AllocError> {
     Ok(bytes)
 }
 
-// A file of version 1 with two documents and this sequence number. The updated one has one block, handle 1, user ID 7, raw, with the bytes
-// `ab`; it is the map block. The saved one has no block.
+// A file of version 1 with two documents and this sequence number. The updated one has one block, handle 1, user ID 7,
+// raw, with the bytes `ab`; it is the map block. The saved one has no block.
 fn two_documents(alloc: Global, sequence: &[u8; 8]) -> Result<Vec<u8>, AllocError> {
     let mut bytes = Vec::new(alloc);
     bytes.extend_from_slice(SLOT_START)?;

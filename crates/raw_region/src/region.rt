@@ -11,8 +11,8 @@ use byteorder::{ByteOrder, LittleEndian};
 use std::alloc::{AllocError, Global};
 use std::marker::Model;
 
-/// `SIZE` bytes from the allocator, which go back to it once, at the drop. Contracts see the list of the bytes. A body or a
-/// heap whose bytes lie in a region gives it back, and another can be made in it.
+/// `SIZE` bytes from the allocator, which go back to it once, at the drop. Contracts see the list of the bytes. A body
+/// or a heap whose bytes lie in a region gives it back, and another can be made in it.
 pub struct Region {
     raw: Raw,
     alloc: Global,
@@ -26,8 +26,8 @@ impl Model for Region {
 
     ghost view = { λ r. r.raw.bytes };
 
-    // It has to hold whatever list a lent slice is left as, so that each byte is below 256 can't stand here. Whoever has a
-    // slice of the bytes knows it by the slice's type.
+    // It has to hold whatever list a lent slice is left as, so that each byte is below 256 can't stand here. Whoever
+    // has a slice of the bytes knows it by the slice's type.
     ghost invariant = { λ r. length r.raw.bytes ≡ SIZE };
 }
 

@@ -1,6 +1,7 @@
 //! Edits, groups, undos, redos, abandons and commits by chance, against whole documents that are kept here.
-// They are the same each time. Kept are the document before each step and the one before the group that is open. A refused command changes
-// nothing; nor does one while a call of the store fails, each in turn, and it is done when it is said again.
+// They are the same each time. Kept are the document before each step and the one before the group that is open. A
+// refused command changes nothing; nor does one while a call of the store fails, each in turn, and it is done when it
+// is said again.
 use crate::driver::begun;
 use crate::lasting_failures::{MAKING, documents_in};
 use crate::single_failures::FRAMES;
@@ -439,8 +440,8 @@ fn take_all(alloc: Global, session: &mut Fused, seed: u32) -> Result<Kept, Fail>
     Ok(kept)
 }
 
-// Takes all steps over a store of which the call after so many fails. What stands in the file then is what was committed last, whether a
-// group is open or not.
+// Takes all steps over a store of which the call after so many fails. What stands in the file then is what was
+// committed last, whether a group is open or not.
 fn go(alloc: Global, frames: usize, seed: u32, passes: u64) -> Result<End, Fail> {
     let store = FuseStore::new(MemStore::new(alloc), passes, false);
     let Ok(session) = begun(alloc, store, frames, true) else {

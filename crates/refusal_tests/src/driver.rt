@@ -1,6 +1,6 @@
 //! A scenario that is gone through, line by line.
-// A first time with nothing refused; again, with each line and opening that is refused once more; or up to where the store fails and
-// beyond.
+// A first time with nothing refused; again, with each line and opening that is refused once more; or up to where the
+// store fails and beyond.
 use crate::committed::{Committed, Pair, Side, is_commit};
 use crate::scenarios::{COMMITS, Scenario};
 use crate::shim::signal_refusal;
@@ -19,7 +19,8 @@ pub(crate) struct Beside<S: Store> {
     pub(crate) former: Option<S>,
 }
 
-/// A session on a new file, or on the one that a store has, with so many frames; or what it is refused for, with the store.
+/// A session on a new file, or on the one that a store has, with so many frames; or what it is refused for, with the
+/// store.
 pub(crate) fn begun<S: Store>(
     alloc: Global,
     store: S,
@@ -64,7 +65,8 @@ enum Mode {
     Down,
 }
 
-/// A scenario that is gone through. All memory that this takes is taken before, so that none is wanted here while a scenario is gone through.
+/// A scenario that is gone through. All memory that this takes is taken before, so that none is wanted here while a
+/// scenario is gone through.
 #[derive(Drop)]
 pub(crate) struct Driver {
     alloc: Global,
@@ -133,8 +135,8 @@ impl Driver {
         Ok(driver)
     }
 
-    /// Goes through a scenario again, with a file and a target for a save-as. Each line and opening that is refused is said once more. Gives
-    /// back the file's store and the other one.
+    /// Goes through a scenario again, with a file and a target for a save-as. Each line and opening that is refused is
+    /// said once more. Gives back the file's store and the other one.
     pub(crate) fn go_again<S: Store>(
         &mut self,
         scenario: &Scenario,
@@ -217,7 +219,8 @@ impl Driver {
         }
     }
 
-    // Makes a file or opens it, and tries again with the store that comes back where memory ran out or the store failed.
+    // Makes a file or opens it, and tries again with the store that comes back where memory ran out or the store
+    // failed.
     fn begin<S: Store>(
         &mut self,
         store: S,
@@ -296,8 +299,8 @@ impl Driver {
         Ok(())
     }
 
-    // Says a line, and keeps what the files stand for behind it, and what they may stand for where it is the first that is refused. What
-    // is answered behind that isn't compared, but no commit of this file can be acknowledged.
+    // Says a line, and keeps what the files stand for behind it, and what they may stand for where it is the first that
+    // is refused. What is answered behind that isn't compared, but no commit of this file can be acknowledged.
     fn say_down<S: Store>(
         &mut self,
         session: &mut Session<S>,

@@ -1,6 +1,6 @@
 //! Sessions that go on behind a call of the store that failed, and then each crash of a store that fails for good.
-// No command is said again behind the call that failed; the store fails for good at each call from there on. What a crash leaves then opens
-// to the documents of the commit that was acknowledged last, or of one that was tried since.
+// No command is said again behind the call that failed; the store fails for good at each call from there on. What a
+// crash leaves then opens to the documents of the commit that was acknowledged last, or of one that was tried since.
 use crate::lasting_failures::{FILLS, MAKING, MANY};
 use crate::single_failures::FRAMES;
 use geos_model::{Bytes, Edit, Fault, VmHandle};

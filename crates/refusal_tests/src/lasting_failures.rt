@@ -1,5 +1,6 @@
 //! Stores that fail for good from a call on, each call in turn, and then each crash.
-// What a crash leaves opens to the documents of the commit that was acknowledged last, or of the one that was tried then.
+// What a crash leaves opens to the documents of the commit that was acknowledged last, or of the one that was tried
+// then.
 use crate::committed::{Pair, Side};
 use crate::driver::Driver;
 use crate::scenarios::{SCENARIOS, Scenario};
@@ -98,7 +99,8 @@ pub(crate) fn crash(
     Err(Fail::new("there are more writes"))
 }
 
-// Goes through a scenario in which the calls from one on fail, of the file or of the target, and looks at what a crash leaves of it.
+// Goes through a scenario in which the calls from one on fail, of the file or of the target, and looks at what a crash
+// leaves of it.
 fn fail_and_crash(
     alloc: Global,
     driver: &mut Driver,
@@ -119,7 +121,8 @@ fn fail_and_crash(
     }
 }
 
-// Has the calls from each one on fail, from the one on that comes when a file is made. Gives how many crashes there were, for each fill.
+// Has the calls from each one on fail, from the one on that comes when a file is made. Gives how many crashes there
+// were, for each fill.
 fn fail_and_crash_each(
     alloc: Global,
     driver: &mut Driver,

@@ -1,6 +1,6 @@
 //! A document with a block under each handle, while a call of the store fails, each in turn.
-// Some blocks are changed and committed. The session goes on behind each failure: what was refused is done when it is said again, and
-// commits behind that are acknowledged.
+// Some blocks are changed and committed. The session goes on behind each failure: what was refused is done when it is
+// said again, and commits behind that are acknowledged.
 use crate::committed::Side;
 use crate::driver::Driver;
 use crate::lasting_failures::crash;

@@ -1,6 +1,6 @@
 //! One request for memory is refused.
-// Here none is: `docs/each_request.sh` runs each of these tests once for each request that they make, with just that one refused, until a
-// run meets no refusal.
+// Here none is: `docs/each_request.sh` runs each of these tests once for each request that they make, with just that
+// one refused, until a run meets no refusal.
 use crate::driver::Driver;
 use crate::scenarios::{
     ARRAY_EDITS, ARRAYS, BLOCKS, CHAINS, CHUNK, ELEMENTS, FREED_CHUNK, GROUPS, LOCKED, NAMES,

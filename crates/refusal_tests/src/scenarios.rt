@@ -311,7 +311,8 @@ pub(crate) const SAVED_AS: Scenario = Scenario {
         ",
 };
 
-/// Blocks that are locked while others are brought into memory beside them; and an edit while there is something to redo.
+/// Blocks that are locked while others are brought into memory beside them; and an edit while there is something to
+/// redo.
 pub(crate) const LOCKED: Scenario = Scenario {
     least: 2,
     openings: &[
@@ -344,7 +345,8 @@ pub(crate) const LOCKED: Scenario = Scenario {
     former: "",
 };
 
-/// Groups in which four blocks are changed, one is freed and one is made; one that is abandoned, and some without an edit.
+/// Groups in which four blocks are changed, one is freed and one is made; one that is abandoned, and some without an
+/// edit.
 pub(crate) const GROUPS: Scenario = Scenario {
     least: 1,
     openings: &[

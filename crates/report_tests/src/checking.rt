@@ -46,7 +46,8 @@ fn is_told(report: &Report, verdict: Verdict) -> bool {
     report.verdict == verdict && is_faulted(report) == verdict.is_err()
 }
 
-// The verdict of a check of these bytes, where it is what an opening answers, and something is found just where that is refused.
+// The verdict of a check of these bytes, where it is what an opening answers, and something is found just where that is
+// refused.
 fn verdict_told(alloc: Global, bytes: &[u8]) -> Result<Option<Verdict>, Fault> {
     let verdict = opens(alloc, bytes)?;
     if is_told(&checked(alloc, bytes)?, verdict) {
@@ -84,8 +85,8 @@ fn nothing_is_found_in_files_that_open(rt: HostRuntime) -> Result<(), Fail> {
     Ok(())
 }
 
-// Bytes that are changed in the small document, what is said of slot 0 then, and whether the file opens. Slot 1 is that of the commit
-// before.
+// Bytes that are changed in the small document, what is said of slot 0 then, and whether the file opens. Slot 1 is that
+// of the commit before.
 type Case = (&'static [(usize, u8)], &'static str, Verdict);
 
 const DAMAGED: Verdict = Err(Fault::Damaged);

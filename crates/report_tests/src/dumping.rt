@@ -248,7 +248,8 @@ fn write_full_heap(script: &mut Vec<u8>) -> io::Result<()> {
 fn a_block_of_the_most_bytes_is_made_again_by_its_dump(rt: HostRuntime) -> Result<(), Fail> {
     let mut script = Vec::new(rt.alloc());
     write_longest(&mut script)?;
-    // In either document the block is made, 38 pieces are written, and a commit ends them. The updated one frees the saved one's first.
+    // In either document the block is made, 38 pieces are written, and a commit ends them. The updated one frees the
+    // saved one's first.
     same_number(&rt, lines_tried(rt.alloc(), &script)?, 40 + 41);
     Ok(())
 }
@@ -257,9 +258,9 @@ fn a_block_of_the_most_bytes_is_made_again_by_its_dump(rt: HostRuntime) -> Resul
 fn many_blocks_are_made_again_by_their_dump(rt: HostRuntime) -> Result<(), Fail> {
     let mut script = Vec::new(rt.alloc());
     write_many_blocks(&mut script)?;
-    // Of the saved document 99 handles are taken and freed, and two lines make each of 201 blocks; then there are the map block and the
-    // commit. Of the updated one block 1 is freed and made, as is block 7, which has a write, above two free handles; then there are
-    // the type and the commit.
+    // Of the saved document 99 handles are taken and freed, and two lines make each of 201 blocks; then there are the
+    // map block and the commit. Of the updated one block 1 is freed and made, as is block 7, which has a write, above
+    // two free handles; then there are the type and the commit.
     let lines = lines_tried(rt.alloc(), &script)?;
     same_number(&rt, lines, 2 * 99 + 2 * 201 + 2 + 2 + 3 + 2 * 2 + 2);
     Ok(())

@@ -90,7 +90,8 @@ fn document_at<'a>(
 }
 
 impl Document<'_> {
-    /// Whether both have the same blocks under the same handles, with the same user IDs, types and images, and the same map block.
+    /// Whether both have the same blocks under the same handles, with the same user IDs, types and images, and the same
+    /// map block.
     pub(crate) fn is_same(&self, other: &Document<'_>) -> bool {
         if self.map_block != other.map_block || self.blocks.len() != other.blocks.len() {
             return false;

@@ -41,7 +41,8 @@ fn leads_to_both(alloc: Global, bytes: &[u8], before: &[u8]) -> Result<bool, Fai
     )
 }
 
-// Whether the slot that doesn't count leads to the documents before the last commit, and the one that does to those behind it.
+// Whether the slot that doesn't count leads to the documents before the last commit, and the one that does to those
+// behind it.
 fn has_both(alloc: Global, bytes: &[u8], later: &str) -> Result<bool, Fail> {
     let before = dump_of(alloc, bytes, Which::Both)?;
     made_again(alloc, &before)?;

@@ -197,7 +197,8 @@ fn the_free_pages_of_documents_by_chance_are_those_without_a_mark(
     Ok(())
 }
 
-// What an extent holds, as a number: 1 for the slots, 2 and 3 for a directory, and for an image its block and 1,000 or 2,000.
+// What an extent holds, as a number: 1 for the slots, 2 and 3 for a directory, and for an image its block and 1,000 or
+// 2,000.
 fn content(content: Content) -> u16 {
     match content {
         Content::Slots => 1,
@@ -281,7 +282,8 @@ fn image(block: u16, page: u32, pages: u32) -> Usage {
 
 #[test]
 fn each_extent_on_the_pages_of_a_long_one_is_told(rt: HostRuntime) -> Result<(), Fail> {
-    // The first reaches over the second and the third to the page before the last; the third over the fourth and to the last.
+    // The first reaches over the second and the third to the page before the last; the third over the fourth and to the
+    // last.
     let usages = [
         image(1, 2, 10),
         image(2, 3, 1),

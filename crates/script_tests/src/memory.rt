@@ -1,6 +1,6 @@
 //! More blocks, undos and redos come and go than there is memory for, if any were kept.
-// In each test 400,000 rounds, in each of which 65,498 bytes are let go at least, so 26 GB. The store must not keep what was written
-// either.
+// In each test 400,000 rounds, in each of which 65,498 bytes are let go at least, so 26 GB. The store must not keep
+// what was written either.
 use crate::forgetful::Forgetful;
 use crate::parts::{Part, built};
 use dialogues::Mismatch;

@@ -29,8 +29,8 @@ pub(crate) const LATER_BLOCKS: Numbers = Numbers {
 pub(crate) enum Part {
     /// Lines of a command and its reply.
     Lines(&'static str),
-    /// Such lines for each of the numbers. `<number>` stands for the number, `<handle>` for the handle that it is, `<before>` for the
-    /// handle before that, and `<word>` for its two bytes, the low one first.
+    /// Such lines for each of the numbers. `<number>` stands for the number, `<handle>` for the handle that it is,
+    /// `<before>` for the handle before that, and `<word>` for its two bytes, the low one first.
     Each(Numbers, &'static str),
     /// A command, and the first word of its reply, behind which these handles stand.
     Named(&'static str, &'static str, Numbers),

@@ -45,7 +45,8 @@ fn is_first_alone(session: &Fused) -> Result<bool, Fail> {
     Ok(is_first)
 }
 
-// Takes a step while the other block is in memory, and reads that again. Returns whether the step brings the first one in.
+// Takes a step while the other block is in memory, and reads that again. Returns whether the step brings the first one
+// in.
 fn is_brought_in(alloc: Global, session: &mut Fused, step: &str) -> Result<bool, Fail> {
     if is_first_alone(session)? {
         return Err(Fail::new("the first block is in memory before the step"));

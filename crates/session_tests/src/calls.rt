@@ -229,7 +229,8 @@ pub(crate) fn has_pair(alloc: Global, file: &MemStore, pair: Pair) -> Result<boo
     Ok(pair_in(alloc, file.bytes())? == pair)
 }
 
-/// The documents of a file that a crash leaves which keeps so many writes, and has this in place of those that are lost.
+/// The documents of a file that a crash leaves which keeps so many writes, and has this in place of those that are
+/// lost.
 pub(crate) fn left_by_crash(
     alloc: Global,
     store: &MemStore,

@@ -54,8 +54,8 @@ const LOOK_UPS: &str = "
     undos                 = number 5
     ";
 
-// The calls of a store over which these edits of the saved document were made, and then a commit, with the calls that made the
-// document.
+// The calls of a store over which these edits of the saved document were made, and then a commit, with the calls that
+// made the document.
 fn calls(alloc: Global, edits: &str, commit: &str) -> Result<u64, Mismatch> {
     let store = fused(alloc, u64::MAX, false);
     Ok(made(alloc, store, FRAMES, &[SAVED, edits, commit])?.calls())

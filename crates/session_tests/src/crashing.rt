@@ -25,7 +25,8 @@ const MAKING: u64 = 7;
 // Never are there more writes since the last sync.
 const MOST_PENDING: usize = 7;
 
-// How many commits were acknowledged, if these are the replies of a store that failed from some call on. Each second line is a commit.
+// How many commits were acknowledged, if these are the replies of a store that failed from some call on. Each second
+// line is a commit.
 fn commits_in(replies: &str) -> Option<usize> {
     let mut commits = 0_usize;
     let mut fails = false;
@@ -51,7 +52,8 @@ fn play(
     Ok(commits_in(String::from_utf8_lossy(alloc, &replies)?.as_str()))
 }
 
-// A store that fails after so many calls, when the script has been answered over it, and how many commits were acknowledged.
+// A store that fails after so many calls, when the script has been answered over it, and how many commits were
+// acknowledged.
 fn played(alloc: Global, passes: u64) -> Result<(FuseStore<MemStore>, usize), Fail> {
     let mut session = create(alloc, fused(alloc, passes, true))?;
     let commits = play(alloc, &mut session);
@@ -86,7 +88,8 @@ fn are_left(alloc: Global, store: &MemStore, commits: usize) -> Result<bool, Fau
     Ok(are_all(store, MOST_PENDING)? && wrongly_left(alloc, store, commits)?.is_none())
 }
 
-// Looks at what each crash leaves of a store that fails after so many calls. Returns whether all commits were acknowledged.
+// Looks at what each crash leaves of a store that fails after so many calls. Returns whether all commits were
+// acknowledged.
 fn is_left(alloc: Global, passes: u64) -> Result<bool, Fail> {
     let (store, commits) = played(alloc, passes)?;
     if are_left(alloc, store.inner(), commits)? {

@@ -45,7 +45,8 @@ fn is_answered(
     Ok(is_reply)
 }
 
-// Asks, and asks again, since the store may fail in the first answers. Returns the second ones, and whether they differ.
+// Asks, and asks again, since the store may fail in the first answers. Returns the second ones, and whether they
+// differ.
 fn asked(alloc: Global, session: &mut Fused, questions: &str) -> Result<(Vec<u8>, bool), Fail> {
     let first = answer(alloc, session, None, questions)?;
     let second = answer(alloc, session, None, questions)?;
@@ -64,8 +65,8 @@ fn is_as_before(
     Ok(after.as_slice() == before)
 }
 
-// Gives a command, and if it is refused since the store failed, gives it again. Returns whether it was. A refusal changes nothing: the
-// questions are answered as before.
+// Gives a command, and if it is refused since the store failed, gives it again. Returns whether it was. A refusal
+// changes nothing: the questions are answered as before.
 fn give_twice(
     alloc: Global,
     session: &mut Fused,
@@ -114,7 +115,8 @@ fn give_all(alloc: Global, session: &mut Fused) -> Result<u32, Fail> {
     Ok(refusals)
 }
 
-// Gives each command over a store whose call after so many fails. Returns how many commands were refused, and the store.
+// Gives each command over a store whose call after so many fails. Returns how many commands were refused, and the
+// store.
 fn given(alloc: Global, passes: u64) -> Result<(u32, FuseStore<MemStore>), Fail> {
     let mut session = create(alloc, fused(alloc, passes, false))?;
     let refusals = give_all(alloc, &mut session);

@@ -177,7 +177,8 @@ const FREE: &str = "
     locks 0001 0           = no 25 BadCommand
     ";
 
-// What is answered of other blocks while each frame has a locked one: after what is wrong with the block, and before all else.
+// What is answered of other blocks while each frame has a locked one: after what is wrong with the block, and before
+// all else.
 const SHUT_OUT: &str = "
     info 0002              = no 21 CacheFull
     info 0009              = no 5 NoBlock

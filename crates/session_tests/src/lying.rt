@@ -182,8 +182,8 @@ fn is_no_file(fault: Fault) -> Result<Option<u32>, Fail> {
     }
 }
 
-// Opens the file, which is lied about from the call after so many on, and gives each command. Returns how many were refused,
-// `None` where no file is found.
+// Opens the file, which is lied about from the call after so many on, and gives each command. Returns how many were
+// refused, `None` where no file is found.
 fn played(alloc: Global, bytes: &[u8], passes: u64, byte: u8) -> Result<Option<u32>, Fail> {
     let store = lying(MemStore::from_bytes(alloc, bytes)?, passes, byte);
     match open_in(alloc, store, FRAMES) {

@@ -16,8 +16,8 @@ const SAVED: &[u8; 6] = b"GDIR\x01\0";
 
 const LENGTH: usize = 2_051;
 
-/// A file of two documents. The updated one has one block, handle 1, user ID 7, raw, with the bytes `ab`; it is the map block. The
-/// saved one has no block.
+/// A file of two documents. The updated one has one block, handle 1, user ID 7, raw, with the bytes `ab`; it is the map
+/// block. The saved one has no block.
 pub(crate) fn example() -> [u8; LENGTH] {
     let mut bytes = [0; LENGTH];
     bytes[..32].copy_from_slice(SLOT);
@@ -72,8 +72,8 @@ const BOTH_DOCUMENTS: &str = "info 0001 = raw 7 2
     list = blocks
     mapblock = block 0000";
 
-// Bytes in the file, and what it is refused for with them, `None` where both documents are as they are without. The version of the
-// slot is at 5, those of the directories at 1,028 and 1,540, and the type of the raw block at 1,052.
+// Bytes in the file, and what it is refused for with them, `None` where both documents are as they are without. The
+// version of the slot is at 5, those of the directories at 1,028 and 1,540, and the type of the raw block at 1,052.
 const VERSIONS: [(&[Place], Option<Fault>); 14] = [
     (&[], None),
     (&[(5, 2)], None),
@@ -111,8 +111,9 @@ fn a_file_of_either_version_is_read_and_reverted_and_no_other(rt: HostRuntime) -
 // A dialogue on the file, and bytes that it has afterwards.
 type Run = (&'static str, &'static [Place]);
 
-// Runs, each on the file that the one before has left, the first on the example. The version of the second slot is at 517, its
-// sequence number at 520, and the page of its saved directory at 536. The version of the saved directory is at 1,540.
+// Runs, each on the file that the one before has left, the first on the example. The version of the second slot is at
+// 517, its sequence number at 520, and the page of its saved directory at 536. The version of the saved directory is at
+// 1,540.
 const RUNS: [&[Run]; 4] = [
     // The type of a heap.
     &[
@@ -141,8 +142,8 @@ const RUNS: [&[Run]; 4] = [
             &[],
         ),
     ],
-    // A commit is of version 2 though nothing asks for it, and its new directory is too. That one is on page 5, and the saved one is
-    // as it was.
+    // A commit is of version 2 though nothing asks for it, and its new directory is too. That one is on page 5, and the
+    // saved one is as it was.
     &[
         (
             "uid 0001 7 = ok\nupdate = ok",

@@ -55,7 +55,8 @@ fn an_image_past_the_end_is_damaged(rt: HostRuntime) -> Result<(), Fail> {
 // A file that is longer than all of its pages.
 const LONG_FILE: u64 = 1 << 40;
 
-// A directory of one version in a file of another, with bytes that other ones stand in the place of, and whether it stands then.
+// A directory of one version in a file of another, with bytes that other ones stand in the place of, and whether it
+// stands then.
 type Case = (&'static [u8; 32], u8, usize, &'static [u8], bool);
 
 const CASES: [Case; 30] = [

@@ -129,7 +129,8 @@ const GROWN: [Call<'static>; 4] = [
     Call::Read(7, &[0, 0]),
 ];
 
-/// In a store of those seven bytes: ranges of no bytes, and those that end at the end, past it and nowhere. Leaves nine.
+/// In a store of those seven bytes: ranges of no bytes, and those that end at the end, past it and nowhere. Leaves
+/// nine.
 pub(crate) fn touch_the_end<S: Store>(store: &mut S) -> Result<(), Mismatch> {
     serve(store, &AT_THE_END)?;
     refuse(store, &PAST_THE_END)?;

@@ -24,8 +24,8 @@ pub(crate) enum Step {
 /// What a case shows, the bytes that a store has at first, and the steps that it takes.
 pub(crate) type Case = (&'static str, &'static [u8], &'static [Step]);
 
-/// What a case shows, the bytes that a store has at first, how many calls pass the fuse before it, whether all fail from there on, and
-/// the steps that the fuse takes.
+/// What a case shows, the bytes that a store has at first, how many calls pass the fuse before it, whether all fail
+/// from there on, and the steps that the fuse takes.
 pub(crate) type FusedCase = (&'static str, &'static [u8], u64, bool, &'static [Step]);
 
 /// Looks at what a crash leaves that keeps so many writes, with this byte for what is lost.

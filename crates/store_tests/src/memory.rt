@@ -35,7 +35,8 @@ fn each_store_in_memory_serves(rt: HostRuntime) -> Result<(), Fail> {
     take_each(rt.alloc(), MEMORY)
 }
 
-// Makes a call. Where it fails, the store has the bytes that it had, so many, and the call serves when it is made again.
+// Makes a call. Where it fails, the store has the bytes that it had, so many, and the call serves when it is made
+// again.
 fn make_again(store: &mut MemStore, call: Call<'_>, bytes: u8) -> Result<(), Mismatch> {
     if serve(store, &[call]).is_ok() {
         return Ok(());
@@ -54,7 +55,8 @@ fn grow(store: &mut MemStore, byte: u8) -> Result<(), Mismatch> {
     make_again(store, Call::SetLen(u64::from(grown)), grown)
 }
 
-// Run with each allocation failing in turn: a call that fails for lack of memory does nothing, and serves when made again.
+// Run with each allocation failing in turn: a call that fails for lack of memory does nothing, and serves when made
+// again.
 #[test]
 fn a_growth_that_is_refused_changes_nothing(rt: HostRuntime) -> Result<(), Fail> {
     let mut store = MemStore::new(rt.alloc());

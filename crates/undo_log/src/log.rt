@@ -14,8 +14,8 @@ use vm_blocks::{Change, Direction};
 /// What is kept of the steps that can be undone or made again, and of the group that is open.
 #[derive(Drop)]
 pub struct UndoLog {
-    // Those that can be undone, the newest last, and then those that can be made again, the next first. There is room for the group
-    // that is open behind the first ones.
+    // Those that can be undone, the newest last, and then those that can be made again, the next first. There is room
+    // for the group that is open behind the first ones.
     entries: Vec<LogEntry>,
     // How many of them can be undone.
     done: usize,

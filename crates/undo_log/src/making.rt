@@ -18,7 +18,8 @@ use std::alloc::Global;
 use vm_blocks::{Change, Direction, FileBlocks};
 use vm_store::Store;
 
-/// Whether a lock keeps an edit from being made: it frees a locked block, or copies or frees a chain while any block is locked.
+/// Whether a lock keeps an edit from being made: it frees a locked block, or copies or frees a chain while any block is
+/// locked.
 pub fn is_barred<S: Store>(blocks: &FileBlocks<S>, edit: &Edit) -> bool
     ensures { result ≡ bars blocks.now.resident edit.now }
 {

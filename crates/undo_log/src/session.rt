@@ -42,8 +42,8 @@ use vm_blocks::{BlockBody, Direction, FileBlocks};
 use vm_file::Refused;
 use vm_store::Store;
 
-/// A document of a file that is edited, with what undo needs. Contracts see it as the blocks of the file with its records, of
-/// which the machine of documents is a function: each call is one step of it, refused or not.
+/// A document of a file that is edited, with what undo needs. Contracts see it as the blocks of the file with its
+/// records, of which the machine of documents is a function: each call is one step of it, refused or not.
 #[derive(Drop)]
 pub struct Session<S: Store> {
     alloc: Global,
@@ -92,7 +92,8 @@ impl<S: Store> Session<S> {
         }
     }
 
-    /// Makes the store an empty document file, with nothing to undo, whatever was in it. Memory, before the store is called; File.
+    /// Makes the store an empty document file, with nothing to undo, whatever was in it. Memory, before the store is
+    /// called; File.
     pub fn create(alloc: Global, store: S, frames: usize) -> Result<Session<S>, Refused<S>>
         requires { (1 ≤ frames) × (frames ≤ 64) }
         ensures made { MatchResult result
@@ -109,9 +110,9 @@ impl<S: Store> Session<S> {
         }
     }
 
-    /// Opens the file that a store has, with its updated document as it is now and nothing to undo. Where it is refused the store comes
-    /// back, and nothing was written to an honest one: NotDocument or Damaged where it has no file; Memory, File. Where a crash left the
-    /// store, what is read is on the disk from then on.
+    /// Opens the file that a store has, with its updated document as it is now and nothing to undo. Where it is refused
+    /// the store comes back, and nothing was written to an honest one: NotDocument or Damaged where it has no file;
+    /// Memory, File. Where a crash left the store, what is read is on the disk from then on.
     pub fn open(alloc: Global, store: S, frames: usize) -> Result<Session<S>, Refused<S>>
         requires { (1 ≤ frames) × (frames ≤ 64) }
         ensures opened { MatchResult result
@@ -137,9 +138,9 @@ impl<S: Store> Session<S> {
         self.blocks.close()
     }
 
-    /// Makes the document as it is now the updated one. GroupOpen while a group is open, and then Locked where any block is, before all
-    /// else; Worn where the sequence number can't rise, before anything is written; Memory, where nothing is committed; File, where what
-    /// was to be may be read after a crash.
+    /// Makes the document as it is now the updated one. GroupOpen while a group is open, and then Locked where any
+    /// block is, before all else; Worn where the sequence number can't rise, before anything is written; Memory, where
+    /// nothing is committed; File, where what was to be may be read after a crash.
     pub fn update(&mut self) -> Result<(), Fault>
         ensures step { IsStep S.facts self.old self.new commands.Update (reply_by (λ _. Accepted) result) }
         ensures commit { IsSessionCommit S.facts
@@ -174,8 +175,8 @@ impl<S: Store> Session<S> {
         self.blocks.save()
     }
 
-    /// Makes the saved document the updated one and the document as it is now, with nothing to undo. Where it is refused the
-    /// document, over an honest store, and both lists stay. Refused as an update is.
+    /// Makes the saved document the updated one and the document as it is now, with nothing to undo. Where it is
+    /// refused the document, over an honest store, and both lists stay. Refused as an update is.
     pub fn revert(&mut self) -> Result<(), Fault>
         ensures step { IsStep S.facts self.old self.new commands.Revert (reply_by (λ _. Accepted) result) }
         ensures commit { IsSessionCommit S.facts
@@ -200,11 +201,12 @@ impl<S: Store> Session<S> {
         Ok(())
     }
 
-    /// Makes another store a file of its own, with the document as it is now as its updated and its saved one, and goes on in that. The
-    /// old file goes back to its saved document, and its store comes back. Where it is refused the session stays in its file, and the
-    /// target comes back, with any bytes; in the old file nothing is committed then, but where its store fails. GroupOpen while a group
-    /// is open, and then Locked where any block is, before all else, and Worn where the sequence number of the old file can't rise,
-    /// before anything is written; over a store that isn't honest what is read may be no image, which is Damaged; Memory, File.
+    /// Makes another store a file of its own, with the document as it is now as its updated and its saved one, and goes
+    /// on in that. The old file goes back to its saved document, and its store comes back. Where it is refused the
+    /// session stays in its file, and the target comes back, with any bytes; in the old file nothing is committed then,
+    /// but where its store fails. GroupOpen while a group is open, and then Locked where any block is, before all else,
+    /// and Worn where the sequence number of the old file can't rise, before anything is written; over a store that
+    /// isn't honest what is read may be no image, which is Damaged; Memory, File.
     pub fn save_as(&mut self, target: S) -> Result<S, Refused<S>>
         // What is done: a step of the machine, where it is accepted into an honest target.
         ensures ok { IfOk result (λ _. IsExact S.facts self.old → IsTrue (S.facts target).honest
@@ -241,10 +243,11 @@ impl<S: Store> Session<S> {
         self.blocks.save_as(target)
     }
 
-    /// Makes an edit, after which nothing is left to redo. Outside of a group it is the newest step; in one it is a part of the step that
-    /// the group becomes. Locked where it frees a locked block, or copies or frees a chain while any block is locked, before all else;
-    /// CacheFull where each frame has a locked block, and it looks into the body of another one. For an edit of a user ID, of the map block
-    /// or of the body of a block in memory, and for one that frees such a block, no store is called.
+    /// Makes an edit, after which nothing is left to redo. Outside of a group it is the newest step; in one it is a
+    /// part of the step that the group becomes. Locked where it frees a locked block, or copies or frees a chain while
+    /// any block is locked, before all else; CacheFull where each frame has a locked block, and it looks into the body
+    /// of another one. For an edit of a user ID, of the map block or of the body of a block in memory, and for one that
+    /// frees such a block, no store is called.
     pub fn edit(&mut self, edit: &Edit) -> Result<Done, Fault>
         // What is done.
         ensures step { IsStep S.facts self.old self.new (commands.Edit edit.now) (reply_by reply_of_done result) }
@@ -280,10 +283,10 @@ impl<S: Store> Session<S> {
         Ok(done)
     }
 
-    /// Goes back to the document before the newest step: an edit, or a group of edits as a whole. GroupOpen while a group is open, and
-    /// then Locked where any block is, before all else; NothingToUndo. Memory or File where a block has to be brought into memory or
-    /// comes in, and of a group always; Damaged only over a store that isn't honest, or after a save-as from one. Where a group is refused
-    /// so no block may be in memory afterwards.
+    /// Goes back to the document before the newest step: an edit, or a group of edits as a whole. GroupOpen while a
+    /// group is open, and then Locked where any block is, before all else; NothingToUndo. Memory or File where a block
+    /// has to be brought into memory or comes in, and of a group always; Damaged only over a store that isn't honest,
+    /// or after a save-as from one. Where a group is refused so no block may be in memory afterwards.
     pub fn undo(&mut self) -> Result<(), Fault>
         // What is done.
         ensures step { IsStep S.facts self.old self.new commands.Undo (reply_by (λ _. Accepted) result) }
@@ -366,7 +369,8 @@ impl<S: Store> Session<S> {
         }
     }
 
-    /// Opens a group: the edits from here on are one step, once it ends. GroupOpen where one is open. No memory, no store.
+    /// Opens a group: the edits from here on are one step, once it ends. GroupOpen where one is open. No memory, no
+    /// store.
     pub fn begin(&mut self) -> Result<(), Fault>
         ensures step { (target : Bool) → Step false (machine_of target self.old) (Some commands.Begin)
             (reply_by (λ _. Accepted) result) (machine_of target self.new) }
@@ -383,8 +387,8 @@ impl<S: Store> Session<S> {
         Ok(())
     }
 
-    /// Ends the group: its edits are the newest step. Where it has none it leaves no step, and what can be made again stays. NoGroup where
-    /// none is open. No memory, no store.
+    /// Ends the group: its edits are the newest step. Where it has none it leaves no step, and what can be made again
+    /// stays. NoGroup where none is open. No memory, no store.
     pub fn end(&mut self) -> Result<(), Fault>
         ensures step { (target : Bool) → Step false (machine_of target self.old) (Some commands.End)
             (reply_by (λ _. Accepted) result) (machine_of target self.new) }
@@ -401,9 +405,10 @@ impl<S: Store> Session<S> {
         Ok(())
     }
 
-    /// Ends the group and goes back to the document before it. What can be undone stays; what could be made again stays where the group has
-    /// no edit. NoGroup where none is open, and then Locked where any block is, before all else; Memory, File or Damaged as an undo of a
-    /// group is, and then the group is open still. A group without an edit takes no memory and calls no store.
+    /// Ends the group and goes back to the document before it. What can be undone stays; what could be made again stays
+    /// where the group has no edit. NoGroup where none is open, and then Locked where any block is, before all else;
+    /// Memory, File or Damaged as an undo of a group is, and then the group is open still. A group without an edit
+    /// takes no memory and calls no store.
     pub fn abandon(&mut self) -> Result<(), Fault>
         // What is done.
         ensures step { IsStep S.facts self.old self.new commands.Abandon (reply_by (λ _. Accepted) result) }
@@ -481,9 +486,9 @@ impl<S: Store> Session<S> {
         self.log.redo_count()
     }
 
-    /// It does nothing: its caller learns that each document of the machine of an exact session is valid, as it always is, that its locks
-    /// are, what a crash now leaves, and that nothing is left to redo while the open group has an edit. What a store that isn't honest has
-    /// isn't known, but for handles and the map block.
+    /// It does nothing: its caller learns that each document of the machine of an exact session is valid, as it always
+    /// is, that its locks are, what a crash now leaves, and that nothing is left to redo while the open group has an
+    /// edit. What a store that isn't honest has isn't known, but for handles and the map block.
     pub fn validity(&self)
         ensures machine { IsExact S.facts self.now → (target : Bool) → IsValidMachine (machine_of target self.now) }
         ensures locks { (target : Bool) → AreValidLocks (machine_of target self.now) }
@@ -506,9 +511,9 @@ impl<S: Store> Session<S> {
         self.log.weight()
     }
 
-    /// Locks a block once more. It is brought into memory, and stays there until it is unlocked as often. NoBlock; LockLimit where it
-    /// is locked 255 times; CacheFull where each frame has a locked block, and it isn't one of them: then nothing changes. Otherwise
-    /// refused as a look-up into it is.
+    /// Locks a block once more. It is brought into memory, and stays there until it is unlocked as often. NoBlock;
+    /// LockLimit where it is locked 255 times; CacheFull where each frame has a locked block, and it isn't one of them:
+    /// then nothing changes. Otherwise refused as a look-up into it is.
     pub fn lock(&mut self, block: VmHandle) -> Result<(), Fault>
         // What is done.
         ensures step { IsStep S.facts self.old self.new (commands.Lock block) (reply_by (λ _. Accepted) result) }
@@ -543,8 +548,8 @@ impl<S: Store> Session<S> {
         self.blocks.unlock(block)
     }
 
-    /// Has a locked block written to the file by the next commit, as one that was edited is. NoBlock; NotLocked where it isn't locked.
-    /// No memory, no store.
+    /// Has a locked block written to the file by the next commit, as one that was edited is. NoBlock; NotLocked where
+    /// it isn't locked. No memory, no store.
     pub fn dirty(&mut self, block: VmHandle) -> Result<(), Fault>
         ensures step { (target : Bool) → Step false (machine_of target self.old) (Some (commands.Dirty block))
             (reply_by (λ _. Accepted) result) (machine_of target self.new) }
@@ -576,8 +581,8 @@ impl<S: Store> Session<S> {
         self.blocks.has_locks()
     }
 
-    /// The bytes of a chunk of a heap that is locked, straight from memory; None where there is no such block, lock or chunk, or the
-    /// block is raw.
+    /// The bytes of a chunk of a heap that is locked, straight from memory; None where there is no such block, lock or
+    /// chunk, or the block is raw.
     pub fn locked_chunk(&self, block: VmHandle, chunk: ChunkHandle) -> Option<&[u8]>
         ensures { (target : Bool)
             → option_map (λ bytes. bytes.now) result ≡ locked_chunk (machine_of target self.now) block.0 chunk.0 }
@@ -588,7 +593,8 @@ impl<S: Store> Session<S> {
         }
     }
 
-    /// The bytes of a raw block that is locked, straight from memory; None where there is no such block or lock, or it is a heap.
+    /// The bytes of a raw block that is locked, straight from memory; None where there is no such block or lock, or it
+    /// is a heap.
     pub fn locked_raw(&self, block: VmHandle) -> Option<&[u8]>
         ensures { (target : Bool)
             → option_map (λ bytes. bytes.now) result ≡ locked_raw (machine_of target self.now) block.0 }

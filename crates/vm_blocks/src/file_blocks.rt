@@ -32,8 +32,8 @@ use std::marker::Model;
 use vm_file::Refused;
 use vm_store::Store;
 
-/// A document file with its blocks, so many of which may be in memory. Contracts see it as a cache of them, whose document is the one
-/// that callers see: what was changed in memory an accepted update or save makes the file's.
+/// A document file with its blocks, so many of which may be in memory. Contracts see it as a cache of them, whose
+/// document is the one that callers see: what was changed in memory an accepted update or save makes the file's.
 #[derive(Drop)]
 pub struct FileBlocks<S: Store> {
     alloc: Global,
@@ -54,8 +54,8 @@ impl<S: Store> Model for FileBlocks<S> {
 }
 
 impl<S: Store> FileBlocks<S> {
-    /// Makes the store an empty document file, whatever was in it, with so many blocks in memory at most. Memory, before the store is
-    /// called; File.
+    /// Makes the store an empty document file, whatever was in it, with so many blocks in memory at most. Memory,
+    /// before the store is called; File.
     pub fn create(alloc: Global, store: S, frames: usize) -> Result<FileBlocks<S>, Refused<S>>
         requires { 1 ≤ frames }
         ensures made { MatchResult result
@@ -70,9 +70,9 @@ impl<S: Store> FileBlocks<S> {
         }
     }
 
-    /// Opens the file that a store has, with its updated document as it is now. Where it is refused the store comes back, and
-    /// nothing was written to an honest one: NotDocument or Damaged where it has no file; Memory, File. Where a crash left the store,
-    /// what is read is on the disk from then on.
+    /// Opens the file that a store has, with its updated document as it is now. Where it is refused the store comes
+    /// back, and nothing was written to an honest one: NotDocument or Damaged where it has no file; Memory, File. Where
+    /// a crash left the store, what is read is on the disk from then on.
     pub fn open(alloc: Global, store: S, frames: usize) -> Result<FileBlocks<S>, Refused<S>>
         requires { 1 ≤ frames }
         ensures opened { MatchResult result
@@ -97,8 +97,8 @@ impl<S: Store> FileBlocks<S> {
         self.cache.close()
     }
 
-    /// It does nothing: its caller learns what always holds. What a store that isn't honest has of bodies, and of the updated and
-    /// the saved document, isn't known.
+    /// It does nothing: its caller learns what always holds. What a store that isn't honest has of bodies, and of the
+    /// updated and the saved document, isn't known.
     pub fn validity(&self)
         // Of the documents and their file.
         ensures document { IsTrue (S.facts self.now.disk.store).honest → IsValid self.now.document }
@@ -116,8 +116,9 @@ impl<S: Store> FileBlocks<S> {
         self.cache.validity();
     }
 
-    /// Makes the document as it is now the updated one. The blocks in memory stay there, with their locks. Worn where the sequence number
-    /// can't rise, before anything is written; Memory, where nothing is committed; File, where what was to be may be read after a crash.
+    /// Makes the document as it is now the updated one. The blocks in memory stay there, with their locks. Worn where
+    /// the sequence number can't rise, before anything is written; Memory, where nothing is committed; File, where what
+    /// was to be may be read after a crash.
     pub fn update(&mut self) -> Result<(), Fault>
         ensures commit { IsCommit S.facts (self.old.document, self.old.disk.saved) self.old.document
             (as_file self.old) (as_file self.new) result }
@@ -137,8 +138,8 @@ impl<S: Store> FileBlocks<S> {
         self.cache.commit_save()
     }
 
-    /// Makes the saved document the updated one and the document as it is now; no block is in memory then, or locked. Where it is
-    /// refused, as an update is, those in memory stay.
+    /// Makes the saved document the updated one and the document as it is now; no block is in memory then, or locked.
+    /// Where it is refused, as an update is, those in memory stay.
     pub fn revert(&mut self) -> Result<(), Fault>
         ensures commit { IsCommit S.facts (self.old.disk.saved, self.old.disk.saved) self.old.disk.saved
             (as_file self.old) (as_file self.new) result }
@@ -151,10 +152,11 @@ impl<S: Store> FileBlocks<S> {
         self.cache.commit_revert()
     }
 
-    /// Makes the target a file of its own of the document as it is now, and goes on in that, with the same blocks in memory. The file so
-    /// far goes back to its saved document, and its store comes back. Where it is refused the file stays, and the target comes back, with
-    /// any bytes; nothing is committed then, but where the store of the old file fails. Worn, before anything is written; Damaged where
-    /// what is read is no image, which an honest store never gives; Memory, File.
+    /// Makes the target a file of its own of the document as it is now, and goes on in that, with the same blocks in
+    /// memory. The file so far goes back to its saved document, and its store comes back. Where it is refused the file
+    /// stays, and the target comes back, with any bytes; nothing is committed then, but where the store of the old file
+    /// fails. Worn, before anything is written; Damaged where what is read is no image, which an honest store never
+    /// gives; Memory, File.
     pub fn save_as(&mut self, target: S) -> Result<S, Refused<S>>
         ensures saved_as { MatchResult result
             (λ store. IsSavedAs S.facts target store (as_file self.old) (as_file self.new))
@@ -229,10 +231,10 @@ impl<S: Store> FileBlocks<S> {
         self.cache.is_resident(handle)
     }
 
-    /// Brings a block into memory; where all frames are taken, that one of the blocks that aren't locked goes which was used least
-    /// recently. NoBlock where it isn't live; CacheFull where each frame has a locked block, and it isn't one of them: then nothing
-    /// changes. Memory, File; Damaged where what is read is no body, which an honest store never gives. For a block that is in memory
-    /// it takes no memory, calls no store and isn't refused.
+    /// Brings a block into memory; where all frames are taken, that one of the blocks that aren't locked goes which was
+    /// used least recently. NoBlock where it isn't live; CacheFull where each frame has a locked block, and it isn't
+    /// one of them: then nothing changes. Memory, File; Damaged where what is read is no body, which an honest store
+    /// never gives. For a block that is in memory it takes no memory, calls no store and isn't refused.
     pub fn load(&mut self, handle: VmHandle) -> Result<(), Fault>
         ensures keeps { KeepsBlocks S.facts self.old self.new }
         ensures ok { OnOk result (is_loaded self.new handle.0 ≡ true) }
@@ -253,8 +255,8 @@ impl<S: Store> FileBlocks<S> {
         }
     }
 
-    /// Brings a raw block into memory, as `load` does. WrongKind where it is a heap: then, and where it isn't live, no memory is taken
-    /// and no store is called.
+    /// Brings a raw block into memory, as `load` does. WrongKind where it is a heap: then, and where it isn't live, no
+    /// memory is taken and no store is called.
     pub fn load_raw(&mut self, handle: VmHandle) -> Result<(), Fault>
         ensures keeps { KeepsBlocks S.facts self.old self.new }
         ensures ok { OnOk result ((is_loaded self.new handle.0 ≡ true) × (is_raw self.new.document handle.0 ≡ true)) }
@@ -276,8 +278,8 @@ impl<S: Store> FileBlocks<S> {
         self.load_live(handle)
     }
 
-    /// Brings a heap into memory, as `load` does. WrongKind where the block is raw: then, and where it isn't live, no memory is taken
-    /// and no store is called.
+    /// Brings a heap into memory, as `load` does. WrongKind where the block is raw: then, and where it isn't live, no
+    /// memory is taken and no store is called.
     pub fn load_heap(&mut self, handle: VmHandle) -> Result<(), Fault>
         ensures keeps { KeepsBlocks S.facts self.old self.new }
         ensures ok { OnOk result ((is_loaded self.new handle.0 ≡ true) × (is_heap self.new.document handle.0 ≡ true)) }
@@ -324,9 +326,9 @@ impl<S: Store> FileBlocks<S> {
         self.all_locked() && self.locks(handle) == 0
     }
 
-    /// One more lock of a block. It is brought into memory, and stays there until its last lock is taken away. NoBlock where it isn't
-    /// live; LockLimit where it is locked 255 times; CacheFull where each frame has a locked block, and it isn't one of them: then
-    /// nothing changes. Otherwise refused as `load` is.
+    /// One more lock of a block. It is brought into memory, and stays there until its last lock is taken away. NoBlock
+    /// where it isn't live; LockLimit where it is locked 255 times; CacheFull where each frame has a locked block, and
+    /// it isn't one of them: then nothing changes. Otherwise refused as `load` is.
     pub fn lock(&mut self, handle: VmHandle) -> Result<(), Fault>
         ensures ok { OnOk result (GainsLock S.facts handle.0 self.old self.new) }
         ensures err { OnErr result (KeepsBlocks S.facts self.old self.new) }
@@ -361,8 +363,8 @@ impl<S: Store> FileBlocks<S> {
         self.cache.lock(handle);
     }
 
-    /// One lock of a block less; with the last one it may go from memory again. NoBlock where it isn't live, NotLocked where it isn't
-    /// locked: then nothing changes. No memory, no store.
+    /// One lock of a block less; with the last one it may go from memory again. NoBlock where it isn't live, NotLocked
+    /// where it isn't locked: then nothing changes. No memory, no store.
     pub fn unlock(&mut self, handle: VmHandle) -> Result<(), Fault>
         ensures ok { OnOk result (LosesLock handle.0 self.old self.new) }
         ensures err { OnErr result (self.new ≡ self.old) }
@@ -374,8 +376,9 @@ impl<S: Store> FileBlocks<S> {
         Ok(())
     }
 
-    /// Has a locked block written to the file with the next update, save or save-as, or when it goes from memory, as one that was
-    /// changed is. Nothing that a caller sees changes. NoBlock where it isn't live, NotLocked where it isn't locked. No memory, no store.
+    /// Has a locked block written to the file with the next update, save or save-as, or when it goes from memory, as
+    /// one that was changed is. Nothing that a caller sees changes. NoBlock where it isn't live, NotLocked where it
+    /// isn't locked. No memory, no store.
     pub fn dirty(&mut self, handle: VmHandle) -> Result<(), Fault>
         ensures same { self.new ≡ self.old }
         ensures ok { OnOk result (0 < locks_of self.old.resident handle.0) }
@@ -440,10 +443,11 @@ impl<S: Store> FileBlocks<S> {
         self.cache.next_handle()
     }
 
-    /// Makes a change, in the direction. Where the body of a block changes, that block is brought into memory; Damaged where its body
-    /// doesn't take the change, and CacheFull where each frame has a locked block, and it isn't one of them. Blocks that come in are
-    /// written to the file, all or none; those that go aren't locked. Otherwise refused as `load` is. Where no block comes in, and the
-    /// one that changes is in memory, it takes no memory, calls no store and isn't refused for want of either.
+    /// Makes a change, in the direction. Where the body of a block changes, that block is brought into memory; Damaged
+    /// where its body doesn't take the change, and CacheFull where each frame has a locked block, and it isn't one of
+    /// them. Blocks that come in are written to the file, all or none; those that go aren't locked. Otherwise refused
+    /// as `load` is. Where no block comes in, and the one that changes is in memory, it takes no memory, calls no store
+    /// and isn't refused for want of either.
     pub fn change(&mut self, change: &Change, direction: Direction) -> Result<(), Fault>
         // Asked of the caller.
         requires listed { CanApplyByHandle (directed direction change.now) self.old.document }
@@ -465,9 +469,9 @@ impl<S: Store> FileBlocks<S> {
         self.turn(change, direction)
     }
 
-    /// Carries changes out in a direction one after another, the last one first: all of them or none. What is changed in memory is
-    /// first written to the file. Damaged where a body doesn't take its change; otherwise refused as `load` is, but never CacheFull.
-    /// Where it is refused after that no block is in memory.
+    /// Carries changes out in a direction one after another, the last one first: all of them or none. What is changed
+    /// in memory is first written to the file. Damaged where a body doesn't take its change; otherwise refused as
+    /// `load` is, but never CacheFull. Where it is refused after that no block is in memory.
     pub fn change_all(&mut self, changes: &[Change], direction: Direction) -> Result<(), Fault>
         requires unmarked { self.old.disk.marked ≡ None }
         requires listed { CanApplyAllByHandle (directed_all direction changes.now) self.old.document }

@@ -8,8 +8,8 @@ pub fn change_law()
     ensures flip { ReverseLaw }
 {}
 
-/// What lets a change be made has two halves, one of which is known by handles alone; that half stays known, for a run of changes
-/// too, in a document with the same handles.
+/// What lets a change be made has two halves, one of which is known by handles alone; that half stays known, for a run
+/// of changes too, in a document with the same handles.
 pub fn by_handle_law()
     ensures halves { HalvesLaw }
     ensures stays { ByHandleLaw }

@@ -42,7 +42,8 @@ pub fn equal<S: Store>(
     have_same_shape(alloc, blocks, first, second)
 }
 
-/// Tests the roots of two chains: NoBlock where one of them isn't live, and then WrongKind where one is a heap. No block is looked into.
+/// Tests the roots of two chains: NoBlock where one of them isn't live, and then WrongKind where one is a heap. No
+/// block is looked into.
 pub fn test_roots<S: Store>(
     blocks: &FileBlocks<S>,
     first: VmHandle,

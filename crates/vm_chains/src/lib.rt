@@ -1,6 +1,6 @@
 //! Chains and trees of raw blocks: walked, measured and compared, and planned to be copied or freed.
-// A call may bring blocks into memory, and changes nothing else. What follows a chain may need any frame, so that not each may have a
-// locked block; the roots can be tested before that.
+// A call may bring blocks into memory, and changes nothing else. What follows a chain may need any frame, so that not
+// each may have a locked block; the roots can be tested before that.
 #![tactic(auto)]
 
 mod comparing;

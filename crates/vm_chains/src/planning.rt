@@ -88,7 +88,8 @@ fn contains(members: &[Member], wanted: VmHandle) -> bool
     members.iter().any(|member| member.handle.0 == wanted.0)
 }
 
-/// The blocks of the chain of a raw block, as they are. The image of each is made as the walk meets it, while it is in memory.
+/// The blocks of the chain of a raw block, as they are. The image of each is made as the walk meets it, while it is in
+/// memory.
 fn images<S: Store>(
     alloc: Global,
     blocks: &mut FileBlocks<S>,

@@ -14,8 +14,8 @@ use std::alloc::Global;
 use vm_blocks::{BlockBody, FileBlocks};
 use vm_store::Store;
 
-// A block that was met before is loaded again, since others may have taken its place. Only a store that isn't honest gives another body
-// then: where no chain can have that, it is Damaged.
+// A block that was met before is loaded again, since others may have taken its place. Only a store that isn't honest
+// gives another body then: where no chain can have that, it is Damaged.
 
 /// How many bytes it has.
 pub(crate) fn len_at<S: Store>(blocks: &mut FileBlocks<S>, handle: VmHandle) -> Result<usize, Fault>

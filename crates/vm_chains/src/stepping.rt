@@ -36,8 +36,8 @@ impl Walk {
         })
     }
 
-    /// The next block, which is in memory then; none at the end. BadChain where the next one is none of a chain or was met before,
-    /// or where more are to come than may still be met.
+    /// The next block, which is in memory then; none at the end. BadChain where the next one is none of a chain or was
+    /// met before, or where more are to come than may still be met.
     pub(crate) fn step<S: Store>(
         &mut self,
         blocks: &mut FileBlocks<S>,
@@ -100,7 +100,8 @@ impl Walk {
     }
 }
 
-/// Brings a block into memory and puts what it links to before all that is pending. BadChain where the block is none of a chain.
+/// Brings a block into memory and puts what it links to before all that is pending. BadChain where the block is none of
+/// a chain.
 fn follow<S: Store>(
     blocks: &mut FileBlocks<S>,
     handle: VmHandle,

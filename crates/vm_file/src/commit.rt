@@ -33,8 +33,8 @@ fn write_through<S: Store>(store: &mut S, at: u64, bytes: &[u8]) -> Result<(), S
     store.sync()
 }
 
-// Shuts the gate of the other slot. Until that is on the disk, what is known of the slot stays. A gate that is shut isn't
-// written, since it could be torn open.
+// Shuts the gate of the other slot. Until that is on the disk, what is known of the slot stays. A gate that is shut
+// isn't written, since it could be torn open.
 fn shut_gate<S: Store>(store: &mut S, slots: &mut Slots) -> Result<(), StoreFault>
     // Asked of the caller.
     requires kept { AreExtentsPlaced slots.old }
@@ -137,9 +137,9 @@ fn open_gate<S: Store>(store: &mut S, slots: &mut Slots, pair: Pair) -> Result<(
     }
 }
 
-// Makes the slots lead to a pair whose directories and images lie in the file: the other slot is shut where it may be open,
-// filled, and opened, each with a sync. On an error the slot that counts is the same, and so is what it leads to. Where only
-// the last step failed, the pair may be found after a crash, and `slots` holds it.
+// Makes the slots lead to a pair whose directories and images lie in the file: the other slot is shut where it may be
+// open, filled, and opened, each with a sync. On an error the slot that counts is the same, and so is what it leads to.
+// Where only the last step failed, the pair may be found after a crash, and `slots` holds it.
 fn commit_slots<S: Store>(store: &mut S, slots: &mut Slots, pair: Pair) -> Result<(), StoreFault>
     // Asked of the caller.
     requires sequence { slots.old.sequence < last_sequence }

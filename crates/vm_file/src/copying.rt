@@ -172,7 +172,8 @@ struct CopyPlan {
     text: Vec<u8>,
 }
 
-/// Places a document in a file of its own, its directory behind the images. It takes all the memory that the file needs.
+/// Places a document in a file of its own, its directory behind the images. It takes all the memory that the file
+/// needs.
 fn plan_copy(alloc: Global, live: &BlockTable) -> Result<CopyPlan, AllocError>
     requires table { IsBlockTable live.now }
     requires placed { All IsPlaced (block_extents live.now.places.items) }

@@ -38,8 +38,8 @@ pub fn read_extent<S: Store>(alloc: Global, store: &mut S, extent: Extent) -> Re
     }
 }
 
-/// Writes an image or a directory where nothing lies that the slots stand on. Doesn't sync: until something does, a crash may
-/// leave any bytes there.
+/// Writes an image or a directory where nothing lies that the slots stand on. Doesn't sync: until something does, a
+/// crash may leave any bytes there.
 pub fn write_extent<S: Store>(
     store: &mut S,
     slots: &Slots,

@@ -41,8 +41,8 @@ pub struct VmFile<S: Store> {
     store: S,
     live: BlockTable,
     slots: Slots,
-    // What is free around all that lies in the file and stays, where it is known. The first image that is placed finds it
-    // out, and a commit forgets it.
+    // What is free around all that lies in the file and stays, where it is known. The first image that is placed finds
+    // it out, and a commit forgets it.
     space: Option<FreeSpace>,
     // Where the live table has blocks.
     bounds: Bounds,
@@ -270,8 +270,8 @@ impl<S: Store> VmFile<S> {
     }
 
     /// Writes the images of blocks, and then puts all these blocks into the document and takes others out. Where it is
-    /// refused nothing of that is done. Memory, before anything is written; File. With nothing to write it takes no memory,
-    /// calls no store and isn't refused.
+    /// refused nothing of that is done. Memory, before anything is written; File. With nothing to write it takes no
+    /// memory, calls no store and isn't refused.
     pub fn put_blocks(&mut self, puts: &[Member], removals: &[VmHandle]) -> Result<(), Fault>
         // Asked of the caller.
         requires puts { All IsPut puts.now }
@@ -312,8 +312,8 @@ impl<S: Store> VmFile<S> {
         Ok(())
     }
 
-    /// Marks the document as it is now, in place of one that was marked, so that `roll_back` can bring it back: until then nothing is
-    /// written over its images. Memory.
+    /// Marks the document as it is now, in place of one that was marked, so that `roll_back` can bring it back: until
+    /// then nothing is written over its images. Memory.
     pub fn mark(&mut self) -> Result<(), AllocError>
         ensures ok { OnOk result
             (self.new ≡ record self.old { disk = record self.old.disk { marked = Some self.old.document } }) }
@@ -346,8 +346,8 @@ impl<S: Store> VmFile<S> {
         self.space = None;
     }
 
-    /// Makes the document as it is now the updated one. Worn where the sequence number can't rise, before anything else is
-    /// done; Memory, before anything is written; File.
+    /// Makes the document as it is now the updated one. Worn where the sequence number can't rise, before anything else
+    /// is done; Memory, before anything is written; File.
     pub fn commit_update(&mut self) -> Result<(), Fault>
         ensures commit { IsCommit S.facts (self.old.document, self.old.disk.saved) self.old.document
             self.old self.new result }

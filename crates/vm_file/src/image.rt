@@ -37,8 +37,8 @@ fn zeros(alloc: Global, count: usize) -> Result<Vec<u8>, AllocError>
     vec![in alloc; 0; count]
 }
 
-/// What a file keeps of a body that a document can have: a byte for its kind, and the bytes of a raw body or of a heap's image
-/// behind it, at most `LONGEST_IMAGE` in all. Contracts see the body.
+/// What a file keeps of a body that a document can have: a byte for its kind, and the bytes of a raw body or of a
+/// heap's image behind it, at most `LONGEST_IMAGE` in all. Contracts see the body.
 #[derive(Drop)]
 pub struct Image {
     bytes: Bytes,
@@ -60,7 +60,8 @@ impl Model for Image {
 }
 
 impl Image {
-    /// The image that these bytes are, None where they are that of no body that a document can have. It takes no memory.
+    /// The image that these bytes are, None where they are that of no body that a document can have. It takes no
+    /// memory.
     pub fn from_bytes(bytes: Bytes) -> Option<Image>
         ensures { MatchOption result (body_of bytes ≡ None) (λ i. body_of bytes ≡ Some i) }
     {

@@ -113,8 +113,8 @@ fn open_first<S: Store>(store: &mut S) -> Result<(), StoreFault>
     store.sync()
 }
 
-/// Writes the directory and the slots of a first file, whose images lie there: both gates are shut until all of it is on the
-/// disk, and then that of slot 0 is opened.
+/// Writes the directory and the slots of a first file, whose images lie there: both gates are shut until all of it is
+/// on the disk, and then that of slot 0 is opened.
 pub fn initialize<S: Store>(store: &mut S, directory: Extent, text: &[u8]) -> Result<(), StoreFault>
     requires behind { 2 ≤ directory.page }
     ensures honest { (S.facts store.new).honest ≡ (S.facts store.old).honest }

@@ -17,7 +17,8 @@ use std::alloc::{AllocError, Global};
 use vm_space::MOST_ENTRIES;
 use vm_store::Store;
 
-/// The place of an entry: only a heap has a type. An image that lies where a known one of the same handle does isn't read again.
+/// The place of an entry: only a heap has a type. An image that lies where a known one of the same handle does isn't
+/// read again.
 fn read_place<S: Store>(
     alloc: Global,
     store: &mut S,
@@ -271,7 +272,8 @@ fn sync<S: Store>(store: &mut S) -> Result<(), Fault>
     }
 }
 
-/// Reads what the store has, and syncs it: what was read is on the disk from then on. NotDocument, Damaged, Memory, File.
+/// Reads what the store has, and syncs it: what was read is on the disk from then on. NotDocument, Damaged, Memory,
+/// File.
 pub fn open_slots<S: Store>(alloc: Global, store: &mut S) -> Result<(Slots, BlockTable), Fault>
     // The store.
     ensures looks { OnlyReadsStore (S.facts store.old) (S.facts store.new) }

@@ -59,7 +59,8 @@ pub fn is_shut(spare: &SpareSlot) -> bool
     matches!(spare, SpareSlot::Shut)
 }
 
-/// The bytes of a slot behind its gate: the version, its number, and the directories of the updated and the saved document.
+/// The bytes of a slot behind its gate: the version, its number, and the directories of the updated and the saved
+/// document.
 #[tactic(auto, unfolding(crate::specs::Slots::gate_text))]
 pub fn behind_gate_bytes(sequence: u64, working: Extent, saved: Extent) -> [u8; 27]
     ensures { result ≡ gate_text 2 sequence working saved }

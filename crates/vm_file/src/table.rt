@@ -35,8 +35,8 @@ pub struct Place {
     pub extent: Extent,
 }
 
-/// A document in the file. The block under the handle h is at h - 1, if it is live. There are places up to the highest handle that
-/// was live since the table was made or read, and none past it.
+/// A document in the file. The block under the handle h is at h - 1, if it is live. There are places up to the highest
+/// handle that was live since the table was made or read, and none past it.
 #[derive(Drop)]
 pub struct BlockTable {
     /// The handle of the map block, 0 if there is none.
@@ -116,13 +116,16 @@ pub fn read_block<S: Store>(
     table: &BlockTable,
     block: VmHandle,
 ) -> Result<Vec<u8>, Fault>
+    // A live block of a table whose images the store has.
     requires live { is_live (document_in (S.facts store.old).content table.now) block.0 ≡ true }
     requires images { IsTrue (S.facts store.old).honest → AreImaged (S.facts store.old).content table.now.places.items }
+    // What is read.
     ensures looks { OnlyReadsStore (S.facts store.old) (S.facts store.new) }
     ensures image { IfOk result (λ bytes. IsTrue (S.facts store.old).honest
         → bytes.items ≡ image (block_at (document_in (S.facts store.old).content table.now) block.0).body) }
     ensures size { IfOk result (λ bytes. All IsPlaced (block_extents table.now.places.items)
         → ArePlaces table.now.places.items → IsImageLength (length bytes.items)) }
+    // Refusals.
     ensures file { IsErrOf result Fault.File → FailedSince (S.facts store.old) (S.facts store.new) }
     ensures refusals { IfErr result IsResourceFault }
 {
@@ -182,8 +185,8 @@ fn give_back(space: &mut Option<FreeSpace>, place: Option<Place>)
     }
 }
 
-/// Puts blocks into a table, each in its extent. Of the free space their extents are taken before; where a block is that gets
-/// another place, it is free afterwards.
+/// Puts blocks into a table, each in its extent. Of the free space their extents are taken before; where a block is
+/// that gets another place, it is free afterwards.
 fn put_places(
     places: &mut [Option<Place>],
     puts: &[Member],

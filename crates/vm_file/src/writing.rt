@@ -52,8 +52,8 @@ pub struct Written {
     pub space: Option<FreeSpace>,
 }
 
-/// Takes free extents for the images of blocks, and writes them there; none where there is nothing to write. Memory, before
-/// anything is written; File.
+/// Takes free extents for the images of blocks, and writes them there; none where there is nothing to write. Memory,
+/// before anything is written; File.
 pub fn write_puts<S: Store>(
     alloc: Global,
     store: &mut S,

@@ -39,8 +39,8 @@ fn page_limit(version: u8) -> u32
     }
 }
 
-/// Whether an extent lies behind the slots of a file of `file_length` bytes, within the file, and below the last page of
-/// a file of this version.
+/// Whether an extent lies behind the slots of a file of `file_length` bytes, within the file, and below the last page
+/// of a file of this version.
 pub fn is_in_file(extent: Extent, file_length: u64, version: u8) -> bool
     ensures { result ≡ file.is_in_file version file_length extent }
 {

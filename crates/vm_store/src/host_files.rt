@@ -11,11 +11,12 @@ use std::rt::HostRuntime;
 /// The file that is empty, and takes nothing where it is opened to be read.
 const NULL: &str = "/dev/null";
 
-/// The files of a system, each locked while it is open, for a program that may have been started with closed standard streams.
+/// The files of a system, each locked while it is open, for a program that may have been started with closed standard
+/// streams.
 ///
-/// The machine gives a file that is opened the least number that is free, so that where a standard stream is closed the next file
-/// would be taken for it. So three files are opened first, and kept. From a closed standard input a script of no line is read then,
-/// and nothing can be written to a closed standard output or standard error.
+/// The machine gives a file that is opened the least number that is free, so that where a standard stream is closed the
+/// next file would be taken for it. So three files are opened first, and kept. From a closed standard input a script of
+/// no line is read then, and nothing can be written to a closed standard output or standard error.
 #[derive(Drop)]
 pub struct HostFiles<F: SystemFile, Y: System<F> + Drop> {
     rt: HostRuntime,

@@ -1,5 +1,6 @@
 //! The host's own files.
-// No contract can say what they give or take, so they claim no honesty: that they do what an honest file does is shown by tests alone.
+// No contract can say what they give or take, so they claim no honesty: that they do what an honest file does is shown
+// by tests alone.
 ghost use Rattle.std.specs.Prelude.{◌≡◌, ◌≤◌, length, IfOk};
 ghost use Rattle.vm_store.specs.HostSystem.{host_system_facts, host_system_timely};
 

@@ -19,8 +19,9 @@ pub struct Pace {
     pub syncs: u64,
 }
 
-/// A file in memory, honest, for tests. It serves its calls in pieces, and interrupts some of them: a write that is interrupted
-/// has written its piece, and doesn't tell so. One sync fails, and does nothing; the file doesn't do any worse then.
+/// A file in memory, honest, for tests. It serves its calls in pieces, and interrupts some of them: a write that is
+/// interrupted has written its piece, and doesn't tell so. One sync fails, and does nothing; the file doesn't do any
+/// worse then.
 #[derive(Drop)]
 pub struct PiecewiseFile {
     store: MemStore,
@@ -181,8 +182,8 @@ pub struct PiecewiseHandle {
     store: MemStore,
 }
 
-/// A system in memory with one file, for tests, whatever its path. Its calls are interrupted as the file's are. Of those that
-/// aren't, the first `passes` succeed, and then all fail.
+/// A system in memory with one file, for tests, whatever its path. Its calls are interrupted as the file's are. Of
+/// those that aren't, the first `passes` succeed, and then all fail.
 #[derive(Drop)]
 pub struct PiecewiseSystem {
     store: Option<MemStore>,

@@ -14,9 +14,9 @@ pub enum SystemFault {
 
 /// A file of a system. Offsets and lengths count bytes.
 ///
-/// What is promised holds of an honest file, and a file is honest for good or never. A call may move fewer bytes than it was
-/// asked to. One that is interrupted has changed nothing, or, if it is a write, no more than bytes of its range. What a crash may
-/// leave is said as for a store.
+/// What is promised holds of an honest file, and a file is honest for good or never. A call may move fewer bytes than
+/// it was asked to. One that is interrupted has changed nothing, or, if it is a write, no more than bytes of its range.
+/// What a crash may leave is said as for a store.
 pub trait SystemFile: Drop {
     /// All that is known of the file.
     ghost facts: { Self → FileFacts };
@@ -29,8 +29,8 @@ pub trait SystemFile: Drop {
         ensures len { IfOk result
             (λ n. IsTrue (facts self.old).store.honest → n ≡ length (facts self.old).store.content) };
 
-    /// Reads bytes from `at` on into the buffer's first, and answers how many: none if the buffer is empty or they lie at the
-    /// end or past it.
+    /// Reads bytes from `at` on into the buffer's first, and answers how many: none if the buffer is empty or they lie
+    /// at the end or past it.
     fn read_at(&mut self, at: u64, buffer: &mut [u8]) -> Result<usize, SystemFault>
         ensures honest { (facts self.new).store.honest ≡ (facts self.old).store.honest }
         ensures told { IsTrue (facts self.old).store.honest → CountsFailure result (facts self.old) (facts self.new) }
@@ -39,8 +39,8 @@ pub trait SystemFile: Drop {
         ensures read { IfOk result
             (λ k. IsTrue (facts self.old).store.honest → Reads (facts self.old).store.content at k buffer.new) };
 
-    /// Writes the first of the bytes over what is there and past the end, and answers how many: one at least, where there are
-    /// any.
+    /// Writes the first of the bytes over what is there and past the end, and answers how many: one at least, where
+    /// there are any.
     fn write_at(&mut self, at: u64, bytes: &[u8]) -> Result<usize, SystemFault>
         ensures honest { (facts self.new).store.honest ≡ (facts self.old).store.honest }
         ensures told { IsTrue (facts self.old).store.honest → CountsFailure result (facts self.old) (facts self.new) }
@@ -50,8 +50,8 @@ pub trait SystemFile: Drop {
         ensures part { IsTrue (facts self.old).store.honest
             → WritesPart at bytes.now result (facts self.old).store.content (facts self.new).store.content };
 
-    /// Cuts the bytes or adds zeros, so that there are `n`. After a crash anything may be left where it cuts bytes; where it adds
-    /// zeros, what a write of no bytes at `n` would leave.
+    /// Cuts the bytes or adds zeros, so that there are `n`. After a crash anything may be left where it cuts bytes;
+    /// where it adds zeros, what a write of no bytes at `n` would leave.
     fn set_len(&mut self, n: u64) -> Result<(), SystemFault>
         // As of each call.
         ensures honest { (facts self.new).store.honest ≡ (facts self.old).store.honest }
@@ -68,8 +68,8 @@ pub trait SystemFile: Drop {
         ensures interrupted { IsInterrupted result → IsTrue (facts self.old).store.honest
             → IsUnchanged (facts self.old).store (facts self.new).store };
 
-    /// After a sync that succeeds a crash leaves the content, until the next write or `set_len`; but not if an earlier sync of the
-    /// file has failed: the system may have dropped what it could not write then, and tells so only once.
+    /// After a sync that succeeds a crash leaves the content, until the next write or `set_len`; but not if an earlier
+    /// sync of the file has failed: the system may have dropped what it could not write then, and tells so only once.
     fn sync(&mut self) -> Result<(), SystemFault>
         ensures honest { (facts self.new).store.honest ≡ (facts self.old).store.honest }
         ensures told { IsTrue (facts self.old).store.honest → CountsFailure result (facts self.old) (facts self.new) }
@@ -83,8 +83,8 @@ pub trait SystemFile: Drop {
     ghost timely: { (s : Self) → IsTrue (facts s).store.honest → IsTimely (facts s).store };
 }
 
-/// A system with files. What its calls do is known by the relations of `calls` alone, so that where a contract has one of them,
-/// just that call was made.
+/// A system with files. What its calls do is known by the relations of `calls` alone, so that where a contract has one
+/// of them, just that call was made.
 pub trait System<F: SystemFile> {
     /// A file that was opened and isn't locked. Its bytes can't be touched.
     type Handle: Drop;
@@ -99,7 +99,8 @@ pub trait System<F: SystemFile> {
     fn sync_folder(&mut self, path: &str) -> Result<(), SystemFault>
         ensures { calls.syncs_folder self.old path.now result self.new };
 
-    /// Locks a file against every other open of it, until it is dropped. It doesn't wait, and fails where another holds a lock.
+    /// Locks a file against every other open of it, until it is dropped. It doesn't wait, and fails where another holds
+    /// a lock.
     fn lock(&mut self, handle: Self::Handle) -> Result<F, SystemFault>
         ensures locks { calls.locks self.old handle result self.new }
         ensures syncs { IfOk result
