@@ -206,7 +206,7 @@ impl Space {
 
 /// How many pieces of the free list a search looks at. A list whose first so many pieces lack the room is walked in
 /// vain again and again. Packing ends it, and is paid for by the chunks that were freed, cut short or moved since the
-/// last time: each of these put one piece on the list.
+/// last time: each of these put one piece on the list. Joining looks at as many.
 pub(crate) const LOOKS: usize = 128;
 
 /// A free piece of the list, and the one before it, or 0.

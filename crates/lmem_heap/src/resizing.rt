@@ -172,7 +172,7 @@ impl Space {
     }
 
     /// A slot's chunk gets `n` bytes, for which its piece is too small. It grows into the piece behind its own where
-    /// that serves, or moves where a piece is found, else the chunks are packed.
+    /// that serves, or moves where a piece is found or made by joining free ones; else the chunks are packed.
     fn enlarge(&mut self, i: usize, n: usize)
         // A slot whose chunk has bytes.
         requires well_formed { IsWellFormed self.old }
