@@ -1,6 +1,6 @@
 -- The order of use.
 use Rattle.std.proofs.Common.{◌≡◌, ◌⊎◌, ℕ, suc, ◌-◌, ◌<◌, ◌≤◌, ◌==◌, nat_eq, nat_le, nat_lt, Bool, true, false, cond, not, List, [], ◌∷◌, length, take, Option, None, Some, is_some, refl, sym, ap, subst, ◌∙◌, arith, inl, inr, unwrap_or, le-leb, reverse, eq-eqb, eqb-true, leb-true, lt-ltb}
-use Rattle.std.specs.Prelude.{find, count_by, MatchOption}
+use Rattle.std.specs.Prelude.{find, count_by, slice_get, MatchOption}
 use Rattle.std.specs.List.{IsDistinct}
 use Rattle.std.specs.Cmp.{nat_eq_equiv}
 use Rattle.std.proofs.lemmas.Map.{lookup-remove_entry}
@@ -12,7 +12,7 @@ use Rattle.std.proofs.lemmas.List.Sums.{sum_by-cons}
 use Rattle.std.specs.Option.{option_map_or, option_map, option_or}
 use Rattle.std.specs.Map.{lookup, lookup_entry, remove_entry, set_value, keys_of}
 use Rattle.lru.specs.LruCache.{LruCache, put_entries, promoted}
-use Rattle.block_cache.specs.State.{ResidentBlock, is_resident, is_locked, locked_count, all_locked, victim, evicted}
+use Rattle.block_cache.specs.State.{ResidentBlock, is_first, is_resident, is_locked, locked_count, all_locked, victim, evicted}
 use Rattle.block_cache.specs.Frames.{frame_of, residents, with_frame, is_changed_in, some_changed}
 use Rattle.block_cache.specs.declared.frame.Frame.{Frame}
 
@@ -166,6 +166,20 @@ held_first h q es (Some e) distinct is =
 
 pub held-promoted : (h q : ℕ) (es : List (ℕ × Frame)) → IsDistinct nat_eq (keys_of es) → frame_of (promoted (nat_eq h) es) q ≡ frame_of es q
 held-promoted h q es distinct = held_first h q es (lookup_entry (nat_eq h) es) distinct refl
+
+-- the block that was used last
+
+pub first_is : (h : ℕ) (es : List (ℕ × Frame)) → option_map_or (λ (e : ℕ × Frame). nat_eq h e.0) (slice_get es 0) false ≡ is_first (residents es) h
+first_is h [] = refl
+first_is h (e ∷ es) = refl
+
+pub first_resident : (h : ℕ) (ss : List ResidentBlock) → is_first ss h ≡ true → is_resident ss h ≡ true
+first_resident h [] wrong = absurd (cc wrong)
+first_resident h (s ∷ ss) at = ap (λ b. is_some (cond b (Some s.1) (lookup (nat_eq h) ss))) at
+
+pub first_stays : (h : ℕ) (ss : List ResidentBlock) → is_first ss h ≡ true → promoted (nat_eq h) ss ≡ ss
+first_stays h [] wrong = absurd (cc wrong)
+first_stays h (s ∷ ss) at = ap (λ b. option_map_or (λ (e : ResidentBlock). e ∷ cond b ss (s ∷ remove_entry (nat_eq h) ss)) (cond b (Some s) (lookup_entry (nat_eq h) ss)) (s ∷ ss)) at
 
 -- a block that isn't in memory doesn't come in when another goes
 

@@ -19,7 +19,7 @@ ghost use Rattle.block_cache.specs.SavingAs.{IsSavedAs, IsNotSavedAs};
 ghost use Rattle.block_cache.specs.State.{is_resident, locks_of, locked_count, all_locked, after_load, evicted, residents_without, as_file, Marks, KeepsDocument, KeepsLocks};
 
 use crate::changing::drop_blocks;
-use crate::frame::{Frame, all_locked, body_in, has_locks, lock, locks_of, mark, unlock};
+use crate::frame::{Frame, all_locked, body_in, has_locks, is_first, lock, locks_of, mark, unlock};
 use crate::loading::{bring, drop_all, flush};
 use crate::{BlockBody, committing, saving_as};
 use geos_model::{Attributes, Fault, VmHandle};
@@ -303,6 +303,10 @@ impl<S: Store> Cache<S> {
             (IsDamage (S.facts self.old.disk.store).honest) self.old.disk.store self.new.disk.store result }
     {
         let _count = self.frames.len();
+        // Most blocks are loaded for one edit after another: nothing is looked up for them, and nothing moved.
+        if is_first(&self.frames, block.0) {
+            return Ok(());
+        }
         if self.frames.contains(&block.0) {
             self.frames.promote(&block.0);
             Ok(())

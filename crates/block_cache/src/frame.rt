@@ -6,7 +6,7 @@ ghost use Rattle.geos_model.specs.Document.{is_heap_body};
 ghost use Rattle.lru.specs.LruCache.{lru_cache};
 ghost use Rattle.block_cache.specs.Bodies.{body_value};
 ghost use Rattle.block_cache.specs.Frames.{frame_of, residents, with_frame};
-ghost use Rattle.block_cache.specs.State.{locks_of, locked_count, all_locked, victim};
+ghost use Rattle.block_cache.specs.State.{locks_of, locked_count, all_locked, is_first, victim};
 
 use crate::body::BlockBody;
 use lmem_heap::Heap;
@@ -55,6 +55,16 @@ pub fn mark(frames: &mut LruCache<u16, Frame>, block: u16, changed: bool)
 {
     if let Some(frame) = frames.peek_mut(&block) {
         frame.changed = changed;
+    }
+}
+
+/// Whether a block is the one in memory that was used last.
+pub fn is_first(frames: &LruCache<u16, Frame>, block: u16) -> bool
+    ensures { result ≡ is_first (residents frames.now.entries) block }
+{
+    match frames.peek_mru() {
+        Some((first, _)) => block == *first,
+        None => false,
     }
 }
 

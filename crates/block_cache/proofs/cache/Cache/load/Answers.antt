@@ -8,13 +8,13 @@ use Rattle.std.specs.List.{IsDistinct}
 use Rattle.std.specs.Map.{lookup, keys_of}
 use Rattle.std.specs.Option.{option_map}
 use Rattle.lru.specs.LruCache.{LruCache, promoted}
-use Rattle.block_cache.specs.State.{CacheState, KeepsLocks, locked_count, KeepsDocument, is_resident, after_load, evicted, all_locked}
+use Rattle.block_cache.specs.State.{CacheState, KeepsLocks, locked_count, KeepsDocument, is_first, is_resident, after_load, evicted, all_locked}
 use Rattle.block_cache.specs.Frames.{frame_of, residents, overlay}
 use Rattle.block_cache.specs.declared.frame.Frame.{Frame}
-use Rattle.block_cache.proofs.OrderOfUse.{none_held, resident_is, lookup-residents, residents-promoted, held-promoted}
+use Rattle.block_cache.proofs.OrderOfUse.{first_resident, first_stays, none_held, resident_is, lookup-residents, residents-promoted, held-promoted}
 use Rattle.block_cache.proofs.DocumentUnderFrames.{overlay_same, kept_same, overlay_live}
 use Rattle.block_cache.proofs.Locks.{keys-residents, count_promoted, keeps_either}
-use Rattle.block_cache.proofs.CallAfterCall.{moves_frames, stays_by, state}
+use Rattle.block_cache.proofs.CallAfterCall.{moves_frames, moves_none, stays_by, state}
 use Rattle.block_cache.proofs.cache.Cache.load.Goals as goal
 
 pub invariant_of-self : goal.invariant_of-self
@@ -116,3 +116,21 @@ returns-else-contains-clause-locks g c =
     let absent : lookup (nat_eq h) (residents es) ≡ None = lookup-residents h es ∙ ap (option_map (λ (f : Frame). f.locks)) out in
     subst (λ s. KeepsLocks s.resident (residents fs)) c.self.view_is
     (keeps_either c.bring.result h (nat_lt (length (residents es)) c.self.inside.frames.cap) (residents es) (residents fs) distinct absent c.bring.ensures.ok c.bring.ensures.err)
+
+pub returns-then-is_first-clause-stays : goal.returns-then-is_first-clause-stays
+returns-then-is_first-clause-stays g c =
+    let facts = g.S.Store.facts in
+    let a = c.self.inside.file in
+    let es = c.self.inside.frames.entries in
+    subst (λ s. KeepsDocument facts s s) c.self.view_is
+    (stays_by facts a es c.self.inside.frames.cap a es c.self.inside.frames.cap (moves_none facts a es c.self.invariant) refl)
+
+pub returns-then-is_first-clause-ok : goal.returns-then-is_first-clause-ok
+returns-then-is_first-clause-ok g c =
+    let rs = residents c.self.inside.frames.entries in
+    let h = c.args.block.0 in
+    let first : is_first rs h ≡ true = sym c.is_first.ensures ∙ c.if-is_first.true in
+    let base : rs ≡ after_load c.self.inside.frames.cap h rs =
+    sym (first_stays h rs first)
+    ∙ sym (ap (λ b. cond b (promoted (nat_eq h) rs) ((h, 0) ∷ cond (nat_lt (length rs) c.self.inside.frames.cap) rs (evicted rs))) (first_resident h rs first)) in
+    subst (λ s. s.resident ≡ after_load s.frames h s.resident) c.self.view_is base
