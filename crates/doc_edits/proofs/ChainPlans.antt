@@ -1,37 +1,90 @@
 -- Edits of chains, as changes of many blocks.
-use Rattle.std.proofs.Common.{◌≡◌, ◌<◌, ◌≤◌, ◌==◌, ℕ, Bool, true, List, [], ◌∷◌, ◌++◌, length, get_or, nat_lt, None, Some, refl, sym, ap, ◌∙◌, arith, ltb-false}
-use Rattle.std.specs.List.{list_any}
+use Rattle.std.proofs.Common.{◌≡◌, ◌⊎◌, ◌<◌, ◌≤◌, ℕ, Bool, false, List, [], ◌∷◌, ◌++◌, length, get_or, None, Some, Result, Ok, refl, sym, ap, ◌∙◌, arith, inl, inr, ltb-false}
+use Rattle.std.proofs.lemmas.Bool.{true≢false}
+use Rattle.std.specs.Result.{IsErrAnd}
 use Rattle.geos_model.specs.Refusal.{Conditions, first_refusal}
 use Rattle.geos_model.specs.Chain.{chain_blocks, chain_blocks_of, copies_of, free_handles, new_handles, on_chain, copy_conditions, free_conditions}
 use Rattle.geos_model.specs.Cost.{images_length}
 use Rattle.geos_model.specs.Document.{Block, Document, handles_of, with_blocks, without_blocks}
-use Rattle.geos_model.specs.declared.command.Done.TheVariants as done
-use Rattle.geos_model.specs.declared.command.Edit.TheVariants as edits
+use Rattle.geos_model.specs.Machine.{kind_of}
 use Rattle.geos_model.specs.Meaning.{conditions}
+use Rattle.geos_model.specs.declared.command.Done.{Done}
+use Rattle.geos_model.specs.declared.command.Done.TheVariants as done
+use Rattle.geos_model.specs.declared.command.Edit.{Edit}
+use Rattle.geos_model.specs.declared.command.Edit.TheVariants as edits
 use Rattle.geos_model.specs.declared.fault.Fault.{Fault}
-use Rattle.geos_model.specs.declared.fault.Fault.TheVariants.{CacheFull, IsMap, NoHandles}
+use Rattle.geos_model.specs.declared.fault.Fault.TheVariants.{CacheFull, NoHandles}
 use Rattle.geos_model.specs.declared.handle.VmHandle.{VmHandle}
 use Rattle.geos_model.proofs.ChainEdits.{blocks_of-handles, copies_of-handles}
+use Rattle.geos_model.proofs.FirstRefusals.{passed}
 use Rattle.geos_model.proofs.Refusals.{none_applies, or_none}
+use Rattle.vm_store.specs.Facts.{StoreFacts}
+use Rattle.block_cache.specs.State.{CacheState}
 use Rattle.vm_blocks.specs.Changes.{CanApply}
+use Rattle.vm_blocks.specs.Keeping.{KeepsBlocks, IsEnvironmentFault, IsHonest, is_full}
+use Rattle.vm_blocks.proofs.KeepingLaws.{keeps-refl}
+use Rattle.vm_blocks.specs.Preparing.{CanCarryOut}
 use Rattle.vm_file.specs.Members.{imaged_blocks}
+use Rattle.vm_blocks.specs.declared.change.Change.{Change}
 use Rattle.vm_blocks.specs.declared.change.Change.TheVariants.{BlocksIn, BlocksOut}
 use Rattle.vm_file.specs.declared.member.Member.{Member}
 use Rattle.vm_blocks.specs.declared.member.Members.{Members}
+use Rattle.vm_chains.specs.Answers.{RefusesChain}
 use Rattle.doc_edits.specs.Found.{AreLate}
-use Rattle.doc_edits.specs.Planning.{Plans}
+use Rattle.doc_edits.specs.Planning.{kind_of_change, IsChainEditFault, Plans, PlansAlongChain}
+use Rattle.doc_edits.proofs.Refusals.{handed_on}
 
--- What refuses each command along a chain refuses these edits.
-module _ (d : Document) (root : VmHandle) (full : Bool) (fault : Fault) (refuses : (rest : Conditions) → AreLate rest → first_refusal ((CacheFull, full) ∷ on_chain d root.0 ++ rest) ≡ Some fault) where
-  pub copy_refused : first_refusal ((CacheFull, full) ∷ conditions (edits.CopyChain root) d) ≡ Some fault
-  copy_refused = refuses ((NoHandles, nat_lt (length (free_handles d)) (length (chain_blocks d root.0))) ∷ []) refl
+-- The plan of an edit along a chain is refused before any block is looked into, as each command along a chain is,
+-- or on the way, or given.
+module _ {S : Type 0} {facts : S → StoreFacts} {edit : Edit} {a : CacheState S} where
+  module _ {r : Result (Change × Done) Fault} {fault : Fault} (is : IsErrAnd r (λ e. e ≡ fault)) where
+    pub plan_refused : (root : VmHandle) (rest : Conditions) → conditions edit a.document ≡ on_chain a.document root.0 ++ rest → AreLate rest
+        → ((rest : Conditions) → AreLate rest → first_refusal ((CacheFull, is_full a) ∷ on_chain a.document root.0 ++ rest) ≡ Some fault) → PlansAlongChain facts a a edit r
+    plan_refused root rest own late refuses =
+        let first : first_refusal ((CacheFull, is_full a) ∷ conditions edit a.document) ≡ Some fault = ap (λ (cs : Conditions). first_refusal ((CacheFull, is_full a) ∷ cs)) own ∙ refuses rest late in
+        handed_on (PlansAlongChain facts a a edit) r fault is
+        (record {
+          keeps = keeps-refl facts a;
+          planned = λ steady. inr first;
+          ready = tt;
+          room = tt;
+          shut = λ full. (refl, ap (λ (b : Bool). first_refusal ((CacheFull, b) ∷ conditions edit a.document)) (sym full) ∙ first);
+          kind = tt;
+          refusals = inl (inr first);
+        })
 
-  pub free_refused : first_refusal ((CacheFull, full) ∷ conditions (edits.FreeChain root) d) ≡ Some fault
-  free_refused = refuses ((IsMap, list_any (λ x. x == d.map_block) (chain_blocks d root.0)) ∷ []) refl
+    pub plan_missed : {b : CacheState S} → is_full a ≡ false → KeepsBlocks facts a b
+        → (IsHonest facts a.disk.store → RefusesChain (IsEnvironmentFault facts a.disk.store b.disk.store) (conditions edit b.document) fault)
+        → IsEnvironmentFault facts a.disk.store b.disk.store fault ⊎ IsChainEditFault edit a.document fault → PlansAlongChain facts a b edit r
+    plan_missed {b} room keeps refuses why =
+        handed_on (PlansAlongChain facts a b edit) r fault is
+        (record {
+          keeps = keeps;
+          planned = λ steady. elim (refuses steady) [
+            | inl lack ↦ inl lack
+            | inr first ↦ inr (passed CacheFull (is_full a) (conditions edit b.document) room ∙ first)
+          ];
+          ready = tt;
+          room = tt;
+          shut = λ full. absurd (true≢false (sym full ∙ room));
+          kind = tt;
+          refusals = elim why [
+            | inl lack ↦ inl (inl lack)
+            | inr other ↦ inr other
+          ];
+        })
 
--- where each frame has a locked block
-pub where_full : (cs : Conditions) (full : Bool) (fault : Fault) → full ≡ true → first_refusal ((CacheFull, full) ∷ cs) ≡ Some fault → first_refusal ((CacheFull, true) ∷ cs) ≡ Some fault
-where_full cs full fault is first = ap (λ (b : Bool). first_refusal ((CacheFull, b) ∷ cs)) (sym is) ∙ first
+  pub plan_given : {b : CacheState S} {change : Change} {done : Done} → is_full a ≡ false → KeepsBlocks facts a b → (IsHonest facts a.disk.store → Plans edit b.document change done)
+      → CanCarryOut change b → kind_of_change change ≡ kind_of edit → PlansAlongChain facts a b edit (Ok (change, done))
+  plan_given room keeps plans ready kind = record {
+    keeps = keeps;
+    planned = plans;
+    ready = ready;
+    room = room;
+    shut = λ full. absurd (true≢false (sym full ∙ room));
+    kind = kind;
+    refusals = tt;
+  }
 
 -- what is planned under new handles
 

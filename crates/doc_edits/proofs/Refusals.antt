@@ -44,13 +44,15 @@ pub past_chunk : (d : Document) (h c : ℕ) (m : ChunkMap) (rest : Conditions) �
 past_chunk d h c m rest live there = rw (live, there) refl
 
 -- the fault that `?` hands on
+pub handed_on : {T : Type 0} (P : Result T Fault → Type 0) (r : Result T Fault) (fault : Fault) → IsErrAnd r (λ e. e ≡ fault) → P (Err fault) → P r
+handed_on P (Ok x) fault is p = absurd is
+handed_on P (Err e) fault is p = subst (λ (f : Fault). P (Err f)) (sym is) p
+
 pub carried : {T : Type 0} (r : Result T Fault) (P : T → Type 0) (Q : Fault → Type 0) (fault : Fault) → IsErrAnd r (λ e. e ≡ fault) → Q fault → MatchResult r P Q
-carried (Ok x) P Q fault is q = absurd is
-carried (Err e) P Q fault is q = subst Q (sym is) q
+carried r P Q fault is q = handed_on (λ x. MatchResult x P Q) r fault is q
 
 pub carried_so : {T : Type 0} (r : Result T Fault) (Q : Fault → Type 0) (fault : Fault) → IsErrAnd r (λ e. e ≡ fault) → Q fault → IfErr r Q
-carried_so (Ok x) Q fault is q = absurd is
-carried_so (Err e) Q fault is q = subst Q (sym is) q
+carried_so r Q fault is q = handed_on (λ x. IfErr x Q) r fault is q
 
 -- what holds whatever is answered
 pub accepted_so : {T : Type 0} (r : Result T Fault) (P : Type 0) → P → IfOk r (λ _. P)

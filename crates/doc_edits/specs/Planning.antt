@@ -1,5 +1,5 @@
 -- What planning an edit comes to.
-use Rattle.std.specs.Prelude.{◌≡◌, ◌⊎◌, ◌+◌, ℕ, Bool, List, [], ◌∷◌, None, Some, length}
+use Rattle.std.specs.Prelude.{◌≡◌, ◌⊎◌, ◌+◌, ℕ, Bool, true, false, List, [], ◌∷◌, None, Some, length, Result, IfOk, IfErr, MatchResult}
 use Rattle.geos_model.specs.Refusal.{first_refusal}
 use Rattle.geos_model.specs.Document.{Document, handles_of, is_raw}
 use Rattle.geos_model.specs.Meaning.{conditions, effect}
@@ -13,13 +13,17 @@ use Rattle.geos_model.specs.declared.command.Edit.TheVariants as edits
 use Rattle.geos_model.specs.declared.command.Kind.{Kind}
 use Rattle.geos_model.specs.declared.command.Kind.TheVariants.{Plain, In, Made, Freed}
 use Rattle.chunk_edits.specs.Patching.{total_given, total_taken}
+use Rattle.vm_store.specs.Facts.{StoreFacts}
+use Rattle.block_cache.specs.State.{CacheState}
 use Rattle.vm_file.specs.Members.{imaged_blocks}
 use Rattle.vm_blocks.specs.Changes.{after_change, content_bytes, CanApply}
 use Rattle.vm_blocks.specs.declared.change.Change.{Change}
 use Rattle.vm_blocks.specs.declared.change.Change.TheVariants as changes
 use Rattle.vm_blocks.specs.declared.change.PartChange.{PartChange}
 use Rattle.vm_blocks.specs.declared.change.PartChange.TheVariants as parts
+use Rattle.vm_blocks.specs.Keeping.{KeepsBlocks, IsEnvironmentFault, IsHonest, is_full}
 use Rattle.vm_blocks.specs.Kinds.{IsWrongBlock}
+use Rattle.vm_blocks.specs.Preparing.{CanCarryOut}
 use Rattle.vm_chains.specs.Answers.{IsChainFault}
 
 -- what kind of step a change is
@@ -81,3 +85,22 @@ IsChainEditFault edit d fault = ⊥
 abbrev pub RefusesEdit : (Fault → Type 0) → Bool → Edit → Document → Fault → Type 0
 RefusesEdit lacks no_room edit d fault =
     lacks fault ⊎ (first_refusal ((CacheFull, no_room) ∷ conditions edit d) ≡ Some fault)
+
+-- What planning an edit along a chain comes to: the file is kept, and, if the store gives back what it has, the edit is
+-- planned in the document as it is held from then on, or refused there. A plan is given only where some frame has no
+-- locked block, and can be carried out at once. Where each frame has one nothing changes, and the document before is
+-- what refuses the edit.
+pub record PlansAlongChain {S : Type 0} (facts : S → StoreFacts) (old new : CacheState S) (edit : Edit)
+    (result : Result (Change × Done) Fault) : Type 0 where
+  pub keeps : KeepsBlocks facts old new
+  pub planned : IsHonest facts old.disk.store
+      → MatchResult result (λ p. Plans edit new.document p.0 p.1)
+      (RefusesEdit (IsEnvironmentFault facts old.disk.store new.disk.store) (is_full old) edit new.document)
+  pub ready : IfOk result (λ p. CanCarryOut p.0 new)
+  pub room : IfOk result (λ _. is_full old ≡ false)
+  pub shut : is_full old ≡ true → (new ≡ old)
+      × IfErr result (λ fault. first_refusal ((CacheFull, true) ∷ conditions edit old.document) ≡ Some fault)
+  pub kind : IfOk result (λ p. kind_of_change p.0 ≡ kind_of edit)
+  pub refusals : IfErr result
+      (λ fault. RefusesEdit (IsEnvironmentFault facts old.disk.store new.disk.store) (is_full old) edit new.document
+      fault ⊎ IsChainEditFault edit old.document fault)
