@@ -36,18 +36,22 @@ pub fn plan<S: Store>(
     blocks: &mut FileBlocks<S>,
     edit: &Edit,
 ) -> Result<(Change, Done), Fault>
+    // The plan, or its refusal.
     ensures keeps { KeepsBlocks S.facts blocks.old blocks.new }
     ensures planned { (is_of_chain edit.now ≡ true → IsHonest S.facts blocks.old.disk.store)
         → MatchResult result (λ p. Plans edit.now blocks.new.document p.0 p.1)
         (RefusesEdit (IsEnvironmentFault S.facts blocks.old.disk.store blocks.new.disk.store)
         (has_no_room blocks.old (edit_needs edit.now)) edit.now blocks.new.document) }
     ensures ready { IfOk result (λ p. CanCarryOut p.0 blocks.new) }
+    // Room in memory.
     ensures room { IfOk result (λ _. has_no_room blocks.old (edit_needs edit.now) ≡ false) }
     ensures shut { has_no_room blocks.old (edit_needs edit.now) ≡ true → (blocks.new ≡ blocks.old)
         × IfErr result (λ fault. first_refusal
         ((CacheFull, true) ∷ conditions edit.now blocks.old.document) ≡ Some fault) }
+    // What kind of step the change is.
     ensures kind { IfOk result (λ p. kind_of_change p.0 ≡ kind_of edit.now) }
     ensures alone { (b : VmHandle) → edit.now ≡ edits.FreeBlock b → IfOk result (λ p. freed_by p.0 ≡ b.0 ∷ []) }
+    // Refusals, and where no body has to be read.
     ensures refusals { IfErr result
         (λ fault. RefusesEdit (IsEnvironmentFault S.facts blocks.old.disk.store blocks.new.disk.store)
         (has_no_room blocks.old (edit_needs edit.now)) edit.now blocks.new.document fault
@@ -72,15 +76,18 @@ fn plan_of_block<S: Store>(
     edit: &Edit,
 ) -> Result<(Change, Done), Fault>
     requires { is_of_chain edit.now ≡ false }
+    // The plan, or its refusal.
     ensures keeps { KeepsBlocks S.facts blocks.old blocks.new }
     ensures planned { MatchResult result (λ p. Plans edit.now blocks.new.document p.0 p.1)
         (RefusesEdit (IsEnvironmentFault S.facts blocks.old.disk.store blocks.new.disk.store)
         (has_no_room blocks.old (edit_needs edit.now)) edit.now blocks.new.document) }
     ensures ready { IfOk result (λ p. CanCarryOut p.0 blocks.new) }
+    // Room in memory.
     ensures room { IfOk result (λ _. has_no_room blocks.old (edit_needs edit.now) ≡ false) }
     ensures shut { has_no_room blocks.old (edit_needs edit.now) ≡ true → (blocks.new ≡ blocks.old)
         × IfErr result (λ fault. first_refusal
         ((CacheFull, true) ∷ conditions edit.now blocks.old.document) ≡ Some fault) }
+    // What the change is, and where no body has to be read.
     ensures alone { (b : VmHandle) → edit.now ≡ edits.FreeBlock b → IfOk result (λ p. freed_by p.0 ≡ b.0 ∷ []) }
     ensures plain { kind_of edit.now ≡ Plain → (blocks.new ≡ blocks.old)
         × IfErr result (RefusesInMemory edit.now blocks.new.document) }
