@@ -14,7 +14,7 @@ use undo_log::Session;
 use vm_store::Store;
 
 /// How many bytes a read may give.
-const PIECE: usize = 4_096;
+const PIECE: usize = 16_384;
 
 /// How many reads a run makes at most, so that it ends with any reader.
 pub(crate) const READS: u32 = 1 << 24;
@@ -68,7 +68,7 @@ impl From<AllocError> for RunFault {
     }
 }
 
-/// Answers a script line by line, from the session's state on. It reads pieces of at most 4,096 bytes, and writes the
+/// Answers a script line by line, from the session's state on. It reads pieces of at most 16,384 bytes, and writes the
 /// replies to the lines of a piece together. A read that was interrupted is tried again.
 ///
 /// The target is where the script's first save-as goes that goes well: its store is the session's from then on, and the

@@ -270,7 +270,7 @@ fn echoes(alloc: Global, count: usize, length: usize, reply: &str) -> Result<(),
 #[test]
 fn a_line_longer_than_a_piece_is_echoed(rt: HostRuntime) -> Result<(), Fail> {
     // The first takes two pieces and is echoed whole, and the second has more than a command.
-    named("two pieces", echoes(rt.alloc(), 3_000, 6_014, "ok"))?;
+    named("two pieces", echoes(rt.alloc(), 10_000, 20_014, "ok"))?;
     let end = echoes(rt.alloc(), 75_000, 140_001, "no 25 BadCommand");
     named("more than a command", end)
 }
