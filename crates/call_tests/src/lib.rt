@@ -1,5 +1,4 @@
-//! Tests of calls that no script reaches: regions, heaps, splices, patches, views of arrays, images and tables of
-//! blocks.
+//! Tests of calls that no script reaches: regions, heaps, splices, patches, views of arrays, images, tables of blocks.
 #![tactic(auto)]
 
 #[cfg(test)]

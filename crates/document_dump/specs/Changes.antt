@@ -112,7 +112,8 @@ filler = edits.NewRaw 0 0
 -- what is done of the block under a handle, below which the blocks are made so far
 abbrev pub block_changed : Document → Document → Progress → ℕ → List Edit
 block_changed old new p h =
-    if is_made old new h then replicate p.holes filler
+    if is_made old new h then
+    replicate p.holes filler
     ++ (if is_live old h then taken_out p.map_block h else [])
     ++ block_made (block_name h) (attributes_of new h) (block_at new h).body
     else if is_live old h && is_live new h then

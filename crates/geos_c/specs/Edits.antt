@@ -27,9 +27,9 @@ pub record Edits {S : Type 0} (facts : S → StoreFacts) (edit : Edit) (old new 
   pub step : IsStep facts old new (commands.Edit edit) (reply_by reply_of_done answer)
   pub ok : IfOk answer (λ done. PushesEdit facts edit done old new)
   pub err : OnErr answer (KeepsSession facts old new)
-  pub refusals : IfErr answer (λ fault. IsBarred edit old fault
-      ⊎ (RefusesEdit (IsEnvironmentFault facts old.disk.store new.disk.store)
-      (has_no_room (cache_of old) (edit_needs edit)) edit new.document fault
+  pub refusals : IfErr answer (λ fault. IsBarred edit old fault ⊎ (
+      RefusesEdit (IsEnvironmentFault facts old.disk.store new.disk.store) (has_no_room (cache_of old) (edit_needs edit))
+      edit new.document fault
       ⊎ IsChainEditFault edit old.document fault))
   pub locked : ((target : Bool) → is_barred edit (machine_of target old) ≡ true) → (answer ≡ Err Locked) × (new ≡ old)
   pub shut : has_no_room (cache_of old) (edit_needs edit) ≡ true → (new ≡ old)
