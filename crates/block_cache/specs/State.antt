@@ -61,7 +61,7 @@ abbrev pub residents_without : List VmHandle → List ResidentBlock → List Res
 residents_without [] residents = residents
 residents_without (h ∷ handles) residents = residents_without handles (remove_entry (nat_eq h.0) residents)
 
--- the block that was used last
+-- whether a block is the one that was used last
 abbrev pub is_first : List ResidentBlock → ℕ → Bool
 is_first [] h = false
 is_first (s ∷ ss) h = nat_eq h s.0

@@ -303,7 +303,7 @@ impl<S: Store> Cache<S> {
             (IsDamage (S.facts self.old.disk.store).honest) self.old.disk.store self.new.disk.store result }
     {
         let _count = self.frames.len();
-        // Most blocks are loaded for one edit after another: nothing is looked up for them, and nothing moved.
+        // The block that was used last stays the first: this is seen without a look-up, and nothing moves.
         if is_first(&self.frames, block.0) {
             return Ok(());
         }

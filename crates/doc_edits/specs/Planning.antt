@@ -88,8 +88,10 @@ RefusesEdit lacks no_room edit d fault =
 
 -- What planning an edit along a chain comes to: the file is kept, and, if the store gives back what it has, the edit is
 -- planned in the document as it is held from then on, or refused there. A plan is given only where some frame has no
--- locked block, and can be carried out at once. Where each frame has one nothing changes, and the document before is
--- what refuses the edit.
+-- locked block; it is of the edit's kind, and can be carried out at once. Where each frame has one nothing changes, and
+-- the answer is the first refusal of the document before, CacheFull counted among them. Over any store the edit is
+-- refused for nothing but what the call lacked, the first refusal of the document as it is held from then on, where
+-- CacheFull counts if each frame had one, or what an edit of a chain may be refused for in the document before.
 pub record PlansAlongChain {S : Type 0} (facts : S → StoreFacts) (old new : CacheState S) (edit : Edit)
     (result : Result (Change × Done) Fault) : Type 0 where
   pub keeps : KeepsBlocks facts old new
@@ -101,6 +103,6 @@ pub record PlansAlongChain {S : Type 0} (facts : S → StoreFacts) (old new : Ca
   pub shut : is_full old ≡ true → (new ≡ old)
       × IfErr result (λ fault. first_refusal ((CacheFull, true) ∷ conditions edit old.document) ≡ Some fault)
   pub kind : IfOk result (λ p. kind_of_change p.0 ≡ kind_of edit)
-  pub refusals : IfErr result
-      (λ fault. RefusesEdit (IsEnvironmentFault facts old.disk.store new.disk.store) (is_full old) edit new.document
-      fault ⊎ IsChainEditFault edit old.document fault)
+  pub refusals : IfErr result (λ fault.
+      RefusesEdit (IsEnvironmentFault facts old.disk.store new.disk.store) (is_full old) edit new.document fault
+      ⊎ IsChainEditFault edit old.document fault)

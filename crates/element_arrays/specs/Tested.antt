@@ -16,8 +16,8 @@ is_freed bytes = get_or bytes 2 0 == 0xFF
 -- counted
 abbrev pub is_slot : ℕ → List ℕ → Bool
 is_slot size bytes =
-    nat_le 3 (length bytes)
-    && (if is_freed bytes then length bytes == size + 3 && list_all (λ b. b == 0) (drop 3 bytes)
+    nat_le 3 (length bytes) && (
+    if is_freed bytes then length bytes == size + 3 && list_all (λ b. b == 0) (drop 3 bytes)
     else nat_le 1 (little_number 3 bytes))
 
 -- a used element of so many bytes at least and at most

@@ -44,8 +44,8 @@ body_read bytes =
     if slice_index bytes 0 == 0 then Raw (drop 1 bytes)
     else
     let t = word_at bytes 1 in
-    Heap (from_entries (chunks_read (handle_of 0) (map (λ i. word_at bytes (3 + 2 * i)) (range_with_len 0 t))
-    (drop (3 + 2 * t) bytes)))
+    Heap (from_entries (
+    chunks_read (handle_of 0) (map (λ i. word_at bytes (3 + 2 * i)) (range_with_len 0 t)) (drop (3 + 2 * t) bytes)))
 
 -- the body whose image these bytes are, if they are the image of a body that can be
 unfoldable pub body_of : List ℕ → Option Body

@@ -57,7 +57,7 @@ ElementArrayLaw =
 
 abbrev pub NameArrayLaw : Type 0
 NameArrayLaw =
-    ((bytes : List ℕ) (a : NameArray) → name_array_of bytes ≡ Some a
-    → (is_sound_names a ≡ true) × (name_bytes a ≡ bytes))
-    × ((a : NameArray) → is_sound_names a ≡ true → length (name_bytes a) < 65536
-    → name_array_of (name_bytes a) ≡ Some a)
+    ((bytes : List ℕ) (a : NameArray) →
+    name_array_of bytes ≡ Some a → (is_sound_names a ≡ true) × (name_bytes a ≡ bytes))
+    × ((a : NameArray) →
+    is_sound_names a ≡ true → length (name_bytes a) < 65536 → name_array_of (name_bytes a) ≡ Some a)

@@ -183,8 +183,7 @@ effect (edits.CreateNameArray b part) d = makes_chunk d b.0 (name_bytes (no_name
 effect (edits.AddName b c text part replace) d =
     let old = chunk_at d b.0 c.0 in (
       with_chunk d b.0 c.0 (name_added old text part replace),
-      done.Token
-          (record { 0 = name_token_added old text part replace }),
+      done.Token (record { 0 = name_token_added old text part replace }),
     )
 effect (edits.ChangeName b c t text) d =
     (with_chunk d b.0 c.0 (name_changed (chunk_at d b.0 c.0) t.0 text), done.Nothing)

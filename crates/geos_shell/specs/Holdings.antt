@@ -61,8 +61,8 @@ pub record SameFiles {S : Type 0} (old new : Holding S) : Type 0 where
 pub record CommitsOrKeeps {S : Type 0} (facts : S → StoreFacts) (pair : Documents) (old new : Disk S)
     (result : Result (Unit {0}) Fault) : Type 0 where
   pub commits : MayCommit facts pair old new result
-  pub passes : IfErr result (λ fault. (fault ≡ File → FailedSince (facts old.store) (facts new.store) → ⊥)
-      → KeepsCommitted facts old new)
+  pub passes : IfErr result (λ fault.
+      (fault ≡ File → FailedSince (facts old.store) (facts new.store) → ⊥) → KeepsCommitted facts old new)
 
 -- the result that a reply to a commit tells
 abbrev pub result_told : Reply → Result (Unit {0}) Fault

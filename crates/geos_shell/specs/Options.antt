@@ -55,9 +55,9 @@ with_version = on_top (λ s. record s { has_version = true })
 
 abbrev pub geosvm : App
 geosvm =
-    let flags =
-    with_rule (with_rule (with_rule (with_version (new_app (codes "geosvm"))) (flag (codes "new")))
-    (flag (codes "bail"))) (flag (codes "echo")) in
+    let flags = with_rule (
+    with_rule (with_rule (with_version (new_app (codes "geosvm"))) (flag (codes "new"))) (flag (codes "bail")))
+    (flag (codes "echo")) in
     with_rule (with_rule (with_rule flags cache_option) as_option) file_operand
 
 -- ---- what a command line says

@@ -182,6 +182,6 @@ abbrev pub ComesTo : {F S : Type 0} → Opener F S → (S → StoreFacts) → Li
     → Option (List ℕ) → Option (List ℕ) → Option (List ℕ) → Outcome → Type 0
 ComesTo calls facts words old new from to before after outcome =
     (RefusesWords words outcome × (new ≡ old) × (to ≡ from) × (after ≡ before))
-    ⊎ ((line : CommandLine) × (command_line words ≡ Some line) × IsUsable line
-    × ((IsNotBegun calls facts line old new outcome × (to ≡ from) × (after ≡ before))
-    ⊎ ServesFiles calls facts line old new from to before after outcome))
+    ⊎ ((line : CommandLine) × (command_line words ≡ Some line) × IsUsable line × (
+    (IsNotBegun calls facts line old new outcome × (to ≡ from) × (after ≡ before)) ⊎
+    ServesFiles calls facts line old new from to before after outcome))

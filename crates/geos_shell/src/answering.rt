@@ -145,9 +145,8 @@ fn push_lines<S: Store>(
     ensures ok { OnOk result (AreExact S.facts (holding session.old target.old former.old)
         → Responds S.facts (holding session.old target.old former.old) (command line.now)
         (holding session.new target.new former.new) (out.old.items ++ lead echoes line.now) out.new.items) }
-    ensures refused { IfOk result
-        (λ is_refused. is_refused
-        ≡ begins_with_no (drop (length (out.old.items ++ lead echoes line.now)) out.new.items)) }
+    ensures refused { IfOk result (λ is_refused.
+        is_refused ≡ begins_with_no (drop (length (out.old.items ++ lead echoes line.now)) out.new.items)) }
     ensures may { OnErr result (AreExact S.facts (holding session.old target.old former.old)
         → MayServe S.facts (holding session.old target.old former.old) (command line.now)
         (holding session.new target.new former.new)) }

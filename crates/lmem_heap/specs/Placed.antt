@@ -27,9 +27,8 @@ space_taken m = sum_by (λ c. space_of (length c.1)) (entries m)
 -- Each chunk lies in the space that it takes, with the word before its bytes, apart from every other one.
 abbrev pub AreDisjoint : Placed → Type 0
 AreDisjoint p =
-    (h k : ℕ) → h ≢ k
-    → IfSome (get p.places h) (λ a. IfSome (get p.places k)
-    (λ b. IsChunkApart a (chunk_bytes p.chunks h) b (chunk_bytes p.chunks k)))
+    (h k : ℕ) → h ≢ k → IfSome (get p.places h) (λ a.
+    IfSome (get p.places k) (λ b. IsChunkApart a (chunk_bytes p.chunks h) b (chunk_bytes p.chunks k)))
 
 -- A handle is where its entry of two bytes stands: chunks lie behind the entries of all of them.
 abbrev pub AreBehindTable : Placed → Type 0

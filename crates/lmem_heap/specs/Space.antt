@@ -143,9 +143,8 @@ pub record HasNext (s : Space) (i room : ℕ) : Type 0 where
 -- the chunk of slot i, which has a piece, is cut, or has zeros behind it; every other slot has its own
 pub record IsResized (s u : Space) (i n : ℕ) : Type 0 where
   pub slots : u.slots ≡ s.slots
-  pub chunks : chunks_in u.region u.slots
-      ≡ set (chunks_in s.region s.slots) i (Some
-      (resized (unwrap_or (get_or (chunks_in s.region s.slots) i None) []) n))
+  pub chunks : chunks_in u.region u.slots ≡ set (chunks_in s.region s.slots) i (
+      Some (resized (unwrap_or (get_or (chunks_in s.region s.slots) i None) []) n))
   pub total : u.total + piece_space (word_in s.region (entry s.region i)) ≡ s.total + piece_space n
 
 -- behind the first word at q stand the bytes of slot i's chunk, cut to n or with zeros behind them

@@ -12,8 +12,8 @@ use Rattle.undo_log.specs.contracts.entry.LogEntry as entry_type
 abbrev pub log_code : Coded Log
 log_code =
     code_by (List LogEntry × (List LogEntry × Option (List Change)))
-    (coded× (coded_list entry_type.the_row.coded)
-    (coded× (coded_list entry_type.the_row.coded) (coded_option (coded_list change_type.the_row.coded))))
+    (coded× (coded_list entry_type.the_row.coded) (
+    coded× (coded_list entry_type.the_row.coded) (coded_option (coded_list change_type.the_row.coded))))
     (λ l. (l.undo, (l.redo, l.group))) (λ p. record { undo = p.0; redo = p.1.0; group = p.1.1 }) (λ _. refl)
 
 abbrev pub log_state_code : Coded LogState

@@ -88,9 +88,10 @@ CantApplyLog facts old new fault =
 -- has its own fault, and then nothing changes; or it can't be made.
 abbrev pub IsRefusedUndoOrRedo : {S : Type 0} → (S → StoreFacts) → Fault → List LogEntry → SessionState S
     → SessionState S → Fault → Type 0
-IsRefusedUndoOrRedo facts nothing from old new fault = ((busy_fault old ≡ Some fault) × (new ≡ old))
-    ⊎ ((busy_fault old ≡ None)
-    × (((from ≡ []) × (fault ≡ nothing) × (new ≡ old)) ⊎ ((from ≢ []) × CantApplyLog facts old new fault)))
+IsRefusedUndoOrRedo facts nothing from old new fault =
+    ((busy_fault old ≡ Some fault) × (new ≡ old))
+    ⊎ ((busy_fault old ≡ None) × (
+    ((from ≡ []) × (fault ≡ nothing) × (new ≡ old)) ⊎ ((from ≢ []) × CantApplyLog facts old new fault)))
 
 -- The group that is open is taken back, and closed.
 pub record Abandons {S : Type 0} (facts : S → StoreFacts) (old new : SessionState S) : Type 0 where

@@ -72,8 +72,9 @@ impl<S: Store> Model for Session<S> {
       log = s.log.lists;
     } };
 
-    ghost invariant = { λ s. CanApplyBothByHandle Backwards s.blocks.document (to_undo s.log.lists)
-        (to_redo s.log.lists) × (s.blocks.disk.marked ≡ None) };
+    ghost invariant = { λ s.
+        CanApplyBothByHandle Backwards s.blocks.document (to_undo s.log.lists) (to_redo s.log.lists)
+        × (s.blocks.disk.marked ≡ None) };
 }
 
 impl<S: Store> Session<S> {

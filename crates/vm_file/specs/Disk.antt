@@ -31,8 +31,8 @@ documents_code = coded× document_code document_code
 abbrev pub disk_code : {S : Type 0} → Coded S → Coded (Disk S)
 disk_code {S} s =
     code_by (S × (Document × (Document × (List Documents × (ℕ × Option Document)))))
-    (coded× s (coded× document_code (coded× document_code
-    (coded× (coded_list documents_code) (coded× coded_ℕ (coded_option document_code))))))
+    (coded× s (coded× document_code (
+    coded× document_code (coded× (coded_list documents_code) (coded× coded_ℕ (coded_option document_code))))))
     (λ d. (d.store, (d.updated, (d.saved, (d.in_doubt, (d.sequence, d.marked))))))
     (λ p. record {
       store = p.0;
@@ -157,8 +157,8 @@ pub record MayCommit {S : Type 0} (facts : S → StoreFacts) (pair : Documents) 
   pub adds : OnErr result (IsTrue (facts old.store).honest → IsInDoubt facts pair new ⊎ LeavesNoTrace facts old new)
   pub numbered : OnOk result (IsTrue (facts old.store).honest → HasSequence (facts new.store) new.sequence)
   -- a refusal keeps the number, where no pair of a commit that failed may be read
-  pub still_numbered : OnErr result (IsTrue (facts old.store).honest
-      → (old.in_doubt ≡ [] → HasSequence (facts old.store) old.sequence) → new.in_doubt ≡ []
-      → HasSequence (facts new.store) new.sequence)
+  pub still_numbered : OnErr result (
+      IsTrue (facts old.store).honest → (old.in_doubt ≡ [] → HasSequence (facts old.store) old.sequence)
+      → new.in_doubt ≡ [] → HasSequence (facts new.store) new.sequence)
   pub sequence : MatchResult result (λ _. new.sequence ≡ old.sequence + 1) (λ _. new.sequence ≡ old.sequence)
   pub marked : MarkSameUnlessCorrupt (facts old.store).honest old.marked new.marked
