@@ -2,13 +2,13 @@
 use Rattle.std.proofs.Common.{◌≡◌, ◌≢◌, ℕ, Bool, true, List, [], ◌∷◌, Option, None, Some, is_some, inl, inr, refl, sym, ap, ◌∙◌}
 use Rattle.std.proofs.lemmas.Bool.{cases_eq}
 use Rattle.std.specs.Option.{option_map, option_map_or}
-use Rattle.std.specs.FinMap.{get}
-use Rattle.geos_model.specs.Document.{Block, Document, is_live, with_block, with_body, with_attributes}
+use Rattle.std.specs.FinMap.{empty, get}
+use Rattle.geos_model.specs.Document.{Block, Document, chunks_of, chunks_of_body, is_live, with_block, with_body, with_attributes}
 use Rattle.geos_model.specs.declared.command.Body.{Body}
 use Rattle.geos_model.proofs.HeapEdits.{get-put_same, get-put_other}
 use Rattle.geos_model.specs.declared.block.Attributes.{Attributes}
 use Rattle.block_cache.specs.Bodies.{body_value}
-use Rattle.block_cache.specs.Frames.{frame_of, overlay, IsFrameOf, AreFramesOf}
+use Rattle.block_cache.specs.Frames.{chunks_in, frame_of, overlay, IsFrameOf, AreFramesOf}
 use Rattle.block_cache.specs.declared.body.BlockBody.{BlockBody}
 use Rattle.block_cache.specs.declared.frame.Frame.{Frame}
 use Rattle.block_cache.proofs.DocumentUnderFrames.{cover, attributes_by, heap_by, heap_body, get-overlay, overlay_map, same_document, block_by, body_by, cover_by}
@@ -87,3 +87,12 @@ body_under es d h body is = ap (option_map (λ (b : Block). b.body)) (get-overla
     by : (o : Option Frame) → option_map (λ (f : Frame). f.body) o ≡ Some body → option_map (λ (b : Block). b.body) (cover o d h) ≡ Some (body_value body)
     by None is = absurd (cc is)
     by (Some f) is = ap (option_map body_value) is
+
+-- the chunks of a heap in memory
+
+pub chunks_under : (es : List (ℕ × Frame)) (d : Document) (h : ℕ) → is_some (frame_of es h) ≡ true → chunks_of (overlay es d) h ≡ chunks_in es h
+chunks_under es d h here = ap (λ (o : Option Block). option_map_or (λ b. chunks_of_body b.body) o empty) (get-overlay es d h) ∙ by (frame_of es h) here
+  where
+    by : (o : Option Frame) → is_some o ≡ true → option_map_or (λ (b : Block). chunks_of_body b.body) (cover o d h) empty ≡ option_map_or (λ (f : Frame). chunks_of_body (body_value f.body)) o empty
+    by None is = absurd (cc is)
+    by (Some f) is = refl

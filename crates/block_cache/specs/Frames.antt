@@ -1,10 +1,12 @@
 -- The frames over the document of the file.
 use Rattle.std.specs.Prelude.{◌≡◌, ◌≤◌, ℕ, Bool, true, false, IsTrue, nat_eq, List, [], ◌∷◌, map, Option, Some, count_by}
 use Rattle.std.specs.Option.{option_map_or}
+use Rattle.std.specs.FinMap.{empty}
 use Rattle.std.specs.Map.{lookup, remove_entry, set_value}
 use Rattle.vm_store.specs.Facts.{StoreFacts}
 use Rattle.geos_model.specs.declared.handle.VmHandle.{VmHandle}
-use Rattle.geos_model.specs.Document.{Document, block_at, is_heap, is_heap_body, is_live, with_body}
+use Rattle.geos_model.specs.Document.{Document, block_at, chunks_of_body, is_heap, is_heap_body, is_live, with_body}
+use Rattle.geos_model.specs.Heap.{ChunkMap}
 use Rattle.vm_file.specs.Disk.{FileState, KeepsCommitted, SameUnlessCorrupt}
 use Rattle.block_cache.specs.Bodies.{body_value}
 use Rattle.block_cache.specs.State.{ResidentBlock}
@@ -14,6 +16,10 @@ use Rattle.block_cache.specs.declared.frame.Frame.{Frame}
 -- the frame of a block
 abbrev pub frame_of : List (ℕ × Frame) → ℕ → Option Frame
 frame_of es h = lookup (nat_eq h) es
+
+-- the chunks of a heap in memory, none of another block
+abbrev pub chunks_in : List (ℕ × Frame) → ℕ → ChunkMap
+chunks_in es h = option_map_or (λ f. chunks_of_body (body_value f.body)) (frame_of es h) empty
 
 -- what callers see of the frames
 abbrev pub residents : List (ℕ × Frame) → List ResidentBlock

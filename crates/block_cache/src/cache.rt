@@ -1,15 +1,17 @@
 //! The document of a file, of which some blocks are in memory: the cache that the layers above call.
 ghost use Rattle.std.specs.Prelude.{◌≡◌, ◌≢◌, ◌⊎◌, ◌↔◌, ◌≤◌, ◌<◌, ◌+◌, ◌-◌, ℕ, true, false, IsTrue, is_some, MatchResult, IfOk, IfErr, IfSome, IsOk, OnOk, OnErr, Ok, Some, None, [], All, length, map, nat_eq, nat_lt};
 ghost use Rattle.std.specs.Borrow.{sem};
-ghost use Rattle.std.specs.FinMap.{get, keys};
+ghost use Rattle.std.specs.FinMap.{contains_key, get, keys};
 ghost use Rattle.std.specs.Map.{set_value};
 ghost use Rattle.std.specs.Option.{option_map};
 ghost use Rattle.std.specs.Result.{IsErrAnd};
 ghost use Rattle.lru.specs.LruCache.{lru_cache};
-ghost use Rattle.geos_model.specs.Document.{IsValid, is_heap, is_vm_handle, is_live, next_handle, most_blocks, attributes_of, with_attributes, IsTyped};
+ghost use Rattle.geos_model.specs.Document.{IsValid, is_heap, is_vm_handle, is_live, next_handle, most_blocks, attributes_of, chunks_of, with_attributes, IsTyped};
 ghost use Rattle.geos_model.specs.declared.command.Body.TheVariants as bodies;
 ghost use Rattle.geos_model.specs.ElementArray.{all_distinct};
+ghost use Rattle.geos_model.specs.Heap.{chunk_bytes};
 ghost use Rattle.geos_model.specs.Reply.{found};
+ghost use Rattle.lmem_heap.specs.Known.{is_array_of};
 ghost use Rattle.vm_file.specs.Calls.{IsPut, put_all, remove_all, last_sequence};
 ghost use Rattle.vm_file.specs.Disk.{IsFileDocument, IsCrashConsistent, HasSequence, unmarked};
 ghost use Rattle.vm_file.specs.Effects.{IsCommit, LeavesDocument, Fails, NoFault, IsWorn, IsDamage};
@@ -19,11 +21,13 @@ ghost use Rattle.block_cache.specs.SavingAs.{IsSavedAs, IsNotSavedAs};
 ghost use Rattle.block_cache.specs.State.{is_resident, locks_of, locked_count, all_locked, after_load, evicted, residents_without, as_file, Marks, KeepsDocument, KeepsLocks};
 
 use crate::changing::drop_blocks;
-use crate::frame::{Frame, all_locked, body_in, has_locks, is_first, lock, locks_of, mark, unlock};
+use crate::frame::{
+    Frame, all_locked, body_in, has_locks, is_first, lock, locks_of, mark, mark_array, unlock,
+};
 use crate::loading::{bring, drop_all, flush};
 use crate::{BlockBody, committing, saving_as};
-use geos_model::{Attributes, Fault, VmHandle};
-use lmem_heap::Heap;
+use geos_model::{Attributes, ChunkHandle, Fault, VmHandle};
+use lmem_heap::{ArrayKind, Heap};
 use lru::LruCache;
 use raw_region::RawBody;
 use std::alloc::{AllocError, Global};
@@ -225,6 +229,19 @@ impl<S: Store> Cache<S> {
             ≡ Some (bodies.Heap result.now.chunks) }
     {
         self.frames.peek_mut(&block.0).unwrap().heap_mut()
+    }
+
+    /// Has the heap of a block in memory keep in mind that a chunk of it is an array of a kind, so that it isn't tested
+    /// again until the chunk is changed or the block leaves memory. The file needs no other body for that, and nothing
+    /// that a caller sees changes. No memory, no store.
+    pub fn mark_array(&mut self, block: VmHandle, chunk: ChunkHandle, kind: ArrayKind)
+        requires resident { is_resident self.old.resident block.0 ≡ true }
+        requires heap { is_heap self.old.document block.0 ≡ true }
+        requires live { contains_key (chunks_of self.old.document block.0) chunk.0 ≡ true }
+        requires array { is_array_of kind (chunk_bytes (chunks_of self.old.document block.0) chunk.0) ≡ true }
+        ensures { self.new ≡ self.old }
+    {
+        mark_array(&mut self.frames, block.0, chunk, kind);
     }
 
     /// Sets the attributes of a block, in memory or not. Only a heap has a type. No memory, no store.

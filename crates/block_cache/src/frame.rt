@@ -1,15 +1,19 @@
 //! The blocks in memory, in the order of their use.
 ghost use Rattle.std.specs.Prelude.{◌≡◌, ◌<◌, ◌+◌, ◌-◌, true, false, nat_lt, is_some, Some, MatchOption};
 ghost use Rattle.std.specs.Borrow.{sem};
+ghost use Rattle.std.specs.FinMap.{contains_key};
 ghost use Rattle.std.specs.Option.{option_map};
 ghost use Rattle.geos_model.specs.Document.{is_heap_body};
+ghost use Rattle.geos_model.specs.Heap.{chunk_bytes};
+ghost use Rattle.lmem_heap.specs.Known.{is_array_of};
 ghost use Rattle.lru.specs.LruCache.{lru_cache};
 ghost use Rattle.block_cache.specs.Bodies.{body_value};
-ghost use Rattle.block_cache.specs.Frames.{frame_of, residents, with_frame};
+ghost use Rattle.block_cache.specs.Frames.{chunks_in, frame_of, residents, with_frame};
 ghost use Rattle.block_cache.specs.State.{locks_of, locked_count, all_locked, is_first, victim};
 
 use crate::body::BlockBody;
-use lmem_heap::Heap;
+use geos_model::ChunkHandle;
+use lmem_heap::{ArrayKind, Heap};
 use lru::LruCache;
 use raw_region::RawBody;
 
@@ -55,6 +59,23 @@ pub fn mark(frames: &mut LruCache<u16, Frame>, block: u16, changed: bool)
 {
     if let Some(frame) = frames.peek_mut(&block) {
         frame.changed = changed;
+    }
+}
+
+/// Has the heap of a block in memory keep in mind that a chunk of it is an array of a kind. The file needs no other body
+/// for that, and the order of use stays.
+pub fn mark_array(
+    frames: &mut LruCache<u16, Frame>,
+    block: u16,
+    chunk: ChunkHandle,
+    kind: ArrayKind,
+)
+    requires live { contains_key (chunks_in frames.old.entries block) chunk.0 ≡ true }
+    requires array { is_array_of kind (chunk_bytes (chunks_in frames.old.entries block) chunk.0) ≡ true }
+    ensures { frames.new ≡ frames.old }
+{
+    if let Some(frame) = frames.peek_mut(&block) {
+        frame.body.mark_array(chunk, kind);
     }
 }
 

@@ -26,7 +26,7 @@ fewer_found p q (f ∷ faults) fewer none = elim (cases_Bool (q f)) [
 ]
 
 -- where nothing refuses, nothing in the middle of the conditions does
-accepted_middle : (before own behind : Conditions) → first_refusal (before ++ (own ++ behind)) ≡ None → first_refusal own ≡ None
+pub accepted_middle : (before own behind : Conditions) → first_refusal (before ++ (own ++ behind)) ≡ None → first_refusal own ≡ None
 accepted_middle before own behind none = fewer_found (applies own) (applies (before ++ (own ++ behind))) one_order (λ f fails.
     let test : Fault × Bool → Bool = λ c. (number_of_fault c.0 == number_of_fault f) && c.1 in
     let rest = or_none (sym (list_any-append test before (own ++ behind)) ∙ fails) in

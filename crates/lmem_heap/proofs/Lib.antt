@@ -9,6 +9,7 @@ pub mod FreeListLemmas
 pub mod EntryLemmas
 pub mod PackedLemmas
 pub mod PlacedLemmas
+pub mod MarkLemmas
 pub mod ChunkBytesLemmas
 pub mod ResizingLemmas
 pub mod LendsChunkLemmas

@@ -1,3 +1,5 @@
+pub mod Known
+pub mod Marks
 pub mod Pieces
 pub mod Edits
 pub mod Tiled

@@ -10,8 +10,11 @@ ghost use Rattle.geos_model.specs.Image.{image};
 ghost use Rattle.geos_model.specs.declared.command.Body.TheVariants as bodies;
 ghost use Rattle.geos_model.proofs.Table.{first_gap};
 ghost use Rattle.lmem_heap.specs.HeapImage.{IsHeapImage, HasHeapTable};
+ghost use Rattle.lmem_heap.specs.Known.{is_array_of};
 
 use crate::image::{HEAP_KIND, PREFIX, heap_slots, image_len, push_chunks, push_sizes, unpack};
+use crate::known::{ArrayKind, KnownBytes};
+use crate::marks::Marks;
 use crate::sizes::{need_of, space_of};
 use crate::table::ChunkTable;
 use crate::words::{HEADER, NO_CHUNK, SIZE, entry_at, slot_at};
@@ -29,12 +32,15 @@ pub struct Heap {
     table: ChunkTable,
     /// The slots below this one all have chunks.
     gap: usize,
+    /// Which slots have chunks that are known to be arrays.
+    marks: Marks,
     alloc: Global,
 }
 
 impl Model for Heap {
     ghost use Rattle.lmem_heap.specs.Placed.{Placed, placed_code, placed_in};
     ghost use Rattle.lmem_heap.specs.Slots.{IsCounted};
+    ghost use Rattle.lmem_heap.specs.Marks.{AreMarked};
 
     ghost Value = { Placed };
 
@@ -42,7 +48,7 @@ impl Model for Heap {
 
     ghost view = { λ h. placed_in h.table };
 
-    ghost invariant = { λ h. IsCounted h.table.chunks h.gap };
+    ghost invariant = { λ h. IsCounted h.table.chunks h.gap × AreMarked h.table.chunks h.marks.list.items };
 }
 
 impl Heap {
@@ -64,6 +70,7 @@ impl Heap {
         Heap {
             table: ChunkTable::of_region(region),
             gap: 0,
+            marks: Marks::new(),
             alloc,
         }
     }
@@ -75,6 +82,7 @@ impl Heap {
         let Heap {
             table,
             gap: _,
+            marks: _,
             alloc: _,
         } = self;
         table.into_region()
@@ -127,6 +135,16 @@ impl Heap {
         self.table.size(slot(h)).unwrap()
     }
 
+    /// The slot of a live handle.
+    fn live_slot(&self, h: ChunkHandle) -> usize
+        requires { IsTrue (contains_key self.now.chunks h.0) }
+        ensures { h.0 ≡ handle_of result }
+    {
+        // What is always so of a heap is known where one of its fields is named: a live handle has a slot.
+        let _ = &self.table;
+        slot(h)
+    }
+
     /// The least free handle.
     pub fn next_handle(&self) -> Option<ChunkHandle>
         ensures { option_map (λ h. h.0) result ≡ next_chunk self.now.chunks }
@@ -163,6 +181,7 @@ impl Heap {
         let gap = gap_from(&self.table, self.gap);
         self.table.grow(self.table.len().max(i + 1));
         self.table.place(i, n as usize);
+        self.marks.forget(i);
         self.gap = if i == gap { i + 1 } else { gap };
     }
 
@@ -176,6 +195,7 @@ impl Heap {
         let i = slot(h);
         self.table.vacate(i, NO_CHUNK);
         self.table.trim();
+        self.marks.forget(i);
         self.gap = gap.min(i).min(self.table.len());
     }
 
@@ -185,7 +205,9 @@ impl Heap {
         requires fits { IsTrue (fits_with self.old.chunks h.0 (resized (chunk_bytes self.old.chunks h.0) n)) }
         ensures { self.new.chunks ≡ insert self.old.chunks h.0 (resized (chunk_bytes self.old.chunks h.0) n) }
     {
-        self.table.resize(slot(h), n as usize);
+        let i = self.live_slot(h);
+        self.table.resize(i, n as usize);
+        self.marks.forget(i);
     }
 
     /// Puts `new` in the place of the `k` bytes from `at` on of a chunk; what stands behind them slides.
@@ -197,7 +219,9 @@ impl Heap {
         ensures { self.new.chunks ≡
             insert self.old.chunks h.0 (splice (chunk_bytes self.old.chunks h.0) at (at + k) new.now) }
     {
-        self.table.replace(slot(h), at, k, new);
+        let i = self.live_slot(h);
+        self.table.replace(i, at, k, new);
+        self.marks.forget(i);
     }
 
     /// Joins all free room into one piece. The chunks stay as they are.
@@ -231,13 +255,37 @@ impl Heap {
         self.table.chunk(i)
     }
 
+    /// The bytes of a chunk, with the kind that `mark_array` was last given for it, while the mark is kept. The time
+    /// that this takes doesn't grow with the heap.
+    pub fn known_chunk(&self, h: ChunkHandle) -> Option<KnownBytes<'_>>
+        ensures value { result ≡ get self.now.chunks h.0 }
+        ensures valid { is_heap_map self.now.chunks ≡ true }
+    {
+        let i = slot_of(h, self.table.len())?;
+        let bytes = self.table.chunk(i)?;
+        Some(KnownBytes::of_kind(bytes, self.marks.kind_of(i)))
+    }
+
+    /// Keeps in mind that a chunk is an array of a kind, until it is changed or freed. A heap has room for eight such
+    /// marks, and a further one takes the place of the oldest. No memory is taken.
+    pub fn mark_array(&mut self, h: ChunkHandle, kind: ArrayKind)
+        requires live { IsTrue (contains_key self.old.chunks h.0) }
+        requires array { is_array_of kind (chunk_bytes self.old.chunks h.0) ≡ true }
+        ensures { self.new ≡ self.old }
+    {
+        let i = self.live_slot(h);
+        self.marks.set(i, kind);
+    }
+
     /// The bytes of a chunk, to be written.
     pub fn chunk_mut(&mut self, h: ChunkHandle) -> &mut [u8]
         requires { IsTrue (contains_key self.old.chunks h.0) }
         ensures* writes_back { sem 𝓛 (lends_chunk self.entry h.0 result) }
         ensures value { result.now ≡ chunk_bytes self.old.chunks h.0 }
     {
-        self.table.chunk_mut(slot(h))
+        let i = self.live_slot(h);
+        self.marks.forget(i);
+        self.table.chunk_mut(i)
     }
 
     /// Writes over the bytes of a chunk from `at` on.
@@ -248,7 +296,9 @@ impl Heap {
             insert self.old.chunks h.0 (splice (chunk_bytes self.old.chunks h.0) at (at + length bytes.now) bytes.now) }
         ensures places { self.new.places ≡ self.old.places }
     {
-        self.table.write(slot(h), at, bytes);
+        let i = self.live_slot(h);
+        self.table.write(i, at, bytes);
+        self.marks.forget(i);
     }
 
     /// The live handles, rising.
@@ -324,7 +374,12 @@ impl Heap {
         let alloc = region.alloc();
         let table = unpack(region, &bytes[PREFIX..], slots);
         let gap = gap_from(&table, 0);
-        Heap { table, gap, alloc }
+        Heap {
+            table,
+            gap,
+            marks: Marks::new(),
+            alloc,
+        }
     }
 }
 

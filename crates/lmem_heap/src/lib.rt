@@ -5,6 +5,8 @@ mod compaction;
 mod entries;
 mod heap;
 mod image;
+mod known;
+mod marks;
 mod merging;
 mod pieces;
 mod resizing;
@@ -14,3 +16,4 @@ mod table;
 mod words;
 
 pub use heap::Heap;
+pub use known::{ArrayKind, KnownBytes};

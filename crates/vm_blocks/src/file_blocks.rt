@@ -2,12 +2,14 @@
 ghost use Rattle.std.specs.Prelude.{◌≡◌, ◌≢◌, ◌⊎◌, ◌↔◌, ◌≤◌, ◌<◌, ◌+◌, ℕ, [], Some, None, Ok, Err, true, false, IsTrue, IsOk, IfOk, IfErr, IfSome, OnOk, OnErr, MatchResult, length, map, nat_eq, nat_lt};
 ghost use Rattle.std.specs.Option.{option_map};
 ghost use Rattle.std.specs.Result.{IsErrAnd};
-ghost use Rattle.std.specs.FinMap.{get, keys};
+ghost use Rattle.std.specs.FinMap.{contains_key, get, keys};
 ghost use Rattle.std.specs.Map.{set_value};
 ghost use Rattle.std.specs.List.{All};
-ghost use Rattle.geos_model.specs.Document.{IsValid, block_at, is_heap, is_raw, next_handle, is_live, is_vm_handle, attributes_of, handles_of, without_block, without_blocks, IsTyped};
+ghost use Rattle.geos_model.specs.Document.{IsValid, block_at, chunks_of, is_heap, is_raw, next_handle, is_live, is_vm_handle, attributes_of, handles_of, without_block, without_blocks, IsTyped};
 ghost use Rattle.geos_model.specs.ElementArray.{all_distinct};
+ghost use Rattle.geos_model.specs.Heap.{chunk_bytes};
 ghost use Rattle.geos_model.specs.Reply.{found};
+ghost use Rattle.lmem_heap.specs.Known.{is_array_of};
 ghost use Rattle.vm_file.specs.Calls.{last_sequence};
 ghost use Rattle.vm_file.specs.Disk.{IsFileDocument, IsCrashConsistent, KeepsCommitted};
 ghost use Rattle.vm_file.specs.Effects.{IsCommit, Fails, IsWorn};
@@ -26,7 +28,8 @@ ghost use Rattle.vm_blocks.specs.Preparing.{CanRemoveByHandle, CanApplyByHandle,
 use crate::part::{can_take, carry_out_heap, carry_out_raw};
 use crate::{BlockBody, Change, Direction, Members, PartChange};
 use block_cache::Cache;
-use geos_model::{Attributes, Fault, VmHandle};
+use geos_model::{Attributes, ChunkHandle, Fault, VmHandle};
+use lmem_heap::ArrayKind;
 use std::alloc::{AllocError, Global};
 use std::marker::Model;
 use vm_file::Refused;
@@ -411,6 +414,19 @@ impl<S: Store> FileBlocks<S> {
         ensures { option_map (λ b. b.body) (get self.now.document.blocks handle.0) ≡ Some (body_value result.now) }
     {
         self.cache.body(handle)
+    }
+
+    /// Has the heap of a block that is in memory keep in mind that a chunk of it is an array of a kind. An array that is
+    /// known to be one isn't tested again until its chunk is changed or its block leaves memory. Nothing is read,
+    /// written or allocated, and nothing that a caller sees changes.
+    pub fn mark_array(&mut self, handle: VmHandle, chunk: ChunkHandle, kind: ArrayKind)
+        requires loaded { is_loaded self.old handle.0 ≡ true }
+        requires heap { is_heap self.old.document handle.0 ≡ true }
+        requires live { contains_key (chunks_of self.old.document handle.0) chunk.0 ≡ true }
+        requires array { is_array_of kind (chunk_bytes (chunks_of self.old.document handle.0) chunk.0) ≡ true }
+        ensures { self.new ≡ self.old }
+    {
+        self.cache.mark_array(handle, chunk, kind);
     }
 
     /// The map block, 0 if there is none.

@@ -3,6 +3,7 @@ use Rattle.geos_model.proofs.Table.{first_gap}
 use Rattle.geos_model.proofs.Tables.{put_at}
 use Rattle.lmem_heap.specs.Slots.{need_in}
 use Rattle.lmem_heap.proofs.PlacedLemmas.{shown_chunks, free_slot, room_put, shows_put, counted_put, zeros_put, none_bytes, in_slots, grow_room, new_room, gap_found, first_gap_le, gap_put_here, gap_put_there}
+use Rattle.lmem_heap.proofs.MarkLemmas.{marked_put}
 use Rattle.lmem_heap.proofs.heap.Heap.alloc_at.Goals.{After-gap_from-gap, After-max, After-place, then-i-gap, else-i-gap}
 use Rattle.lmem_heap.proofs.heap.Heap.alloc_at.Goals as goal
 
@@ -17,7 +18,7 @@ has_room c =
     let t = c.self.inside.table.chunks in let k = c.slot-i.result in let h = c.args.h.0 in let m = c.args.self.now.chunks in let shows = shown_chunks c.self.inside.table c.args.self.now c.self.view_is in
     record {
       none = free_slot t k h m shows c.slot-i.ensures.at c.requires.free;
-      room = room_put t k h m shows c.slot-i.ensures.at (replicate c.args.n 0) c.self.invariant.0 c.requires.fits;
+      room = room_put t k h m shows c.slot-i.ensures.at (replicate c.args.n 0) c.self.invariant.0.0 c.requires.fits;
       most = omega (arith, c.max.ensures, c.len.ensures.chunks);
     }
 
@@ -27,10 +28,10 @@ placed c f = c.place.ensures ∙ zeros_put c.self.inside.table.chunks c.grow.new
 
 -- the least free slot
 gap : (c : After-gap_from-gap) → c.gap_from-gap.result ≡ first_gap c.self.inside.table.chunks
-gap c = c.gap_from-gap.ensures ∙ gap_found c.self.inside.table.chunks c.self.inside.gap c.self.invariant.1
+gap c = c.gap_from-gap.ensures ∙ gap_found c.self.inside.table.chunks c.self.inside.gap c.self.invariant.0.1
 
 pub gap_from-gap-requires : goal.gap_from-gap-requires
-gap_from-gap-requires c = omega (arith, c.self.invariant.1, first_gap_le c.self.inside.table.chunks)
+gap_from-gap-requires c = omega (arith, c.self.invariant.0.1, first_gap_le c.self.inside.table.chunks)
 
 pub grow-requires-clause-room : goal.grow-requires-clause-room
 grow-requires-clause-room c = let f = has_room (goal.at.grow-requires-clause-room c).After-max in grow_room c.self.inside.table.chunks _ c.slot-i.result c.max.result f.most refl f.none (replicate c.args.n 0) f.room
@@ -52,7 +53,10 @@ invariant_of-self c =
       | then-i-gap w ↦ omega (arith, w.self-is, gap_put_here t k z (omega (arith, g, w.if-i-gap.true)) f.none)
       | else-i-gap w ↦ omega (arith, w.self-is, gap_put_there t c.gap_from-gap.result k z (omega (arith, g)))
     ] in
-    counted_put t c.place.new.self.chunks k c.if-i-gap.self z c.self.invariant.0 f.room (placed (goal.at.invariant_of-self c).After-place f) first
+    let there = placed (goal.at.invariant_of-self c).After-place f in (
+      counted_put t c.place.new.self.chunks k c.if-i-gap.self z c.self.invariant.0.0 f.room there first,
+      marked_put t c.place.new.self.chunks k z c.self.inside.marks.list.items c.forget.new.self.list.items there c.forget.ensures c.self.invariant.1,
+    )
 
 pub returns : goal.returns
 returns c = shows_put c.self.inside.table.chunks c.slot-i.result c.args.h.0 c.args.self.now.chunks (shown_chunks c.self.inside.table c.args.self.now c.self.view_is) c.slot-i.ensures.at c.place.new.self.chunks (replicate c.args.n 0) (placed (goal.at.returns c).After-place (has_room (goal.at.returns c).After-max))

@@ -8,7 +8,7 @@ use Rattle.lmem_heap.proofs.heap.Heap.fits_at.Goals as goal
 
 pub returns : goal.returns
 returns c =
-    let t = c.self.inside.table.chunks in let i = c.self.invariant in let k = c.slot.result in
+    let t = c.self.inside.table.chunks in let i = c.self.invariant.0 in let k = c.slot.result in
     let z : List ℕ = replicate c.args.n 0 in
     let none : get_or t k None ≡ None = free_slot t k c.args.h.0 c.args.self.now.chunks (shown_chunks c.self.inside.table c.args.self.now c.self.view_is) c.slot.ensures.at c.requires.free in
     let need : c.need_of.result ≡ need_in (put_at t k z)

@@ -9,21 +9,21 @@ use Rattle.lmem_heap.proofs.heap.Heap.fits_resize.Goals as goal
 
 pub space_of-requires : goal.space_of-requires
 space_of-requires c =
-    let t = c.self.inside.table.chunks in let i = c.self.invariant in
+    let t = c.self.inside.table.chunks in let i = c.self.invariant.0 in
     let place = live_at t c.args.h.0 c.args.self.now.chunks (shown_chunks c.self.inside.table c.args.self.now c.self.view_is) i.0 i.2 c.requires in
     let live = live_slot t place.0 c.args.h.0 c.args.self.now.chunks (shown_chunks c.self.inside.table c.args.self.now c.self.view_is) place.1 c.requires in
     omega (arith, live.space, space_of_ge (length (chunk_bytes c.args.self.now.chunks c.args.h.0)), c.size-size.ensures, i.2)
 
 pub overflow_sub-others : goal.overflow_sub-others
 overflow_sub-others c =
-    let t = c.self.inside.table.chunks in let i = c.self.invariant in
+    let t = c.self.inside.table.chunks in let i = c.self.invariant.0 in
     let place = live_at t c.args.h.0 c.args.self.now.chunks (shown_chunks c.self.inside.table c.args.self.now c.self.view_is) i.0 i.2 c.requires in
     let live = live_slot t place.0 c.args.h.0 c.args.self.now.chunks (shown_chunks c.self.inside.table c.args.self.now c.self.view_is) place.1 c.requires in
     omega (arith, live.space, c.space_of.ensures, ap space_of c.size-size.ensures, c.space.ensures)
 
 pub returns : goal.returns
 returns c =
-    let t = c.self.inside.table.chunks in let i = c.self.invariant in
+    let t = c.self.inside.table.chunks in let i = c.self.invariant.0 in
     let place = live_at t c.args.h.0 c.args.self.now.chunks (shown_chunks c.self.inside.table c.args.self.now c.self.view_is) i.0 i.2 c.requires in
     let live = live_slot t place.0 c.args.h.0 c.args.self.now.chunks (shown_chunks c.self.inside.table c.args.self.now c.self.view_is) place.1 c.requires in
     let old : List ℕ = chunk_bytes c.args.self.now.chunks c.args.h.0 in let b : List ℕ = resized old c.args.n in

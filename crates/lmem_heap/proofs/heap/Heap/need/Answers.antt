@@ -4,4 +4,4 @@ use Rattle.lmem_heap.proofs.PlacedLemmas.{shown_chunks, need_is}
 use Rattle.lmem_heap.proofs.heap.Heap.need.Goals as goal
 
 pub returns : goal.returns
-returns c = let i = c.self.invariant in omega (arith, c.need_of.ensures, c.len.ensures.chunks, c.space.ensures, need_is c.self.inside.table.chunks i.0, ap need (shown_chunks c.self.inside.table c.args.self.now c.self.view_is))
+returns c = let i = c.self.invariant.0 in omega (arith, c.need_of.ensures, c.len.ensures.chunks, c.space.ensures, need_is c.self.inside.table.chunks i.0, ap need (shown_chunks c.self.inside.table c.args.self.now c.self.view_is))

@@ -6,10 +6,10 @@ use Rattle.lmem_heap.proofs.heap.Heap.next_handle.Goals.{After-gap_from-i}
 use Rattle.lmem_heap.proofs.heap.Heap.next_handle.Goals as goal
 
 gap : (c : After-gap_from-i) → c.gap_from-i.result ≡ first_gap c.self.inside.table.chunks
-gap c = c.gap_from-i.ensures ∙ gap_found c.self.inside.table.chunks c.self.inside.gap c.self.invariant.1
+gap c = c.gap_from-i.ensures ∙ gap_found c.self.inside.table.chunks c.self.inside.gap c.self.invariant.0.1
 
 pub gap_from-i-requires : goal.gap_from-i-requires
-gap_from-i-requires c = omega (arith, c.self.invariant.1, first_gap_le c.self.inside.table.chunks)
+gap_from-i-requires c = omega (arith, c.self.invariant.0.1, first_gap_le c.self.inside.table.chunks)
 
 pub returns-then-i-lt-MOST_CHUNKS : goal.returns-then-i-lt-MOST_CHUNKS
 returns-then-i-lt-MOST_CHUNKS c =
