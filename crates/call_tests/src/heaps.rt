@@ -7,7 +7,7 @@ use std::alloc::{AllocError, Global};
 use std::process::Abort;
 use std::test::Fail;
 
-const FIRST: ChunkHandle = ChunkHandle(0x10);
+pub(crate) const FIRST: ChunkHandle = ChunkHandle(0x10);
 
 const SECOND: ChunkHandle = ChunkHandle(0x12);
 
@@ -16,7 +16,7 @@ const THIRD: ChunkHandle = ChunkHandle(0x14);
 const GREATEST: ChunkHandle = ChunkHandle(0xffee);
 
 // A new chunk, where it fits.
-fn added(heap: &mut Heap, n: u32) -> Option<ChunkHandle> {
+pub(crate) fn added(heap: &mut Heap, n: u32) -> Option<ChunkHandle> {
     if heap.fits_alloc(n) {
         Some(heap.alloc(n))
     } else {
@@ -42,7 +42,7 @@ fn put(heap: &mut Heap, n: u32, byte: u8) -> bool {
 }
 
 // Bytes are copied over those of a chunk of as many.
-fn copied(heap: &mut Heap, chunk: ChunkHandle, bytes: &[u8]) -> bool {
+pub(crate) fn copied(heap: &mut Heap, chunk: ChunkHandle, bytes: &[u8]) -> bool {
     if heap.chunk(chunk).is_none() {
         return false;
     }
@@ -55,7 +55,7 @@ fn copied(heap: &mut Heap, chunk: ChunkHandle, bytes: &[u8]) -> bool {
 }
 
 // A chunk that is freed.
-fn freed(heap: &mut Heap, chunk: ChunkHandle) -> bool {
+pub(crate) fn freed(heap: &mut Heap, chunk: ChunkHandle) -> bool {
     if heap.chunk(chunk).is_none() {
         return false;
     }
@@ -64,7 +64,7 @@ fn freed(heap: &mut Heap, chunk: ChunkHandle) -> bool {
 }
 
 // One that gets another size, where it fits.
-fn resized(heap: &mut Heap, chunk: ChunkHandle, n: u32) -> bool {
+pub(crate) fn resized(heap: &mut Heap, chunk: ChunkHandle, n: u32) -> bool {
     if heap.chunk(chunk).is_none() || !heap.fits_resize(chunk, n) {
         return false;
     }

@@ -1,6 +1,6 @@
 -- Bytes with the parts of an array are an array, and an array's bytes have them.
-use Rattle.std.proofs.Common.{◌≡◌, ◌≢◌, ℕ, zero, suc, ◌+◌, ◌*◌, ◌-◌, ◌%◌, ◌<◌, ◌≤◌, Bool, true, false, ◌&&◌, ◌||◌, ◌==◌, nat_lt, List, [], ◌++◌, map, length, take, drop, get_or, flat_map, Some, None, refl, sym, ap, subst, ◌∙◌, inl, inr, arith, drop-drop}
-use Rattle.std.proofs.lemmas.Bool.{cases_Bool, cases_lt, and_parts, and_from, cond-true, cond-false, eq-eqb, ne_eqb, eqb-true, eqb-false, lt-ltb}
+use Rattle.std.proofs.Common.{◌≡◌, ◌≢◌, ℕ, zero, suc, ◌+◌, ◌*◌, ◌-◌, ◌%◌, ◌<◌, ◌≤◌, Bool, true, false, ◌&&◌, ◌||◌, ◌==◌, nat_lt, List, [], ◌++◌, map, length, take, drop, get_or, flat_map, is_some, Some, None, refl, sym, ap, subst, ◌∙◌, inl, inr, arith, drop-drop}
+use Rattle.std.proofs.lemmas.Bool.{cases_Bool, cases_lt, and_parts, and_from, cond-true, cond-false, eq-eqb, ne_eqb, eqb-true, eqb-false, lt-ltb, true≢false}
 use Rattle.std.proofs.lemmas.List.{drop-take, length-drop, length-take}
 use Rattle.std.proofs.Math.Seq.{drop-length}
 use Rattle.std.proofs.Math.Nat.{mod-le}
@@ -332,6 +332,18 @@ module _ (bytes : List ℕ) (are : AreBytes bytes) (even : is_even (array_read b
         high = omega (arith, start, all);
         elements = record { even = even_back; table = table_back };
       }
+
+-- what is an array has them
+pub known_parts : (bytes : List ℕ) → AreBytes bytes → is_some (array_of bytes) ≡ true → HasParts bytes
+unfolding array_of
+known_parts bytes are is = elim (cases_Bool (is_even (array_read bytes) && same_bytes (array_bytes (array_read bytes)) bytes)) [
+  | inl so ↦
+      let parts = and_parts (is_even (array_read bytes)) (same_bytes (array_bytes (array_read bytes)) bytes) so in
+      parts_back bytes are parts.0 (same_bytes-is (array_bytes (array_read bytes)) bytes parts.1)
+  | inr other ↦
+      let none : is_some (array_of bytes) ≡ false = ap is_some (cond-false _ _ _ other) in
+      absurd (true≢false (sym is ∙ none))
+]
 
 -- so what is no array lacks one
 pub not_array : (bytes : List ℕ) → AreBytes bytes → (HasParts bytes → ⊥) → array_of bytes ≡ None

@@ -1,7 +1,7 @@
 -- Where the elements of an array lie in its bytes.
-use Rattle.std.specs.Prelude.{ℕ, List, ◌+◌, ◌*◌, ◌==◌, if◌then◌else◌, length, take}
+use Rattle.std.specs.Prelude.{ℕ, List, Bool, ◌+◌, ◌*◌, ◌==◌, ◌&&◌, if◌then◌else◌, length, nat_le, nat_lt, take}
 use Rattle.std.specs.List.{flat_map}
-use Rattle.geos_model.specs.Words.{word}
+use Rattle.geos_model.specs.Words.{word, word_at}
 use Rattle.geos_model.specs.Array.{Array, array_start, places_from}
 
 -- where the elements begin
@@ -15,3 +15,7 @@ element_place a i = elements_start a + length (flat_map (λ x. x) (take i a.elem
 -- where elements begin that lie one after another from a place on, as words
 abbrev pub words_from : ℕ → List (List ℕ) → List ℕ
 words_from at xs = flat_map word (places_from at xs)
+
+-- whether a header says that all elements have one size
+abbrev pub has_one_size : List ℕ → Bool
+has_one_size bytes = nat_le 4 (length bytes) && nat_lt 0 (word_at bytes 2)

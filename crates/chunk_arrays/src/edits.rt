@@ -12,6 +12,7 @@ use crate::rewriting::{NewElement, push_header, rewrite};
 use crate::view::check;
 use chunk_edits::Patch;
 use geos_model::Fault;
+use lmem_heap::KnownBytes;
 use std::alloc::Global;
 
 /// The greatest size of each element that an array can be made with.
@@ -40,7 +41,7 @@ pub fn create_bytes(alloc: Global, size: u32, extra: u32) -> Result<Vec<u8>, Fau
 
 /// The patch that makes these bytes an element before element `i`. NotArray; Range where `i` is past the count, or the
 /// array has elements of another size; Full where the array would be longer than any chunk.
-pub fn insert(alloc: Global, bytes: &[u8], i: u32, element: &[u8]) -> Result<Patch, Fault>
+pub fn insert(alloc: Global, bytes: &KnownBytes<'_>, i: u32, element: &[u8]) -> Result<Patch, Fault>
     ensures { MatchResult result
         (Replaces (insert_conditions bytes.now i element.now) bytes.now (element_inserted bytes.now i element.now))
         (RefusesToReplace (insert_conditions bytes.now i element.now) (element_inserted bytes.now i element.now)) }
@@ -55,7 +56,7 @@ pub fn insert(alloc: Global, bytes: &[u8], i: u32, element: &[u8]) -> Result<Pat
 
 /// The patch that gives element `i` these bytes in place of its own. NotArray, NoElement; Range where the array has
 /// elements of another size; Full where the array would be longer than any chunk.
-pub fn set(alloc: Global, bytes: &[u8], i: u32, element: &[u8]) -> Result<Patch, Fault>
+pub fn set(alloc: Global, bytes: &KnownBytes<'_>, i: u32, element: &[u8]) -> Result<Patch, Fault>
     ensures { MatchResult result
         (Replaces (set_conditions bytes.now i element.now) bytes.now (element_set bytes.now i element.now))
         (RefusesToReplace (set_conditions bytes.now i element.now) (element_set bytes.now i element.now)) }
@@ -73,7 +74,7 @@ pub fn set(alloc: Global, bytes: &[u8], i: u32, element: &[u8]) -> Result<Patch,
 
 /// The patch that cuts element `i` at its end, or adds zeros there, so that it has `n` bytes. NotArray, NoElement;
 /// Range where the array has elements of one size; Full where the array would be longer than any chunk.
-pub fn resize(alloc: Global, bytes: &[u8], i: u32, n: u32) -> Result<Patch, Fault>
+pub fn resize(alloc: Global, bytes: &KnownBytes<'_>, i: u32, n: u32) -> Result<Patch, Fault>
     ensures { MatchResult result
         (Replaces (resize_conditions bytes.now i) bytes.now (element_resized bytes.now i n))
         (RefusesToReplace (resize_conditions bytes.now i) (element_resized bytes.now i n)) }
@@ -92,7 +93,7 @@ pub fn resize(alloc: Global, bytes: &[u8], i: u32, n: u32) -> Result<Patch, Faul
 
 /// The patch that deletes `k` elements from element `i` on. NotArray; NoElement where there are not so many; Full where
 /// what is left is longer than any chunk.
-pub fn delete(alloc: Global, bytes: &[u8], i: u32, k: u32) -> Result<Patch, Fault>
+pub fn delete(alloc: Global, bytes: &KnownBytes<'_>, i: u32, k: u32) -> Result<Patch, Fault>
     ensures { MatchResult result
         (Replaces (delete_conditions bytes.now i k) bytes.now (elements_deleted bytes.now i k))
         (RefusesToReplace (delete_conditions bytes.now i k) (elements_deleted bytes.now i k)) }
@@ -107,7 +108,7 @@ pub fn delete(alloc: Global, bytes: &[u8], i: u32, k: u32) -> Result<Patch, Faul
 }
 
 /// The patch that deletes all elements. NotArray; Full where the extra bytes are longer than any chunk.
-pub fn zero(alloc: Global, bytes: &[u8]) -> Result<Patch, Fault>
+pub fn zero(alloc: Global, bytes: &KnownBytes<'_>) -> Result<Patch, Fault>
     ensures { MatchResult result
         (Replaces (on_array bytes.now) bytes.now (array_zeroed bytes.now))
         (RefusesToReplace (on_array bytes.now) (array_zeroed bytes.now)) }

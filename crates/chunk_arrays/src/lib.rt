@@ -10,4 +10,4 @@ mod view;
 pub use edits::{GREATEST_SIZE, create_bytes, delete, insert, is_missized, resize, set, zero};
 pub use empty::empty_bytes;
 pub use rewriting::{NewElement, rewrite};
-pub use view::{View, check};
+pub use view::{View, check, has_one_size, is_array};

@@ -3,11 +3,13 @@ ghost use Rattle.std.specs.Prelude.{◌≡◌, ◌^◌, ◌<◌, ◌≤◌, ◌+
 ghost use Rattle.std.specs.List.{flat_map};
 ghost use Rattle.geos_model.specs.Words.{word_at};
 ghost use Rattle.geos_model.specs.Array.{array_bytes, array_of, array_read, is_even};
+ghost use Rattle.lmem_heap.specs.Known.{is_array_of};
 ghost use Rattle.chunk_arrays.specs.Parts.{AreBytes, IsPlaceTable, HasElements};
-ghost use Rattle.chunk_arrays.specs.Reading.{element_place, words_from};
+ghost use Rattle.chunk_arrays.specs.Reading.{element_place, has_one_size, words_from};
 
 use byteorder::{ByteOrder, LittleEndian};
 use geos_model::Fault;
+use lmem_heap::{ArrayKind, KnownBytes};
 use std::marker::Model;
 
 /// A chunk array, read where it lies. Contracts see it as the array, with what holds of each.
@@ -44,30 +46,46 @@ impl<'a> Model for View<'a> {
 }
 
 /// The array that these bytes are: a header of four words, extra bytes, and elements without gaps. NotArray where they
-/// are none. It takes time in proportion to the number of elements, and no memory.
-pub fn check(bytes: &[u8]) -> Result<View<'_>, Fault>
+/// are none. It takes time in proportion to the number of elements, but none for them where the bytes are known to be
+/// an array, and no memory.
+pub fn check<'a>(bytes: &KnownBytes<'a>) -> Result<View<'a>, Fault>
     ensures { MatchResult result (λ view. array_of bytes.now ≡ Some view.array)
         (λ fault. (fault ≡ Fault.NotArray) × (array_of bytes.now ≡ None)) }
 {
-    if bytes.len() < 8 {
+    let plain = bytes.bytes();
+    if plain.len() < 8 {
         return Err(Fault::NotArray);
     }
-    let count = word(bytes, 0);
-    let size = word(bytes, 2);
-    let third = word(bytes, 4);
-    let start = word(bytes, 6);
-    if third != 0 || start < 8 || bytes.len() < start {
+    let count = word(plain, 0);
+    let size = word(plain, 2);
+    let third = word(plain, 4);
+    let start = word(plain, 6);
+    if third != 0 || start < 8 || plain.len() < start {
         return Err(Fault::NotArray);
     }
-    if !has_elements(bytes, count, size, start) {
+    if !are_filled(bytes, count, size, start) {
         return Err(Fault::NotArray);
     }
     Ok(View {
-        bytes,
+        bytes: plain,
         count,
         size,
         start,
     })
+}
+
+/// Whether bytes are an array.
+pub fn is_array(bytes: &KnownBytes<'_>) -> bool
+    ensures { result ≡ is_array_of ArrayKind.Chunk bytes.now }
+{
+    check(bytes).is_ok()
+}
+
+/// Whether a header says that all elements have one size, so that a test of them reads no more than that.
+pub fn has_one_size(bytes: &[u8]) -> bool
+    ensures { result ≡ has_one_size bytes.now }
+{
+    4 <= bytes.len() && 0 < word(bytes, 2)
 }
 
 /// The word at a place.
@@ -77,6 +95,18 @@ fn word(bytes: &[u8], at: usize) -> usize
     ensures bound { result < 2 ^ 16 }
 {
     usize::from(LittleEndian::read_u16(&bytes[at..]))
+}
+
+/// Whether elements fill the bytes from `start` on, by the numbers of their header. Those of an array do.
+fn are_filled(bytes: &KnownBytes<'_>, count: usize, size: usize, start: usize) -> bool
+    requires within { start ≤ length bytes.now }
+    requires count { count ≡ word_at bytes.now 0 }
+    requires size { size ≡ word_at bytes.now 2 }
+    requires start { start ≡ word_at bytes.now 6 }
+    ensures { IsTrue result ↔ HasElements bytes.now count size start }
+{
+    let plain = bytes.bytes();
+    bytes.is_known(ArrayKind::Chunk) || has_elements(plain, count, size, start)
 }
 
 /// Whether elements fill the bytes from `start` on.

@@ -1,6 +1,7 @@
 pub mod Order
 pub mod Refusals
 pub mod Documents
+pub mod FoundChunks
 pub mod ChunkParts
 pub mod ArrayEdits
 pub mod ElementEdits
@@ -13,3 +14,4 @@ pub mod LookUps
 pub mod BlockPlans
 pub mod ChainPlans
 pub mod Planned
+pub mod EditedArrays

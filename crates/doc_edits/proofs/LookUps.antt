@@ -329,6 +329,13 @@ module _ {S X : Type 0} (facts : S → StoreFacts) (a e : CacheState S) (b : VmH
     own_seen own value g s v conditions does answered =
         chunk_seen (reply_by (λ y. g (v y)) s) (λ lacks no_room room there. own_answered lacks no_room room e.document b c (now x) there command own value g s v conditions does answered)
 
+    -- so are bytes that are the chunk's
+    pub own_seen_at : (bytes : List ℕ) → bytes ≡ now x → {V T : Type 0} (own : List ℕ → Conditions) (value : List ℕ → V) (g : V → Reply) (s : Result T Fault) (v : T → V)
+        → look_up_conditions command e.document ≡ on_chunk e.document b.0 c.0 ++ own (chunk_at e.document b.0 c.0) → look_up command e.document ≡ Some (g (value (chunk_at e.document b.0 c.0)))
+        → MatchResult s (λ y. IsAnswered (own bytes) (value bytes) (v y)) (IsRefused (own bytes)) → Sees facts a e command (reply_by (λ y. g (v y)) s)
+    own_seen_at bytes is own value g s v conditions does answered =
+        own_seen own value g s v conditions does (subst (λ (z : List ℕ). MatchResult s (λ y. IsAnswered (own z) (value z) (v y)) (IsRefused (own z))) is answered)
+
 -- the bytes of a chunk are answered as they are
 pub read_seen : {S X : Type 0} (facts : S → StoreFacts) (a e : CacheState S) (b : VmHandle) (c : ChunkHandle) (now : X → List ℕ) (r : Result X Fault) → KeepsBlocks facts a e
     → MatchResult r (λ x. (is_shut_out a b.0 ≡ false) × IsChunkAt e.document b.0 c.0 (now x)) (RefusesChunk (IsEnvironmentFault facts a.disk.store e.disk.store) (is_shut_out a b.0) e.document b c)

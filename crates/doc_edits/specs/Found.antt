@@ -28,6 +28,10 @@ pub record IsChunkAt (d : Document) (b c : ℕ) (bytes : List ℕ) : Type 0 wher
   pub valid : is_heap_map (chunks_of d b) ≡ true
   pub value : bytes ≡ chunk_at d b c
 
+-- So it is, whatever its bytes are.
+abbrev pub IsChunkLive : Document → ℕ → ℕ → Type 0
+IsChunkLive d b c = IsChunkAt d b c (chunk_at d b c)
+
 -- one of these refusals
 abbrev pub is_among : List Fault → Fault → Bool
 is_among faults fault = list_any (λ f. number_of_fault f == number_of_fault fault) faults

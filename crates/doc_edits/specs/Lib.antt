@@ -4,3 +4,4 @@ pub mod Room
 pub mod Loading
 pub mod Building
 pub mod LookUps
+pub mod Marking

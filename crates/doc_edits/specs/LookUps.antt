@@ -1,5 +1,5 @@
 -- What a look-up may answer of a document, and what it leaves of it.
-use Rattle.std.specs.Prelude.{◌≡◌, ◌⊎◌, ⊤, Bool, true, false, ◌∷◌, Option, None, Some, Result, IfErr}
+use Rattle.std.specs.Prelude.{◌≡◌, ◌⊎◌, ⊤, Bool, true, false, ◌∷◌, Option, None, Some, Result, IfErr, MatchResult}
 use Rattle.std.specs.Option.{option_map_or}
 use Rattle.std.specs.Borrow.{follows_so, Fml, RattleType, MutBor}
 use Rattle.geos_model.specs.Refusal.{first_refusal}
@@ -14,9 +14,10 @@ use Rattle.geos_model.specs.declared.handle.ChunkHandle.{ChunkHandle}
 use Rattle.geos_model.specs.declared.handle.VmHandle.{VmHandle}
 use Rattle.vm_store.specs.Facts.{StoreFacts}
 use Rattle.block_cache.specs.State.{CacheState}
-use Rattle.vm_blocks.specs.Keeping.{KeepsBlocks, IsEnvironmentFault, IsHonest, is_full}
+use Rattle.vm_blocks.specs.Keeping.{KeepsBlocks, IsEnvironmentFault, IsHonest, is_full, is_shut_out}
 use Rattle.vm_blocks.specs.Kinds.{IsWrongBlock}
 use Rattle.vm_chains.specs.Answers.{IsWrongRoot}
+use Rattle.doc_edits.specs.Found.{IsChunkLive}
 use Rattle.doc_edits.specs.Room.{has_no_room, IsChainRefusal, ReadsNothing}
 use mathlib.Core.Option.{none}
 
@@ -102,6 +103,15 @@ FindsInMemory old new b c result =
     → ReadsNothing old (OneBody b.0) (look_up_conditions command old.document)
     → (new.disk ≡ old.disk) × (new.document ≡ old.document)
     × IfErr result (λ fault. first_refusal (look_up_conditions command old.document) ≡ Some fault)
+
+-- What comes of looking for a chunk whose block may have to be brought into memory: the file is kept, and the chunk is
+-- live, or each look-up into it is refused.
+pub record FindsChunk {S T : Type 0} (facts : S → StoreFacts) (old new : CacheState S) (b : VmHandle) (c : ChunkHandle)
+    (result : Result T Fault) : Type 0 where
+  pub keeps : KeepsBlocks facts old new
+  pub found : MatchResult result (λ _. (is_shut_out old b.0 ≡ false) × IsChunkLive new.document b.0 c.0)
+      (RefusesChunk (IsEnvironmentFault facts old.disk.store new.disk.store) (is_shut_out old b.0) new.document b c)
+  pub in_memory : FindsInMemory old new b c result
 
 -- What is behind a `&mut` is again what the call left there, once what was lent of it is given back, and this holds of
 -- that.

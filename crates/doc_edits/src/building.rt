@@ -12,7 +12,7 @@ ghost use Rattle.doc_edits.specs.Planning.{RefusesInMemory};
 
 use chunk_edits::{Patch, Splice};
 use geos_model::{Bytes, ChunkHandle, Done, Edit, Fault};
-use lmem_heap::Heap;
+use lmem_heap::{Heap, KnownBytes};
 use std::alloc::Global;
 use vm_blocks::{Content, PartChange};
 
@@ -22,7 +22,7 @@ pub fn build(
     alloc: Global,
     heap: &Heap,
     chunk: ChunkHandle,
-    bytes: &[u8],
+    bytes: &KnownBytes<'_>,
     edit: &Edit,
 ) -> Result<(PartChange, Done), Fault>
     requires live { IsTrue (contains_key heap.now.chunks chunk.0) }
@@ -73,7 +73,7 @@ fn build_splice(
 }
 
 /// Of an edit of an array, whichever chunk has these bytes.
-fn build_patch(alloc: Global, bytes: &[u8], edit: &Edit) -> Result<(Patch, Done), Fault>
+fn build_patch(alloc: Global, bytes: &KnownBytes<'_>, edit: &Edit) -> Result<(Patch, Done), Fault>
     requires place { IsSome (place_of edit.now) }
     requires array { is_of_bytes edit.now ≡ false }
     ensures { (d : Document) → (m : ChunkMap) → (h : ChunkHandle) → IsAt edit.now d m h.0 bytes.now
@@ -103,7 +103,7 @@ fn build_patch(alloc: Global, bytes: &[u8], edit: &Edit) -> Result<(Patch, Done)
 }
 
 /// Of one that answers nothing.
-fn build_silent(alloc: Global, bytes: &[u8], edit: &Edit) -> Result<Patch, Fault>
+fn build_silent(alloc: Global, bytes: &KnownBytes<'_>, edit: &Edit) -> Result<Patch, Fault>
     requires place { IsSome (place_of edit.now) }
     requires array { is_of_bytes edit.now ≡ false }
     requires silent { answers_token edit.now ≡ false }

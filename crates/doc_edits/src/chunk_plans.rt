@@ -11,10 +11,10 @@ ghost use Rattle.doc_edits.specs.Building.{chunk_after, place_of, new_in, IsBuil
 ghost use Rattle.doc_edits.specs.Planning.{Plans, RefusesInMemory};
 
 use crate::building::{build, build_chunk};
-use crate::found::{bytes_in, heap_at};
+use crate::found::{bytes_in, heap_at, known_in};
 use chunk_edits::{Direction, copied};
 use geos_model::{ChunkHandle, Done, Edit, Fault, VmHandle};
-use lmem_heap::Heap;
+use lmem_heap::{Heap, KnownBytes};
 use std::alloc::Global;
 use vm_blocks::{Change, Content, FileBlocks, PartChange};
 use vm_store::Store;
@@ -34,16 +34,16 @@ pub fn plan_in_chunk<S: Store>(
         (RefusesInMemory edit.now blocks.now.document) }
 {
     let heap = heap_at(blocks, handle);
-    let bytes = bytes_in(heap, chunk)?;
-    let (part, done) = build(alloc, heap, chunk, bytes, edit)?;
-    if !has_room(heap, chunk, bytes, &part) {
+    let bytes = known_in(heap, chunk)?;
+    let (part, done) = build(alloc, heap, chunk, &bytes, edit)?;
+    if !has_room(heap, chunk, &bytes, &part) {
         return Err(Fault::Full);
     }
     Ok((Change::Part(handle, part), done))
 }
 
 /// Whether the heap has room for what a change of a part makes of the bytes of a chunk.
-fn has_room(heap: &Heap, chunk: ChunkHandle, bytes: &[u8], part: &PartChange) -> bool
+fn has_room(heap: &Heap, chunk: ChunkHandle, bytes: &KnownBytes<'_>, part: &PartChange) -> bool
     requires live { IsTrue (contains_key heap.now.chunks chunk.0) }
     requires built { IsBuilt part.now bytes.now }
     ensures { result ≡ fits_with heap.now.chunks chunk.0 (chunk_after part.now bytes.now) }
@@ -52,12 +52,14 @@ fn has_room(heap: &Heap, chunk: ChunkHandle, bytes: &[u8], part: &PartChange) ->
 }
 
 /// How many bytes a change of a part leaves of those of its chunk.
-fn size_after(bytes: &[u8], part: &PartChange) -> usize
+fn size_after(bytes: &KnownBytes<'_>, part: &PartChange) -> usize
     requires { IsBuilt part.now bytes.now }
     ensures { result ≡ length (chunk_after part.now bytes.now) }
 {
     match part {
-        PartChange::Chunk(_, splice) => { bytes.len() - splice.old().len() + splice.new().len() }
+        PartChange::Chunk(_, splice) => {
+            bytes.bytes().len() - splice.old().len() + splice.new().len()
+        }
         PartChange::Patch(_, patch) => patch.size_before(Direction::Backwards),
         PartChange::Raw(_) | PartChange::ChunkIn(_, _) | PartChange::ChunkOut(_, _) => {
             unreachable!()

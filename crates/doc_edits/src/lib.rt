@@ -13,8 +13,10 @@ mod found;
 /// has one; then what its body refuses. Memory, File or Damaged may come in place of what follows CacheFull; not where
 /// the block is in memory: then no store is called, and memory is taken for a list alone.
 pub mod look_ups;
+mod marking;
 mod planning;
 mod raw_plans;
 mod room;
 
+pub use marking::mark_edited;
 pub use planning::plan;

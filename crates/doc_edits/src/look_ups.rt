@@ -1,18 +1,20 @@
 //! What is looked up of a document.
-ghost use Rattle.std.specs.Prelude.{◌≡◌, [], false, MatchResult, get_or, length};
+ghost use Rattle.std.specs.Prelude.{◌≡◌, [], true, false, MatchResult, OnOk, get_or, length};
 ghost use Rattle.std.specs.Borrow.{sem};
 ghost use Rattle.geos_model.specs.ArrayEdits.{array_in, on_array, on_element};
 ghost use Rattle.geos_model.specs.Reply.{AreEqual, BytesAre, NumberIs, TokenIs, reply_by, info_is, blocks_are, chunks_are};
 ghost use Rattle.geos_model.specs.declared.command.Command.TheVariants as commands;
 ghost use Rattle.vm_blocks.specs.contracts.file_blocks.FileBlocks.{the_row};
-ghost use Rattle.vm_blocks.specs.Keeping.{KeepsBlocks, IsEnvironmentFault, is_shut_out};
+ghost use Rattle.vm_blocks.specs.Keeping.{KeepsBlocks, IsEnvironmentFault, is_loaded, is_shut_out};
 ghost use Rattle.element_arrays.specs.Answering.{IsAnswered, IsRefused};
 ghost use Rattle.doc_edits.specs.Found.{IsChunkAt};
-ghost use Rattle.doc_edits.specs.LookUps.{FindsInMemory, AfterLoan, RefusesChunk, Sees, SeesAlongChain};
+ghost use Rattle.doc_edits.specs.LookUps.{FindsChunk, FindsInMemory, AfterLoan, RefusesChunk, Sees, SeesAlongChain};
 
-use crate::found::{bytes_in, heap_at, raw_at};
+use crate::found::{bytes_in, heap_at, known_at, raw_at};
+use crate::marking::test_array;
 use crate::room::{test_chain, test_chains};
 use geos_model::{Bytes, ChunkHandle, Fault, Info, Token, VmHandle};
+use lmem_heap::{ArrayKind, KnownBytes};
 use std::alloc::Global;
 use vm_blocks::{BlockBody, FileBlocks};
 use vm_store::Store;
@@ -84,6 +86,21 @@ pub fn read_chunk<S: Store>(
     chunk_at(blocks, block, chunk)
 }
 
+/// Brings the block of a chunk into memory, and tests the chunk to be an array of a kind, unless it is known to be one;
+/// or why each look-up into it is refused.
+fn load_chunk<S: Store>(
+    blocks: &mut FileBlocks<S>,
+    block: VmHandle,
+    chunk: ChunkHandle,
+    kind: ArrayKind,
+) -> Result<(), Fault>
+    ensures found { FindsChunk S.facts blocks.old blocks.new block chunk result }
+    ensures loaded { OnOk result (is_loaded blocks.new block.0 ≡ true) }
+{
+    blocks.load_heap(block)?;
+    test_array(blocks, block, chunk, kind)
+}
+
 /// How many elements the array in a chunk has.
 pub fn array_count<S: Store>(
     blocks: &mut FileBlocks<S>,
@@ -92,12 +109,12 @@ pub fn array_count<S: Store>(
 ) -> Result<usize, Fault>
     ensures { Sees S.facts blocks.old blocks.new (commands.ArrayCount block chunk) (reply_by NumberIs result) }
 {
-    let bytes = chunk_at(blocks, block, chunk)?;
-    count_in(bytes)
+    load_chunk(blocks, block, chunk, ArrayKind::Chunk)?;
+    count_in(&known_at(blocks, block, chunk))
 }
 
 // How many elements the array has that these bytes are. NotArray.
-fn count_in(bytes: &[u8]) -> Result<usize, Fault>
+fn count_in(bytes: &KnownBytes<'_>) -> Result<usize, Fault>
     ensures { MatchResult result (λ n. IsAnswered (on_array bytes.now) (length (array_in bytes.now).elements) n)
         (IsRefused (on_array bytes.now)) }
 {
@@ -117,12 +134,12 @@ pub fn array_element<S: Store>(
         (λ loaded. Sees S.facts blocks.old loaded (commands.ArrayElement block chunk i)
         (reply_by (λ bytes. BytesAre bytes.now) result))) }
 {
-    let bytes = chunk_at(blocks, block, chunk)?;
-    element_in(bytes, i)
+    load_chunk(blocks, block, chunk, ArrayKind::Chunk)?;
+    element_in(&known_at(blocks, block, chunk), i)
 }
 
 // The bytes of an element of the array that these bytes are. NotArray, NoElement.
-fn element_in(bytes: &[u8], i: u32) -> Result<&[u8], Fault>
+fn element_in<'a>(bytes: &KnownBytes<'a>, i: u32) -> Result<&'a [u8], Fault>
     ensures { MatchResult result
         (λ element. IsAnswered (on_element bytes.now i) (get_or (array_in bytes.now).elements i []) element.now)
         (IsRefused (on_element bytes.now i)) }
@@ -145,8 +162,8 @@ pub fn element_refs<S: Store>(
     ensures { Sees S.facts blocks.old blocks.new (commands.ElementReferences block chunk token)
         (reply_by NumberIs result) }
 {
-    let bytes = chunk_at(blocks, block, chunk)?;
-    element_arrays::count_of(bytes, token)
+    load_chunk(blocks, block, chunk, ArrayKind::Element)?;
+    element_arrays::count_of(&known_at(blocks, block, chunk), token)
 }
 
 /// The bytes of an element of the element array in a chunk.
@@ -161,8 +178,8 @@ pub fn element_bytes<S: Store>(
         (λ loaded. Sees S.facts blocks.old loaded (commands.ElementBytes block chunk token)
         (reply_by (λ bytes. BytesAre bytes.now) result))) }
 {
-    let bytes = chunk_at(blocks, block, chunk)?;
-    element_arrays::data_of(bytes, token)
+    load_chunk(blocks, block, chunk, ArrayKind::Element)?;
+    element_arrays::data_of(&known_at(blocks, block, chunk), token)
 }
 
 /// How many elements of the element array in a chunk are used.
@@ -173,8 +190,8 @@ pub fn elements_used<S: Store>(
 ) -> Result<usize, Fault>
     ensures { Sees S.facts blocks.old blocks.new (commands.ElementsUsed block chunk) (reply_by NumberIs result) }
 {
-    let bytes = chunk_at(blocks, block, chunk)?;
-    element_arrays::used_count(bytes)
+    load_chunk(blocks, block, chunk, ArrayKind::Element)?;
+    element_arrays::used_count(&known_at(blocks, block, chunk))
 }
 
 /// The token of the used element that has this number, from 0 on, in the element array in a chunk.
@@ -187,8 +204,8 @@ pub fn token_of_used<S: Store>(
     ensures { Sees S.facts blocks.old blocks.new (commands.TokenOfUsed block chunk k)
         (reply_by (λ token. TokenIs token.0) result) }
 {
-    let bytes = chunk_at(blocks, block, chunk)?;
-    element_arrays::token_of_used(bytes, k)
+    load_chunk(blocks, block, chunk, ArrayKind::Element)?;
+    element_arrays::token_of_used(&known_at(blocks, block, chunk), k)
 }
 
 /// How many used tokens of the element array in a chunk are lower than this one.
@@ -200,8 +217,8 @@ pub fn used_of_token<S: Store>(
 ) -> Result<usize, Fault>
     ensures { Sees S.facts blocks.old blocks.new (commands.UsedOfToken block chunk token) (reply_by NumberIs result) }
 {
-    let bytes = chunk_at(blocks, block, chunk)?;
-    element_arrays::used_of_token(bytes, token)
+    load_chunk(blocks, block, chunk, ArrayKind::Element)?;
+    element_arrays::used_of_token(&known_at(blocks, block, chunk), token)
 }
 
 /// The token of a name in the name array in a chunk, the lowest that has it.
@@ -214,8 +231,8 @@ pub fn name_find<S: Store>(
     ensures { Sees S.facts blocks.old blocks.new (commands.NameFind block chunk name.now)
         (reply_by (λ token. TokenIs token.0) result) }
 {
-    let bytes = chunk_at(blocks, block, chunk)?;
-    name_arrays::find(bytes, name.as_slice())
+    load_chunk(blocks, block, chunk, ArrayKind::Name)?;
+    name_arrays::find(&known_at(blocks, block, chunk), name.as_slice())
 }
 
 /// How many references a name of the name array in a chunk has.
@@ -228,8 +245,8 @@ pub fn name_refs<S: Store>(
     ensures { Sees S.facts blocks.old blocks.new (commands.NameReferences block chunk token)
         (reply_by NumberIs result) }
 {
-    let bytes = chunk_at(blocks, block, chunk)?;
-    name_arrays::count_of(bytes, token)
+    load_chunk(blocks, block, chunk, ArrayKind::Name)?;
+    name_arrays::count_of(&known_at(blocks, block, chunk), token)
 }
 
 /// The name of a token of the name array in a chunk.
@@ -244,8 +261,8 @@ pub fn name_text<S: Store>(
         (λ loaded. Sees S.facts blocks.old loaded (commands.NameText block chunk token)
         (reply_by (λ bytes. BytesAre bytes.now) result))) }
 {
-    let bytes = chunk_at(blocks, block, chunk)?;
-    name_arrays::name_of(bytes, token)
+    load_chunk(blocks, block, chunk, ArrayKind::Name)?;
+    name_arrays::name_of(&known_at(blocks, block, chunk), token)
 }
 
 /// What stands before the name of a token of the name array in a chunk.
@@ -260,8 +277,8 @@ pub fn name_part<S: Store>(
         (λ loaded. Sees S.facts blocks.old loaded (commands.NamePart block chunk token)
         (reply_by (λ bytes. BytesAre bytes.now) result))) }
 {
-    let bytes = chunk_at(blocks, block, chunk)?;
-    name_arrays::data_of(bytes, token)
+    load_chunk(blocks, block, chunk, ArrayKind::Name)?;
+    name_arrays::data_of(&known_at(blocks, block, chunk), token)
 }
 
 /// The blocks of a chain, each before those that it links to, branches in order.

@@ -20,6 +20,7 @@ use crate::block_plans::{
 };
 use crate::chain_plans::{plan_copy_chain, plan_free_chain};
 use crate::chunk_plans::{plan_free_chunk, plan_in_chunk, plan_new_chunk};
+use crate::marking::test_edited;
 use crate::raw_plans::{plan_attach, plan_write_raw};
 use geos_model::{Done, Edit, Fault, Scope, VmHandle};
 use std::alloc::Global;
@@ -96,6 +97,7 @@ fn plan_of_block<S: Store>(
         × IfErr result (RefusesInMemory edit.now blocks.old.document) }
 {
     load_scope(blocks, edit)?;
+    test_edited(blocks, edit);
     plan_loaded(alloc, blocks, edit)
 }
 

@@ -13,7 +13,7 @@ use Rattle.geos_model.specs.declared.command.Body.TheVariants.{Raw, Heap}
 use Rattle.document_stat.specs.Arrays.{is_kind, kind_of}
 use Rattle.document_stat.specs.Counted.{AddsArray, AddsBlocks, AddsChunks, Blocks, Chunks, IsCount, all_array_items, all_chunk_items, array_item, array_items, block_item, chunk_items, heap_items, if_so, raw_items, tally_of, typed_items}
 use Rattle.document_stat.specs.Tallies.{Adds, AddsIfAny}
-use Rattle.document_stat.specs.declared.arrays.ArrayKind.{ArrayKind}
+use Rattle.lmem_heap.specs.declared.known.ArrayKind.{ArrayKind}
 use Rattle.document_stat.specs.declared.blocks.BlockStat.{BlockStat}
 use Rattle.document_stat.specs.declared.chunks.ArrayStat.{ArrayStat}
 use Rattle.document_stat.specs.declared.chunks.ChunkStat.{ChunkStat}

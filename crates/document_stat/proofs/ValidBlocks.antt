@@ -21,7 +21,7 @@ use Rattle.geos_model.proofs.Files.{body_of-some, entry-low, is_entry-parts}
 use Rattle.document_stat.specs.Arrays.{is_kind, kind_of}
 use Rattle.document_stat.specs.Counted.{Blocks, IsBlockStat, IsCount, all_array_items, all_chunk_items, array_item, array_items, block_item, chunk_item, chunk_items, chunks_of_block, heap_items, raw_items, typed_items}
 use Rattle.document_stat.specs.Tallies.{most_items}
-use Rattle.document_stat.specs.declared.arrays.ArrayKind.{ArrayKind}
+use Rattle.lmem_heap.specs.declared.known.ArrayKind.{ArrayKind}
 use Rattle.document_stat.specs.declared.blocks.BlockStat.{BlockStat}
 use Rattle.document_stat.specs.declared.tally.Item.{Item}
 use Rattle.document_stat.proofs.HeapChunks.{entries-empty, few_entries}

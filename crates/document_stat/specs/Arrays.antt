@@ -4,8 +4,8 @@ use Rattle.std.specs.Option.{option_map_or}
 use Rattle.geos_model.specs.Array.{array_of}
 use Rattle.geos_model.specs.ElementArray.{element_array_of}
 use Rattle.geos_model.specs.NameArray.{name_array_of}
-use Rattle.document_stat.specs.declared.arrays.ArrayKind.{ArrayKind}
-use Rattle.document_stat.specs.declared.arrays.ArrayKind.TheVariants as kinds
+use Rattle.lmem_heap.specs.declared.known.ArrayKind.{ArrayKind}
+use Rattle.lmem_heap.specs.declared.known.ArrayKind.TheVariants as kinds
 
 -- every element array and every name array is a chunk array too, and none is both
 abbrev pub kind_of : List ℕ → Option ArrayKind

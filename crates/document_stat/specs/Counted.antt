@@ -10,8 +10,8 @@ use Rattle.geos_model.specs.declared.command.Body.{Body}
 use Rattle.geos_model.specs.declared.command.Body.TheVariants.{Raw, Heap}
 use Rattle.document_stat.specs.Arrays.{elements_of, is_kind, kind_of}
 use Rattle.document_stat.specs.Tallies.{Adds, AddsIfAny, IsTally, IsTallyIfAny}
-use Rattle.document_stat.specs.declared.arrays.ArrayKind.{ArrayKind}
-use Rattle.document_stat.specs.declared.arrays.ArrayKind.TheVariants as kinds
+use Rattle.lmem_heap.specs.declared.known.ArrayKind.{ArrayKind}
+use Rattle.lmem_heap.specs.declared.known.ArrayKind.TheVariants as kinds
 use Rattle.document_stat.specs.declared.blocks.BlockStat.{BlockStat}
 use Rattle.document_stat.specs.declared.chunks.ArrayStat.{ArrayStat}
 use Rattle.document_stat.specs.declared.chunks.ChunkStat.{ChunkStat}

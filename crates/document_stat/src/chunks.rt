@@ -5,12 +5,12 @@ ghost use Rattle.geos_model.specs.Heap.{handle_of, is_heap_map, most_chunks, tab
 ghost use Rattle.document_stat.specs.Arrays.{elements_of, kind_of};
 ghost use Rattle.document_stat.specs.Counted.{AddsArray, AddsChunks, chunks_under, tally_of};
 ghost use Rattle.document_stat.specs.Tallies.{IsTally};
-ghost use Rattle.document_stat.specs.declared.arrays.ArrayKind.{ArrayKind};
+ghost use Rattle.lmem_heap.specs.declared.known.ArrayKind.{ArrayKind};
 
-use crate::arrays::{ArrayKind, read_array};
+use crate::arrays::read_array;
 use crate::tally::{Item, Subject, Tally};
 use geos_model::{ChunkHandle, VmHandle};
-use lmem_heap::Heap;
+use lmem_heap::{ArrayKind, Heap};
 
 /// The chunks that read as arrays, by what they read as. An array's size is the number of its elements, free ones too.
 #[derive(Clone, Copy)]

@@ -10,7 +10,7 @@ mod file_stat;
 mod pages;
 mod tally;
 
-pub use arrays::{ArrayKind, read_array};
+pub use arrays::read_array;
 pub use blocks::BlockStat;
 pub use chunks::{ArrayStat, ChunkStat};
 pub use counting::{CountingSlot, read_counting_slot};

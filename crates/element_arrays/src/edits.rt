@@ -13,6 +13,7 @@ use crate::reading::{read, used_at};
 use chunk_arrays::{GREATEST_SIZE, empty_bytes, is_missized};
 use chunk_edits::Patch;
 use geos_model::{Fault, Token};
+use lmem_heap::KnownBytes;
 use std::alloc::Global;
 
 /// How many references an element or a name has at most.
@@ -39,7 +40,7 @@ pub fn create_bytes(alloc: Global, size: u32) -> Result<Vec<u8>, Fault>
 /// The patch that gives an equal element, the lowest of these, one more reference, or else brings a new one, and its
 /// token. NotArray; CountFull where the equal one has as many as any can have; Range where the array has elements of
 /// another size; Full where the array would be longer than any chunk.
-pub fn add(alloc: Global, bytes: &[u8], element: &[u8]) -> Result<(Patch, Token), Fault>
+pub fn add(alloc: Global, bytes: &KnownBytes<'_>, element: &[u8]) -> Result<(Patch, Token), Fault>
     ensures { MatchResult result
         (λ made. Replaces (add_conditions bytes.now element.now) bytes.now
         (element_added bytes.now element.now) made.0 ×
@@ -63,7 +64,7 @@ pub fn add(alloc: Global, bytes: &[u8], element: &[u8]) -> Result<(Patch, Token)
 
 /// The patch that gives an element one more reference. NotArray, NoElement; CountFull where it has as many as any can
 /// have; Full where the array is longer than any chunk.
-pub fn add_ref(alloc: Global, bytes: &[u8], token: Token) -> Result<Patch, Fault>
+pub fn add_ref(alloc: Global, bytes: &KnownBytes<'_>, token: Token) -> Result<Patch, Fault>
     ensures { MatchResult result
         (Replaces (add_reference_conditions bytes.now token.0) bytes.now (reference_added bytes.now token.0))
         (RefusesToReplace (add_reference_conditions bytes.now token.0) (reference_added bytes.now token.0)) }
@@ -74,7 +75,7 @@ pub fn add_ref(alloc: Global, bytes: &[u8], token: Token) -> Result<Patch, Fault
 
 /// The patch that takes a reference of an element, which is freed with the last one. NotArray, NoElement; Full where
 /// the array is longer than any chunk.
-pub fn remove_ref(alloc: Global, bytes: &[u8], token: Token) -> Result<Patch, Fault>
+pub fn remove_ref(alloc: Global, bytes: &KnownBytes<'_>, token: Token) -> Result<Patch, Fault>
     ensures { MatchResult result
         (Replaces (on_token bytes.now token.0) bytes.now (reference_removed bytes.now token.0))
         (RefusesToReplace (on_token bytes.now token.0) (reference_removed bytes.now token.0)) }
@@ -90,7 +91,7 @@ pub fn remove_ref(alloc: Global, bytes: &[u8], token: Token) -> Result<Patch, Fa
 
 /// The patch that frees an element, whatever its references. NotArray, NoElement; Full where the array is longer than
 /// any chunk.
-pub fn delete(alloc: Global, bytes: &[u8], token: Token) -> Result<Patch, Fault>
+pub fn delete(alloc: Global, bytes: &KnownBytes<'_>, token: Token) -> Result<Patch, Fault>
     ensures { MatchResult result
         (Replaces (on_token bytes.now token.0) bytes.now (element_deleted bytes.now token.0))
         (RefusesToReplace (on_token bytes.now token.0) (element_deleted bytes.now token.0)) }
@@ -102,7 +103,12 @@ pub fn delete(alloc: Global, bytes: &[u8], token: Token) -> Result<Patch, Fault>
 
 /// The patch that gives an element other bytes; its references stay, and others may have the same bytes. NotArray,
 /// NoElement; Range where the array has elements of another size; Full where the array would be longer than any chunk.
-pub fn change(alloc: Global, bytes: &[u8], token: Token, element: &[u8]) -> Result<Patch, Fault>
+pub fn change(
+    alloc: Global,
+    bytes: &KnownBytes<'_>,
+    token: Token,
+    element: &[u8],
+) -> Result<Patch, Fault>
     ensures { MatchResult result
         (Replaces (change_conditions bytes.now token.0 element.now) bytes.now
         (element_changed bytes.now token.0 element.now))

@@ -8,9 +8,10 @@ ghost use Rattle.element_arrays.specs.Used.{used_element};
 use crate::reading::{read, used_at};
 use crate::{SlotView, Used};
 use geos_model::{Fault, Token};
+use lmem_heap::KnownBytes;
 
 /// How many references an element has. NotArray, NoElement.
-pub fn count_of(bytes: &[u8], token: Token) -> Result<u32, Fault>
+pub fn count_of(bytes: &KnownBytes<'_>, token: Token) -> Result<u32, Fault>
     ensures { MatchResult result
         (λ n. IsAnswered (on_token bytes.now token.0) (count_at (elements_in bytes.now) token.0) n)
         (IsRefused (on_token bytes.now token.0)) }
@@ -19,7 +20,7 @@ pub fn count_of(bytes: &[u8], token: Token) -> Result<u32, Fault>
 }
 
 /// The bytes of an element. NotArray, NoElement.
-pub fn data_of(bytes: &[u8], token: Token) -> Result<&[u8], Fault>
+pub fn data_of<'a>(bytes: &KnownBytes<'a>, token: Token) -> Result<&'a [u8], Fault>
     ensures { MatchResult result
         (λ element. IsAnswered (on_token bytes.now token.0) (bytes_at (elements_in bytes.now) token.0) element.now)
         (IsRefused (on_token bytes.now token.0)) }
@@ -28,7 +29,7 @@ pub fn data_of(bytes: &[u8], token: Token) -> Result<&[u8], Fault>
 }
 
 /// The element of a token. NotArray, NoElement.
-fn element_of(bytes: &[u8], token: Token) -> Result<Used<'_>, Fault>
+fn element_of<'a>(bytes: &KnownBytes<'a>, token: Token) -> Result<Used<'a>, Fault>
     ensures { MatchResult result
         (λ used. IsAnswered (on_token bytes.now token.0) (element_at (elements_in bytes.now) token.0)
         (Some (used_element used)))
@@ -39,7 +40,7 @@ fn element_of(bytes: &[u8], token: Token) -> Result<Used<'_>, Fault>
 }
 
 /// How many elements are used. NotArray.
-pub fn used_count(bytes: &[u8]) -> Result<usize, Fault>
+pub fn used_count(bytes: &KnownBytes<'_>) -> Result<usize, Fault>
     ensures { MatchResult result
         (λ n. IsAnswered (on_elements bytes.now) (used_in (elements_in bytes.now)) n)
         (IsRefused (on_elements bytes.now)) }
@@ -49,7 +50,7 @@ pub fn used_count(bytes: &[u8]) -> Result<usize, Fault>
 }
 
 /// The token of the used element that has this number, from 0 on. NotArray, NoElement.
-pub fn token_of_used(bytes: &[u8], k: u32) -> Result<Token, Fault>
+pub fn token_of_used(bytes: &KnownBytes<'_>, k: u32) -> Result<Token, Fault>
     ensures { MatchResult result
         (λ token. IsAnswered (on_used bytes.now k) (get_or (used_from 0 (elements_in bytes.now).slots) k 0) token.0)
         (IsRefused (on_used bytes.now k)) }
@@ -69,7 +70,7 @@ pub fn token_of_used(bytes: &[u8], k: u32) -> Result<Token, Fault>
 }
 
 /// How many used tokens are lower than this one. NotArray, NoElement.
-pub fn used_of_token(bytes: &[u8], token: Token) -> Result<usize, Fault>
+pub fn used_of_token(bytes: &KnownBytes<'_>, token: Token) -> Result<usize, Fault>
     ensures { MatchResult result
         (λ n. IsAnswered (on_token bytes.now token.0) (used_below (elements_in bytes.now) token.0) n)
         (IsRefused (on_token bytes.now token.0)) }

@@ -1,5 +1,5 @@
 //! The slots of an element array or a name array, read where they lie.
-ghost use Rattle.std.specs.Prelude.{◌≡◌, ◌==◌, ◌&&◌, ◌≤◌, ◌<◌, ◌+◌, ◌^◌, ℕ, nat_le, None, Some, [], true, false, MatchOption, MatchResult, count_by, length, drop, get_or};
+ghost use Rattle.std.specs.Prelude.{◌≡◌, ◌==◌, ◌&&◌, ◌≤◌, ◌<◌, ◌+◌, ◌^◌, ℕ, nat_le, None, Some, [], true, false, is_some, MatchOption, MatchResult, count_by, length, drop, get_or};
 ghost use Rattle.std.specs.List.{list_all};
 ghost use Rattle.std.specs.Option.{option_map};
 ghost use Rattle.geos_model.specs.Bytes.{same_bytes};
@@ -47,6 +47,17 @@ impl<'a> Model for SlotView<'a> {
     ghost view = { λ v. record { more = drop 2 v.view.array.extra; slots = slots_read v.view.array; sound = v.sound } };
 
     ghost invariant = { λ v. slots_array (drop 2 v.view.array.extra) (slots_read v.view.array) ≡ v.view.array };
+}
+
+/// The slots of an array that is known to be one of slots, with so many extra bytes, at least two. It takes no time for
+/// the elements.
+pub fn known_slots<'a>(view: View<'a>, extra: usize) -> SlotView<'a>
+    requires enough { 2 ≤ extra }
+    requires known { is_some (slots_of extra view.array) ≡ true }
+    ensures { (slots_of extra view.entry.array ≡ Some result.slots) × (slotted_array result ≡ view.entry.array) ×
+        (length result.more + 2 ≡ extra) }
+{
+    SlotView { view }
 }
 
 /// The slots of an array that has so many extra bytes, at least two. NotArray where it is none of slots. It takes time

@@ -91,6 +91,42 @@ pub great_part : (a : Array) → 64 < word_at a.extra 2 → names_of a ≡ None
 unfolding is_sound_names
 great_part a great = by_slots a (λ read. and_left _ _ (and_right (is_sound (slots_read a) && (slots_read a).size == 0) (nat_le (word_at a.extra 2) 64) (lt-leb (word_at a.extra 2) 64 great)))
 
+-- what is known of the array of names, and of the size of their parts
+pub known_slots : (a : Array) → is_some (names_of a) ≡ true → (slots_of 4 a ≡ Some (slots_read a)) × (is_sound_names (names_read a (slots_read a)) ≡ true)
+known_slots a is = elim (cases_Bool (is_some (slots_of 4 a))) [
+  | inl some ↦
+      (let read = slots_read-is 4 a some in
+      elim (cases_Bool (is_sound_names (names_read a (slots_read a)))) [
+        | inl sound ↦ (read, sound)
+        | inr other ↦ absurd (true≢false (sym is ∙ ap is_some (other_slots a read other)))
+      ])
+  | inr none ↦ absurd (true≢false (sym is ∙ ap is_some (no_slots a (slots_none 4 a none))))
+]
+
+pub known_sound : (a : Array) (s : Slotted) (part : ℕ) → slots_of 4 a ≡ Some s.slots → part ≡ word_at a.extra 2 → is_some (names_of a) ≡ true → is_sound_names (named_array s part) ≡ true
+known_sound a s part slots read is =
+    let known = known_slots a is in
+    let some : Some (slots_read a) ≡ Some s.slots = sym known.0 ∙ slots in
+    let same : s.slots ≡ slots_read a = cc in
+    let names : named_array s part ≡ names_read a (slots_read a) = ap (λ (p : ℕ). named_array s p) read ∙ ap (names_read a) same in
+    ap is_sound_names names ∙ known.1
+
+pub known_names : (bytes : List ℕ) (a : Array) → array_of bytes ≡ Some a → is_some (name_array_of bytes) ≡ true → is_some (names_of a) ≡ true
+unfolding name_array_of
+known_names bytes a of is = ap (λ o. is_some (option_and_then names_of o)) (sym of) ∙ is
+
+pub small_part : (names : NameArray) → is_sound_names names ≡ true → names.part ≤ 64
+unfolding is_sound_names
+small_part names sound =
+    let sized : Bool = is_sound names.names && names.names.size == 0 in
+    let parts = and_parts (sized && nat_le names.part 64) (list_all (is_named names.part) names.names.slots) sound in
+    leb-true names.part 64 (and_parts sized (nat_le names.part 64) parts.0).1
+
+pub more_of : (a : Array) (s : Slotted) (part : ℕ) → slotted_array s ≡ a → part ≡ word_at a.extra 2 → part ≤ 64 → length s.more + 2 ≡ 4 → s.more ≡ word part
+more_of a s part array read small long =
+    let number : part ≡ little_number 2 s.more = read ∙ ap (λ (b : Array). word_at b.extra 2) (sym array) ∙ part_is s in
+    sym (word-small s.more (omega (arith, long)) (omega (arith, number, small))) ∙ ap word (sym number)
+
 pub not_within : (a : Array) → are_slots_within 4 (word_at a.extra 2 + 1) (word_at a.extra 2 + 256) a ≡ false → names_of a ≡ None
 unfolding is_sound_names
 not_within a refused = by_slots a (λ read. elim (and_cases (is_some (slots_of 4 a)) (list_all (has_length (word_at a.extra 2 + 1) (word_at a.extra 2 + 256)) (slots_read a).slots) refused) [
@@ -119,22 +155,23 @@ module _ (bytes : List ℕ) (a : Array) (s : Slotted) (part : ℕ) (is : array_o
       let other : is_sound_names (names_read a s.slots) ≡ false = and_left _ _ (and_left _ _ (and_right (is_sound s.slots) (s.slots.size == 0) (ne_eqb s.slots.size 0 sized))) in
       comes_to ∙ cond-false _ _ _ other
 
+  pub sound_read : is_sound_names (named_array s part) ≡ true → IsRead bytes s part
+  unfolding slotted_bytes
+  sound_read sound = record {
+    is = comes_to ∙ cond-true _ _ _ (ap is_sound_names names_is ∙ sound) ∙ ap Some names_is;
+    same = ap array_bytes array ∙ (array_bytes-of bytes a is).1;
+  }
+
   module _ (small : part ≤ 64) (any : s.slots.size ≡ 0) (named : list_all (has_length (part + 1) (part + 256)) s.slots.slots ≡ true) where
     pub is_sound_read : is_sound_names (named_array s part) ≡ true
     unfolding is_sound_names
     is_sound_read = and_from _ _ (and_from _ _ (and_from _ _ s.sound (eq-eqb s.slots.size 0 any)) (le-leb part 64 small)) (sym (all_named part s.slots.slots) ∙ named)
 
     pub more_is : length s.more + 2 ≡ 4 → s.more ≡ word part
-    more_is long =
-        let number : part ≡ little_number 2 s.more = read ∙ ap (λ (b : Array). word_at b.extra 2) (sym array) ∙ part_is s in
-        sym (word-small s.more (omega (arith, long)) (omega (arith, number, small))) ∙ ap word (sym number)
+    more_is = more_of a s part array read small
 
     pub is_read : IsRead bytes s part
-    unfolding slotted_bytes
-    is_read = record {
-      is = comes_to ∙ cond-true _ _ _ (ap is_sound_names names_is ∙ is_sound_read) ∙ ap Some names_is;
-      same = ap array_bytes array ∙ (array_bytes-of bytes a is).1;
-    }
+    is_read = sound_read is_sound_read
 
 -- ---- what refusals and new bytes come to where a chunk's bytes are read as a name array
 

@@ -15,6 +15,7 @@ use chunk_arrays::empty_bytes;
 use chunk_edits::Patch;
 use element_arrays::GREATEST_COUNT;
 use geos_model::{Fault, Token};
+use lmem_heap::KnownBytes;
 use std::alloc::Global;
 
 /// The bytes of a name array without names: how many bytes the part before each name has. Range past 64.
@@ -37,7 +38,7 @@ pub fn create_bytes(alloc: Global, part: u32) -> Result<Vec<u8>, Fault>
 /// array would be longer than any chunk.
 pub fn add(
     alloc: Global,
-    bytes: &[u8],
+    bytes: &KnownBytes<'_>,
     name: &[u8],
     part: &[u8],
     replace: bool,
@@ -67,7 +68,12 @@ pub fn add(
 /// The patch that gives a token another name; its part and references stay. NotArray, NoElement; NameInUse where
 /// another token has the name, and this one hasn't; Range where the name has no byte or more than 256; Full where the
 /// array would be longer than any chunk.
-pub fn change_name(alloc: Global, bytes: &[u8], token: Token, name: &[u8]) -> Result<Patch, Fault>
+pub fn change_name(
+    alloc: Global,
+    bytes: &KnownBytes<'_>,
+    token: Token,
+    name: &[u8],
+) -> Result<Patch, Fault>
     ensures { MatchResult result
         (Replaces (change_name_conditions bytes.now token.0 name.now) bytes.now
         (name_changed bytes.now token.0 name.now))
@@ -89,7 +95,7 @@ pub fn change_name(alloc: Global, bytes: &[u8], token: Token, name: &[u8]) -> Re
 
 /// The patch that takes a reference of a name, which is freed with the last one. NotArray, NoElement; Full where the
 /// array is longer than any chunk.
-pub fn remove_ref(alloc: Global, bytes: &[u8], token: Token) -> Result<Patch, Fault>
+pub fn remove_ref(alloc: Global, bytes: &KnownBytes<'_>, token: Token) -> Result<Patch, Fault>
     ensures { MatchResult result
         (Replaces (on_name_token bytes.now token.0) bytes.now (name_reference_removed bytes.now token.0))
         (RefusesToReplace (on_name_token bytes.now token.0) (name_reference_removed bytes.now token.0)) }

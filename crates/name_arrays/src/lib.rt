@@ -7,3 +7,4 @@ mod names;
 
 pub use edits::{add, change_name, create_bytes, remove_ref};
 pub use look_ups::{count_of, data_of, find, name_of};
+pub use names::is_name_array;

@@ -1,16 +1,19 @@
 //! The names of an array, read where they lie.
-ghost use Rattle.std.specs.Prelude.{◌≡◌, ◌≤◌, None, Some, true, MatchOption, MatchResult};
+ghost use Rattle.std.specs.Prelude.{◌≡◌, ◌≤◌, None, Some, true, is_some, MatchOption, MatchResult, length};
 ghost use Rattle.std.specs.Option.{option_map};
 ghost use Rattle.geos_model.specs.Words.{word, word_at};
-ghost use Rattle.geos_model.specs.ElementArray.{element_at};
+ghost use Rattle.lmem_heap.specs.Known.{is_array_of};
+ghost use Rattle.geos_model.specs.ElementArray.{element_at, slots_of};
 ghost use Rattle.geos_model.specs.NameArray.{name_array_of, names_of, is_name, is_sound_names};
 ghost use Rattle.geos_model.specs.NameEdits.{token_of_text};
+ghost use Rattle.element_arrays.specs.Slotted.{slotted_array};
 ghost use Rattle.name_arrays.specs.Reading.{named_array, IsRead};
 
 use byteorder::{ByteOrder, LittleEndian};
 use chunk_arrays::{View, check};
-use element_arrays::{SlotView, slots_within};
+use element_arrays::{SlotView, known_slots, slots_within};
 use geos_model::{Fault, Token};
+use lmem_heap::{ArrayKind, KnownBytes};
 
 /// How many bytes a part has at most.
 pub(crate) const GREATEST_PART: usize = 64;
@@ -38,14 +41,17 @@ pub(crate) struct Name<'a> {
     pub text: &'a [u8],
 }
 
-/// The name array that these bytes are. NotArray where they are none. It takes time in proportion to the bytes, and no
-/// memory.
-pub(crate) fn read(bytes: &[u8]) -> Result<Names<'_>, Fault>
+/// The name array that these bytes are. NotArray where they are none. It takes time in proportion to the bytes, but
+/// none where they are known to be such an array, and no memory.
+pub(crate) fn read<'a>(bytes: &KnownBytes<'a>) -> Result<Names<'a>, Fault>
     ensures { MatchResult result
         (λ names. IsRead bytes.now names.slots names.part)
         (λ fault. (fault ≡ Fault.NotArray) × (name_array_of bytes.now ≡ None)) }
 {
     let view = check(bytes)?;
+    if bytes.is_known(ArrayKind::Name) {
+        return Ok(known_names(view));
+    }
     let Some(part) = part_size(&view) else {
         return Err(Fault::NotArray);
     };
@@ -55,6 +61,34 @@ pub(crate) fn read(bytes: &[u8]) -> Result<Names<'_>, Fault>
         return Err(Fault::NotArray);
     }
     Ok(Names { slots, part })
+}
+
+/// The name array that an array is known to be.
+fn known_names<'a>(view: View<'a>) -> Names<'a>
+    requires { is_some (names_of view.array) ≡ true }
+    ensures slots { slots_of 4 view.entry.array ≡ Some result.slots.slots }
+    ensures array { slotted_array result.slots ≡ view.entry.array }
+    ensures part { result.part ≡ word_at view.entry.array.extra 2 }
+    ensures sound { is_sound_names (named_array result.slots result.part) ≡ true }
+{
+    let part = part_in(view.extra());
+    let slots = known_slots(view, EXTRA);
+    Names { slots, part }
+}
+
+/// How many bytes the part before each name has, by the extra bytes of a name array.
+fn part_in(extra: &[u8]) -> usize
+    requires { length extra.now ≡ 4 }
+    ensures { result ≡ word_at extra.now 2 }
+{
+    usize::from(LittleEndian::read_u16(&extra[2..]))
+}
+
+/// Whether bytes are a name array.
+pub fn is_name_array(bytes: &KnownBytes<'_>) -> bool
+    ensures { result ≡ is_array_of ArrayKind.Name bytes.now }
+{
+    read(bytes).is_ok()
 }
 
 /// How many bytes the part before each name has, if the array has the extra bytes of a name array.
@@ -67,7 +101,7 @@ fn part_size(view: &View<'_>) -> Option<usize>
     if extra.len() != EXTRA {
         return None;
     }
-    let part = usize::from(LittleEndian::read_u16(&extra[2..]));
+    let part = part_in(extra);
     if part <= GREATEST_PART {
         Some(part)
     } else {

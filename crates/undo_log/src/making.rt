@@ -12,7 +12,7 @@ ghost use Rattle.doc_edits.specs.Room.{has_no_room, ReadsNothing};
 ghost use Rattle.undo_log.specs.Locking.{bars};
 ghost use Rattle.undo_log.specs.Making.{IsEditApplied};
 
-use doc_edits::plan;
+use doc_edits::{mark_edited, plan};
 use geos_model::{Done, Edit, Fault};
 use std::alloc::Global;
 use vm_blocks::{Change, Direction, FileBlocks};
@@ -65,5 +65,6 @@ pub fn make<S: Store>(
     let (change, done) = plan(alloc, blocks, edit)?;
     blocks.validity();
     blocks.change(&change, Direction::Forwards)?;
+    mark_edited(blocks, edit);
     Ok((change, done))
 }

@@ -1,13 +1,14 @@
 use Rattle.std.proofs.Common.{refl}
 use Rattle.geos_model.specs.ElementEdits.{count_at}
 use Rattle.geos_model.specs.NameEdits.{names_in, on_name_token}
+use Rattle.geos_model.specs.Meaning.{chunk_at}
 use Rattle.geos_model.specs.Reply.{NumberIs}
 use Rattle.geos_model.specs.declared.command.Command.TheVariants as commands
-use Rattle.doc_edits.proofs.LookUps.{chunk_missed, own_seen}
+use Rattle.doc_edits.proofs.LookUps.{chunk_missed, own_seen_at}
 use Rattle.doc_edits.proofs.look_ups.name_refs.Goals as goal
 
-pub returns-in_err-bytes : goal.returns-in_err-bytes
-returns-in_err-bytes g c = chunk_missed g.S.Store.facts c.args.blocks.now c.chunk_at.follows.lender-at-none c.args.block c.args.chunk (λ bytes. bytes.now) c.chunk_at.result c.chunk_at.follows.holds-at-none.0 c.chunk_at.follows.holds-at-none.1 c.chunk_at.follows.holds-at-none.2 (commands.NameReferences c.args.block c.args.chunk c.args.token) refl refl _ c.from_residual.result _ c.in_err-bytes.was c.from_residual.ensures.1
+pub returns-in_err-load_chunk : goal.returns-in_err-load_chunk
+returns-in_err-load_chunk g c = chunk_missed g.S.Store.facts c.args.blocks.now c.load_chunk.new.blocks c.args.block c.args.chunk (λ _. chunk_at c.load_chunk.new.blocks.document c.args.block.0 c.args.chunk.0) c.load_chunk.result c.load_chunk.ensures.found.keeps c.load_chunk.ensures.found.found c.load_chunk.ensures.found.in_memory (commands.NameReferences c.args.block c.args.chunk c.args.token) refl refl _ c.from_residual.result _ c.in_err-load_chunk.was c.from_residual.ensures.1
 
 pub returns : goal.returns
-returns g c = own_seen g.S.Store.facts c.args.blocks.now c.chunk_at.follows.lender-at-none c.args.block c.args.chunk (λ bytes. bytes.now) c.chunk_at.result c.chunk_at.follows.holds-at-none.0 c.chunk_at.follows.holds-at-none.1 c.chunk_at.follows.holds-at-none.2 (commands.NameReferences c.args.block c.args.chunk c.args.token) refl refl c.in_ok-bytes.bytes c.in_ok-bytes.was (λ y. on_name_token y c.args.token.0) (λ y. count_at (names_in y).names c.args.token.0) NumberIs c.count_of.result (λ n. n) refl refl c.count_of.ensures
+returns g c = own_seen_at g.S.Store.facts c.args.blocks.now c.load_chunk.new.blocks c.args.block c.args.chunk (λ _. chunk_at c.load_chunk.new.blocks.document c.args.block.0 c.args.chunk.0) c.load_chunk.result c.load_chunk.ensures.found.keeps c.load_chunk.ensures.found.found c.load_chunk.ensures.found.in_memory (commands.NameReferences c.args.block c.args.chunk c.args.token) refl refl tt c.in_ok-load_chunk.was c.known_at.result c.known_at.ensures (λ y. on_name_token y c.args.token.0) (λ y. count_at (names_in y).names c.args.token.0) NumberIs c.count_of.result (λ n. n) refl refl c.count_of.ensures

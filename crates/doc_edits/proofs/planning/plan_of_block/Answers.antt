@@ -1,9 +1,12 @@
-use Rattle.std.proofs.Common.{◌≡◌, true, false, IfErr, inr, sym, ◌∙◌, subst}
+use Rattle.std.proofs.Common.{◌≡◌, true, false, IfErr, inr, sym, ap, ◌∙◌, subst}
 use Rattle.std.proofs.lemmas.Bool.{true≢false}
 use Rattle.geos_model.specs.Document.{Document}
 use Rattle.geos_model.specs.Machine.{edit_needs}
-use Rattle.vm_blocks.specs.Keeping.{IsEnvironmentFault}
+use Rattle.geos_model.specs.Scope.{scope_of}
+use Rattle.block_cache.specs.State.{CacheState}
+use Rattle.vm_blocks.specs.Keeping.{KeepsBlocks, IsEnvironmentFault}
 use Rattle.vm_blocks.proofs.KeepingLaws.{lacks-memory}
+use Rattle.doc_edits.specs.Loading.{IsThere}
 use Rattle.doc_edits.specs.Planning.{RefusesInMemory}
 use Rattle.doc_edits.specs.Room.{has_no_room}
 use Rattle.doc_edits.proofs.Planned.{ready, refused_so}
@@ -27,19 +30,25 @@ returns-clause-room g c = accepted_so c.plan_loaded.result _ c.in_ok-load_scope.
 pub returns-clause-shut : goal.returns-clause-shut
 returns-clause-shut g c = λ out. absurd (true≢false (sym out ∙ c.in_ok-load_scope.ensures.brought.room))
 
+pub returns-clause-keeps : goal.returns-clause-keeps
+returns-clause-keeps g c = subst (KeepsBlocks g.S.Store.facts c.args.blocks.now) (sym c.test_edited.ensures) c.in_ok-load_scope.ensures.keeps
+
+pub plan_loaded-requires-clause-there : goal.plan_loaded-requires-clause-there
+plan_loaded-requires-clause-there g c = subst (λ (x : CacheState g.row.S.Denot). IsThere x (scope_of c.args.edit.now)) (sym c.test_edited.ensures) c.in_ok-load_scope.ensures.ok
+
 pub returns-clause-planned : goal.returns-clause-planned
 returns-clause-planned g c =
-    let a = c.args.blocks.now in let loaded = c.load_scope.new.blocks in
+    let a = c.args.blocks.now in let loaded = c.test_edited.new.blocks in
     may_lack (IsEnvironmentFault g.S.Store.facts a.disk.store loaded.disk.store) (has_no_room a (edit_needs c.args.edit.now)) c.args.edit.now loaded.document _ c.plan_loaded.result c.in_ok-load_scope.ensures.brought.room (lacks-memory g.S.Store.facts a.disk.store loaded.disk.store) c.plan_loaded.ensures.planned
 
 pub returns-clause-ready : goal.returns-clause-ready
 returns-clause-ready g c =
-    let loaded = c.load_scope.new.blocks in
-    ready loaded c.args.edit.now (RefusesInMemory c.args.edit.now loaded.document) c.plan_loaded.result c.plan_loaded.ensures.planned c.in_ok-load_scope.ensures.ok
+    let loaded = c.test_edited.new.blocks in
+    ready loaded c.args.edit.now (RefusesInMemory c.args.edit.now loaded.document) c.plan_loaded.result c.plan_loaded.ensures.planned (subst (λ (x : CacheState g.row.S.Denot). IsThere x (scope_of c.args.edit.now)) (sym c.test_edited.ensures) c.in_ok-load_scope.ensures.ok)
 
 pub returns-clause-plain : goal.returns-clause-plain
 returns-clause-plain g c = λ plain.
-    ((c.in_ok-load_scope.ensures.plain plain).1, refused_so c.plan_loaded.result _ (RefusesInMemory c.args.edit.now c.load_scope.new.blocks.document) c.plan_loaded.ensures.planned)
+    (c.test_edited.ensures ∙ (c.in_ok-load_scope.ensures.plain plain).1, refused_so c.plan_loaded.result _ (RefusesInMemory c.args.edit.now c.test_edited.new.blocks.document) c.plan_loaded.ensures.planned)
 
 pub returns-in_err-load_scope-clause-already : goal.returns-in_err-load_scope-clause-already
 returns-in_err-load_scope-clause-already g c = λ nothing.
@@ -49,4 +58,9 @@ returns-in_err-load_scope-clause-already g c = λ nothing.
 pub returns-clause-already : goal.returns-clause-already
 returns-clause-already g c = λ nothing.
     let w = c.in_ok-load_scope.ensures.brought.already nothing in
-    (w.0, w.1, subst (λ (d : Document). IfErr c.plan_loaded.result (RefusesInMemory c.args.edit.now d)) w.1 (refused_so c.plan_loaded.result _ (RefusesInMemory c.args.edit.now c.load_scope.new.blocks.document) c.plan_loaded.ensures.planned))
+    let same = c.test_edited.ensures in
+    let document = ap (λ (x : CacheState g.row.S.Denot). x.document) same ∙ w.1 in (
+      ap (λ (x : CacheState g.row.S.Denot). x.disk) same ∙ w.0,
+      document,
+      subst (λ (d : Document). IfErr c.plan_loaded.result (RefusesInMemory c.args.edit.now d)) document (refused_so c.plan_loaded.result _ (RefusesInMemory c.args.edit.now c.test_edited.new.blocks.document) c.plan_loaded.ensures.planned),
+    )

@@ -1,6 +1,4 @@
-use Rattle.std.proofs.Common.{◌≡◌, ◌-◌, ◌∙◌, ap, drop, length, length-drop, arith}
-use Rattle.std.proofs.lemmas.List.{take_all}
-use Rattle.byteorder.specs.Endian.{little_number}
+use Rattle.std.proofs.Common.{◌≡◌, ◌∙◌, ap, length, arith}
 use Rattle.geos_model.specs.Array.{Array}
 use Rattle.geos_model.specs.Words.{word_at}
 use Rattle.name_arrays.proofs.ReadingLemmas.{other_extra, great_part}
@@ -12,9 +10,6 @@ returns-then-extra-ne-EXTRA c = other_extra c.args.view.now.array (λ long. c.if
 pub returns-else-part-le-GREATEST_PART : goal.returns-else-part-le-GREATEST_PART
 returns-else-part-le-GREATEST_PART c =
     let a : Array = c.args.view.now.array in
-    let number : c.from-part.result ≡ word_at a.extra 2 =
-    c.from-part.ensures ∙ c.read_u16.ensures
-    ∙ ap (little_number 2) (take_all (length c.extra-extra.result.now - 2) (drop 2 c.extra-extra.result.now) (omega (arith, length-drop 2 c.extra-extra.result.now)))
-    ∙ ap (λ l. word_at l 2) c.extra-extra.ensures in
+    let number : c.part_in-part.result ≡ word_at a.extra 2 = c.part_in-part.ensures ∙ ap (λ l. word_at l 2) c.extra-extra.ensures in
     let great = c.if-part-le-GREATEST_PART.false in
     great_part a (omega (arith, number, great))

@@ -2,12 +2,21 @@ use Rattle.std.proofs.Common.{◌+◌, ap, refl, sym, ◌∙◌}
 use Rattle.geos_model.specs.Array.{Array}
 use Rattle.element_arrays.specs.Tested.{are_slots_within}
 use Rattle.element_arrays.proofs.SlottedLemmas.{carried}
-use Rattle.name_arrays.proofs.ReadingLemmas.{no_array, by_array, not_within, one_size, is_sound_read, more_is, is_read}
+use Rattle.name_arrays.proofs.ReadingLemmas.{no_array, by_array, not_within, one_size, is_sound_read, more_is, is_read, known_names, sound_read}
 use Rattle.name_arrays.proofs.names.read.Goals as goal
 
 pub returns-in_err-view : goal.returns-in_err-view
 returns-in_err-view c =
     carried c.from_residual.result _ _ c.in_err-view.field-0.0 c.from_residual.ensures.1 (c.in_err-view.ensures.0, no_array c.args.bytes.now c.in_err-view.ensures.1)
+
+pub known_names-requires : goal.known_names-requires
+known_names-requires c = known_names c.args.bytes.now c.in_ok-view.view.array c.in_ok-view.ensures (c.is_known.ensures c.if-is_known.true)
+
+pub returns-then-is_known : goal.returns-then-is_known
+returns-then-is_known c =
+    let n = c.known_names.result in
+    let h = c.known_names.ensures in
+    sound_read c.args.bytes.now c.in_ok-view.view.array n.slots n.part c.in_ok-view.ensures h.slots h.array h.part h.sound
 
 pub returns-in_default : goal.returns-in_default
 returns-in_default c = (refl, by_array c.args.bytes.now c.in_ok-view.view.array c.in_ok-view.ensures c.in_default.ensures)

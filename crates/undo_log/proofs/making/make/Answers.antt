@@ -1,13 +1,15 @@
-use Rattle.std.proofs.Common.{◌≡◌, ◌∷◌, true, Some, inl, sym, subst, ◌∙◌}
+use Rattle.std.proofs.Common.{◌≡◌, ◌∷◌, true, Some, inl, sym, ap, subst, ◌∙◌}
 use Rattle.std.proofs.lemmas.Bool.{true≢false}
 use Rattle.geos_model.specs.Meaning.{conditions}
 use Rattle.geos_model.specs.Refusal.{first_refusal}
 use Rattle.geos_model.specs.declared.fault.Fault.TheVariants.{CacheFull}
 use Rattle.std.specs.Prelude.{OnErr}
 use Rattle.std.proofs.lemmas.Result.{err_from_is_err_and}
+use Rattle.block_cache.specs.State.{CacheState}
 use Rattle.vm_blocks.specs.Keeping.{KeepsBlocks}
 use Rattle.vm_blocks.proofs.KeepingLaws.{honest-steady, keeps-locks, keeps-trans}
-use Rattle.undo_log.proofs.Edited.{carried_fault, made_at_rest, made_of_plan, never_refused, reads_chain, unlocked_change, unready_lacks}
+use Rattle.undo_log.specs.Making.{IsEditApplied}
+use Rattle.undo_log.proofs.Edited.{carried_fault, leaves_array, made_at_rest, made_of_plan, never_refused, reads_chain, unlocked_change, unready_lacks}
 use Rattle.undo_log.proofs.making.make.Goals as goal
 
 pub returns-in_err-change-clause-rules : goal.returns-in_err-change-clause-rules
@@ -47,7 +49,9 @@ returns-clause-already g c = λ other nothing.
     let plan = c.in_ok-change.ensures in let a = c.args.blocks.now in
     let unchanged = plan.already nothing in
     let planned = plan.planned (λ chain. absurd (reads_chain a c.args.edit.now (conditions c.args.edit.now a.document) nothing chain)) in
-    made_at_rest g.S.Store.facts a c.plan.new.blocks c.plan.ensures.keeps c.args.edit.now c.in_ok-change.change c.in_ok-change.done c.change.new.self c.change.result unchanged.0 unchanged.1 other plan.ready planned c.change.ensures.sure
+    let made = made_at_rest g.S.Store.facts a c.plan.new.blocks c.plan.ensures.keeps c.args.edit.now c.in_ok-change.change c.in_ok-change.done c.change.new.self c.change.result unchanged.0 unchanged.1 other plan.ready planned c.change.ensures.sure in
+    let same = c.mark_edited.ensures in
+    (ap (λ (x : CacheState g.row.S.Denot). x.disk) same ∙ made.0, (ap (λ (x : CacheState g.row.S.Denot). x.document) same ∙ made.1.0, made.1.1))
 
 pub returns-in_err-change-clause-shut : goal.returns-in_err-change-clause-shut
 returns-in_err-change-clause-shut g c = λ out.
@@ -60,11 +64,18 @@ returns-in_err-change-2-clause-shut g c = λ out. absurd (true≢false (sym out 
 pub returns-clause-shut : goal.returns-clause-shut
 returns-clause-shut g c = λ out. absurd (true≢false (sym out ∙ c.in_ok-change.ensures.room))
 
+pub mark_edited-requires : goal.mark_edited-requires
+mark_edited-requires g c =
+    let plan = c.in_ok-change.ensures in
+    leaves_array g.S.Store.facts c.args.edit.now c.args.blocks.now c.change.new.self c.in_ok-change.change c.in_ok-change.done (made_of_plan g.S.Store.facts c.args.blocks.now c.plan.new.blocks c.plan.ensures.keeps c.args.edit.now c.in_ok-change.change c.in_ok-change.done c.change.new.self c.change.result plan.ready plan.room plan.kind
+    plan.planned c.change.ensures.sure c.in_ok-change-2.ensures.ok)
+
 pub returns-clause-ok : goal.returns-clause-ok
 returns-clause-ok g c =
     let plan = c.in_ok-change.ensures in
-    made_of_plan g.S.Store.facts c.args.blocks.now c.plan.new.blocks c.plan.ensures.keeps c.args.edit.now c.in_ok-change.change c.in_ok-change.done c.change.new.self c.change.result plan.ready plan.room plan.kind
-    plan.planned c.change.ensures.sure c.in_ok-change-2.ensures.ok
+    subst (λ (x : CacheState g.row.S.Denot). IsEditApplied g.S.Store.facts c.args.edit.now c.args.blocks.now x c.in_ok-change.change c.in_ok-change.done) (sym c.mark_edited.ensures)
+    (made_of_plan g.S.Store.facts c.args.blocks.now c.plan.new.blocks c.plan.ensures.keeps c.args.edit.now c.in_ok-change.change c.in_ok-change.done c.change.new.self c.change.result plan.ready plan.room plan.kind
+    plan.planned c.change.ensures.sure c.in_ok-change-2.ensures.ok)
 
 pub change-requires-clause-unlocked : goal.change-requires-clause-unlocked
 change-requires-clause-unlocked g c =
