@@ -12,6 +12,8 @@ mod changing_all;
 #[cfg(test)]
 mod heaps;
 #[cfg(test)]
+mod marks;
+#[cfg(test)]
 mod memory;
 #[cfg(test)]
 mod paired_calls;

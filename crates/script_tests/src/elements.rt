@@ -39,6 +39,54 @@ const ELEMENTS: &[Case] = &[
         ",
     ),
     (
+        "an array is tested again once its bytes are changed as such",
+        "
+        newheap 0                   = block 0001
+        ecreate 0001 1              = chunk 0010
+        eadd 0001 0010 aa           = token 0000
+        ncreate 0001 0              = chunk 0012
+        nadd 0001 0012 61 - keep    = token 0000
+        acreate 0001 0 0            = chunk 0014
+        ainsert 0001 0014 0 0102    = ok
+        ecount 0001 0010 0000       = number 1
+        nfind 0001 0012 61          = token 0000
+        aget 0001 0014 0            = bytes 0102
+        write 0001 0010 4 01        = ok
+        ecount 0001 0010 0000       = no 12 NotArray
+        eadd 0001 0010 bb           = no 12 NotArray
+        nfind 0001 0012 61          = token 0000
+        undo                        = ok
+        ecount 0001 0010 0000       = number 1
+        write 0001 0012 10 41       = ok
+        nfind 0001 0012 61          = no 12 NotArray
+        undo                        = ok
+        nfind 0001 0012 61          = token 0000
+        ecount 0001 0012 0000       = no 12 NotArray
+        nfind 0001 0010 61          = no 12 NotArray
+        acount 0001 0010            = number 1
+        acount 0001 0012            = number 1
+        resize 0001 0014 11         = ok
+        aget 0001 0014 0            = bytes 01
+        resize 0001 0014 9          = ok
+        aget 0001 0014 0            = no 12 NotArray
+        undo                        = ok
+        undo                        = ok
+        aget 0001 0014 0            = bytes 0102
+        free 0001 0010              = ok
+        alloc 0001 3                = chunk 0010
+        ecount 0001 0010 0000       = no 12 NotArray
+        undo                        = ok
+        undo                        = ok
+        ecount 0001 0010 0000       = number 1
+        eunref 0001 0010 0000       = ok
+        ecount 0001 0010 0000       = no 13 NoElement
+        undo                        = ok
+        ecount 0001 0010 0000       = number 1
+        redo                        = ok
+        ecount 0001 0010 0000       = no 13 NoElement
+        ",
+    ),
+    (
         "names are kept or set",
         "
         newheap 0                   = block 0001
