@@ -1,5 +1,5 @@
 //! The bytes of a chunk, with what is known of them, so that it need not be tested again.
-ghost use Rattle.std.specs.Prelude.{◌≡◌, true, IfSome, None};
+ghost use Rattle.std.specs.Prelude.{◌≡◌, true, IfSome};
 ghost use Rattle.lmem_heap.specs.Known.{is_array_of};
 
 use std::marker::Model;
