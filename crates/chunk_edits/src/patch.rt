@@ -27,6 +27,13 @@ enum Span {
     Rebase { words: u32, from: u16, to: u16 },
 }
 
+/// What a place for a span has before it is used: no bytes, which stay.
+impl Default for Span {
+    fn default() -> Span {
+        Span::Keep(0)
+    }
+}
+
 impl Span {
     ghost use Rattle.chunk_edits.specs.Spans.{extent};
 
@@ -55,23 +62,28 @@ impl Span {
     }
 }
 
-/// How many spans a patch has room for when it is made; it takes more as it grows.
-const USUAL_SPANS: usize = 8;
+/// How many spans a patch holds in its one allocation; for more it takes another.
+const FEW_SPANS: usize = 8;
 
-/// For how many of the bytes that go or come a patch has room when it is made; for more it takes an allocation.
-const USUAL_BYTES: usize = 40;
+/// How many bytes that go or come it holds there too; for more it takes another.
+const FEW_BYTES: usize = 40;
+
+/// What a patch holds.
+#[derive(Drop)]
+struct Pieces {
+    spans: SmallVec<Span, FEW_SPANS>,
+    /// Of each piece the bytes that go, and behind them those that come.
+    content: SmallVec<u8, FEW_BYTES>,
+}
 
 /// All bytes of a chunk in pieces, of which some stay and others change. Contracts see it as the pieces, the first one
 /// first.
 #[derive(Drop)]
 pub struct Patch {
-    spans: Vec<Span>,
-    /// Of each piece the bytes that go, and behind them those that come. They lie in a box, so that the patch itself is
-    /// short.
-    content: Box<SmallVec<u8, USUAL_BYTES>>,
+    pieces: Box<Pieces>,
 }
 
-// A change has room for either, so a patch is no longer than a splice.
+// A change has room for a patch or a splice, so a patch is no longer than that.
 const _: () = prove!(size_of::<Patch>() <= 32);
 
 impl Model for Patch {
@@ -81,9 +93,9 @@ impl Model for Patch {
 
     ghost Value = { List Piece };
 
-    ghost view = { λ p. pieces_of p.spans.items p.content.value.items };
+    ghost view = { λ p. pieces_of p.pieces.value.spans.items p.pieces.value.content.items };
 
-    ghost invariant = { λ p. total_own p.spans.items ≡ length p.content.value.items };
+    ghost invariant = { λ p. total_own p.pieces.value.spans.items ≡ length p.pieces.value.content.items };
 }
 
 impl Patch {
@@ -91,9 +103,12 @@ impl Patch {
     pub fn new(alloc: Global) -> Result<Patch, AllocError>
         ensures { IfOk result (λ patch. patch ≡ []) }
     {
+        let pieces = Pieces {
+            spans: SmallVec::new(alloc),
+            content: SmallVec::new(alloc),
+        };
         Ok(Patch {
-            spans: Vec::with_capacity(alloc, USUAL_SPANS)?,
-            content: Box::new(alloc, SmallVec::new(alloc))?,
+            pieces: Box::new(alloc, pieces)?,
         })
     }
 
@@ -102,7 +117,7 @@ impl Patch {
         ensures ok { OnOk result (self.new ≡ self.old ++ (Keep n ∷ [])) }
         ensures err { OnErr result (self.new ≡ self.old) }
     {
-        self.spans.push(Span::Keep(n))?;
+        self.pieces.spans.push(Span::Keep(n))?;
         Ok(())
     }
 
@@ -117,12 +132,12 @@ impl Patch {
             old: old.len() as u32,
             new: new.len() as u32,
         };
-        let content = &mut *self.content;
-        self.spans.reserve(1)?;
-        content.reserve(span.own())?;
-        self.spans.push_reserved(span);
-        content.extend_from_slice(old)?;
-        content.extend_from_slice(new)?;
+        let pieces = &mut *self.pieces;
+        pieces.spans.reserve(1)?;
+        pieces.content.reserve(span.own())?;
+        pieces.spans.push_reserved(span);
+        pieces.content.extend_from_slice(old)?;
+        pieces.content.extend_from_slice(new)?;
         Ok(())
     }
 
@@ -131,7 +146,7 @@ impl Patch {
         ensures ok { OnOk result (self.new ≡ self.old ++ (Rebase words from to ∷ [])) }
         ensures err { OnErr result (self.new ≡ self.old) }
     {
-        self.spans.push(Span::Rebase { words, from, to })?;
+        self.pieces.spans.push(Span::Rebase { words, from, to })?;
         Ok(())
     }
 
@@ -139,15 +154,15 @@ impl Patch {
     pub fn shrink_to_fit(&mut self)
         ensures { self.new ≡ self.old }
     {
-        self.spans.shrink_to_fit();
-        self.content.shrink_to_fit();
+        self.pieces.spans.shrink_to_fit();
+        self.pieces.content.shrink_to_fit();
     }
 
     /// How many bytes it holds: those that go, and those that come.
     pub fn byte_count(&self) -> u64
         ensures { result ≡ held self.now }
     {
-        self.content.len() as u64
+        self.pieces.content.len() as u64
     }
 
     /// How many bytes a chunk has before the patch is carried out in a direction; 2^64 - 1 where these are more.
@@ -155,7 +170,7 @@ impl Patch {
         ensures { result ≡ min (total_taken (directed_pieces direction self.now)) (2 ^ 64 - 1) }
     {
         let mut size: usize = 0;
-        for span in &self.spans {
+        for span in self.pieces.spans.as_slice() {
             size = size.saturating_add(span.extent(direction));
         }
         size
@@ -167,7 +182,7 @@ impl Patch {
         ensures { result ≡ min (peak self.now) (2 ^ 64 - 1) }
     {
         let mut peak: usize = 0;
-        for span in &self.spans {
+        for span in self.pieces.spans.as_slice() {
             let before = span.extent(Direction::Forwards);
             peak = peak.saturating_add(before.max(span.extent(Direction::Backwards)));
         }
@@ -183,8 +198,9 @@ pub fn apply_patch(heap: &mut Heap, h: ChunkHandle, patch: &Patch, direction: Di
     ensures { heap.new.chunks ≡ insert heap.old.chunks h.0
         (patched (directed_pieces direction patch.now) (chunk_bytes heap.old.chunks h.0)) }
 {
-    let spans = patch.spans.as_slice();
-    apply_spans(heap, h, spans, patch.content.as_slice(), direction);
+    let pieces = &*patch.pieces;
+    let content = pieces.content.as_slice();
+    apply_spans(heap, h, pieces.spans.as_slice(), content, direction);
 }
 
 /// The same by the patch's spans, and the bytes that their pieces hold in a row.
