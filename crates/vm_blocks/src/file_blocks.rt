@@ -416,8 +416,8 @@ impl<S: Store> FileBlocks<S> {
         self.cache.body(handle)
     }
 
-    /// Has the heap of a block that is in memory keep in mind that a chunk of it is an array of a kind. An array that is
-    /// known to be one isn't tested again until its chunk is changed or its block leaves memory. Nothing is read,
+    /// Has the heap of a block that is in memory keep in mind that a chunk of it is an array of a kind. An array that
+    /// is known to be one isn't tested again until its chunk is changed or its block leaves memory. Nothing is read,
     /// written or allocated, and nothing that a caller sees changes.
     pub fn mark_array(&mut self, handle: VmHandle, chunk: ChunkHandle, kind: ArrayKind)
         requires loaded { is_loaded self.old handle.0 ≡ true }
