@@ -1,19 +1,18 @@
 -- The order of use.
 use Rattle.std.proofs.Common.{◌≡◌, ◌⊎◌, ℕ, suc, ◌-◌, ◌<◌, ◌≤◌, ◌==◌, nat_eq, nat_le, nat_lt, Bool, true, false, cond, not, List, [], ◌∷◌, length, take, Option, None, Some, is_some, refl, sym, ap, subst, ◌∙◌, arith, inl, inr, unwrap_or, le-leb, reverse, eq-eqb, eqb-true, leb-true, lt-ltb}
-use Rattle.std.specs.Prelude.{find, count_by, slice_get, MatchOption}
-use Rattle.std.specs.List.{IsDistinct}
+use Rattle.std.specs.Prelude.{◌||◌, find, slice_get, MatchOption}
+use Rattle.std.specs.List.{IsDistinct, filter, list_any}
 use Rattle.std.specs.Cmp.{nat_eq_equiv}
 use Rattle.std.proofs.lemmas.Map.{lookup-remove_entry}
 use Rattle.std.proofs.lemmas.Bool.{cases_Bool, cases_eq, ne_eqb}
 use Rattle.std.proofs.lemmas.List.{reverse-append, take_all}
-use Rattle.std.proofs.lemmas.List.Folds.{find-append, find_at}
-use Rattle.std.proofs.lemmas.Map.Entries.{lookup_from_place}
+use Rattle.std.proofs.lemmas.List.Folds.{find-append}
 use Rattle.std.proofs.lemmas.List.Sums.{sum_by-cons}
 use Rattle.std.specs.Option.{option_map_or, option_map, option_or}
 use Rattle.std.specs.Map.{lookup, lookup_entry, remove_entry, set_value, keys_of}
 use Rattle.lru.specs.LruCache.{LruCache, put_entries, promoted}
 use Rattle.block_cache.specs.State.{ResidentBlock, is_first, is_resident, is_locked, locked_count, all_locked, victim, evicted}
-use Rattle.block_cache.specs.Frames.{frame_of, residents, with_frame, is_changed_in, some_changed}
+use Rattle.block_cache.specs.Frames.{frame_of, residents, with_frame, changed_in, is_changed_in}
 use Rattle.block_cache.specs.declared.frame.Frame.{Frame}
 
 pub residents-remove : (h : ℕ) (es : List (ℕ × Frame)) → residents (remove_entry (nat_eq h) es) ≡ remove_entry (nat_eq h) (residents es)
@@ -173,6 +172,12 @@ pub first_is : (h : ℕ) (es : List (ℕ × Frame)) → option_map_or (λ (e : �
 first_is h [] = refl
 first_is h (e ∷ es) = refl
 
+pub first_held : (h : ℕ) (es : List (ℕ × Frame)) (e : ℕ × Frame) → Some e ≡ slice_get es 0 → e.0 ≡ h → Some e.1 ≡ frame_of es h
+first_held h [] e is at = absurd (cc is)
+first_held h (x ∷ es) e is at =
+    let same : e ≡ x = cc is in
+    ap (λ (p : ℕ × Frame). Some p.1) same ∙ sym (ap (λ b. cond b (Some x.1) (frame_of es h)) (eq-eqb h x.0 (sym at ∙ ap (λ (p : ℕ × Frame). p.0) same)))
+
 pub first_resident : (h : ℕ) (ss : List ResidentBlock) → is_first ss h ≡ true → is_resident ss h ≡ true
 first_resident h [] wrong = absurd (cc wrong)
 first_resident h (s ∷ ss) at = ap (λ b. is_some (cond b (Some s.1) (lookup (nat_eq h) ss))) at
@@ -217,50 +222,17 @@ either_seats false ss ts is = inr is
 pub either_left : (b : Bool) (ss ts : List ResidentBlock) → ts ≡ cond b ss (evicted ss) → (ts ≡ ss) ⊎ (ts ≡ evicted ss)
 either_left b ss ts is = either_seats b ss ts is
 
--- how many are changed
+-- which are changed
 
-count_less : (e : ℕ × Frame) (es fs : List (ℕ × Frame)) → count_by (λ (e : ℕ × Frame). e.1.changed) fs < count_by (λ (e : ℕ × Frame). e.1.changed) es → count_by (λ (e : ℕ × Frame). e.1.changed) (e ∷ fs) < count_by (λ (e : ℕ × Frame). e.1.changed) (e ∷ es)
-count_less e es fs less =
-    let one : ℕ × Frame → ℕ = λ e. cond e.1.changed 1 0 in
-    let a = sum_by-cons one e es in
-    let b = sum_by-cons one e fs in
-    omega (arith, a, b, less)
-
-count_head : (k : ℕ) (f g : Frame) (es : List (ℕ × Frame)) → f.changed ≡ true → g.changed ≡ false → count_by (λ (e : ℕ × Frame). e.1.changed) ((k, g) ∷ es) < count_by (λ (e : ℕ × Frame). e.1.changed) ((k, f) ∷ es)
-count_head k f g es was is =
-    let one : ℕ × Frame → ℕ = λ e. cond e.1.changed 1 0 in
-    let a = sum_by-cons one (k, f) es in
-    let b = sum_by-cons one (k, g) es in
-    let x : ◌≡◌ {A = ℕ} (cond f.changed 1 0) 1 = ap (λ t. cond t 1 0) was in
-    let y : ◌≡◌ {A = ℕ} (cond g.changed 1 0) 0 = ap (λ t. cond t 1 0) is in
-    omega (arith, a, b, x, y)
-
-pub fewer_changed : (h : ℕ) (es : List (ℕ × Frame)) (f g : Frame) → frame_of es h ≡ Some f → f.changed ≡ true → g.changed ≡ false → some_changed (set_value (nat_eq h) es g) < some_changed es
-fewer_changed h [] f g is was now = absurd (cc is)
-fewer_changed h (e ∷ es) f g is was now = (elim (nat_eq h e.0) as (λ b. cond b (Some e.1) (frame_of es h) ≡ Some f → some_changed (cond b ((e.0, g) ∷ es) (e ∷ set_value (nat_eq h) es g)) < some_changed (e ∷ es)) [
-  | true ↦ λ here. let at : e.1 ≡ f = ap (λ (o : Option Frame). unwrap_or o e.1) here in count_head e.0 e.1 g es (ap (λ (x : Frame). x.changed) at ∙ was) now
-  | false ↦ λ on. count_less e es (set_value (nat_eq h) es g) (fewer_changed h es f g on was now)
-]) is
-
-pub find_passes : (es : List (ℕ × Frame)) (e : ℕ × Frame) → find (λ (e : ℕ × Frame). e.1.changed) es ≡ Some e → e.1.changed ≡ true
-find_passes [] e is = absurd (cc is)
-find_passes (x ∷ es) e is = (elim x.1.changed as (λ b. x.1.changed ≡ b → cond b (Some x) (find (λ (e : ℕ × Frame). e.1.changed) es) ≡ Some e → e.1.changed ≡ true) [
-  | true ↦ λ at here. let same : x ≡ e = ap (λ (o : Option (ℕ × Frame)). unwrap_or o x) here in sym (ap (λ (e : ℕ × Frame). e.1.changed) same) ∙ at
-  | false ↦ λ at more. find_passes es e more
-]) refl is
-
-pub none_changed : (es : List (ℕ × Frame)) → find (λ (e : ℕ × Frame). e.1.changed) es ≡ None → (h : ℕ) → is_changed_in es h ≡ false
-none_changed [] is h = refl
-none_changed (x ∷ es) is h = (elim x.1.changed as (λ b. x.1.changed ≡ b → cond b (Some x) (find (λ (e : ℕ × Frame). e.1.changed) es) ≡ None → is_changed_in (x ∷ es) h ≡ false) [
-  | true ↦ λ at wrong. absurd (cc wrong)
-  | false ↦ λ at more. elim (nat_eq h x.0) as (λ b. option_map_or (λ (f : Frame). f.changed) (cond b (Some x.1) (frame_of es h)) false ≡ false) [
-    | true ↦ at
-    | false ↦ none_changed es more h
+pub changed_listed : (h : ℕ) (es : List (ℕ × Frame)) → is_changed_in es h ≡ true → list_any (nat_eq h) (changed_in es) ≡ true
+changed_listed h [] wrong = absurd (cc wrong)
+changed_listed h (e ∷ es) changed = (elim (nat_eq h e.0) as (λ b. nat_eq h e.0 ≡ b → option_map_or (λ (f : Frame). f.changed) (cond b (Some e.1) (frame_of es h)) false ≡ true → list_any (nat_eq h) (changed_in (e ∷ es)) ≡ true) [
+  | true ↦ λ here changed. ap (λ t. list_any (nat_eq h) (keys_of (cond t (e ∷ filter (λ (e : ℕ × Frame). e.1.changed) es) (filter (λ (e : ℕ × Frame). e.1.changed) es)))) changed ∙ ap (λ t. t || list_any (nat_eq h) (changed_in es)) here
+  | false ↦ λ other changed. elim e.1.changed as (λ t. list_any (nat_eq h) (keys_of (cond t (e ∷ filter (λ (e : ℕ × Frame). e.1.changed) es) (filter (λ (e : ℕ × Frame). e.1.changed) es))) ≡ true) [
+    | true ↦ ap (λ t. t || list_any (nat_eq h) (changed_in es)) other ∙ changed_listed h es changed
+    | false ↦ changed_listed h es changed
   ]
-]) refl is
-
-pub found_held : (es : List (ℕ × Frame)) (e : ℕ × Frame) → IsDistinct nat_eq (keys_of es) → find (λ (e : ℕ × Frame). e.1.changed) es ≡ Some e → frame_of es e.0 ≡ Some e.1
-found_held es e distinct is = lookup_from_place nat_eq_equiv es _ e.0 e.1 distinct (sym (find_at (λ (e : ℕ × Frame). e.1.changed) es) ∙ is)
+]) refl changed
 
 pub none_held : (o : Option Frame) → is_some o ≡ false → o ≡ None
 none_held None is = refl

@@ -1,8 +1,9 @@
 -- The frames over the document of the file.
-use Rattle.std.specs.Prelude.{◌≡◌, ◌≤◌, ℕ, Bool, true, false, IsTrue, nat_eq, List, [], ◌∷◌, map, Option, Some, count_by}
+use Rattle.std.specs.Prelude.{◌≡◌, ◌≤◌, ℕ, Bool, true, false, IsTrue, nat_eq, List, [], ◌∷◌, map, Option, Some}
 use Rattle.std.specs.Option.{option_map_or}
 use Rattle.std.specs.FinMap.{empty}
-use Rattle.std.specs.Map.{lookup, remove_entry, set_value}
+use Rattle.std.specs.List.{filter}
+use Rattle.std.specs.Map.{keys_of, lookup, remove_entry, set_value}
 use Rattle.vm_store.specs.Facts.{StoreFacts}
 use Rattle.geos_model.specs.declared.handle.VmHandle.{VmHandle}
 use Rattle.geos_model.specs.Document.{Document, block_at, chunks_of_body, is_heap, is_heap_body, is_live, with_body}
@@ -42,8 +43,9 @@ frames_without (h ∷ handles) es = frames_without handles (remove_entry (nat_eq
 abbrev pub is_changed_in : List (ℕ × Frame) → ℕ → Bool
 is_changed_in es h = option_map_or (λ f. f.changed) (frame_of es h) false
 
-abbrev pub some_changed : List (ℕ × Frame) → ℕ
-some_changed es = count_by (λ e. e.1.changed) es
+-- the blocks in memory that are changed, in the order of their use
+abbrev pub changed_in : List (ℕ × Frame) → List ℕ
+changed_in es = keys_of (filter (λ e. e.1.changed) es)
 
 -- no block in memory is changed
 pub record AreClean (es : List (ℕ × Frame)) : Type 0 where

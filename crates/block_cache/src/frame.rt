@@ -2,7 +2,7 @@
 ghost use Rattle.std.specs.Prelude.{◌≡◌, ◌<◌, ◌+◌, ◌-◌, true, false, nat_lt, is_some, Some, MatchOption};
 ghost use Rattle.std.specs.Borrow.{sem};
 ghost use Rattle.std.specs.FinMap.{contains_key};
-ghost use Rattle.std.specs.Option.{option_map};
+ghost use Rattle.std.specs.Option.{option_copied, option_map};
 ghost use Rattle.geos_model.specs.Document.{is_heap_body};
 ghost use Rattle.geos_model.specs.Heap.{chunk_bytes};
 ghost use Rattle.lmem_heap.specs.Known.{is_array_of};
@@ -62,8 +62,8 @@ pub fn mark(frames: &mut LruCache<u16, Frame>, block: u16, changed: bool)
     }
 }
 
-/// Has the heap of a block in memory keep in mind that a chunk of it is an array of a kind. The file needs no other body
-/// for that, and the order of use stays.
+/// Has the heap of a block in memory keep in mind that a chunk of it is an array of a kind. The file needs no other
+/// body for that, and the order of use stays.
 pub fn mark_array(
     frames: &mut LruCache<u16, Frame>,
     block: u16,
@@ -121,19 +121,29 @@ pub fn victim(frames: &LruCache<u16, Frame>) -> Option<u16>
     }
 }
 
+// The frame of a block in memory. That of the block that was used last is found without a look-up.
+fn frame_in(frames: &LruCache<u16, Frame>, block: u16) -> Option<&Frame>
+    ensures { option_copied result ≡ frame_of frames.now.entries block }
+{
+    match frames.peek_mru() {
+        Some((first, frame)) if *first == block => Some(frame),
+        _ => frames.peek(&block),
+    }
+}
+
 /// The body of a block in memory.
 pub fn body_in(frames: &LruCache<u16, Frame>, block: u16) -> &BlockBody
     requires { is_some (frame_of frames.now.entries block) ≡ true }
     ensures { option_map (λ f. f.body) (frame_of frames.now.entries block) ≡ Some result.now }
 {
-    &frames.peek(&block).unwrap().body
+    &frame_in(frames, block).unwrap().body
 }
 
 /// How often a block is locked, 0 where it isn't in memory.
 pub fn locks_of(frames: &LruCache<u16, Frame>, block: u16) -> u8
     ensures { result ≡ locks_of (residents frames.now.entries) block }
 {
-    match frames.peek(&block) {
+    match frame_in(frames, block) {
         Some(frame) => frame.locks,
         None => 0,
     }

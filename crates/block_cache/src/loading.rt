@@ -1,10 +1,10 @@
 //! Blocks that come into memory and go out of it.
-ghost use Rattle.std.specs.Prelude.{◌≡◌, ◌⊎◌, ◌<◌, false, true, cond, nat_lt, List, [], ◌∷◌, length, IsTrue, is_some, None, Some, IfOk, OnOk, OnErr, MatchOption};
+ghost use Rattle.std.specs.Prelude.{◌≡◌, ◌≢◌, ◌⊎◌, ◌<◌, ℕ, false, true, cond, nat_lt, List, [], ◌∷◌, length, IsTrue, is_some, None, Some, IfOk, OnOk, OnErr, MatchOption};
 ghost use Rattle.geos_model.specs.Document.{block_at, is_heap, is_heap_body, is_live, with_body};
 ghost use Rattle.vm_file.specs.Calls.{IsPut, put_all};
 ghost use Rattle.vm_file.specs.Effects.{OnlyReads, Fails, NoFault, IsDamage};
 ghost use Rattle.block_cache.specs.Bodies.{body_value};
-ghost use Rattle.block_cache.specs.Frames.{frame_of, residents, overlay, is_changed_in, some_changed, AreClean, IsChangedBody, AreFramesOf, KeepsOverlay};
+ghost use Rattle.block_cache.specs.Frames.{frame_of, residents, overlay, changed_in, is_changed_in, AreClean, IsChangedBody, AreFramesOf, KeepsOverlay};
 ghost use Rattle.block_cache.specs.State.{all_locked, victim, evicted};
 
 use crate::body::{BlockBody, read_image};
@@ -70,8 +70,8 @@ pub fn write_back<S: Store>(
     ensures cap { frames.new.cap ≡ frames.old.cap }
     // What is done.
     ensures clean { OnOk result (is_changed_in frames.new.entries block.0 ≡ false) }
-    ensures fewer { OnOk result (is_changed_in frames.old.entries block.0 ≡ true
-        → some_changed frames.new.entries < some_changed frames.old.entries) }
+    ensures others { OnOk result ((h : ℕ) → h ≢ block.0
+        → is_changed_in frames.new.entries h ≡ is_changed_in frames.old.entries h) }
     // Refusals.
     ensures fails { Fails S.facts NoFault file.old.disk.store file.new.disk.store result }
 {
@@ -234,17 +234,15 @@ pub fn bring<S: Store>(
     fetch(file, frames, block, region)
 }
 
-// A block in memory that is changed.
-fn first_changed(frames: &LruCache<u16, Frame>) -> Option<u16>
-    ensures { MatchOption result
-        (AreClean frames.now.entries)
-        (λ block. IsTrue (is_changed_in frames.now.entries block)) }
+// The blocks in memory that are changed. Where there are none this takes no memory.
+fn changed_blocks(alloc: Global, frames: &LruCache<u16, Frame>) -> Result<Vec<u16>, AllocError>
+    ensures { IfOk result (λ blocks. blocks.items ≡ changed_in frames.now.entries) }
 {
-    let _count = frames.len();
-    match frames.iter().find(|(_, frame)| frame.changed) {
-        Some((block, _)) => Some(*block),
-        None => None,
-    }
+    frames
+        .iter()
+        .filter(|(_, frame)| frame.changed)
+        .map(|(block, _)| *block)
+        .collect(alloc)
 }
 
 /// Puts all blocks in memory that are changed into the file; they stay in memory. Where that is refused, some are in
@@ -261,8 +259,10 @@ pub fn flush<S: Store>(
     ensures clean { OnOk result (AreClean frames.new.entries) }
     ensures fails { Fails S.facts NoFault file.old.disk.store file.new.disk.store result }
 {
-    while let Some(block) = first_changed(frames) {
-        write_back(alloc, file, frames, VmHandle(block))?;
+    // Found in one walk, since a walk for each of them would take the square of their number.
+    let blocks = changed_blocks(alloc, frames)?;
+    for block in &blocks {
+        write_back(alloc, file, frames, VmHandle(*block))?;
     }
     Ok(())
 }

@@ -1,4 +1,5 @@
-use Rattle.std.proofs.Common.{◌≡◌, ◌<◌, ℕ, List, [], ◌∷◌, false, cond, Some, nat_eq, refl, ap, sym, subst, ◌∙◌, eq-eqb}
+use Rattle.std.proofs.Common.{◌≡◌, ℕ, List, [], ◌∷◌, false, cond, Some, nat_eq, refl, ap, sym, subst, ◌∙◌, eq-eqb}
+use Rattle.std.proofs.lemmas.Bool.{ne_eqb}
 use Rattle.std.specs.Option.{option_map, option_map_or}
 use Rattle.geos_model.specs.Document.{is_heap_body, with_body}
 use Rattle.vm_file.specs.Disk.{SameUnlessCorrupt}
@@ -6,10 +7,10 @@ use Rattle.vm_file.specs.Calls.{put_all}
 use Rattle.std.specs.Map.{set_value}
 use Rattle.lru.specs.LruCache.{LruCache}
 use Rattle.block_cache.specs.Bodies.{body_value}
-use Rattle.block_cache.specs.Frames.{frame_of, residents, with_frame, some_changed}
+use Rattle.block_cache.specs.Frames.{frame_of, residents, with_frame}
 use Rattle.block_cache.specs.declared.body.BlockBody.{BlockBody}
 use Rattle.block_cache.specs.declared.frame.Frame.{Frame}
-use Rattle.block_cache.proofs.OrderOfUse.{seats_kept, fewer_changed}
+use Rattle.block_cache.proofs.OrderOfUse.{seats_kept}
 use Rattle.block_cache.proofs.CallAfterCall.{moves_drift, moves_none, kept_passes}
 use Rattle.block_cache.proofs.DocumentUnderFrames.{written, written_kept, held-with_frame}
 use Rattle.block_cache.proofs.loading.write_back.Goals as goal
@@ -72,12 +73,11 @@ returns-in_ok-put_blocks-in-Some-clause-clean g c =
     let now = now_held es h f c.mark.new.frames c.args.frames.now.cap b.here c.mark.ensures in
     ap (λ o. option_map_or (λ (f : Frame). f.changed) o false) (now h ∙ ap (λ t. cond t (Some (record f { changed = false })) (frame_of es h)) (eq-eqb h h refl))
 
-pub returns-in_ok-put_blocks-in-Some-clause-fewer : goal.returns-in_ok-put_blocks-in-Some-clause-fewer
-returns-in_ok-put_blocks-in-Some-clause-fewer g c changed =
+pub returns-in_ok-put_blocks-in-Some-clause-others : goal.returns-in_ok-put_blocks-in-Some-clause-others
+returns-in_ok-put_blocks-in-Some-clause-others g c = λ q other.
     let es = c.args.frames.now.entries in
     let h = c.args.block.0 in
     let b = c.in-Some.ensures in
     let f = b.frame in
-    let at : with_frame es h (λ f. record f { changed = false }) ≡ set_value (nat_eq h) es (record f { changed = false }) = ap (λ o. option_map_or (λ (f : Frame). set_value (nat_eq h) es (record f { changed = false })) o es) b.here in
-    let entries : c.mark.new.frames.entries ≡ set_value (nat_eq h) es (record f { changed = false }) = ap (λ (x : LruCache ℕ Frame). x.entries) c.mark.ensures ∙ at in
-    subst (λ fs. some_changed fs < some_changed es) (sym entries) (fewer_changed h es f (record f { changed = false }) b.here b.changed refl)
+    let now = now_held es h f c.mark.new.frames c.args.frames.now.cap b.here c.mark.ensures in
+    ap (λ o. option_map_or (λ (f : Frame). f.changed) o false) (now q ∙ ap (λ t. cond t (Some (record f { changed = false })) (frame_of es q)) (ne_eqb h q (λ is. other (sym is))))
