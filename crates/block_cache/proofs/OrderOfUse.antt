@@ -182,9 +182,17 @@ pub first_resident : (h : ℕ) (ss : List ResidentBlock) → is_first ss h ≡ t
 first_resident h [] wrong = absurd (cc wrong)
 first_resident h (s ∷ ss) at = ap (λ b. is_some (cond b (Some s.1) (lookup (nat_eq h) ss))) at
 
-pub first_stays : (h : ℕ) (ss : List ResidentBlock) → is_first ss h ≡ true → promoted (nat_eq h) ss ≡ ss
+pub first_stays : (h : ℕ) (es : List (ℕ × Frame)) → is_first (residents es) h ≡ true → promoted (nat_eq h) es ≡ es
 first_stays h [] wrong = absurd (cc wrong)
-first_stays h (s ∷ ss) at = ap (λ b. option_map_or (λ (e : ResidentBlock). e ∷ cond b ss (s ∷ remove_entry (nat_eq h) ss)) (cond b (Some s) (lookup_entry (nat_eq h) ss)) (s ∷ ss)) at
+first_stays h (e ∷ es) at = ap (λ b. option_map_or (λ (x : ℕ × Frame). x ∷ cond b es (e ∷ remove_entry (nat_eq h) es)) (cond b (Some e) (lookup_entry (nat_eq h) es)) (e ∷ es)) at
+
+-- a block that isn't in memory moves nothing
+pub absent_stays : (h : ℕ) (es : List (ℕ × Frame)) → is_some (frame_of es h) ≡ false → promoted (nat_eq h) es ≡ es
+absent_stays h es out = by (lookup_entry (nat_eq h) es) (ap is_some (entry_found h es) ∙ out)
+  where
+    by : (o : Option (ℕ × Frame)) → is_some (option_map (λ (e : ℕ × Frame). e.1) o) ≡ false → option_map_or (λ e. e ∷ remove_entry (nat_eq h) es) o es ≡ es
+    by None out = refl
+    by (Some e) out = absurd (cc out)
 
 -- a block that isn't in memory doesn't come in when another goes
 

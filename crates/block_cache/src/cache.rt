@@ -22,7 +22,7 @@ ghost use Rattle.block_cache.specs.State.{is_resident, locks_of, locked_count, a
 
 use crate::changing::drop_blocks;
 use crate::frame::{
-    Frame, all_locked, body_in, has_locks, is_first, lock, locks_of, mark, mark_array, unlock,
+    Frame, all_locked, body_in, has_locks, lock, locks_of, mark, mark_array, unlock, use_again,
 };
 use crate::loading::{bring, drop_all, flush};
 use crate::{BlockBody, committing, saving_as};
@@ -320,16 +320,10 @@ impl<S: Store> Cache<S> {
             (IsDamage (S.facts self.old.disk.store).honest) self.old.disk.store self.new.disk.store result }
     {
         let _count = self.frames.len();
-        // The block that was used last stays the first: this is seen without a look-up, and nothing moves.
-        if is_first(&self.frames, block.0) {
+        if use_again(&mut self.frames, block.0) {
             return Ok(());
         }
-        if self.frames.contains(&block.0) {
-            self.frames.promote(&block.0);
-            Ok(())
-        } else {
-            bring(self.alloc, &mut self.file, &mut self.frames, block)
-        }
+        bring(self.alloc, &mut self.file, &mut self.frames, block)
     }
 
     /// One more lock of a block in memory. No memory, no store.

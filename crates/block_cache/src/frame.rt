@@ -1,12 +1,12 @@
 //! The blocks in memory, in the order of their use.
-ghost use Rattle.std.specs.Prelude.{◌≡◌, ◌<◌, ◌+◌, ◌-◌, true, false, nat_lt, is_some, Some, MatchOption};
+ghost use Rattle.std.specs.Prelude.{◌≡◌, ◌<◌, ◌+◌, ◌-◌, true, false, nat_eq, nat_lt, is_some, Some, MatchOption};
 ghost use Rattle.std.specs.Borrow.{sem};
 ghost use Rattle.std.specs.FinMap.{contains_key};
 ghost use Rattle.std.specs.Option.{option_copied, option_map};
 ghost use Rattle.geos_model.specs.Document.{is_heap_body};
 ghost use Rattle.geos_model.specs.Heap.{chunk_bytes};
 ghost use Rattle.lmem_heap.specs.Known.{is_array_of};
-ghost use Rattle.lru.specs.LruCache.{lru_cache};
+ghost use Rattle.lru.specs.LruCache.{lru_cache, promoted};
 ghost use Rattle.block_cache.specs.Bodies.{body_value};
 ghost use Rattle.block_cache.specs.Frames.{chunks_in, frame_of, residents, with_frame};
 ghost use Rattle.block_cache.specs.State.{locks_of, locked_count, all_locked, is_first, victim};
@@ -87,6 +87,19 @@ pub fn is_first(frames: &LruCache<u16, Frame>, block: u16) -> bool
         Some((first, _)) => block == *first,
         None => false,
     }
+}
+
+/// Makes a block the one that was used last, and says whether it is in memory; where it isn't nothing changes.
+pub fn use_again(frames: &mut LruCache<u16, Frame>, block: u16) -> bool
+    ensures value { result ≡ is_some (frame_of frames.old.entries block) }
+    ensures moves { frames.new ≡ lru_cache (promoted (nat_eq block) frames.old.entries) frames.old.cap }
+    ensures absent { result ≡ false → frames.new ≡ frames.old }
+{
+    // The block that was used last stays the first: this is seen without a look-up, and nothing moves.
+    if is_first(frames, block) {
+        return true;
+    }
+    frames.promote(&block)
 }
 
 /// One more lock of a block in memory.
