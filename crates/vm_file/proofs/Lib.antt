@@ -6,6 +6,7 @@ mod CrashesLemmas
 pub mod DocumentsLemmas
 pub mod EffectsLemmas
 pub mod FirstFileLemmas
+pub mod FollowLemmas
 pub mod FreeSpaceLemmas
 pub mod GateAwayLemmas
 pub mod ImageLemmas

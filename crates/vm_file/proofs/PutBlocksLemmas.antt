@@ -36,10 +36,10 @@ use Rattle.vm_file.proofs.TableLemmas.{EachPlace, shown, places_drift, blocks_sa
 
 -- There are not too many extents: those of the blocks of six documents, and four directories.
 
-stored_few : (s : DocumentRef) → IsBlockTable s.table → length (stored_extents s) ≤ most_blocks + 1
+pub stored_few : (s : DocumentRef) → IsBlockTable s.table → length (stored_extents s) ≤ most_blocks + 1
 stored_few s table = let few = length-block_extents s.table.places.items in let size = table.size in omega (arith, few, size)
 
-pair_few : (pair : Pair) → AreTables pair → length (pair_extents pair) ≤ 2 * most_blocks + 2
+pub pair_few : (pair : Pair) → AreTables pair → length (pair_extents pair) ≤ 2 * most_blocks + 2
 pair_few pair tables =
     let first = stored_few pair.updated tables.updated in
     let second = stored_few pair.saved tables.saved in
@@ -51,7 +51,7 @@ prepared_few sequence Shut formed = omega arith
 prepared_few sequence Stale formed = omega arith
 prepared_few sequence (Prepared pair) formed = pair_few pair formed.0
 
-marked_few : (marked : Option BlockTable) → IfSome marked IsBlockTable → length (marked_extents marked) ≤ most_blocks
+pub marked_few : (marked : Option BlockTable) → IfSome marked IsBlockTable → length (marked_extents marked) ≤ most_blocks
 marked_few None formed = omega arith
 marked_few (Some table) formed = let few = length-block_extents table.places.items in let size = formed.size in omega (arith, few, size)
 

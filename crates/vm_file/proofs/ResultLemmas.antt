@@ -1,5 +1,7 @@
 -- What holds where a call is refused, or where it isn't.
-use Rattle.std.specs.Prelude.{Result, Ok, Err, OnOk, OnErr, IfOk, MatchResult}
+use Rattle.std.proofs.Common.{◌≡◌, true, sym}
+use Rattle.std.proofs.lemmas.Bool.{true≢false}
+use Rattle.std.specs.Prelude.{is_ok, Result, Ok, Err, OnOk, OnErr, IfOk, MatchResult}
 
 pub on_err : {T E : Type 0} (r : Result T E) (P : Type 0) → P → OnErr r P
 on_err (Ok x) P p = tt
@@ -25,3 +27,7 @@ any_way (Err x) P p = p
 pub if_ok_both : {T E : Type 0} (P Q R : T → Type 0) (r : Result T E) → ((x : T) → P x → Q x → R x) → IfOk r P → IfOk r Q → IfOk r R
 if_ok_both P Q R (Ok x) from p q = from x p q
 if_ok_both P Q R (Err e) from p q = tt
+
+pub of_ok : {T E P : Type 0} (r : Result T E) → OnOk r P → is_ok r ≡ true → P
+of_ok (Ok x) p is = p
+of_ok (Err x) p is = absurd (true≢false (sym is))

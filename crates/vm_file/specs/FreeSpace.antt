@@ -1,7 +1,11 @@
 -- The free space of a file, where it is known.
-use Rattle.std.specs.Prelude.{◌≡◌, ◌+◌, List, ◌++◌, Option, IfSome, length}
+use Rattle.std.specs.Prelude.{◌≡◌, ◌+◌, List, ◌++◌, Option, IfSome, length, Bool, if◌then◌else◌}
 use Rattle.geos_model.specs.declared.file.Extent.{Extent}
 use Rattle.vm_space.specs.Space.{Space, AreTaken}
+use Rattle.vm_file.specs.declared.table.BlockTable.{BlockTable}
+use Rattle.vm_file.specs.declared.table.DocumentRef.{DocumentRef}
+use Rattle.vm_file.specs.declared.table.Pair.{Pair}
+use Rattle.vm_file.specs.declared.slot.Slots.{Slots}
 
 -- these extents are the ones that are taken, where it is known
 abbrev pub IsSpaceOf : List Extent → Option Space → Type 0
@@ -11,3 +15,17 @@ IsSpaceOf extents space = IfSome space (λ s. AreTaken extents s)
 pub record MarksTaken (extents : List Extent) (old new : Space) : Type 0 where
   pub count : new.count ≡ old.count + length extents
   pub taken : (taken : List Extent) → AreTaken taken old → AreTaken (extents ++ taken) new
+
+-- these extents are taken in place of others, whatever else is
+abbrev pub Replaces : List Extent → List Extent → Space → Space → Type 0
+Replaces gone extents old new = (rest : List Extent) → AreTaken (gone ++ rest) old → AreTaken (extents ++ rest) new
+
+-- others are taken, and these are some of them
+abbrev pub AreAmongTaken : List Extent → Space → Type 0
+AreAmongTaken extents space = (rest : List Extent) × AreTaken (extents ++ rest) space
+
+-- what a commit of the live document with this directory makes the slots lead to
+abbrev pub next_pair : Extent → BlockTable → Slots → Bool → Pair
+next_pair directory live slots saves =
+    let updated : DocumentRef = record { directory = directory; table = live } in
+    record { updated = updated; saved = if saves then updated else slots.committed.saved }

@@ -1,9 +1,10 @@
 //! Directories: read, made of the live table, and written where nothing lies that stays.
-ghost use Rattle.std.specs.Prelude.{◌≡◌, ◌↔◌, ◌<◌, ◌≤◌, All, IsTrue, OnOk, IfOk, IfErr, IsErrOf, Some, None, Ok, Err, length, true, ◌++◌};
+ghost use Rattle.std.specs.Prelude.{◌≡◌, ◌↔◌, ◌<◌, ◌≤◌, All, IsTrue, OnOk, IfOk, IfErr, IsErrOf, Some, None, Ok, Err, length, true, ◌++◌, ◌∷◌};
 ghost use Rattle.vm_store.specs.Facts.{FailedSince};
 ghost use Rattle.geos_model.specs.Document.{FitAttributes, most_blocks};
 ghost use Rattle.geos_model.specs.File.{directory_of, is_directory, longest_directory};
 ghost use Rattle.vm_space.specs.Listed.{shown};
+ghost use Rattle.vm_space.specs.Space.{AreTaken};
 ghost use Rattle.vm_file.specs.Ranges.{start_of, IsPlaced, IsClear};
 ghost use Rattle.vm_file.specs.Sound.{IsSound, IsFormed, disk_of};
 ghost use Rattle.vm_file.specs.Documents.{entries_of, IsStored, document_in};
@@ -11,10 +12,8 @@ ghost use Rattle.vm_file.specs.Opened.{OnlyReadsStore, IsReadRefusal, IsDirector
 ghost use Rattle.vm_file.specs.Slots.{block_extents, referenced_extents};
 ghost use Rattle.vm_file.specs.Disk.{KeepsCommitted};
 ghost use Rattle.vm_file.specs.PendingDirectories.{IsPendingDirectory};
-ghost use Rattle.vm_file.specs.FreeSpace.{IsSpaceOf};
 
 use crate::extent::{read_extent, write_extent};
-use crate::placing::known_space;
 use crate::slot::Slots;
 use crate::table::{BlockTable, DocumentRef, Place, copy_table};
 use geos_model::{Attributes, Entry, Extent, Fault, VmHandle};
@@ -75,13 +74,27 @@ fn entry_of(handle: u16, attributes: Attributes, extent: Extent) -> Entry
     }
 }
 
-/// The entries of a table, as its directory lists them.
+// How many blocks a table has.
+fn block_count(places: &[Option<Place>]) -> usize
+    requires { length places.now ≤ most_blocks }
+    ensures { result ≡ length (block_extents places.now) }
+{
+    let mut count = 0;
+    for place in places {
+        if place.is_some() {
+            count += 1;
+        }
+    }
+    count
+}
+
+/// The entries of a table, as its directory lists them. It takes no more memory than they need.
 pub fn entries_of(alloc: Global, places: &[Option<Place>]) -> Result<Vec<Entry>, AllocError>
     requires { length places.now ≤ most_blocks }
     ensures entries { IfOk result (λ entries. entries.items ≡ entries_of 1 places.now) }
     ensures attributes { IfOk result (λ entries. All (λ e. FitAttributes e.attributes) entries.items) }
 {
-    let mut entries = Vec::new(alloc);
+    let mut entries = Vec::with_capacity(alloc, block_count(places))?;
     for (i, place) in places.iter().enumerate() {
         if let Some(place) = place {
             entries.push(entry_of(i as u16 + 1, place.attributes, place.extent))?;
@@ -97,44 +110,49 @@ pub struct PendingDirectory {
     pub text: Vec<u8>,
 }
 
-// A place for a directory of so many bytes. The free space isn't needed any more: the commit changes what is taken.
+// A place for a directory of so many bytes, which is taken then.
 fn place_directory(
-    alloc: Global,
     live: &BlockTable,
     slots: &Slots,
-    space: Option<FreeSpace>,
+    space: &mut FreeSpace,
     len: u32,
 ) -> Result<Extent, AllocError>
     // Asked of the caller.
     requires formed { IsFormed live.now slots.now }
     requires some { 1 ≤ len }
     requires short { len ≤ longest_directory }
-    requires known { IsSpaceOf (block_extents live.now.places.items ++ referenced_extents slots.now) space }
+    requires known { AreTaken (block_extents live.now.places.items ++ referenced_extents slots.now) space.old }
     // The place.
     ensures size { IfOk result (λ extent. extent.length ≡ len) }
     ensures placed { IfOk result IsPlaced }
     ensures clear { IfOk result
         (λ extent. IsClear (start_of extent) extent.length
         (block_extents live.now.places.items ++ referenced_extents slots.now)) }
+    ensures taken { IfOk result
+        (λ extent. AreTaken (extent ∷ (block_extents live.now.places.items ++ referenced_extents slots.now))
+        space.new) }
 {
-    let mut space = known_space(alloc, &live.places, slots, space)?;
+    let _ = live;
+    let _ = slots;
     space.take(len)
 }
 
-/// The directory of the live table. It takes all the memory that writing it needs.
+/// The directory of the live table, whose place is taken then. It takes all the memory that writing it needs.
 pub fn pending_directory_of(
     alloc: Global,
     live: &BlockTable,
     slots: &Slots,
-    space: Option<FreeSpace>,
+    space: &mut FreeSpace,
 ) -> Result<PendingDirectory, AllocError>
     requires formed { IsFormed live.now slots.now }
-    requires known { IsSpaceOf (block_extents live.now.places.items ++ referenced_extents slots.now) space }
-    ensures { IfOk result (λ pending. IsPendingDirectory live.now slots.now pending) }
+    requires known { AreTaken (block_extents live.now.places.items ++ referenced_extents slots.now) space.old }
+    ensures pending { IfOk result (λ pending. IsPendingDirectory live.now slots.now pending) }
+    ensures taken { IfOk result (λ pending. AreTaken (pending.document.directory
+        ∷ (block_extents live.now.places.items ++ referenced_extents slots.now)) space.new) }
 {
     let entries = entries_of(alloc, &live.places)?;
     let text = write_dir(alloc, VmHandle(live.map_block), &entries)?;
-    let directory = place_directory(alloc, live, slots, space, text.len() as u32)?;
+    let directory = place_directory(live, slots, space, text.len() as u32)?;
     let table = copy_table(alloc, live)?;
     Ok(PendingDirectory {
         document: DocumentRef { directory, table },

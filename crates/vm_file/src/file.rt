@@ -20,6 +20,7 @@ use crate::listing::{Bounds, bounds_of, find_from, first_free, live_handles, tig
 use crate::making::make_empty;
 use crate::member::Member;
 use crate::opening::open_slots;
+use crate::placing::{known_space, space_of_commit};
 use crate::slot::Slots;
 use crate::table::{
     BlockTable, Place, both_of, change_places, copy_table, make_room, place_in, read_block,
@@ -41,8 +42,8 @@ pub struct VmFile<S: Store> {
     store: S,
     live: BlockTable,
     slots: Slots,
-    // What is free around all that lies in the file and stays, where it is known. The first image that is placed finds
-    // it out, and a commit forgets it.
+    // What is free around all that lies in the file and stays, where it is known. The first image or directory that is
+    // placed finds it out. A commit of the live document follows it; what changes the tables as a whole forgets it.
     space: Option<FreeSpace>,
     // Where the live table has blocks.
     bounds: Bounds,
@@ -383,9 +384,16 @@ impl<S: Store> VmFile<S> {
         if self.slots.sequence == u64::MAX {
             return Err(Fault::Worn);
         }
-        let pending = pending_directory_of(self.alloc, &self.live, &self.slots, self.space.take())?;
+        let known = self.space.take();
+        let mut space = known_space(self.alloc, &self.live.places, &self.slots, known)?;
+        let pending = pending_directory_of(self.alloc, &self.live, &self.slots, &mut space)?;
         let saved = saved_beside(self.alloc, &pending, &self.slots, saves)?;
-        commit_pending(&mut self.store, &mut self.slots, &self.live, pending, saved)
+        let directory = pending.document.directory;
+        let space = space_of_commit(space, directory, &self.live, &self.slots, saves);
+        let result = commit_pending(&mut self.store, &mut self.slots, &self.live, pending, saved);
+        let kept = if result.is_ok() { space } else { None };
+        self.space = kept;
+        result
     }
 
     /// Makes the saved document the updated one and the document as it is now. Refused as an update is.

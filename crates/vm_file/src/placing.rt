@@ -1,10 +1,11 @@
 //! Where images and directories come to lie: apart from all that lies in the file and stays.
-ghost use Rattle.std.specs.Prelude.{◌≡◌, ◌++◌, ◌+◌, ◌≤◌, List, All, IfOk, OnOk, length};
+ghost use Rattle.std.specs.Prelude.{◌≡◌, ◌++◌, ◌∷◌, [], ◌+◌, ◌<◌, ◌≤◌, List, All, IfOk, OnOk, IsTrue, None, get_or, length};
 ghost use Rattle.geos_model.specs.declared.file.Extent.{Extent};
 ghost use Rattle.vm_space.specs.Space.{AreTaken};
 ghost use Rattle.vm_file.specs.Ranges.{IsPlaced};
-ghost use Rattle.vm_file.specs.Slots.{block_extents, stored_extents, pair_extents, prepared_extents, marked_extents, referenced_extents};
-ghost use Rattle.vm_file.specs.FreeSpace.{IsSpaceOf, MarksTaken};
+ghost use Rattle.vm_file.specs.Slots.{block_extents, stored_extents, pair_extents, prepared_extents, marked_extents, referenced_extents, switched};
+ghost use Rattle.vm_file.specs.FreeSpace.{IsSpaceOf, MarksTaken, Replaces, AreAmongTaken, next_pair};
+ghost use Rattle.vm_file.specs.Sound.{IsFormed};
 ghost use Rattle.vm_file.specs.Writing.{AreFor};
 
 use crate::member::Member;
@@ -131,4 +132,153 @@ pub fn place_images(
         extents.push(extent)?;
     }
     Ok(extents)
+}
+
+// The place at an index, none past the last.
+fn place_at(places: &[Option<Place>], at: usize) -> Option<Place>
+    ensures { result ≡ get_or places.now at None }
+{
+    match places.get(at) {
+        Some(place) => *place,
+        None => None,
+    }
+}
+
+// Whether two blocks lie in the same extent, or neither is one.
+fn lie_alike(old: Option<Place>, new: Option<Place>) -> bool
+    ensures { IsTrue result → block_extents (old ∷ []) ≡ block_extents (new ∷ []) }
+{
+    match (old, new) {
+        (Some(old), Some(new)) => old.extent == new.extent,
+        (None, None) => true,
+        _ => false,
+    }
+}
+
+// Where one block lies is taken in place of where another did. Where both lie alike nothing is done.
+fn follow_place(
+    space: &mut FreeSpace,
+    old: Option<Place>,
+    new: Option<Place>,
+) -> Result<(), AllocError>
+    requires few { space.old.count < MOST_EXTENTS }
+    requires placed { All IsPlaced (block_extents (new ∷ [])) }
+    requires taken { AreAmongTaken (block_extents (old ∷ [])) space.old }
+    ensures { OnOk result (Replaces (block_extents (old ∷ [])) (block_extents (new ∷ [])) space.old space.new) }
+{
+    if lie_alike(old, new) {
+        return Ok(());
+    }
+    if let Some(place) = old {
+        space.release(place.extent);
+    }
+    match new {
+        Some(place) => space.hold(place.extent),
+        None => Ok(()),
+    }
+}
+
+// Where the blocks of one table lie is taken in place of where those of another did. Only where the two differ is the
+// space touched.
+fn follow_blocks(
+    space: &mut FreeSpace,
+    old: &[Option<Place>],
+    new: &[Option<Place>],
+) -> Result<(), AllocError>
+    requires few { space.old.count + length (block_extents new.now) < MOST_EXTENTS }
+    requires placed { All IsPlaced (block_extents new.now) }
+    requires taken { AreAmongTaken (block_extents old.now) space.old }
+    ensures { OnOk result (Replaces (block_extents old.now) (block_extents new.now) space.old space.new) }
+{
+    let end = old.len().max(new.len());
+    for at in 0..end {
+        follow_place(space, place_at(old, at), place_at(new, at))?;
+    }
+    Ok(())
+}
+
+// The live document with this directory is taken in place of another.
+fn follow_document(
+    space: &mut FreeSpace,
+    old: &DocumentRef,
+    directory: Extent,
+    live: &BlockTable,
+) -> Result<(), AllocError>
+    requires few { space.old.count + length (block_extents live.now.places.items) < MOST_EXTENTS }
+    requires placed { All IsPlaced (directory ∷ block_extents live.now.places.items) }
+    requires taken { AreAmongTaken (stored_extents old.now) space.old }
+    ensures { OnOk result
+        (Replaces (stored_extents old.now) (directory ∷ block_extents live.now.places.items) space.old space.new) }
+{
+    space.release(old.directory);
+    follow_blocks(space, &old.table.places, &live.places)?;
+    space.hold(directory)
+}
+
+// So it is in place of the saved one, where it is saved.
+fn follow_saved(
+    space: &mut FreeSpace,
+    directory: Extent,
+    live: &BlockTable,
+    slots: &Slots,
+    saves: bool,
+) -> Result<(), AllocError>
+    requires few { space.old.count + length (block_extents live.now.places.items) < MOST_EXTENTS }
+    requires placed { All IsPlaced (directory ∷ block_extents live.now.places.items) }
+    requires taken { AreAmongTaken (stored_extents slots.now.committed.saved) space.old }
+    ensures { OnOk result (Replaces (stored_extents slots.now.committed.saved)
+        (stored_extents (next_pair directory live.now slots.now saves).saved) space.old space.new) }
+{
+    if saves {
+        follow_document(space, &slots.committed.saved, directory, live)
+    } else {
+        Ok(())
+    }
+}
+
+// The live document, whose directory is taken, is committed.
+fn follow_commit(
+    space: &mut FreeSpace,
+    directory: Extent,
+    live: &BlockTable,
+    slots: &Slots,
+    saves: bool,
+) -> Result<(), AllocError>
+    requires formed { IsFormed live.now slots.now }
+    requires settled { prepared_extents slots.now.spare ≡ [] }
+    requires placed { IsPlaced directory }
+    requires taken { AreTaken (directory ∷ (block_extents live.now.places.items ++ referenced_extents slots.now))
+        space.old }
+    ensures { OnOk result (AreTaken (block_extents live.now.places.items
+        ++ referenced_extents (switched slots.now (next_pair directory live.now slots.now saves))) space.new) }
+{
+    follow_document(space, &slots.committed.updated, directory, live)?;
+    follow_saved(space, directory, live, slots, saves)?;
+    space.release(directory);
+    Ok(())
+}
+
+/// The free space once the live document is committed with this directory, which is taken. It is not known where
+/// another commit is in doubt, or where there is no memory for it.
+pub fn space_of_commit(
+    mut space: FreeSpace,
+    directory: Extent,
+    live: &BlockTable,
+    slots: &Slots,
+    saves: bool,
+) -> Option<FreeSpace>
+    requires formed { IsFormed live.now slots.now }
+    requires placed { IsPlaced directory }
+    requires taken { AreTaken (directory ∷ (block_extents live.now.places.items ++ referenced_extents slots.now))
+        space }
+    ensures { IsSpaceOf (block_extents live.now.places.items
+        ++ referenced_extents (switched slots.now (next_pair directory live.now slots.now saves))) result }
+{
+    if let SpareSlot::Prepared(_) = &slots.spare {
+        return None;
+    }
+    match follow_commit(&mut space, directory, live, slots, saves) {
+        Ok(()) => Some(space),
+        Err(AllocError) => None,
+    }
 }

@@ -39,8 +39,8 @@ overflow_cast-len c = let short = text_short c in omega (arith, short)
 pub place_directory-requires-clause-short : goal.place_directory-requires-clause-short
 place_directory-requires-clause-short c = text_short c
 
-pub returns : goal.returns
-returns c =
+pub returns-clause-pending : goal.returns-clause-pending
+returns-clause-pending c =
     let live = c.args.live.now in
     let copy = c.in_ok-table.ensures in
     let entries = c.deref-2.ensures.value ∙ c.in_ok-entries.ensures.entries ∙ ap (entries_of 1) c.deref.ensures.value in
