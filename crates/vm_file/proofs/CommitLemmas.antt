@@ -191,8 +191,8 @@ module _ {S : Type 0} (facts : S → StoreFacts) (a b : S) (live : BlockTable) (
       let updated = stored_within 2 (facts a).content pair.updated (call.stored so).updated in
       let saved = stored_within 2 (facts a).content pair.saved (call.stored so).saved in
       keeps_itself (pair_extents pair) (facts a).content (All-append (λ e. end_of e ≤ length (facts a).content) (stored_extents pair.updated) (stored_extents pair.saved)
-      (All-cons (λ e. end_of e ≤ length (facts a).content) pair.updated.directory (block_extents pair.updated.table.places.items) updated.0 updated.1)
-      (All-cons (λ e. end_of e ≤ length (facts a).content) pair.saved.directory (block_extents pair.saved.table.places.items) saved.0 saved.1))
+      (All-cons (λ e. end_of e ≤ length (facts a).content) pair.updated.directory (block_extents pair.updated.table.value.places.items) updated.0 updated.1)
+      (All-cons (λ e. end_of e ≤ length (facts a).content) pair.saved.directory (block_extents pair.saved.table.value.places.items) saved.0 saved.1))
 
   -- extents behind the slots
   still_kept : (es : List Extent) → All IsPlaced es → (so : IsTrue (facts a).honest) → All (λ e. end_of e ≤ length (facts a).content) es → KeepsAll es (facts a).content (facts b).content

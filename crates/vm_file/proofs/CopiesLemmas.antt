@@ -1,15 +1,15 @@
--- What holds of a table holds of a copy.
+-- What holds of a table holds of a copy, and of a document that shares it.
 use Rattle.std.proofs.Common.{◌≡◌, ◌⊎◌, ℕ, suc, ◌-◌, ◌≤◌, Bool, true, false, IsTrue, List, ◌∷◌, length, get_or, Option, None, Some, is_some, All, refl, sym, ap, ap₂, subst, ◌∙◌, arith, inl, inr}
 use Rattle.std.specs.Prelude.{if◌then◌else◌}
 use Rattle.std.proofs.lemmas.List.Elements.{All-append}
 use Rattle.vm_store.specs.Facts.{StoreFacts}
-use Rattle.geos_model.specs.File.{Directory, directory_of}
+use Rattle.geos_model.specs.File.{directory_of}
 use Rattle.vm_file.specs.Ranges.{IsPlaced}
 use Rattle.vm_file.specs.Slots.{block_extents, stored_extents, pair_extents}
-use Rattle.vm_file.specs.Documents.{blocks_in, document_in, documents_in, entries_of, AreImaged, IsStored, AreStored}
+use Rattle.vm_file.specs.Documents.{blocks_in, directory_of_table, document_in, documents_in, AreImaged, IsStored, AreStored}
 use Rattle.vm_file.specs.Sound.{ArePlaces, IsBlockTable, AreTables, IsSound}
 use Rattle.vm_file.specs.Disk.{SameUnlessCorrupt}
-use Rattle.vm_file.specs.Copies.{IsCopy, IsStoredCopy}
+use Rattle.vm_file.specs.Copies.{IsCopy, IsSameStored}
 use Rattle.vm_file.specs.declared.table.Place.{Place}
 use Rattle.vm_file.specs.declared.table.BlockTable.{BlockTable}
 use Rattle.vm_file.specs.declared.table.DocumentRef.{DocumentRef}
@@ -34,39 +34,36 @@ copy_formed copy table is was = record {
   map_block = copied (λ m ps. (m ≡ 0) ⊎ ((1 ≤ m) × (is_some (get_or ps (m - 1) None) ≡ true))) copy table is was.map_block;
 }
 
-pub copy_extents : (copy stored : DocumentRef) → IsStoredCopy copy stored → stored_extents copy ≡ stored_extents stored
-copy_extents copy stored is = λ i. is.directory i ∷ block_extents (is.table.places i)
+pub same_extents : (other stored : DocumentRef) → IsSameStored other stored → stored_extents other ≡ stored_extents stored
+same_extents other stored is = λ i. is.directory i ∷ block_extents (is.table i).places.items
 
-abbrev listed : ℕ → ℕ → List (Option Place) → Option Directory
-listed version m ps = Some (record { version = version; map_block = m; entries = entries_of 1 ps })
-
-pub copy_document_ref : (version : ℕ) (file : List ℕ) (copy stored : DocumentRef) → IsStoredCopy copy stored → IsStored version file stored → IsStored version file copy
-copy_document_ref version file copy stored is was = record {
+pub same_stored : (version : ℕ) (file : List ℕ) (other stored : DocumentRef) → IsSameStored other stored → IsStored version file stored → IsStored version file other
+same_stored version file other stored is was = record {
   version = was.version;
-  directory = ap (directory_of version file) is.directory ∙ was.directory ∙ sym (ap₂ (λ (m : ℕ) (ps : List (Option Place)). listed was.version m ps) is.table.map_block is.table.places);
-  images = subst (AreImaged file) (sym is.table.places) was.images;
+  directory = ap (directory_of version file) is.directory ∙ was.directory ∙ sym (ap (λ (t : BlockTable). Some (directory_of_table was.version t)) is.table);
+  images = subst (λ (t : BlockTable). AreImaged file t.places.items) (sym is.table) was.images;
 }
 
--- A pair of two copies.
-module _ (file : List ℕ) (pair : Pair) (updated saved : DocumentRef) (first : IsStoredCopy pair.updated updated) (second : IsStoredCopy pair.saved saved) where
-  pub pair_documents : documents_in file pair ≡ (document_in file updated.table, document_in file saved.table)
-  pair_documents = λ i. (copy_document file pair.updated.table updated.table first.table i, copy_document file pair.saved.table saved.table second.table i)
+-- A pair of two documents that are these.
+module _ (file : List ℕ) (pair : Pair) (updated saved : DocumentRef) (first : IsSameStored pair.updated updated) (second : IsSameStored pair.saved saved) where
+  pub pair_documents : documents_in file pair ≡ (document_in file updated.table.value, document_in file saved.table.value)
+  pair_documents = λ i. (document_in file (first.table i), document_in file (second.table i))
 
-  pub pair_tables : IsBlockTable updated.table → IsBlockTable saved.table → AreTables pair
-  pair_tables u s = record { updated = copy_formed pair.updated.table updated.table first.table u; saved = copy_formed pair.saved.table saved.table second.table s }
+  pub pair_tables : IsBlockTable updated.table.value → IsBlockTable saved.table.value → AreTables pair
+  pair_tables u s = record { updated = subst IsBlockTable (sym first.table) u; saved = subst IsBlockTable (sym second.table) s }
 
   pub pair_placed : All IsPlaced (stored_extents updated) → All IsPlaced (stored_extents saved) → All IsPlaced (pair_extents pair)
-  pair_placed u s = All-append IsPlaced (stored_extents pair.updated) (stored_extents pair.saved) (subst (All IsPlaced) (sym (copy_extents pair.updated updated first)) u) (subst (All IsPlaced) (sym (copy_extents pair.saved saved second)) s)
+  pair_placed u s = All-append IsPlaced (stored_extents pair.updated) (stored_extents pair.saved) (subst (All IsPlaced) (sym (same_extents pair.updated updated first)) u) (subst (All IsPlaced) (sym (same_extents pair.saved saved second)) s)
 
   pub pair_stored : (version : ℕ) → IsStored version file updated → IsStored version file saved → AreStored version file pair
-  pair_stored version u s = record { updated = copy_document_ref version file pair.updated updated first u; saved = copy_document_ref version file pair.saved saved second s }
+  pair_stored version u s = record { updated = same_stored version file pair.updated updated first u; saved = same_stored version file pair.saved saved second s }
 
 -- the saved document, as the live one
-pub sound_saved : (store : StoreFacts) (live copy : BlockTable) (slots : Slots) → IsCopy copy slots.committed.saved.table → IsSound store live slots → IsSound store copy slots
+pub sound_saved : (store : StoreFacts) (live copy : BlockTable) (slots : Slots) → IsCopy copy slots.committed.saved.table.value → IsSound store live slots → IsSound store copy slots
 sound_saved store live copy slots is sound =
     let saved = slots.committed.saved in
     let placed = all_right IsPlaced (stored_extents slots.committed.updated) (stored_extents saved) (kept_pair IsPlaced slots sound.formed.kept) in
-    sound_live store live copy slots sound (copy_formed copy saved.table is sound.formed.committed.saved) (subst (λ ps. All IsPlaced (block_extents ps)) (sym is.places) (λ k d inside. placed (suc k) d (omega arith)))
+    sound_live store live copy slots sound (copy_formed copy saved.table.value is sound.formed.committed.saved) (subst (λ ps. All IsPlaced (block_extents ps)) (sym is.places) (λ k d inside. placed (suc k) d (omega arith)))
     (λ so. subst (AreImaged store.content) (sym is.places) (sound.whole so).committed.saved.images)
     (λ so. subst (λ ps. All (EndsIn store.content) (block_extents ps)) (sym is.places) (stored_within slots.version store.content saved (sound.whole so).committed.saved).1)
 
@@ -75,10 +72,6 @@ pub sound_copied : (store : StoreFacts) (live copy : BlockTable) (slots : Slots)
 sound_copied store live copy slots is sound =
     sound_marked store live slots (Some copy) sound (copy_formed copy live is sound.formed.table) (subst (λ ps. All IsPlaced (block_extents ps)) (sym is.places) sound.formed.placed)
     (λ so. subst (AreImaged store.content) (sym is.places) (sound.whole so).images) (λ so. subst (λ ps. All (EndsIn store.content) (block_extents ps)) (sym is.places) (sound.whole so).within)
-
--- a copy of what was copied
-pub copies_alike : (copy other table : BlockTable) → IsCopy copy table → IsCopy other table → IsCopy copy other
-copies_alike copy other table is same = record { map_block = is.map_block ∙ sym same.map_block; places = is.places ∙ sym same.places }
 
 pub copy_itself : (table : BlockTable) → IsCopy table table
 copy_itself table = record { map_block = refl; places = refl }
@@ -90,13 +83,13 @@ copy_drifts honest file c copy table is same =
     let drift = subst (λ d. SameUnlessCorrupt false (document_in file table) d) (sym (copy_document c copy table is)) (places_drift false file c table.places.items table.map_block nothing) in
     record { live = drift.live; attributes = drift.attributes; kinds = drift.kinds; map_block = drift.map_block; same = same }
 
--- The saved document beside one that is to be committed: a copy of that one, or of the one that was saved.
+-- The saved document beside one that is to be committed: that one, or the one that was saved.
 
-pub beside_alike : (saves : Bool) (copy pending committed : DocumentRef) → IsStoredCopy copy (if saves then pending else committed) → IsStoredCopy copy committed ⊎ IsStoredCopy copy pending
-beside_alike true copy pending committed is = inr is
-beside_alike false copy pending committed is = inl is
+pub beside_alike : (saves : Bool) (saved pending committed : DocumentRef) → IsSameStored saved (if saves then pending else committed) → IsSameStored saved committed ⊎ IsSameStored saved pending
+beside_alike true saved pending committed is = inr is
+beside_alike false saved pending committed is = inl is
 
-pub beside_document : (file : List ℕ) (saves : Bool) (copy pending committed : DocumentRef) (live : BlockTable) → IsStoredCopy copy (if saves then pending else committed) → IsCopy pending.table live
-    → document_in file copy.table ≡ (if saves then document_in file live else document_in file committed.table)
-beside_document file true copy pending committed live is table = copy_document file copy.table pending.table is.table ∙ copy_document file pending.table live table
-beside_document file false copy pending committed live is table = copy_document file copy.table committed.table is.table
+pub beside_document : (file : List ℕ) (saves : Bool) (saved pending committed : DocumentRef) (live : BlockTable) → IsSameStored saved (if saves then pending else committed) → IsCopy pending.table.value live
+    → document_in file saved.table.value ≡ (if saves then document_in file live else document_in file committed.table.value)
+beside_document file true saved pending committed live is table = ap (document_in file) is.table ∙ copy_document file pending.table.value live table
+beside_document file false saved pending committed live is table = ap (document_in file) is.table

@@ -32,25 +32,25 @@ entries_within file_version n version h (Some place ∷ places) all (suc k) d in
     let entry : Entry = record { handle = record { 0 = h }; attributes = place.attributes; extent = place.extent } in
     entries_within file_version n version (h + 1) places (and_parts (is_entry file_version n version entry) (list_all (is_entry file_version n version) (entries_of (h + 1) places)) all).1 k d (omega arith)
 
-pub stored_within : (version : ℕ) (file : List ℕ) (s : DocumentRef) → IsStored version file s → (end_of s.directory ≤ length file) × All (λ e. end_of e ≤ length file) (block_extents s.table.places.items)
+pub stored_within : (version : ℕ) (file : List ℕ) (s : DocumentRef) → IsStored version file s → (end_of s.directory ≤ length file) × All (λ e. end_of e ≤ length file) (block_extents s.table.value.places.items)
 stored_within version file s stored =
-    let d : Directory = directory_of_table stored.version s.table in
+    let d : Directory = directory_of_table stored.version s.table.value in
     let there = directory_of-some version file s.directory d stored.directory in
     let good = (directory_in-some version (length file) (bytes_in file s.directory) d there.1).0 in
-    ((is_in_file-parts version (length file) s.directory there.0).within, entries_within version (length file) stored.version 1 s.table.places.items (is_directory-parts version (length file) d good).entries)
+    ((is_in_file-parts version (length file) s.directory there.0).within, entries_within version (length file) stored.version 1 s.table.value.places.items (is_directory-parts version (length file) d good).entries)
 
 -- They are the same in one that has their bytes.
 
-stored_again : (version : ℕ) (file c : List ℕ) (s : DocumentRef) → IsStored version file s → KeepsAll (stored_extents s) file c → IsStored version c s × (document_in c s.table ≡ document_in file s.table)
+stored_again : (version : ℕ) (file c : List ℕ) (s : DocumentRef) → IsStored version file s → KeepsAll (stored_extents s) file c → IsStored version c s × (document_in c s.table.value ≡ document_in file s.table.value)
 stored_again version file c s stored keeps =
     let within = (stored_within version file s stored).1 in
-    let blocks : KeepsAll (block_extents s.table.places.items) file c = λ k x inside. keeps (suc k) x (omega arith) in (
+    let blocks : KeepsAll (block_extents s.table.value.places.items) file c = λ k x inside. keeps (suc k) x (omega arith) in (
       record {
         version = stored.version;
-        directory = directory_of-kept version file c s.directory (directory_of_table stored.version s.table) stored.directory (keeps 0 s.directory (omega arith)) (keeps_entries file c 1 s.table.places.items blocks);
-        images = images_same file c s.table.places.items within blocks stored.images;
+        directory = directory_of-kept version file c s.directory (directory_of_table stored.version s.table.value) stored.directory (keeps 0 s.directory (omega arith)) (keeps_entries file c 1 s.table.value.places.items blocks);
+        images = images_same file c s.table.value.places.items within blocks stored.images;
       },
-      ap (λ (bs : List (Option Block)). record { blocks = table_map 1 1 bs; map_block = s.table.map_block }) (blocks_same file c s.table.places.items within blocks),
+      ap (λ (bs : List (Option Block)). record { blocks = table_map 1 1 bs; map_block = s.table.value.map_block }) (blocks_same file c s.table.value.places.items within blocks),
     )
 
 pub pair_again : (version : ℕ) (file c : List ℕ) (pair : Pair) → AreStored version file pair → KeepsAll (pair_extents pair) file c → AreStored version c pair × (documents_in c pair ≡ documents_in file pair)
@@ -69,6 +69,6 @@ prepared_again file c (Prepared pair) stored keeps = let again = pair_again 2 fi
 pub stored_newer : (version : ℕ) (file : List ℕ) (s : DocumentRef) → IsStored version file s → IsStored 2 file s
 stored_newer version file s stored = record {
   version = stored.version;
-  directory = directory_of-newer version file s.directory (directory_of_table stored.version s.table) stored.directory;
+  directory = directory_of-newer version file s.directory (directory_of_table stored.version s.table.value) stored.directory;
   images = stored.images;
 }

@@ -73,8 +73,8 @@ module _ {S : Type 0} (facts : S → StoreFacts) where
     early = λ is. absurd (cc (is, by));
   }
 
-  stored_valid : (version : ℕ) (file : List ℕ) (s : DocumentRef) → IsBlockTable s.table → IsStored version file s → IsValid (document_in file s.table)
-  stored_valid version file s table stored = document_at-valid version file s.directory (document_in file s.table) (stored_document version file s table stored)
+  stored_valid : (version : ℕ) (file : List ℕ) (s : DocumentRef) → IsBlockTable s.table.value → IsStored version file s → IsValid (document_in file s.table.value)
+  stored_valid version file s table stored = document_at-valid version file s.directory (document_in file s.table.value) (stored_document version file s table stored)
 
   -- what is sound
   pub sound_file : (store : S) (live : BlockTable) (slots : Slots) → IsSound (facts store) live slots → IsFile facts (record { disk = disk_of facts store slots; document = document_in (facts store).content live })
@@ -83,8 +83,8 @@ module _ {S : Type 0} (facts : S → StoreFacts) where
       let pair = slots.committed in
       record {
         document = listed f.honest f.content live sound.formed.table (λ so. (sound.whole so).images);
-        updated = listed f.honest f.content pair.updated.table sound.formed.committed.updated (λ so. (sound.whole so).committed.updated.images);
-        saved = listed f.honest f.content pair.saved.table sound.formed.committed.saved (λ so. (sound.whole so).committed.saved.images);
+        updated = listed f.honest f.content pair.updated.table.value sound.formed.committed.updated (λ so. (sound.whole so).committed.updated.images);
+        saved = listed f.honest f.content pair.saved.table.value sound.formed.committed.saved (λ so. (sound.whole so).committed.saved.images);
         valid = λ so. (
           stored_valid slots.version f.content pair.updated sound.formed.committed.updated (sound.whole so).committed.updated,
           stored_valid slots.version f.content pair.saved sound.formed.committed.saved (sound.whole so).committed.saved,

@@ -6,8 +6,8 @@ use Rattle.geos_model.specs.declared.file.Extent.{Extent}
 use Rattle.geos_model.specs.Document.{most_blocks}
 use Rattle.vm_space.specs.Space.{Space, AreTaken, IsTaken}
 use Rattle.vm_space.proofs.SpaceLemmas.{taken-permuted}
-use Rattle.vm_file.specs.Copies.{IsCopy, IsStoredCopy}
-use Rattle.vm_file.specs.FreeSpace.{IsSpaceOf, Replaces, AreAmongTaken, next_pair}
+use Rattle.vm_file.specs.Copies.{IsCopy, IsSameStored}
+use Rattle.vm_file.specs.FreeSpace.{IsSpaceOf, Replaces, AreAmongTaken, next_saved, next_extents}
 use Rattle.vm_file.specs.Ranges.{IsPlaced}
 use Rattle.vm_file.specs.Slots.{block_extents, stored_extents, pair_extents, prepared_extents, marked_extents, referenced_extents, switched}
 use Rattle.vm_file.specs.Sound.{IsFormed}
@@ -15,7 +15,7 @@ use Rattle.vm_file.specs.declared.table.Place.{Place}
 use Rattle.vm_file.specs.declared.table.BlockTable.{BlockTable}
 use Rattle.vm_file.specs.declared.table.DocumentRef.{DocumentRef}
 use Rattle.vm_file.specs.declared.slot.Slots.{Slots}
-use Rattle.vm_file.proofs.CopiesLemmas.{copy_extents}
+use Rattle.vm_file.proofs.CopiesLemmas.{same_extents}
 use Rattle.vm_file.proofs.FreeSpaceLemmas.{swapped, one_block}
 use Rattle.vm_file.proofs.PlacingLemmas.{blocks_split}
 use Rattle.vm_file.proofs.PutBlocksLemmas.{pair_few, marked_few}
@@ -151,7 +151,7 @@ module _ (directory : Extent) (live : BlockTable) (slots : Slots) (saves : Bool)
   marked = marked_extents slots.marked
 
   abbrev pub next : List Extent
-  next = stored_extents (next_pair directory live slots saves).saved
+  next = next_saved directory live slots saves
 
   at_first : AreTaken (mine ++ (updated ++ (saved ++ marked))) a
   at_first = subst (λ l. AreTaken (mine ++ l) a) (settled_extents slots none) are
@@ -203,24 +203,23 @@ module _ (directory : Extent) (live : BlockTable) (slots : Slots) (saves : Bool)
       pub directory_taken : IsTaken directory c
       directory_taken = (block_extents live.places.items ++ (mine ++ (next ++ marked)), at_third)
 
-      pub committed_taken : ((rest : List Extent) → AreTaken (directory ∷ rest) c → AreTaken rest d) → AreTaken (block_extents live.places.items ++ referenced_extents (switched slots (next_pair directory live slots saves))) d
-      committed_taken left =
-          subst (λ l. AreTaken (block_extents live.places.items ++ l) d) (sym (settled_extents (switched slots (next_pair directory live slots saves)) refl))
-          (left (block_extents live.places.items ++ (mine ++ (next ++ marked))) at_third)
+      pub committed_taken : ((rest : List Extent) → AreTaken (directory ∷ rest) c → AreTaken rest d) → AreTaken (block_extents live.places.items ++ next_extents directory live slots saves) d
+      committed_taken left = left (block_extents live.places.items ++ (mine ++ (next ++ marked))) at_third
 
--- copies lie where what they are of does
-pub next_extents : (live : BlockTable) (slots : Slots) (saves : Bool) (pending saved : DocumentRef) → IsCopy pending.table live → IsStoredCopy saved (if saves then pending else slots.committed.saved)
-    → pair_extents (record { updated = pending; saved = saved }) ≡ pair_extents (next_pair pending.directory live slots saves)
-next_extents live slots true pending saved copy alike =
-    let here : stored_extents pending ≡ pending.directory ∷ block_extents live.places.items = ap (λ ps. pending.directory ∷ block_extents ps) copy.places in
-    ap₂ (λ (xs ys : List Extent). xs ++ ys) here (copy_extents saved pending alike ∙ here)
-next_extents live slots false pending saved copy alike =
-    ap₂ (λ (xs ys : List Extent). xs ++ ys) (ap (λ ps. pending.directory ∷ block_extents ps) copy.places) (copy_extents saved slots.committed.saved alike)
+-- the saved document lies where it is to
+next_saved_is : (live : BlockTable) (slots : Slots) (saves : Bool) (pending saved : DocumentRef) → IsCopy pending.table.value live → IsSameStored saved (if saves then pending else slots.committed.saved)
+    → stored_extents saved ≡ next_saved pending.directory live slots saves
+next_saved_is live slots true pending saved copy same = same_extents saved pending same ∙ ap (λ ps. pending.directory ∷ block_extents ps) copy.places
+next_saved_is live slots false pending saved copy same = same_extents saved slots.committed.saved same
 
-pub next_known : (live : BlockTable) (slots now : Slots) (saves : Bool) (pending saved : DocumentRef) (space : Option Space) → IsCopy pending.table live → IsStoredCopy saved (if saves then pending else slots.committed.saved)
+pub next_known : (live : BlockTable) (slots now : Slots) (saves : Bool) (pending saved : DocumentRef) (space : Option Space) → IsCopy pending.table.value live → IsSameStored saved (if saves then pending else slots.committed.saved)
     → now ≡ switched slots (record { updated = pending; saved = saved })
-    → IsSpaceOf (block_extents live.places.items ++ referenced_extents (switched slots (next_pair pending.directory live slots saves))) space
+    → IsSpaceOf (block_extents live.places.items ++ next_extents pending.directory live slots saves) space
     → IsSpaceOf (block_extents live.places.items ++ referenced_extents now) space
-next_known live slots now saves pending saved space copy alike is known =
+next_known live slots now saves pending saved space copy same is known =
+    let after : Slots = switched slots (record { updated = pending; saved = saved }) in
+    let stands : referenced_extents after ≡ next_extents pending.directory live slots saves =
+    settled_extents after refl
+    ∙ ap₂ (λ (xs ys : List Extent). xs ++ (ys ++ marked_extents slots.marked)) (ap (λ ps. pending.directory ∷ block_extents ps) copy.places) (next_saved_is live slots saves pending saved copy same) in
     subst (λ s. IsSpaceOf (block_extents live.places.items ++ referenced_extents s) space) (sym is)
-    (subst (λ p. IsSpaceOf (block_extents live.places.items ++ (p ++ marked_extents slots.marked)) space) (sym (next_extents live slots saves pending saved copy alike)) known)
+    (subst (λ l. IsSpaceOf (block_extents live.places.items ++ l) space) (sym stands) known)

@@ -70,11 +70,11 @@ slots_laid directory text a b c d behind directory_put first second =
 
 -- Copies of a table.
 
-copy_table : (directory : Extent) (live : BlockTable) (s : DocumentRef) → IsLiveStored directory live s → IsBlockTable live → IsBlockTable s.table
+copy_table : (directory : Extent) (live : BlockTable) (s : DocumentRef) → IsLiveStored directory live s → IsBlockTable live → IsBlockTable s.table.value
 copy_table directory live s copy is =
     let m = live.map_block in
     let P : List (Option Place) → Type 0 = λ ps. (m ≡ 0) ⊎ ((1 ≤ m) × (is_some (get_or ps (m - 1) None) ≡ true)) in
-    let Q : ℕ → Type 0 = λ n. (n ≡ 0) ⊎ ((1 ≤ n) × (is_some (get_or s.table.places.items (n - 1) None) ≡ true)) in
+    let Q : ℕ → Type 0 = λ n. (n ≡ 0) ⊎ ((1 ≤ n) × (is_some (get_or s.table.value.places.items (n - 1) None) ≡ true)) in
     record {
       size = (let long = ap length copy.places in let few = is.size in omega (arith, long, few));
       places = subst ArePlaces (sym copy.places) is.places;
@@ -84,14 +84,8 @@ copy_table directory live s copy is =
 copy_extents : (directory : Extent) (live : BlockTable) (s : DocumentRef) → IsLiveStored directory live s → stored_extents s ≡ directory ∷ block_extents live.places.items
 copy_extents directory live s copy = λ i. copy.directory_is i ∷ block_extents (copy.places i)
 
-copy_document_ref : (file : List ℕ) (directory : Extent) (live : BlockTable) (s : DocumentRef) → IsLiveStored directory live s → IsStored 2 file (record { directory = directory; table = live }) → IsStored 2 file s
-copy_document_ref file directory live s copy is =
-    let same : directory_of_table is.version s.table ≡ directory_of_table is.version live = λ i. record { version = is.version; map_block = copy.map_block i; entries = entries_of 1 (copy.places i) } in
-    record {
-      version = is.version;
-      directory = ap (directory_of 2 file) copy.directory_is ∙ is.directory ∙ sym (ap (λ d. Some d) same);
-      images = subst (AreImaged file) (sym copy.places) is.images;
-    }
+copy_listed : (directory : Extent) (live : BlockTable) (s : DocumentRef) → IsLiveStored directory live s → directory_of_table 2 s.table.value ≡ directory_of_table 2 live
+copy_listed directory live s copy = λ i. record { version = 2; map_block = copy.map_block i; entries = entries_of 1 (copy.places i) }
 
 -- The images that a file is made of lie there.
 pub record AreLying (live : BlockTable) (file : List ℕ) : Type 0 where
@@ -146,10 +140,16 @@ module _ (directory : Extent) (text : List ℕ) (live : BlockTable) (slots : Slo
     images : AreImaged file live.places.items
     images = images_same old file live.places.items lying.within keeps lying.images
 
-    one_stored : IsStored 2 file (record { directory = directory; table = live })
-    one_stored = directory_written file (record { directory = directory; table = live }) founding.table
-        (All-cons IsPlaced directory es founding.directory_placed founding.placed)
-        images within founding.attributes (sym founding.size ∙ ap length founding.text_is) (subst (λ t. Holds file (start_of directory) t) founding.text_is laid.there)
+    one_stored : (s : DocumentRef) → IsLiveStored directory live s → IsStored 2 file s
+    one_stored s copy =
+        let text_is = founding.text_is ∙ sym (ap directory_text (copy_listed directory live s copy)) in
+        directory_written file s (copy_table directory live s copy founding.table)
+        (subst (All IsPlaced) (sym (copy_extents directory live s copy)) (All-cons IsPlaced directory es founding.directory_placed founding.placed))
+        (subst (AreImaged file) (sym copy.places) images)
+        (subst (λ ps. All (λ e. end_of e ≤ length file) (block_extents ps)) (sym copy.places) within)
+        (subst (λ ps. All (λ e. FitAttributes e.attributes) (entries_of 1 ps)) (sym copy.places) founding.attributes)
+        (ap (λ (e : Extent). e.length) copy.directory_is ∙ sym founding.size ∙ ap length text_is)
+        (subst (λ (e : Extent). Holds file (start_of e) (directory_text (directory_of_table 2 s.table.value))) (sym copy.directory_is) (subst (λ t. Holds file (start_of directory) t) text_is laid.there))
 
     leads : LeadsTo 0 2 1 slots.committed file file
     leads = record {
@@ -177,7 +177,7 @@ module _ (directory : Extent) (text : List ℕ) (live : BlockTable) (slots : Slo
     whole = record {
       images = images;
       within = within;
-      committed = subst (λ v. AreStored v file slots.committed) (sym first.version) (record { updated = copy_document_ref file directory live slots.committed.updated first.updated one_stored; saved = copy_document_ref file directory live slots.committed.saved first.saved one_stored });
+      committed = subst (λ v. AreStored v file slots.committed) (sym first.version) (record { updated = one_stored slots.committed.updated first.updated; saved = one_stored slots.committed.saved first.saved });
       prepared = subst (IsPreparedStored file) (sym first.spare) tt;
       marked = nothing_marked (λ t. AreImaged file t.places.items) slots.marked first.unmarked;
       marked_within = nothing_kept (λ e. end_of e ≤ length file) slots.marked first.unmarked;
@@ -233,7 +233,7 @@ empty_lying live is =
     }
 
 -- the live document is the updated and the saved one
-copy_shown : (file : List ℕ) (directory : Extent) (live : BlockTable) (s : DocumentRef) → IsLiveStored directory live s → document_in file s.table ≡ document_in file live
+copy_shown : (file : List ℕ) (directory : Extent) (live : BlockTable) (s : DocumentRef) → IsLiveStored directory live s → document_in file s.table.value ≡ document_in file live
 copy_shown file directory live s copy = λ i. record { blocks = table_map 1 1 (blocks_in file (copy.places i)); map_block = copy.map_block i }
 
 pub first_shown : (file : List ℕ) (directory : Extent) (live : BlockTable) (slots : Slots) → IsNewSlots directory live slots → IsOne file live slots

@@ -237,10 +237,10 @@ each_entry P file_version n version es all has k d inside =
 pub images_short : (file_version n : ℕ) (d : Directory) → is_directory file_version n d ≡ true → All (λ e. e.extent.length ≤ longest_image) d.entries
 images_short file_version n d good = each_entry (λ e. e.extent.length ≤ longest_image) file_version n d.version d.entries (files.is_directory-parts file_version n d good).entries (λ e is. is.short)
 
-pub read_formed : (version n : ℕ) (d : Directory) (s : DocumentRef) → is_directory version n d ≡ true → IsDirectoryPlace version n s.directory → entries_of 1 s.table.places.items ≡ d.entries
-    → ArePlaces s.table.places.items → length s.table.places.items ≤ most_blocks → s.table.map_block ≡ d.map_block → IsReadDocument n s
+pub read_formed : (version n : ℕ) (d : Directory) (s : DocumentRef) → is_directory version n d ≡ true → IsDirectoryPlace version n s.directory → entries_of 1 s.table.value.places.items ≡ d.entries
+    → ArePlaces s.table.value.places.items → length s.table.value.places.items ≤ most_blocks → s.table.value.map_block ≡ d.map_block → IsReadDocument n s
 read_formed version n d s good place entries are long map =
-    let ps = s.table.places.items in
+    let ps = s.table.value.places.items in
     let parts = files.is_directory-parts version n d good in
     let there = is_in_file-parts version n s.directory place.in_file in
     let reach = files.page_limit_of-most version in
@@ -251,13 +251,13 @@ read_formed version n d s good place entries are long map =
       table = record {
         size = long;
         places = are;
-        map_block = map_place s.table.map_block ps (ap₂ is_map_block map entries ∙ parts.map_block);
+        map_block = map_place s.table.value.map_block ps (ap₂ is_map_block map entries ∙ parts.map_block);
       };
       placed = all_more IsPlaced s.directory (block_extents ps) (record { behind = there.behind_slots; within = omega (arith, there.in_reach, reach); some = omega (arith, place.some); short = place.short }) placed;
       within = all_more (λ e. end_of e ≤ n) s.directory (block_extents ps) there.within inside;
     }
 
-pub read_directory : (d : Directory) (s : DocumentRef) → entries_of 1 s.table.places.items ≡ d.entries → s.table.map_block ≡ d.map_block → d ≡ directory_of_table d.version s.table
+pub read_directory : (d : Directory) (s : DocumentRef) → entries_of 1 s.table.value.places.items ≡ d.entries → s.table.value.map_block ≡ d.map_block → d ≡ directory_of_table d.version s.table.value
 unfolding made
 read_directory d s entries map = ap₂ (made d.version) (sym map) (sym entries)
 

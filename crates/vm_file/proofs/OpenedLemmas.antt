@@ -63,7 +63,7 @@ slots_whole file n active pair size is good are stored working saved =
       stored = stored;
       within = inside;
       outcome = record { gate = leads.0; counts = leads.1; beside = is.beside };
-      stands = stands-from file active.slot (document_in file pair.updated.table) (document_in file pair.saved.table) (record {
+      stands = stands-from file active.slot (document_in file pair.updated.table.value) (document_in file pair.saved.table.value) (record {
         long = is.long;
         counts = is.counts;
         version = good.version;
@@ -115,13 +115,13 @@ table_copied old new map items is = record {
 }
 
 pub opened_sound : (old new : StoreFacts) (live : BlockTable) (slots : Slots) → OnlyReadsStore old new → IsReadSlots slots → (IsTrue old.honest → IsReadWhole old.content slots) → (IsTrue new.honest → IsDurable new)
-    → live.map_block ≡ slots.committed.updated.table.map_block → live.places.items ≡ slots.committed.updated.table.places.items → IsSound new live slots
+    → live.map_block ≡ slots.committed.updated.table.value.map_block → live.places.items ≡ slots.committed.updated.table.value.places.items → IsSound new live slots
 opened_sound old new live slots looks formed whole durable map items =
     let updated = slots.committed.updated in
     let first = all_left IsPlaced (stored_extents updated) (stored_extents slots.committed.saved) formed.placed in
     record {
       formed = record {
-        table = table_copied updated.table live map items formed.committed.updated;
+        table = table_copied updated.table.value live map items formed.committed.updated;
         placed = subst (λ ps. All IsPlaced (block_extents ps)) (sym items) (λ k d within. first (suc k) d (omega (arith, within)));
         committed = formed.committed;
         prepared = nothing_formed slots.sequence slots.spare formed.spare;

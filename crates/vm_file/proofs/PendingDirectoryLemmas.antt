@@ -14,14 +14,14 @@ use Rattle.vm_file.specs.Slots.{CrashLeavesSlots, Outlives, block_extents, store
 use Rattle.vm_file.specs.Documents.{document_in, documents_in, AreImaged, IsStored, AreStored}
 use Rattle.vm_file.specs.Disk.{KeepsCommitted}
 use Rattle.vm_file.specs.Sound.{IsBlockTable, AreTables, IsFormed, IsSound, disk_of}
-use Rattle.vm_file.specs.Copies.{IsStoredCopy}
+use Rattle.vm_file.specs.Copies.{IsSameStored}
 use Rattle.vm_file.specs.PendingDirectories.{IsPendingDirectory}
 use Rattle.vm_file.specs.declared.directory.PendingDirectory.{PendingDirectory}
 use Rattle.vm_file.specs.declared.table.BlockTable.{BlockTable}
 use Rattle.vm_file.specs.declared.table.DocumentRef.{DocumentRef}
 use Rattle.vm_file.specs.declared.slot.Slots.{Slots}
 use Rattle.vm_file.proofs.WritingLemmas.{call_passes, call_sound}
-use Rattle.vm_file.proofs.CopiesLemmas.{copy_formed, copy_extents, copy_document_ref, copy_document}
+use Rattle.vm_file.proofs.CopiesLemmas.{copy_formed, same_extents, same_stored, copy_document}
 use Rattle.vm_file.proofs.RangesLemmas.{all_left, all_right, keeps_itself, keeps_within, torn_keeps}
 use Rattle.vm_file.proofs.DocumentsLemmas.{stored_newer}
 use Rattle.vm_file.proofs.SoundLemmas.{kept_pair, kept_marked}
@@ -74,33 +74,33 @@ module _ {S : Type 0} (facts : S → StoreFacts) (a b : S) (live : BlockTable) (
   pub write_stored : IsTrue (facts a).honest → Holds (facts b).content (start_of pending.document.directory) pending.text.items → IsStored 2 (facts b).content pending.document
   write_stored so holds =
       let copy = call.is_pending.table in
-      directory_written (facts b).content pending.document (copy_formed pending.document.table live copy call.sound.formed.table)
-      (All-cons IsPlaced pending.document.directory (block_extents pending.document.table.places.items) call.is_pending.placed (subst (λ ps. All IsPlaced (block_extents ps)) (sym copy.places) call.sound.formed.placed))
+      directory_written (facts b).content pending.document (copy_formed pending.document.table.value live copy call.sound.formed.table)
+      (All-cons IsPlaced pending.document.directory (block_extents pending.document.table.value.places.items) call.is_pending.placed (subst (λ ps. All IsPlaced (block_extents ps)) (sym copy.places) call.sound.formed.placed))
       (subst (AreImaged (facts b).content) (sym copy.places) (live_images so))
       (subst (λ ps. All (λ e. end_of e ≤ length (facts b).content) (block_extents ps)) (sym copy.places) (live_within so))
       call.is_pending.attributes (call.is_pending.size ∙ ap length call.is_pending.text) (subst (Holds (facts b).content (start_of pending.document.directory)) call.is_pending.text holds)
 
 -- The pair of the document as it is now, and of a saved one: the one that is committed, or the same.
 
-module _ (live : BlockTable) (slots : Slots) (pending : PendingDirectory) (saved : DocumentRef) (formed : IsFormed live slots) (is_pending : IsPendingDirectory live slots pending) (alike : IsStoredCopy saved slots.committed.saved ⊎ IsStoredCopy saved pending.document) where
+module _ (live : BlockTable) (slots : Slots) (pending : PendingDirectory) (saved : DocumentRef) (formed : IsFormed live slots) (is_pending : IsPendingDirectory live slots pending) (alike : IsSameStored saved slots.committed.saved ⊎ IsSameStored saved pending.document) where
   pending_placed : All IsPlaced (stored_extents pending.document)
-  pending_placed = All-cons IsPlaced pending.document.directory (block_extents pending.document.table.places.items) is_pending.placed (subst (λ ps. All IsPlaced (block_extents ps)) (sym is_pending.table.places) formed.placed)
+  pending_placed = All-cons IsPlaced pending.document.directory (block_extents pending.document.table.value.places.items) is_pending.placed (subst (λ ps. All IsPlaced (block_extents ps)) (sym is_pending.table.places) formed.placed)
 
   saved_placed : All IsPlaced (stored_extents slots.committed.saved)
   saved_placed = all_right IsPlaced (stored_extents slots.committed.updated) (stored_extents slots.committed.saved) (kept_pair IsPlaced slots formed.kept)
 
   pub both_placed : All IsPlaced (pair_extents (record { updated = pending.document; saved = saved }))
   both_placed = All-append IsPlaced (stored_extents pending.document) (stored_extents saved) pending_placed (elim alike as (λ _. All IsPlaced (stored_extents saved)) [
-    | inl committed ↦ subst (All IsPlaced) (sym (copy_extents saved slots.committed.saved committed)) saved_placed
-    | inr same ↦ subst (All IsPlaced) (sym (copy_extents saved pending.document same)) pending_placed
+    | inl committed ↦ subst (All IsPlaced) (sym (same_extents saved slots.committed.saved committed)) saved_placed
+    | inr same ↦ subst (All IsPlaced) (sym (same_extents saved pending.document same)) pending_placed
   ])
 
   pub both_tables : AreTables (record { updated = pending.document; saved = saved })
   both_tables = record {
-    updated = copy_formed pending.document.table live is_pending.table formed.table;
-    saved = elim alike as (λ _. IsBlockTable saved.table) [
-      | inl committed ↦ copy_formed saved.table slots.committed.saved.table committed.table formed.committed.saved
-      | inr same ↦ copy_formed saved.table pending.document.table same.table (copy_formed pending.document.table live is_pending.table formed.table)
+    updated = copy_formed pending.document.table.value live is_pending.table formed.table;
+    saved = elim alike as (λ _. IsBlockTable saved.table.value) [
+      | inl committed ↦ subst IsBlockTable (sym committed.table) formed.committed.saved
+      | inr same ↦ subst IsBlockTable (sym same.table) (copy_formed pending.document.table.value live is_pending.table formed.table)
     ];
   }
 
@@ -109,19 +109,20 @@ module _ (live : BlockTable) (slots : Slots) (pending : PendingDirectory) (saved
   both_stored file committed written = record {
     updated = written;
     saved = elim alike as (λ _. IsStored 2 file saved) [
-      | inl copy ↦ copy_document_ref 2 file saved slots.committed.saved copy (stored_newer slots.version file slots.committed.saved committed)
-      | inr same ↦ copy_document_ref 2 file saved pending.document same written
+      | inl copy ↦ same_stored 2 file saved slots.committed.saved copy (stored_newer slots.version file slots.committed.saved committed)
+      | inr same ↦ same_stored 2 file saved pending.document same written
     ];
   }
 
   -- what they are before and after the directory is written
-  pub both_documents : (file c : List ℕ) → document_in c live ≡ document_in file live → document_in c slots.committed.saved.table ≡ document_in file slots.committed.saved.table
-      → documents_in c (record { updated = pending.document; saved = saved }) ≡ (document_in file live, document_in file saved.table)
+  pub both_documents : (file c : List ℕ) → document_in c live ≡ document_in file live → document_in c slots.committed.saved.table.value ≡ document_in file slots.committed.saved.table.value
+      → documents_in c (record { updated = pending.document; saved = saved }) ≡ (document_in file live, document_in file saved.table.value)
   both_documents file c same committed_same =
-      let first : document_in c pending.document.table ≡ document_in file live = copy_document c pending.document.table live is_pending.table ∙ same in
-      let second : document_in c saved.table ≡ document_in file saved.table = elim alike as (λ _. document_in c saved.table ≡ document_in file saved.table) [
-        | inl copy ↦ copy_document c saved.table slots.committed.saved.table copy.table ∙ committed_same ∙ sym (copy_document file saved.table slots.committed.saved.table copy.table)
-        | inr like ↦ copy_document c saved.table pending.document.table like.table ∙ first ∙ sym (copy_document file pending.document.table live is_pending.table) ∙ sym (copy_document file saved.table pending.document.table like.table)
+      let first : document_in c pending.document.table.value ≡ document_in file live = copy_document c pending.document.table.value live is_pending.table ∙ same in
+      let there = saved.table.value in
+      let second : document_in c there ≡ document_in file there = elim alike as (λ _. document_in c there ≡ document_in file there) [
+        | inl was ↦ ap (document_in c) was.table ∙ committed_same ∙ sym (ap (document_in file) was.table)
+        | inr like ↦ ap (document_in c) like.table ∙ first ∙ sym (copy_document file pending.document.table.value live is_pending.table) ∙ sym (ap (document_in file) like.table)
       ] in
       λ i. (first i, second i)
 

@@ -36,8 +36,8 @@ use Rattle.vm_file.proofs.TableLemmas.{EachPlace, shown, places_drift, blocks_sa
 
 -- There are not too many extents: those of the blocks of six documents, and four directories.
 
-pub stored_few : (s : DocumentRef) → IsBlockTable s.table → length (stored_extents s) ≤ most_blocks + 1
-stored_few s table = let few = length-block_extents s.table.places.items in let size = table.size in omega (arith, few, size)
+pub stored_few : (s : DocumentRef) → IsBlockTable s.table.value → length (stored_extents s) ≤ most_blocks + 1
+stored_few s table = let few = length-block_extents s.table.value.places.items in let size = table.size in omega (arith, few, size)
 
 pub pair_few : (pair : Pair) → AreTables pair → length (pair_extents pair) ≤ 2 * most_blocks + 2
 pair_few pair tables =

@@ -60,11 +60,11 @@ table_blocks file h (Some place ∷ places) good are =
     ap₂ prepended (block_of-is file entry body image (λ raw. typed (kind ∙ raw)) ∙ ap (λ b. Some (numbered h (record { attributes = place.attributes; body = b }))) (sym (of_kind-same place.is_heap body kind))) more
 
 -- the directory's document
-pub stored_document : (version : ℕ) (file : List ℕ) (s : DocumentRef) → IsBlockTable s.table → IsStored version file s → document_at version file s.directory ≡ Some (document_in file s.table)
+pub stored_document : (version : ℕ) (file : List ℕ) (s : DocumentRef) → IsBlockTable s.table.value → IsStored version file s → document_at version file s.directory ≡ Some (document_in file s.table.value)
 unfolding table_map
 stored_document version file s table stored =
     ap (option_and_then (document_of file)) stored.directory
-    ∙ ap (option_map (λ blocks. record { blocks = from_entries blocks; map_block = s.table.map_block })) (table_blocks file 1 s.table.places.items table.places stored.images)
+    ∙ ap (option_map (λ blocks. record { blocks = from_entries blocks; map_block = s.table.value.map_block })) (table_blocks file 1 s.table.value.places.items table.places stored.images)
 
 -- Files in which the bytes are the same.
 
@@ -75,9 +75,9 @@ keeps_entries file c h (Some place ∷ places) keeps zero d within = keeps 0 pla
 keeps_entries file c h (Some place ∷ places) keeps (suc k) d within = keeps_entries file c (h + 1) places (λ i x inside. keeps (suc i) x (omega arith)) k d (omega arith)
 
 -- a document whose bytes are kept
-pub stored_kept : (version : ℕ) (file c : List ℕ) (s : DocumentRef) → IsBlockTable s.table → IsStored version file s → KeepsAll (stored_extents s) file c → document_at version c s.directory ≡ Some (document_in file s.table)
+pub stored_kept : (version : ℕ) (file c : List ℕ) (s : DocumentRef) → IsBlockTable s.table.value → IsStored version file s → KeepsAll (stored_extents s) file c → document_at version c s.directory ≡ Some (document_in file s.table.value)
 stored_kept version file c s table stored keeps =
-    document_at-kept version file c s.directory (directory_of_table stored.version s.table) stored.directory (keeps 0 s.directory (omega arith)) (keeps_entries file c 1 s.table.places.items (λ i x inside. keeps (suc i) x (omega arith)))
+    document_at-kept version file c s.directory (directory_of_table stored.version s.table.value) stored.directory (keeps 0 s.directory (omega arith)) (keeps_entries file c 1 s.table.value.places.items (λ i x inside. keeps (suc i) x (omega arith)))
     ∙ stored_document version file s table stored
 
 -- A slot.
@@ -185,7 +185,7 @@ pub stands_for : (version sequence : ℕ) (pair : Pair) (file c : List ℕ) → 
     → counting_slot (open_slot c 0) (open_slot c 1) ≡ Ok (slot_value version sequence pair) → stands c ≡ Ok (documents_in file pair)
 stands_for version sequence pair file c fits stored updated saved counts_is =
     let first = updated 0 pair.updated.directory (omega arith) in
-    stands-from c (slot_value version sequence pair) (document_in file pair.updated.table) (document_in file pair.saved.table) (record {
+    stands-from c (slot_value version sequence pair) (document_in file pair.updated.table.value) (document_in file pair.saved.table.value) (record {
       long = omega (arith, first.within, fits.updated.behind);
       counts = counts_is;
       version = fits.versioned;

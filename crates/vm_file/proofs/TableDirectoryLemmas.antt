@@ -64,16 +64,16 @@ map_listed table is = elim is.map_block as (λ _. is_map_block table.map_block (
 ]
 
 -- A directory of version 2 whose text stands in a file of that version is that of its table.
-pub directory_written : (file : List ℕ) (s : DocumentRef) → IsBlockTable s.table → All IsPlaced (stored_extents s) → AreImaged file s.table.places.items → All (λ e. end_of e ≤ length file) (block_extents s.table.places.items)
-    → All (λ e. FitAttributes e.attributes) (entries_of 1 s.table.places.items) → s.directory.length ≡ length (directory_text (directory_of_table 2 s.table)) → Holds file (start_of s.directory) (directory_text (directory_of_table 2 s.table)) → IsStored 2 file s
+pub directory_written : (file : List ℕ) (s : DocumentRef) → IsBlockTable s.table.value → All IsPlaced (stored_extents s) → AreImaged file s.table.value.places.items → All (λ e. end_of e ≤ length file) (block_extents s.table.value.places.items)
+    → All (λ e. FitAttributes e.attributes) (entries_of 1 s.table.value.places.items) → s.directory.length ≡ length (directory_text (directory_of_table 2 s.table.value)) → Holds file (start_of s.directory) (directory_text (directory_of_table 2 s.table.value)) → IsStored 2 file s
 directory_written file s is placed imaged within attributes size holds =
-    let d = directory_of_table 2 s.table in
+    let d = directory_of_table 2 s.table.value in
     let here = placed 0 s.directory (omega arith) in
     let good : is_directory 2 (length file) d ≡ true = is_directory-from 2 (length file) d (record {
       version = refl;
-      rising = rising 0 1 s.table.places.items (omega arith);
-      entries = entries_can_be file 1 s.table.places.items (omega (arith, is.size)) is.places (λ i x inside. placed (suc i) x (omega arith)) within;
-      map_block = map_listed s.table is;
+      rising = rising 0 1 s.table.value.places.items (omega arith);
+      entries = entries_can_be file 1 s.table.value.places.items (omega (arith, is.size)) is.places (λ i x inside. placed (suc i) x (omega arith)) within;
+      map_block = map_listed s.table.value is;
     }) in
     let inside : is_in_file 2 (length file) s.directory ≡ true = is_in_file-from 2 (length file) s.directory here.behind (omega (arith, holds.within, size)) here.within in
     let types : FitTypes 2 d.entries = λ one. absurd (cc one) in

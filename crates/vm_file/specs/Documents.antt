@@ -44,7 +44,7 @@ document_in file table =
     record { blocks = table_map 1 1 (blocks_in file table.places.items); map_block = table.map_block }
 
 abbrev pub documents_in : List ℕ → Pair → Documents
-documents_in file pair = (document_in file pair.updated.table, document_in file pair.saved.table)
+documents_in file pair = (document_in file pair.updated.table.value, document_in file pair.saved.table.value)
 
 -- those of a commit that failed in its last step
 abbrev pub attempted_in : List ℕ → SpareSlot → List Documents
@@ -77,8 +77,8 @@ AreImaged file places = All (λ place. IfSome place (IsImaged file)) places
 -- a document whose directory, of whichever version, and images lie in the file, which is of a version
 pub record IsStored (file_version : ℕ) (file : List ℕ) (s : DocumentRef) : Type 0 where
   pub version : ℕ
-  pub directory : directory_of file_version file s.directory ≡ Some (directory_of_table version s.table)
-  pub images : AreImaged file s.table.places.items
+  pub directory : directory_of file_version file s.directory ≡ Some (directory_of_table version s.table.value)
+  pub images : AreImaged file s.table.value.places.items
 
 pub record AreStored (file_version : ℕ) (file : List ℕ) (pair : Pair) : Type 0 where
   pub updated : IsStored file_version file pair.updated

@@ -1,10 +1,9 @@
 -- The free space of a file, where it is known.
-use Rattle.std.specs.Prelude.{◌≡◌, ◌+◌, List, ◌++◌, Option, IfSome, length, Bool, if◌then◌else◌}
+use Rattle.std.specs.Prelude.{◌≡◌, ◌+◌, List, ◌∷◌, ◌++◌, Option, IfSome, length, Bool, if◌then◌else◌}
 use Rattle.geos_model.specs.declared.file.Extent.{Extent}
 use Rattle.vm_space.specs.Space.{Space, AreTaken}
+use Rattle.vm_file.specs.Slots.{block_extents, stored_extents, marked_extents}
 use Rattle.vm_file.specs.declared.table.BlockTable.{BlockTable}
-use Rattle.vm_file.specs.declared.table.DocumentRef.{DocumentRef}
-use Rattle.vm_file.specs.declared.table.Pair.{Pair}
 use Rattle.vm_file.specs.declared.slot.Slots.{Slots}
 
 -- these extents are the ones that are taken, where it is known
@@ -24,8 +23,13 @@ Replaces gone extents old new = (rest : List Extent) → AreTaken (gone ++ rest)
 abbrev pub AreAmongTaken : List Extent → Space → Type 0
 AreAmongTaken extents space = (rest : List Extent) × AreTaken (extents ++ rest) space
 
--- what a commit of the live document with this directory makes the slots lead to
-abbrev pub next_pair : Extent → BlockTable → Slots → Bool → Pair
-next_pair directory live slots saves =
-    let updated : DocumentRef = record { directory = directory; table = live } in
-    record { updated = updated; saved = if saves then updated else slots.committed.saved }
+-- what the saved document lies on once the live one is committed with this directory, and saved too or not
+abbrev pub next_saved : Extent → BlockTable → Slots → Bool → List Extent
+next_saved directory live slots saves =
+    if saves then directory ∷ block_extents live.places.items else stored_extents slots.committed.saved
+
+-- all that the slots stand on then, where no other commit is in doubt, and the marked document
+abbrev pub next_extents : Extent → BlockTable → Slots → Bool → List Extent
+next_extents directory live slots saves =
+    (directory ∷ block_extents live.places.items)
+    ++ (next_saved directory live slots saves ++ marked_extents slots.marked)

@@ -36,8 +36,8 @@ pub record IsLaid (gate : ℕ) (directory : Extent) (text old new : List ℕ) : 
 -- the same document, with a directory
 pub record IsLiveStored (directory : Extent) (live : BlockTable) (s : DocumentRef) : Type 0 where
   pub directory_is : s.directory ≡ directory
-  pub map_block : s.table.map_block ≡ live.map_block
-  pub places : s.table.places.items ≡ live.places.items
+  pub map_block : s.table.value.map_block ≡ live.map_block
+  pub places : s.table.value.places.items ≡ live.places.items
 
 -- the slots of a file that was just made: updated and saved is the live document
 pub record IsNewSlots (directory : Extent) (live : BlockTable) (slots : Slots) : Type 0 where
@@ -51,8 +51,8 @@ pub record IsNewSlots (directory : Extent) (live : BlockTable) (slots : Slots) :
 
 -- so that the live document is the updated and the saved one
 pub record IsOne (file : List ℕ) (live : BlockTable) (slots : Slots) : Type 0 where
-  pub updated : document_in file slots.committed.updated.table ≡ document_in file live
-  pub saved : document_in file slots.committed.saved.table ≡ document_in file live
+  pub updated : document_in file slots.committed.updated.table.value ≡ document_in file live
+  pub saved : document_in file slots.committed.saved.table.value ≡ document_in file live
   pub in_doubt : attempted_in file slots.spare ≡ []
   pub unmarked : slots.marked ≡ None
   pub version : slots.version ≡ 2

@@ -43,7 +43,7 @@ pub record IsDirectoryPlace (version n : ℕ) (e : Extent) : Type 0 where
 
 -- a document that was read from a file of n bytes
 pub record IsReadDocument (n : ℕ) (s : DocumentRef) : Type 0 where
-  pub table : IsBlockTable s.table
+  pub table : IsBlockTable s.table.value
   pub placed : All IsPlaced (stored_extents s)
   pub within : All (λ e. end_of e ≤ n) (stored_extents s)
 

@@ -12,10 +12,10 @@ use Rattle.vm_file.specs.declared.slot.Slots.{Slots}
 
 -- The directory of the live table in version 2, with its text and a place on which nothing lies that stays.
 pub record IsPendingDirectory (live : BlockTable) (slots : Slots) (pending : PendingDirectory) : Type 0 where
-  pub table : IsCopy pending.document.table live
-  pub text : pending.text.items ≡ directory_text (directory_of_table 2 pending.document.table)
+  pub table : IsCopy pending.document.table.value live
+  pub text : pending.text.items ≡ directory_text (directory_of_table 2 pending.document.table.value)
   pub size : pending.document.directory.length ≡ length pending.text.items
   pub placed : IsPlaced pending.document.directory
   pub clear : IsClear (start_of pending.document.directory) pending.document.directory.length
       (block_extents live.places.items ++ referenced_extents slots)
-  pub attributes : All (λ e. FitAttributes e.attributes) (entries_of 1 pending.document.table.places.items)
+  pub attributes : All (λ e. FitAttributes e.attributes) (entries_of 1 pending.document.table.value.places.items)

@@ -22,7 +22,7 @@ block_extents (None ∷ places) = block_extents places
 block_extents (Some place ∷ places) = place.extent ∷ block_extents places
 
 abbrev pub stored_extents : DocumentRef → List Extent
-stored_extents s = s.directory ∷ block_extents s.table.places.items
+stored_extents s = s.directory ∷ block_extents s.table.value.places.items
 
 abbrev pub pair_extents : Pair → List Extent
 pair_extents p = stored_extents p.updated ++ stored_extents p.saved

@@ -37,8 +37,8 @@ pub record IsBlockTable (table : BlockTable) : Type 0 where
 
 -- so are the tables of a pair
 pub record AreTables (pair : Pair) : Type 0 where
-  pub updated : IsBlockTable pair.updated.table
-  pub saved : IsBlockTable pair.saved.table
+  pub updated : IsBlockTable pair.updated.table.value
+  pub saved : IsBlockTable pair.saved.table.value
 
 -- and those of a commit that failed in its last step, whose number is the next
 abbrev pub IsPreparedFormed : ℕ → SpareSlot → Type 0
@@ -85,8 +85,8 @@ disk_of facts store slots =
     let file = (facts store).content in
     record {
       store = store;
-      updated = document_in file slots.committed.updated.table;
-      saved = document_in file slots.committed.saved.table;
+      updated = document_in file slots.committed.updated.table.value;
+      saved = document_in file slots.committed.saved.table.value;
       in_doubt = attempted_in file slots.spare;
       sequence = slots.sequence;
       marked = option_map (document_in file) slots.marked;

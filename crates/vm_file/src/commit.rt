@@ -10,13 +10,13 @@ ghost use Rattle.vm_store.specs.Laws.{Tears};
 ghost use Rattle.vm_file.specs.Slots.{behind_gate, pair_extents, spare_of, switched, AreExtentsPlaced, CrashLeavesSlots, Outlives, FailedEarly, Failed};
 ghost use Rattle.vm_file.specs.Disk.{MayCommit};
 ghost use Rattle.vm_file.specs.PendingDirectories.{IsPendingDirectory};
-ghost use Rattle.vm_file.specs.Copies.{IsStoredCopy};
+ghost use Rattle.vm_file.specs.Copies.{IsSameStored};
 
 use crate::directory::{PendingDirectory, write_pending};
 use crate::slot::{Slots, SpareSlot, behind_gate_bytes, is_shut, spare_gate, spare_slot};
-use crate::table::{BlockTable, DocumentRef, Pair, copy_document_ref};
+use crate::table::{BlockTable, DocumentRef, Pair, share};
 use geos_model::{Fault, VERSION};
-use std::alloc::{AllocError, Global};
+use std::alloc::AllocError;
 use vm_space::SLOT_MARK;
 use vm_store::{Store, StoreFault};
 
@@ -208,20 +208,19 @@ pub fn commit_pair<S: Store>(
     }
 }
 
-/// The saved document beside a pending one: a copy of the pending one where the commit `saves`, else of the saved one.
+/// The saved document beside a pending one: the pending one where the commit `saves`, else the one that was saved.
 pub fn saved_beside(
-    alloc: Global,
     pending: &PendingDirectory,
     slots: &Slots,
     saves: bool,
 ) -> Result<DocumentRef, AllocError>
     ensures { IfOk result
-        (λ saved. IsStoredCopy saved (if saves then pending.now.document else slots.now.committed.saved)) }
+        (λ saved. IsSameStored saved (if saves then pending.now.document else slots.now.committed.saved)) }
 {
     if saves {
-        copy_document_ref(alloc, &pending.document)
+        share(&pending.document)
     } else {
-        copy_document_ref(alloc, &slots.committed.saved)
+        share(&slots.committed.saved)
     }
 }
 
@@ -237,10 +236,10 @@ pub fn commit_pending<S: Store>(
     requires sound { IsSound (S.facts store.old) live.now slots.old }
     requires sequence { slots.old.sequence < last_sequence }
     requires pending { IsPendingDirectory live.now slots.old pending }
-    requires saved { IsStoredCopy saved slots.old.committed.saved ⊎ IsStoredCopy saved pending.document }
+    requires saved { IsSameStored saved slots.old.committed.saved ⊎ IsSameStored saved pending.document }
     // The commit.
     ensures commits { MayCommit S.facts
-        (document_in (S.facts store.old).content live.now, document_in (S.facts store.old).content saved.table)
+        (document_in (S.facts store.old).content live.now, document_in (S.facts store.old).content saved.table.value)
         (disk_of S.facts store.old slots.old) (disk_of S.facts store.new slots.new) result }
     ensures sound { IsSound (S.facts store.new) live.now slots.new }
     ensures same { IsTrue (S.facts store.old).honest

@@ -15,7 +15,7 @@ ghost use Rattle.vm_file.specs.PendingDirectories.{IsPendingDirectory};
 
 use crate::extent::{read_extent, write_extent};
 use crate::slot::Slots;
-use crate::table::{BlockTable, DocumentRef, Place, copy_table};
+use crate::table::{BlockTable, DocumentRef, Place, shared_copy};
 use geos_model::{Attributes, Entry, Extent, Fault, VmHandle};
 use std::alloc::{AllocError, Global};
 use vm_space::{Directory, FreeSpace, LONGEST_DIRECTORY, is_in_file, read_dir, write_dir};
@@ -153,7 +153,7 @@ pub fn pending_directory_of(
     let entries = entries_of(alloc, &live.places)?;
     let text = write_dir(alloc, VmHandle(live.map_block), &entries)?;
     let directory = place_directory(live, slots, space, text.len() as u32)?;
-    let table = copy_table(alloc, live)?;
+    let table = shared_copy(alloc, live)?;
     Ok(PendingDirectory {
         document: DocumentRef { directory, table },
         text,

@@ -387,7 +387,7 @@ impl<S: Store> VmFile<S> {
         let known = self.space.take();
         let mut space = known_space(self.alloc, &self.live.places, &self.slots, known)?;
         let pending = pending_directory_of(self.alloc, &self.live, &self.slots, &mut space)?;
-        let saved = saved_beside(self.alloc, &pending, &self.slots, saves)?;
+        let saved = saved_beside(&pending, &self.slots, saves)?;
         let directory = pending.document.directory;
         let space = space_of_commit(space, directory, &self.live, &self.slots, saves);
         let result = commit_pending(&mut self.store, &mut self.slots, &self.live, pending, saved);
@@ -410,7 +410,7 @@ impl<S: Store> VmFile<S> {
         }
         let saved = &self.slots.committed.saved;
         let live = copy_table(self.alloc, &saved.table)?;
-        let pair = both_of(self.alloc, saved)?;
+        let pair = both_of(saved)?;
         self.space = None;
         commit_pair(&mut self.store, &mut self.slots, pair, &self.live)?;
         self.live = live;

@@ -8,7 +8,7 @@ ghost use Rattle.vm_file.specs.Sound.{IsSound};
 
 use crate::extent::start_of;
 use crate::slot::{Slots, SpareSlot, slot_bytes};
-use crate::table::{BlockTable, DocumentRef, Pair, copy_table};
+use crate::table::{BlockTable, DocumentRef, both_of, shared_copy};
 use geos_model::{Extent, Fault, PAGE, VERSION, VmHandle};
 use std::alloc::{AllocError, Global};
 use vm_space::{SLOT_MARK, write_dir};
@@ -41,18 +41,9 @@ pub fn first_slots(
     ensures live { IfOk result (λ made. made.live ≡ live) }
     ensures first { IfOk result (λ made. IsNewSlots directory live made.slots) }
 {
-    let updated = copy_table(alloc, &live)?;
-    let saved = copy_table(alloc, &live)?;
-    let committed = Pair {
-        updated: DocumentRef {
-            directory,
-            table: updated,
-        },
-        saved: DocumentRef {
-            directory,
-            table: saved,
-        },
-    };
+    let table = shared_copy(alloc, &live)?;
+    let stored = DocumentRef { directory, table };
+    let committed = both_of(&stored)?;
     let slots = Slots {
         second: false,
         version: VERSION,

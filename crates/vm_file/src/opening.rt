@@ -11,9 +11,10 @@ ghost use Rattle.vm_file.specs.Opened.{OnlyReadsStore, IsReadRefusal, IsReadDocu
 use crate::directory::read_directory;
 use crate::kind::{known_kind, read_kind};
 use crate::slot::{Slots, SpareSlot, check_slot, find_slot};
-use crate::table::{BlockTable, DocumentRef, Pair, Place, copy_table};
+use crate::table::{BlockTable, DocumentRef, Pair, Place, copy_table, share};
 use geos_model::{Entry, Extent, Fault, Slot};
 use std::alloc::{AllocError, Global};
+use std::rc::Rc;
 use vm_space::MOST_ENTRIES;
 use vm_store::Store;
 
@@ -137,16 +138,19 @@ fn read_document<S: Store>(
 {
     let directory = read_directory(alloc, store, version, file_length, extent)?;
     let places = read_places(alloc, store, &directory.entries, known)?;
+    let table = BlockTable {
+        map_block: directory.map_block.0,
+        places,
+    };
+    let table = Rc::new(alloc, table)?;
     Ok(DocumentRef {
         directory: extent,
-        table: BlockTable {
-            map_block: directory.map_block.0,
-            places,
-        },
+        table,
     })
 }
 
-/// Reads the saved document beside the updated one: what both have is read once.
+/// Reads the saved document beside the updated one: what both have is read once, and one table serves both where they
+/// are the same.
 fn read_saved<S: Store>(
     alloc: Global,
     store: &mut S,
@@ -173,11 +177,8 @@ fn read_saved<S: Store>(
     ensures refusals { IfErr result IsReadRefusal }
 {
     if updated.directory == extent {
-        let table = copy_table(alloc, &updated.table)?;
-        return Ok(DocumentRef {
-            directory: extent,
-            table,
-        });
+        let shared = share(updated)?;
+        return Ok(shared);
     }
     read_document(
         alloc,
@@ -279,8 +280,8 @@ pub fn open_slots<S: Store>(alloc: Global, store: &mut S) -> Result<(Slots, Bloc
     ensures looks { OnlyReadsStore (S.facts store.old) (S.facts store.new) }
     // What is read.
     ensures sound { IfOk result (λ p. IsSound (S.facts store.new) p.1 p.0) }
-    ensures live { IfOk result (λ p. (p.1.map_block ≡ p.0.committed.updated.table.map_block)
-        × (p.1.places.items ≡ p.0.committed.updated.table.places.items)) }
+    ensures live { IfOk result (λ p. (p.1.map_block ≡ p.0.committed.updated.table.value.map_block)
+        × (p.1.places.items ≡ p.0.committed.updated.table.value.places.items)) }
     ensures alone { IfOk result (λ p. (p.0.spare ≡ SpareSlot.Shut) ⊎ (p.0.spare ≡ SpareSlot.Stale)) }
     ensures unmarked { IfOk result (λ p. p.0.marked ≡ None) }
     ensures stands { IfOk result (λ p. IsTrue (S.facts store.old).honest

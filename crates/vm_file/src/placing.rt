@@ -3,8 +3,8 @@ ghost use Rattle.std.specs.Prelude.{◌≡◌, ◌++◌, ◌∷◌, [], ◌+◌,
 ghost use Rattle.geos_model.specs.declared.file.Extent.{Extent};
 ghost use Rattle.vm_space.specs.Space.{AreTaken};
 ghost use Rattle.vm_file.specs.Ranges.{IsPlaced};
-ghost use Rattle.vm_file.specs.Slots.{block_extents, stored_extents, pair_extents, prepared_extents, marked_extents, referenced_extents, switched};
-ghost use Rattle.vm_file.specs.FreeSpace.{IsSpaceOf, MarksTaken, Replaces, AreAmongTaken, next_pair};
+ghost use Rattle.vm_file.specs.Slots.{block_extents, stored_extents, pair_extents, prepared_extents, marked_extents, referenced_extents};
+ghost use Rattle.vm_file.specs.FreeSpace.{IsSpaceOf, MarksTaken, Replaces, AreAmongTaken, next_saved, next_extents};
 ghost use Rattle.vm_file.specs.Sound.{IsFormed};
 ghost use Rattle.vm_file.specs.Writing.{AreFor};
 
@@ -227,7 +227,7 @@ fn follow_saved(
     requires placed { All IsPlaced (directory ∷ block_extents live.now.places.items) }
     requires taken { AreAmongTaken (stored_extents slots.now.committed.saved) space.old }
     ensures { OnOk result (Replaces (stored_extents slots.now.committed.saved)
-        (stored_extents (next_pair directory live.now slots.now saves).saved) space.old space.new) }
+        (next_saved directory live.now slots.now saves) space.old space.new) }
 {
     if saves {
         follow_document(space, &slots.committed.saved, directory, live)
@@ -250,7 +250,7 @@ fn follow_commit(
     requires taken { AreTaken (directory ∷ (block_extents live.now.places.items ++ referenced_extents slots.now))
         space.old }
     ensures { OnOk result (AreTaken (block_extents live.now.places.items
-        ++ referenced_extents (switched slots.now (next_pair directory live.now slots.now saves))) space.new) }
+        ++ next_extents directory live.now slots.now saves) space.new) }
 {
     follow_document(space, &slots.committed.updated, directory, live)?;
     follow_saved(space, directory, live, slots, saves)?;
@@ -272,7 +272,7 @@ pub fn space_of_commit(
     requires taken { AreTaken (directory ∷ (block_extents live.now.places.items ++ referenced_extents slots.now))
         space }
     ensures { IsSpaceOf (block_extents live.now.places.items
-        ++ referenced_extents (switched slots.now (next_pair directory live.now slots.now saves))) result }
+        ++ next_extents directory live.now slots.now saves) result }
 {
     if let SpareSlot::Prepared(_) = &slots.spare {
         return None;

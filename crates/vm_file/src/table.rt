@@ -1,4 +1,4 @@
-//! The blocks of a document and where their images lie in the file; copies of that.
+//! The blocks of a document and where their images lie in the file; copies of that, and who shares it.
 ghost use Rattle.std.specs.Prelude.{IsTrue, IfErr, IsErrOf, true, ◌≡◌, ◌≤◌, ◌-◌, ◌++◌, ◌∷◌, [], List, All, IfSome, IsOk, OnOk, OnErr, None, Some, get_or, length, max, slice_set, IfOk};
 ghost use Rattle.vm_store.specs.Facts.{FailedSince};
 ghost use Rattle.geos_model.specs.Document.{is_live, block_at};
@@ -11,7 +11,7 @@ ghost use Rattle.vm_file.specs.Listing.{IsPlaceOf};
 ghost use Rattle.vm_file.specs.Calls.{IsPut, IsImageLength, IsResourceFault};
 ghost use Rattle.vm_file.specs.Slots.{block_extents, referenced_extents};
 ghost use Rattle.vm_file.specs.FreeSpace.{IsSpaceOf};
-ghost use Rattle.vm_file.specs.Copies.{IsCopy, IsStoredCopy};
+ghost use Rattle.vm_file.specs.Copies.{IsCopy, IsSameStored};
 ghost use Rattle.vm_file.specs.declared.table.Place.{Place};
 ghost use Rattle.geos_model.specs.declared.file.Extent.{Extent};
 ghost use Rattle.vm_space.specs.Space.{AreTaken};
@@ -22,6 +22,7 @@ use crate::member::Member;
 use crate::slot::Slots;
 use geos_model::{Attributes, Extent, Fault, VmHandle};
 use std::alloc::{AllocError, Global};
+use std::rc::Rc;
 use vm_space::FreeSpace;
 use vm_store::Store;
 
@@ -44,11 +45,12 @@ pub struct BlockTable {
     pub places: Vec<Option<Place>>,
 }
 
-/// A document whose directory and blocks lie in the file.
+/// A document whose directory and blocks lie in the file. Its table never changes, so that several documents share it
+/// where they are the same.
 #[derive(Drop)]
 pub struct DocumentRef {
     pub directory: Extent,
-    pub table: BlockTable,
+    pub table: Rc<BlockTable>,
 }
 
 /// What a slot leads to: the updated and the saved document.
@@ -68,10 +70,20 @@ pub fn copy_table(alloc: Global, table: &BlockTable) -> Result<BlockTable, Alloc
     })
 }
 
-pub fn copy_document_ref(alloc: Global, stored: &DocumentRef) -> Result<DocumentRef, AllocError>
-    ensures { IfOk result (λ copy. IsStoredCopy copy stored.now) }
+/// A copy that several documents can share.
+pub fn shared_copy(alloc: Global, table: &BlockTable) -> Result<Rc<BlockTable>, AllocError>
+    ensures { IfOk result (λ shared. IsCopy shared.value table.now) }
 {
-    let table = copy_table(alloc, &stored.table)?;
+    let copy = copy_table(alloc, table)?;
+    let shared = Rc::new(alloc, copy)?;
+    Ok(shared)
+}
+
+/// The same document once more, over the same table.
+pub fn share(stored: &DocumentRef) -> Result<DocumentRef, AllocError>
+    ensures { IfOk result (λ shared. IsSameStored shared stored.now) }
+{
+    let table = stored.table.clone()?;
     Ok(DocumentRef {
         directory: stored.directory,
         table,
@@ -79,12 +91,12 @@ pub fn copy_document_ref(alloc: Global, stored: &DocumentRef) -> Result<Document
 }
 
 /// The pair of which both documents are this one.
-pub fn both_of(alloc: Global, stored: &DocumentRef) -> Result<Pair, AllocError>
-    ensures updated { IfOk result (λ pair. IsStoredCopy pair.updated stored.now) }
-    ensures saved { IfOk result (λ pair. IsStoredCopy pair.saved stored.now) }
+pub fn both_of(stored: &DocumentRef) -> Result<Pair, AllocError>
+    ensures updated { IfOk result (λ pair. IsSameStored pair.updated stored.now) }
+    ensures saved { IfOk result (λ pair. IsSameStored pair.saved stored.now) }
 {
-    let updated = copy_document_ref(alloc, stored)?;
-    let saved = copy_document_ref(alloc, stored)?;
+    let updated = share(stored)?;
+    let saved = share(stored)?;
     Ok(Pair { updated, saved })
 }
 

@@ -1,3 +1,5 @@
+use Rattle.std.proofs.Common.{subst}
+use Rattle.vm_file.specs.Copies.{IsCopy}
 use Rattle.vm_file.proofs.LooksLemmas.{OnlyReadsStore-trans}
 use Rattle.vm_file.proofs.OpenedLemmas.{opened_sound}
 use Rattle.vm_file.proofs.opening.open_slots.Goals as goal
@@ -11,4 +13,5 @@ returns-clause-looks g c = OnlyReadsStore-trans _ _ _ (λ so. g.met.S.Store.time
 pub returns-clause-sound : goal.returns-clause-sound
 returns-clause-sound g c =
     let looks = OnlyReadsStore-trans _ _ _ (λ so. g.met.S.Store.timely c.args.store.now so) c.read_slots.ensures.looks c.sync.ensures.looks in
-    opened_sound _ _ c.in_ok-live.live c.in_ok-slots.slots looks c.in_ok-slots.ensures.formed c.in_ok-slots.ensures.whole c.in_ok-sync.ensures.durable c.in_ok-live.ensures.map_block c.in_ok-live.ensures.places
+    let copy = subst (IsCopy c.in_ok-live.live) c.deref.ensures c.in_ok-live.ensures in
+    opened_sound _ _ c.in_ok-live.live c.in_ok-slots.slots looks c.in_ok-slots.ensures.formed c.in_ok-slots.ensures.whole c.in_ok-sync.ensures.durable copy.map_block copy.places

@@ -1,23 +1,32 @@
-use Rattle.std.proofs.Common.{◌≤◌, Some, All, refl, ap, sym, subst, ◌∙◌}
+use Rattle.std.proofs.Common.{◌≤◌, Some, All, length, ap, sym, subst, ◌∙◌}
 use Rattle.geos_model.specs.Document.{most_blocks}
 use Rattle.geos_model.specs.File.{longest_image}
 use Rattle.geos_model.proofs.Files.{directory-low}
 use Rattle.vm_space.specs.Listed.{shown}
-use Rattle.vm_file.specs.Documents.{AreImaged}
+use Rattle.vm_file.specs.Documents.{entries_of, AreImaged}
+use Rattle.vm_file.specs.Sound.{ArePlaces}
 use Rattle.vm_file.proofs.LooksLemmas.{OnlyReadsStore-trans, held_before}
 use Rattle.vm_file.proofs.OpenedDirectoryLemmas.{images_short, read_formed, read_directory}
+use Rattle.vm_file.specs.declared.table.BlockTable.{BlockTable}
 use Rattle.vm_file.specs.declared.table.DocumentRef.{DocumentRef}
 use Rattle.vm_file.proofs.opening.read_document.Goals as goal
 
 pub returns-in_err-places-clause-looks : goal.returns-in_err-places-clause-looks
 returns-in_err-places-clause-looks g c = OnlyReadsStore-trans _ _ _ (λ so. g.met.S.Store.timely c.args.store.now so) c.read_directory.ensures.looks c.read_places.ensures.looks
 
+pub returns-in_err-table-clause-looks : goal.returns-in_err-table-clause-looks
+returns-in_err-table-clause-looks g c = OnlyReadsStore-trans _ _ _ (λ so. g.met.S.Store.timely c.args.store.now so) c.read_directory.ensures.looks c.read_places.ensures.looks
+
 pub returns-clause-looks : goal.returns-clause-looks
 returns-clause-looks g c = OnlyReadsStore-trans _ _ _ (λ so. g.met.S.Store.timely c.args.store.now so) c.read_directory.ensures.looks c.read_places.ensures.looks
 
 pub returns-clause-formed : goal.returns-clause-formed
 returns-clause-formed g c =
-    read_formed c.args.version c.args.file_length (shown c.in_ok-directory.directory) _ c.in_ok-directory.ensures.formed c.in_ok-directory.ensures.place (c.in_ok-places.ensures.entries ∙ c.deref.ensures.value) c.in_ok-places.ensures.places c.in_ok-places.ensures.size refl
+    let table = c.in_ok-table.ensures.ok in
+    let places = ap (λ (t : BlockTable). t.places.items) table in
+    read_formed c.args.version c.args.file_length (shown c.in_ok-directory.directory) _ c.in_ok-directory.ensures.formed c.in_ok-directory.ensures.place
+    (ap (entries_of 1) places ∙ c.in_ok-places.ensures.entries ∙ c.deref.ensures.value) (subst ArePlaces (sym places) c.in_ok-places.ensures.places)
+    (subst (λ ps. length ps ≤ most_blocks) (sym places) c.in_ok-places.ensures.size) (ap (λ (t : BlockTable). t.map_block) table)
 
 pub read_places-requires-clause-handles : goal.read_places-requires-clause-handles
 read_places-requires-clause-handles g c =
@@ -30,9 +39,12 @@ read_places-requires-clause-short g c =
 pub returns-clause-stored : goal.returns-clause-stored
 returns-clause-stored g c so =
     let d = shown c.in_ok-directory.directory in
-    let stored : DocumentRef = record { directory = c.args.extent; table = record { map_block = d.map_block; places = c.in_ok-places.places } } in
+    let stored : DocumentRef = record { directory = c.args.extent; table = c.in_ok-table.table } in
+    let table = c.in_ok-table.ensures.ok in
+    let places = ap (λ (t : BlockTable). t.places.items) table in
     record {
       version = d.version;
-      directory = c.in_ok-directory.ensures.read so ∙ ap Some (read_directory d stored (c.in_ok-places.ensures.entries ∙ c.deref.ensures.value) refl);
-      images = held_before (λ file. AreImaged file c.in_ok-places.places.items) _ _ c.read_directory.ensures.looks c.in_ok-places.ensures.imaged so;
+      directory = c.in_ok-directory.ensures.read so
+          ∙ ap Some (read_directory d stored (ap (entries_of 1) places ∙ c.in_ok-places.ensures.entries ∙ c.deref.ensures.value) (ap (λ (t : BlockTable). t.map_block) table));
+      images = subst (AreImaged _) (sym places) (held_before (λ file. AreImaged file c.in_ok-places.places.items) _ _ c.read_directory.ensures.looks c.in_ok-places.ensures.imaged so);
     }

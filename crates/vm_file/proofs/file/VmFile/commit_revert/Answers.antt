@@ -15,7 +15,7 @@ use Rattle.vm_file.specs.declared.table.Pair.{Pair}
 use Rattle.vm_file.proofs.RangesLemmas.{all_right}
 use Rattle.vm_file.proofs.DocumentsLemmas.{stored_newer}
 use Rattle.vm_file.proofs.SoundLemmas.{kept_pair}
-use Rattle.vm_file.proofs.CopiesLemmas.{pair_documents, pair_placed, pair_stored, sound_saved, copy_document, copies_alike, copy_itself, copy_drifts}
+use Rattle.vm_file.proofs.CopiesLemmas.{pair_documents, pair_placed, pair_stored, sound_saved, copy_document, copy_itself, copy_drifts}
 use Rattle.vm_file.proofs.EffectsLemmas.{refused, refused_by, tried, view_settled}
 use Rattle.vm_file.proofs.StandsLemmas.{turned_versioned}
 use Rattle.vm_file.proofs.file.VmFile.commit_revert.Goals as goal
@@ -72,8 +72,8 @@ pub invariant_of-self-2 : goal.invariant_of-self-2
 invariant_of-self-2 g c =
     let saved = c.self.inside.slots.committed.saved in
     let now = c.commit_pair.new.slots in
-    let alike = copies_alike c.in_ok-live.live c.in_ok-pair.pair.saved.table saved.table c.in_ok-live.ensures c.in_ok-pair.ensures.saved.table in
-    record { sound = sound_saved (g.S.Store.facts c.commit_pair.new.store) c.self.inside.live c.in_ok-live.live now (subst (λ (p : Pair). IsCopy c.in_ok-live.live p.saved.table) (sym c.in_ok-commit_pair.ensures.committed) alike) c.commit_pair.ensures.sound; bounded = subst (λ ps. AreBounds ps c.bounds_of-self-inside.result) c.deref.ensures.value c.bounds_of-self-inside.ensures; known = tt }
+    let alike = subst (IsCopy c.in_ok-live.live) (c.deref.ensures ∙ sym c.in_ok-pair.ensures.saved.table) c.in_ok-live.ensures in
+    record { sound = sound_saved (g.S.Store.facts c.commit_pair.new.store) c.self.inside.live c.in_ok-live.live now (subst (λ (p : Pair). IsCopy c.in_ok-live.live p.saved.table.value) (sym c.in_ok-commit_pair.ensures.committed) alike) c.commit_pair.ensures.sound; bounded = subst (λ ps. AreBounds ps c.bounds_of-self-inside.result) c.deref-2.ensures.value c.bounds_of-self-inside.ensures; known = tt }
 
 pub returns-clause-commit : goal.returns-clause-commit
 returns-clause-commit g c =
@@ -81,19 +81,21 @@ returns-clause-commit g c =
     let saved = i.slots.committed.saved in
     let pair = c.in_ok-pair.pair in
     let copy = c.in_ok-live.live in
+    let is = subst (IsCopy copy) c.deref.ensures c.in_ok-live.ensures in
     let a = facts i.store in let b = facts c.commit_pair.new.store in
     let documents = pair_documents a.content pair saved saved c.in_ok-pair.ensures.updated c.in_ok-pair.ensures.saved in
-    let same : IsTrue a.honest → document_in b.content copy ≡ document_in a.content saved.table = λ so.
-    copy_document b.content copy pair.saved.table (copies_alike copy pair.saved.table saved.table c.in_ok-live.ensures c.in_ok-pair.ensures.saved.table)
-    ∙ sym (ap (λ (p : Pair). document_in b.content p.saved.table) c.in_ok-commit_pair.ensures.committed)
+    let same : IsTrue a.honest → document_in b.content copy ≡ document_in a.content saved.table.value = λ so.
+    copy_document b.content copy saved.table.value is
+    ∙ sym (ap (document_in b.content) c.in_ok-pair.ensures.saved.table)
+    ∙ sym (ap (λ (p : Pair). document_in b.content p.saved.table.value) c.in_ok-commit_pair.ensures.committed)
     ∙ ap (λ (d : Documents). d.1) (c.in_ok-commit_pair.ensures.commits.ok so).0
-    ∙ copy_document a.content pair.saved.table saved.table c.in_ok-pair.ensures.saved.table in
+    ∙ ap (document_in a.content) c.in_ok-pair.ensures.saved.table in
     let old : FileState g.row.S.Denot = record { disk = disk_of facts i.store i.slots; document = document_in a.content i.live } in
     let new : FileState g.row.S.Denot = record { disk = disk_of facts c.commit_pair.new.store c.commit_pair.new.slots; document = document_in b.content copy } in
     subst (λ (f : FileState g.row.S.Denot). IsCommit facts (f.disk.saved, f.disk.saved) f.disk.saved f new (Ok tt)) c.self.view_is
     (tried facts g.met.S.Store.timely old new _ _ (Ok tt)
     (subst (λ (d : Documents). MayCommit facts d old.disk new.disk (Ok tt)) documents c.in_ok-commit_pair.ensures.commits)
-    (copy_drifts a.honest a.content b.content copy saved.table c.in_ok-live.ensures same) tt c.if-self.false)
+    (copy_drifts a.honest a.content b.content copy saved.table.value is same) tt c.if-self.false)
 
 pub returns-clause-version : goal.returns-clause-version
 returns-clause-version g c =
