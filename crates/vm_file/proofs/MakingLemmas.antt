@@ -8,7 +8,7 @@ use Rattle.vm_store.specs.Facts.{StoreFacts, byte, Holds, Puts, IsDurable}
 use Rattle.vm_store.specs.Laws.{Holds-Puts}
 use Rattle.geos_model.specs.Document.{empty_document, FitAttributes}
 use Rattle.geos_model.proofs.Table.{table_entries, table_map}
-use Rattle.geos_model.specs.File.{slot_mark, directory_of, directory_text, open_slot}
+use Rattle.geos_model.specs.File.{slot_mark, directory_text, open_slot}
 use Rattle.geos_model.specs.declared.file.Extent.{Extent}
 use Rattle.vm_file.specs.Ranges.{IsPlaced, start_of, end_of, KeepsAll, IsOut, IsClear}
 use Rattle.vm_file.specs.Slots.{gate_text, block_extents, stored_extents, pair_extents, prepared_extents, IsBeside, LeadsTo, Outcome}
