@@ -7,6 +7,7 @@ import filecmp
 import os
 import signal
 import subprocess
+from contextlib import suppress
 from dataclasses import dataclass
 from itertools import zip_longest
 from pathlib import Path
@@ -17,8 +18,16 @@ from workloads import Scale, Workload
 BATCH: Final = 1 << 20
 
 
+# How often a program is started that ends before it can be waited for.
+STARTS: Final = 20
+
+
 class BenchError(Exception):
     """A run that can't stand in the table."""
+
+
+class ReapedError(BenchError):
+    """The shell that started a short run was still there at its end, and took what was known of it."""
 
 
 @dataclass(frozen=True, slots=True)
@@ -82,18 +91,26 @@ def finish(process: int) -> tuple[int, Run]:
     try:
         _, status, used = os.wait4(process, 0)
     except ChildProcessError:
-        raise BenchError("it ended before it could be waited for") from None
+        raise ReapedError("it ended before it could be waited for") from None
     except KeyboardInterrupt:
         os.kill(process, signal.SIGKILL)
         raise
     return os.waitstatus_to_exitcode(status), Run(used.ru_utime, used.ru_stime, used.ru_maxrss * 1024)
 
 
+def waited(program: Path, script: Script, folder: Path) -> tuple[int, Run]:
+    """The exit status of a run on a new document, and what it took. One that the shell has reaped is started again."""
+    for _ in range(STARTS):
+        (folder / "document").unlink(missing_ok=True)
+        with suppress(ReapedError):
+            return finish(start(program, script.path, folder))
+    raise BenchError("it ended before it could be waited for, each time")
+
+
 def run(program: Path, script: Script, folder: Path) -> Run:
     """Runs the program on the script, and checks each of its replies."""
-    replies, errors, document = folder / "replies", folder / "errors", folder / "document"
-    document.unlink(missing_ok=True)
-    status, took = finish(start(program, script.path, folder))
+    replies, errors = folder / "replies", folder / "errors"
+    status, took = waited(program, script, folder)
     if status:
         raise BenchError(f"status {status}: {errors.read_text(errors='replace').strip()}")
     if not filecmp.cmp(replies, script.replies, shallow=False):
