@@ -17,7 +17,6 @@ from workloads import Scale, Workload
 
 BATCH: Final = 1 << 20
 
-
 # How often a program is started that ends before it can be waited for.
 STARTS: Final = 20
 
