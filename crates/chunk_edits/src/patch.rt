@@ -62,11 +62,12 @@ impl Span {
     }
 }
 
-/// How many spans a patch holds in its one allocation; for more it takes another.
-const FEW_SPANS: usize = 8;
+/// How many spans a patch holds in its one allocation, as many as an edit of an array of elements of one size has; for
+/// more it takes another.
+const FEW_SPANS: usize = 4;
 
 /// How many bytes that go or come it holds there too; for more it takes another.
-const FEW_BYTES: usize = 40;
+const FEW_BYTES: usize = 24;
 
 /// What a patch holds.
 #[derive(Drop)]
@@ -83,8 +84,8 @@ pub struct Patch {
     pieces: Box<Pieces>,
 }
 
-// A change has room for a patch or a splice, so a patch is no longer than that.
-const _: () = prove!(size_of::<Patch>() <= 32);
+// Each step of the log keeps a patch in itself.
+const _: () = prove!(size_of::<Patch>() == 8);
 
 impl Model for Patch {
     ghost use Rattle.std.specs.Prelude.{◌≡◌, List, length};
