@@ -80,7 +80,7 @@ pub fn mark_array(
 }
 
 /// Whether a block is the one in memory that was used last.
-pub fn is_first(frames: &LruCache<u16, Frame>, block: u16) -> bool
+fn is_first(frames: &LruCache<u16, Frame>, block: u16) -> bool
     ensures { result ≡ is_first (residents frames.now.entries) block }
 {
     match frames.peek_mru() {
