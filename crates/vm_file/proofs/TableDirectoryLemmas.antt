@@ -1,15 +1,15 @@
 -- A table as a directory in the file.
-use Rattle.std.proofs.Common.{◌≡◌, ℕ, zero, suc, ◌+◌, ◌-◌, ◌<◌, ◌≤◌, ◌==◌, nat_lt, true, false, List, [], ◌∷◌, ◌++◌, take, length, get_or, Option, None, Some, is_some, All, refl, sym, ap, ap₂, subst, ◌∙◌, arith, inl, inr, eq-eqb, lt-ltb, length-take}
+use Rattle.std.proofs.Common.{◌≡◌, ℕ, zero, suc, ◌+◌, ◌-◌, ◌<◌, ◌≤◌, ◌==◌, nat_lt, true, false, List, [], ◌∷◌, ◌++◌, take, length, get_or, Option, None, Some, is_some, All, refl, sym, ap, subst, ◌∙◌, arith, inl, inr, eq-eqb, lt-ltb, length-take}
 use Rattle.std.specs.Prelude.{IfSome, ◌||◌}
-use Rattle.std.specs.List.{list_all, list_any}
+use Rattle.std.specs.List.{flat_map, list_all, list_any}
 use Rattle.std.proofs.lemmas.Bool.{and_from, cond-true}
-use Rattle.std.proofs.lemmas.List.{get_or_past, take_more, append-nil}
+use Rattle.std.proofs.lemmas.List.{flat_map_more, get_or_past, take_more, append-nil}
 use Rattle.std.proofs.lemmas.List.Elements.{All-nil, All-cons, All-append}
 use Rattle.vm_store.specs.Facts.{Holds}
-use Rattle.geos_model.specs.File.{directory_in, directory_text, is_in_file, is_rising, is_entry, is_map_block, is_directory}
+use Rattle.geos_model.specs.File.{directory_in, directory_text, entry_text, longest_directory, is_in_file, is_rising, is_entry, is_map_block, is_directory}
 use Rattle.geos_model.specs.FileLaws.{FitTypes}
 use Rattle.geos_model.specs.declared.file.Entry.{Entry}
-use Rattle.geos_model.proofs.Files.{is_directory-from, directory_in-text}
+use Rattle.geos_model.proofs.Files.{is_directory-from, directory_in-text, length-directory}
 use Rattle.geos_model.proofs.FileDocuments.{is_in_file-from, is_entry-from}
 use Rattle.geos_model.specs.Document.{most_blocks, FitAttributes}
 use Rattle.vm_file.specs.Ranges.{IsPlaced, start_of, end_of}
@@ -101,14 +101,37 @@ entries_next places i o within is =
     ∙ entries_append 1 (take i places) (o ∷ [])
     ∙ ap (λ n. entries_of 1 (take i places) ++ entries_of n (o ∷ [])) at
 
-pub entries_none : (places : List (Option Place)) (i : ℕ) (entries : List Entry) → i < length places → get_or places i None ≡ None → entries ≡ entries_of 1 (take i places) → entries ≡ entries_of 1 (take (i + 1) places)
-entries_none places i entries within is so = so ∙ sym (append-nil (entries_of 1 (take i places))) ∙ sym (entries_next places i None within is)
+entries_none : (places : List (Option Place)) (i : ℕ) → i < length places → get_or places i None ≡ None → entries_of 1 (take (i + 1) places) ≡ entries_of 1 (take i places)
+entries_none places i within is = entries_next places i None within is ∙ append-nil (entries_of 1 (take i places))
 
-pub entries_some : (places : List (Option Place)) (i : ℕ) (place : Place) (entries new : List Entry) (e : Entry) → i < length places → get_or places i None ≡ Some place → entries ≡ entries_of 1 (take i places) → new ≡ entries ++ e ∷ []
-    → e ≡ record { handle = record { 0 = i + 1 }; attributes = place.attributes; extent = place.extent } → new ≡ entries_of 1 (take (i + 1) places)
-entries_some places i place entries new e within is so pushed one =
-    pushed ∙ ap₂ (λ (es : List Entry) (x : Entry). es ++ x ∷ []) so one ∙ sym (entries_next places i (Some place) within is)
+-- The text of a directory up to here, whose header is given: these entries follow it, and their attributes are words.
+pub record IsTextOfEntries (header : List ℕ) (entries : List Entry) (text : List ℕ) : Type 0 where
+  pub text_is : text ≡ header ++ flat_map (entry_text 2) entries
+  pub attributes : All (λ e. FitAttributes e.attributes) entries
 
-pub attributes_more : (entries new : List Entry) (e : Entry) → new ≡ entries ++ e ∷ [] → All (λ x. FitAttributes x.attributes) entries → FitAttributes e.attributes → All (λ x. FitAttributes x.attributes) new
-attributes_more entries new e pushed all low =
-    subst (All (λ x. FitAttributes x.attributes)) (sym pushed) (All-append (λ x. FitAttributes x.attributes) entries (e ∷ []) all (All-cons (λ x. FitAttributes x.attributes) e [] low (All-nil (λ x. FitAttributes x.attributes))))
+pub text_none : (header : List ℕ) (places : List (Option Place)) (i : ℕ) (text new : List ℕ) → i < length places → get_or places i None ≡ None → new ≡ text → IsTextOfEntries header (entries_of 1 (take i places)) text → IsTextOfEntries header (entries_of 1 (take (i + 1) places)) new
+text_none header places i text new within is same so =
+    subst (IsTextOfEntries header (entries_of 1 (take (i + 1) places))) (sym same) (subst (λ es. IsTextOfEntries header es text) (sym (entries_none places i within is)) so)
+
+pub text_some : (header : List ℕ) (places : List (Option Place)) (i : ℕ) (place : Place) (text new : List ℕ) (e : Entry) → i < length places → get_or places i None ≡ Some place → IsTextOfEntries header (entries_of 1 (take i places)) text → new ≡ text ++ entry_text 2 e
+    → e ≡ record { handle = record { 0 = i + 1 }; attributes = place.attributes; extent = place.extent } → FitAttributes e.attributes → IsTextOfEntries header (entries_of 1 (take (i + 1) places)) new
+text_some header places i place text new e within is so pushed one low =
+    let was = entries_of 1 (take i places) in
+    let next : entries_of 1 (take (i + 1) places) ≡ was ++ e ∷ [] = entries_next places i (Some place) within is ∙ ap (λ (x : Entry). was ++ x ∷ []) (sym one) in
+    subst (λ es. IsTextOfEntries header es new) (sym next) (record {
+      text_is = pushed ∙ ap (λ (t : List ℕ). t ++ entry_text 2 e) so.text_is ∙ flat_map_more (entry_text 2) header was e;
+      attributes = All-append (λ x. FitAttributes x.attributes) was (e ∷ []) so.attributes (All-cons (λ x. FitAttributes x.attributes) e [] low (All-nil (λ x. FitAttributes x.attributes)));
+    })
+
+-- as many as the table has blocks
+pub length-entries_of : (h : ℕ) (places : List (Option Place)) → length (entries_of h places) ≡ length (block_extents places)
+length-entries_of h [] = refl
+length-entries_of h (None ∷ places) = length-entries_of (h + 1) places
+length-entries_of h (Some place ∷ places) = ap suc (length-entries_of (h + 1) places)
+
+-- the header, and at most 8,192 entries
+pub text_fits : (table : BlockTable) (text : List ℕ) → length table.places.items ≤ most_blocks → text ≡ directory_text (directory_of_table 2 table) → (1 ≤ length text) × (length text ≤ longest_directory)
+text_fits table text size is =
+    let few = entries_few 1 table.places.items in
+    let long = ap length is ∙ length-directory (directory_of_table 2 table) in
+    (omega (arith, few, size, long), omega (arith, few, size, long))

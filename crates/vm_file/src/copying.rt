@@ -10,14 +10,13 @@ ghost use Rattle.vm_file.specs.Sound.{IsBlockTable, IsSound};
 ghost use Rattle.vm_file.specs.Opened.{OnlyReadsStore, IsReadRefusal, IsImageOf};
 ghost use Rattle.vm_file.specs.Making.{moved_to, pages_taken, laid_out, page_behind, IsBlockCopied, AreCopied, IsNewSlots, IsFounding, IsOne};
 
-use crate::directory::entries_of;
+use crate::directory::directory_text_of;
 use crate::extent::read_extent;
 use crate::kind::image_kind;
 use crate::making::{NewFile, empty, first_slots, initialize};
 use crate::table::{BlockTable, Place};
-use geos_model::{Extent, Fault, PAGE, VmHandle};
+use geos_model::{Extent, Fault, PAGE};
 use std::alloc::{AllocError, Global};
-use vm_space::write_dir;
 use vm_store::Store;
 
 // The first page behind the slots.
@@ -183,15 +182,15 @@ fn plan_copy(alloc: Global, live: &BlockTable) -> Result<CopyPlan, AllocError>
     ensures first { IfOk result (λ plan. IsNewSlots plan.directory plan.made.live plan.made.slots) }
 {
     let placed = place_anew(alloc, &live.places)?;
-    let entries = entries_of(alloc, &placed.places)?;
-    let text = write_dir(alloc, VmHandle(live.map_block), &entries)?;
-    let directory = Extent {
-        page: placed.end,
-        length: text.len() as u32,
-    };
+    let page = placed.end;
     let table = BlockTable {
         map_block: live.map_block,
         places: placed.places,
+    };
+    let text = directory_text_of(alloc, &table)?;
+    let directory = Extent {
+        page,
+        length: text.len() as u32,
     };
     let made = first_slots(alloc, table, directory)?;
     Ok(CopyPlan {

@@ -2,12 +2,11 @@
 ghost use Rattle.std.specs.Prelude.{◌≡◌, ◌↔◌, ◌<◌, ◌≤◌, All, IsTrue, OnOk, IfOk, IfErr, IsErrOf, Some, None, Ok, Err, length, true, ◌++◌, ◌∷◌};
 ghost use Rattle.vm_store.specs.Facts.{FailedSince};
 ghost use Rattle.geos_model.specs.Document.{FitAttributes, most_blocks};
-ghost use Rattle.geos_model.specs.File.{directory_of, is_directory, longest_directory};
+ghost use Rattle.geos_model.specs.File.{directory_of, directory_text, is_directory};
 ghost use Rattle.vm_space.specs.Listed.{shown};
 ghost use Rattle.vm_space.specs.Space.{AreTaken};
-ghost use Rattle.vm_file.specs.Ranges.{start_of, IsPlaced, IsClear};
 ghost use Rattle.vm_file.specs.Sound.{IsSound, IsFormed, disk_of};
-ghost use Rattle.vm_file.specs.Documents.{entries_of, IsStored, document_in};
+ghost use Rattle.vm_file.specs.Documents.{entries_of, directory_of_table, IsStored, document_in};
 ghost use Rattle.vm_file.specs.Opened.{OnlyReadsStore, IsReadRefusal, IsDirectoryPlace};
 ghost use Rattle.vm_file.specs.Slots.{block_extents, referenced_extents};
 ghost use Rattle.vm_file.specs.Disk.{KeepsCommitted};
@@ -18,7 +17,9 @@ use crate::slot::Slots;
 use crate::table::{BlockTable, DocumentRef, Place, shared_copy};
 use geos_model::{Attributes, Entry, Extent, Fault, VmHandle};
 use std::alloc::{AllocError, Global};
-use vm_space::{Directory, FreeSpace, LONGEST_DIRECTORY, is_in_file, read_dir, write_dir};
+use vm_space::{
+    Directory, FreeSpace, LONGEST_DIRECTORY, begin_directory, is_in_file, push_entry, read_dir,
+};
 use vm_store::{Store, StoreFault};
 
 // The directory of no block.
@@ -88,19 +89,23 @@ fn block_count(places: &[Option<Place>]) -> usize
     count
 }
 
-/// The entries of a table, as its directory lists them. It takes no more memory than they need.
-pub fn entries_of(alloc: Global, places: &[Option<Place>]) -> Result<Vec<Entry>, AllocError>
-    requires { length places.now ≤ most_blocks }
-    ensures entries { IfOk result (λ entries. entries.items ≡ entries_of 1 places.now) }
-    ensures attributes { IfOk result (λ entries. All (λ e. FitAttributes e.attributes) entries.items) }
+/// The text of a table's directory, in version 2. It takes no more memory than the text needs.
+pub fn directory_text_of(alloc: Global, table: &BlockTable) -> Result<Vec<u8>, AllocError>
+    requires { length table.now.places.items ≤ most_blocks }
+    ensures text { IfOk result (λ text. text.items ≡ directory_text (directory_of_table 2 table.now)) }
+    ensures attributes { OnOk result (All (λ e. FitAttributes e.attributes) (entries_of 1 table.now.places.items)) }
 {
-    let mut entries = Vec::with_capacity(alloc, block_count(places))?;
+    let places = &table.places;
+    let mut text = begin_directory(alloc, VmHandle(table.map_block), block_count(places))?;
     for (i, place) in places.iter().enumerate() {
         if let Some(place) = place {
-            entries.push(entry_of(i as u16 + 1, place.attributes, place.extent))?;
+            push_entry(
+                &mut text,
+                &entry_of(i as u16 + 1, place.attributes, place.extent),
+            )?;
         }
     }
-    Ok(entries)
+    Ok(text)
 }
 
 /// A directory that is to be written.
@@ -108,33 +113,6 @@ pub fn entries_of(alloc: Global, places: &[Option<Place>]) -> Result<Vec<Entry>,
 pub struct PendingDirectory {
     pub document: DocumentRef,
     pub text: Vec<u8>,
-}
-
-// A place for a directory of so many bytes, which is taken then.
-fn place_directory(
-    live: &BlockTable,
-    slots: &Slots,
-    space: &mut FreeSpace,
-    len: u32,
-) -> Result<Extent, AllocError>
-    // Asked of the caller.
-    requires formed { IsFormed live.now slots.now }
-    requires some { 1 ≤ len }
-    requires short { len ≤ longest_directory }
-    requires known { AreTaken (block_extents live.now.places.items ++ referenced_extents slots.now) space.old }
-    // The place.
-    ensures size { IfOk result (λ extent. extent.length ≡ len) }
-    ensures placed { IfOk result IsPlaced }
-    ensures clear { IfOk result
-        (λ extent. IsClear (start_of extent) extent.length
-        (block_extents live.now.places.items ++ referenced_extents slots.now)) }
-    ensures taken { IfOk result
-        (λ extent. AreTaken (extent ∷ (block_extents live.now.places.items ++ referenced_extents slots.now))
-        space.new) }
-{
-    let _ = live;
-    let _ = slots;
-    space.take(len)
 }
 
 /// The directory of the live table, whose place is taken then. It takes all the memory that writing it needs.
@@ -150,9 +128,9 @@ pub fn pending_directory_of(
     ensures taken { IfOk result (λ pending. AreTaken (pending.document.directory
         ∷ (block_extents live.now.places.items ++ referenced_extents slots.now)) space.new) }
 {
-    let entries = entries_of(alloc, &live.places)?;
-    let text = write_dir(alloc, VmHandle(live.map_block), &entries)?;
-    let directory = place_directory(live, slots, space, text.len() as u32)?;
+    let _ = slots;
+    let text = directory_text_of(alloc, live)?;
+    let directory = space.take(text.len() as u32)?;
     let table = shared_copy(alloc, live)?;
     Ok(PendingDirectory {
         document: DocumentRef { directory, table },

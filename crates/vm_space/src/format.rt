@@ -4,6 +4,7 @@ mod extent;
 mod slot;
 
 pub use directory::{
-    Directory, LONGEST_DIRECTORY, LONGEST_IMAGE, MOST_ENTRIES, read_dir, write_dir,
+    Directory, LONGEST_DIRECTORY, LONGEST_IMAGE, MOST_ENTRIES, begin_directory, push_entry,
+    read_dir, write_dir,
 };
 pub use slot::{SLOT_LENGTH, SLOT_MARK, read_slot, write_slot};

@@ -7,8 +7,8 @@ mod pages;
 mod placing;
 
 pub use format::{
-    Directory, LONGEST_DIRECTORY, LONGEST_IMAGE, MOST_ENTRIES, SLOT_LENGTH, SLOT_MARK, read_dir,
-    read_slot, write_dir, write_slot,
+    Directory, LONGEST_DIRECTORY, LONGEST_IMAGE, MOST_ENTRIES, SLOT_LENGTH, SLOT_MARK,
+    begin_directory, push_entry, read_dir, read_slot, write_dir, write_slot,
 };
 pub use free_space::FreeSpace;
 pub use geos_model::{Entry, Extent};

@@ -1,5 +1,5 @@
 //! The text of a directory: a header, and an entry for each block.
-ghost use Rattle.std.specs.Prelude.{◌≡◌, ◌⊎◌, ◌≤◌, ◌↔◌, if◌then◌else◌, length, Some, None, true, false, IsTrue, IfOk, IfErr, ◌==◌};
+ghost use Rattle.std.specs.Prelude.{◌≡◌, ◌⊎◌, ◌≤◌, ◌↔◌, ◌++◌, if◌then◌else◌, length, Some, None, true, false, IsTrue, IfOk, IfErr, OnOk, OnErr, ◌==◌};
 ghost use Rattle.std.specs.List.{list_any};
 ghost use Rattle.geos_model.specs.File.{directory_text, directory_in, header_text, entry_text, entry_read, is_entry, is_map_block, is_version_in, greatest_handle};
 ghost use Rattle.geos_model.specs.declared.fault.Fault.TheVariants.{Memory, Damaged};
@@ -51,12 +51,36 @@ pub fn write_dir(
     ensures { IfOk result (λ bytes.
         bytes.items ≡ directory_text (record { version = 2; map_block = map_block.0; entries = entries.now })) }
 {
-    let mut text = Vec::with_capacity(alloc, HEADER_LENGTH + ENTRY_LENGTH * entries.len())?;
-    text.extend_from_slice(&header(WRITTEN, entries.len() as u16, map_block))?;
+    let mut text = begin_directory(alloc, map_block, entries.len())?;
     for entry in entries {
-        text.extend_from_slice(&entry_bytes(WRITTEN, entry))?;
+        push_entry(&mut text, entry)?;
     }
     Ok(text)
+}
+
+/// The text of a directory of version 2 and of so many entries before the first of them. It has room for all.
+pub fn begin_directory(
+    alloc: Global,
+    map_block: VmHandle,
+    count: usize,
+) -> Result<Vec<u8>, AllocError>
+    requires { count ≤ MOST_ENTRIES }
+    ensures { IfOk result (λ text. text.items ≡ header_text 2 count map_block.0) }
+{
+    let mut text = Vec::with_capacity(alloc, HEADER_LENGTH + ENTRY_LENGTH * count)?;
+    text.extend_from_slice(&header(WRITTEN, count as u16, map_block))?;
+    Ok(text)
+}
+
+/// Appends an entry to the text of a directory of version 2. It is written where it stands, and copied from nowhere.
+pub fn push_entry(text: &mut Vec<u8>, entry: &Entry) -> Result<(), AllocError>
+    ensures pushed { OnOk result (text.new.items ≡ text.old.items ++ entry_text 2 entry.now) }
+    ensures refused { OnErr result (text.new.items ≡ text.old.items) }
+{
+    let start = text.len();
+    text.resize(start + ENTRY_LENGTH, 0)?;
+    write_entry(&mut text[start..], WRITTEN, entry);
+    Ok(())
 }
 
 fn header(version: u16, count: u16, map_block: VmHandle) -> [u8; HEADER_LENGTH]
@@ -77,17 +101,25 @@ fn type_word(version: u16, heap_type: u16) -> u16
     if version == 1 { 0 } else { heap_type }
 }
 
-fn entry_bytes(version: u16, entry: &Entry) -> [u8; ENTRY_LENGTH]
-    ensures { result ≡ entry_text version entry.now }
+fn write_entry(text: &mut [u8], version: u16, entry: &Entry)
+    requires { length text.old ≡ ENTRY_LENGTH }
+    ensures { text.new ≡ entry_text version entry.now }
 {
-    let mut text = [0; ENTRY_LENGTH];
-    LittleEndian::write_u16(&mut text, entry.handle.0);
+    LittleEndian::write_u16(text, entry.handle.0);
     LittleEndian::write_u16(&mut text[2..], entry.attributes.user_id);
     write_extent(&mut text[4..], entry.extent);
     LittleEndian::write_u16(
         &mut text[12..],
         type_word(version, entry.attributes.heap_type),
     );
+    LittleEndian::write_u16(&mut text[14..], 0);
+}
+
+fn entry_bytes(version: u16, entry: &Entry) -> [u8; ENTRY_LENGTH]
+    ensures { result ≡ entry_text version entry.now }
+{
+    let mut text = [0; ENTRY_LENGTH];
+    write_entry(&mut text, version, entry);
     text
 }
 

@@ -1,55 +1,48 @@
-use Rattle.std.proofs.Common.{◌≡◌, ◌≤◌, ℕ, List, Option, All, ap, ap₂, subst, sym, ◌∙◌, arith, length}
-use Rattle.geos_model.specs.File.{Directory, directory_text, longest_directory}
-use Rattle.geos_model.specs.declared.file.Entry.{Entry}
-use Rattle.geos_model.proofs.Files.{length-directory}
+use Rattle.std.proofs.Common.{◌++◌, ℕ, List, Option, All, ap₂, subst, sym, ◌∙◌, arith}
+use Rattle.std.proofs.lemmas.List.Sorted.{IsPermutation-refl}
 use Rattle.geos_model.specs.Document.{FitAttributes}
+use Rattle.geos_model.specs.File.{directory_text}
+use Rattle.geos_model.specs.declared.file.Extent.{Extent}
 use Rattle.vm_file.specs.Documents.{entries_of}
+use Rattle.vm_file.specs.Slots.{block_extents, referenced_extents}
 use Rattle.vm_file.specs.declared.table.Place.{Place}
-use Rattle.vm_file.proofs.TableDirectoryLemmas.{entries_few}
+use Rattle.vm_file.proofs.TableDirectoryLemmas.{text_fits}
+use Rattle.vm_file.proofs.PendingDirectoryLemmas.{room_clear, room_placed}
+use Rattle.vm_file.proofs.PutBlocksLemmas.{few_extents}
 use Rattle.vm_file.proofs.directory.pending_directory_of.Goals as goal
 
-abbrev listed : ℕ → List Entry → Directory
-listed m es = record { version = 2; map_block = m; entries = es }
-
-entries_are : (c : goal.After-len) → c.deref-2.result.now ≡ entries_of 1 c.args.live.now.places.items
-entries_are c = c.deref-2.ensures.value ∙ c.in_ok-entries.ensures.entries ∙ ap (entries_of 1) c.deref.ensures.value
-
--- a directory of at most 8,192 entries
-text_short : (c : goal.After-len) → c.len.result ≤ longest_directory
-text_short c =
-    let few = entries_few 1 c.args.live.now.places.items in
-    let size = c.requires.formed.table.size in
-    let count = ap length (entries_are c) in
-    let long = ap length c.in_ok-text.ensures in
-    let text = length-directory (listed c.args.live.now.map_block c.deref-2.result.now) in
-    let is = c.len.ensures in
-    let same = c.in_ok-text.text.ok.0 in
-    omega (arith, few, size, count, long, text, is, same)
-
-pub write_dir-requires : goal.write_dir-requires
-write_dir-requires c =
-    let few = entries_few 1 c.args.live.now.places.items in
-    let size = c.requires.formed.table.size in
-    let count = ap length (c.deref-2.ensures.value ∙ c.in_ok-entries.ensures.entries ∙ ap (entries_of 1) c.deref.ensures.value) in
-    omega (arith, few, size, count)
-
 pub overflow_cast-len : goal.overflow_cast-len
-overflow_cast-len c = let short = text_short c in omega (arith, short)
+overflow_cast-len c =
+    let fits = text_fits c.args.live.now c.in_ok-text.text.items c.requires.formed.table.size c.in_ok-text.ensures.text in
+    omega (arith, fits, c.len.ensures, c.in_ok-text.text.ok.0)
 
-pub place_directory-requires-clause-short : goal.place_directory-requires-clause-short
-place_directory-requires-clause-short c = text_short c
+pub take-requires-clause-few : goal.take-requires-clause-few
+take-requires-clause-few c =
+    let few = few_extents c.args.live.now c.args.slots.now c.requires.formed in
+    let count = c.requires.known.count in
+    omega (arith, few, count)
+
+pub take-requires-clause-in_range : goal.take-requires-clause-in_range
+take-requires-clause-in_range c =
+    let fits = text_fits c.args.live.now c.in_ok-text.text.items c.requires.formed.table.size c.in_ok-text.ensures.text in
+    (omega (arith, fits, c.len.ensures, c.in_ok-text.text.ok.0), omega (arith, fits, c.len.ensures, c.in_ok-text.text.ok.0))
 
 pub returns-clause-pending : goal.returns-clause-pending
 returns-clause-pending c =
     let live = c.args.live.now in
+    let taken : List Extent = block_extents live.places.items ++ referenced_extents c.args.slots.now in
     let copy = c.in_ok-table.ensures in
-    let entries = c.deref-2.ensures.value ∙ c.in_ok-entries.ensures.entries ∙ ap (entries_of 1) c.deref.ensures.value in
+    let found = (c.in_ok-directory.ensures.placed taken c.requires.known).0 in
+    let fits = text_fits live c.in_ok-text.text.items c.requires.formed.table.size c.in_ok-text.ensures.text in
     record {
       table = copy;
-      text = c.in_ok-text.ensures ∙ ap (λ (es : List Entry). directory_text (listed live.map_block es)) entries
-          ∙ ap₂ (λ (m : ℕ) (ps : List (Option Place)). directory_text (listed m (entries_of 1 ps))) (sym copy.map_block) (sym copy.places);
-      size = c.in_ok-directory.ensures.size ∙ c.len.ensures ∙ c.in_ok-text.text.ok.0;
-      placed = c.in_ok-directory.ensures.placed;
-      clear = c.in_ok-directory.ensures.clear;
-      attributes = subst (λ (es : List Entry). All (λ e. FitAttributes e.attributes) es) (c.in_ok-entries.ensures.entries ∙ ap (entries_of 1) (c.deref.ensures.value ∙ sym copy.places)) c.in_ok-entries.ensures.attributes;
+      text = c.in_ok-text.ensures.text
+          ∙ ap₂ (λ (m : ℕ) (ps : List (Option Place)). directory_text (record { version = 2; map_block = m; entries = entries_of 1 ps })) (sym copy.map_block) (sym copy.places);
+      size = found.length_is ∙ c.len.ensures ∙ c.in_ok-text.text.ok.0;
+      placed = room_placed taken c.len.result c.in_ok-directory.directory (omega (arith, fits, c.len.ensures, c.in_ok-text.text.ok.0)) (omega (arith, fits, c.len.ensures, c.in_ok-text.text.ok.0)) found;
+      clear = room_clear taken taken c.len.result c.in_ok-directory.directory (IsPermutation-refl taken) found;
+      attributes = subst (λ ps. All (λ e. FitAttributes e.attributes) (entries_of 1 ps)) (sym copy.places) c.in_ok-text.ensures.attributes;
     }
+
+pub returns-clause-taken : goal.returns-clause-taken
+returns-clause-taken c = (c.in_ok-directory.ensures.placed (block_extents c.args.live.now.places.items ++ referenced_extents c.args.slots.now) c.requires.known).1

@@ -1,0 +1,39 @@
+use Rattle.std.proofs.Common.{◌≡◌, ◌<◌, None, Some, get_or, length, ap, sym, subst, ◌∙◌, arith}
+use Rattle.std.proofs.lemmas.List.{append-nil}
+use Rattle.std.proofs.lemmas.List.Elements.{All-nil}
+use Rattle.geos_model.specs.File.{header_text}
+use Rattle.geos_model.specs.Document.{FitAttributes}
+use Rattle.vm_file.proofs.TableLemmas.{length-block_extents}
+use Rattle.vm_file.proofs.TableDirectoryLemmas.{length-entries_of, text_none, text_some}
+use Rattle.vm_file.specs.Slots.{block_extents}
+use Rattle.vm_file.proofs.directory.directory_text_of.Goals as goal
+use Rattle.vm_file.proofs.directory.directory_text_of.Goals.{in-Some+in_ok-push_entry, in_default}
+
+pub begin_directory-requires : goal.begin_directory-requires
+begin_directory-requires c =
+    let few = length-block_extents c.args.table.now.places.items in
+    let same = ap (λ ps. length (block_extents ps)) c.deref.ensures.value in
+    let count = c.block_count.ensures in
+    let all = c.requires in
+    omega (arith, few, same, count, all)
+
+pub loop-i-init : goal.loop-i-init
+loop-i-init c =
+    let count = c.block_count.ensures ∙ ap (λ ps. length (block_extents ps)) c.deref.ensures.value ∙ sym (length-entries_of 1 c.args.table.now.places.items) in
+    record {
+      text_is = c.in_ok-text.ensures ∙ ap (λ n. header_text 2 n c.args.table.now.map_block) count ∙ sym (append-nil _);
+      attributes = All-nil (λ e. FitAttributes e.attributes);
+    }
+
+pub loop-i-preserved : goal.loop-i-preserved
+loop-i-preserved c =
+    let i = c.loop-i.i in
+    let places = c.args.table.now.places.items in
+    let same = c.deref-place-items.ensures.value in
+    let within = subst (λ ps. i < length ps) same c.loop-i-test.true in
+    elim c.match-place.branch [
+      | in-Some+in_ok-push_entry w ↦
+          text_some _ places i w.in-Some.place _ _ w.entry_of.result within (subst (λ ps. get_or ps i None ≡ Some w.in-Some.place) same w.in-Some.is) c.loop-i.invariant
+          (ap (λ v. v.items) w.text-is ∙ w.in_ok-push_entry.ensures.pushed) w.entry_of.ensures.entry w.entry_of.ensures.attributes
+      | in_default w ↦ text_none _ places i _ _ within (subst (λ ps. get_or ps i None ≡ None) same w.in_default.is) (ap (λ v. v.items) w.text-is) c.loop-i.invariant
+    ]
