@@ -1,8 +1,8 @@
 -- Counts of pages, and what they say of the extents that are taken.
 use Rattle.std.proofs.Common.{◌≡◌, ℕ, ◌+◌, ◌<◌, ◌≤◌, true, false, cond, List, length, get_or, set, sym, ap, ◌∙◌, arith, leb, ltb, inl, inr, ◌⊎◌, zero, suc, ◌*◌, ◌-◌, max, min, [], ◌∷◌, replicate, count_by, refl, subst}
 use Rattle.std.proofs.lemmas.Bool.{cases_lt, cases_eq, cases_Bool, le-leb, lt-ltb, leb-true, ltb-true, and_parts, and_from, false≢true}
-use Rattle.std.proofs.lemmas.List.{get_or-set_same, get_or-set_other, length-set, get_or-replicate, length-replicate}
-use Rattle.vm_space.specs.Space.{is_within, AreRaised, IsRun, Space, is_on, AreTaken, IsFirstRun, IsHint, IsLargestHint, IsSpaceSound}
+use Rattle.std.proofs.lemmas.List.{get_or-set_same, get_or-set_other, length-set, get_or-replicate, length-replicate, get_or_past}
+use Rattle.vm_space.specs.Space.{is_within, AreRaised, IsRun, Space, is_on, AreTaken, IsTaken, IsFirstRun, IsHint, IsLargestHint, IsSpaceSound}
 use Rattle.std.specs.List.Sorted.{IsPermutation}
 use Rattle.std.proofs.lemmas.List.Sorted.{sum_by-IsPermutation, length_permutation, All-permutation}
 use Rattle.std.proofs.lemmas.List.Sums.{count_by-le-length}
@@ -239,6 +239,18 @@ taken_there rest e space are page low high =
     let yes = once_yes e.page (end_page e) page low high in
     let whole = count_cons (is_on page) e rest in
     omega (arith, is, yes, whole)
+
+-- so these are counted
+pub taken_counted : (e : Extent) (space : Space) → IsTaken e space → end_page e ≤ length space.counts
+taken_counted e space is = elim (cases_lt (length space.counts) (end_page e)) [
+  | inr within ↦ within
+  | inl past ↦
+      let some = pages_some e.length (is.1.extents 0 e (omega arith)).1 in
+      let last : ℕ = end_page e - 1 in
+      let one : 1 ≤ get_or space.counts last 0 = taken_there is.0 e space is.1 last (omega (arith, some)) (omega (arith, some)) in
+      let none = get_or_past space.counts last 0 (omega (arith, past)) in
+      absurd (omega (arith, one, none))
+]
 
 pub taken_few : (taken : List Extent) (space : Space) → AreTaken taken space → (page : ℕ) → get_or space.counts page 0 ≤ space.count
 taken_few taken space are page =

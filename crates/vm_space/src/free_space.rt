@@ -1,5 +1,6 @@
 //! The pages that are free while extents come and go: for each page on how many of the taken extents it lies.
-ghost use Rattle.std.specs.Prelude.{◌≡◌, ◌∷◌, [], ◌+◌, ◌^◌, ◌<◌, ◌≤◌, List, All, ℕ, length, min, replicate, false, IfOk, OnOk, OnErr, slice_index};
+ghost use Rattle.std.specs.Prelude.{◌≡◌, ◌∷◌, [], ◌+◌, ◌^◌, ◌<◌, ◌≤◌, List, All, ℕ, length, min, replicate, false, IfOk, IsOk, OnOk, OnErr, slice_index};
+ghost use Rattle.geos_model.specs.File.{end_page};
 ghost use Rattle.geos_model.specs.declared.file.Extent.{Extent};
 ghost use Rattle.vm_space.specs.Placing.{IsFirstFit, IsLength};
 ghost use Rattle.vm_space.specs.Space.{AreRaised, AreTaken, IsFirstRun, IsLargestHint, IsTaken};
@@ -50,7 +51,7 @@ impl FreeSpace {
     }
 
     /// One more extent is taken, of 1 to 257 pages; others may lie there too. Memory goes to pages behind all that were
-    /// taken so far.
+    /// taken so far: an extent that is taken already is taken once more without any.
     pub fn hold(&mut self, extent: Extent) -> Result<(), AllocError>
         requires few { self.old.count < MOST_EXTENTS }
         requires behind_slots { 2 ≤ extent.page }
@@ -58,6 +59,7 @@ impl FreeSpace {
         ensures held { OnOk result ((taken : List Extent) →
             AreTaken taken self.old → AreTaken (extent ∷ taken) self.new) }
         ensures count { OnOk result (self.new.count ≡ self.old.count + 1) }
+        ensures room { end_page extent ≤ length self.old.counts → IsOk result }
         ensures refused { OnErr result (self.new ≡ self.old) }
     {
         let start = extent.page as usize;
@@ -116,6 +118,7 @@ fn first_hints() -> [u32; SIZES]
 fn make_room(counts: &mut Vec<u16>, end: usize) -> Result<(), AllocError>
     ensures room { OnOk result (end ≤ length counts.new.items) }
     ensures same { (page : ℕ) → slice_index counts.new.items page ≡ slice_index counts.old.items page }
+    ensures enough { end ≤ length counts.old.items → IsOk result }
     ensures refused { OnErr result (counts.new.items ≡ counts.old.items) }
 {
     if counts.len() < end {
