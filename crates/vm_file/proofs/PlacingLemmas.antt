@@ -1,6 +1,6 @@
 -- Extents that are found for images, one by one.
-use Rattle.std.proofs.Common.{◌≡◌, ℕ, ◌+◌, ◌*◌, ◌%◌, true, false, ◌<◌, ◌≤◌, List, [], ◌∷◌, ◌++◌, All, Option, None, Some, is_some, take, drop, zero, suc, length, get_or, refl, sym, ap, subst, ◌∙◌, arith, inl, inr, length-append}
-use Rattle.std.proofs.lemmas.Bool.{cases_eq, true≢false}
+use Rattle.std.proofs.Common.{◌≡◌, ℕ, ◌+◌, ◌*◌, ◌%◌, ◌<◌, ◌≤◌, List, [], ◌∷◌, ◌++◌, All, Option, None, Some, take, drop, zero, suc, length, get_or, refl, sym, ap, subst, ◌∙◌, arith, inl, inr, length-append}
+use Rattle.std.proofs.lemmas.Bool.{cases_eq}
 use Rattle.std.proofs.Math.Nat.{div-add-mod, mod-lt}
 use Rattle.std.proofs.lemmas.List.{append-nil, take_more, get_or_append_left}
 use Rattle.std.proofs.lemmas.List.Elements.{All-nil, All-cons, All-head, All-tail, All-append}
@@ -147,20 +147,3 @@ takes_some places i place a b c inside is before count held = subst (λ l. Marks
 
 pub takes_no_more : (places : List (Option Place)) (i : ℕ) (a b : Space) → i < length places → get_or places i None ≡ None → MarksTaken (block_extents (take i places)) a b → MarksTaken (block_extents (take (i + 1) places)) a b
 takes_no_more places i a b inside is before = subst (λ l. MarksTaken l a b) (sym (blocks_more places i None inside is ∙ append-nil (block_extents (take i places)))) before
-
--- one block more is counted, or none
-pub counts_some : (places : List (Option Place)) (i : ℕ) → i < length places → is_some (get_or places i None) ≡ true → length (block_extents (take (i + 1) places)) ≡ length (block_extents (take i places)) + 1
-counts_some places i inside is =
-    let one : (o : Option Place) → is_some o ≡ true → length (block_extents (o ∷ [])) ≡ 1 = λ o. elim o as (λ o. is_some o ≡ true → length (block_extents (o ∷ [])) ≡ 1) [ None ↦ λ no. absurd (true≢false (sym no)) | Some x ↦ λ _. refl ] in
-    let more = ap length (blocks_more places i (get_or places i None) inside refl) in
-    let long = length-append (block_extents (take i places)) (block_extents (get_or places i None ∷ [])) in
-    let here = one (get_or places i None) is in
-    omega (arith, more, long, here)
-
-pub counts_none : (places : List (Option Place)) (i : ℕ) → i < length places → is_some (get_or places i None) ≡ false → length (block_extents (take (i + 1) places)) ≡ length (block_extents (take i places))
-counts_none places i inside is =
-    let none : (o : Option Place) → is_some o ≡ false → length (block_extents (o ∷ [])) ≡ 0 = λ o. elim o as (λ o. is_some o ≡ false → length (block_extents (o ∷ [])) ≡ 0) [ None ↦ λ _. refl | Some x ↦ λ no. absurd (true≢false no) ] in
-    let more = ap length (blocks_more places i (get_or places i None) inside refl) in
-    let long = length-append (block_extents (take i places)) (block_extents (get_or places i None ∷ [])) in
-    let here = none (get_or places i None) is in
-    omega (arith, more, long, here)

@@ -1,9 +1,10 @@
 -- A table as a directory in the file.
-use Rattle.std.proofs.Common.{◌≡◌, ℕ, zero, suc, ◌+◌, ◌-◌, ◌<◌, ◌≤◌, ◌==◌, nat_lt, true, false, List, [], ◌∷◌, ◌++◌, take, length, get_or, Option, None, Some, is_some, All, refl, sym, ap, subst, ◌∙◌, arith, inl, inr, eq-eqb, lt-ltb, length-take}
+use Rattle.std.proofs.Common.{◌≡◌, ℕ, zero, suc, ◌+◌, ◌-◌, ◌<◌, ◌≤◌, ◌==◌, nat_lt, cond, true, false, List, [], ◌∷◌, ◌++◌, take, length, get_or, Option, None, Some, is_some, All, refl, sym, ap, subst, ◌∙◌, arith, inl, inr, eq-eqb, lt-ltb, length-take}
 use Rattle.std.specs.Prelude.{IfSome, ◌||◌}
-use Rattle.std.specs.List.{flat_map, list_all, list_any}
+use Rattle.std.specs.List.{count_by, flat_map, list_all, list_any}
 use Rattle.std.proofs.lemmas.Bool.{and_from, cond-true}
 use Rattle.std.proofs.lemmas.List.{flat_map_more, get_or_past, take_more, append-nil}
+use Rattle.std.proofs.lemmas.List.Sums.{sum_by-cons}
 use Rattle.std.proofs.lemmas.List.Elements.{All-nil, All-cons, All-append}
 use Rattle.vm_store.specs.Facts.{Holds}
 use Rattle.geos_model.specs.File.{directory_in, directory_text, entry_text, longest_directory, is_in_file, is_rising, is_entry, is_map_block, is_directory}
@@ -124,10 +125,13 @@ text_some header places i place text new e within is so pushed one low =
     })
 
 -- as many as the table has blocks
-pub length-entries_of : (h : ℕ) (places : List (Option Place)) → length (entries_of h places) ≡ length (block_extents places)
+pub length-entries_of : (h : ℕ) (places : List (Option Place)) → length (entries_of h places) ≡ count_by (is_some {T = Place}) places
 length-entries_of h [] = refl
 length-entries_of h (None ∷ places) = length-entries_of (h + 1) places
-length-entries_of h (Some place ∷ places) = ap suc (length-entries_of (h + 1) places)
+length-entries_of h (Some place ∷ places) =
+    let more = length-entries_of (h + 1) places in
+    let one : count_by (is_some {T = Place}) (Some place ∷ places) ≡ 1 + count_by (is_some {T = Place}) places = sum_by-cons (λ (o : Option Place). cond (is_some o) 1 0) (Some place) places in
+    omega (arith, more, one)
 
 -- the header, and at most 8,192 entries
 pub text_fits : (table : BlockTable) (text : List ℕ) → length table.places.items ≤ most_blocks → text ≡ directory_text (directory_of_table 2 table) → (1 ≤ length text) × (length text ≤ longest_directory)

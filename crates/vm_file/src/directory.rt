@@ -1,5 +1,6 @@
 //! Directories: read, made of the live table, and written where nothing lies that stays.
-ghost use Rattle.std.specs.Prelude.{◌≡◌, ◌↔◌, ◌<◌, ◌≤◌, All, IsTrue, OnOk, IfOk, IfErr, IsErrOf, Some, None, Ok, Err, length, true, ◌++◌, ◌∷◌};
+ghost use Rattle.std.specs.Prelude.{◌≡◌, ◌↔◌, ◌<◌, ◌≤◌, All, IsTrue, OnOk, IfOk, IfErr, IsErrOf, Some, None, Ok, Err, is_some, length, true, ◌++◌, ◌∷◌};
+ghost use Rattle.std.specs.List.{count_by};
 ghost use Rattle.vm_store.specs.Facts.{FailedSince};
 ghost use Rattle.geos_model.specs.Document.{FitAttributes, most_blocks};
 ghost use Rattle.geos_model.specs.File.{directory_of, directory_text, is_directory};
@@ -77,16 +78,9 @@ fn entry_of(handle: u16, attributes: Attributes, extent: Extent) -> Entry
 
 // How many blocks a table has.
 fn block_count(places: &[Option<Place>]) -> usize
-    requires { length places.now ≤ most_blocks }
-    ensures { result ≡ length (block_extents places.now) }
+    ensures { result ≡ count_by is_some places.now }
 {
-    let mut count = 0;
-    for place in places {
-        if place.is_some() {
-            count += 1;
-        }
-    }
-    count
+    places.iter().filter(|place| place.is_some()).count()
 }
 
 /// The text of a table's directory, in version 2. It takes no more memory than the text needs.

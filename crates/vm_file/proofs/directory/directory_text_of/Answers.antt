@@ -1,25 +1,24 @@
-use Rattle.std.proofs.Common.{◌≡◌, ◌<◌, None, Some, get_or, length, ap, sym, subst, ◌∙◌, arith}
+use Rattle.std.proofs.Common.{◌≡◌, ◌<◌, None, Some, is_some, get_or, length, ap, sym, subst, ◌∙◌, arith}
+use Rattle.std.specs.List.{count_by}
 use Rattle.std.proofs.lemmas.List.{append-nil}
 use Rattle.std.proofs.lemmas.List.Elements.{All-nil}
 use Rattle.geos_model.specs.File.{header_text}
 use Rattle.geos_model.specs.Document.{FitAttributes}
-use Rattle.vm_file.proofs.TableLemmas.{length-block_extents}
-use Rattle.vm_file.proofs.TableDirectoryLemmas.{length-entries_of, text_none, text_some}
-use Rattle.vm_file.specs.Slots.{block_extents}
+use Rattle.vm_file.proofs.TableDirectoryLemmas.{entries_few, length-entries_of, text_none, text_some}
+use Rattle.vm_file.specs.declared.table.Place.{Place}
 use Rattle.vm_file.proofs.directory.directory_text_of.Goals as goal
 use Rattle.vm_file.proofs.directory.directory_text_of.Goals.{in-Some+in_ok-push_entry, in_default}
 
 pub begin_directory-requires : goal.begin_directory-requires
 begin_directory-requires c =
-    let few = length-block_extents c.args.table.now.places.items in
-    let same = ap (λ ps. length (block_extents ps)) c.deref.ensures.value in
-    let count = c.block_count.ensures in
+    let few = entries_few 1 c.args.table.now.places.items in
+    let count = c.block_count.ensures ∙ ap (count_by (is_some {T = Place})) c.deref.ensures.value ∙ sym (length-entries_of 1 c.args.table.now.places.items) in
     let all = c.requires in
-    omega (arith, few, same, count, all)
+    omega (arith, few, count, all)
 
 pub loop-i-init : goal.loop-i-init
 loop-i-init c =
-    let count = c.block_count.ensures ∙ ap (λ ps. length (block_extents ps)) c.deref.ensures.value ∙ sym (length-entries_of 1 c.args.table.now.places.items) in
+    let count = c.block_count.ensures ∙ ap (count_by (is_some {T = Place})) c.deref.ensures.value ∙ sym (length-entries_of 1 c.args.table.now.places.items) in
     record {
       text_is = c.in_ok-text.ensures ∙ ap (λ n. header_text 2 n c.args.table.now.map_block) count ∙ sym (append-nil _);
       attributes = All-nil (λ e. FitAttributes e.attributes);
