@@ -392,9 +392,7 @@ impl<S: Store> VmFile<S> {
         let directory = pending.document.directory;
         let is_known = follow_commit(&mut space, directory, &self.live, &self.slots, saves);
         commit_pending(&mut self.store, &mut self.slots, &self.live, pending, saved)?;
-        if is_known {
-            self.space = Some(space);
-        }
+        self.space = is_known.then_some(space);
         Ok(())
     }
 

@@ -1,4 +1,4 @@
-use Rattle.std.proofs.Common.{◌≡◌, ◌++◌, ap, sym, subst, ◌∙◌}
+use Rattle.std.proofs.Common.{◌++◌, ap, sym, subst, ◌∙◌}
 use Rattle.vm_file.specs.FreeSpace.{TakesPlaceOf, AreAmongTaken}
 use Rattle.vm_file.specs.Slots.{block_extents}
 use Rattle.vm_file.specs.declared.table.BlockTable.{BlockTable}

@@ -1,4 +1,4 @@
-use Rattle.std.proofs.Common.{◌≡◌, ◌≢◌, ◌++◌, ◌∙◌, List, All, Bool, ap, length, refl, sym, subst, arith}
+use Rattle.std.proofs.Common.{◌≡◌, ◌≢◌, ◌++◌, ◌∙◌, All, Bool, ap, length, refl, sym, subst, arith}
 use Rattle.std.specs.Prelude.{if◌then◌else◌, Ok, Err}
 use Rattle.geos_model.specs.Document.{Document}
 use Rattle.geos_model.specs.declared.fault.Fault.TheVariants.{Worn}
@@ -7,8 +7,6 @@ use Rattle.vm_file.specs.Calls.{last_sequence}
 use Rattle.vm_file.specs.FreeSpace.{IsSpaceOf}
 use Rattle.vm_file.specs.Ranges.{IsPlaced}
 use Rattle.vm_file.specs.Slots.{block_extents, referenced_extents}
-use Rattle.geos_model.specs.declared.file.Extent.{Extent}
-use Rattle.vm_file.proofs.FollowLemmas.{next_taken}
 use Rattle.vm_file.proofs.PutBlocksLemmas.{few_extents}
 use Rattle.vm_file.specs.Documents.{Documents, document_in}
 use Rattle.vm_file.specs.Disk.{FileState, MayCommit}
