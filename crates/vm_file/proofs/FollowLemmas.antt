@@ -1,14 +1,15 @@
 -- The free space across a commit: the extents of one table in place of those of another.
-use Rattle.std.proofs.Common.{◌≡◌, ℕ, zero, suc, ◌+◌, ◌*◌, ◌<◌, ◌≤◌, Bool, true, false, List, [], ◌∷◌, ◌++◌, All, Option, None, take, drop, length, get_or, refl, sym, ap, ap₂, subst, ◌∙◌, arith, length-append}
+use Rattle.std.proofs.Common.{◌≡◌, ℕ, zero, suc, ◌+◌, ◌*◌, ◌<◌, ◌≤◌, Bool, true, false, List, [], ◌∷◌, ◌++◌, Option, None, take, drop, length, get_or, refl, sym, ap, ap₂, subst, ◌∙◌, arith, length-append}
 use Rattle.std.specs.Prelude.{if◌then◌else◌}
+use Rattle.std.specs.List.Sorted.{IsPermutation}
 use Rattle.std.proofs.lemmas.List.{append_assoc, take_all, drop_all}
+use Rattle.std.proofs.lemmas.List.Sorted.{IsPermutation-append_right}
 use Rattle.geos_model.specs.declared.file.Extent.{Extent}
 use Rattle.geos_model.specs.Document.{most_blocks}
 use Rattle.vm_space.specs.Space.{Space, AreTaken, IsTaken}
 use Rattle.vm_space.proofs.SpaceLemmas.{taken-permuted}
 use Rattle.vm_file.specs.Copies.{IsCopy, IsSameStored}
-use Rattle.vm_file.specs.FreeSpace.{IsSpaceOf, Replaces, AreAmongTaken, next_saved, next_extents}
-use Rattle.vm_file.specs.Ranges.{IsPlaced}
+use Rattle.vm_file.specs.FreeSpace.{TakesPlaceOf, AreAmongTaken, next_saved, next_extents}
 use Rattle.vm_file.specs.Slots.{block_extents, stored_extents, pair_extents, prepared_extents, marked_extents, referenced_extents, switched}
 use Rattle.vm_file.specs.Sound.{IsFormed}
 use Rattle.vm_file.specs.declared.table.Place.{Place}
@@ -19,7 +20,6 @@ use Rattle.vm_file.proofs.CopiesLemmas.{same_extents}
 use Rattle.vm_file.proofs.FreeSpaceLemmas.{swapped, one_block}
 use Rattle.vm_file.proofs.PlacingLemmas.{blocks_split}
 use Rattle.vm_file.proofs.PutBlocksLemmas.{pair_few, marked_few}
-use Rattle.vm_file.proofs.RangesLemmas.{all_left, all_right}
 use Rattle.vm_file.proofs.TableLemmas.{length-block_extents}
 
 -- Extents in place of others, in the midst of what is taken.
@@ -27,7 +27,24 @@ use Rattle.vm_file.proofs.TableLemmas.{length-block_extents}
 pub among : (before gone rest : List Extent) (s : Space) → AreTaken (before ++ (gone ++ rest)) s → AreAmongTaken gone s
 among before gone rest s are = (before ++ rest, taken-permuted (before ++ (gone ++ rest)) (gone ++ (before ++ rest)) s (swapped before gone rest) are)
 
-pub replaced : (before gone now rest : List Extent) (a b : Space) → Replaces gone now a b → AreTaken (before ++ (gone ++ rest)) a → AreTaken (before ++ (now ++ rest)) b
+-- two of them, apart
+pub among_both : (before gone middle now rest : List Extent) (s : Space) → AreTaken (before ++ (gone ++ (middle ++ (now ++ rest)))) s → AreAmongTaken (gone ++ now) s
+among_both before gone middle now rest s are =
+    let closer : IsPermutation (gone ++ (middle ++ (now ++ rest))) ((gone ++ now) ++ (middle ++ rest)) =
+    subst (λ l. IsPermutation (gone ++ (middle ++ (now ++ rest))) l) (sym (append_assoc gone now (middle ++ rest)))
+    (IsPermutation-append_right gone (middle ++ (now ++ rest)) (now ++ (middle ++ rest)) (swapped middle now rest)) in
+    among before (gone ++ now) (middle ++ rest) s
+    (taken-permuted (before ++ (gone ++ (middle ++ (now ++ rest)))) (before ++ ((gone ++ now) ++ (middle ++ rest))) s
+    (IsPermutation-append_right before (gone ++ (middle ++ (now ++ rest))) ((gone ++ now) ++ (middle ++ rest)) closer) are)
+
+-- the first of two in the other order
+pub among_turned : (now gone rest : List Extent) (s : Space) → AreTaken (now ++ (gone ++ rest)) s → AreAmongTaken (gone ++ now) s
+among_turned now gone rest s are = (rest, subst (λ l. AreTaken l s) (sym (append_assoc gone now rest)) (taken-permuted (now ++ (gone ++ rest)) (gone ++ (now ++ rest)) s (swapped now gone rest) are))
+
+pub among_first : (xs ys : List Extent) (s : Space) → AreAmongTaken (xs ++ ys) s → AreAmongTaken xs s
+among_first xs ys s are = (ys ++ are.0, subst (λ l. AreTaken l s) (append_assoc xs ys are.0) are.1)
+
+pub replaced : (before gone now rest : List Extent) (a b : Space) → TakesPlaceOf gone now a b → AreTaken (before ++ (gone ++ rest)) a → AreTaken (before ++ (now ++ rest)) b
 replaced before gone now rest a b step are =
     taken-permuted (now ++ (before ++ rest)) (before ++ (now ++ rest)) b (swapped now before rest)
     (step (before ++ rest) (taken-permuted (before ++ (gone ++ rest)) (gone ++ (before ++ rest)) a (swapped before gone rest) are))
@@ -76,8 +93,19 @@ module _ (old new : List (Option Place)) (at : ℕ) (a b : Space) (walked : IsWa
   met : (rest : List Extent) → AreTaken (block_extents old ++ rest) a → AreTaken (done ++ (block_of old at ++ (left ++ rest))) b
   met rest are = subst (λ l. AreTaken (done ++ l) b) (ap (λ (l : List Extent). l ++ rest) (dropped_block old at) ∙ append_assoc (block_of old at) left rest) (walked rest are)
 
-  pub walk_among : AreAmongTaken (block_extents old) a → AreAmongTaken (block_of old at) b
-  walk_among taken = among done (block_of old at) (left ++ taken.0) b (met taken.0 taken.1)
+  pub walk_among : AreAmongTaken (block_extents old ++ block_extents new) a → AreAmongTaken (block_of old at ++ block_of new at) b
+  walk_among taken =
+      let rest : List Extent = taken.0 in
+      let next : List Extent = block_of new at in
+      let behind : List Extent = block_extents (drop (at + 1) new) in
+      let parts : block_extents new ++ rest ≡ done ++ (next ++ (behind ++ rest)) =
+      ap (λ (l : List Extent). l ++ rest) (blocks_split new at ∙ ap (λ (l : List Extent). done ++ l) (dropped_block new at))
+      ∙ append_assoc done (next ++ behind) rest ∙ ap (λ (l : List Extent). done ++ l) (append_assoc next behind rest) in
+      let whole : left ++ (block_extents new ++ rest) ≡ (left ++ done) ++ (next ++ (behind ++ rest)) =
+      ap (λ (l : List Extent). left ++ l) parts ∙ sym (append_assoc left done (next ++ (behind ++ rest))) in
+      among_both done (block_of old at) (left ++ done) next (behind ++ rest) b
+      (subst (λ l. AreTaken (done ++ (block_of old at ++ l)) b) whole
+      (met (block_extents new ++ rest) (subst (λ l. AreTaken l a) (append_assoc (block_extents old) (block_extents new) rest) taken.1)))
 
   pub walk_few : (most : ℕ) → AreAmongTaken (block_extents old) a → a.count + length (block_extents new) < most → b.count < most
   walk_few most taken few =
@@ -93,40 +121,47 @@ module _ (old new : List (Option Place)) (at : ℕ) (a b : Space) (walked : IsWa
       let split_new = length-append (block_extents (take at new)) (block_extents (drop at new)) in
       omega (arith, before, now, all, parts, behind, olds, news, split_old, split_new, few)
 
-  pub walk_more : (c : Space) → Replaces (block_of old at) (block_of new at) b c → IsWalked old new (at + 1) a c
+  pub walk_more : (c : Space) → TakesPlaceOf (block_of old at) (block_of new at) b c → IsWalked old new (at + 1) a c
   walk_more c step rest are =
       let next : AreTaken (done ++ (block_of new at ++ (left ++ rest))) c = replaced done (block_of old at) (block_of new at) (left ++ rest) b c step (met rest are) in
       subst (λ l. AreTaken l c) (sym (append_assoc done (block_of new at) (left ++ rest)) ∙ ap (λ (l : List Extent). l ++ (left ++ rest)) (sym (taken_block new at))) next
 
-pub walk_placed : (new : List (Option Place)) (at : ℕ) → All IsPlaced (block_extents new) → All IsPlaced (block_of new at)
-walk_placed new at all =
-    all_left IsPlaced (block_of new at) (block_extents (drop (at + 1) new)) (subst (All IsPlaced) (dropped_block new at)
-    (all_right IsPlaced (block_extents (take at new)) (block_extents (drop at new)) (subst (All IsPlaced) (blocks_split new at) all)))
-
-pub walk_done : (old new : List (Option Place)) (at : ℕ) (a b : Space) → IsWalked old new at a b → length old ≤ at → length new ≤ at → Replaces (block_extents old) (block_extents new) a b
+pub walk_done : (old new : List (Option Place)) (at : ℕ) (a b : Space) → IsWalked old new at a b → length old ≤ at → length new ≤ at → TakesPlaceOf (block_extents old) (block_extents new) a b
 walk_done old new at a b walked short low rest are =
     subst (λ ps. AreTaken (block_extents ps ++ rest) b) (take_all at new low) (subst (λ ps. AreTaken (block_extents (take at new) ++ (block_extents ps ++ rest)) b) (drop_all at old short) (walked rest are))
 
 -- One document in place of another.
 
-module _ (directory : Extent) (old new : List Extent) (a b : Space) (among_taken : AreAmongTaken (directory ∷ old) a) (left : (rest : List Extent) → AreTaken (directory ∷ rest) a → AreTaken rest b) where
+module _ (directory : Extent) (old : List Extent) (other : Extent) (new : List Extent) (a b : Space) (taken : AreAmongTaken ((directory ∷ old) ++ (other ∷ new)) a)
+    (left : (rest : List Extent) → AreTaken (directory ∷ rest) a → AreTaken rest b) where
+  abbrev pub rest : List Extent
+  rest = taken.0
+
   pub released_taken : IsTaken directory a
-  released_taken = (old ++ among_taken.0, among_taken.1)
+  released_taken = ((old ++ (other ∷ new)) ++ rest, taken.1)
 
-  pub released_among : AreAmongTaken old b
-  released_among = (among_taken.0, left (old ++ among_taken.0) among_taken.1)
+  met_again : AreTaken (old ++ (other ∷ (new ++ rest))) b
+  met_again = subst (λ l. AreTaken l b) (append_assoc old (other ∷ new) rest) (left ((old ++ (other ∷ new)) ++ rest) taken.1)
 
-  pub released_few : (c : Space) (most : ℕ) → Replaces old new b c → a.count + length new < most → c.count < most
-  released_few c most step few =
-      let rest = among_taken.0 in
-      let before = among_taken.1.count in
-      let now = (step rest (left (old ++ rest) among_taken.1)).count in
-      let was = length-append old rest in
-      let is = length-append new rest in
-      omega (arith, before, now, was, is, few)
+  pub released_among : AreAmongTaken (old ++ new) b
+  released_among = among_both [] old (other ∷ []) new rest b met_again
 
-  pub document_replaced : (other : Extent) (c d : Space) → Replaces old new b c → ((rest : List Extent) → AreTaken rest c → AreTaken (other ∷ rest) d) → Replaces (directory ∷ old) (other ∷ new) a d
-  document_replaced other c d step held rest are = held (new ++ rest) (step rest (left (old ++ rest) are))
+  module _ (c : Space) (step : TakesPlaceOf old new b c) where
+    pub followed_taken : IsTaken other c
+    followed_taken = among new (other ∷ []) (new ++ rest) c (step (other ∷ (new ++ rest)) met_again)
+
+    pub followed_few : (most : ℕ) → a.count + length new < most → c.count < most
+    followed_few most few =
+        let before = taken.1.count in
+        let now = (step (other ∷ (new ++ rest)) met_again).count in
+        let was = length-append (old ++ (other ∷ new)) rest in
+        let olds = length-append old (other ∷ new) in
+        let is = length-append new (other ∷ (new ++ rest)) in
+        let news = length-append new rest in
+        omega (arith, before, now, was, olds, is, news, few)
+
+    pub document_replaced : (d : Space) → TakesPlaceOf [] (other ∷ []) c d → TakesPlaceOf (directory ∷ old) (other ∷ new) a d
+    document_replaced d held others are = held (new ++ others) (step others (left (old ++ others) are))
 
 -- A commit.
 
@@ -156,8 +191,8 @@ module _ (directory : Extent) (live : BlockTable) (slots : Slots) (saves : Bool)
   at_first : AreTaken (mine ++ (updated ++ (saved ++ marked))) a
   at_first = subst (λ l. AreTaken (mine ++ l) a) (settled_extents slots none) are
 
-  pub commit_among : AreAmongTaken updated a
-  commit_among = among mine updated (saved ++ marked) a at_first
+  pub commit_among : AreAmongTaken (updated ++ mine) a
+  commit_among = among_turned mine updated (saved ++ marked) a at_first
 
   counted : length (mine ++ (updated ++ (saved ++ marked))) + length (block_extents live.places.items) ≤ 5 * most_blocks + 3
   counted =
@@ -174,15 +209,18 @@ module _ (directory : Extent) (live : BlockTable) (slots : Slots) (saves : Bool)
   pub commit_few : a.count + length (block_extents live.places.items) ≤ 5 * most_blocks + 3
   commit_few = let count = at_first.count in let few = counted in omega (arith, count, few)
 
-  module _ (first : Replaces updated mine a b) where
+  module _ (first : TakesPlaceOf updated mine a b) where
     at_second : AreTaken (mine ++ (mine ++ (saved ++ marked))) b
     at_second = replaced mine updated mine (saved ++ marked) a b first at_first
 
     grouped : AreTaken ((mine ++ mine) ++ (saved ++ marked)) b
     grouped = subst (λ l. AreTaken l b) (sym (append_assoc mine mine (saved ++ marked))) at_second
 
-    pub saved_among : AreAmongTaken saved b
-    saved_among = among (mine ++ mine) saved marked b grouped
+    pub saved_among : AreAmongTaken (saved ++ mine) b
+    saved_among =
+        among_turned mine saved (mine ++ marked) b
+        (taken-permuted (mine ++ (mine ++ (saved ++ marked))) (mine ++ (saved ++ (mine ++ marked))) b
+        (IsPermutation-append_right mine (mine ++ (saved ++ marked)) (saved ++ (mine ++ marked)) (swapped mine saved marked)) at_second)
 
     pub saved_few : b.count + length (block_extents live.places.items) ≤ 6 * most_blocks + 4
     saved_few =
@@ -196,7 +234,7 @@ module _ (directory : Extent) (live : BlockTable) (slots : Slots) (saves : Bool)
         let four = length-append mine (saved ++ marked) in
         omega (arith, count, few, blocks, size, one, two, three, four)
 
-    module _ (second : Replaces saved next b c) where
+    module _ (second : TakesPlaceOf saved next b c) where
       at_third : AreTaken (mine ++ (mine ++ (next ++ marked))) c
       at_third = subst (λ l. AreTaken l c) (append_assoc mine mine (next ++ marked)) (replaced (mine ++ mine) saved next marked b c second grouped)
 
@@ -212,14 +250,14 @@ next_saved_is : (live : BlockTable) (slots : Slots) (saves : Bool) (pending save
 next_saved_is live slots true pending saved copy same = same_extents saved pending same ∙ ap (λ ps. pending.directory ∷ block_extents ps) copy.places
 next_saved_is live slots false pending saved copy same = same_extents saved slots.committed.saved same
 
-pub next_known : (live : BlockTable) (slots now : Slots) (saves : Bool) (pending saved : DocumentRef) (space : Option Space) → IsCopy pending.table.value live → IsSameStored saved (if saves then pending else slots.committed.saved)
+pub next_taken : (live : BlockTable) (slots now : Slots) (saves : Bool) (pending saved : DocumentRef) (space : Space) → IsCopy pending.table.value live → IsSameStored saved (if saves then pending else slots.committed.saved)
     → now ≡ switched slots (record { updated = pending; saved = saved })
-    → IsSpaceOf (block_extents live.places.items ++ next_extents pending.directory live slots saves) space
-    → IsSpaceOf (block_extents live.places.items ++ referenced_extents now) space
-next_known live slots now saves pending saved space copy same is known =
+    → AreTaken (block_extents live.places.items ++ next_extents pending.directory live slots saves) space
+    → AreTaken (block_extents live.places.items ++ referenced_extents now) space
+next_taken live slots now saves pending saved space copy same is taken =
     let after : Slots = switched slots (record { updated = pending; saved = saved }) in
     let stands : referenced_extents after ≡ next_extents pending.directory live slots saves =
     settled_extents after refl
     ∙ ap₂ (λ (xs ys : List Extent). xs ++ (ys ++ marked_extents slots.marked)) (ap (λ ps. pending.directory ∷ block_extents ps) copy.places) (next_saved_is live slots saves pending saved copy same) in
-    subst (λ s. IsSpaceOf (block_extents live.places.items ++ referenced_extents s) space) (sym is)
-    (subst (λ l. IsSpaceOf (block_extents live.places.items ++ l) space) (sym stands) known)
+    subst (λ s. AreTaken (block_extents live.places.items ++ referenced_extents s) space) (sym is)
+    (subst (λ l. AreTaken (block_extents live.places.items ++ l) space) (sym stands) taken)

@@ -1,7 +1,8 @@
 -- What holds where a call is refused, or where it isn't.
 use Rattle.std.proofs.Common.{◌≡◌, true, sym}
 use Rattle.std.proofs.lemmas.Bool.{true≢false}
-use Rattle.std.specs.Prelude.{is_ok, Result, Ok, Err, OnOk, OnErr, IfOk, MatchResult}
+use Rattle.std.specs.Prelude.{is_ok, IsOk, Result, Ok, Err, OnOk, OnErr, IfOk, MatchResult}
+use Rattle.std.specs.Result.{is_err}
 
 pub on_err : {T E : Type 0} (r : Result T E) (P : Type 0) → P → OnErr r P
 on_err (Ok x) P p = tt
@@ -31,3 +32,7 @@ if_ok_both P Q R (Err e) from p q = tt
 pub of_ok : {T E P : Type 0} (r : Result T E) → OnOk r P → is_ok r ≡ true → P
 of_ok (Ok x) p is = p
 of_ok (Err x) p is = absurd (true≢false (sym is))
+
+pub no_error : {T E : Type 0} (r : Result T E) → IsOk r → is_err r ≡ true → ⊥
+no_error (Ok x) ok err = true≢false (sym err)
+no_error (Err x) ok err = true≢false (sym ok)

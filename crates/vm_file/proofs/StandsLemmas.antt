@@ -22,7 +22,7 @@ use Rattle.geos_model.proofs.Table.{table_entries, table_map}
 use Rattle.geos_model.proofs.FileDocuments.{block_of-is, document_at-kept}
 use Rattle.geos_model.proofs.FileStands.{stands-from, counts-first, counts-second, counts-first_newer, counts-second_newer, open_slot-text, open_slot-shut, slot_bytes}
 use Rattle.vm_file.specs.Ranges.{IsPlaced, KeepsExtent, KeepsAll}
-use Rattle.vm_file.specs.Slots.{gate_text, behind_gate, LeadsTo, IsBeside, IsUnmarked, IsOlder, Outcome, block_extents, stored_extents, pair_extents, prepared_extents, AreExtentsPlaced}
+use Rattle.vm_file.specs.Slots.{gate_text, behind_gate, LeadsTo, IsBeside, IsUnmarked, IsOlder, Outcome, block_extents, stored_extents, pair_extents, prepared_extents, switched, AreExtentsPlaced}
 use Rattle.vm_file.specs.Documents.{blocks_in, document_in, documents_in, attempted_in, entries_of, directory_of_table, IsImaged, AreImaged, IsStored, AreStored, IsPreparedStored, sequence_of, sequence_in, version_of, version_in}
 use Rattle.vm_file.specs.Disk.{StandsForOne, IsCrashConsistent, HasSequence}
 use Rattle.vm_file.specs.Opened.{Beaten}
@@ -337,6 +337,7 @@ sound_versioned facts store live slots timely sound none two honest =
     ap version_of (outcome_counted slots content content (sound_readable (facts store) live slots sound.formed whole) none (whole.leaves content (timely honest).now)) ∙ ap Some two
 
 -- after a commit that was acknowledged
-pub turned_versioned : {S : Type 0} (facts : S → StoreFacts) (store : S) (live : BlockTable) (slots : Slots) → (IsTrue (facts store).honest → IsTimely (facts store)) → IsSound (facts store) live slots
-    → (slots.version ≡ 2) × (slots.spare ≡ Stale) → IsTrue (facts store).honest → version_in (facts store).content ≡ Some 2
-turned_versioned facts store live slots timely sound turned = sound_versioned facts store live slots timely sound (ap (attempted_in (facts store).content) turned.1) turned.0
+pub turned_versioned : {S : Type 0} (facts : S → StoreFacts) (store : S) (live : BlockTable) (old : Slots) (pair : Pair) (slots : Slots) → (IsTrue (facts store).honest → IsTimely (facts store)) → IsSound (facts store) live slots
+    → slots ≡ switched old pair → IsTrue (facts store).honest → version_in (facts store).content ≡ Some 2
+turned_versioned facts store live old pair slots timely sound is =
+    sound_versioned facts store live slots timely sound (ap (λ (s : Slots). attempted_in (facts store).content s.spare) is) (ap (λ (s : Slots). s.version) is)

@@ -16,8 +16,8 @@ pub record MarksTaken (extents : List Extent) (old new : Space) : Type 0 where
   pub taken : (taken : List Extent) → AreTaken taken old → AreTaken (extents ++ taken) new
 
 -- these extents are taken in place of others, whatever else is
-abbrev pub Replaces : List Extent → List Extent → Space → Space → Type 0
-Replaces gone extents old new = (rest : List Extent) → AreTaken (gone ++ rest) old → AreTaken (extents ++ rest) new
+abbrev pub TakesPlaceOf : List Extent → List Extent → Space → Space → Type 0
+TakesPlaceOf gone extents old new = (rest : List Extent) → AreTaken (gone ++ rest) old → AreTaken (extents ++ rest) new
 
 -- others are taken, and these are some of them
 abbrev pub AreAmongTaken : List Extent → Space → Type 0
@@ -28,7 +28,7 @@ abbrev pub next_saved : Extent → BlockTable → Slots → Bool → List Extent
 next_saved directory live slots saves =
     if saves then directory ∷ block_extents live.places.items else stored_extents slots.committed.saved
 
--- all that the slots stand on then, where no other commit is in doubt, and the marked document
+-- all that the slots stand on then, and the marked document
 abbrev pub next_extents : Extent → BlockTable → Slots → Bool → List Extent
 next_extents directory live slots saves =
     (directory ∷ block_extents live.places.items)

@@ -195,8 +195,6 @@ pub fn commit_pair<S: Store>(
         → document_in (S.facts store.new).content live.now ≡ document_in (S.facts store.old).content live.now }
     // Where it is acknowledged.
     ensures switched { OnOk result (slots.new ≡ switched slots.old pair) }
-    ensures committed { OnOk result (slots.new.committed ≡ pair) }
-    ensures turned { OnOk result ((slots.new.version ≡ 2) × (slots.new.spare ≡ SpareSlot.Stale)) }
     // Refusals.
     ensures file { IsErrOf result Fault.File → FailedSince (S.facts store.old) (S.facts store.new) }
     ensures refusals { IfErr result (λ fault. fault ≡ Fault.File) }
@@ -247,7 +245,6 @@ pub fn commit_pending<S: Store>(
     // Where it is acknowledged.
     ensures switched { OnOk result
         (slots.new ≡ switched slots.old (record { updated = pending.document; saved = saved })) }
-    ensures turned { OnOk result ((slots.new.version ≡ 2) × (slots.new.spare ≡ SpareSlot.Stale)) }
     // Refusals.
     ensures file { IsErrOf result Fault.File → FailedSince (S.facts store.old) (S.facts store.new) }
     ensures refusals { IfErr result (λ fault. fault ≡ Fault.File) }

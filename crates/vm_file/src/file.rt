@@ -20,7 +20,7 @@ use crate::listing::{Bounds, bounds_of, find_from, first_free, live_handles, tig
 use crate::making::make_empty;
 use crate::member::Member;
 use crate::opening::open_slots;
-use crate::placing::{known_space, space_of_commit};
+use crate::placing::{follow_commit, known_space};
 use crate::slot::Slots;
 use crate::table::{
     BlockTable, Place, both_of, change_places, copy_table, make_room, place_in, read_block,
@@ -43,7 +43,8 @@ pub struct VmFile<S: Store> {
     live: BlockTable,
     slots: Slots,
     // What is free around all that lies in the file and stays, where it is known. The first image or directory that is
-    // placed finds it out. A commit of the live document follows it; what changes the tables as a whole forgets it.
+    // placed finds it out. A commit of the live document keeps it, unless an earlier one is in doubt. What is refused
+    // may forget it, and what changes the tables as a whole does.
     space: Option<FreeSpace>,
     // Where the live table has blocks.
     bounds: Bounds,
@@ -389,11 +390,10 @@ impl<S: Store> VmFile<S> {
         let pending = pending_directory_of(self.alloc, &self.live, &self.slots, &mut space)?;
         let saved = saved_beside(&pending, &self.slots, saves)?;
         let directory = pending.document.directory;
-        let space = space_of_commit(space, directory, &self.live, &self.slots, saves);
-        let result = commit_pending(&mut self.store, &mut self.slots, &self.live, pending, saved);
-        let kept = if result.is_ok() { space } else { None };
-        self.space = kept;
-        result
+        let is_known = follow_commit(&mut space, directory, &self.live, &self.slots, saves);
+        commit_pending(&mut self.store, &mut self.slots, &self.live, pending, saved)?;
+        self.space = is_known.then_some(space);
+        Ok(())
     }
 
     /// Makes the saved document the updated one and the document as it is now. Refused as an update is.

@@ -1,16 +1,16 @@
 //! Where images and directories come to lie: apart from all that lies in the file and stays.
-ghost use Rattle.std.specs.Prelude.{◌≡◌, ◌++◌, ◌∷◌, [], ◌+◌, ◌<◌, ◌≤◌, List, All, IfOk, OnOk, IsTrue, None, get_or, length};
+ghost use Rattle.std.specs.Prelude.{◌≡◌, ◌↔◌, ◌++◌, ◌∷◌, [], ◌+◌, ◌<◌, ◌≤◌, List, All, IfOk, OnOk, IsTrue, length};
 ghost use Rattle.geos_model.specs.declared.file.Extent.{Extent};
-ghost use Rattle.vm_space.specs.Space.{AreTaken};
+ghost use Rattle.vm_space.specs.Space.{AreTaken, IsTaken};
 ghost use Rattle.vm_file.specs.Ranges.{IsPlaced};
 ghost use Rattle.vm_file.specs.Slots.{block_extents, stored_extents, pair_extents, prepared_extents, marked_extents, referenced_extents};
-ghost use Rattle.vm_file.specs.FreeSpace.{IsSpaceOf, MarksTaken, Replaces, AreAmongTaken, next_saved, next_extents};
+ghost use Rattle.vm_file.specs.FreeSpace.{IsSpaceOf, MarksTaken, TakesPlaceOf, AreAmongTaken, next_saved, next_extents};
 ghost use Rattle.vm_file.specs.Sound.{IsFormed};
 ghost use Rattle.vm_file.specs.Writing.{AreFor};
 
 use crate::member::Member;
 use crate::slot::{Slots, SpareSlot};
-use crate::table::{BlockTable, DocumentRef, Pair, Place};
+use crate::table::{BlockTable, DocumentRef, Pair, Place, place_at, release_place};
 use geos_model::Extent;
 use std::alloc::{AllocError, Global};
 use vm_space::{FreeSpace, MOST_EXTENTS};
@@ -134,19 +134,9 @@ pub fn place_images(
     Ok(extents)
 }
 
-// The place at an index, none past the last.
-fn place_at(places: &[Option<Place>], at: usize) -> Option<Place>
-    ensures { result ≡ get_or places.now at None }
-{
-    match places.get(at) {
-        Some(place) => *place,
-        None => None,
-    }
-}
-
 // Whether two blocks lie in the same extent, or neither is one.
 fn lie_alike(old: Option<Place>, new: Option<Place>) -> bool
-    ensures { IsTrue result → block_extents (old ∷ []) ≡ block_extents (new ∷ []) }
+    ensures { IsTrue result ↔ (block_extents (old ∷ []) ≡ block_extents (new ∷ [])) }
 {
     match (old, new) {
         (Some(old), Some(new)) => old.extent == new.extent,
@@ -155,130 +145,120 @@ fn lie_alike(old: Option<Place>, new: Option<Place>) -> bool
     }
 }
 
-// Where one block lies is taken in place of where another did. Where both lie alike nothing is done.
-fn follow_place(
-    space: &mut FreeSpace,
-    old: Option<Place>,
-    new: Option<Place>,
-) -> Result<(), AllocError>
+// One extent more is taken, of those that are taken already: so it needs no memory.
+fn hold_again(space: &mut FreeSpace, extent: Extent)
     requires few { space.old.count < MOST_EXTENTS }
-    requires placed { All IsPlaced (block_extents (new ∷ [])) }
-    requires taken { AreAmongTaken (block_extents (old ∷ [])) space.old }
-    ensures { OnOk result (Replaces (block_extents (old ∷ [])) (block_extents (new ∷ [])) space.old space.new) }
+    requires taken { IsTaken extent space.old }
+    ensures { TakesPlaceOf [] (extent ∷ []) space.old space.new }
 {
-    if lie_alike(old, new) {
-        return Ok(());
-    }
-    if let Some(place) = old {
-        space.release(place.extent);
-    }
-    match new {
-        Some(place) => space.hold(place.extent),
-        None => Ok(()),
+    if space.hold(extent).is_err() {
+        unreachable!();
     }
 }
 
-// Where the blocks of one table lie is taken in place of where those of another did. Only where the two differ is the
-// space touched.
-fn follow_blocks(
-    space: &mut FreeSpace,
-    old: &[Option<Place>],
-    new: &[Option<Place>],
-) -> Result<(), AllocError>
+// Where one block lies is taken in place of where another did, and is taken already. Where both lie alike nothing is
+// done.
+fn follow_place(space: &mut FreeSpace, old: Option<Place>, new: Option<Place>)
+    requires few { space.old.count < MOST_EXTENTS }
+    requires taken { AreAmongTaken (block_extents (old ∷ []) ++ block_extents (new ∷ [])) space.old }
+    ensures followed { TakesPlaceOf (block_extents (old ∷ [])) (block_extents (new ∷ [])) space.old space.new }
+    ensures alike { block_extents (old ∷ []) ≡ block_extents (new ∷ []) → space.new ≡ space.old }
+{
+    if lie_alike(old, new) {
+        return;
+    }
+    release_place(space, old);
+    if let Some(place) = new {
+        hold_again(space, place.extent);
+    }
+}
+
+// Where the blocks of one table lie is taken in place of where those of another did, and is taken already. Only where
+// the two differ is the space touched.
+fn follow_blocks(space: &mut FreeSpace, old: &[Option<Place>], new: &[Option<Place>])
     requires few { space.old.count + length (block_extents new.now) < MOST_EXTENTS }
-    requires placed { All IsPlaced (block_extents new.now) }
-    requires taken { AreAmongTaken (block_extents old.now) space.old }
-    ensures { OnOk result (Replaces (block_extents old.now) (block_extents new.now) space.old space.new) }
+    requires taken { AreAmongTaken (block_extents old.now ++ block_extents new.now) space.old }
+    ensures { TakesPlaceOf (block_extents old.now) (block_extents new.now) space.old space.new }
 {
     let end = old.len().max(new.len());
     for at in 0..end {
-        follow_place(space, place_at(old, at), place_at(new, at))?;
+        follow_place(space, place_at(old, at), place_at(new, at));
     }
-    Ok(())
 }
 
-// The live document with this directory is taken in place of another.
-fn follow_document(
-    space: &mut FreeSpace,
-    old: &DocumentRef,
-    directory: Extent,
-    live: &BlockTable,
-) -> Result<(), AllocError>
+// The live document with this directory is taken in place of another, and is taken already.
+fn follow_document(space: &mut FreeSpace, old: &DocumentRef, directory: Extent, live: &BlockTable)
     requires few { space.old.count + length (block_extents live.now.places.items) < MOST_EXTENTS }
-    requires placed { All IsPlaced (directory ∷ block_extents live.now.places.items) }
-    requires taken { AreAmongTaken (stored_extents old.now) space.old }
-    ensures { OnOk result
-        (Replaces (stored_extents old.now) (directory ∷ block_extents live.now.places.items) space.old space.new) }
+    requires taken { AreAmongTaken (stored_extents old.now ++ (directory ∷ block_extents live.now.places.items))
+        space.old }
+    ensures { TakesPlaceOf (stored_extents old.now) (directory ∷ block_extents live.now.places.items)
+        space.old space.new }
 {
     space.release(old.directory);
-    follow_blocks(space, &old.table.places, &live.places)?;
-    space.hold(directory)
+    follow_blocks(space, &old.table.places, &live.places);
+    hold_again(space, directory);
 }
 
-// So it is in place of the saved one, where it is saved.
+// What the saved document lies on after a commit is taken in place of what it lay on before: where the commit `saves`,
+// that is the live document with this directory, else it stays.
 fn follow_saved(
     space: &mut FreeSpace,
     directory: Extent,
     live: &BlockTable,
     slots: &Slots,
     saves: bool,
-) -> Result<(), AllocError>
+)
     requires few { space.old.count + length (block_extents live.now.places.items) < MOST_EXTENTS }
-    requires placed { All IsPlaced (directory ∷ block_extents live.now.places.items) }
-    requires taken { AreAmongTaken (stored_extents slots.now.committed.saved) space.old }
-    ensures { OnOk result (Replaces (stored_extents slots.now.committed.saved)
-        (next_saved directory live.now slots.now saves) space.old space.new) }
+    requires taken { AreAmongTaken
+        (stored_extents slots.now.committed.saved ++ (directory ∷ block_extents live.now.places.items)) space.old }
+    ensures { TakesPlaceOf (stored_extents slots.now.committed.saved)
+        (next_saved directory live.now slots.now saves) space.old space.new }
 {
     if saves {
-        follow_document(space, &slots.committed.saved, directory, live)
-    } else {
-        Ok(())
+        follow_document(space, &slots.committed.saved, directory, live);
     }
 }
 
-// The live document, whose directory is taken, is committed.
-fn follow_commit(
+// What stays once the live document is committed with this directory is taken in place of what did before. The new
+// documents take their place while the blocks of the live table and the directory are taken too.
+fn follow_documents(
     space: &mut FreeSpace,
     directory: Extent,
     live: &BlockTable,
     slots: &Slots,
     saves: bool,
-) -> Result<(), AllocError>
+)
     requires formed { IsFormed live.now slots.now }
     requires settled { prepared_extents slots.now.spare ≡ [] }
-    requires placed { IsPlaced directory }
     requires taken { AreTaken (directory ∷ (block_extents live.now.places.items ++ referenced_extents slots.now))
         space.old }
-    ensures { OnOk result (AreTaken (block_extents live.now.places.items
-        ++ next_extents directory live.now slots.now saves) space.new) }
+    ensures { AreTaken (block_extents live.now.places.items ++ next_extents directory live.now slots.now saves)
+        space.new }
 {
-    follow_document(space, &slots.committed.updated, directory, live)?;
-    follow_saved(space, directory, live, slots, saves)?;
+    follow_document(space, &slots.committed.updated, directory, live);
+    follow_saved(space, directory, live, slots, saves);
     space.release(directory);
-    Ok(())
 }
 
-/// The free space once the live document is committed with this directory, which is taken. It is not known where
-/// another commit is in doubt, or where there is no memory for it.
-pub fn space_of_commit(
-    mut space: FreeSpace,
+/// Makes the free space what it is once the live document is committed with this directory, which is taken. It answers
+/// whether it is known then: it is, unless an earlier commit is in doubt.
+pub fn follow_commit(
+    space: &mut FreeSpace,
     directory: Extent,
     live: &BlockTable,
     slots: &Slots,
     saves: bool,
-) -> Option<FreeSpace>
+) -> bool
     requires formed { IsFormed live.now slots.now }
-    requires placed { IsPlaced directory }
     requires taken { AreTaken (directory ∷ (block_extents live.now.places.items ++ referenced_extents slots.now))
-        space }
-    ensures { IsSpaceOf (block_extents live.now.places.items
-        ++ next_extents directory live.now slots.now saves) result }
+        space.old }
+    ensures followed { IsTrue result
+        → AreTaken (block_extents live.now.places.items ++ next_extents directory live.now slots.now saves) space.new }
+    ensures known { prepared_extents slots.now.spare ≡ [] → IsTrue result }
 {
     if let SpareSlot::Prepared(_) = &slots.spare {
-        return None;
+        return false;
     }
-    match follow_commit(&mut space, directory, live, slots, saves) {
-        Ok(()) => Some(space),
-        Err(AllocError) => None,
-    }
+    follow_documents(space, directory, live, slots, saves);
+    true
 }

@@ -10,7 +10,7 @@ ghost use Rattle.vm_file.specs.Opened.{OnlyReadsStore};
 ghost use Rattle.vm_file.specs.Listing.{IsPlaceOf};
 ghost use Rattle.vm_file.specs.Calls.{IsPut, IsImageLength, IsResourceFault};
 ghost use Rattle.vm_file.specs.Slots.{block_extents, referenced_extents};
-ghost use Rattle.vm_file.specs.FreeSpace.{IsSpaceOf};
+ghost use Rattle.vm_file.specs.FreeSpace.{AreAmongTaken, IsSpaceOf};
 ghost use Rattle.vm_file.specs.Copies.{IsCopy, IsSameStored};
 ghost use Rattle.vm_file.specs.declared.table.Place.{Place};
 ghost use Rattle.geos_model.specs.declared.file.Extent.{Extent};
@@ -100,6 +100,16 @@ pub fn both_of(stored: &DocumentRef) -> Result<Pair, AllocError>
     Ok(Pair { updated, saved })
 }
 
+/// The place at an index, `None` past the last one.
+pub fn place_at(places: &[Option<Place>], at: usize) -> Option<Place>
+    ensures { result ≡ get_or places.now at None }
+{
+    match places.get(at) {
+        Some(place) => *place,
+        None => None,
+    }
+}
+
 /// The place of a handle, `None` where no block is live under it.
 fn place_of(places: &[Option<Place>], block: VmHandle) -> Option<Place>
     ensures zero { block.0 ≡ 0 → result ≡ None }
@@ -108,10 +118,7 @@ fn place_of(places: &[Option<Place>], block: VmHandle) -> Option<Place>
     if block.0 == 0 {
         return None;
     }
-    match places.get(usize::from(block.0) - 1) {
-        Some(place) => *place,
-        None => None,
-    }
+    place_at(places, usize::from(block.0) - 1)
 }
 
 /// The place of a handle in a table, `None` where no block is live under it.
@@ -184,16 +191,24 @@ fn placed_at(put: &Member, extent: Extent) -> Place
     }
 }
 
-// Where a block lay is free again.
+/// Where a block lay, if one did, is free again.
+pub fn release_place(space: &mut FreeSpace, place: Option<Place>)
+    requires { AreAmongTaken (block_extents (place ∷ [])) space.old }
+    ensures { (rest : List Extent) → AreTaken (block_extents (place ∷ []) ++ rest) space.old → AreTaken rest space.new }
+{
+    if let Some(place) = place {
+        space.release(place.extent);
+    }
+}
+
+// So it is where the free space is known.
 fn give_back(space: &mut Option<FreeSpace>, place: Option<Place>)
-    requires { IfSome space.old (λ s. (rest : List Extent) × AreTaken (block_extents (place ∷ []) ++ rest) s) }
+    requires { IfSome space.old (AreAmongTaken (block_extents (place ∷ []))) }
     ensures { (rest : List Extent) → IsSpaceOf (block_extents (place ∷ []) ++ rest) space.old
         → IsSpaceOf rest space.new }
 {
     if let Some(space) = space {
-        if let Some(place) = place {
-            space.release(place.extent);
-        }
+        release_place(space, place);
     }
 }
 

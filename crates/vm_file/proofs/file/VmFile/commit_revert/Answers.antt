@@ -11,6 +11,7 @@ use Rattle.vm_file.specs.Effects.{IsCommit}
 use Rattle.vm_file.specs.Ranges.{IsPlaced}
 use Rattle.vm_file.specs.Slots.{stored_extents}
 use Rattle.vm_file.specs.Sound.{disk_of}
+use Rattle.vm_file.specs.declared.slot.Slots.{Slots}
 use Rattle.vm_file.specs.declared.table.Pair.{Pair}
 use Rattle.vm_file.proofs.RangesLemmas.{all_right}
 use Rattle.vm_file.proofs.DocumentsLemmas.{stored_newer}
@@ -73,7 +74,7 @@ invariant_of-self-2 g c =
     let saved = c.self.inside.slots.committed.saved in
     let now = c.commit_pair.new.slots in
     let alike = subst (IsCopy c.in_ok-live.live) (c.deref.ensures ∙ sym c.in_ok-pair.ensures.saved.table) c.in_ok-live.ensures in
-    record { sound = sound_saved (g.S.Store.facts c.commit_pair.new.store) c.self.inside.live c.in_ok-live.live now (subst (λ (p : Pair). IsCopy c.in_ok-live.live p.saved.table.value) (sym c.in_ok-commit_pair.ensures.committed) alike) c.commit_pair.ensures.sound; bounded = subst (λ ps. AreBounds ps c.bounds_of-self-inside.result) c.deref-2.ensures.value c.bounds_of-self-inside.ensures; known = tt }
+    record { sound = sound_saved (g.S.Store.facts c.commit_pair.new.store) c.self.inside.live c.in_ok-live.live now (subst (λ (p : Pair). IsCopy c.in_ok-live.live p.saved.table.value) (sym (ap (λ (s : Slots). s.committed) c.in_ok-commit_pair.ensures.switched)) alike) c.commit_pair.ensures.sound; bounded = subst (λ ps. AreBounds ps c.bounds_of-self-inside.result) c.deref-2.ensures.value c.bounds_of-self-inside.ensures; known = tt }
 
 pub returns-clause-commit : goal.returns-clause-commit
 returns-clause-commit g c =
@@ -87,7 +88,7 @@ returns-clause-commit g c =
     let same : IsTrue a.honest → document_in b.content copy ≡ document_in a.content saved.table.value = λ so.
     copy_document b.content copy saved.table.value is
     ∙ sym (ap (document_in b.content) c.in_ok-pair.ensures.saved.table)
-    ∙ sym (ap (λ (p : Pair). document_in b.content p.saved.table.value) c.in_ok-commit_pair.ensures.committed)
+    ∙ sym (ap (λ (s : Slots). document_in b.content s.committed.saved.table.value) c.in_ok-commit_pair.ensures.switched)
     ∙ ap (λ (d : Documents). d.1) (c.in_ok-commit_pair.ensures.commits.ok so).0
     ∙ ap (document_in a.content) c.in_ok-pair.ensures.saved.table in
     let old : FileState g.row.S.Denot = record { disk = disk_of facts i.store i.slots; document = document_in a.content i.live } in
@@ -99,4 +100,4 @@ returns-clause-commit g c =
 
 pub returns-clause-version : goal.returns-clause-version
 returns-clause-version g c =
-    turned_versioned g.S.Store.facts c.commit_pair.new.store c.self.inside.live c.commit_pair.new.slots (g.met.S.Store.timely c.commit_pair.new.store) c.commit_pair.ensures.sound c.in_ok-commit_pair.ensures.turned
+    turned_versioned g.S.Store.facts c.commit_pair.new.store c.self.inside.live c.self.inside.slots c.in_ok-pair.pair c.commit_pair.new.slots (g.met.S.Store.timely c.commit_pair.new.store) c.commit_pair.ensures.sound c.in_ok-commit_pair.ensures.switched
