@@ -1,7 +1,7 @@
 //! A directory's bytes, as files have them.
 use geos_model::{Attributes, Entry, Extent, Fault, VmHandle};
 use std::test::Fail;
-use vm_space::{MOST_ENTRIES, read_dir, write_dir};
+use vm_space::{MOST_ENTRIES, begin_directory, push_entry, read_dir, write_dir};
 
 // One block, handle 1, user ID 7, type 4660, whose image of three bytes is at page 4; it is the map block.
 const TEXT: &[u8; 32] =
@@ -37,6 +37,16 @@ fn a_directory_is_written_and_read(rt: HostRuntime) -> Result<(), Fail> {
         assert!(rt; read.map_block == VmHandle(1));
         assert!(rt; read.entries.as_slice() == [entry(1, heap_type)].as_slice());
     }
+    Ok(())
+}
+
+#[test]
+fn a_directory_is_written_entry_by_entry(rt: HostRuntime) -> Result<(), Fail> {
+    let alloc = rt.alloc();
+    let mut text = begin_directory(alloc, VmHandle(1), 1)?;
+    assert!(rt; text.as_slice() == &TEXT[..16]);
+    push_entry(&mut text, &entry(1, 4_660))?;
+    assert!(rt; text.as_slice() == TEXT.as_slice());
     Ok(())
 }
 
