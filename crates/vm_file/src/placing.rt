@@ -145,7 +145,7 @@ fn lie_alike(old: Option<Place>, new: Option<Place>) -> bool
     }
 }
 
-// Takes an extent once more that is taken already, which needs no memory.
+// One extent more is taken, of those that are taken already: so it needs no memory.
 fn hold_again(space: &mut FreeSpace, extent: Extent)
     requires few { space.old.count < MOST_EXTENTS }
     requires taken { IsTaken extent space.old }
