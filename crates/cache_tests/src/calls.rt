@@ -48,10 +48,11 @@ pub(crate) fn heap_block(alloc: Global, handle: u16, heap_type: u16) -> Result<M
     })
 }
 
-// Puts a block into the document. Range where it is in memory.
-fn put_block<S: Store>(cache: &mut Cache<S>, block: Member) -> Result<(), Fault>
-    requires { IsPut block }
+// Puts a block into the document, where there is one. Range where it is in memory.
+fn put_block<S: Store>(cache: &mut Cache<S>, block: Result<Member, Fault>) -> Result<(), Fault>
+    requires { IfOk block IsPut }
 {
+    let block = block?;
     if cache.is_resident(block.handle) {
         return Err(Fault::Range);
     }
@@ -65,8 +66,7 @@ pub(crate) fn put<S: Store>(
     handle: u16,
     body: &[u8],
 ) -> Result<(), Fault> {
-    let block = raw_block(alloc, handle, body)?;
-    put_block(cache, block)
+    put_block(cache, raw_block(alloc, handle, body))
 }
 
 /// Puts an empty heap into the document. Range where it is in memory, or there can be none like it.
@@ -76,8 +76,7 @@ pub(crate) fn put_heap<S: Store>(
     handle: u16,
     heap_type: u16,
 ) -> Result<(), Fault> {
-    let block = heap_block(alloc, handle, heap_type)?;
-    put_block(cache, block)
+    put_block(cache, heap_block(alloc, handle, heap_type))
 }
 
 /// Takes a block out of the document. Range where it is the map block.
@@ -167,13 +166,10 @@ pub(crate) fn set<S: Store>(cache: &mut Cache<S>, handle: u16, bytes: &[u8]) -> 
     Ok(())
 }
 
-/// The type of a block, in memory or not, `None` where it isn't live.
-pub(crate) fn type_of<S: Store>(cache: &Cache<S>, handle: u16) -> Option<u16> {
+/// Whether a block is live and has this type, in memory or not.
+pub(crate) fn has_type<S: Store>(cache: &Cache<S>, handle: u16, heap_type: u16) -> bool {
     let block = VmHandle(handle);
-    if !cache.is_live(block) {
-        return None;
-    }
-    Some(cache.attributes(block).heap_type)
+    cache.is_live(block) && cache.attributes(block).heap_type == heap_type
 }
 
 /// Gives a heap another type, in memory or not. NoBlock where it isn't live; WrongKind where it is raw.
@@ -197,14 +193,19 @@ pub(crate) fn set_type<S: Store>(
     Ok(())
 }
 
+// Whether these blocks have those handles.
+fn have_handles(blocks: &[VmHandle], handles: &[u16]) -> bool {
+    for (block, handle) in blocks.iter().zip(handles) {
+        if block.0 != *handle {
+            return false;
+        }
+    }
+    blocks.len() == handles.len()
+}
+
 /// Whether the document has blocks under these handles alone.
 pub(crate) fn lists<S: Store>(cache: &Cache<S>, handles: &[u16]) -> Result<bool, Fault> {
-    let blocks = cache.list()?;
-    let mut is_each = blocks.len() == handles.len();
-    for (block, handle) in blocks.iter().zip(handles) {
-        is_each = is_each && block.0 == *handle;
-    }
-    Ok(is_each)
+    Ok(have_handles(&cache.list()?, handles))
 }
 
 /// The handle that the next block gets, 0 where there is none.

@@ -1,14 +1,14 @@
 //! Blocks that come into a document and go from it, and documents that move to another file.
+use crate::asserting::ended;
 use crate::calls::{created, save_as};
 use crate::steps::Step::{
     Finds, Has, HasType, IsAway, Lists, Load, NextHandle, NoLoad, Put, PutHeap, Remove, Save, Set,
     SetType, Update,
 };
-use crate::steps::{Mismatch, Step, closed, kept, made, take};
+use crate::steps::{Mismatch, Step, answered, closed, kept_again, made, take, when};
 use block_cache::Cache;
 use geos_model::Fault;
 use std::alloc::Global;
-use std::test::Fail;
 use vm_store::{FuseStore, MemStore};
 
 type Fused = FuseStore<MemStore>;
@@ -30,15 +30,14 @@ const GONE: [Step; 12] = [
 ];
 
 #[test]
-fn a_block_that_goes_leaves_memory_and_file(rt: HostRuntime) -> Result<(), Fail> {
+fn a_block_that_goes_leaves_memory_and_file(rt: HostRuntime) -> Result<(), Mismatch> {
     let alloc = rt.alloc();
     let begun = [Put(1, b"one"), Put(2, b"two")];
-    made(alloc, MemStore::new(alloc), 2, &begun, &GONE)?;
-    Ok(())
+    ended(made(alloc, MemStore::new(alloc), 2, &begun, &GONE))
 }
 
 #[test]
-fn the_handles_are_those_in_memory_and_not(rt: HostRuntime) -> Result<(), Fail> {
+fn the_handles_are_those_in_memory_and_not(rt: HostRuntime) -> Result<(), Mismatch> {
     let alloc = rt.alloc();
     let begun = [
         Put(3, b"three"),
@@ -53,8 +52,7 @@ fn the_handles_are_those_in_memory_and_not(rt: HostRuntime) -> Result<(), Fail> 
         Finds(3, 1, 3),
         Finds(3, 3, 0),
     ];
-    made(alloc, MemStore::new(alloc), 1, &begun, &as_file)?;
-    Ok(())
+    ended(made(alloc, MemStore::new(alloc), 1, &begun, &as_file))
 }
 
 // A saved document of two raw blocks and a heap: the first is in memory and changed since, and the heap has another
@@ -74,35 +72,35 @@ fn fused(alloc: Global, passes: u64) -> Fused {
     FuseStore::new(MemStore::new(alloc), passes, true)
 }
 
+// What is done in the other file.
+const LATER: [Step; 3] = [Has(1, b"changed"), Set(1, b"later"), Update];
+
 // Begins that document, and makes another file of it, where it goes on. Returns the old file.
 fn go_on(alloc: Global, cache: &mut Cache<Fused>) -> Result<Fused, Mismatch> {
     take(alloc, cache, &THREE)?;
-    let so_far = save_as(cache, fused(alloc, u64::MAX)).map_err(Mismatch::NoCopy)?;
-    take(
-        alloc,
-        cache,
-        &[Has(1, b"changed"), Set(1, b"later"), Update],
-    )?;
-    Ok(so_far)
+    let so_far = save_as(cache, fused(alloc, u64::MAX))?;
+    when(take(alloc, cache, &LATER), so_far)
 }
 
-// The old file and the other file.
-fn both_files(alloc: Global) -> Result<(Fused, Fused), Mismatch> {
-    let mut cache = created(alloc, fused(alloc, u64::MAX), 1).map_err(Mismatch::NoCache)?;
+// The old file.
+fn old_file(alloc: Global) -> Result<Fused, Mismatch> {
+    let mut cache = created(alloc, fused(alloc, u64::MAX), 1)?;
     let so_far = go_on(alloc, &mut cache);
-    let other = cache.close();
-    match so_far {
-        Ok(so_far) => Ok((so_far, other)),
-        Err(mismatch) => Err(mismatch),
-    }
+    answered(cache, so_far)
+}
+
+// The other file.
+fn other_file(alloc: Global) -> Result<Fused, Mismatch> {
+    let mut cache = created(alloc, fused(alloc, u64::MAX), 1)?;
+    let end = ended(go_on(alloc, &mut cache));
+    closed(cache, end)
 }
 
 #[test]
-fn a_save_as_goes_on_in_the_other_file(rt: HostRuntime) -> Result<(), Fail> {
+fn a_save_as_goes_on_in_the_other_file(rt: HostRuntime) -> Result<(), Mismatch> {
     let alloc = rt.alloc();
-    let (so_far, other) = both_files(alloc)?;
     let steps = [Load(1), Has(1, b"one"), HasType(3, 4_660)];
-    kept(alloc, so_far, 2, &steps)?;
+    ended(kept_again(alloc, old_file(alloc), 2, &steps))?;
     let steps = [
         Load(1),
         Load(2),
@@ -110,38 +108,36 @@ fn a_save_as_goes_on_in_the_other_file(rt: HostRuntime) -> Result<(), Fail> {
         Has(2, b"two"),
         HasType(3, 1),
     ];
-    kept(alloc, other, 2, &steps)?;
-    Ok(())
+    ended(kept_again(alloc, other_file(alloc), 2, &steps))
+}
+
+// Makes no other file of it over a store that fails after so many calls, and sees that it stays.
+fn stay_behind(alloc: Global, cache: &mut Cache<Fused>, passes: u64) -> Result<(), Mismatch> {
+    match save_as(cache, fused(alloc, passes)) {
+        Ok(_) => Err(Mismatch::Copied(passes)),
+        Err(_) => take(alloc, cache, &[Has(1, b"changed")]),
+    }
 }
 
 // Begins that document, and makes no other file of it over stores that fail, so that it stays in its own.
 fn stay(alloc: Global, cache: &mut Cache<Fused>) -> Result<(), Mismatch> {
     take(alloc, cache, &THREE)?;
     for passes in 0..6 {
-        if save_as(cache, fused(alloc, passes)).is_ok() {
-            return Err(Mismatch::Copied(passes));
-        }
-        take(alloc, cache, &[Has(1, b"changed")])?;
+        stay_behind(alloc, cache, passes)?;
     }
     take(alloc, cache, &[Update])
 }
 
 // The file of the document that stays.
 fn file_that_stays(alloc: Global) -> Result<Fused, Mismatch> {
-    let mut cache = created(alloc, fused(alloc, u64::MAX), 1).map_err(Mismatch::NoCache)?;
+    let mut cache = created(alloc, fused(alloc, u64::MAX), 1)?;
     let end = stay(alloc, &mut cache);
     closed(cache, end)
 }
 
 #[test]
-fn a_save_as_that_is_refused_stays_in_its_file(rt: HostRuntime) -> Result<(), Fail> {
+fn a_save_as_that_is_refused_stays_in_its_file(rt: HostRuntime) -> Result<(), Mismatch> {
     let alloc = rt.alloc();
-    let file = file_that_stays(alloc)?;
-    kept(
-        alloc,
-        file,
-        2,
-        &[Load(1), Load(2), Has(1, b"changed"), Has(2, b"two")],
-    )?;
-    Ok(())
+    let steps = [Load(1), Load(2), Has(1, b"changed"), Has(2, b"two")];
+    ended(kept_again(alloc, file_that_stays(alloc), 2, &steps))
 }

@@ -1,9 +1,9 @@
 //! How often the store is called, and what a call that fails leaves.
+use crate::asserting::{ended, is_so};
 use crate::steps::Step::{Has, Load, NoLoad, Put, Save, Set, Update};
-use crate::steps::{Mismatch, Step, kept, made};
+use crate::steps::{Mismatch, Step, kept_again, made};
 use geos_model::Fault;
 use std::alloc::Global;
-use std::test::Fail;
 use vm_store::{FuseStore, MemStore};
 
 // A saved document of three blocks, where the first is in memory.
@@ -51,22 +51,19 @@ fn calls(alloc: Global, begun: &[Step], handle: u16, more: u64) -> Result<bool, 
 }
 
 #[test]
-fn a_block_in_memory_calls_no_store(rt: HostRuntime) -> Result<(), Fail> {
-    assert!(rt; calls(rt.alloc(), &CLEAN, 1, 0)?);
-    assert!(rt; calls(rt.alloc(), &CHANGED, 1, 0)?);
-    Ok(())
+fn a_block_in_memory_calls_no_store(rt: HostRuntime) -> Result<(), Mismatch> {
+    is_so(calls(rt.alloc(), &CLEAN, 1, 0))?;
+    is_so(calls(rt.alloc(), &CHANGED, 1, 0))
 }
 
 #[test]
-fn a_block_that_is_away_is_read_once(rt: HostRuntime) -> Result<(), Fail> {
-    assert!(rt; calls(rt.alloc(), &CLEAN, 2, 1)?);
-    Ok(())
+fn a_block_that_is_away_is_read_once(rt: HostRuntime) -> Result<(), Mismatch> {
+    is_so(calls(rt.alloc(), &CLEAN, 2, 1))
 }
 
 #[test]
-fn a_changed_block_that_goes_is_written_once(rt: HostRuntime) -> Result<(), Fail> {
-    assert!(rt; calls(rt.alloc(), &CHANGED, 2, 2)?);
-    Ok(())
+fn a_changed_block_that_goes_is_written_once(rt: HostRuntime) -> Result<(), Mismatch> {
+    is_so(calls(rt.alloc(), &CHANGED, 2, 2))
 }
 
 // The look-up whose call of the store fails is answered File, and the next one is as if it hadn't been made.
@@ -82,14 +79,12 @@ const RETRIED: [Step; 6] = [
 // The call of the store fails that comes so much later than those that made the document.
 fn retry(alloc: Global, later: u64) -> Result<(), Mismatch> {
     let before = calls_of(alloc, &CHANGED, &[])?;
-    let file = one_frame(alloc, before.saturating_add(later), &CHANGED, &RETRIED)?;
-    kept(alloc, file, 1, &[Load(1), Has(1, b"changed")])?;
-    Ok(())
+    let file = one_frame(alloc, before.saturating_add(later), &CHANGED, &RETRIED);
+    ended(kept_again(alloc, file, 1, &[Load(1), Has(1, b"changed")]))
 }
 
 #[test]
-fn a_call_that_fails_loses_no_change(rt: HostRuntime) -> Result<(), Fail> {
+fn a_call_that_fails_loses_no_change(rt: HostRuntime) -> Result<(), Mismatch> {
     retry(rt.alloc(), 0)?;
-    retry(rt.alloc(), 1)?;
-    Ok(())
+    retry(rt.alloc(), 1)
 }

@@ -1,24 +1,24 @@
 //! Documents that are marked and brought back, with one frame.
 ghost use Rattle.std.specs.Prelude.{◌≡◌, true, is_some, OnOk};
 
-use crate::calls::{created, has, is_there, load, opened, put, save, set, update};
+use crate::asserting::ended;
+use crate::calls::{created, load, set};
+use crate::steps::Step::{Has, IsAway, Load, Put, Save, Set, Update};
+use crate::steps::{Mismatch, Step, closed, kept_again, take};
 use block_cache::Cache;
 use geos_model::Fault;
 use std::alloc::Global;
-use std::test::Fail;
 use vm_store::MemStore;
 
 // A saved document of three raw blocks, of which the first was changed since.
-fn three(alloc: Global) -> Result<Cache<MemStore>, Fault> {
-    let mut cache = created(alloc, MemStore::new(alloc), 1)?;
-    put(alloc, &mut cache, 1, b"one")?;
-    put(alloc, &mut cache, 2, b"two")?;
-    put(alloc, &mut cache, 3, b"three")?;
-    save(&mut cache)?;
-    load(&mut cache, 1)?;
-    set(&mut cache, 1, b"changed")?;
-    Ok(cache)
-}
+const THREE: [Step; 6] = [
+    Put(1, b"one"),
+    Put(2, b"two"),
+    Put(3, b"three"),
+    Save,
+    Load(1),
+    Set(1, b"changed"),
+];
 
 fn mark(cache: &mut Cache<MemStore>) -> Result<(), Fault>
     ensures { OnOk result (is_some cache.new.disk.marked ≡ true) }
@@ -45,29 +45,48 @@ fn change_and_roll_back(cache: &mut Cache<MemStore>) -> Result<(), Fault> {
     Ok(())
 }
 
-#[test]
-fn a_marked_document_comes_back(rt: HostRuntime) -> Result<(), Fail> {
-    let mut cache = three(rt.alloc())?;
-    change_and_roll_back(&mut cache)?;
-    assert!(rt; !is_there(&cache, 3));
-    load(&mut cache, 1)?;
-    assert!(rt; has(&cache, 1, b"changed"));
-    load(&mut cache, 2)?;
-    assert!(rt; has(&cache, 2, b"two"));
-    load(&mut cache, 3)?;
-    assert!(rt; has(&cache, 3, b"three"));
-    Ok(())
+// Begins that document, changes it while it is marked, and brings it back. Then the steps are taken.
+fn bring_back(
+    alloc: Global,
+    cache: &mut Cache<MemStore>,
+    steps: &[Step],
+) -> Result<(), Mismatch> {
+    take(alloc, cache, &THREE)?;
+    change_and_roll_back(cache)?;
+    take(alloc, cache, steps)
+}
+
+// The file of that document.
+fn brought_back(alloc: Global, steps: &[Step]) -> Result<MemStore, Mismatch> {
+    let mut cache = created(alloc, MemStore::new(alloc), 1)?;
+    let end = bring_back(alloc, &mut cache, steps);
+    closed(cache, end)
 }
 
 #[test]
-fn a_document_that_came_back_is_updated(rt: HostRuntime) -> Result<(), Fail> {
-    let mut cache = three(rt.alloc())?;
-    change_and_roll_back(&mut cache)?;
-    update(&mut cache)?;
-    let mut again = opened(rt.alloc(), cache.close(), 3)?;
-    load(&mut again, 1)?;
-    load(&mut again, 2)?;
-    load(&mut again, 3)?;
-    assert!(rt; has(&again, 1, b"changed") && has(&again, 2, b"two") && has(&again, 3, b"three"));
-    Ok(())
+fn a_marked_document_comes_back(rt: HostRuntime) -> Result<(), Mismatch> {
+    let steps = [
+        IsAway(3),
+        Load(1),
+        Has(1, b"changed"),
+        Load(2),
+        Has(2, b"two"),
+        Load(3),
+        Has(3, b"three"),
+    ];
+    ended(brought_back(rt.alloc(), &steps))
+}
+
+#[test]
+fn a_document_that_came_back_is_updated(rt: HostRuntime) -> Result<(), Mismatch> {
+    let file = brought_back(rt.alloc(), &[Update]);
+    let steps = [
+        Load(1),
+        Load(2),
+        Load(3),
+        Has(1, b"changed"),
+        Has(2, b"two"),
+        Has(3, b"three"),
+    ];
+    ended(kept_again(rt.alloc(), file, 3, &steps))
 }

@@ -1,9 +1,10 @@
 //! The same document through a few frames and through many.
+use crate::asserting::is_so;
 use crate::calls::{created, has, load, opened, put, remove, save, set, update};
+use crate::steps::{Mismatch, answered, closed};
 use block_cache::Cache;
 use geos_model::Fault;
 use std::alloc::Global;
-use std::test::Fail;
 use vm_store::MemStore;
 
 const BLOCKS: u16 = 40;
@@ -61,49 +62,42 @@ fn is_kept(cache: &mut Cache<MemStore>) -> Result<bool, Fault> {
 }
 
 // Works on the blocks, and updates the file where each is as it was left.
-fn work_and_update(alloc: Global, cache: &mut Cache<MemStore>) -> Result<bool, Fault> {
+fn work_and_update(alloc: Global, cache: &mut Cache<MemStore>) -> Result<(), Mismatch> {
     work_on(alloc, cache)?;
-    let is_each = is_kept(cache)?;
-    update(cache)?;
-    Ok(is_each)
+    is_so(is_kept(cache))?;
+    Ok(update(cache)?)
 }
 
-// The file of that work with so many frames, and whether each block was as it was left.
-fn worked_on(alloc: Global, frames: usize) -> Result<(MemStore, bool), Fault> {
+// The file of that work with so many frames.
+fn worked_on(alloc: Global, frames: usize) -> Result<MemStore, Mismatch> {
     let mut cache = created(alloc, MemStore::new(alloc), frames)?;
-    let is_each = work_and_update(alloc, &mut cache);
-    let file = cache.close();
-    Ok((file, is_each?))
+    let end = work_and_update(alloc, &mut cache);
+    closed(cache, end)
 }
 
 // So many frames, and then so many others over what is left in the file.
-fn is_same(alloc: Global, frames: usize, others: usize) -> Result<bool, Fault> {
-    let (file, is_each) = worked_on(alloc, frames)?;
-    let mut again = opened(alloc, file, others)?;
-    let is_each_again = is_kept(&mut again);
-    Ok(is_each && is_each_again?)
+fn is_same(alloc: Global, frames: usize, others: usize) -> Result<(), Mismatch> {
+    let mut again = opened(alloc, worked_on(alloc, frames)?, others)?;
+    let end = is_so(is_kept(&mut again));
+    answered(again, end)
 }
 
 #[test]
-fn with_one_frame(rt: HostRuntime) -> Result<(), Fail> {
-    assert!(rt; is_same(rt.alloc(), 1, 64)?);
-    Ok(())
+fn with_one_frame(rt: HostRuntime) -> Result<(), Mismatch> {
+    is_same(rt.alloc(), 1, 64)
 }
 
 #[test]
-fn with_two_frames(rt: HostRuntime) -> Result<(), Fail> {
-    assert!(rt; is_same(rt.alloc(), 2, 8)?);
-    Ok(())
+fn with_two_frames(rt: HostRuntime) -> Result<(), Mismatch> {
+    is_same(rt.alloc(), 2, 8)
 }
 
 #[test]
-fn with_eight_frames(rt: HostRuntime) -> Result<(), Fail> {
-    assert!(rt; is_same(rt.alloc(), 8, 2)?);
-    Ok(())
+fn with_eight_frames(rt: HostRuntime) -> Result<(), Mismatch> {
+    is_same(rt.alloc(), 8, 2)
 }
 
 #[test]
-fn with_more_frames_than_blocks(rt: HostRuntime) -> Result<(), Fail> {
-    assert!(rt; is_same(rt.alloc(), 64, 1)?);
-    Ok(())
+fn with_more_frames_than_blocks(rt: HostRuntime) -> Result<(), Mismatch> {
+    is_same(rt.alloc(), 64, 1)
 }

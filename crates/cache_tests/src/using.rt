@@ -1,12 +1,12 @@
 //! Caches with few frames over files in memory.
+use crate::asserting::ended;
 use crate::steps::Step::{
     Dirty, Has, HasType, IsAway, Load, Lock, NoLoad, Put, PutHeap, Revert, Save, Set, SetType,
     Update,
 };
-use crate::steps::{Mismatch, Step, kept, made};
+use crate::steps::{Mismatch, Step, kept_again, made};
 use geos_model::Fault;
 use std::alloc::Global;
-use std::test::Fail;
 use vm_store::MemStore;
 
 // A saved document of three raw blocks.
@@ -18,7 +18,7 @@ fn three(alloc: Global, frames: usize, steps: &[Step]) -> Result<MemStore, Misma
 }
 
 #[test]
-fn the_least_recently_used_block_goes(rt: HostRuntime) -> Result<(), Fail> {
+fn the_least_recently_used_block_goes(rt: HostRuntime) -> Result<(), Mismatch> {
     let steps = [
         Load(1),
         Load(2),
@@ -28,12 +28,11 @@ fn the_least_recently_used_block_goes(rt: HostRuntime) -> Result<(), Fail> {
         Has(3, b"three"),
         IsAway(2),
     ];
-    three(rt.alloc(), 2, &steps)?;
-    Ok(())
+    ended(three(rt.alloc(), 2, &steps))
 }
 
 #[test]
-fn a_locked_block_stays(rt: HostRuntime) -> Result<(), Fail> {
+fn a_locked_block_stays(rt: HostRuntime) -> Result<(), Mismatch> {
     let steps = [
         Load(1),
         Lock(1),
@@ -44,8 +43,7 @@ fn a_locked_block_stays(rt: HostRuntime) -> Result<(), Fail> {
         Lock(3),
         NoLoad(2, Fault::Range),
     ];
-    three(rt.alloc(), 2, &steps)?;
-    Ok(())
+    ended(three(rt.alloc(), 2, &steps))
 }
 
 // The same, and then the first block is changed and leaves the one frame for the others.
@@ -66,9 +64,9 @@ fn changed(alloc: Global, steps: &[Step]) -> Result<MemStore, Mismatch> {
 }
 
 #[test]
-fn a_changed_block_comes_back_changed(rt: HostRuntime) -> Result<(), Fail> {
-    changed(rt.alloc(), &[IsAway(1), Load(1), Has(1, b"changed")])?;
-    Ok(())
+fn a_changed_block_comes_back_changed(rt: HostRuntime) -> Result<(), Mismatch> {
+    let steps = [IsAway(1), Load(1), Has(1, b"changed")];
+    ended(changed(rt.alloc(), &steps))
 }
 
 // What an update has left.
@@ -82,23 +80,21 @@ const UPDATED: [Step; 6] = [
 ];
 
 #[test]
-fn what_is_updated_is_in_the_file(rt: HostRuntime) -> Result<(), Fail> {
+fn what_is_updated_is_in_the_file(rt: HostRuntime) -> Result<(), Mismatch> {
     let alloc = rt.alloc();
-    let file = changed(alloc, &[Set(3, b""), Update])?;
-    kept(alloc, file, 3, &UPDATED)?;
-    Ok(())
+    let file = changed(alloc, &[Set(3, b""), Update]);
+    ended(kept_again(alloc, file, 3, &UPDATED))
 }
 
 #[test]
-fn what_is_not_committed_is_not_in_the_file(rt: HostRuntime) -> Result<(), Fail> {
+fn what_is_not_committed_is_not_in_the_file(rt: HostRuntime) -> Result<(), Mismatch> {
     let alloc = rt.alloc();
-    let file = changed(alloc, &[])?;
-    kept(alloc, file, 1, &[Load(1), Has(1, b"one")])?;
-    Ok(())
+    let file = changed(alloc, &[]);
+    ended(kept_again(alloc, file, 1, &[Load(1), Has(1, b"one")]))
 }
 
 #[test]
-fn a_revert_takes_all_changes_back(rt: HostRuntime) -> Result<(), Fail> {
+fn a_revert_takes_all_changes_back(rt: HostRuntime) -> Result<(), Mismatch> {
     let steps = [
         Update,
         Set(3, b"again"),
@@ -109,8 +105,7 @@ fn a_revert_takes_all_changes_back(rt: HostRuntime) -> Result<(), Fail> {
         Load(1),
         Has(1, b"one"),
     ];
-    changed(rt.alloc(), &steps)?;
-    Ok(())
+    ended(changed(rt.alloc(), &steps))
 }
 
 // A saved heap of a type, beside a raw block.
@@ -144,9 +139,8 @@ const TYPES: [Step; 5] = [
 ];
 
 #[test]
-fn a_type_stays_where_its_heap_goes_and_comes_back(rt: HostRuntime) -> Result<(), Fail> {
+fn a_type_stays_where_its_heap_goes_and_comes_back(rt: HostRuntime) -> Result<(), Mismatch> {
     let alloc = rt.alloc();
-    let file = made(alloc, MemStore::new(alloc), 1, &TYPED, &RETYPED)?;
-    kept(alloc, file, 1, &TYPES)?;
-    Ok(())
+    let file = made(alloc, MemStore::new(alloc), 1, &TYPED, &RETYPED);
+    ended(kept_again(alloc, file, 1, &TYPES))
 }

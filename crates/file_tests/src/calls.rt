@@ -1,6 +1,7 @@
 //! Calls of a document file, each with what it has to know beforehand.
-ghost use Rattle.std.specs.Prelude.{◌≤◌, All, IfOk, length};
+ghost use Rattle.std.specs.Prelude.{◌≤◌, All, IfOk, OnOk, length};
 ghost use Rattle.vm_file.specs.Calls.{IsPut};
+ghost use Rattle.vm_file.specs.Disk.{MarkSameUnlessCorrupt};
 ghost use Rattle.geos_model.specs.Document.{most_blocks};
 
 use geos_model::{Attributes, CAPACITY, Fault, MOST_BLOCKS, VmHandle};
@@ -86,6 +87,18 @@ pub(crate) fn copy<S: Store>(file: &mut VmFile<S>, target: S) -> Result<VmFile<S
     file.copy_to(target)
 }
 
+/// Puts a block into the document, where there is one.
+pub(crate) fn put_block<S: Store>(
+    file: &mut VmFile<S>,
+    block: Result<Member, Fault>,
+) -> Result<(), Fault>
+    requires { IfOk block IsPut }
+    ensures { OnOk result
+        (MarkSameUnlessCorrupt (S.facts file.old.disk.store).honest file.old.disk.marked file.new.disk.marked) }
+{
+    file.put_blocks(&[block?], &[])
+}
+
 /// Puts a raw block into the document.
 pub(crate) fn put<S: Store>(
     alloc: Global,
@@ -93,9 +106,11 @@ pub(crate) fn put<S: Store>(
     handle: u16,
     user_id: u16,
     body: &[u8],
-) -> Result<(), Fault> {
-    let block = raw_block(alloc, handle, user_id, body)?;
-    file.put_blocks(&[block], &[])
+) -> Result<(), Fault>
+    ensures { OnOk result
+        (MarkSameUnlessCorrupt (S.facts file.old.disk.store).honest file.old.disk.marked file.new.disk.marked) }
+{
+    put_block(file, raw_block(alloc, handle, user_id, body))
 }
 
 /// Puts an empty heap into the document.
@@ -105,8 +120,7 @@ pub(crate) fn put_heap<S: Store>(
     handle: u16,
     attributes: Attributes,
 ) -> Result<(), Fault> {
-    let block = heap_block(handle, attributes, &Heap::new(alloc)?)?;
-    file.put_blocks(&[block], &[])
+    put_block(file, heap_block(handle, attributes, &Heap::new(alloc)?))
 }
 
 // A block under each handle, with its handle as user ID and this body.
@@ -179,17 +193,19 @@ pub(crate) fn attributes_of<S: Store>(file: &VmFile<S>, handle: u16) -> Option<A
     }
 }
 
-pub(crate) fn user_id_of<S: Store>(file: &VmFile<S>, handle: u16) -> Option<u16> {
+/// Whether a block is live and has this user ID.
+pub(crate) fn has_user_id<S: Store>(file: &VmFile<S>, handle: u16, user_id: u16) -> bool {
     match attributes_of(file, handle) {
-        Some(attributes) => Some(attributes.user_id),
-        None => None,
+        Some(attributes) => attributes.user_id == user_id,
+        None => false,
     }
 }
 
-pub(crate) fn type_of<S: Store>(file: &VmFile<S>, handle: u16) -> Option<u16> {
+/// Whether a block is live and has this type.
+pub(crate) fn has_type<S: Store>(file: &VmFile<S>, handle: u16, heap_type: u16) -> bool {
     match attributes_of(file, handle) {
-        Some(attributes) => Some(attributes.heap_type),
-        None => None,
+        Some(attributes) => attributes.heap_type == heap_type,
+        None => false,
     }
 }
 
@@ -268,14 +284,27 @@ pub(crate) fn live_blocks<S: Store>(alloc: Global, file: &VmFile<S>) -> Result<V
     Ok(live)
 }
 
-/// Whether there is a block under each handle, which has it as user ID.
-pub(crate) fn is_full<S: Store>(alloc: Global, file: &VmFile<S>) -> Result<bool, Fault> {
-    let live = live_blocks(alloc, file)?;
-    let mut is_each = live.len() == usize::from(MOST_BLOCKS);
-    for handle in &live {
-        is_each = is_each && user_id_of(file, *handle) == Some(*handle);
+// Whether there is a block under this handle, which has it as user ID, or none where there can be none.
+fn is_own<S: Store>(file: &VmFile<S>, handle: u16) -> bool {
+    match attributes_of(file, handle) {
+        Some(attributes) => handle != 0 && handle <= MOST_BLOCKS && attributes.user_id == handle,
+        None => handle == 0 || handle > MOST_BLOCKS,
     }
-    Ok(is_each)
+}
+
+/// Whether there is a block under each handle, which has it as user ID.
+pub(crate) fn is_full<S: Store>(file: &VmFile<S>) -> bool {
+    for handle in 0..u16::MAX {
+        if !is_own(file, handle) {
+            return false;
+        }
+    }
+    true
+}
+
+/// Whether these handles are those.
+pub(crate) fn are_same(given: Result<Vec<u16>, Fault>, wanted: &[u16]) -> Result<bool, Fault> {
+    Ok(given?.as_slice() == wanted)
 }
 
 // The numbers of these handles.
@@ -344,5 +373,13 @@ pub(crate) fn first_other_byte(bytes: &[u8], those: &[u8]) -> Option<usize> {
         None
     } else {
         Some(bytes.len().min(those.len()))
+    }
+}
+
+/// Whether these bytes stand at a place of those.
+pub(crate) fn has_at(bytes: &[u8], at: usize, wanted: &[u8]) -> bool {
+    match bytes.get(at..) {
+        Some(rest) => rest.starts_with(wanted),
+        None => false,
     }
 }

@@ -1,13 +1,12 @@
 //! A document that is copied into another store.
-use crate::asserting::{no_other, same_number};
+use crate::asserting::{ended, no_other, same_number};
 use crate::calls::{copy, create, file_of, first_other_byte};
 use crate::example::put_at;
 use crate::steps::Step::{
     Has, HasType, HasUserId, Lives, MapBlock, Put, PutHeap, Revert, Save, SetMap, Update,
 };
-use crate::steps::{Mismatch, Step, closed, given_back, made, read, take};
+use crate::steps::{Mismatch, Step, closed, given_back, made, read, read_again, take, when};
 use std::alloc::Global;
-use std::test::Fail;
 use vm_file::VmFile;
 use vm_store::{FuseStore, MemStore};
 
@@ -79,8 +78,7 @@ fn make_and_copy(
 ) -> Result<Fused, Mismatch> {
     take(alloc, file, &SOURCE)?;
     let copied = copied_file(alloc, file, steps)?;
-    take(alloc, file, steps)?;
-    Ok(copied)
+    when(take(alloc, file, steps), copied)
 }
 
 // The files of that document and of its copy, when the steps were taken on both.
@@ -91,32 +89,42 @@ fn both_files(alloc: Global, steps: &[Step]) -> Result<(Fused, Fused), Mismatch>
     Ok((store, copied?))
 }
 
-#[test]
-fn a_copy_is_a_file_of_the_document_as_it_is(rt: HostRuntime) -> Result<(), Fail> {
-    let (_, store) = both_files(rt.alloc(), &[])?;
-    // The length, two images, the directory, two slots, the gate, and two syncs.
-    same_number(&rt, store.calls(), 9);
-    no_other(&rt, first_other(&store));
-    Ok(())
+// The file of the copy.
+fn copied_alone(alloc: Global) -> Result<Fused, Mismatch> {
+    let (_, copied) = both_files(alloc, &[])?;
+    Ok(copied)
+}
+
+// A store is that of the copy. Its calls are the length, two images, the directory, two slots, the gate, and two syncs.
+fn is_copied(store: &Fused) -> Result<(), Mismatch> {
+    same_number(Ok(store.calls()), 9)?;
+    no_other(Ok(first_other(store)))
 }
 
 #[test]
-fn a_copy_has_the_document(rt: HostRuntime) -> Result<(), Fail> {
-    both_files(rt.alloc(), &COPIED)?;
-    Ok(())
+fn a_copy_is_a_file_of_the_document_as_it_is(rt: HostRuntime) -> Result<(), Mismatch> {
+    is_copied(&copied_alone(rt.alloc())?)
 }
 
-// Where the file of the document that was copied has other bytes than before.
-fn first_changed(alloc: Global, before: &Fused) -> Result<Option<usize>, Mismatch> {
+#[test]
+fn a_copy_has_the_document(rt: HostRuntime) -> Result<(), Mismatch> {
+    ended(both_files(rt.alloc(), &COPIED))
+}
+
+// Where the file of the document that was copied has other bytes than these.
+fn first_changed(alloc: Global, before: &[u8]) -> Result<Option<usize>, Mismatch> {
     let (after, _) = both_files(alloc, &COPIED)?;
-    Ok(first_other_byte(after.inner().bytes(), before.inner().bytes()))
+    Ok(first_other_byte(after.inner().bytes(), before))
+}
+
+// Where it has other bytes than before.
+fn first_changed_by_copy(alloc: Global) -> Result<Option<usize>, Mismatch> {
+    first_changed(alloc, source(alloc)?.inner().bytes())
 }
 
 #[test]
-fn what_is_copied_stays(rt: HostRuntime) -> Result<(), Fail> {
-    let before = source(rt.alloc())?;
-    no_other(&rt, first_changed(rt.alloc(), &before)?);
-    Ok(())
+fn what_is_copied_stays(rt: HostRuntime) -> Result<(), Mismatch> {
+    no_other(first_changed_by_copy(rt.alloc()))
 }
 
 // What a crash leaves of a copy, and what is saved there.
@@ -138,73 +146,79 @@ const LEFT: [Step; 13] = [
 
 // What the crash leaves.
 fn left(alloc: Global) -> Result<MemStore, Mismatch> {
-    let (_, store) = both_files(alloc, &[])?;
-    Ok(store.inner().crashed(0, 255)?)
+    Ok(copied_alone(alloc)?.inner().crashed(0, 255)?)
 }
 
 #[test]
-fn a_copy_is_whole_after_a_crash(rt: HostRuntime) -> Result<(), Fail> {
-    let left = left(rt.alloc())?;
-    read(rt.alloc(), left.bytes(), &LEFT)?;
-    Ok(())
+fn a_copy_is_whole_after_a_crash(rt: HostRuntime) -> Result<(), Mismatch> {
+    ended(read_again(rt.alloc(), left(rt.alloc()), &LEFT))
 }
 
-// Makes that document, and takes the steps on it behind a copy of it that is refused since a store fails. Returns the
-// target, which is given back.
+// The calls of a target that is given back, since a copy into it is refused: a store fails.
+fn refused_calls(file: &mut VmFile<Fused>, target: Fused) -> Result<u64, Mismatch> {
+    Ok(given_back(copy(file, target))?.calls())
+}
+
+// Makes that document, and takes the steps on it behind such a copy into a target whose calls after so many fail.
+// Returns the calls of the target.
 fn make_and_refuse(
     alloc: Global,
     file: &mut VmFile<Fused>,
-    target: Fused,
+    target_passes: u64,
     steps: &[Step],
-) -> Result<Fused, Mismatch> {
+) -> Result<u64, Mismatch> {
     take(alloc, file, &SOURCE)?;
-    let target = given_back(copy(file, target))?;
+    let calls = refused_calls(file, fused(alloc, target_passes))?;
     take(alloc, file, steps)?;
-    Ok(target)
+    Ok(calls)
 }
 
-// The files of that document and of the target of such a copy, whose calls after so many fail.
-fn refused_files(
+// The file of that document, whose calls after so many fail, and the calls of the target.
+fn refused_file(
     alloc: Global,
     passes: u64,
     target_passes: u64,
     steps: &[Step],
-) -> Result<(Fused, Fused), Mismatch> {
+) -> Result<(Fused, u64), Mismatch> {
     let mut file = create(alloc, fused(alloc, passes))?;
-    let target = make_and_refuse(alloc, &mut file, fused(alloc, target_passes), steps);
+    let calls = make_and_refuse(alloc, &mut file, target_passes, steps);
     let store = file.close();
-    Ok((store, target?))
+    Ok((store, calls?))
 }
 
 // The calls of the target that is given back, while the document is there and can be saved.
 fn refused_and_saved(alloc: Global, passes: u64) -> Result<u64, Mismatch> {
-    let (store, target) = refused_files(alloc, u64::MAX, passes, &[Lives(&[1, 3]), Save])?;
+    let (store, calls) = refused_file(alloc, u64::MAX, passes, &[Lives(&[1, 3]), Save])?;
     read(alloc, store.inner().bytes(), &[Lives(&[1, 3])])?;
-    Ok(target.calls())
+    Ok(calls)
 }
 
 #[test]
-fn a_refused_copy_gives_the_target_back(rt: HostRuntime) -> Result<(), Fail> {
+fn a_refused_copy_gives_the_target_back(rt: HostRuntime) -> Result<(), Mismatch> {
     for passes in 0..9 {
-        same_number(&rt, refused_and_saved(rt.alloc(), passes)?, passes + 1);
+        same_number(refused_and_saved(rt.alloc(), passes), passes + 1)?;
     }
     Ok(())
 }
 
+// The store calls that make the document.
+fn source_calls(alloc: Global) -> Result<u64, Mismatch> {
+    Ok(source(alloc)?.calls())
+}
+
 // The calls of the target where the source fails so many calls later than those that made it.
 fn refused_later(alloc: Global, later: u64) -> Result<u64, Mismatch> {
-    let calls = source(alloc)?.calls();
-    let passes = calls.saturating_add(later);
-    let (_, target) = refused_files(alloc, passes, u64::MAX, &[])?;
-    Ok(target.calls())
+    let passes = source_calls(alloc)?.saturating_add(later);
+    let (_, calls) = refused_file(alloc, passes, u64::MAX, &[])?;
+    Ok(calls)
 }
 
 // The source fails, at the first image or the second.
 #[test]
-fn a_copy_of_what_cannot_be_read_is_refused(rt: HostRuntime) -> Result<(), Fail> {
+fn a_copy_of_what_cannot_be_read_is_refused(rt: HostRuntime) -> Result<(), Mismatch> {
     for images in 0..2 {
         // Its length, and the images that were read.
-        same_number(&rt, refused_later(rt.alloc(), images)?, 1 + images);
+        same_number(refused_later(rt.alloc(), images), 1 + images)?;
     }
     Ok(())
 }

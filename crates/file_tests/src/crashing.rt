@@ -1,10 +1,9 @@
 //! What a crash leaves while the store fails: the documents last acknowledged, or those of a commit tried since.
 use crate::calls::{create, image_of, open, open_in, put, revert, save, update};
 use crate::example::{LENGTH, example, with};
-use crate::steps::closed;
+use crate::steps::{Mismatch, closed};
 use geos_model::Fault;
 use std::alloc::Global;
-use std::test::Fail;
 use vm_file::{VmFile, crash_law};
 use vm_store::{FuseStore, MemStore};
 
@@ -185,12 +184,17 @@ fn are_all(store: &MemStore, writes: usize) -> Result<bool, Fault> {
     Ok(store.crashed(writes, 0)?.bytes() == store.bytes())
 }
 
+// The one of an image.
+fn byte_of(image: &[u8]) -> Result<Byte, Fault> {
+    match image {
+        [0, byte] => Ok(Some(*byte)),
+        _ => Err(Fault::Range),
+    }
+}
+
 fn byte_in(file: &mut VmFile<MemStore>) -> Result<Byte, Fault> {
     match image_of(file, 1)? {
-        Some(image) => match image.as_slice() {
-            [0, byte] => Ok(Some(*byte)),
-            _ => Err(Fault::Range),
-        },
+        Some(image) => byte_of(&image),
         None => Ok(None),
     }
 }
@@ -249,8 +253,7 @@ fn played_up(alloc: Global, passes: u64) -> Result<(Fused, usize, bool), Fault> 
 
 // The store calls of the first steps.
 fn all_calls(alloc: Global) -> Result<u64, Fault> {
-    let (store, _) = played(alloc, u64::MAX, &STEPS[..FIRST_STEPS])?;
-    Ok(store.calls())
+    Ok(played(alloc, u64::MAX, &STEPS[..FIRST_STEPS])?.0.calls())
 }
 
 // Which bytes a crash fills in.
@@ -297,16 +300,30 @@ fn wrongly_kept_after(alloc: Global, passes: u64) -> Result<Option<usize>, Fault
     wrongly_kept(alloc, store.inner(), commits, is_tried)
 }
 
+// There is no such number, whatever the call.
+fn none_wrongly_kept(alloc: Global) -> Result<(), Mismatch> {
+    for passes in MAKING..=all_calls(alloc)? {
+        if let Some(keep) = wrongly_kept_after(alloc, passes)? {
+            return Err(Mismatch::Crash(passes, keep));
+        }
+    }
+    Ok(())
+}
+
 #[test]
 fn a_crash_of_a_failing_store_leaves_the_last_documents_or_the_next(
     rt: HostRuntime,
-) -> Result<(), Fail> {
-    let alloc = rt.alloc();
-    for passes in MAKING..=all_calls(alloc)? {
-        let kept = wrongly_kept_after(alloc, passes)?;
-        assert!(rt; kept.is_none(), "after {passes} calls");
+) -> Result<(), Mismatch> {
+    none_wrongly_kept(rt.alloc())
+}
+
+// There is no call whose failure loses a commit.
+fn no_loss(loss: Result<Option<u64>, Fault>) -> Result<(), Mismatch> {
+    match loss {
+        Ok(None) => Ok(()),
+        Ok(Some(passes)) => Err(Mismatch::Lost(passes)),
+        Err(fault) => Err(Mismatch::Fault(fault)),
     }
-    Ok(())
 }
 
 // Whether each crash behind the steps, where the call after so many fails, leaves what it may leave.
@@ -325,14 +342,20 @@ fn is_kept_with_each(alloc: Global, passes: u64) -> Result<bool, Fault> {
     Ok(true)
 }
 
-#[test]
-fn a_failing_call_loses_no_commit_of_those_that_follow(rt: HostRuntime) -> Result<(), Fail> {
-    let alloc = rt.alloc();
+// The call whose failure loses a commit.
+fn first_loss_with_each(alloc: Global) -> Result<Option<u64>, Fault> {
     for passes in MAKING..=all_calls(alloc)? {
-        assert!(rt; is_kept_with_each(alloc, passes)?, "call {passes} failed");
+        if !is_kept_with_each(alloc, passes)? {
+            return Ok(Some(passes));
+        }
     }
+    Ok(None)
+}
+
+#[test]
+fn a_failing_call_loses_no_commit_of_those_that_follow(rt: HostRuntime) -> Result<(), Mismatch> {
     crash_law::<Fused>();
-    Ok(())
+    no_loss(first_loss_with_each(rt.alloc()))
 }
 
 // Whether a crash behind each of the first steps leaves what it may leave.
@@ -357,25 +380,22 @@ fn first_loss(alloc: Global, fill: u8) -> Result<Option<u64>, Fault> {
 }
 
 #[test]
-fn a_crash_behind_any_step_leaves_what_was_tried_under_zeros(rt: HostRuntime) -> Result<(), Fail> {
-    assert!(rt; first_loss(rt.alloc(), 0)?.is_none());
-    Ok(())
+fn a_crash_behind_any_step_leaves_what_was_tried_under_zeros(rt: HostRuntime) -> Result<(), Mismatch> {
+    no_loss(first_loss(rt.alloc(), 0))
 }
 
 #[test]
 fn a_crash_behind_any_step_leaves_what_was_tried_under_open_gates(
     rt: HostRuntime,
-) -> Result<(), Fail> {
-    assert!(rt; first_loss(rt.alloc(), 1)?.is_none());
-    Ok(())
+) -> Result<(), Mismatch> {
+    no_loss(first_loss(rt.alloc(), 1))
 }
 
 #[test]
 fn a_crash_behind_any_step_leaves_what_was_tried_under_great_numbers(
     rt: HostRuntime,
-) -> Result<(), Fail> {
-    assert!(rt; first_loss(rt.alloc(), 255)?.is_none());
-    Ok(())
+) -> Result<(), Mismatch> {
+    no_loss(first_loss(rt.alloc(), 255))
 }
 
 // A file of version 1: the byte of the updated document is 0x61, and the saved one has no block.
@@ -420,15 +440,21 @@ fn are_kept_on(alloc: Global, passes: u64) -> Result<bool, Fault> {
 
 // The store calls that open the file, and of those steps.
 fn calls_on(alloc: Global) -> Result<u64, Fault> {
-    let (store, _) = played_on(alloc, u64::MAX, &STEPS[..4])?;
-    Ok(store.calls())
+    Ok(played_on(alloc, u64::MAX, &STEPS[..4])?.0.calls())
+}
+
+// The call whose failure loses the documents.
+fn first_loss_on(alloc: Global) -> Result<Option<u64>, Fault> {
+    for passes in OPENING..=calls_on(alloc)? {
+        if !are_kept_on(alloc, passes)? {
+            return Ok(Some(passes));
+        }
+    }
+    Ok(None)
 }
 
 // A save and an update, each of which is made of a file whose slot is of version 1 where the one before failed.
 #[test]
-fn a_file_of_version_1_stands_until_a_commit_is_done(rt: HostRuntime) -> Result<(), Fail> {
-    for passes in OPENING..=calls_on(rt.alloc())? {
-        assert!(rt; are_kept_on(rt.alloc(), passes)?, "call {passes} failed");
-    }
-    Ok(())
+fn a_file_of_version_1_stands_until_a_commit_is_done(rt: HostRuntime) -> Result<(), Mismatch> {
+    no_loss(first_loss_on(rt.alloc()))
 }

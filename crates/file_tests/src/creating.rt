@@ -1,11 +1,10 @@
 //! A file that was made.
-use crate::asserting::{no_other, same_number};
+use crate::asserting::{no_other, same_later};
 use crate::calls::first_other_byte;
 use crate::example::put_at;
 use crate::steps::Step::{IsEmpty, MapBlock};
-use crate::steps::{Mismatch, given_back, made};
+use crate::steps::{Mismatch, Step, given_back, made};
 use std::alloc::Global;
-use std::test::Fail;
 use vm_file::VmFile;
 use vm_store::{FuseStore, MemStore};
 
@@ -25,27 +24,38 @@ fn first_other(store: &MemStore) -> Option<usize> {
     first_other_byte(store.bytes(), &made_bytes())
 }
 
+// Where a file that is made of a store has, when the steps were taken on it.
+fn first_other_made(
+    alloc: Global,
+    store: MemStore,
+    steps: &[Step],
+) -> Result<Option<usize>, Mismatch> {
+    let store = made(alloc, store, &[], steps)?;
+    Ok(first_other(&store))
+}
+
 #[test]
-fn a_made_file_has_1040_bytes(rt: HostRuntime) -> Result<(), Fail> {
+fn a_made_file_has_1040_bytes(rt: HostRuntime) -> Result<(), Mismatch> {
     let alloc = rt.alloc();
-    let store = made(alloc, MemStore::new(alloc), &[], &[IsEmpty, MapBlock(0)])?;
-    no_other(&rt, first_other(&store));
-    Ok(())
+    no_other(first_other_made(alloc, MemStore::new(alloc), &[IsEmpty, MapBlock(0)]))
 }
 
-// The file that is made over these bytes, and what a crash leaves of it.
-fn made_over(alloc: Global, bytes: &[u8]) -> Result<(MemStore, MemStore), Mismatch> {
-    let store = made(alloc, MemStore::from_bytes(alloc, bytes)?, &[], &[])?;
+// What is seen of the store of a made file, and of what a crash leaves of it.
+fn is_made(store: &MemStore) -> Result<(), Mismatch> {
+    no_other(Ok(first_other(store)))?;
     let left = store.crashed(0, 255)?;
-    Ok((store, left))
+    no_other(Ok(first_other(&left)))
+}
+
+// Makes a file over these bytes.
+fn make_over(alloc: Global, bytes: &[u8]) -> Result<(), Mismatch> {
+    let store = made(alloc, MemStore::from_bytes(alloc, bytes)?, &[], &[])?;
+    is_made(&store)
 }
 
 #[test]
-fn a_file_is_made_over_any_bytes(rt: HostRuntime) -> Result<(), Fail> {
-    let (store, left) = made_over(rt.alloc(), &[7; 5_000])?;
-    no_other(&rt, first_other(&store));
-    no_other(&rt, first_other(&left));
-    Ok(())
+fn a_file_is_made_over_any_bytes(rt: HostRuntime) -> Result<(), Mismatch> {
+    make_over(rt.alloc(), &[7; 5_000])
 }
 
 // The store that no file is made of, since its call after so many fails.
@@ -64,12 +74,9 @@ fn given_back_and_made(alloc: Global, passes: u64) -> Result<(u64, u64, Option<u
 
 // The length, the directory, both slots, the gate, and two syncs.
 #[test]
-fn a_refused_making_gives_the_store_back(rt: HostRuntime) -> Result<(), Fail> {
+fn a_refused_making_gives_the_store_back(rt: HostRuntime) -> Result<(), Mismatch> {
     for passes in 0..7 {
-        let (refused, made, other) = given_back_and_made(rt.alloc(), passes)?;
-        same_number(&rt, refused, passes + 1);
-        same_number(&rt, made, passes + 1 + 7);
-        no_other(&rt, other);
+        same_later(given_back_and_made(rt.alloc(), passes), passes + 1, 7)?;
     }
     Ok(())
 }

@@ -1,15 +1,14 @@
 //! As much as a file can hold.
-use crate::asserting::{no_other, same_number};
-use crate::calls::{attributes_of, create, has, heap_block, open, put, save};
+use crate::asserting::{ended, is_so, no_other, same_number};
+use crate::calls::{attributes_of, create, has, has_at, heap_block, open, put, put_block, save};
 use crate::steps::Step::{
     Finds, Has, IsFull, ListsLive, Lives, MapBlock, NextHandle, NoRemove, PutAll, Remove,
     RemoveOthers, Revert, Save, SetMap, SetUserId, Update,
 };
-use crate::steps::{Mismatch, Step, closed, made, read};
+use crate::steps::{Mismatch, Step, closed, made, read, read_again};
 use geos_model::{Attributes, Fault};
 use lmem_heap::Heap;
 use std::alloc::Global;
-use std::test::Fail;
 use vm_file::VmFile;
 use vm_store::MemStore;
 
@@ -18,25 +17,23 @@ fn full_store(alloc: Global) -> Result<MemStore, Mismatch> {
     made(alloc, MemStore::new(alloc), &[], &[PutAll(b"a"), Save])
 }
 
-#[test]
-fn each_handle_has_a_block(rt: HostRuntime) -> Result<(), Fail> {
-    let alloc = rt.alloc();
-    let store = full_store(alloc)?;
-    // The slots, the first directory, the images, and 256 whole pages and 16 bytes of the new directory.
-    same_number(
-        &rt,
-        store.bytes().len() as u64,
-        (3 + 8_192 + 256) * 512 + 16,
-    );
-    let steps = [IsFull, Has(1, b"\0a"), Has(8_192, b"\0a")];
-    read(alloc, store.bytes(), &steps)?;
-    Ok(())
+// The length of that file.
+fn full_length(alloc: Global) -> Result<u64, Mismatch> {
+    Ok(full_store(alloc)?.bytes().len() as u64)
 }
 
 #[test]
-fn all_handles_are_listed(rt: HostRuntime) -> Result<(), Fail> {
+fn each_handle_has_a_block(rt: HostRuntime) -> Result<(), Mismatch> {
     let alloc = rt.alloc();
-    let store = full_store(alloc)?;
+    // The slots, the first directory, the images, and 256 whole pages and 16 bytes of the new directory.
+    same_number(full_length(alloc), (3 + 8_192 + 256) * 512 + 16)?;
+    let steps = [IsFull, Has(1, b"\0a"), Has(8_192, b"\0a")];
+    ended(read_again(alloc, full_store(alloc), &steps))
+}
+
+#[test]
+fn all_handles_are_listed(rt: HostRuntime) -> Result<(), Mismatch> {
+    let alloc = rt.alloc();
     let steps = [
         ListsLive,
         NextHandle(None),
@@ -45,8 +42,7 @@ fn all_handles_are_listed(rt: HostRuntime) -> Result<(), Fail> {
         NextHandle(Some(4_096)),
         ListsLive,
     ];
-    read(alloc, store.bytes(), &steps)?;
-    Ok(())
+    ended(read_again(alloc, full_store(alloc), &steps))
 }
 
 // All of them put again and updated, while none of the old ones may be written over, and once more and not updated.
@@ -56,12 +52,10 @@ const AGAIN: [Step; 4] = [PutAll(b"b"), Update, PutAll(b"c"), Has(4_096, b"\0c")
 const UPDATED: [Step; 4] = [IsFull, Has(4_096, b"\0b"), Revert, Has(4_096, b"\0a")];
 
 #[test]
-fn each_block_is_put_again(rt: HostRuntime) -> Result<(), Fail> {
+fn each_block_is_put_again(rt: HostRuntime) -> Result<(), Mismatch> {
     let alloc = rt.alloc();
-    let full = full_store(alloc)?;
-    let store = read(alloc, full.bytes(), &AGAIN)?;
-    read(alloc, store.bytes(), &UPDATED)?;
-    Ok(())
+    let store = read_again(alloc, full_store(alloc), &AGAIN);
+    ended(read_again(alloc, store, &UPDATED))
 }
 
 // What is done with a file of all blocks, in which page 2 and those from 8,452 on are free; a place in a slot, and the
@@ -103,10 +97,7 @@ const CASES: &[Case] = &[
 
 // Whether this page stands at a place.
 fn has_page(bytes: &[u8], at: usize, page: u32) -> bool {
-    match bytes.get(at..) {
-        Some(rest) => rest.starts_with(&page.to_le_bytes()),
-        None => false,
-    }
+    has_at(bytes, at, &page.to_le_bytes())
 }
 
 // Whether a case makes that of the file with these bytes.
@@ -126,11 +117,14 @@ fn first_other_case(alloc: Global, full: &[u8]) -> Result<Option<usize>, Mismatc
     Ok(None)
 }
 
+// The same of the file with all blocks.
+fn first_other_of_full(alloc: Global) -> Result<Option<usize>, Mismatch> {
+    first_other_case(alloc, full_store(alloc)?.bytes())
+}
+
 #[test]
-fn a_long_directory_takes_the_first_gap_of_257_pages(rt: HostRuntime) -> Result<(), Fail> {
-    let full = full_store(rt.alloc())?;
-    no_other(&rt, first_other_case(rt.alloc(), full.bytes())?);
-    Ok(())
+fn a_long_directory_takes_the_first_gap_of_257_pages(rt: HostRuntime) -> Result<(), Mismatch> {
+    no_other(first_other_of_full(rt.alloc()))
 }
 
 const LONG_BLOCKS: u16 = 20;
@@ -150,34 +144,38 @@ fn long_file(alloc: Global, body: &[u8]) -> Result<MemStore, Fault> {
     closed(file, end)
 }
 
-// The first of these blocks that is another one, in a file with these bytes.
-fn first_wrong(alloc: Global, bytes: &[u8], image: &[u8]) -> Result<Option<u16>, Fault> {
-    let mut file = open(alloc, bytes)?;
-    first_other(&mut file, image)
-}
-
-fn first_other(file: &mut VmFile<MemStore>, image: &[u8]) -> Result<Option<u16>, Fault> {
+// Whether each of these blocks has this image.
+fn have_image(file: &mut VmFile<MemStore>, image: &[u8]) -> Result<bool, Fault> {
     for handle in 1..=LONG_BLOCKS {
         if !has(file, handle, image)? {
-            return Ok(Some(handle));
+            return Ok(false);
         }
     }
-    Ok(None)
+    Ok(true)
+}
+
+// The same in a file with these bytes.
+fn hold_image(alloc: Global, bytes: &[u8], image: &[u8]) -> Result<bool, Fault> {
+    let mut file = open(alloc, bytes)?;
+    have_image(&mut file, image)
 }
 
 // Whether blocks with this body have that image when the file is opened in which they were saved.
 fn are_kept(alloc: Global, body: &[u8], image: &[u8]) -> Result<bool, Fault> {
     let store = long_file(alloc, body)?;
-    Ok(first_wrong(alloc, store.bytes(), image)?.is_none())
+    hold_image(alloc, store.bytes(), image)
+}
+
+// Whether so it is with bodies of the most bytes.
+fn are_longest_kept(alloc: Global) -> Result<bool, Fault> {
+    let mut image = vec![in alloc; 7; 65_521]?;
+    image[0] = 0;
+    are_kept(alloc, &image[1..], &image)
 }
 
 #[test]
-fn raw_bodies_have_up_to_65520_bytes(rt: HostRuntime) -> Result<(), Fail> {
-    let alloc = rt.alloc();
-    let mut image = vec![in alloc; 7; 65_521]?;
-    image[0] = 0;
-    assert!(rt; are_kept(alloc, &image[1..], &image)?);
-    Ok(())
+fn raw_bodies_have_up_to_65520_bytes(rt: HostRuntime) -> Result<(), Mismatch> {
+    is_so(are_longest_kept(rt.alloc()))
 }
 
 const TYPED: Attributes = Attributes {
@@ -187,7 +185,7 @@ const TYPED: Attributes = Attributes {
 
 // Saves a heap in a block.
 fn save_heap(file: &mut VmFile<MemStore>, heap: &Heap) -> Result<(), Fault> {
-    file.put_blocks(&[heap_block(5, TYPED, heap)?], &[])?;
+    put_block(file, heap_block(5, TYPED, heap))?;
     save(file)
 }
 
@@ -215,15 +213,19 @@ fn is_kept(alloc: Global, heap: &Heap) -> Result<bool, Fault> {
     holds_heap(alloc, store.bytes(), &heap.image()?)
 }
 
-// One chunk takes all of a heap but for its header and its entry.
-#[test]
-fn a_heap_has_up_to_65520_bytes(rt: HostRuntime) -> Result<(), Fail> {
-    let alloc = rt.alloc();
+// Whether a heap is kept of which one chunk takes all but for its header and its entry.
+fn is_longest_kept(alloc: Global) -> Result<bool, Fault> {
     let mut heap = Heap::new(alloc)?;
-    assert!(rt; heap.fits_alloc(65_498));
+    if !heap.fits_alloc(65_498) {
+        return Ok(false);
+    }
     heap.alloc(65_498);
-    assert!(rt; is_kept(alloc, &heap)?);
-    Ok(())
+    is_kept(alloc, &heap)
+}
+
+#[test]
+fn a_heap_has_up_to_65520_bytes(rt: HostRuntime) -> Result<(), Mismatch> {
+    is_so(is_longest_kept(rt.alloc()))
 }
 
 // All blocks but the map block are taken out.
@@ -236,21 +238,19 @@ fn one_block(alloc: Global, steps: &[Step]) -> Result<MemStore, Mismatch> {
 
 // To take out a block that isn't there changes nothing.
 #[test]
-fn blocks_are_taken_out(rt: HostRuntime) -> Result<(), Fail> {
+fn blocks_are_taken_out(rt: HostRuntime) -> Result<(), Mismatch> {
     let steps = [
         NoRemove(9, Fault::IsMap),
         Remove(10),
         Remove(0),
         Lives(&[9]),
     ];
-    one_block(rt.alloc(), &steps)?;
-    Ok(())
+    ended(one_block(rt.alloc(), &steps))
 }
 
 #[test]
-fn blocks_that_were_taken_out_are_not_saved(rt: HostRuntime) -> Result<(), Fail> {
+fn blocks_that_were_taken_out_are_not_saved(rt: HostRuntime) -> Result<(), Mismatch> {
     let alloc = rt.alloc();
-    let store = one_block(alloc, &[Save])?;
-    read(alloc, store.bytes(), &[Lives(&[9]), MapBlock(9)])?;
-    Ok(())
+    let store = one_block(alloc, &[Save]);
+    ended(read_again(alloc, store, &[Lives(&[9]), MapBlock(9)]))
 }

@@ -1,8 +1,8 @@
 //! What a document tells of its handles.
+use crate::asserting::ended;
 use crate::steps::Step::{Finds, Lists, NextHandle, Put, Remove, Revert, Save};
-use crate::steps::{Mismatch, Step, made, read};
+use crate::steps::{Mismatch, Step, made, read_again};
 use std::alloc::Global;
-use std::test::Fail;
 use vm_store::MemStore;
 
 // Blocks under 5, 2 and 9, put in this order, with the user IDs 7, 7 and 8.
@@ -14,14 +14,13 @@ fn begun(alloc: Global, begun: &[Step], steps: &[Step]) -> Result<MemStore, Mism
 }
 
 #[test]
-fn no_block_is_listed_at_first(rt: HostRuntime) -> Result<(), Fail> {
+fn no_block_is_listed_at_first(rt: HostRuntime) -> Result<(), Mismatch> {
     let as_file = [Lists(&[]), NextHandle(Some(1)), Finds(0, 0, None)];
-    begun(rt.alloc(), &[], &as_file)?;
-    Ok(())
+    ended(begun(rt.alloc(), &[], &as_file))
 }
 
 #[test]
-fn handles_are_listed_rising(rt: HostRuntime) -> Result<(), Fail> {
+fn handles_are_listed_rising(rt: HostRuntime) -> Result<(), Mismatch> {
     let steps = [
         Lists(&[2, 5, 9]),
         Remove(9),
@@ -29,12 +28,11 @@ fn handles_are_listed_rising(rt: HostRuntime) -> Result<(), Fail> {
         Put(7, 8, b"seven"),
         Lists(&[2, 5, 7]),
     ];
-    begun(rt.alloc(), &THREE, &steps)?;
-    Ok(())
+    ended(begun(rt.alloc(), &THREE, &steps))
 }
 
 #[test]
-fn user_ids_are_found_above_a_handle(rt: HostRuntime) -> Result<(), Fail> {
+fn user_ids_are_found_above_a_handle(rt: HostRuntime) -> Result<(), Mismatch> {
     let steps = [
         Finds(7, 0, Some(2)),
         Finds(7, 2, Some(5)),
@@ -43,12 +41,11 @@ fn user_ids_are_found_above_a_handle(rt: HostRuntime) -> Result<(), Fail> {
         Finds(8, 9, None),
         Finds(8, 65_535, None),
     ];
-    begun(rt.alloc(), &THREE, &steps)?;
-    Ok(())
+    ended(begun(rt.alloc(), &THREE, &steps))
 }
 
 #[test]
-fn the_next_handle_is_the_least_free_one(rt: HostRuntime) -> Result<(), Fail> {
+fn the_next_handle_is_the_least_free_one(rt: HostRuntime) -> Result<(), Mismatch> {
     let steps = [
         NextHandle(Some(1)),
         Put(1, 0, b"one"),
@@ -56,12 +53,11 @@ fn the_next_handle_is_the_least_free_one(rt: HostRuntime) -> Result<(), Fail> {
         Remove(2),
         NextHandle(Some(2)),
     ];
-    begun(rt.alloc(), &THREE, &steps)?;
-    Ok(())
+    ended(begun(rt.alloc(), &THREE, &steps))
 }
 
 #[test]
-fn a_revert_lists_the_saved_document(rt: HostRuntime) -> Result<(), Fail> {
+fn a_revert_lists_the_saved_document(rt: HostRuntime) -> Result<(), Mismatch> {
     let alloc = rt.alloc();
     let steps = [
         Save,
@@ -71,7 +67,6 @@ fn a_revert_lists_the_saved_document(rt: HostRuntime) -> Result<(), Fail> {
         Lists(&[2, 5, 9]),
         NextHandle(Some(1)),
     ];
-    let store = begun(alloc, &THREE, &steps)?;
-    read(alloc, store.bytes(), &[Lists(&[2, 5, 9])])?;
-    Ok(())
+    let store = begun(alloc, &THREE, &steps);
+    ended(read_again(alloc, store, &[Lists(&[2, 5, 9])]))
 }

@@ -1,27 +1,18 @@
 //! A document that is marked, so that it can be brought back.
-ghost use Rattle.vm_file.specs.Calls.{IsPut};
-
-use crate::calls::{attributes_of, create, has, put, put_heap, raw_block, save, update};
-use crate::steps::Step::{Has, HasType, HasUserId};
-use crate::steps::{closed, read};
+use crate::asserting::ended;
+use crate::calls::{create, put, put_heap};
+use crate::steps::Step::{Has, HasType, HasUserId, Save, Update};
+use crate::steps::{Mismatch, closed, read_again, take};
 use geos_model::{Attributes, Fault};
 use std::alloc::Global;
-use std::test::Fail;
-use vm_file::{Member, VmFile};
+use vm_file::VmFile;
 use vm_store::{MemStore, Store};
 
-// Marks the document, puts two blocks one after the other, and brings it back.
-fn put_and_roll_back<S: Store>(
-    file: &mut VmFile<S>,
-    first: Member,
-    second: Member,
-) -> Result<(), Fault>
-    requires first { IsPut first }
-    requires second { IsPut second }
-{
+// Marks the document, puts its block twice, and brings it back.
+fn put_and_roll_back<S: Store>(alloc: Global, file: &mut VmFile<S>) -> Result<(), Fault> {
     file.mark()?;
-    file.put_blocks(&[first], &[])?;
-    file.put_blocks(&[second], &[])?;
+    put(alloc, file, 1, 8, b"two")?;
+    put(alloc, file, 1, 9, b"six")?;
     file.roll_back();
     Ok(())
 }
@@ -31,66 +22,56 @@ const TYPED: Attributes = Attributes {
     heap_type: 4_660,
 };
 
-// Puts a block twice behind a mark, which was neither updated nor saved before.
-fn put_twice<S: Store>(alloc: Global, file: &mut VmFile<S>) -> Result<(), Fault> {
+// Puts a heap, and brings it back that was neither updated nor saved before. The document is saved where the heap is as
+// it was before the mark.
+fn bring_back_and_save(alloc: Global, file: &mut VmFile<MemStore>) -> Result<(), Mismatch> {
     put_heap(alloc, file, 1, TYPED)?;
-    let first = raw_block(alloc, 1, 8, b"two")?;
-    let second = raw_block(alloc, 1, 9, b"six")?;
-    put_and_roll_back(file, first, second)
+    put_and_roll_back(alloc, file)?;
+    let steps = [
+        Has(1, b"\x01\0\0"),
+        HasUserId(1, 7),
+        HasType(1, 4_660),
+        Save,
+    ];
+    take(alloc, file, &steps)
 }
 
-// The same, behind which the document is saved. Returns whether the heap is as it was before the mark.
-fn put_twice_and_save(alloc: Global, file: &mut VmFile<MemStore>) -> Result<bool, Fault> {
-    put_twice(alloc, file)?;
-    let is_back = has(file, 1, b"\x01\0\0")? && attributes_of(file, 1) == Some(TYPED);
-    save(file)?;
-    Ok(is_back)
-}
-
-// Whether it is, and the store of the file.
-fn brought_back(alloc: Global) -> Result<(bool, MemStore), Fault> {
+// The store of the file.
+fn brought_back(alloc: Global) -> Result<MemStore, Mismatch> {
     let mut file = create(alloc, MemStore::new(alloc))?;
-    let is_back = put_twice_and_save(alloc, &mut file);
-    let store = file.close();
-    Ok((is_back?, store))
+    let end = bring_back_and_save(alloc, &mut file);
+    closed(file, end)
 }
 
 #[test]
-fn a_marked_document_is_brought_back(rt: HostRuntime) -> Result<(), Fail> {
-    let (is_back, store) = brought_back(rt.alloc())?;
-    assert!(rt; is_back);
+fn a_marked_document_is_brought_back(rt: HostRuntime) -> Result<(), Mismatch> {
     let steps = [Has(1, b"\x01\0\0"), HasUserId(1, 7), HasType(1, 4_660)];
-    read(rt.alloc(), store.bytes(), &steps)?;
-    Ok(())
+    ended(read_again(rt.alloc(), brought_back(rt.alloc()), &steps))
 }
 
 // Marks the document, puts a block, and forgets the mark.
-fn put_and_release<S: Store>(file: &mut VmFile<S>, block: Member) -> Result<(), Fault>
-    requires { IsPut block }
-{
+fn put_and_release<S: Store>(alloc: Global, file: &mut VmFile<S>) -> Result<(), Fault> {
     file.mark()?;
-    file.put_blocks(&[block], &[])?;
+    put(alloc, file, 1, 8, b"two")?;
     file.release();
     Ok(())
 }
 
 // Updates a document with a block that was put and released.
-fn release_and_update(alloc: Global, file: &mut VmFile<MemStore>) -> Result<(), Fault> {
+fn release_and_update(alloc: Global, file: &mut VmFile<MemStore>) -> Result<(), Mismatch> {
     put(alloc, file, 1, 7, b"one")?;
-    put_and_release(file, raw_block(alloc, 1, 8, b"two")?)?;
-    update(file)
+    put_and_release(alloc, file)?;
+    take(alloc, file, &[Update])
 }
 
 // The store of the file.
-fn released(alloc: Global) -> Result<MemStore, Fault> {
+fn released(alloc: Global) -> Result<MemStore, Mismatch> {
     let mut file = create(alloc, MemStore::new(alloc))?;
     let end = release_and_update(alloc, &mut file);
     closed(file, end)
 }
 
 #[test]
-fn a_released_change_is_updated(rt: HostRuntime) -> Result<(), Fail> {
-    let store = released(rt.alloc())?;
-    read(rt.alloc(), store.bytes(), &[Has(1, b"\0two")])?;
-    Ok(())
+fn a_released_change_is_updated(rt: HostRuntime) -> Result<(), Mismatch> {
+    ended(read_again(rt.alloc(), released(rt.alloc()), &[Has(1, b"\0two")]))
 }

@@ -1,38 +1,42 @@
 //! What opens, and to which documents.
 ghost use Rattle.std.specs.Prelude.{◌<◌, ◌≤◌};
 
-use crate::asserting::{no_other, same_number};
+use crate::asserting::{ended, no_other, same_later};
 use crate::calls::{attributes_of, first_block, first_other_byte, has_saved_block, image_of, open};
 use crate::example::{LENGTH, example, put_at, with};
 use crate::steps::Step::{Has, HasType, HasUserId, IsEmpty, Lives, MapBlock, Revert, Update};
 use crate::steps::{Mismatch, given_back, kept, read};
 use geos_model::{Attributes, Fault};
 use std::alloc::Global;
-use std::test::Fail;
 use vm_file::VmFile;
 use vm_store::{FuseStore, MemStore};
 
-const VALUES: [u8; 6] = [0, 1, 2, 3, 254, 255];
+const VALUES: &[u8] = &[0, 1, 2, 3, 254, 255];
 
-// Of each version the type of the block and its image.
-const EXAMPLES: [(u8, u16, &[u8]); 2] = [(1, 0, b"\0ab"), (2, 4_660, b"\x01\0\0")];
+// The steps see both documents of the example of a version, whose block has this type and this image.
+fn has_both(
+    alloc: Global,
+    version: u8,
+    heap_type: u16,
+    image: &'static [u8],
+) -> Result<(), Mismatch> {
+    let steps = [
+        Lives(&[1]),
+        HasUserId(1, 7),
+        HasType(1, heap_type),
+        MapBlock(1),
+        Has(1, image),
+        Revert,
+        IsEmpty,
+        MapBlock(0),
+    ];
+    ended(read(alloc, &example(version), &steps))
+}
 
 #[test]
-fn an_open_file_has_its_two_documents(rt: HostRuntime) -> Result<(), Fail> {
-    for (version, heap_type, image) in EXAMPLES {
-        let steps = [
-            Lives(&[1]),
-            HasUserId(1, 7),
-            HasType(1, heap_type),
-            MapBlock(1),
-            Has(1, image),
-            Revert,
-            IsEmpty,
-            MapBlock(0),
-        ];
-        read(rt.alloc(), &example(version), &steps)?;
-    }
-    Ok(())
+fn an_open_file_has_its_two_documents(rt: HostRuntime) -> Result<(), Mismatch> {
+    has_both(rt.alloc(), 1, 0, b"\0ab")?;
+    has_both(rt.alloc(), 2, 4_660, b"\x01\0\0")
 }
 
 // The example with the slot of an update, which has the next number and leads to a directory on the first free page.
@@ -60,11 +64,9 @@ fn other_updated(alloc: Global, version: u8, heap_type: u16) -> Result<Option<us
 }
 
 #[test]
-fn an_update_writes_the_other_slot(rt: HostRuntime) -> Result<(), Fail> {
-    for (version, heap_type, _) in EXAMPLES {
-        no_other(&rt, other_updated(rt.alloc(), version, heap_type)?);
-    }
-    Ok(())
+fn an_update_writes_the_other_slot(rt: HostRuntime) -> Result<(), Mismatch> {
+    no_other(other_updated(rt.alloc(), 1, 0))?;
+    no_other(other_updated(rt.alloc(), 2, 4_660))
 }
 
 // What is read of a file: the one block of the updated document, where the saved one has none.
@@ -340,14 +342,20 @@ fn is_refused(alloc: Global, bytes: &[u8]) -> bool {
     }
 }
 
-#[test]
-fn a_file_that_is_cut_is_refused(rt: HostRuntime) {
-    for version in [1, 2] {
-        let bytes = example(version);
-        for len in 0..LENGTH {
-            assert!(rt; is_refused(rt.alloc(), &bytes[..len]), "{len} bytes");
+// The first length that it is cut to and opens, or is refused by another fault.
+fn first_opened(alloc: Global, bytes: &[u8; LENGTH]) -> Option<usize> {
+    for len in 0..LENGTH {
+        if !is_refused(alloc, &bytes[..len]) {
+            return Some(len);
         }
     }
+    None
+}
+
+#[test]
+fn a_file_that_is_cut_is_refused(rt: HostRuntime) -> Result<(), Mismatch> {
+    no_other(Ok(first_opened(rt.alloc(), &example(1))))?;
+    no_other(Ok(first_opened(rt.alloc(), &example(2))))
 }
 
 // An example with so many bytes behind it.
@@ -365,24 +373,33 @@ fn is_same_extended(alloc: Global, version: u8, more: usize, value: u8) -> Resul
     is_read(alloc, &bytes, &same(alloc, version)?)
 }
 
+// How many bytes.
+const MORE: &[usize] = &[1, 509, 510, 1_100];
+
 // Whether so it is with each of these numbers of bytes.
 fn are_same(alloc: Global, version: u8, value: u8) -> Result<bool, Fault> {
-    for more in [1, 509, 510, 1_100] {
-        if !is_same_extended(alloc, version, more, value)? {
+    for more in MORE {
+        if !is_same_extended(alloc, version, *more, value)? {
             return Ok(false);
         }
     }
     Ok(true)
 }
 
-#[test]
-fn a_file_with_bytes_appended_is_the_same(rt: HostRuntime) -> Result<(), Fail> {
-    for version in [1, 2] {
-        for value in VALUES {
-            assert!(rt; are_same(rt.alloc(), version, value)?, "{value}");
+// The number of the first value by which it is another one.
+fn first_other_value(alloc: Global, version: u8) -> Result<Option<usize>, Mismatch> {
+    for (number, value) in VALUES.iter().enumerate() {
+        if !are_same(alloc, version, *value)? {
+            return Ok(Some(number));
         }
     }
-    Ok(())
+    Ok(None)
+}
+
+#[test]
+fn a_file_with_bytes_appended_is_the_same(rt: HostRuntime) -> Result<(), Mismatch> {
+    no_other(first_other_value(rt.alloc(), 1))?;
+    no_other(first_other_value(rt.alloc(), 2))
 }
 
 const OTHER_SLOT: &[u8; 32] =
@@ -436,11 +453,10 @@ fn first_other_slots(alloc: Global) -> Option<usize> {
 }
 
 #[test]
-fn of_two_open_slots_the_greater_number_counts(rt: HostRuntime) -> Result<(), Fail> {
-    no_other(&rt, first_other_slots(rt.alloc()));
+fn of_two_open_slots_the_greater_number_counts(rt: HostRuntime) -> Result<(), Mismatch> {
+    no_other(Ok(first_other_slots(rt.alloc())))?;
     let steps = [IsEmpty, Revert, Has(1, b"\0ab")];
-    read(rt.alloc(), &with_two_slots(1, 6), &steps)?;
-    Ok(())
+    ended(read(rt.alloc(), &with_two_slots(1, 6), &steps))
 }
 
 // Bytes that other ones stand in the place of.
@@ -566,7 +582,7 @@ fn is_case_read(alloc: Global, case: &Case) -> Result<bool, Fault> {
 }
 
 // The first case of which something else is read.
-fn first_other_case(alloc: Global) -> Result<Option<usize>, Fault> {
+fn first_other_case(alloc: Global) -> Result<Option<usize>, Mismatch> {
     for (number, case) in CASES.iter().enumerate() {
         if !is_case_read(alloc, case)? {
             return Ok(Some(number));
@@ -576,9 +592,8 @@ fn first_other_case(alloc: Global) -> Result<Option<usize>, Fault> {
 }
 
 #[test]
-fn each_directory_keeps_the_rules_of_its_version(rt: HostRuntime) -> Result<(), Fail> {
-    no_other(&rt, first_other_case(rt.alloc())?);
-    Ok(())
+fn each_directory_keeps_the_rules_of_its_version(rt: HostRuntime) -> Result<(), Mismatch> {
+    no_other(first_other_case(rt.alloc()))
 }
 
 // The store that isn't opened, since its call after so many fails.
@@ -602,12 +617,9 @@ fn given_back_and_opened(
 
 // The length, two slots, two directories, one image, and a sync.
 #[test]
-fn a_refused_opening_gives_the_store_back(rt: HostRuntime) -> Result<(), Fail> {
+fn a_refused_opening_gives_the_store_back(rt: HostRuntime) -> Result<(), Mismatch> {
     for passes in 0..7 {
-        let (refused, opened, other) = given_back_and_opened(rt.alloc(), passes)?;
-        same_number(&rt, refused, passes + 1);
-        same_number(&rt, opened, passes + 1 + 7);
-        no_other(&rt, other);
+        same_later(given_back_and_opened(rt.alloc(), passes), passes + 1, 7)?;
     }
     Ok(())
 }

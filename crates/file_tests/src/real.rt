@@ -61,12 +61,17 @@ fn keep(rt: &HostRuntime, system: &mut HostSystem) -> Result<(), Fail> {
     Ok(())
 }
 
+// Makes it, fills it, and opens it again.
+fn make_and_keep(rt: &HostRuntime, system: &mut HostSystem) -> Result<(), Fail> {
+    if !make_and_fill(rt, system)? {
+        return Err(Fail::new("a document without blocks has another length"));
+    }
+    keep(rt, system)
+}
+
 #[test]
 fn a_real_file_is_made_committed_and_opened(rt: HostRuntime) -> Result<(), Fail> {
-    let mut system = HostSystem::new(rt);
     let _ = fs::remove_file(&rt, PATH);
-    assert!(rt; make_and_fill(&rt, &mut system)?);
-    keep(&rt, &mut system)?;
-    fs::remove_file(&rt, PATH)?;
-    Ok(())
+    make_and_keep(&rt, &mut HostSystem::new(rt))?;
+    Ok(fs::remove_file(&rt, PATH)?)
 }

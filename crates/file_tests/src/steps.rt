@@ -1,10 +1,10 @@
 //! Work on a document file as a list of steps, and where it went another way.
 use crate::calls::{
-    create, first_block, found, has, is_full, is_worn_out, listed, live_blocks, next_handle,
-    open_in, put, put_all, put_heap, remove, remove_others, revert, save, set_map_block, set_type,
-    set_user_id, type_of, update, user_id_of,
+    are_same, create, first_block, found, has, has_type, has_user_id, is_full, is_worn_out, listed,
+    live_blocks, next_handle, open_in, put, put_all, put_heap, remove, remove_others, revert, save,
+    set_map_block, set_type, set_user_id, update,
 };
-use geos_model::{Attributes, Fault};
+use geos_model::{Attributes, Fault, VmHandle};
 use std::alloc::{AllocError, Global};
 use vm_file::{Refused, VmFile};
 use vm_store::{MemStore, Store};
@@ -53,18 +53,28 @@ pub(crate) enum Step {
     Finds(u16, u16, Option<u16>),
 }
 
-/// Why work on a document file did not go as its steps say, each of which is told by its place, from 0 on.
+/// Why work on a document file did not go as it should. A step is told by its place, from 0 on.
 #[derive(Debug, Drop)]
 pub(crate) enum Mismatch {
     Memory,
-    /// There is no file.
-    NoFile(Fault),
+    /// A call is refused.
+    Fault(Fault),
     /// The step at this place is refused.
     Refused(usize, Fault),
     /// At this place something else is seen.
     Seen(usize),
     /// A store that fails is made a file.
     NotRefused,
+    /// Something isn't so.
+    NotSo,
+    /// There is this number, and that one is wanted.
+    Number(u64, u64),
+    /// Something is other at this place.
+    Other(usize),
+    /// What was committed is lost where this call of the store fails.
+    Lost(u64),
+    /// Where all calls of the store after so many fail, a crash that keeps so many writes leaves what it may not leave.
+    Crash(u64, usize),
 }
 
 impl From<AllocError> for Mismatch {
@@ -75,67 +85,78 @@ impl From<AllocError> for Mismatch {
 
 impl From<Fault> for Mismatch {
     fn from(fault: Fault) -> Mismatch {
-        Mismatch::NoFile(fault)
+        Mismatch::Fault(fault)
     }
 }
 
-// Whether just these blocks are live.
-fn has_live<S: Store>(alloc: Global, file: &VmFile<S>, handles: &[u16]) -> Result<bool, Fault> {
-    Ok(live_blocks(alloc, file)?.as_slice() == handles)
-}
-
-// Whether the document tells just these handles.
-fn lists<S: Store>(alloc: Global, file: &VmFile<S>, handles: &[u16]) -> Result<bool, Fault> {
-    Ok(listed(alloc, file)?.as_slice() == handles)
-}
-
-// Whether it tells those of the live blocks.
+// Whether the document tells the handles of the live blocks.
 fn lists_live<S: Store>(alloc: Global, file: &VmFile<S>) -> Result<bool, Fault> {
-    lists(alloc, file, &live_blocks(alloc, file)?)
+    are_same(listed(alloc, file), &live_blocks(alloc, file)?)
+}
+
+// Whether the document is as a step says that asks neither memory nor the store.
+fn is_as_said<S: Store>(file: &VmFile<S>, step: Step) -> bool {
+    match step {
+        Step::IsNotWorn => !file.is_worn(),
+        Step::HasUserId(handle, user_id) => has_user_id(file, handle, user_id),
+        Step::HasType(handle, heap_type) => has_type(file, handle, heap_type),
+        Step::HasNoBlock(handle) => file.entry(VmHandle(handle)).is_none(),
+        Step::MapBlock(handle) => file.map_block().0 == handle,
+        Step::IsFull => is_full(file),
+        Step::IsEmpty => first_block(file) == 0,
+        Step::NextHandle(handle) => next_handle(file) == handle,
+        Step::Finds(user_id, start, handle) => found(file, user_id, start) == handle,
+        _ => false,
+    }
 }
 
 // Whether all is seen that a step says.
 fn sees<S: Store>(alloc: Global, file: &mut VmFile<S>, step: Step) -> Result<bool, Fault> {
     match step {
+        Step::NoRemove(handle, fault) => Ok(remove(file, handle) == Err(fault)),
         Step::IsWornOut => Ok(is_worn_out(file)),
-        Step::IsNotWorn => Ok(!file.is_worn()),
         Step::Has(handle, image) => has(file, handle, image),
-        Step::HasUserId(handle, user_id) => Ok(user_id_of(file, handle) == Some(user_id)),
-        Step::HasType(handle, heap_type) => Ok(type_of(file, handle) == Some(heap_type)),
-        Step::HasNoBlock(handle) => Ok(user_id_of(file, handle).is_none()),
-        Step::MapBlock(handle) => Ok(file.map_block().0 == handle),
-        Step::Lives(handles) => has_live(alloc, file, handles),
-        Step::IsFull => is_full(alloc, file),
-        Step::IsEmpty => Ok(first_block(file) == 0),
-        Step::Lists(handles) => lists(alloc, file, handles),
+        Step::Lives(handles) => are_same(live_blocks(alloc, file), handles),
+        Step::Lists(handles) => are_same(listed(alloc, file), handles),
         Step::ListsLive => lists_live(alloc, file),
-        Step::NextHandle(handle) => Ok(next_handle(file) == handle),
-        Step::Finds(user_id, start, handle) => Ok(found(file, user_id, start) == handle),
-        _ => Ok(false),
+        _ => Ok(is_as_said(file, step)),
+    }
+}
+
+// A call has done all that a step says.
+fn done(answer: Result<(), Fault>) -> Result<bool, Fault> {
+    match answer {
+        Ok(()) => Ok(true),
+        Err(fault) => Err(fault),
+    }
+}
+
+// Takes a step, which puts blocks or takes some out, or says what has to be seen.
+fn put_or_see<S: Store>(alloc: Global, file: &mut VmFile<S>, step: Step) -> Result<bool, Fault> {
+    match step {
+        Step::Put(handle, user_id, body) => done(put(alloc, file, handle, user_id, body)),
+        Step::PutHeap(handle, user_id, heap_type) => {
+            let attributes = Attributes { user_id, heap_type };
+            done(put_heap(alloc, file, handle, attributes))
+        }
+        Step::PutAll(body) => done(put_all(alloc, file, body)),
+        Step::Remove(handle) => done(remove(file, handle)),
+        Step::RemoveOthers(handle) => done(remove_others(file, handle)),
+        _ => sees(alloc, file, step),
     }
 }
 
 // Takes a step. Returns whether all is seen that it says.
 fn take_step<S: Store>(alloc: Global, file: &mut VmFile<S>, step: Step) -> Result<bool, Fault> {
-    let done = match step {
-        Step::Put(handle, user_id, body) => put(alloc, file, handle, user_id, body),
-        Step::PutHeap(handle, user_id, heap_type) => {
-            put_heap(alloc, file, handle, Attributes { user_id, heap_type })
-        }
-        Step::PutAll(body) => put_all(alloc, file, body),
-        Step::Remove(handle) => remove(file, handle),
-        Step::RemoveOthers(handle) => remove_others(file, handle),
-        Step::NoRemove(handle, fault) => return Ok(remove(file, handle) == Err(fault)),
-        Step::SetUserId(handle, user_id) => set_user_id(file, handle, user_id),
-        Step::SetType(handle, heap_type) => set_type(file, handle, heap_type),
-        Step::SetMap(handle) => set_map_block(file, handle),
-        Step::Update => update(file),
-        Step::Save => save(file),
-        Step::Revert => revert(file),
-        _ => return sees(alloc, file, step),
-    };
-    done?;
-    Ok(true)
+    match step {
+        Step::SetUserId(handle, user_id) => done(set_user_id(file, handle, user_id)),
+        Step::SetType(handle, heap_type) => done(set_type(file, handle, heap_type)),
+        Step::SetMap(handle) => done(set_map_block(file, handle)),
+        Step::Update => done(update(file)),
+        Step::Save => done(save(file)),
+        Step::Revert => done(revert(file)),
+        _ => put_or_see(alloc, file, step),
+    }
 }
 
 // Takes steps, of which the first has a place, up to one that does not go as it says.
@@ -165,13 +186,17 @@ pub(crate) fn take<S: Store>(
     take_from(alloc, file, 0, steps)
 }
 
-/// The store of a file, where all that was done with it has ended well.
-pub(crate) fn closed<S: Store, E>(file: VmFile<S>, end: Result<(), E>) -> Result<S, E> {
-    let store = file.close();
+/// This, where all has ended well.
+pub(crate) fn when<T: Drop, E>(end: Result<(), E>, made: T) -> Result<T, E> {
     match end {
-        Ok(()) => Ok(store),
+        Ok(()) => Ok(made),
         Err(mismatch) => Err(mismatch),
     }
+}
+
+/// The store of a file, where all that was done with it has ended well.
+pub(crate) fn closed<S: Store, E>(file: VmFile<S>, end: Result<(), E>) -> Result<S, E> {
+    when(end, file.close())
 }
 
 // Takes these steps and then those.
@@ -209,13 +234,27 @@ pub(crate) fn read(alloc: Global, bytes: &[u8], steps: &[Step]) -> Result<MemSto
     kept(alloc, MemStore::from_bytes(alloc, bytes)?, steps)
 }
 
+/// The same of the bytes that a store has.
+pub(crate) fn read_again(
+    alloc: Global,
+    store: Result<MemStore, Mismatch>,
+    steps: &[Step],
+) -> Result<MemStore, Mismatch> {
+    read(alloc, store?.bytes(), steps)
+}
+
+// The store that is refused since it fails.
+fn failing<S: Store>(refused: Refused<S>) -> Result<S, Mismatch> {
+    match refused.fault {
+        Fault::File => Ok(refused.store),
+        fault => Err(Mismatch::Fault(fault)),
+    }
+}
+
 /// The store that is given back since it fails.
 pub(crate) fn given_back<S: Store>(answer: Result<VmFile<S>, Refused<S>>) -> Result<S, Mismatch> {
     match answer {
         Ok(_) => Err(Mismatch::NotRefused),
-        Err(refused) => match refused.fault {
-            Fault::File => Ok(refused.store),
-            fault => Err(Mismatch::NoFile(fault)),
-        },
+        Err(refused) => failing(refused),
     }
 }

@@ -1,12 +1,12 @@
 //! Commits in files of each version, and types of heaps from one opening to the next.
-use crate::asserting::no_other;
+use crate::asserting::{ended, no_other};
+use crate::calls::has_at;
 use crate::example::example;
 use crate::steps::Step::{
     HasType, HasUserId, IsEmpty, Lives, Put, PutHeap, Revert, Save, SetType, SetUserId, Update,
 };
-use crate::steps::{Mismatch, Step, made, read};
+use crate::steps::{Mismatch, Step, made, read, read_again};
 use std::alloc::Global;
-use std::test::Fail;
 use vm_store::MemStore;
 
 // What is done with an example, the slot that stands at a place then, and what is seen when the file is opened again.
@@ -58,24 +58,16 @@ fn opened_twice(
     Ok(store)
 }
 
-// Whether this slot stands at a place.
-fn has_slot(store: &MemStore, at: usize, slot: &[u8; 32]) -> bool {
-    match store.bytes().get(at..) {
-        Some(rest) => rest.starts_with(slot),
-        None => false,
-    }
-}
-
 // Whether the directory at page 3 is that of the example.
 fn has_saved_directory(store: &MemStore, version: u8) -> bool {
-    store.bytes().get(1_536..1_552) == example(version).get(1_536..1_552)
+    has_at(store.bytes(), 1_536, &example(version)[1_536..1_552])
 }
 
 // Whether a case leaves its slot in the example of a version, and the saved directory as it was.
 fn is_written(alloc: Global, version: u8, case: &Case) -> Result<bool, Mismatch> {
     let (steps, at, slot, again) = *case;
     let store = opened_twice(alloc, version, steps, again)?;
-    Ok(has_slot(&store, at, slot) && has_saved_directory(&store, version))
+    Ok(has_at(store.bytes(), at, slot) && has_saved_directory(&store, version))
 }
 
 // The first case that leaves something else in it.
@@ -89,46 +81,43 @@ fn first_other_case(alloc: Global, version: u8) -> Result<Option<usize>, Mismatc
 }
 
 #[test]
-fn each_commit_writes_a_slot_of_version_2(rt: HostRuntime) -> Result<(), Fail> {
-    no_other(&rt, first_other_case(rt.alloc(), 1)?);
-    no_other(&rt, first_other_case(rt.alloc(), 2)?);
-    Ok(())
+fn each_commit_writes_a_slot_of_version_2(rt: HostRuntime) -> Result<(), Mismatch> {
+    no_other(first_other_case(rt.alloc(), 1))?;
+    no_other(first_other_case(rt.alloc(), 2))
 }
 
 // What is done from one opening to the next.
-const ROUNDS: [&[Step]; 3] = [
-    &[
-        PutHeap(1, 7, 4_660),
-        PutHeap(2, 8, 65_535),
-        Put(3, 9, b"c"),
-        Save,
-        SetType(1, 1),
-        SetUserId(2, 6),
-        Update,
-        SetType(1, 2),
-    ],
-    &[
-        HasType(1, 1),
-        HasType(2, 65_535),
-        HasType(3, 0),
-        HasUserId(1, 7),
-        HasUserId(2, 6),
-        SetType(2, 0),
-        Revert,
-        HasType(1, 4_660),
-        HasType(2, 65_535),
-        HasUserId(2, 8),
-    ],
-    &[HasType(1, 4_660), HasType(2, 65_535), HasType(3, 0)],
+
+const TYPED: [Step; 8] = [
+    PutHeap(1, 7, 4_660),
+    PutHeap(2, 8, 65_535),
+    Put(3, 9, b"c"),
+    Save,
+    SetType(1, 1),
+    SetUserId(2, 6),
+    Update,
+    SetType(1, 2),
 ];
+
+const REVERTED: [Step; 10] = [
+    HasType(1, 1),
+    HasType(2, 65_535),
+    HasType(3, 0),
+    HasUserId(1, 7),
+    HasUserId(2, 6),
+    SetType(2, 0),
+    Revert,
+    HasType(1, 4_660),
+    HasType(2, 65_535),
+    HasUserId(2, 8),
+];
+
+const SAVED: [Step; 3] = [HasType(1, 4_660), HasType(2, 65_535), HasType(3, 0)];
 
 // All of it with the document of a file with these bytes.
 fn all_rounds(alloc: Global, bytes: &[u8]) -> Result<(), Mismatch> {
-    let mut store = MemStore::from_bytes(alloc, bytes)?;
-    for round in ROUNDS {
-        store = read(alloc, store.bytes(), round)?;
-    }
-    Ok(())
+    let store = read_again(alloc, read(alloc, bytes, &TYPED), &REVERTED);
+    ended(read_again(alloc, store, &SAVED))
 }
 
 // The same with a new document.
@@ -138,9 +127,8 @@ fn all_rounds_anew(alloc: Global) -> Result<(), Mismatch> {
 }
 
 #[test]
-fn types_are_kept_by_commits_and_openings(rt: HostRuntime) -> Result<(), Fail> {
+fn types_are_kept_by_commits_and_openings(rt: HostRuntime) -> Result<(), Mismatch> {
     all_rounds_anew(rt.alloc())?;
     all_rounds(rt.alloc(), &example(1))?;
-    all_rounds(rt.alloc(), &example(2))?;
-    Ok(())
+    all_rounds(rt.alloc(), &example(2))
 }

@@ -1,12 +1,12 @@
 //! A file whose number is at its last value.
-use crate::asserting::no_other;
-use crate::calls::first_other_byte;
+use crate::asserting::{is_so, no_other};
+use crate::calls::{first_other_byte, has_at};
 use crate::example::{LENGTH, example};
 use crate::steps::Step::{
     Has, HasNoBlock, HasUserId, IsNotWorn, IsWornOut, Put, Remove, Save, SetUserId,
 };
-use crate::steps::{Step, read};
-use std::test::Fail;
+use crate::steps::{Mismatch, Step, read};
+use std::alloc::Global;
 
 fn worn() -> [u8; LENGTH] {
     let mut bytes = example(1);
@@ -28,16 +28,32 @@ const EDITED: [Step; 10] = [
     HasUserId(1, 7),
 ];
 
+// Where the file has other bytes then.
+fn first_other(alloc: Global) -> Result<Option<usize>, Mismatch> {
+    let store = read(alloc, &worn(), &EDITED)?;
+    Ok(first_other_byte(store.bytes(), &worn()))
+}
+
 #[test]
-fn a_worn_file_is_edited_and_not_committed(rt: HostRuntime) -> Result<(), Fail> {
-    let store = read(rt.alloc(), &worn(), &EDITED)?;
-    no_other(&rt, first_other_byte(store.bytes(), &worn()));
-    Ok(())
+fn a_worn_file_is_edited_and_not_committed(rt: HostRuntime) -> Result<(), Mismatch> {
+    no_other(first_other(rt.alloc()))
+}
+
+// Whether these others stand at a place of a file with these bytes, when the steps were taken on it.
+fn leave(
+    alloc: Global,
+    bytes: &[u8],
+    steps: &[Step],
+    at: usize,
+    others: &[u8],
+) -> Result<bool, Mismatch> {
+    let store = read(alloc, bytes, steps)?;
+    Ok(has_at(store.bytes(), at, others))
 }
 
 // The image lies behind all that was there.
 #[test]
-fn a_worn_file_takes_blocks_and_is_not_committed(rt: HostRuntime) -> Result<(), Fail> {
+fn a_worn_file_takes_blocks_and_is_not_committed(rt: HostRuntime) -> Result<(), Mismatch> {
     let steps = [
         Put(2, 3, b"c"),
         Has(2, b"\0c"),
@@ -47,17 +63,14 @@ fn a_worn_file_takes_blocks_and_is_not_committed(rt: HostRuntime) -> Result<(), 
         IsWornOut,
     ];
     let bytes = worn();
-    let store = read(rt.alloc(), &bytes, &steps)?;
-    assert!(rt; store.bytes().starts_with(&bytes));
-    Ok(())
+    is_so(leave(rt.alloc(), &bytes, &steps, 0, &bytes))
 }
 
 // The number before the last can rise once.
 #[test]
-fn the_last_number_is_given_once(rt: HostRuntime) -> Result<(), Fail> {
+fn the_last_number_is_given_once(rt: HostRuntime) -> Result<(), Mismatch> {
     let mut bytes = worn();
     bytes[8] = 254;
-    let store = read(rt.alloc(), &bytes, &[IsNotWorn, Save, IsWornOut])?;
-    assert!(rt; store.bytes().get(520..528) == Some([255; 8].as_slice()));
-    Ok(())
+    let steps = [IsNotWorn, Save, IsWornOut];
+    is_so(leave(rt.alloc(), &bytes, &steps, 520, &[255; 8]))
 }
