@@ -5,10 +5,11 @@
 use crate::driver::begun;
 use crate::lasting_failures::{MAKING, documents_in};
 use crate::single_failures::FRAMES;
-use crate::states::push_document;
+use crate::states::document_of;
 use geos_model::{Bytes, ChunkHandle, Edit, Fault, Token, VmHandle};
 use std::alloc::{AllocError, Global};
 use std::mem;
+use std::process::Abort;
 use std::test::Fail;
 use undo_log::Session;
 use vm_store::{FuseStore, MemStore};
@@ -203,12 +204,14 @@ enum Step {
 // A session over a store of which one call may fail.
 type Fused = Session<FuseStore<MemStore>>;
 
+fn carry_out_edit(session: &mut Fused, edit: &Edit) -> Result<(), Fault> {
+    session.edit(edit)?;
+    Ok(())
+}
+
 fn carry_out(session: &mut Fused, step: &Step) -> Result<(), Fault> {
     match step {
-        Step::Edit(edit) => {
-            session.edit(edit)?;
-            Ok(())
-        }
+        Step::Edit(edit) => carry_out_edit(session, edit),
         Step::Begin => session.begin(),
         Step::End => session.end(),
         Step::Abandon => session.abandon(),
@@ -263,35 +266,43 @@ fn count(tally: &mut u32) {
 }
 
 impl Kept {
-    // Of an empty document.
-    fn new(alloc: Global, empty: Vec<u8>) -> Result<Kept, AllocError> {
-        Ok(Kept {
+    // Of no document.
+    fn new(alloc: Global) -> Kept {
+        Kept {
             alloc,
-            updated: empty.to_vec(alloc)?,
-            saved: empty.to_vec(alloc)?,
-            now: empty,
+            updated: Vec::new(alloc),
+            saved: Vec::new(alloc),
+            now: Vec::new(alloc),
             past: Vec::new(alloc),
             future: Vec::new(alloc),
             group: None,
             is_begun: false,
             tally: NONE,
-        })
+        }
+    }
+
+    // Of the document of a session, which is that of its file.
+    fn begin_with(&mut self, session: &mut Fused) -> Result<(), Fault> {
+        self.now = document_of(self.alloc, session)?;
+        self.save()?;
+        self.update()
     }
 
     // The fault by which a step that isn't an edit is refused.
     fn fault(&self, step: &Step) -> Option<Fault> {
-        match (step, self.group.is_some()) {
-            (Step::Edit(_), _) | (Step::End | Step::Abandon, true) => None,
-            (Step::End | Step::Abandon, false) => Some(Fault::NoGroup),
-            (_, true) => Some(Fault::GroupOpen),
-            (Step::Undo, _) if self.past.is_empty() => Some(Fault::NothingToUndo),
-            (Step::Redo, _) if self.future.is_empty() => Some(Fault::NothingToRedo),
+        match step {
+            Step::Edit(_) => None,
+            Step::End | Step::Abandon => only_where(self.group.is_none(), Fault::NoGroup),
+            _ if self.group.is_some() => Some(Fault::GroupOpen),
+            Step::Undo => only_where(self.past.is_empty(), Fault::NothingToUndo),
+            Step::Redo => only_where(self.future.is_empty(), Fault::NothingToRedo),
             _ => None,
         }
     }
 
-    // An edit led to this document.
-    fn edit(&mut self, document: Vec<u8>) -> Result<(), AllocError> {
+    // An edit led to the document that is shown.
+    fn edit(&mut self, session: &mut Fused) -> Result<(), Fault> {
+        let document = self.shown(session)?;
         let before = mem::replace(&mut self.now, document);
         self.future.clear();
         self.is_begun = true;
@@ -301,12 +312,24 @@ impl Kept {
         Ok(())
     }
 
-    fn end(&mut self) -> Result<(), AllocError> {
-        if let Some(before) = self.group.take() {
-            if self.is_begun {
-                count(&mut self.tally.groups);
-                self.past.push(before)?;
-            }
+    fn begin(&mut self) -> Result<(), Fault> {
+        self.group = Some(self.now.to_vec(self.alloc)?);
+        self.is_begun = false;
+        Ok(())
+    }
+
+    fn end(&mut self) -> Result<(), Fault> {
+        match self.group.take() {
+            Some(before) => self.end_from(before),
+            None => Ok(()),
+        }
+    }
+
+    // A group ends before which there was this document.
+    fn end_from(&mut self, before: Vec<u8>) -> Result<(), Fault> {
+        if self.is_begun {
+            count(&mut self.tally.groups);
+            self.past.push(before)?;
         }
         Ok(())
     }
@@ -320,7 +343,7 @@ impl Kept {
         }
     }
 
-    fn undo(&mut self) -> Result<(), AllocError> {
+    fn undo(&mut self) -> Result<(), Fault> {
         count(&mut self.tally.turns);
         if let Some(before) = self.past.pop() {
             self.future.push(mem::replace(&mut self.now, before))?;
@@ -328,7 +351,7 @@ impl Kept {
         Ok(())
     }
 
-    fn redo(&mut self) -> Result<(), AllocError> {
+    fn redo(&mut self) -> Result<(), Fault> {
         count(&mut self.tally.turns);
         if let Some(behind) = self.future.pop() {
             self.past.push(mem::replace(&mut self.now, behind))?;
@@ -336,47 +359,57 @@ impl Kept {
         Ok(())
     }
 
-    fn revert(&mut self) -> Result<(), AllocError> {
+    fn update(&mut self) -> Result<(), Fault> {
+        self.updated = self.now.to_vec(self.alloc)?;
+        Ok(())
+    }
+
+    fn save(&mut self) -> Result<(), Fault> {
+        self.saved = self.now.to_vec(self.alloc)?;
+        self.update()
+    }
+
+    fn revert(&mut self) -> Result<(), Fault> {
         self.now = self.saved.to_vec(self.alloc)?;
         self.past.clear();
         self.future.clear();
-        Ok(())
+        self.update()
     }
 
     // A step was accepted.
     fn accept(&mut self, session: &mut Fused, step: &Step) -> Result<(), Fault> {
         match step {
-            Step::Edit(_) => {
-                let document = self.shown(session)?;
-                self.edit(document)?;
+            Step::Edit(_) => self.edit(session),
+            Step::Begin => self.begin(),
+            Step::End => self.end(),
+            Step::Abandon => {
+                self.abandon();
+                Ok(())
             }
-            Step::Begin => {
-                self.group = Some(self.now.to_vec(self.alloc)?);
-                self.is_begun = false;
-            }
-            Step::End => self.end()?,
-            Step::Abandon => self.abandon(),
-            Step::Undo => self.undo()?,
-            Step::Redo => self.redo()?,
-            Step::Update => {}
-            Step::Save => self.saved = self.now.to_vec(self.alloc)?,
-            Step::Revert => self.revert()?,
+            Step::Undo => self.undo(),
+            Step::Redo => self.redo(),
+            Step::Update => self.update(),
+            Step::Save => self.save(),
+            Step::Revert => self.revert(),
         }
-        if matches!(step, Step::Update | Step::Save | Step::Revert) {
-            self.updated = self.now.to_vec(self.alloc)?;
-        }
-        Ok(())
     }
 
     // What the document shows, asked for once more where the store failed.
     fn shown(&mut self, session: &mut Fused) -> Result<Vec<u8>, Fault> {
-        let mut document = Vec::new(self.alloc);
-        if push_document(&mut document, session) == Err(Fault::File) {
-            count(&mut self.tally.refusals);
-            document.clear();
-            push_document(&mut document, session)?;
+        match document_of(self.alloc, session) {
+            Err(Fault::File) => {
+                count(&mut self.tally.refusals);
+                document_of(self.alloc, session)
+            }
+            end => end,
         }
-        Ok(document)
+    }
+
+    // Whether as much can be undone and redone, and a group is open if one is.
+    fn is_as_far(&self, session: &Fused) -> bool {
+        session.undo_count() == self.past.len()
+            && session.redo_count() == self.future.len()
+            && session.in_group() == self.group.is_some()
     }
 
     // Compares the document, and what can be undone and redone.
@@ -385,10 +418,7 @@ impl Kept {
         if document.as_slice() != self.now.as_slice() {
             return Err(Fail::new("another document"));
         }
-        if session.undo_count() == self.past.len()
-            && session.redo_count() == self.future.len()
-            && session.in_group() == self.group.is_some()
-        {
+        if self.is_as_far(session) {
             return Ok(());
         }
         Err(Fail::new("something else can be undone or redone"))
@@ -396,23 +426,78 @@ impl Kept {
 
     // Takes a step, once more where the store failed.
     fn take(&mut self, session: &mut Fused, step: &Step) -> Result<(), Fail> {
-        let mut end = carry_out(session, step);
-        if end == Err(Fault::File) {
-            count(&mut self.tally.refusals);
-            self.compare(session)?;
-            end = carry_out(session, step);
+        let end = carry_out(session, step);
+        if end != Err(Fault::File) {
+            return self.judge(session, step, end);
         }
-        match (end, self.fault(step)) {
-            (Ok(()), None) => self.accept(session, step)?,
-            (Err(Fault::Memory | Fault::File), _) => {
-                return Err(Fail::new("a step is refused again"));
-            }
-            (Err(_), None) if matches!(step, Step::Edit(_)) => {}
-            (Err(fault), Some(wanted)) if fault == wanted => {}
+        count(&mut self.tally.refusals);
+        self.compare(session)?;
+        let end = carry_out(session, step);
+        self.judge(session, step, end)
+    }
+
+    // Whether a step may be refused so.
+    fn may_be_refused(&self, step: &Step, fault: Fault) -> bool {
+        match self.fault(step) {
+            Some(wanted) => fault == wanted,
+            None => matches!(step, Step::Edit(_)),
+        }
+    }
+
+    // A step has ended so.
+    fn judge(
+        &mut self,
+        session: &mut Fused,
+        step: &Step,
+        end: Result<(), Fault>,
+    ) -> Result<(), Fail> {
+        match end {
+            Ok(()) if self.fault(step).is_none() => self.accept(session, step)?,
+            Err(Fault::Memory | Fault::File) => return Err(Fail::new("a step is refused again")),
+            Err(fault) if self.may_be_refused(step, fault) => {}
             _ => return Err(Fail::new("a step is answered otherwise")),
         }
         self.compare(session)
     }
+
+    // The file has what was committed last.
+    fn compare_file(&self, file: &MemStore) -> Result<(), Fail> {
+        let left = documents_in(self.alloc, MemStore::from_bytes(self.alloc, file.bytes())?)?;
+        if left.updated.as_slice() == self.updated.as_slice()
+            && left.saved.as_slice() == self.saved.as_slice()
+        {
+            return Ok(());
+        }
+        Err(Fail::new("the file has other documents"))
+    }
+
+    // Takes the edits that are made at first.
+    fn take_first(&mut self, session: &mut Fused) -> Result<(), Fail> {
+        for place in 0..FIRST {
+            self.take(session, &Step::Edit(first(place)))?;
+        }
+        Ok(())
+    }
+
+    // Takes all other steps.
+    fn take_others(&mut self, session: &mut Fused, seed: u32) -> Result<(), Fail> {
+        let mut chance = Chance(seed);
+        for _ in 0..STEPS {
+            let step = chance.step(self.alloc)?;
+            self.take(session, &step)?;
+        }
+        Ok(())
+    }
+
+    fn take_all(&mut self, session: &mut Fused, seed: u32) -> Result<(), Fail> {
+        self.begin_with(session)?;
+        self.take_first(session)?;
+        self.take_others(session, seed)
+    }
+}
+
+fn only_where(is_so: bool, fault: Fault) -> Option<Fault> {
+    if is_so { Some(fault) } else { None }
 }
 
 // What there is when all steps are taken.
@@ -424,66 +509,78 @@ struct End {
 
 const STEPS: u32 = 300;
 
-// Takes all steps.
-fn take_all(alloc: Global, session: &mut Fused, seed: u32) -> Result<Kept, Fail> {
-    let mut empty = Vec::new(alloc);
-    push_document(&mut empty, session)?;
-    let mut kept = Kept::new(alloc, empty)?;
-    let mut chance = Chance(seed);
-    for place in 0..FIRST {
-        kept.take(session, &Step::Edit(first(place)))?;
+// A session on a new file, over a store of which the call after so many fails.
+fn made(alloc: Global, frames: usize, passes: u64) -> Result<Fused, Fail> {
+    let store = FuseStore::new(MemStore::new(alloc), passes, false);
+    match begun(alloc, store, frames, true) {
+        Ok(session) => Ok(session),
+        Err(_) => Err(Fail::new("a file isn't made")),
     }
-    for _ in 0..STEPS {
-        let step = chance.step(alloc)?;
-        kept.take(session, &step)?;
-    }
-    Ok(kept)
 }
 
-// Takes all steps over a store of which the call after so many fails. What stands in the file then is what was
-// committed last, whether a group is open or not.
-fn go(alloc: Global, frames: usize, seed: u32, passes: u64) -> Result<End, Fail> {
-    let store = FuseStore::new(MemStore::new(alloc), passes, false);
-    let Ok(session) = begun(alloc, store, frames, true) else {
-        return Err(Fail::new("a file isn't made"));
-    };
-    let mut session = session;
-    let kept = take_all(alloc, &mut session, seed)?;
+// What there is when a session is closed. What stands in the file then is what was committed last, whether a group is
+// open or not.
+fn closed(kept: &Kept, session: Fused) -> Result<End, Fail> {
     let store = session.close();
-    let left = documents_in(alloc, MemStore::from_bytes(alloc, store.inner().bytes())?)?;
-    if left.updated.as_slice() != kept.updated.as_slice()
-        || left.saved.as_slice() != kept.saved.as_slice()
-    {
-        return Err(Fail::new("the file has other documents"));
-    }
+    kept.compare_file(store.inner())?;
     Ok(End {
         tally: kept.tally,
         calls: store.calls(),
     })
 }
 
+// Takes all steps in a session.
+fn go_in(alloc: Global, session: Fused, seed: u32) -> Result<End, Fail> {
+    let mut session = session;
+    let mut kept = Kept::new(alloc);
+    kept.take_all(&mut session, seed)?;
+    closed(&kept, session)
+}
+
+// Takes all steps over a store of which the call after so many fails.
+fn go(alloc: Global, frames: usize, seed: u32, passes: u64) -> Result<End, Fail> {
+    go_in(alloc, made(alloc, frames, passes)?, seed)
+}
+
 // How often steps are taken, each time others.
 const SEEDS: u32 = 200;
+
+// How often it was so in both.
+fn sum_of(first: Tally, second: Tally) -> Tally {
+    Tally {
+        groups: first.groups.saturating_add(second.groups),
+        abandons: first.abandons.saturating_add(second.abandons),
+        turns: first.turns.saturating_add(second.turns),
+        refusals: first.refusals.saturating_add(second.refusals),
+    }
+}
+
+// How often it was so with so many frames.
+fn tally_in(alloc: Global, frames: usize) -> Result<Tally, Fail> {
+    let mut sum = NONE;
+    for seed in 0..SEEDS {
+        sum = sum_of(sum, go(alloc, frames, seed, u64::MAX)?.tally);
+    }
+    Ok(sum)
+}
+
+// It was often so.
+fn is_often(rt: &impl Abort, sum: Tally) {
+    assert!(rt;
+        1_000 < sum.groups && 500 < sum.abandons && 3_000 < sum.turns,
+        "{} groups, {} abandoned, {} turns",
+        sum.groups,
+        sum.abandons,
+        sum.turns
+    );
+}
 
 #[test]
 fn edits_and_groups_by_chance_lead_to_the_documents_that_are_kept(
     rt: HostRuntime,
 ) -> Result<(), Fail> {
     for frames in [1, 2, FRAMES] {
-        let mut sum = NONE;
-        for seed in 0..SEEDS {
-            let tally = go(rt.alloc(), frames, seed, u64::MAX)?.tally;
-            sum.groups = sum.groups.saturating_add(tally.groups);
-            sum.abandons = sum.abandons.saturating_add(tally.abandons);
-            sum.turns = sum.turns.saturating_add(tally.turns);
-        }
-        assert!(rt;
-            1_000 < sum.groups && 500 < sum.abandons && 3_000 < sum.turns,
-            "{} groups, {} abandoned, {} turns",
-            sum.groups,
-            sum.abandons,
-            sum.turns
-        );
+        is_often(&rt, tally_in(rt.alloc(), frames)?);
     }
     Ok(())
 }
@@ -494,20 +591,44 @@ const FEW_SEEDS: u32 = 20;
 // Of the calls one of so many fails, each time from another one on.
 const EACH: usize = 60;
 
+// The store failed once.
+fn is_refused_once(rt: &impl Abort, tally: Tally, passes: u64) {
+    assert!(rt; tally.refusals == 1, "behind {passes} calls");
+}
+
+// Has calls fail, the first behind so many, of so many.
+fn fail_each(
+    rt: &impl Abort,
+    alloc: Global,
+    frames: usize,
+    seed: u32,
+    calls: (u64, u64),
+) -> Result<(), Fail> {
+    for passes in (calls.0..calls.1).step_by(EACH) {
+        is_refused_once(rt, go(alloc, frames, seed, passes)?.tally, passes);
+    }
+    Ok(())
+}
+
+// Has calls fail among the same steps.
+fn fail_among(rt: &impl Abort, alloc: Global, frames: usize, seed: u32) -> Result<(), Fail> {
+    let calls = go(alloc, frames, seed, u64::MAX)?.calls;
+    let first = MAKING + 3 * u64::from(seed);
+    assert!(rt; first < calls, "{calls} calls");
+    fail_each(rt, alloc, frames, seed, (first, calls))
+}
+
+fn fail_in(rt: &impl Abort, alloc: Global, frames: usize) -> Result<(), Fail> {
+    for seed in 0..FEW_SEEDS {
+        fail_among(rt, alloc, frames, seed)?;
+    }
+    Ok(())
+}
+
 #[test]
 fn a_call_of_a_store_that_fails_among_edits_and_groups_by_chance_changes_nothing(
     rt: HostRuntime,
 ) -> Result<(), Fail> {
-    for frames in [1, 2] {
-        for seed in 0..FEW_SEEDS {
-            let calls = go(rt.alloc(), frames, seed, u64::MAX)?.calls;
-            let first = MAKING + 3 * u64::from(seed);
-            assert!(rt; first < calls, "{calls} calls");
-            for passes in (first..calls).step_by(EACH) {
-                let tally = go(rt.alloc(), frames, seed, passes)?.tally;
-                assert_eq!(rt; tally.refusals, 1, "behind {passes} calls");
-            }
-        }
-    }
-    Ok(())
+    fail_in(&rt, rt.alloc(), 1)?;
+    fail_in(&rt, rt.alloc(), 2)
 }

@@ -4,7 +4,7 @@
 use crate::committed::{Committed, Pair, Side, is_commit};
 use crate::scenarios::{COMMITS, Scenario};
 use crate::shim::signal_refusal;
-use crate::states::{push_document, push_state};
+use crate::states::{document_of, push_state, state_of};
 use geos_model::Fault;
 use geos_shell::answer_line;
 use std::alloc::{AllocError, Global};
@@ -38,6 +38,15 @@ pub(crate) fn begun<S: Store>(
     match begun {
         Ok(session) => Ok(session),
         Err(refused) => Err((refused.fault, refused.store)),
+    }
+}
+
+// What is said behind the text at a place.
+fn last_of(scenario: &Scenario, place: usize) -> &'static str {
+    if place.saturating_add(1) == scenario.openings.len() {
+        COMMITS
+    } else {
+        ""
     }
 }
 
@@ -115,7 +124,16 @@ impl Driver {
         is_new: bool,
         file: MemStore,
     ) -> Result<Driver, Fail> {
-        let mut driver = Driver {
+        let mut driver = Driver::empty(alloc, is_new)?;
+        driver.go(scenario, scenario.least, file, MemStore::new(alloc))?;
+        Ok(driver)
+    }
+
+    // Has been through nothing.
+    fn empty(alloc: Global, is_new: bool) -> Result<Driver, AllocError> {
+        let reply = Vec::with_capacity(alloc, ROOM)?;
+        let state = Vec::with_capacity(alloc, ROOM)?;
+        Ok(Driver {
             alloc,
             is_new,
             mode: Mode::First,
@@ -127,12 +145,10 @@ impl Driver {
             tried: None,
             line: 0,
             refusals: 0,
-            reply: Vec::with_capacity(alloc, ROOM)?,
+            reply,
             is_out_of_memory: false,
-            state: Vec::with_capacity(alloc, ROOM)?,
-        };
-        driver.go(scenario, scenario.least, file, MemStore::new(alloc))?;
-        Ok(driver)
+            state,
+        })
     }
 
     /// Goes through a scenario again, with a file and a target for a save-as. Each line and opening that is refused is
@@ -169,29 +185,68 @@ impl Driver {
         file: S,
         target: S,
     ) -> Result<(S, Option<S>), Fail> {
-        self.line = 0;
-        self.refusals = 0;
-        self.now = Committed::new();
-        self.tried = None;
+        self.begin_anew();
         let mut beside = Beside {
             target: Some(target),
             former: None,
         };
+        let store = self.open_each(scenario, frames, file, &mut beside)?;
+        self.go_back(scenario, frames, store, beside)
+    }
+
+    // Nothing is said yet.
+    fn begin_anew(&mut self) {
+        self.line = 0;
+        self.refusals = 0;
+        self.now = Committed::new();
+        self.tried = None;
+    }
+
+    // Opens the file once for each text.
+    fn open_each<S: Store>(
+        &mut self,
+        scenario: &Scenario,
+        frames: usize,
+        file: S,
+        beside: &mut Beside<S>,
+    ) -> Result<S, Fail> {
         let mut store = file;
-        for (i, text) in scenario.openings.iter().enumerate() {
-            let last = if i.saturating_add(1) == scenario.openings.len() {
-                COMMITS
-            } else {
-                ""
-            };
-            let is_new = self.is_new && i == 0;
-            store = self.open(store, frames, is_new, &mut beside, &[text, last])?;
+        for place in 0..scenario.openings.len() {
+            store = self.open_at(scenario, place, frames, store, beside)?;
         }
+        Ok(store)
+    }
+
+    // Opens the file and says the text at a place, and behind the last one what there is to commit.
+    fn open_at<S: Store>(
+        &mut self,
+        scenario: &Scenario,
+        place: usize,
+        frames: usize,
+        store: S,
+        beside: &mut Beside<S>,
+    ) -> Result<S, Fail> {
+        let is_new = self.is_new && place == 0;
+        let text = scenario.openings.get(place).copied().unwrap_or("");
+        let last = last_of(scenario, place);
+        self.open(store, frames, is_new, beside, text, last)
+    }
+
+    // Goes on in the file that a save-as has left, where there was one. Gives back that file's store, or the one that
+    // there is, and the other one.
+    fn go_back<S: Store>(
+        &mut self,
+        scenario: &Scenario,
+        frames: usize,
+        store: S,
+        beside: Beside<S>,
+    ) -> Result<(S, Option<S>), Fail> {
+        let mut beside = beside;
         match beside.former.take() {
             Some(former) => {
                 self.now.go_back();
-                let former = self.open(former, frames, false, &mut beside, &[scenario.former])?;
-                Ok((former, Some(store)))
+                let end = self.open(former, frames, false, &mut beside, scenario.former, "");
+                Ok((end?, Some(store)))
             }
             None => Ok((store, beside.target)),
         }
@@ -204,19 +259,38 @@ impl Driver {
         frames: usize,
         is_new: bool,
         beside: &mut Beside<S>,
-        texts: &[&str],
+        text: &str,
+        last: &str,
     ) -> Result<S, Fail> {
         match self.begin(store, frames, is_new) {
-            Ok(session) => {
-                let mut session = session;
-                for text in texts {
-                    self.say(&mut session, beside, text)?;
-                }
-                Ok(session.close())
-            }
-            Err((Fault::File, store)) if self.mode == Mode::Down => Ok(store),
-            Err(_) => Err(Fail::new("a file is refused")),
+            Ok(session) => self.say_and_close(session, beside, text, last),
+            Err((fault, store)) => self.not_opened(fault, store),
         }
+    }
+
+    // Says these texts and closes the file.
+    fn say_and_close<S: Store>(
+        &mut self,
+        session: Session<S>,
+        beside: &mut Beside<S>,
+        text: &str,
+        last: &str,
+    ) -> Result<S, Fail> {
+        let mut session = session;
+        let end = self.say_both(&mut session, beside, text, last);
+        let store = session.close();
+        match end {
+            Ok(()) => Ok(store),
+            Err(fail) => Err(fail),
+        }
+    }
+
+    // A file is refused, which may be where the store fails from some call on.
+    fn not_opened<S: Store>(&self, fault: Fault, store: S) -> Result<S, Fail> {
+        if fault == Fault::File && self.mode == Mode::Down {
+            return Ok(store);
+        }
+        Err(Fail::new("a file is refused"))
     }
 
     // Makes a file or opens it, and tries again with the store that comes back where memory ran out or the store
@@ -228,14 +302,35 @@ impl Driver {
         is_new: bool,
     ) -> Result<Session<S>, (Fault, S)> {
         match begun(self.alloc, store, frames, is_new) {
-            Err((Fault::Memory | Fault::File, store)) if self.mode == Mode::Again => {
-                if self.count().is_err() {
-                    return Err((Fault::Memory, store));
-                }
-                begun(self.alloc, store, frames, is_new)
-            }
-            end => end,
+            Ok(session) => Ok(session),
+            Err((fault, store)) => self.begin_again(fault, store, frames, is_new),
         }
+    }
+
+    fn begin_again<S: Store>(
+        &mut self,
+        fault: Fault,
+        store: S,
+        frames: usize,
+        is_new: bool,
+    ) -> Result<Session<S>, (Fault, S)> {
+        let is_wanting = fault == Fault::Memory || fault == Fault::File;
+        if !is_wanting || self.mode != Mode::Again || self.count().is_err() {
+            return Err((fault, store));
+        }
+        begun(self.alloc, store, frames, is_new)
+    }
+
+    // Says each line of one text, and of another.
+    fn say_both<S: Store>(
+        &mut self,
+        session: &mut Session<S>,
+        beside: &mut Beside<S>,
+        text: &str,
+        last: &str,
+    ) -> Result<(), Fail> {
+        self.say(session, beside, text)?;
+        self.say(session, beside, last)
     }
 
     // Says each line of a text.
@@ -247,16 +342,26 @@ impl Driver {
     ) -> Result<(), Fail> {
         for line in text.lines() {
             if let Some((command, reply)) = line.split_once(" = ") {
-                let command = command.trim_matches(' ');
-                match self.mode {
-                    Mode::First => self.say_first(session, beside, command, reply)?,
-                    Mode::Again => self.say_again(session, beside, command, reply)?,
-                    Mode::Down => self.say_down(session, beside, command, reply)?,
-                }
+                self.say_line(session, beside, command.trim_matches(' '), reply)?;
                 self.line = self.line.saturating_add(1);
             }
         }
         Ok(())
+    }
+
+    // Says a line.
+    fn say_line<S: Store>(
+        &mut self,
+        session: &mut Session<S>,
+        beside: &mut Beside<S>,
+        command: &str,
+        reply: &str,
+    ) -> Result<(), Fail> {
+        match self.mode {
+            Mode::First => self.say_first(session, beside, command, reply),
+            Mode::Again => self.say_again(session, beside, command, reply),
+            Mode::Down => self.say_down(session, beside, command, reply),
+        }
     }
 
     // Says a line for the first time.
@@ -356,12 +461,8 @@ impl Driver {
 
     // Takes down what the session shows before a line.
     fn take_down<S: Store>(&mut self, session: &mut Session<S>) -> Result<(), Fault> {
-        let mut state = Vec::new(self.alloc);
-        push_state(&mut state, session)?;
-        self.states.push(state)?;
-        let mut document = Vec::new(self.alloc);
-        push_document(&mut document, session)?;
-        self.documents.push(document)?;
+        self.states.push(state_of(self.alloc, session)?)?;
+        self.documents.push(document_of(self.alloc, session)?)?;
         Ok(())
     }
 
@@ -390,13 +491,14 @@ impl Driver {
 
     /// Whether these are the documents of a file that stands for a pair.
     pub(crate) fn are_documents(&self, pair: Pair, updated: &[u8], saved: &[u8]) -> bool {
-        match (
-            self.documents.get(pair.updated),
-            self.documents.get(pair.saved),
-        ) {
-            (Some(first), Some(second)) => first.as_slice() == updated
-                && second.as_slice() == saved,
-            _ => false,
+        self.is_document(pair.updated, updated) && self.is_document(pair.saved, saved)
+    }
+
+    // Whether this is the document behind so many lines.
+    fn is_document(&self, lines: usize, document: &[u8]) -> bool {
+        match self.documents.get(lines) {
+            Some(it) => it.as_slice() == document,
+            None => false,
         }
     }
 

@@ -1,10 +1,13 @@
 //! Sessions that go on behind a call of the store that failed, and then each crash of a store that fails for good.
 // No command is said again behind the call that failed; the store fails for good at each call from there on. What a
 // crash leaves then opens to the documents of the commit that was acknowledged last, or of one that was tried since.
+use crate::asserting::are_some_behind;
+use crate::driver::begun;
 use crate::lasting_failures::{FILLS, MAKING, MANY};
 use crate::single_failures::FRAMES;
 use geos_model::{Bytes, Edit, Fault, VmHandle};
-use std::alloc::Global;
+use std::alloc::{AllocError, Global};
+use std::process::Abort;
 use std::test::Fail;
 use undo_log::Session;
 use vm_store::{FuseStore, MemStore};
@@ -29,7 +32,7 @@ enum Move {
     Revert,
 }
 
-const MOVES: [Move; 15] = [
+const MOVES: &[Move] = &[
     Move::Make,
     Move::Make,
     Move::Save,
@@ -149,23 +152,35 @@ impl Known {
     }
 }
 
+fn edit(session: &mut Session<Twice>, edit: &Edit) -> Result<(), Fault> {
+    session.edit(edit)?;
+    Ok(())
+}
+
+// An edit by which the first block has this byte.
+fn written(alloc: Global, byte: u8) -> Result<Edit, AllocError> {
+    let bytes = Bytes::from_vec(vec![in alloc; byte]?);
+    Ok(Edit::WriteRaw(BLOCK, 0, bytes))
+}
+
+fn write(alloc: Global, session: &mut Session<Twice>, byte: u8) -> Result<(), Fault> {
+    edit(session, &written(alloc, byte)?)
+}
+
+fn look(session: &mut Session<Twice>) -> Result<(), Fault> {
+    session.read_raw(OTHER)?;
+    Ok(())
+}
+
 fn carry_out(alloc: Global, session: &mut Session<Twice>, next: Move) -> Result<(), Fault> {
     match next {
-        Move::Make => {
-            session.edit(&Edit::NewRaw(7, 1))?;
-        }
-        Move::Write(byte) => {
-            let bytes = Bytes::from_vec(vec![in alloc; byte]?);
-            session.edit(&Edit::WriteRaw(BLOCK, 0, bytes))?;
-        }
-        Move::Look => {
-            session.read_raw(OTHER)?;
-        }
-        Move::Update => session.update()?,
-        Move::Save => session.save()?,
-        Move::Revert => session.revert()?,
+        Move::Make => edit(session, &Edit::NewRaw(7, 1)),
+        Move::Write(byte) => write(alloc, session, byte),
+        Move::Look => look(session),
+        Move::Update => session.update(),
+        Move::Save => session.save(),
+        Move::Revert => session.revert(),
     }
-    Ok(())
 }
 
 fn byte_in(session: &mut Session<MemStore>) -> Result<Byte, Fault> {
@@ -195,15 +210,21 @@ fn pair_in(alloc: Global, file: MemStore) -> Result<Pair, Fault> {
     }
 }
 
-// Looks at what each crash leaves that keeps so many of the writes. Gives whether these are all.
+// Looks at what a crash leaves that keeps so many of the writes. Gives whether these are all.
+fn crash_to(known: &Known, store: &MemStore, keep: usize, fill: u8) -> Result<bool, Fail> {
+    let file = store.crashed(keep, fill)?;
+    let is_all = file.bytes() == store.bytes();
+    if known.may_be_left(pair_in(known.alloc, file)?) {
+        return Ok(is_all);
+    }
+    Err(Fail::new("a crash leaves other documents"))
+}
+
+// The same of each such crash.
 fn crash_with(known: &Known, store: &MemStore, keep: usize) -> Result<bool, Fail> {
     let mut are_all = true;
     for fill in FILLS {
-        let file = store.crashed(keep, fill)?;
-        are_all = are_all && file.bytes() == store.bytes();
-        if !known.may_be_left(pair_in(known.alloc, file)?) {
-            return Err(Fail::new("a crash leaves other documents"));
-        }
+        are_all = crash_to(known, store, keep, *fill)? && are_all;
     }
     Ok(are_all)
 }
@@ -227,57 +248,78 @@ struct End {
 
 fn go_all(session: &mut Session<Twice>, known: &mut Known) -> Result<(), Fault> {
     for next in MOVES {
-        known.step(session, next)?;
+        known.step(session, *next)?;
     }
     Ok(())
 }
 
+// What is known behind all moves.
+fn known_behind(alloc: Global, session: &mut Session<Twice>) -> Result<Known, Fault> {
+    let mut known = Known::new(alloc);
+    go_all(session, &mut known)?;
+    Ok(known)
+}
+
+// A session on a new file of which the call after so many fails, and all after so many.
+fn made(alloc: Global, frames: usize, one: u64, all: u64) -> Result<Session<Twice>, Fault> {
+    let lasting = FuseStore::new(MemStore::new(alloc), all, true);
+    match begun(alloc, FuseStore::new(lasting, one, false), frames, true) {
+        Ok(session) => Ok(session),
+        Err((fault, _)) => Err(fault),
+    }
+}
+
 // Makes all moves over a store of which the call after so many fails, and all after so many.
 fn go(alloc: Global, frames: usize, one: u64, all: u64) -> Result<End, Fault> {
-    if frames == 0 || frames > 64 {
-        return Err(Fault::Range);
+    let mut session = made(alloc, frames, one, all)?;
+    let known = known_behind(alloc, &mut session)?;
+    Ok(End {
+        known,
+        store: session.close(),
+    })
+}
+
+// Has the call after so many fail, and all after so many, and looks at what each crash leaves.
+fn go_and_crash(alloc: Global, frames: usize, one: u64, all: u64) -> Result<usize, Fail> {
+    let end = go(alloc, frames, one, all)?;
+    crash(&end.known, end.store.inner().inner())
+}
+
+// Has the call after so many fail, and no other. Gives how many calls there are.
+fn calls_with(alloc: Global, frames: usize, one: u64) -> Result<u64, Fail> {
+    let whole = go(alloc, frames, one, u64::MAX)?;
+    if whole.known.refusals == 1 {
+        return Ok(whole.store.inner().calls());
     }
-    let lasting = FuseStore::new(MemStore::new(alloc), all, true);
-    let store = FuseStore::new(lasting, one, false);
-    let mut known = Known::new(alloc);
-    match Session::create(alloc, store, frames) {
-        Ok(session) => {
-            let mut session = session;
-            let end = go_all(&mut session, &mut known);
-            let store = session.close();
-            end?;
-            Ok(End { known, store })
-        }
-        Err(refused) => Err(refused.fault),
-    }
+    Err(Fail::new("not one refusal is told"))
+}
+
+// How many calls there are while none fails.
+fn calls_of(alloc: Global, frames: usize) -> Result<u64, Fault> {
+    Ok(go(alloc, frames, u64::MAX, u64::MAX)?.store.calls())
 }
 
 // Has the call after so many fail, and then all from each one on. Gives how many crashes there were, for each fill.
 fn fail_and_crash_behind(alloc: Global, frames: usize, one: u64) -> Result<usize, Fail> {
-    let whole = go(alloc, frames, one, u64::MAX)?;
-    if whole.known.refusals != 1 {
-        return Err(Fail::new("not one refusal is told"));
-    }
-    let calls = whole.store.inner().calls();
     let mut crashes = 0_usize;
-    for all in one..=calls {
-        let end = go(alloc, frames, one, all)?;
-        crashes = crashes.saturating_add(crash(&end.known, end.store.inner().inner())?);
+    for all in one..=calls_with(alloc, frames, one)? {
+        crashes = crashes.saturating_add(go_and_crash(alloc, frames, one, all)?);
     }
     Ok(crashes)
+}
+
+// Does so behind each call, in so many frames.
+fn fail_and_crash_each(rt: &impl Abort, alloc: Global, frames: usize) -> Result<(), Fail> {
+    for one in MAKING..calls_of(alloc, frames)? {
+        are_some_behind(rt, fail_and_crash_behind(alloc, frames, one)?, one);
+    }
+    Ok(())
 }
 
 #[test]
 fn a_crash_behind_commits_that_go_on_after_a_failed_call_leaves_what_was_acknowledged_or_tried(
     rt: HostRuntime,
 ) -> Result<(), Fail> {
-    let alloc = rt.alloc();
-    for frames in [1, FRAMES] {
-        let calls = go(alloc, frames, u64::MAX, u64::MAX)?.store.calls();
-        for one in MAKING..calls {
-            let crashes = fail_and_crash_behind(alloc, frames, one)?;
-            assert!(rt; crashes > 0, "behind {one} calls");
-        }
-    }
-    Ok(())
+    fail_and_crash_each(&rt, rt.alloc(), 1)?;
+    fail_and_crash_each(&rt, rt.alloc(), FRAMES)
 }

@@ -1,10 +1,11 @@
 //! Stores that fail for good from a call on, each call in turn, and then each crash.
 // What a crash leaves opens to the documents of the commit that was acknowledged last, or of the one that was tried
 // then.
+use crate::asserting::are_some;
 use crate::committed::{Pair, Side};
 use crate::driver::Driver;
-use crate::scenarios::{SCENARIOS, Scenario};
-use crate::single_failures::{FRAMES, calls_in, fuses};
+use crate::scenarios::{Scenario, scenarios};
+use crate::single_failures::{FRAMES, Fuse, calls_in, fuses};
 use crate::states::push_document;
 use geos_model::Fault;
 use std::alloc::Global;
@@ -19,15 +20,19 @@ pub(crate) struct Documents {
     pub(crate) saved: Vec<u8>,
 }
 
-// The documents of a session's file, which is reverted.
+// Puts the documents of a session's file there, which is reverted.
+fn show(documents: &mut Documents, session: &mut Session<MemStore>) -> Result<(), Fault> {
+    push_document(&mut documents.updated, session)?;
+    session.revert()?;
+    push_document(&mut documents.saved, session)
+}
+
 fn shown(alloc: Global, session: &mut Session<MemStore>) -> Result<Documents, Fault> {
     let mut documents = Documents {
         updated: Vec::new(alloc),
         saved: Vec::new(alloc),
     };
-    push_document(&mut documents.updated, session)?;
-    session.revert()?;
-    push_document(&mut documents.saved, session)?;
+    show(&mut documents, session)?;
     Ok(documents)
 }
 
@@ -58,7 +63,31 @@ fn is_pair(driver: &Driver, pair: Option<Pair>, left: &Documents) -> bool {
     }
 }
 
-// Looks at what each crash leaves that keeps so many of the writes. Gives whether these are all.
+// Looks at what a file is that a crash leaves.
+fn is_left(alloc: Global, driver: &Driver, side: Side, file: MemStore) -> Result<(), Fail> {
+    let left = documents_in(alloc, file)?;
+    if may_be_left(driver, side, &left) {
+        return Ok(());
+    }
+    Err(Fail::new("a crash leaves other documents"))
+}
+
+// Looks at what a crash leaves that keeps so many of the writes. Gives whether these are all.
+fn crash_to(
+    alloc: Global,
+    driver: &Driver,
+    side: Side,
+    store: &MemStore,
+    keep: usize,
+    fill: u8,
+) -> Result<bool, Fail> {
+    let file = store.crashed(keep, fill)?;
+    let is_all = file.bytes() == store.bytes();
+    is_left(alloc, driver, side, file)?;
+    Ok(is_all)
+}
+
+// The same of each such crash.
 fn crash_with(
     alloc: Global,
     driver: &Driver,
@@ -68,18 +97,13 @@ fn crash_with(
 ) -> Result<bool, Fail> {
     let mut are_all = true;
     for fill in FILLS {
-        let file = store.crashed(keep, fill)?;
-        are_all = are_all && file.bytes() == store.bytes();
-        let left = documents_in(alloc, file)?;
-        if !may_be_left(driver, side, &left) {
-            return Err(Fail::new("a crash leaves other documents"));
-        }
+        are_all = crash_to(alloc, driver, side, store, keep, *fill)? && are_all;
     }
     Ok(are_all)
 }
 
 /// What stands where a write is lost.
-pub(crate) const FILLS: [u8; 3] = [0, 1, 255];
+pub(crate) const FILLS: &[u8] = &[0, 1, 255];
 
 /// More writes than there are between two syncs.
 pub(crate) const MANY: usize = 100;
@@ -99,6 +123,23 @@ pub(crate) fn crash(
     Err(Fail::new("there are more writes"))
 }
 
+// Looks at what a crash leaves of the file or of the target.
+fn crash_one(
+    alloc: Global,
+    driver: &Driver,
+    side: Side,
+    file: &Fuse,
+    other: &Option<Fuse>,
+) -> Result<usize, Fail> {
+    match side {
+        Side::File => crash(alloc, driver, side, file.inner()),
+        Side::Target => match other {
+            Some(target) => crash(alloc, driver, side, target.inner()),
+            None => Err(Fail::new("a target is lost")),
+        },
+    }
+}
+
 // Goes through a scenario in which the calls from one on fail, of the file or of the target, and looks at what a crash
 // leaves of it.
 fn fail_and_crash(
@@ -114,11 +155,7 @@ fn fail_and_crash(
     if driver.now.pair(side).is_none() {
         return Ok(0);
     }
-    match (side, &other) {
-        (Side::File, _) => crash(alloc, driver, side, file.inner()),
-        (Side::Target, Some(target)) => crash(alloc, driver, side, target.inner()),
-        (Side::Target, None) => Err(Fail::new("a target is lost")),
-    }
+    crash_one(alloc, driver, side, &file, &other)
 }
 
 // Has the calls from each one on fail, from the one on that comes when a file is made. Gives how many crashes there
@@ -132,47 +169,50 @@ fn fail_and_crash_each(
     calls: u64,
 ) -> Result<usize, Fail> {
     let mut crashes = 0_usize;
-    let first = match side {
-        Side::File => MAKING,
-        Side::Target => 0,
-    };
-    for passes in first..=calls {
-        crashes = crashes.saturating_add(fail_and_crash(
-            alloc, driver, scenario, frames, side, passes,
-        )?);
+    for passes in first_of(side)..=calls {
+        let more = fail_and_crash(alloc, driver, scenario, frames, side, passes)?;
+        crashes = crashes.saturating_add(more);
     }
     Ok(crashes)
+}
+
+// The first call that fails.
+fn first_of(side: Side) -> u64 {
+    match side {
+        Side::File => MAKING,
+        Side::Target => 0,
+    }
 }
 
 /// The store calls that make a file.
 pub(crate) const MAKING: u64 = 7;
 
+// Does so with the file and with the target, in so many frames.
+fn fail_and_crash_both(
+    alloc: Global,
+    driver: &mut Driver,
+    scenario: &Scenario,
+    frames: usize,
+) -> Result<usize, Fail> {
+    let (file, target) = calls_in(alloc, driver, scenario, frames)?;
+    let of_file = fail_and_crash_each(alloc, driver, scenario, frames, Side::File, file)?;
+    let of_target = fail_and_crash_each(alloc, driver, scenario, frames, Side::Target, target)?;
+    Ok(of_file.saturating_add(of_target))
+}
+
 fn fail_and_crash_in(alloc: Global, scenario: &Scenario) -> Result<usize, Fail> {
     let mut driver = Driver::new(alloc, scenario)?;
-    let mut crashes = 0_usize;
-    for frames in [scenario.least, FRAMES] {
-        let (file, target) = calls_in(alloc, &mut driver, scenario, frames)?;
-        let of_file = fail_and_crash_each(alloc, &mut driver, scenario, frames, Side::File, file)?;
-        let of_target = fail_and_crash_each(
-            alloc,
-            &mut driver,
-            scenario,
-            frames,
-            Side::Target,
-            target,
-        )?;
-        crashes = crashes.saturating_add(of_file).saturating_add(of_target);
-    }
-    Ok(crashes)
+    let few = fail_and_crash_both(alloc, &mut driver, scenario, scenario.least)?;
+    let many = fail_and_crash_both(alloc, &mut driver, scenario, FRAMES)?;
+    Ok(few.saturating_add(many))
 }
 
 #[test]
 fn a_crash_of_a_store_that_fails_from_a_call_on_leaves_what_was_acknowledged_or_tried(
     rt: HostRuntime,
 ) -> Result<(), Fail> {
-    for scenario in SCENARIOS {
-        let crashes = fail_and_crash_in(rt.alloc(), scenario)?;
-        assert!(rt; crashes > 0);
+    for scenario in scenarios() {
+        are_some(&rt, fail_and_crash_in(rt.alloc(), scenario)?);
     }
     Ok(())
 }

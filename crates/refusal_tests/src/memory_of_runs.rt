@@ -1,10 +1,9 @@
 //! One request for memory is refused while a script is run, as `docs/each_request.sh` has it.
-use crate::driver::Driver;
-use crate::running::{Lent, Script, count_lines, ended_by, is_led_to, lend, what_is_left};
+use crate::running::{Left, Lent, Play, Script, count_lines, is_led_to, lend, what_is_left};
 use crate::scenarios::{ARRAYS, CHAINS, CHUNK, NAMES, OPENED_AGAIN, SAVED_AS, Scenario};
 use crate::shim::{signal_begin, signal_refusal};
 use geos_model::Fault;
-use geos_shell::{RunFault, run_in};
+use geos_shell::RunFault;
 use std::alloc::Global;
 use std::test::Fail;
 
@@ -26,7 +25,7 @@ fn is_refusal(written: &[u8]) -> bool {
 
 // A run has ended as it should: a line of it may have been refused. What is answered behind that isn't compared.
 fn judge_whole(alloc: Global, script: &Script, written: &[u8]) -> Result<(), Fail> {
-    let lines = script.lines_in(script.lines.len());
+    let lines = script.line_count();
     let equal = script.first_equal(written);
     if equal == lines {
         return Ok(());
@@ -39,45 +38,50 @@ fn judge_whole(alloc: Global, script: &Script, written: &[u8]) -> Result<(), Fai
 }
 
 // Memory ran out in a line, which may be carried out all the same.
-fn judge_cut(
-    alloc: Global,
-    driver: &Driver,
-    script: &Script,
-    written: &[u8],
-    lent: Lent,
-) -> Result<(), Fail> {
+fn judge_cut(alloc: Global, play: &Play, written: &[u8], left: &Left) -> Result<(), Fail> {
     signal_refusal(alloc)?;
-    let lines = script.first_equal(written);
-    if !script.are_replies(lines, written) {
+    let lines = play.script.first_equal(written);
+    if !play.script.are_replies(lines, written) {
         return Err(Fail::new("other replies than the first ones"));
     }
-    let left = what_is_left(alloc, lent)?;
-    if !is_led_to(driver, lines, &left) && !is_led_to(driver, lines.saturating_add(1), &left) {
+    let driver = &play.driver;
+    if !is_led_to(driver, lines, left) && !is_led_to(driver, lines.saturating_add(1), left) {
         return Err(Fail::new("the lines that were answered lead to something else"));
     }
     Ok(())
 }
 
-// Runs the script of a scenario.
-fn run_scenario(alloc: Global, scenario: &Scenario) -> Result<(), Fail> {
-    let driver = Driver::new(alloc, scenario)?;
-    let script = Script::new(alloc, scenario)?;
-    let mut written = Vec::with_capacity(alloc, ROOM)?;
+// A run has ended so, with what it was lent.
+fn judge(
+    alloc: Global,
+    play: &Play,
+    written: &[u8],
+    lent: Lent,
+    end: Result<(), RunFault>,
+) -> Result<(), Fail> {
+    match end {
+        Ok(()) => judge_whole(alloc, &play.script, written),
+        Err(RunFault::Memory) => {
+            let left = what_is_left(alloc, lent)?;
+            judge_cut(alloc, play, written, &left)
+        }
+        Err(_) => Err(Fail::new("a run ends by another fault")),
+    }
+}
+
+// Runs a script. What is written there takes no memory.
+fn run_script(alloc: Global, play: &Play, written: &mut Vec<u8>) -> Result<(), Fail> {
     signal_begin(alloc)?;
     let mut lent = lent_at_last(alloc)?;
-    let end = run_in(
-        alloc,
-        &mut lent.session,
-        &mut lent.target,
-        &mut lent.former,
-        &mut script.lines.as_slice(),
-        &mut written,
-    );
-    if ended_by(end, RunFault::Memory)? {
-        judge_cut(alloc, &driver, &script, &written, lent)
-    } else {
-        judge_whole(alloc, &script, &written)
-    }
+    let end = lent.run(alloc, &mut play.script.lines.as_slice(), written);
+    judge(alloc, play, written, lent, end)
+}
+
+// Runs the script of a scenario.
+fn run_scenario(alloc: Global, scenario: &Scenario) -> Result<(), Fail> {
+    let play = Play::new(alloc, scenario)?;
+    let mut written = Vec::with_capacity(alloc, ROOM)?;
+    run_script(alloc, &play, &mut written)
 }
 
 // More bytes than the replies of a scenario have.

@@ -3,10 +3,11 @@ use crate::committed::Side;
 use crate::driver::Driver;
 use crate::lasting_failures::{Documents, documents_in};
 use crate::scenarios::{COMMITS, Scenario};
-use crate::states::push_state;
+use crate::states::state_of;
 use geos_model::Fault;
-use geos_shell::RunFault;
+use geos_shell::{RunFault, run_in};
 use std::alloc::{AllocError, Global};
+use std::io::{Read, Write};
 use std::test::Fail;
 use undo_log::Session;
 use vm_store::MemStore;
@@ -33,23 +34,33 @@ pub(crate) struct Script {
 }
 
 impl Script {
-    pub(crate) fn new(alloc: Global, scenario: &Scenario) -> Result<Script, AllocError> {
+    fn new(alloc: Global, scenario: &Scenario) -> Result<Script, AllocError> {
         let mut script = Script {
             lines: Vec::new(alloc),
             replies: Vec::new(alloc),
             stops: Vec::new(alloc),
             ends: Vec::new(alloc),
         };
-        script.stops.push(0)?;
-        script.ends.push(0)?;
-        if let Some((first, others)) = scenario.openings.split_first() {
-            script.put_all(first)?;
-            if others.is_empty() {
-                script.put_all(COMMITS)?;
-            }
-        }
+        script.put_scenario(scenario)?;
         script.drop_last();
         Ok(script)
+    }
+
+    fn put_scenario(&mut self, scenario: &Scenario) -> Result<(), AllocError> {
+        self.stops.push(0)?;
+        self.ends.push(0)?;
+        match scenario.openings.split_first() {
+            Some((first, others)) => self.put_opening(first, others.is_empty()),
+            None => Ok(()),
+        }
+    }
+
+    fn put_opening(&mut self, text: &str, is_last: bool) -> Result<(), AllocError> {
+        self.put_all(text)?;
+        if is_last {
+            return self.put_all(COMMITS);
+        }
+        Ok(())
     }
 
     fn put_all(&mut self, text: &str) -> Result<(), AllocError> {
@@ -80,9 +91,19 @@ impl Script {
         self.lines.truncate(self.stops.last().copied().unwrap_or(0));
     }
 
-    /// How many lines end in so many bytes of the script.
-    pub(crate) fn lines_in(&self, bytes: usize) -> usize {
+    // How many lines end in so many bytes of the script.
+    fn lines_in(&self, bytes: usize) -> usize {
         count_lines(self.lines.get(..bytes).unwrap_or(&[]))
+    }
+
+    /// How many lines there are.
+    pub(crate) fn line_count(&self) -> usize {
+        count_lines(&self.lines)
+    }
+
+    /// How many lines end before the last bytes, which a reader has left.
+    pub(crate) fn lines_before(&self, left: &[u8]) -> usize {
+        self.lines_in(self.lines.len().saturating_sub(left.len()))
     }
 
     /// How many replies stand at the front of what was written.
@@ -114,12 +135,55 @@ impl Script {
     }
 }
 
+/// A driver that went through a scenario once, and the scenario's script.
+#[derive(Drop)]
+pub(crate) struct Play {
+    pub(crate) driver: Driver,
+    pub(crate) script: Script,
+}
+
+impl Play {
+    pub(crate) fn new(alloc: Global, scenario: &Scenario) -> Result<Play, Fail> {
+        let driver = Driver::new(alloc, scenario)?;
+        let script = Script::new(alloc, scenario)?;
+        Ok(Play { driver, script })
+    }
+
+    /// Looks at what a run has left that has read the script but for these last bytes.
+    pub(crate) fn judge_left(&self, alloc: Global, lent: Lent, unread: &[u8]) -> Result<(), Fail> {
+        let left = what_is_left(alloc, lent)?;
+        if is_led_to(&self.driver, self.script.lines_before(unread), &left) {
+            return Ok(());
+        }
+        Err(Fail::new("the lines that were read lead to something else"))
+    }
+}
+
 /// What a run is lent.
 #[derive(Drop)]
 pub(crate) struct Lent {
     pub(crate) session: Session<MemStore>,
     pub(crate) target: Option<MemStore>,
     pub(crate) former: Option<MemStore>,
+}
+
+impl Lent {
+    /// Runs a script. Nothing is promised of that here: a test says by itself what it wants.
+    pub(crate) fn run<R: Read, W: Write>(
+        &mut self,
+        alloc: Global,
+        reader: &mut R,
+        writer: &mut W,
+    ) -> Result<(), RunFault> {
+        run_in(
+            alloc,
+            &mut self.session,
+            &mut self.target,
+            &mut self.former,
+            reader,
+            writer,
+        )
+    }
 }
 
 /// A session on a new file, with a target for a save-as.
@@ -144,23 +208,23 @@ pub(crate) struct Left {
 
 /// What a run has left of what it was lent.
 pub(crate) fn what_is_left(alloc: Global, lent: Lent) -> Result<Left, Fault> {
-    let Lent {
-        mut session,
-        target: _,
-        former,
-    } = lent;
-    let mut state = Vec::new(alloc);
-    push_state(&mut state, &mut session)?;
-    let file = documents_in(alloc, session.close())?;
-    let former = match former {
-        Some(former) => Some(documents_in(alloc, former)?),
-        None => None,
-    };
+    let mut lent = lent;
+    let state = state_of(alloc, &mut lent.session);
+    let former = documents_of(alloc, lent.former);
+    let file = documents_in(alloc, lent.session.close());
     Ok(Left {
-        state,
-        file,
-        former,
+        state: state?,
+        file: file?,
+        former: former?,
     })
+}
+
+// The documents of a file, if there is one.
+fn documents_of(alloc: Global, file: Option<MemStore>) -> Result<Option<Documents>, Fault> {
+    match file {
+        Some(file) => Ok(Some(documents_in(alloc, file)?)),
+        None => Ok(None),
+    }
 }
 
 // Whether a file stands for what the driver has taken down of it behind so many lines.

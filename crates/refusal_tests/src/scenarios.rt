@@ -449,7 +449,7 @@ pub(crate) const SAVED_GROUPS: Scenario = Scenario {
         ",
 };
 
-pub(crate) const SCENARIOS: [&Scenario; 14] = [
+const SCENARIOS: &[&Scenario] = &[
     &CHUNK,
     &FREED_CHUNK,
     &ARRAYS,
@@ -465,3 +465,8 @@ pub(crate) const SCENARIOS: [&Scenario; 14] = [
     &GROUPS,
     &SAVED_GROUPS,
 ];
+
+/// All of them. Their texts stand in this function, and in no other that goes through them.
+pub(crate) fn scenarios() -> &'static [&'static Scenario] {
+    SCENARIOS
+}

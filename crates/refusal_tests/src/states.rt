@@ -1,5 +1,6 @@
 //! What a session shows: its document, and what else a refused command leaves as it was.
 use geos_model::{ChunkHandle, Fault, Info, VmHandle};
+use std::alloc::Global;
 use undo_log::Session;
 use vm_store::Store;
 
@@ -36,7 +37,32 @@ fn push_chunks<S: Store>(
     Ok(())
 }
 
-// A block's user ID, its kind, the type of a heap, and its body.
+// The user ID of a raw block, and its body.
+fn push_raw<S: Store>(
+    out: &mut Vec<u8>,
+    session: &mut Session<S>,
+    block: VmHandle,
+    user_id: u16,
+) -> Result<(), Fault> {
+    push_number(out, usize::from(user_id))?;
+    push_bytes(out, session.read_raw(block)?)
+}
+
+// The user ID of a heap, its type, what it needs, and its chunks.
+fn push_heap<S: Store>(
+    out: &mut Vec<u8>,
+    session: &mut Session<S>,
+    block: VmHandle,
+    user_id: u16,
+    need: u32,
+) -> Result<(), Fault> {
+    push_number(out, usize::from(user_id))?;
+    push_number(out, usize::from(session.heap_type(block)?))?;
+    push_number(out, need as usize)?;
+    push_chunks(out, session, block)
+}
+
+// A block's handle, and what its kind has.
 fn push_block<S: Store>(
     out: &mut Vec<u8>,
     session: &mut Session<S>,
@@ -44,16 +70,8 @@ fn push_block<S: Store>(
 ) -> Result<(), Fault> {
     push_number(out, usize::from(block.0))?;
     match session.info(block)? {
-        Info::Raw(user_id, _) => {
-            push_number(out, usize::from(user_id))?;
-            push_bytes(out, session.read_raw(block)?)
-        }
-        Info::Heap(user_id, need) => {
-            push_number(out, usize::from(user_id))?;
-            push_number(out, usize::from(session.heap_type(block)?))?;
-            push_number(out, need as usize)?;
-            push_chunks(out, session, block)
-        }
+        Info::Raw(user_id, _) => push_raw(out, session, block, user_id),
+        Info::Heap(user_id, need) => push_heap(out, session, block, user_id, need),
     }
 }
 
@@ -67,6 +85,16 @@ pub(crate) fn push_document<S: Store>(
         push_block(out, session, *block)?;
     }
     Ok(())
+}
+
+/// The same as bytes of their own.
+pub(crate) fn document_of<S: Store>(
+    alloc: Global,
+    session: &mut Session<S>,
+) -> Result<Vec<u8>, Fault> {
+    let mut document = Vec::new(alloc);
+    push_document(&mut document, session)?;
+    Ok(document)
 }
 
 // How often each block is locked.
@@ -87,4 +115,14 @@ pub(crate) fn push_state<S: Store>(
     push_number(out, session.undo_count())?;
     push_number(out, session.redo_count())?;
     push_number(out, usize::from(session.in_group()))
+}
+
+/// The same as bytes of their own.
+pub(crate) fn state_of<S: Store>(
+    alloc: Global,
+    session: &mut Session<S>,
+) -> Result<Vec<u8>, Fault> {
+    let mut state = Vec::new(alloc);
+    push_state(&mut state, session)?;
+    Ok(state)
 }

@@ -1,10 +1,11 @@
 //! A writer that fails, at each write and at each flush in turn.
-use crate::driver::Driver;
-use crate::running::{Script, ended_by, is_led_to, lend, what_is_left};
-use crate::scenarios::{SCENARIOS, Scenario};
-use geos_shell::{RunFault, run_in};
+use crate::asserting::is_within;
+use crate::running::{Lent, Play, Script, ended_by, lend};
+use crate::scenarios::{Scenario, scenarios};
+use geos_shell::RunFault;
 use std::alloc::Global;
 use std::io::{self, ErrorKind, Read, Write};
+use std::process::Abort;
 use std::test::Fail;
 
 // A reader that gives a few bytes a read.
@@ -72,42 +73,49 @@ fn are_first(script: &Script, taken: &[u8], strength: Strength) -> bool {
 // More bytes than a run writes at once.
 const WHOLE: usize = 100_000;
 
-// Runs a script whose writer fails. Gives whether the run came to that.
-fn is_cut(
-    alloc: Global,
-    driver: &Driver,
+// A run has ended so, with this left to read. Gives whether the writer failed.
+fn judge(
     script: &Script,
+    unread: &[u8],
+    taken: &[u8],
+    strength: Strength,
+    end: Result<(), RunFault>,
+) -> Result<bool, Fail> {
+    if !are_first(script, taken, strength) {
+        return Err(Fail::new("other replies than the first ones"));
+    }
+    let is_cut = ended_by(end, RunFault::Write)?;
+    if is_cut || script.are_replies(script.lines_before(unread), taken) {
+        return Ok(is_cut);
+    }
+    Err(Fail::new("other replies"))
+}
+
+// Runs a script over such a writer. Gives whether it failed.
+fn run_cut(
+    alloc: Global,
+    script: &Script,
+    lent: &mut Lent,
+    reader: &mut Feeding<'_>,
     strength: Strength,
 ) -> Result<bool, Fail> {
-    let mut lent = lend(alloc)?;
-    let mut reader = Feeding {
-        left: &script.lines,
-        piece: 20,
-    };
     let mut writer = Tiring {
         taken: Vec::new(alloc),
         left: strength,
     };
-    let end = run_in(
-        alloc,
-        &mut lent.session,
-        &mut lent.target,
-        &mut lent.former,
-        &mut reader,
-        &mut writer,
-    );
-    let is_cut = ended_by(end, RunFault::Write)?;
-    if !are_first(script, &writer.taken, strength) {
-        return Err(Fail::new("other replies than the first ones"));
-    }
-    let given = script.lines.len().saturating_sub(reader.left.len());
-    let lines = script.lines_in(given);
-    if !is_cut && !script.are_replies(lines, &writer.taken) {
-        return Err(Fail::new("other replies"));
-    }
-    if !is_led_to(driver, lines, &what_is_left(alloc, lent)?) {
-        return Err(Fail::new("the lines that were read lead to something else"));
-    }
+    let end = lent.run(alloc, reader, &mut writer);
+    judge(script, reader.left, &writer.taken, strength, end)
+}
+
+// Runs a script whose writer fails. Gives whether the run came to that.
+fn is_cut(alloc: Global, play: &Play, strength: Strength) -> Result<bool, Fail> {
+    let mut lent = lend(alloc)?;
+    let mut reader = Feeding {
+        left: &play.script.lines,
+        piece: 20,
+    };
+    let is_cut = run_cut(alloc, &play.script, &mut lent, &mut reader, strength)?;
+    play.judge_left(alloc, lent, reader.left)?;
     Ok(is_cut)
 }
 
@@ -135,16 +143,34 @@ fn that_fails_at(call: Call, passes: usize, most: usize) -> Strength {
 }
 
 // Has the writer fail at each such call. Gives at how many.
-fn cut_each(alloc: Global, scenario: &Scenario, call: Call, most: usize) -> Result<usize, Fail> {
-    let driver = Driver::new(alloc, scenario)?;
-    let script = Script::new(alloc, scenario)?;
+fn cut_each(alloc: Global, play: &Play, call: Call, most: usize) -> Result<usize, Fail> {
     for calls in 0..MANY {
-        let strength = that_fails_at(call, calls, most);
-        if !is_cut(alloc, &driver, &script, strength)? {
+        if !is_cut(alloc, play, that_fails_at(call, calls, most))? {
             return Ok(calls);
         }
     }
     Ok(MANY)
+}
+
+// Does so at a writer that takes so many bytes a write, which has so many such calls at least.
+fn cut_in(
+    rt: &impl Abort,
+    alloc: Global,
+    play: &Play,
+    call: Call,
+    most: usize,
+    least: usize,
+) -> Result<(), Fail> {
+    is_within(rt, cut_each(alloc, play, call, most)?, least, MANY);
+    Ok(())
+}
+
+// Does so at writes, long ones and short ones, and at flushes.
+fn cut_in_all(rt: &impl Abort, alloc: Global, scenario: &Scenario) -> Result<(), Fail> {
+    let play = Play::new(alloc, scenario)?;
+    cut_in(rt, alloc, &play, Call::Write, WHOLE, 3)?;
+    cut_in(rt, alloc, &play, Call::Write, 3, 8)?;
+    cut_in(rt, alloc, &play, Call::Flush, WHOLE, 3)
 }
 
 // More writes than there are bytes in all replies.
@@ -154,15 +180,8 @@ const MANY: usize = 10_000;
 fn a_writer_that_fails_gets_the_first_replies_and_leaves_the_lines_answered(
     rt: HostRuntime,
 ) -> Result<(), Fail> {
-    for scenario in SCENARIOS {
-        for (call, most, least) in [
-            (Call::Write, WHOLE, 3),
-            (Call::Write, 3, 8),
-            (Call::Flush, WHOLE, 3),
-        ] {
-            let calls = cut_each(rt.alloc(), scenario, call, most)?;
-            assert!(rt; least <= calls && calls < MANY, "{calls} calls");
-        }
+    for scenario in scenarios() {
+        cut_in_all(&rt, rt.alloc(), scenario)?;
     }
     Ok(())
 }
