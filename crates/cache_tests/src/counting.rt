@@ -1,5 +1,5 @@
 //! How often the store is called, and what a call that fails leaves.
-use crate::asserting::{ended, is_so};
+use crate::asserting::ended;
 use crate::steps::Step::{Has, Load, NoLoad, Put, Save, Set, Update};
 use crate::steps::{Mismatch, Step, kept_again, made};
 use geos_model::Fault;
@@ -43,27 +43,30 @@ fn calls_of(alloc: Global, begun: &[Step], steps: &[Step]) -> Result<u64, Mismat
     Ok(file.calls())
 }
 
-// Whether a look-up of this block makes so many calls of the store. A change makes none.
-fn calls(alloc: Global, begun: &[Step], handle: u16, more: u64) -> Result<bool, Mismatch> {
+// A look-up of this block makes so many calls of the store. A change makes none.
+fn calls(alloc: Global, begun: &[Step], handle: u16, more: u64) -> Result<(), Mismatch> {
     let before = calls_of(alloc, &CHANGED, &[])?;
     let all = calls_of(alloc, begun, &[Load(handle)])?;
-    Ok(before.checked_add(more) == Some(all))
+    if before.checked_add(more) == Some(all) {
+        return Ok(());
+    }
+    Err(Mismatch::Calls(before, all))
 }
 
 #[test]
 fn a_block_in_memory_calls_no_store(rt: HostRuntime) -> Result<(), Mismatch> {
-    is_so(calls(rt.alloc(), &CLEAN, 1, 0))?;
-    is_so(calls(rt.alloc(), &CHANGED, 1, 0))
+    calls(rt.alloc(), &CLEAN, 1, 0)?;
+    calls(rt.alloc(), &CHANGED, 1, 0)
 }
 
 #[test]
 fn a_block_that_is_away_is_read_once(rt: HostRuntime) -> Result<(), Mismatch> {
-    is_so(calls(rt.alloc(), &CLEAN, 2, 1))
+    calls(rt.alloc(), &CLEAN, 2, 1)
 }
 
 #[test]
 fn a_changed_block_that_goes_is_written_once(rt: HostRuntime) -> Result<(), Mismatch> {
-    is_so(calls(rt.alloc(), &CHANGED, 2, 2))
+    calls(rt.alloc(), &CHANGED, 2, 2)
 }
 
 // The look-up whose call of the store fails is answered File, and the next one is as if it hadn't been made.

@@ -4,7 +4,7 @@ ghost use Rattle.std.specs.Prelude.{◌≡◌, true, is_some, OnOk};
 use crate::asserting::ended;
 use crate::calls::{created, load, set};
 use crate::steps::Step::{Has, IsAway, Load, Put, Save, Set, Update};
-use crate::steps::{Mismatch, Step, closed, kept_again, take};
+use crate::steps::{Mismatch, Step, closed, kept_again, take, take_from};
 use block_cache::Cache;
 use geos_model::Fault;
 use std::alloc::Global;
@@ -53,7 +53,7 @@ fn bring_back(
 ) -> Result<(), Mismatch> {
     take(alloc, cache, &THREE)?;
     change_and_roll_back(cache)?;
-    take(alloc, cache, steps)
+    take_from(alloc, cache, THREE.len(), steps)
 }
 
 // The file of that document.

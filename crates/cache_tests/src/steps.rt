@@ -42,7 +42,8 @@ pub(crate) enum Step {
     Finds(u16, u16, u16),
 }
 
-/// Why work on a cache did not go as it should. A step is told by its place, from 0 on.
+/// Why work on a cache did not go as it should. A step is told by its place, from 0 on, and from 100 on in a file that
+/// is opened.
 #[derive(Debug, Drop)]
 pub(crate) enum Mismatch {
     /// A call is refused.
@@ -53,6 +54,8 @@ pub(crate) enum Mismatch {
     Seen(usize),
     /// Another file is made over a store of which so many calls succeed.
     Copied(u64),
+    /// The store is called so often before, and so often in all.
+    Calls(u64, u64),
     /// Something isn't so.
     NotSo,
 }
@@ -83,7 +86,7 @@ fn done(answer: Result<(), Fault>) -> Result<bool, Fault> {
     }
 }
 
-// Takes a step that asks memory or the store, or looks at the cache.
+// Takes a step that brings a block in, commits, or looks at the cache.
 fn call_or_look<S: Store>(cache: &mut Cache<S>, step: Step) -> Result<bool, Fault> {
     match step {
         Step::Load(handle) => done(load(cache, handle)),
@@ -113,8 +116,8 @@ fn take_step<S: Store>(alloc: Global, cache: &mut Cache<S>, step: Step) -> Resul
     }
 }
 
-// Takes steps, of which the first has a place, up to one that does not go as it says.
-fn take_from<S: Store>(
+/// Takes steps, of which the first has this place, up to one that does not go as it says.
+pub(crate) fn take_from<S: Store>(
     alloc: Global,
     cache: &mut Cache<S>,
     first: usize,
@@ -165,6 +168,9 @@ pub(crate) fn made<S: Store>(
     closed(cache, end)
 }
 
+/// The place of the first step in a file that is opened.
+const OPENED: usize = 100;
+
 /// The store of the document that it has, with so many frames, when the steps were taken on it.
 pub(crate) fn kept<S: Store>(
     alloc: Global,
@@ -173,7 +179,7 @@ pub(crate) fn kept<S: Store>(
     steps: &[Step],
 ) -> Result<S, Mismatch> {
     let mut cache = opened(alloc, store, frames)?;
-    let end = take(alloc, &mut cache, steps);
+    let end = take_from(alloc, &mut cache, OPENED, steps);
     closed(cache, end)
 }
 

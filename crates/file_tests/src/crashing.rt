@@ -184,7 +184,7 @@ fn are_all(store: &MemStore, writes: usize) -> Result<bool, Fault> {
     Ok(store.crashed(writes, 0)?.bytes() == store.bytes())
 }
 
-// The one of an image.
+// The byte of an image, which has no other.
 fn byte_of(image: &[u8]) -> Result<Byte, Fault> {
     match image {
         [0, byte] => Ok(Some(*byte)),

@@ -24,7 +24,7 @@ fn first_other(store: &MemStore) -> Option<usize> {
     first_other_byte(store.bytes(), &made_bytes())
 }
 
-// Where a file that is made of a store has, when the steps were taken on it.
+// Where a file that is made of a store has other bytes, when the steps were taken on it.
 fn first_other_made(
     alloc: Global,
     store: MemStore,

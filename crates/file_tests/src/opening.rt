@@ -373,7 +373,7 @@ fn is_same_extended(alloc: Global, version: u8, more: usize, value: u8) -> Resul
     is_read(alloc, &bytes, &same(alloc, version)?)
 }
 
-// How many bytes.
+// How many bytes are appended.
 const MORE: &[usize] = &[1, 509, 510, 1_100];
 
 // Whether so it is with each of these numbers of bytes.
@@ -386,11 +386,11 @@ fn are_same(alloc: Global, version: u8, value: u8) -> Result<bool, Fault> {
     Ok(true)
 }
 
-// The number of the first value by which it is another one.
+// The first value by which it is another one.
 fn first_other_value(alloc: Global, version: u8) -> Result<Option<usize>, Mismatch> {
-    for (number, value) in VALUES.iter().enumerate() {
+    for value in VALUES {
         if !are_same(alloc, version, *value)? {
-            return Ok(Some(number));
+            return Ok(Some(usize::from(*value)));
         }
     }
     Ok(None)

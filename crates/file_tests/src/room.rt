@@ -18,7 +18,7 @@ enum Commits {
     Mixed,
 }
 
-// The one with this number.
+// Makes the commit with this number.
 fn commit<S: Store>(file: &mut VmFile<S>, commits: Commits, number: u16) -> Result<(), Fault> {
     match (commits, number % 10) {
         (Commits::Saves, _) | (Commits::Mixed, 8) => save(file),
@@ -48,7 +48,7 @@ fn often_committed(alloc: Global, commits: Commits, last: &[Step]) -> Result<Mem
     closed(file, end)
 }
 
-// Whether it has no more bytes than these.
+// Whether it has no more bytes than so many.
 fn is_short(
     alloc: Global,
     commits: Commits,

@@ -40,7 +40,7 @@ fn a_worn_file_is_edited_and_not_committed(rt: HostRuntime) -> Result<(), Mismat
 }
 
 // Whether these others stand at a place of a file with these bytes, when the steps were taken on it.
-fn leave(
+fn leaves_at(
     alloc: Global,
     bytes: &[u8],
     steps: &[Step],
@@ -63,7 +63,7 @@ fn a_worn_file_takes_blocks_and_is_not_committed(rt: HostRuntime) -> Result<(), 
         IsWornOut,
     ];
     let bytes = worn();
-    is_so(leave(rt.alloc(), &bytes, &steps, 0, &bytes))
+    is_so(leaves_at(rt.alloc(), &bytes, &steps, 0, &bytes))
 }
 
 // The number before the last can rise once.
@@ -72,5 +72,5 @@ fn the_last_number_is_given_once(rt: HostRuntime) -> Result<(), Mismatch> {
     let mut bytes = worn();
     bytes[8] = 254;
     let steps = [IsNotWorn, Save, IsWornOut];
-    is_so(leave(rt.alloc(), &bytes, &steps, 520, &[255; 8]))
+    is_so(leaves_at(rt.alloc(), &bytes, &steps, 520, &[255; 8]))
 }

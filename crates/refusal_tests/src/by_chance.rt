@@ -593,18 +593,19 @@ const EACH: usize = 60;
 
 // The store failed once.
 fn is_refused_once(rt: &impl Abort, tally: Tally, passes: u64) {
-    assert!(rt; tally.refusals == 1, "behind {passes} calls");
+    assert_eq!(rt; tally.refusals, 1, "behind {passes} calls");
 }
 
-// Has calls fail, the first behind so many, of so many.
+// Has one of `EACH` calls fail in turn, the first behind so many, of so many in all.
 fn fail_each(
     rt: &impl Abort,
     alloc: Global,
     frames: usize,
     seed: u32,
-    calls: (u64, u64),
+    first: u64,
+    calls: u64,
 ) -> Result<(), Fail> {
-    for passes in (calls.0..calls.1).step_by(EACH) {
+    for passes in (first..calls).step_by(EACH) {
         is_refused_once(rt, go(alloc, frames, seed, passes)?.tally, passes);
     }
     Ok(())
@@ -615,7 +616,7 @@ fn fail_among(rt: &impl Abort, alloc: Global, frames: usize, seed: u32) -> Resul
     let calls = go(alloc, frames, seed, u64::MAX)?.calls;
     let first = MAKING + 3 * u64::from(seed);
     assert!(rt; first < calls, "{calls} calls");
-    fail_each(rt, alloc, frames, seed, (first, calls))
+    fail_each(rt, alloc, frames, seed, first, calls)
 }
 
 fn fail_in(rt: &impl Abort, alloc: Global, frames: usize) -> Result<(), Fail> {

@@ -211,8 +211,8 @@ impl Driver {
         beside: &mut Beside<S>,
     ) -> Result<S, Fail> {
         let mut store = file;
-        for place in 0..scenario.openings.len() {
-            store = self.open_at(scenario, place, frames, store, beside)?;
+        for (place, text) in scenario.openings.iter().enumerate() {
+            store = self.open_at(scenario, place, text, frames, store, beside)?;
         }
         Ok(store)
     }
@@ -222,12 +222,12 @@ impl Driver {
         &mut self,
         scenario: &Scenario,
         place: usize,
+        text: &str,
         frames: usize,
         store: S,
         beside: &mut Beside<S>,
     ) -> Result<S, Fail> {
         let is_new = self.is_new && place == 0;
-        let text = scenario.openings.get(place).copied().unwrap_or("");
         let last = last_of(scenario, place);
         self.open(store, frames, is_new, beside, text, last)
     }

@@ -146,7 +146,7 @@ impl Many {
         Ok(opening)
     }
 
-    // Has each call fail that comes behind so many.
+    // Has each call fail that comes behind those that open the file.
     fn fail_behind(&mut self, opening: u64, calls: u64) -> Result<(), Fail> {
         for passes in opening..calls {
             self.fail(passes)?;
@@ -162,7 +162,7 @@ impl Many {
         self.fail_behind(opening, calls)
     }
 
-    // Has all calls fail behind each one that comes when the file is opened.
+    // Has all calls fail from each one on that comes behind those that open the file.
     fn fail_and_crash_each(&mut self, rt: &impl Abort) -> Result<(), Fail> {
         let opening = self.calls_of_opening()?;
         for passes in opening..=self.go(u64::MAX)? {

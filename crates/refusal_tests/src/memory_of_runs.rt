@@ -69,7 +69,7 @@ fn judge(
     }
 }
 
-// Runs a script. What is written there takes no memory.
+// Runs a script. There is room for its replies already.
 fn run_script(alloc: Global, play: &Play, written: &mut Vec<u8>) -> Result<(), Fail> {
     signal_begin(alloc)?;
     let mut lent = lent_at_last(alloc)?;

@@ -184,7 +184,7 @@ fn stops_both(rt: &impl Abort, alloc: Global, lent: &mut Lent, reads: u32) -> Re
     Ok(())
 }
 
-// They are in a new session.
+// The same in a new session.
 fn stops(rt: &impl Abort, alloc: Global, reads: u32) -> Result<(), Fail> {
     let mut lent = lend(alloc)?;
     stops_both(rt, alloc, &mut lent, reads)
@@ -208,7 +208,7 @@ fn run_over(alloc: Global, lent: &mut Lent, reader: &mut Endless) -> Result<(), 
 fn ends_behind(rt: &impl Abort, alloc: Global, lent: &mut Lent, reads: u32) {
     let mut reader = endless_reader(b"#");
     let end = run_over(alloc, lent, &mut reader);
-    assert!(rt; end == Err(RunFault::Read));
+    assert_eq!(rt; end, Err(RunFault::Read));
     same_number(rt, reader.reads as usize, reads as usize);
 }
 
