@@ -46,11 +46,7 @@ fn change_and_roll_back(cache: &mut Cache<MemStore>) -> Result<(), Fault> {
 }
 
 // Begins that document, changes it while it is marked, and brings it back. Then the steps are taken.
-fn bring_back(
-    alloc: Global,
-    cache: &mut Cache<MemStore>,
-    steps: &[Step],
-) -> Result<(), Mismatch> {
+fn bring_back(alloc: Global, cache: &mut Cache<MemStore>, steps: &[Step]) -> Result<(), Mismatch> {
     take(alloc, cache, &THREE)?;
     change_and_roll_back(cache)?;
     take_from(alloc, cache, THREE.len(), steps)

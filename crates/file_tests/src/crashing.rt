@@ -380,7 +380,9 @@ fn first_loss(alloc: Global, fill: u8) -> Result<Option<u64>, Fault> {
 }
 
 #[test]
-fn a_crash_behind_any_step_leaves_what_was_tried_under_zeros(rt: HostRuntime) -> Result<(), Mismatch> {
+fn a_crash_behind_any_step_leaves_what_was_tried_under_zeros(
+    rt: HostRuntime,
+) -> Result<(), Mismatch> {
     no_loss(first_loss(rt.alloc(), 0))
 }
 
