@@ -52,13 +52,13 @@ __attribute__((constructor)) static void begin(void) {
     counts = getenv("FROM_THE_START") != NULL;
 }
 
-/* A vector that grows asks for twice its room, and where that is refused at once for what it needs, which may be as much; one that gives
-   room back keeps it where that is refused. Neither is answered as memory that ran out. */
+/* The library's `collect` asks a second time, for as much, where it is refused; and a vector that is to give room back keeps it where that
+   is refused. Neither is answered as memory that ran out. */
 static size_t wanted;
 
 static int refuses(size_t size, int gives_back) {
-    if (has_refused && size <= wanted)
-        tell("less will do\n");
+    if (has_refused && size == wanted)
+        tell("asked again\n");
     wanted = 0;
     if (size == 1000003) {
         counts = 1;
@@ -108,8 +108,8 @@ for test in $("$tests" --list | sed -n 's/: test$//p' | grep '^memory'); do
         [ "$status" = 0 ] || wrong="$wrong $number ($(tr '\n' ' ' <said))"
         [ -s happened ] || break
         case "$(tr '\n' ' ' <happened)" in
-        "refused answered " | "refused less will do answered " | "kept answered " | "kept less will do answered ") ;;
-        "refused less will do " | "kept " | "kept less will do ") unanswered=$((unanswered + 1)) ;;
+        "refused answered " | "refused asked again answered " | "kept answered " | "kept asked again answered ") ;;
+        "refused asked again " | "kept " | "kept asked again ") unanswered=$((unanswered + 1)) ;;
         *) wrong="$wrong $number ($(tr '\n' ' ' <happened))" ;;
         esac
         [ "$number" -lt 10000 ] || break
@@ -119,7 +119,7 @@ for test in $("$tests" --list | sed -n 's/: test$//p' | grep '^memory'); do
     [ "$places" -gt 20 ] || wrong="$wrong $places places alone"
     told "$places requests of $test" "" "$wrong"
 done
-echo "        $total requests, of which $unanswered needn't be met: less will do, or room is kept"
+echo "        $total requests, of which $unanswered needn't be met: the same is asked again, or room is kept"
 
 # A script that asks a document for all that it has, and then for all that was saved.
 awk 'function ask(b, c) {
