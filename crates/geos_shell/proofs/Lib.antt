@@ -3,6 +3,7 @@ pub mod Begun
 pub mod Calls
 pub mod Composed
 pub mod Counted
+pub mod Digits
 pub mod Extending
 pub mod Failures
 pub mod Lasting

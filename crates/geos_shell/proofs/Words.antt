@@ -1,5 +1,5 @@
 -- How a line falls into words.
-use Rattle.std.proofs.Common.{Bor, map, append_assoc, length-drop, add-zero, ◌-◌, ◌≡◌, ℕ, zero, suc, ◌<◌, ◌≤◌, true, false, List, [], ◌∷◌, ◌++◌, length, take, drop, slice_index, inl, inr, None, refl, sym, ap, ◌∙◌, arith}
+use Rattle.std.proofs.Common.{Bor, map, append_assoc, get_or-take, length-drop, add-zero, ◌-◌, ◌≡◌, ℕ, zero, suc, ◌+◌, ◌<◌, ◌≤◌, true, false, List, [], ◌∷◌, ◌++◌, length, take, drop, slice_index, inl, inr, None, refl, sym, subst, ap, ◌∙◌, arith}
 use Rattle.std.proofs.lemmas.Bool.Decides.{nat_tests}
 use Rattle.std.proofs.lemmas.Bool.{cases_eq}
 use Rattle.std.proofs.lemmas.List.{take_all, get_or-drop, map-append}
@@ -42,6 +42,22 @@ words-cut (x ∷ xs) (suc (suc n)) some le h stop =
 -- the tail of a list, as a slice up to its end gives it
 pub take_rest : (xs : List ℕ) (n : ℕ) → take (length xs - n) (drop n xs) ≡ drop n xs
 take_rest xs n = take_all (length xs - n) (drop n xs) (omega (arith, length-drop n xs))
+
+-- a byte of the front is no blank where it is none there
+pub solid_head : (xs : List ℕ) (n k : ℕ) → k < n → is_blank (slice_index (take n xs) k) ≡ false → is_blank (slice_index xs k) ≡ false
+solid_head xs n k lt solid = rw (get_or-take n xs k 0 lt) at solid
+
+-- a byte of the tail is no blank where it is none there
+pub solid_tail : (xs : List ℕ) (n k : ℕ) → n ≤ k → is_blank (slice_index (take (length xs - n) (drop n xs)) (k - n)) ≡ false
+    → is_blank (slice_index xs k) ≡ false
+solid_tail xs n k le solid =
+    let at_k : n + (k - n) ≡ k = omega arith in
+    subst (λ (i : ℕ). is_blank (slice_index xs i) ≡ false) at_k (rw (take_rest xs n, get_or-drop n xs (k - n) 0) at solid)
+
+-- and it is one where it is one there
+pub blank_tail : (xs : List ℕ) (n k : ℕ) → is_blank (slice_index (take (length xs - n) (drop n xs)) k) ≡ true
+    → is_blank (slice_index xs (n + k)) ≡ true
+blank_tail xs n k blank = rw (take_rest xs n, get_or-drop n xs k 0) at blank
 
 -- what stands behind the blanks in front begins with no blank
 pub solid_front : (xs rest : List ℕ) (n : ℕ) → (n < length xs → is_blank (slice_index xs n) ≡ false) → rest ≡ drop n xs → 0 < length rest

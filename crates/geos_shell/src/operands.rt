@@ -1,7 +1,7 @@
 //! What a word spells, where an operand of some kind is wanted.
 ghost use Rattle.std.specs.Prelude.{◌≡◌, ◌*◌, Bool, true, false, is_some, length, ok_or, List, ℕ, Option, Some, Ok};
 ghost use Rattle.std.specs.List.{AllPass, list_all};
-ghost use Rattle.hex.specs.Hex.{decode_pairs, hex_digit_value, is_hex_digit, pair_value};
+ghost use Rattle.hex.specs.Hex.{decode_pairs, is_hex_digit, pair_value};
 ghost use Rattle.geos_model.specs.Script as script;
 ghost use Rattle.geos_model.specs.declared.fault.Fault.TheVariants as faults;
 ghost use Rattle.geos_shell.specs.Reading.{ReadsAs, has_bytes};
@@ -155,22 +155,16 @@ fn are_digits(word: &[u8]) -> bool
     all
 }
 
-// A letter's low four bits are 1 to 6, and the bit for 64 is set in letters alone.
-#[inline(always)]
-fn value_of(digit: u8) -> u8
-    requires { is_hex_digit digit ≡ true }
-    ensures { hex_digit_value digit ≡ Some result }
-{
-    digit % 16 + 9 * (digit / 64)
-}
-
-/// The byte of two digits.
+/// The byte of two digits. They are one word, whose bytes become their values, since of words the compiler takes eight at
+/// a time. A letter's low four bits are 1 to 6, and the bit for 64 is set in letters alone.
 #[inline(always)]
 fn byte_of(high: u8, low: u8) -> u8
     requires { (is_hex_digit high ≡ true) × (is_hex_digit low ≡ true) }
     ensures { (i : ℕ) → pair_value high low i ≡ Ok result }
 {
-    16 * value_of(high) + value_of(low)
+    let digits = u16::from_le_bytes([high, low]);
+    let values = (digits & 0x0F0F) + 9 * (digits / 64 & 0x0101);
+    ((16 * values + values / 256) % 256) as u8
 }
 
 /// Writes the bytes that pairs of digits spell.

@@ -16,8 +16,8 @@ const LONGEST_LINE: usize = 140_000;
 /// One word more than the longest command has: more words are no command, however many.
 const MOST_WORDS: usize = 7;
 
-/// How many bytes `memchr3` tests at once; fewer it tests one by one.
-const VECTOR: usize = 32;
+/// How many bytes of a word are tested one by one: most words have fewer.
+const SHORT: usize = 8;
 
 /// The command that a line is, without its line feed. A line that is none, or longer than 140,000 bytes, is a
 /// BadCommand. Only for the bytes that a command is given is memory taken.
@@ -81,10 +81,12 @@ fn word_len(text: &[u8]) -> usize
     ensures before { (k : ℕ) → k < result → script.is_blank (slice_index text.now k) ≡ false }
     ensures ends { result < length text.now → script.is_blank (slice_index text.now result) ≡ true }
 {
-    if text.len() < VECTOR {
-        return run_of(false, text);
+    let front = text.len().min(SHORT);
+    let end = run_of(false, &text[..front]);
+    if end < SHORT {
+        return end;
     }
-    long_word_len(text)
+    SHORT + long_word_len(&text[SHORT..])
 }
 
 // Never inlined, since it would set up its vectors for each word.
