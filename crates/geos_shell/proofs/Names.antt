@@ -1,8 +1,10 @@
 -- The name that a line begins with.
-use Rattle.std.proofs.Common.{cond, nat_eq, ◌==◌, ◌&&◌, ◌≡◌, ℕ, true, false, List, [], ◌∷◌, take, map, refl, sym, ap, ◌∙◌, arith}
+use Rattle.std.proofs.Common.{cond, nat_eq, ◌==◌, ◌&&◌, ◌≡◌, ◌+◌, ◌<◌, ◌≤◌, ℕ, true, false, List, [], ◌∷◌, length, slice_index, take, drop, map, refl, sym, ap, ◌∙◌, arith}
 use Rattle.std.specs.Borrow.{Bor}
 use Rattle.std.proofs.lemmas.Bool.Decides.{nat_tests}
+use Rattle.std.proofs.lemmas.List.{drop_all, drop_more}
 use Rattle.std.specs.List.{starts_with}
+use Rattle.geos_model.specs.Bytes.{same_bytes}
 use Rattle.geos_model.specs.Script.{command_of_words}
 use Rattle.geos_shell.specs.Making.{named_from}
 
@@ -38,3 +40,12 @@ first_named name first (word ∷ words) h front =
 pub named_by_first : (all : List (Bor (List ℕ))) (name : Bor (List ℕ)) (first : List (Bor (List ℕ))) (words : List (List ℕ)) → all ≡ name ∷ first
     → false ≡ starts_with nat_eq name.now (35 ∷ []) → map (λ (w : Bor (List ℕ)). w.now) all ≡ take 7 words → NamedByFirst name.now first words
 named_by_first all name first words e h front = first_named name first words h (ap (map (λ (w : Bor (List ℕ)). w.now)) (sym e) ∙ front)
+
+-- two texts that have one more byte the same are the same where their rests are
+pub same_rest : (xs ys : List ℕ) (i : ℕ) → i < length xs → i < length ys → slice_index xs i ≡ slice_index ys i
+    → same_bytes (drop i xs) (drop i ys) ≡ same_bytes (drop (i + 1) xs) (drop (i + 1) ys)
+same_rest xs ys i in_xs in_ys same = rw (drop_more xs i 0 in_xs, drop_more ys i 0 in_ys) (grind (arith, nat_tests, same))
+
+-- and with no more bytes they are
+pub same_at_end : (xs ys : List ℕ) (i : ℕ) → length xs ≤ i → length ys ≤ i → true ≡ same_bytes (drop i xs) (drop i ys)
+same_at_end xs ys i end_xs end_ys = rw (drop_all i xs end_xs, drop_all i ys end_ys) refl

@@ -66,15 +66,20 @@ solid_front xs rest n ends is some =
     let first : slice_index rest 0 ≡ slice_index xs n = rw is (rw get_or-drop (rw add-zero)) in
     rw first (ends (omega (arith, ap length is, length-drop n xs)))
 
--- The words of a line that begins with no blank are the bytes up to the first blank, and the words behind the blanks there.
+-- a word has bytes where a text begins with no blank
+pub word_some : (xs : List ℕ) (end : ℕ) → 0 < length xs → is_blank (slice_index xs 0) ≡ false
+    → (end < length xs → is_blank (slice_index xs end) ≡ true) → 0 < end
+word_some xs end some solid stops =
+    elim (cases_eq end 0) [ inl none ↦ cc (sym (rw none at (stops (omega arith))) ∙ solid) | inr more ↦ omega arith ]
+
+-- The words of a text that begins with no blank are the bytes up to the first blank, and the words behind the blanks there.
 pub words-step : (xs tail rest : List ℕ) (end skip : ℕ) → 0 < length xs → is_blank (slice_index xs 0) ≡ false
     → end ≤ length xs → ((k : ℕ) → k < end → is_blank (slice_index xs k) ≡ false) → (end < length xs → is_blank (slice_index xs end) ≡ true)
     → tail ≡ drop end xs → skip ≤ length tail → ((k : ℕ) → k < skip → is_blank (slice_index tail k) ≡ true) → rest ≡ drop skip tail
     → words xs ≡ take end xs ∷ words rest
 words-step xs tail rest end skip some solid fits word stops is_tail few blanks is_rest =
-    let more : 0 < end = elim (cases_eq end 0) [ inl none ↦ cc (sym (rw none at (stops (omega arith))) ∙ solid) | inr more ↦ omega arith ] in
     let skipped : words (drop end xs) ≡ words rest = ap words (sym is_tail) ∙ words-skip tail skip few blanks ∙ ap words (sym is_rest) in
-    words-cut xs end more fits word stops ∙ ap (λ (ws : List (List ℕ)). take end xs ∷ ws) skipped
+    words-cut xs end (word_some xs end some solid stops) fits word stops ∙ ap (λ (ws : List (List ℕ)). take end xs ∷ ws) skipped
 
 -- one word more keeps the words so far and those of the rest the line's
 pub words-pushed : (old new : List (Bor (List ℕ))) (word : Bor (List ℕ)) (line rest after : List ℕ) → new ≡ old ++ word ∷ []

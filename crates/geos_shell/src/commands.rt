@@ -120,12 +120,22 @@ macro_rules! row_of {
     };
 }
 
-// Inlined, so that a name costs a compare or two of its length and its first bytes.
+// Inlined, so that a name costs a compare or two of its length and its first bytes: a comparison of slices is a call where
+// the first bytes are the same.
 #[inline(always)]
 fn is(name: &[u8], text: &str) -> bool
     ensures { result ≡ same_bytes name.now text.now }
 {
-    name == text.as_bytes()
+    let text = text.as_bytes();
+    if name.len() != text.len() {
+        return false;
+    }
+    for i in 0..text.len() {
+        if name[i] != text[i] {
+            return false;
+        }
+    }
+    true
 }
 
 /// Puts the command that a name and its operands are in its place.

@@ -1,5 +1,5 @@
 //! A line of a script as a command: its words, the first of which is a name.
-ghost use Rattle.std.specs.Prelude.{◌≡◌, ◌⊎◌, ◌↔◌, ◌<◌, ◌≤◌, None, Some, IfOk, IfErr, OnOk, IsSomeAnd, IsTrue, List, ℕ, length, false, map, not, slice_index, true, take};
+ghost use Rattle.std.specs.Prelude.{◌≡◌, ◌∷◌, ◌⊎◌, ◌↔◌, ◌<◌, ◌≤◌, None, Some, IfOk, IfErr, OnOk, IsSomeAnd, IsTrue, List, ℕ, length, false, map, not, slice_index, true, take};
 ghost use Rattle.geos_model.specs.Script.{command};
 ghost use Rattle.geos_model.specs.Script as script;
 ghost use Rattle.geos_shell.specs.Reading.{ReadsAs, command_has_bytes, putting};
@@ -107,6 +107,21 @@ fn is_blank(byte: u8) -> bool
     byte == b' ' || byte == b'\t' || byte == b'\r'
 }
 
+/// The word that a text begins with, and the text from the next word on.
+// Never inlined, since it would be written out for each word that a command may have.
+#[inline(never)]
+fn split_word<'a>(text: &'a [u8]) -> (&'a [u8], &'a [u8])
+    requires some { 0 < length text.now }
+    requires solid { script.is_blank (slice_index text.now 0) ≡ false }
+    ensures words { script.words text.now ≡ result.0.now ∷ script.words result.1.now }
+    ensures solid { 0 < length result.1.now → script.is_blank (slice_index result.1.now 0) ≡ false }
+    ensures shorter { length result.1.now < length text.now }
+{
+    let end = word_len(text);
+    let tail = &text[end..];
+    (&text[..end], &tail[run_of(true, tail)..])
+}
+
 /// The first of the longest runs of bytes that aren't blanks, at most so many.
 fn first_words<'a>(line: &'a [u8]) -> ArrayVec<&'a [u8], MOST_WORDS>
     ensures { map (λ w. w.now) result.items ≡ take MOST_WORDS (script.words line.now) }
@@ -114,10 +129,9 @@ fn first_words<'a>(line: &'a [u8]) -> ArrayVec<&'a [u8], MOST_WORDS>
     let mut words = ArrayVec::new();
     let mut rest = &line[run_of(true, line)..];
     while !rest.is_empty() && !words.is_full() {
-        let end = word_len(rest);
-        words.push(&rest[..end]);
-        let tail = &rest[end..];
-        rest = &tail[run_of(true, tail)..];
+        let (word, tail) = split_word(rest);
+        words.push(word);
+        rest = tail;
     }
     words
 }

@@ -1,8 +1,8 @@
-use Rattle.std.proofs.Common.{◌≡◌, sym, ◌∙◌, ap, ◌-◌, ◌<◌, List, ℕ, Bor, map, length, take, drop, arith}
+use Rattle.std.proofs.Common.{◌≡◌, ◌∙◌, ◌<◌, sym, ap, List, ℕ, Bor, map, length, take, arith}
 use Rattle.std.proofs.lemmas.List.{length-map, take_at}
 use Rattle.std.proofs.lemmas.Bool.Decides.{nat_tests}
 use Rattle.geos_model.specs.Script.{words}
-use Rattle.geos_shell.proofs.Words.{solid_front, words-skip, words-step, words-pushed, take_rest}
+use Rattle.geos_shell.proofs.Words.{solid_front, words-skip, words-pushed, take_rest}
 use Rattle.geos_shell.proofs.parser.first_words.Goals as goal
 
 pub loop-words-init : goal.loop-words-init
@@ -17,20 +17,12 @@ loop-words-init c =
 
 pub loop-words-preserved : goal.loop-words-preserved
 loop-words-preserved c =
-    let xs = c.loop-words.rest.now in
-    let end = c.word_len-end.result in
-    let tail : List ℕ = take (length xs - end) (drop end xs) in
-    let skip = c.run_of-in-loop-words.result in
-    let rest : List ℕ = take (length tail - skip) (drop skip tail) in
-    let some : 0 < length xs = grind (arith, nat_tests) in
+    let split = c.split_word.ensures in
     let room : length c.loop-words.words.items < 7 = grind (arith, nat_tests) in
-    let word = c.word_len-end.ensures in
-    let blanks = c.run_of-in-loop-words.ensures in
-    let step = words-step xs tail rest end skip some (c.loop-words.invariant.solid some) word.within word.before word.ends (take_rest xs end) blanks.within blanks.before (take_rest tail skip) in
     record {
-      all = words-pushed c.loop-words.words.items c.push.new.self.items _ c.args.line.now xs rest c.push.ensures.items c.loop-words.invariant.all step;
+      all = words-pushed c.loop-words.words.items c.push.new.self.items _ c.args.line.now c.loop-words.rest.now c.split_word.result.1.now c.push.ensures.items c.loop-words.invariant.all split.words;
       few = omega arith;
-      solid = solid_front tail rest skip blanks.ends (take_rest tail skip);
+      solid = split.solid;
     }
 
 -- There is no further word, or there are as many as are wanted.
