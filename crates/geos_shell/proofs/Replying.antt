@@ -108,6 +108,14 @@ module _ {S T E A : Type 0} (facts : S → StoreFacts) (put : Result T E) (c : C
   pub replied_mapped : (old new : Holding S) → ServesRequest facts old (Some c) (reply_by f r) new → Replied put facts old c new before after
   replied_mapped old new serves = replied facts put old new c (reply_by f r) before after serves put_so
 
+-- a look-up that is never refused and calls no store, whose answer is made a reply, and that put
+pub told_given_at_rest : {S T E : Type 0} (facts : S → StoreFacts) (put : Result T E) (c : Command) (reply : Reply) (made : GivenReply → Type 0) (m : Result GivenReply Fault)
+    (before after : List ℕ) → IsOkAnd m made → ((y : GivenReply) → made y → reply_of y ≡ reply) → OnOk put (after ≡ before ++ reply_text (reply_by reply_of m))
+    → (s : SessionState S) → ((target : Bool) → Step false (machine_of target s) (Some c) reply (machine_of target s)) → Told put facts s c s before after
+told_given_at_rest facts put c reply made (Ok y) before after is same said s step =
+    told_at_rest facts put c reply before after s step (subst (λ (x : Reply). OnOk put (after ≡ before ++ reply_text x)) (same y is) said)
+told_given_at_rest facts put c reply made (Err e) before after is same said s step = absurd is
+
 module _ {S : Type 0} (facts : S → StoreFacts) (old new : Holding S) where
   -- a command that gets a reply, whose reply line is put
   responds_some : (c : Command) (reply : Reply) (before after : List ℕ) → (c ≡ commands.Blank → ⊥) → ServesRequest facts old (Some c) reply new → after ≡ before ++ reply_line reply

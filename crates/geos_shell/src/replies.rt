@@ -4,7 +4,7 @@ ghost use Rattle.geos_model.specs.Reply.{Accepted, reply_by};
 ghost use Rattle.geos_model.specs.Script.{command, reply_text};
 ghost use Rattle.geos_model.specs.declared.command.Command.TheVariants as commands;
 ghost use Rattle.geos_shell.specs.Holdings.{AreExact, MayServe, ServesRequest, holding};
-ghost use Rattle.geos_shell.specs.Replies.{Extends, Replied, Responds, Told, asks_no_body, is_look_up};
+ghost use Rattle.geos_shell.specs.Replies.{Extends, Puts, Replied, Responds, Told, asks_no_body, is_look_up};
 
 use crate::parser::read_command;
 use crate::text::push_reply;
@@ -13,15 +13,33 @@ use std::alloc::{AllocError, Global};
 use undo_log::Session;
 use vm_store::Store;
 
-// Puts the reply behind `out` that the row of what is asked makes. Each row does so itself, since the session may have
-// lent it bytes.
-macro_rules! push_reply_to {
-    ($out:expr, $asked:expr; $($row:pat => $reply:expr,)*) => {
+// Puts the answer behind `out` of the row for what is asked, made a reply. Each row does so itself, since the session may
+// have lent it bytes.
+macro_rules! push_answer_to {
+    ($out:expr, $asked:expr; $($row:pat => $answer:expr, $make:expr;)*) => {
         match $asked {
-            $($row => push_reply($out, $reply),)*
+            $($row => push_answer($out, $answer, $make),)*
             _ => unreachable!(),
         }
     };
+}
+
+// Puts an answer behind `out`, made a reply. Never inlined: else each row of a table has a place for its reply, and all
+// are set to zero on the way to any of them.
+#[inline(never)]
+fn push_answer<'a, T, F: FnOnce(T) -> Reply<'a> + Drop>(
+    out: &mut Vec<u8>,
+    answer: Result<T, Fault>,
+    make: F,
+) -> Result<(), AllocError>
+    requires { F.IsAlwaysCallable make }
+    ensures puts { Puts (F.post make) answer result out.old.items out.new.items }
+    ensures err { OnErr result (Extends out.old.items out.new.items) }
+{
+    match answer {
+        Ok(given) => push_reply(out, Ok(make(given))),
+        Err(fault) => push_reply(out, Err(fault)),
+    }
 }
 
 // Puts the reply to a look-up behind `out`, without its line feed.
@@ -35,37 +53,37 @@ fn push_look_up<S: Store>(
     ensures stays { asks_no_body look_up.now ≡ true → session.new ≡ session.old }
     ensures err { OnErr result (Extends out.old.items out.new.items) }
 {
-    push_reply_to! { out, look_up;
-        Command::Info(block) => session.info(*block).map(|info| Reply::Info(info)),
-        Command::HeapType(block) => session.heap_type(*block).map(|n| Reply::Number(u64::from(n))),
-        Command::List => session.list().map(|blocks| Reply::Blocks(blocks)),
-        Command::Find(user_id, start) => Ok(Reply::Block(session.find(*user_id, *start).unwrap_or(VmHandle(0)))),
-        Command::MapBlock => Ok(Reply::Block(session.map_block())),
-        Command::ReadRaw(block) => session.read_raw(*block).map(Reply::Bytes),
-        Command::Chunks(block) => session.chunks(*block).map(|chunks| Reply::Chunks(chunks)),
-        Command::Read(block, chunk) => session.read_chunk(*block, *chunk).map(Reply::Bytes),
-        Command::ArrayCount(block, chunk) => session.array_count(*block, *chunk).map(|n| Reply::Number(n as u64)),
-        Command::ArrayElement(block, chunk, i) => session.array_element(*block, *chunk, *i).map(Reply::Bytes),
+    push_answer_to! { out, look_up;
+        Command::Info(block) => session.info(*block), |info| Reply::Info(info);
+        Command::HeapType(block) => session.heap_type(*block), |n| Reply::Number(u64::from(n));
+        Command::List => session.list(), |blocks| Reply::Blocks(blocks);
+        Command::Find(user_id, start) =>
+            Ok(session.find(*user_id, *start).unwrap_or(VmHandle(0))), |block| Reply::Block(block);
+        Command::MapBlock => Ok(session.map_block()), |block| Reply::Block(block);
+        Command::ReadRaw(block) => session.read_raw(*block), Reply::Bytes;
+        Command::Chunks(block) => session.chunks(*block), |chunks| Reply::Chunks(chunks);
+        Command::Read(block, chunk) => session.read_chunk(*block, *chunk), Reply::Bytes;
+        Command::ArrayCount(block, chunk) => session.array_count(*block, *chunk), |n| Reply::Number(n as u64);
+        Command::ArrayElement(block, chunk, i) => session.array_element(*block, *chunk, *i), Reply::Bytes;
         Command::ElementReferences(block, chunk, token) =>
-            session.element_refs(*block, *chunk, *token).map(|n| Reply::Number(u64::from(n))),
-        Command::ElementBytes(block, chunk, token) => session.element_bytes(*block, *chunk, *token).map(Reply::Bytes),
-        Command::ElementsUsed(block, chunk) => session.elements_used(*block, *chunk).map(|n| Reply::Number(n as u64)),
+            session.element_refs(*block, *chunk, *token), |n| Reply::Number(u64::from(n));
+        Command::ElementBytes(block, chunk, token) => session.element_bytes(*block, *chunk, *token), Reply::Bytes;
+        Command::ElementsUsed(block, chunk) => session.elements_used(*block, *chunk), |n| Reply::Number(n as u64);
         Command::TokenOfUsed(block, chunk, k) =>
-            session.token_of_used(*block, *chunk, *k).map(|token| Reply::Token(token)),
+            session.token_of_used(*block, *chunk, *k), |token| Reply::Token(token);
         Command::UsedOfToken(block, chunk, token) =>
-            session.used_of_token(*block, *chunk, *token).map(|n| Reply::Number(n as u64)),
-        Command::NameFind(block, chunk, name) =>
-            session.name_find(*block, *chunk, name).map(|token| Reply::Token(token)),
+            session.used_of_token(*block, *chunk, *token), |n| Reply::Number(n as u64);
+        Command::NameFind(block, chunk, name) => session.name_find(*block, *chunk, name), |token| Reply::Token(token);
         Command::NameReferences(block, chunk, token) =>
-            session.name_refs(*block, *chunk, *token).map(|n| Reply::Number(u64::from(n))),
-        Command::NameText(block, chunk, token) => session.name_text(*block, *chunk, *token).map(Reply::Bytes),
-        Command::NamePart(block, chunk, token) => session.name_part(*block, *chunk, *token).map(Reply::Bytes),
-        Command::Locks(block) => session.locks(*block).map(|n| Reply::Number(u64::from(n))),
-        Command::Walk(root) => session.walk(*root).map(|blocks| Reply::Blocks(blocks)),
-        Command::ChainSize(root) => session.chain_size(*root).map(|n| Reply::Number(u64::from(n))),
-        Command::ChainEqual(first, second) => session.chain_equal(*first, *second).map(|equal| Reply::Equal(equal)),
-        Command::Undos => Ok(Reply::Number(session.undo_count() as u64)),
-        Command::Redos => Ok(Reply::Number(session.redo_count() as u64)),
+            session.name_refs(*block, *chunk, *token), |n| Reply::Number(u64::from(n));
+        Command::NameText(block, chunk, token) => session.name_text(*block, *chunk, *token), Reply::Bytes;
+        Command::NamePart(block, chunk, token) => session.name_part(*block, *chunk, *token), Reply::Bytes;
+        Command::Locks(block) => session.locks(*block), |n| Reply::Number(u64::from(n));
+        Command::Walk(root) => session.walk(*root), |blocks| Reply::Blocks(blocks);
+        Command::ChainSize(root) => session.chain_size(*root), |n| Reply::Number(u64::from(n));
+        Command::ChainEqual(first, second) => session.chain_equal(*first, *second), |equal| Reply::Equal(equal);
+        Command::Undos => Ok(session.undo_count()), |n| Reply::Number(n as u64);
+        Command::Redos => Ok(session.redo_count()), |n| Reply::Number(n as u64);
     }
 }
 
