@@ -92,7 +92,7 @@ fn write_with_gate_shut<S: Store>(
     write_slots(store, directory)
 }
 
-// Opens the gate of slot 0.
+// Opens the gate of slot 0, with which the file is a document.
 fn open_first<S: Store>(store: &mut S) -> Result<(), StoreFault>
     ensures honest { (S.facts store.new).honest ≡ (S.facts store.old).honest }
     ensures failures { Counts result (S.facts store.old) (S.facts store.new) }
@@ -101,7 +101,7 @@ fn open_first<S: Store>(store: &mut S) -> Result<(), StoreFault>
     ensures durable { OnOk result (IsTrue (S.facts store.old).honest → IsDurable (S.facts store.new)) }
 {
     store.write_at(4, &[1])?;
-    store.sync()
+    store.settle()
 }
 
 /// Writes the directory and the slots of a first file, whose images lie there: both gates are shut until all of it is

@@ -77,6 +77,8 @@ WritesPart at bytes (Err Failed) old new = Unit {0}
 
 -- what the calls of a system do, from one state of it to another
 pub record SystemCalls (S H F : Type 0) : Type 1 where
+  -- the standard streams are guarded, or can't be
+  pub guards : S → Result (Unit {0}) SystemFault → S → Type 0
   -- the file at a path is opened, and made before, empty, if it is missing and that is asked; by what is given its
   -- bytes can't be touched
   pub opens : S → List ℕ → Bool → Result H SystemFault → S → Type 0
@@ -84,6 +86,8 @@ pub record SystemCalls (S H F : Type 0) : Type 1 where
   pub syncs_folder : S → List ℕ → Result (Unit {0}) SystemFault → S → Type 0
   -- what was opened is locked against every other open of it, and from then on it is a file
   pub locks : S → H → Result F SystemFault → S → Type 0
+  -- a file is closed, and nothing else is done with it
+  pub closes : S → F → S → Type 0
 
 -- in each of these states, the newest first, a call was made and interrupted
 abbrev pub AreInterrupted : {S T : Type 0} → (S → Result T SystemFault → S → Type 0) → S → List S → S → Type 0

@@ -4,35 +4,139 @@
 ghost use Rattle.std.specs.Prelude.{◌≡◌, ◌≤◌, length, IfOk};
 ghost use Rattle.vm_store.specs.HostSystem.{host_system_facts, host_system_timely};
 
+use crate::beside::{Beside, has_no_place, lies_at, make_beside};
+use crate::paths::{folder_of, followed};
 use crate::{System, SystemFault, SystemFile};
 use std::fs::{File, OpenOptions, TryLockError};
 use std::io;
+use std::mem::replace;
 use std::os::unix::fs::FileExt;
-use std::path::Path;
+use std::path::PathBuf;
+
+/// The file that is empty, and takes nothing where it is opened to be read.
+const NULL: &str = "/dev/null";
 
 /// The host's own files and folders.
 #[derive(Drop)]
 pub struct HostSystem {
     rt: HostRuntime,
+    guards: Option<Guards>,
 }
+
+/// What takes the places of standard streams that are closed.
+#[derive(Drop)]
+struct Guards(File, File, File);
 
 /// A file of the host that was opened and isn't locked.
 #[derive(Drop)]
 pub struct HostHandle {
     file: File,
+    path: PathBuf,
+    make: bool,
 }
 
 /// A file of the host, locked against every other open of it.
+///
+/// One that was opened to be made anew, and isn't empty, is left as it is when all of it is cut: the new one is made
+/// beside it, and takes its place when it settles. Where that can't be, as of a file with several names, the old one is
+/// cut.
 #[derive(Drop)]
 pub struct HostFile {
+    rt: HostRuntime,
     file: File,
+    place: Place,
+}
+
+/// Where a file lies.
+#[derive(Drop)]
+enum Place {
+    /// At its path, to stay there.
+    Settled,
+    /// At this path, until all of it is cut.
+    Old(PathBuf),
+    /// Beside the one whose place it is to take.
+    Beside(Beside),
 }
 
 impl HostSystem {
     /// The system that the runtime stands on.
     pub fn new(rt: HostRuntime) -> HostSystem {
-        HostSystem { rt }
+        HostSystem { rt, guards: None }
     }
+
+    // The folder in which the file of a path lies, or will lie once it is made.
+    fn open_folder(&self, path: &str) -> io::Result<File> {
+        let path = PathBuf::from_str(self.rt.alloc(), path)?;
+        File::open(&self.rt, folder_of(&followed(&self.rt, &path)?))
+    }
+
+    fn open_file(&self, path: &str, make: bool) -> io::Result<HostHandle> {
+        let mut options = OpenOptions::new();
+        options.read(true).write(true).create(make);
+        let file = options.open(&self.rt, path)?;
+        let path = PathBuf::from_str(self.rt.alloc(), path)?;
+        Ok(HostHandle { file, path, make })
+    }
+
+    // What was locked may have been another file by then: whoever made it anew had the lock until now.
+    fn hold(&self, handle: HostHandle) -> io::Result<HostFile> {
+        let HostHandle { file, path, make } = handle;
+        if !lies_at(&self.rt, &file, &path)? {
+            return Err(io::Error::from(io::ErrorKind::WouldBlock));
+        }
+        let place = if make && file.metadata()?.len() > 0 {
+            Place::Old(path)
+        } else {
+            Place::Settled
+        };
+        Ok(HostFile {
+            rt: self.rt,
+            file,
+            place,
+        })
+    }
+}
+
+impl HostFile {
+    // Goes on in an empty file beside the old one, where that can be.
+    fn begin_anew(&mut self) -> io::Result<()> {
+        match replace(&mut self.place, Place::Settled) {
+            Place::Old(path) => match make_beside(&self.rt, &self.file, &path) {
+                Ok((file, names)) => {
+                    let old = replace(&mut self.file, file);
+                    self.place = Place::Beside(Beside::new(old, names));
+                    Ok(())
+                }
+                Err(error) if has_no_place(error.kind()) => Ok(()),
+                Err(error) => {
+                    self.place = Place::Old(path);
+                    Err(error)
+                }
+            },
+            place => {
+                self.place = place;
+                Ok(())
+            }
+        }
+    }
+
+    // The names in the folder are synced once more, since one of them leads to another file now.
+    fn take_place(&mut self) -> io::Result<()> {
+        let Place::Beside(beside) = &self.place else {
+            return Ok(());
+        };
+        beside.take_place(&self.rt)?;
+        let folder = File::open(&self.rt, folder_of(beside.path()));
+        self.place = Place::Settled;
+        folder?.sync_all()
+    }
+}
+
+fn open_guards(rt: &HostRuntime) -> io::Result<Guards> {
+    let first = File::open(rt, NULL)?;
+    let second = File::open(rt, NULL)?;
+    let third = File::open(rt, NULL)?;
+    Ok(Guards(first, second, third))
 }
 
 fn fault(error: io::Error) -> SystemFault {
@@ -47,36 +151,51 @@ impl System<HostFile> for HostSystem {
 
     // Of what the machine does nothing is known.
     ghost calls = { record {
+      guards = λ old result new. Unit {0};
       opens = λ old path make result new. Unit {0};
       syncs_folder = λ old path result new. Unit {0};
       locks = λ old handle result new. Unit {0};
+      closes = λ old file new. Unit {0};
     } };
 
-    fn open(&mut self, path: &str, make: bool) -> Result<HostHandle, SystemFault> {
-        let mut options = OpenOptions::new();
-        options.read(true).write(true).create(make);
-        match options.open(&self.rt, path) {
-            Ok(file) => Ok(HostHandle { file }),
-            Err(error) => Err(fault(error)),
+    // The machine gives a file that is opened the least number that is free, so that where a standard stream is closed
+    // the next file would be taken for it. From a closed standard input a script of no line is read then, and nothing
+    // can be written to a closed standard output or standard error.
+    fn guard_streams(&mut self) -> Result<(), SystemFault> {
+        if self.guards.is_none() {
+            self.guards = Some(open_guards(&self.rt).map_err(fault)?);
         }
+        Ok(())
+    }
+
+    // No file is made in a folder that can't be synced afterwards.
+    fn open(&mut self, path: &str, make: bool) -> Result<HostHandle, SystemFault> {
+        if make {
+            self.open_folder(path).map_err(fault)?;
+        }
+        self.open_file(path, make).map_err(fault)
     }
 
     fn sync_folder(&mut self, path: &str) -> Result<(), SystemFault> {
-        let folder = match Path::new(path).parent() {
-            Some(folder) if !folder.as_str().is_empty() => folder,
-            _ => Path::new("."),
-        };
-        File::open(&self.rt, folder)
+        self.open_folder(path)
             .and_then(|folder| folder.sync_all())
             .map_err(fault)
     }
 
     fn lock(&mut self, handle: HostHandle) -> Result<HostFile, SystemFault> {
         match handle.file.try_lock() {
-            Ok(()) => Ok(HostFile { file: handle.file }),
+            Ok(()) => self.hold(handle).map_err(fault),
             Err(TryLockError::WouldBlock) => Err(SystemFault::Failed),
             Err(TryLockError::Error(error)) => Err(fault(error)),
         }
+    }
+
+    fn close(&mut self, file: HostFile) {
+        let HostFile { file, place, .. } = file;
+        if let Place::Beside(beside) = place {
+            beside.give_up(&self.rt);
+        }
+        drop(file);
     }
 }
 
@@ -106,10 +225,18 @@ impl SystemFile for HostFile {
     }
 
     fn set_len(&mut self, n: u64) -> Result<(), SystemFault> {
+        if n == 0 {
+            self.begin_anew().map_err(fault)?;
+        }
         self.file.set_len(n).map_err(fault)
     }
 
     fn sync(&mut self) -> Result<(), SystemFault> {
         self.file.sync_all().map_err(fault)
+    }
+
+    fn settle(&mut self) -> Result<(), SystemFault> {
+        self.file.sync_all().map_err(fault)?;
+        self.take_place().map_err(fault)
     }
 }

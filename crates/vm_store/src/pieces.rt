@@ -182,8 +182,8 @@ pub struct PiecewiseHandle {
     store: MemStore,
 }
 
-/// A system in memory with one file, for tests, whatever its path. Its calls are interrupted as the file's are. Of
-/// those that aren't, the first `passes` succeed, and then all fail.
+/// A system in memory with one file, for tests, whatever its path, which can be opened while it isn't open. Its calls
+/// are interrupted as the file's are. Of those that aren't, the first `passes` succeed, and then all fail.
 #[derive(Drop)]
 pub struct PiecewiseSystem {
     store: Option<MemStore>,
@@ -194,7 +194,7 @@ pub struct PiecewiseSystem {
 }
 
 impl PiecewiseSystem {
-    /// The file has what the store holds, and can be opened once.
+    /// The file has what the store holds.
     pub fn new(store: MemStore, pace: Pace, passes: u64) -> PiecewiseSystem
         ensures { result ≡ record { store = Some store; pace = pace; passes = passes; calls = 0; served = 0 } }
     {
@@ -236,12 +236,18 @@ impl System<PiecewiseFile> for PiecewiseSystem {
     type Handle = PiecewiseHandle;
 
     ghost calls = { record {
+      guards = λ old result new. new ≡ old;
       opens = λ old path make result new. IfOk result
           (λ handle. (old.store ≡ Some handle.store) × (new.served ≡ raised old.served));
       syncs_folder = λ old path result new. OnOk result (new.served ≡ raised old.served);
       locks = λ old handle result new. IfOk result
           (λ file. (file.store ≡ handle.store) × (new.served ≡ raised old.served));
+      closes = λ old file new. new ≡ record old { store = Some file.store };
     } };
+
+    fn guard_streams(&mut self) -> Result<(), SystemFault> {
+        Ok(())
+    }
 
     fn open(&mut self, _path: &str, _make: bool) -> Result<PiecewiseHandle, SystemFault> {
         self.serve()?;
@@ -258,5 +264,10 @@ impl System<PiecewiseFile> for PiecewiseSystem {
     fn lock(&mut self, handle: PiecewiseHandle) -> Result<PiecewiseFile, SystemFault> {
         self.pass()?;
         Ok(PiecewiseFile::new(handle.store, self.pace))
+    }
+
+    /// It can be opened again.
+    fn close(&mut self, file: PiecewiseFile) {
+        self.store = Some(file.store);
     }
 }

@@ -80,6 +80,21 @@ pub trait SystemFile: Drop {
         ensures durable { OnOk result (IsTrue (facts self.old).store.honest → (facts self.old).has_failed_sync ≡ false
             → IsDurable (facts self.new).store) };
 
+    /// Syncs a file whose content is whole from now on: one that was made beside the file of a path takes its place. Any
+    /// other does what a sync does.
+    fn settle(&mut self) -> Result<(), SystemFault>
+        ensures honest { (facts self.new).store.honest ≡ (facts self.old).store.honest }
+        ensures told { IsTrue (facts self.old).store.honest → CountsFailure result (facts self.old) (facts self.new) }
+        ensures unchanged { IsTrue (facts self.old).store.honest
+            → IsUnchanged (facts self.old).store (facts self.new).store }
+        ensures syncs { (HasFailed result → ⊥) → IsTrue (facts self.old).store.honest
+            → (facts self.new).has_failed_sync ≡ (facts self.old).has_failed_sync }
+        ensures durable { OnOk result (IsTrue (facts self.old).store.honest → (facts self.old).has_failed_sync ≡ false
+            → IsDurable (facts self.new).store) }
+    {
+        self.sync()
+    }
+
     ghost timely: { (s : Self) → IsTrue (facts s).store.honest → IsTimely (facts s).store };
 }
 
@@ -90,6 +105,11 @@ pub trait System<F: SystemFile> {
     type Handle: Drop;
 
     ghost calls: { SystemCalls Self (Self.Handle) F };
+
+    /// Makes sure that no file that is opened from now on is taken for standard input, standard output or standard
+    /// error, also where these are closed.
+    fn guard_streams(&mut self) -> Result<(), SystemFault>
+        ensures { calls.guards self.old result self.new };
 
     /// Opens the file at a path to be read and written. A missing one is made, empty, where `make` is true.
     fn open(&mut self, path: &str, make: bool) -> Result<Self::Handle, SystemFault>
@@ -105,4 +125,8 @@ pub trait System<F: SystemFile> {
         ensures locks { calls.locks self.old handle result self.new }
         ensures syncs { IfOk result
             (λ file. IsTrue (F.facts file).store.honest → (F.facts file).has_failed_sync ≡ false) };
+
+    /// Closes a file that was locked, which gives up its lock and leaves its bytes as they are.
+    fn close(&mut self, file: F)
+        ensures { calls.closes self.old file self.new };
 }
