@@ -89,56 +89,6 @@ lowered_more start end x old new order l some raised page = elim (cases_eq page 
       omega (arith, before, same, now)
 ]
 
--- The search for a run: the pages from `start` to before `page` are free, and no run begins before `start`.
-pub record Searched (counts : List ℕ) (from n start page : ℕ) : Type 0 where
-  pub from_on : from ≤ start
-  pub order : start ≤ page
-  pub within : page ≤ start + n
-  pub near : page ≤ from + length counts
-  pub free : (k : ℕ) → start ≤ k → k < page → get_or counts k 0 ≡ 0
-  pub first : (q : ℕ) → from ≤ q → q < start → IsRun counts n q → ⊥
-
-pub searched-start : (counts : List ℕ) (from n : ℕ) → Searched counts from n from from
-searched-start counts from n = record {
-  from_on = omega arith;
-  order = omega arith;
-  within = omega arith;
-  near = omega arith;
-  free = λ k low high. absurd (omega (arith, low, high));
-  first = λ q low high run. absurd (omega (arith, low, high));
-}
-
-pub searched-past : (counts : List ℕ) (from n start page : ℕ) → Searched counts from n start page → page < start + n → page < length counts → (get_or counts page 0 ≡ 0 → ⊥) → Searched counts from n (page + 1) (page + 1)
-searched-past counts from n start page is within l taken =
-    let low = is.from_on in
-    let order = is.order in
-    record {
-      from_on = omega (arith, low, order);
-      order = omega arith;
-      within = omega arith;
-      near = omega (arith, l);
-      free = λ k from_k high. absurd (omega (arith, from_k, high));
-      first = λ q from_q high run. elim (cases_lt q start) [
-        | inl before ↦ is.first q from_q before run
-        | inr past ↦ taken (run page (omega (arith, high)) (omega (arith, past, within)))
-      ];
-    }
-
-pub searched-on : (counts : List ℕ) (from n start page : ℕ) → Searched counts from n start page → page < start + n → page < length counts → get_or counts page 0 ≡ 0 → Searched counts from n start (page + 1)
-searched-on counts from n start page is within l free =
-    let order = is.order in
-    record {
-      from_on = is.from_on;
-      order = omega (arith, order);
-      within = omega (arith, within);
-      near = omega (arith, l);
-      free = λ k low high. elim (cases_lt k page) [
-        | inl before ↦ is.free k low before
-        | inr past ↦ (let at : k ≡ page = omega (arith, past, high) in ap (λ i. get_or counts i 0) at ∙ free)
-      ];
-      first = is.first;
-    }
-
 -- The search for the largest hint: that of so many pages, and of those for fewer the ones before `next`, were compared.
 pub record Compared (hints : List ℕ) (n next largest : ℕ) : Type 0 where
   pub one : (k : ℕ) × (k ≤ n) × (largest ≡ get_or hints k 0)

@@ -1,5 +1,5 @@
 //! The pages that are free while extents come and go: for each page on how many of the taken extents it lies.
-ghost use Rattle.std.specs.Prelude.{◌≡◌, ◌∷◌, [], ◌+◌, ◌^◌, ◌<◌, ◌≤◌, List, All, ℕ, length, min, replicate, false, IfOk, IsOk, OnOk, OnErr, slice_index};
+ghost use Rattle.std.specs.Prelude.{◌≡◌, ◌∷◌, [], ◌+◌, ◌^◌, ◌<◌, ◌≤◌, ◌≢◌, List, All, ℕ, length, min, replicate, false, IfOk, IsOk, OnOk, OnErr, slice_index, MatchOption};
 ghost use Rattle.geos_model.specs.File.{end_page};
 ghost use Rattle.geos_model.specs.declared.file.Extent.{Extent};
 ghost use Rattle.vm_space.specs.Placing.{IsFirstFit, IsLength};
@@ -180,19 +180,32 @@ fn largest_hint(hints: &[u32], pages: usize) -> u32
     largest
 }
 
-// The first page from one on at which so many are free.
+// The last page of a range that isn't free.
+fn last_taken(counts: &[u16], start: usize, end: usize) -> Option<usize>
+    requires { end ≤ length counts.now }
+    ensures { MatchOption result ((k : ℕ) → start ≤ k → k < end → slice_index counts.now k ≡ 0)
+        (λ page. (start ≤ page) × (page < end) × (slice_index counts.now page ≢ 0)) }
+{
+    let mut page = end;
+    while page > start {
+        page -= 1;
+        if counts[page] != 0 {
+            return Some(page);
+        }
+    }
+    None
+}
+
+// The first page from one on at which so many are free. Each look begins at the last page of a place, so that most pages
+// are passed over unseen.
 fn first_run(counts: &[u16], from: usize, pages: usize) -> usize
     requires near { from < 2 ^ 32 }
     requires few { pages ≤ MOST_PAGES }
     ensures { IsFirstRun counts.now from pages result }
 {
     let mut start = from;
-    let mut page = from;
-    while page < start + pages && page < counts.len() {
-        if counts[page] != 0 {
-            start = page + 1;
-        }
-        page += 1;
+    while let Some(page) = last_taken(counts, start, (start + pages).min(counts.len())) {
+        start = page + 1;
     }
     start
 }
