@@ -24,7 +24,7 @@ use crate::changing::drop_blocks;
 use crate::frame::{
     Frame, all_locked, body_in, has_locks, lock, locks_of, mark, mark_array, unlock, use_again,
 };
-use crate::loading::{bring, drop_all, flush};
+use crate::loading::{bring, flush};
 use crate::{BlockBody, committing, saving_as};
 use geos_model::{Attributes, ChunkHandle, Fault, VmHandle};
 use lmem_heap::{ArrayKind, Heap};
@@ -111,13 +111,6 @@ impl<S: Store> Cache<S> {
             file,
             frames,
         })
-    }
-
-    /// How many blocks may be in memory.
-    pub fn frames(&self) -> usize
-        ensures { result ≡ self.now.frames }
-    {
-        self.frames.cap().get()
     }
 
     /// Whether a block is in memory.
@@ -355,27 +348,6 @@ impl<S: Store> Cache<S> {
         ensures { self.new ≡ self.old }
     {
         mark(&mut self.frames, block.0, true);
-    }
-
-    /// Writes all blocks in memory that are changed to the file; they stay in memory. Where that is refused, some are
-    /// written, and the others are still changed. Memory, File.
-    pub fn flush(&mut self) -> Result<(), Fault>
-        ensures stays { KeepsDocument S.facts self.old self.new }
-        ensures resident { self.new.resident ≡ self.old.resident }
-        ensures fails { Fails S.facts NoFault self.old.disk.store self.new.disk.store result }
-    {
-        flush(self.alloc, &mut self.file, &mut self.frames)
-    }
-
-    /// Takes all blocks out of memory, the locked ones too; what is changed is written to the file first. Where that is
-    /// refused they stay. Memory, File.
-    pub fn drop_frames(&mut self) -> Result<(), Fault>
-        ensures stays { KeepsDocument S.facts self.old self.new }
-        ensures ok { OnOk result (self.new.resident ≡ []) }
-        ensures err { OnErr result (self.new.resident ≡ self.old.resident) }
-        ensures fails { Fails S.facts NoFault self.old.disk.store self.new.disk.store result }
-    {
-        drop_all(self.alloc, &mut self.file, &mut self.frames)
     }
 
     /// Marks the document as it is now, so that `roll_back` can bring it back: what is changed in memory is written to

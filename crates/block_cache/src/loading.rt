@@ -266,22 +266,3 @@ pub fn flush<S: Store>(
     }
     Ok(())
 }
-
-/// Frees all frames, the locked ones too, with each block that is changed written first; where that is refused they
-/// stay. Memory, File.
-pub fn drop_all<S: Store>(
-    alloc: Global,
-    file: &mut VmFile<S>,
-    frames: &mut LruCache<u16, Frame>,
-) -> Result<(), Fault>
-    requires kept { AreFramesOf (S.facts file.old.disk.store).honest file.old.document frames.old.entries }
-    ensures moves { KeepsOverlay S.facts file.old frames.old.entries file.new frames.new.entries }
-    ensures ok { OnOk result (residents frames.new.entries ≡ []) }
-    ensures err { OnErr result (residents frames.new.entries ≡ residents frames.old.entries) }
-    ensures cap { frames.new.cap ≡ frames.old.cap }
-    ensures fails { Fails S.facts NoFault file.old.disk.store file.new.disk.store result }
-{
-    flush(alloc, file, frames)?;
-    frames.clear();
-    Ok(())
-}

@@ -8,7 +8,7 @@ ghost use Rattle.dialogues.specs.Dialogues.{Goes};
 
 use crate::shorthand::push_expanded;
 use geos_model::Fault;
-use geos_shell::{RunFault, run};
+use geos_shell::{RunFault, run_in};
 use std::alloc::{AllocError, Global};
 use std::marker::Model;
 use undo_log::Session;
@@ -163,10 +163,13 @@ impl Dialogue {
         ensures exact { IfOk result (λ after. AreExact S.facts (holding session target None) → IsExact S.facts after) }
     {
         let mut written = Vec::new(self.alloc);
-        let session = run(
+        let mut session = session;
+        let mut target = target;
+        run_in(
             self.alloc,
-            session,
-            target,
+            &mut session,
+            &mut target,
+            &mut None,
             &mut self.script.as_bytes(),
             &mut written,
         )?;

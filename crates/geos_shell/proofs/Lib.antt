@@ -1,6 +1,7 @@
 pub mod AddingNames
 pub mod Begun
 pub mod Calls
+pub mod Causes
 pub mod Composed
 pub mod Counted
 pub mod Digits
@@ -14,6 +15,8 @@ pub mod Matched
 pub mod Names
 pub mod NewFlag
 pub mod Parses
+pub mod ReadsMade
+pub mod Refusals
 pub mod Replying
 pub mod Rows
 pub mod Runs

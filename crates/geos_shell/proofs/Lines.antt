@@ -1,5 +1,6 @@
 -- Lemmas on the lines of bytes, and on lines that are too long.
-use Rattle.std.proofs.Common.{◌≡◌, ℕ, ◌+◌, ◌<◌, ◌≤◌, min, Bool, true, false, cond, ◌==◌, List, [], ◌∷◌, ◌++◌, length, slice_index, take, refl, sym, ap, ◌∙◌, arith, length-append, length-take, suc, inl, inr, drop}
+use Rattle.std.proofs.Common.{◌≡◌, ℕ, ◌+◌, ◌-◌, ◌<◌, ◌≤◌, min, Bool, true, false, cond, ◌==◌, List, [], ◌∷◌, ◌++◌, length, slice_index, take, refl, sym, ap, ◌∙◌, arith, length-append, length-take, suc, inl, inr, drop}
+use Rattle.std.proofs.Math.Seq.{take-append_seam}
 use Rattle.std.proofs.lemmas.List.{take_all, take-take, take-append-le, get_or-take, append_assoc, nil_from_length, drop_more, take-append-drop}
 use Rattle.std.proofs.lemmas.Bool.{cases_lt, eqb-true}
 use Rattle.geos_model.specs.Script.{lines, begin_line, finished_lines, command}
@@ -132,3 +133,9 @@ rest_at_feed bytes end within is =
 -- bytes, cut behind a line feed
 pub cut_at_feed : (bytes : List ℕ) (end : ℕ) → end < length bytes → slice_index bytes end == 10 ≡ true → bytes ≡ (take end bytes ++ 10 ∷ []) ++ drop (end + 1) bytes
 cut_at_feed bytes end within is = rest_at_feed bytes end within is ∙ sym (append_assoc (take end bytes) (10 ∷ []) (drop (end + 1) bytes))
+
+-- bytes without so many as there are at their end
+pub front_of : (front rest bytes : List ℕ) → bytes ≡ front ++ rest → take (length bytes - length rest) bytes ≡ front
+front_of front rest bytes is =
+    let count : length bytes - length rest ≡ length front = omega (arith, ap length is, length-append front rest) in
+    rw (count, is) (take-append_seam front rest)

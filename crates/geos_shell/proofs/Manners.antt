@@ -81,7 +81,7 @@ lead_pushed true line old mid new count so is front feed =
 -- ---- refusals
 
 -- the line of a refusal is told from those of other replies
-begins_with_no-refusal : (reply : Reply) → begins_with_no (reply_line reply) ≡ is_refusal reply
+pub begins_with_no-refusal : (reply : Reply) → begins_with_no (reply_line reply) ≡ is_refusal reply
 unfolding reply_text
 begins_with_no-refusal Accepted = refl
 begins_with_no-refusal (Refused fault) = refl

@@ -11,9 +11,8 @@ use Rattle.geos_model.specs.Script.{reply_line, reply_text}
 use Rattle.geos_model.specs.declared.command.Command.{Command}
 use Rattle.geos_model.specs.declared.command.Command.TheVariants as commands
 use Rattle.vm_store.specs.Facts.{StoreFacts}
-use Rattle.vm_file.specs.Disk.{KeepsCommitted}
-use Rattle.vm_file.proofs.PassingLemmas.{KeepsCommitted-refl}
-use Rattle.undo_log.specs.Sessions.{SessionState, IsStep, failed_since, machine_of}
+use Rattle.undo_log.specs.Sessions.{SessionState, IsStep, KeepsSession, failed_since, machine_of}
+use Rattle.undo_log.proofs.Keeping.{kept_passes, keeps_refl}
 use Rattle.geos_shell.specs.Holdings.{AreExact, CommitsNothing, Holding, IsTakenIfSure, LeavesFiles, MayServe, ServesRequest, SameFiles, failed_since_in, holding, machine}
 use Rattle.geos_shell.specs.Replies.{Extends, Replied, Responds, Told, asks_no_body, is_look_up}
 use Rattle.geos_shell.proofs.Serving.{serves_passing, step_any}
@@ -62,20 +61,20 @@ module _ {S : Type 0} (facts : S → StoreFacts) where
       let first = holding old target former in
       let last = holding new target former in
       let stays : asks_no_body c ≡ true → SameFiles first last = λ none. record { disk = ap (λ (s : SessionState S). s.disk) (same none); target = refl; former = refl } in
-      let served = serves_passing facts old new target former c t.reply t.passes t.step (leaves c first last t.reply asks stays) (unsure c old new t.reply asks) exact in
+      let served = serves_passing facts old new target former c t.reply (kept_passes facts old new t.keeps) t.step (leaves c first last t.reply asks stays) (unsure c old new t.reply asks) exact in
       replied put first last c t.reply before after served t.text
 
 module _ {S T E : Type 0} (facts : S → StoreFacts) (put : Result T E) (c : Command) (reply : Reply) (before after : List ℕ) where
   -- a look-up whose reply's text a call that may fail has put
-  pub told : (old new : SessionState S) → IsStep facts old new c reply → KeepsCommitted facts old.disk new.disk → OnOk put (after ≡ before ++ reply_text reply)
+  pub told : (old new : SessionState S) → IsStep facts old new c reply → KeepsSession facts old new → OnOk put (after ≡ before ++ reply_text reply)
       → Told put facts old c new before after
-  told old new step passes said = record { reply = reply; step = step; passes = passes; text = said }
+  told old new step keeps said = record { reply = reply; step = step; keeps = keeps; text = said }
 
   -- one that calls no store
   pub told_at_rest : (s : SessionState S) → ((target : Bool) → Step false (machine_of target s) (Some c) reply (machine_of target s)) → OnOk put (after ≡ before ++ reply_text reply)
       → Told put facts s c s before after
   told_at_rest s step said =
-      record { reply = reply; step = λ exact. (exact, λ target. step_any (failed_since (facts s.disk.store) (facts s.disk.store)) _ _ (Some c) reply (step target)); passes = KeepsCommitted-refl facts s.disk; text = said }
+      record { reply = reply; step = λ exact. (exact, λ target. step_any (failed_since (facts s.disk.store) (facts s.disk.store)) _ _ (Some c) reply (step target)); keeps = keeps_refl facts s; text = said }
 
 -- the text of a look-up's reply, put behind what was there, leaves that
 pub extends_told : {S T E : Type 0} (put : Result T E) (facts : S → StoreFacts) (old new : SessionState S) (c : Command) (before after : List ℕ)
@@ -97,8 +96,8 @@ module _ {S T E A : Type 0} (facts : S → StoreFacts) (put : Result T E) (c : C
   put_so = subst (λ (x : Reply). OnOk put (after ≡ before ++ reply_text x)) (mapped f made r m is same) said
 
   -- a look-up whose answer is made a reply, and that put
-  pub told_mapped : (old new : SessionState S) → IsStep facts old new c (reply_by f r) → KeepsCommitted facts old.disk new.disk → Told put facts old c new before after
-  told_mapped old new step passes = told facts put c (reply_by f r) before after old new step passes put_so
+  pub told_mapped : (old new : SessionState S) → IsStep facts old new c (reply_by f r) → KeepsSession facts old new → Told put facts old c new before after
+  told_mapped old new step keeps = told facts put c (reply_by f r) before after old new step keeps put_so
 
   -- and one that calls no store
   pub told_mapped_at_rest : (s : SessionState S) → ((target : Bool) → Step false (machine_of target s) (Some c) (reply_by f r) (machine_of target s)) → Told put facts s c s before after

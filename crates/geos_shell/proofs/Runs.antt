@@ -1,20 +1,21 @@
 -- What a run has read and written.
-use Rattle.std.proofs.Common.{◌⊎◌, inl, inr, ◌≡◌, ℕ, ◌<◌, List, [], ◌++◌, length, length-append, Option, Result, Ok, Err, IfErr, OnOk, true, is_ok, arith, refl, sym, ap, subst, ◌∙◌}
-use Rattle.std.proofs.lemmas.List.{append-nil}
+use Rattle.std.proofs.Common.{◌⊎◌, inl, inr, ◌≡◌, ℕ, ◌<◌, List, [], ◌++◌, length, length-append, Option, Result, Ok, Err, IfErr, IfOk, OnOk, arith, drop, take, refl, sym, ap, subst, ◌∙◌}
+use Rattle.std.proofs.lemmas.List.{append-nil, append_assoc, take-append-drop}
 use Rattle.std.proofs.KnownBytes.{Appends-nil, Appends-trans, Consumes-nil, Consumes-trans, Consumes-kept}
 use Rattle.std.specs.Io.KnownBytes.{Appends, Consumes, Keeps, IsAtEnd}
 use Rattle.geos_model.specs.Reply.{Refused}
 use Rattle.geos_model.specs.Script.{lines}
 use Rattle.vm_store.specs.Facts.{StoreFacts}
+use Rattle.undo_log.specs.Sessions.{IsExact}
 use Rattle.geos_shell.specs.declared.answering.Answering.{Answering}
 use Rattle.geos_shell.specs.Holdings.{AreExact, Holding}
-use Rattle.geos_shell.specs.Progress.{AnswersPiece, AnswersRest, Ends, GoesOver, Moment, ProgressOf, StopsAtEnd, StopsIn, StopsPiece, StopsRest, Unsent, moment}
-use Rattle.geos_shell.specs.Runs.{AnswersAll, AnswersFinished, AnswersSome, AnswersUnsent, EndsBy, StoppedWith, StopsBy}
+use Rattle.geos_shell.specs.Progress.{AnswersPiece, AnswersRest, Ends, GoesOver, Moment, PieceFails, ProgressOf, StopsAtEnd, StopsIn, StopsPiece, StopsRest, Unsent, moment}
+use Rattle.geos_shell.specs.RunFaults.{HasCause}
+use Rattle.geos_shell.specs.Runs.{AnswersAll, AnswersFinished, AnswersSome, AnswersUnsent, EndsBy, RunsTo, StoppedWith, StopsBy}
 use Rattle.geos_shell.specs.declared.runner.RunFault.{RunFault}
 use Rattle.geos_shell.specs.declared.runner.RunFault.TheVariants as faults
 use Rattle.geos_shell.specs.declared.runner.Manner.{Manner}
-use Rattle.geos_shell.proofs.Calls.{was_ok}
-use Rattle.geos_shell.proofs.Steps.{Progress-none, Answered-finished, StoppedWith-now}
+use Rattle.geos_shell.proofs.Steps.{Progress-none, Answered-finished, StopsBy-after}
 
 -- the bytes that were read, what was written, and what they led to
 pub record Ran {S : Type 0} (facts : S → StoreFacts) (manner : Manner) (start : Holding S) (from to before after : Option (List ℕ)) (now : Moment S) : Type 0 where
@@ -55,15 +56,16 @@ module _ {S : Type 0} {facts : S → StoreFacts} {manner : Manner} {start : Hold
       }
 
   -- a piece was read and answered
-  pub Ran-piece : (to after : Option (List ℕ)) (bytes : List ℕ) (new : Moment S) → Consumes mid to bytes → AnswersPiece facts manner now bytes new out after → Ran facts manner start from to before after new
-  Ran-piece to after bytes new consumed answers =
+  pub Ran-piece : (to after : Option (List ℕ)) (bytes : List ℕ) (new : Moment S) → Consumes mid to bytes → AnswersPiece facts manner now bytes new out after
+      → new.kept.replies.items ≡ [] → Ran facts manner start from to before after new
+  Ran-piece to after bytes new consumed answers none =
       record {
         read = ran.read ++ bytes;
         consumed = Consumes-trans from mid to ran.read bytes ran.consumed consumed;
         written = ran.written ++ answers.written;
         appended = Appends-trans before out after ran.written answers.written ran.appended answers.appended;
         progress = answers.goes start ran.read ran.written ran.progress;
-        none_left = answers.none_left;
+        none_left = none;
       }
 
   -- a read failed
@@ -143,11 +145,15 @@ module _ {S : Type 0} (facts : S → StoreFacts) (manner : Manner) where
   stopped_with faults.Write start read written new stops = absurd stops
 
   module _ (old new : Moment S) where
-    -- what was done in a piece whose replies weren't sent
-    pub Unsent-piece : {T : Type 0} (bytes : List ℕ) (fed : Result T RunFault) → OnOk fed (GoesOver facts manner old bytes new) → IfErr fed (λ fault. StopsIn fault facts manner old bytes new)
+    -- what was done in bytes whose replies weren't sent, of which only the front may be answered
+    pub Unsent-fed : (bytes : List ℕ) (fed : Result ℕ RunFault) → IfOk fed (λ used. GoesOver facts manner old (take used bytes) new) → IfErr fed (λ fault. StopsIn fault facts manner old bytes new)
         → Unsent facts manner old bytes new.holding
-    Unsent-piece bytes (Ok x) goes stops start read sent p = (sent ++ new.kept.replies.items, StoppedWith-now (goes start read sent p))
-    Unsent-piece bytes (Err fault) goes stops start read sent p = stopped_with fault start (read ++ bytes) _ new.holding (stops start read sent p)
+    Unsent-fed bytes (Ok used) goes stops start read sent p =
+        let all : (read ++ take used bytes) ++ drop used bytes ≡ read ++ bytes = append_assoc read (take used bytes) (drop used bytes) ∙ ap (λ l. read ++ l) (take-append-drop used bytes) in (
+          sent ++ new.kept.replies.items,
+          subst (λ (r : List ℕ). StoppedWith facts manner start (lines r) (sent ++ new.kept.replies.items) new.holding) all (StopsBy-after (goes start read sent p) (drop used bytes)).0,
+        )
+    Unsent-fed bytes (Err fault) goes stops start read sent p = stopped_with fault start (read ++ bytes) _ new.holding (stops start read sent p)
 
     -- what was done at the end
     pub Unsent-end : {T : Type 0} (ended : Result T RunFault) → OnOk ended (Ends facts manner old new) → IfErr ended (λ fault. StopsAtEnd fault facts manner old new) → Unsent facts manner old [] new.holding
@@ -166,36 +172,52 @@ module _ {S : Type 0} (facts : S → StoreFacts) (manner : Manner) where
         subst (λ (r : List ℕ). (replies : List ℕ) × StoppedWith facts manner start (lines r) replies new.holding) (sym (append-nil read))
         (stopped_with fault start read _ new.holding (stops start read sent p).1)
 
--- what holds of a fault by which a call ended
-was_fault : {T E : Type 0} (P : E → Type 0) (r : Result T E) (fault : E) → r ≡ Err fault → IfErr r P → P fault
-was_fault P r fault is h = subst (λ x. IfErr x P) is h
+    -- the front of bytes was answered, and the replies are sent
+    pub piece_sent : (bytes : List ℕ) (left : Moment S) (before after : Option (List ℕ)) → left.holding ≡ new.holding → left.kept.begun ≡ new.kept.begun → GoesOver facts manner old bytes new
+        → left.kept.replies.items ≡ [] → Appends before after new.kept.replies.items → AnswersPiece facts manner old bytes left before after
+    piece_sent bytes left before after held begun goes none appended =
+        record {
+          written = new.kept.replies.items;
+          appended = appended;
+          goes = λ start read sent p. rw (none, append-nil (sent ++ new.kept.replies.items), held, begun) (goes start read sent p);
+        }
 
-module _ {S T : Type 0} (facts : S → StoreFacts) (manner : Manner) (old new : Moment S) (done : Result T RunFault) (before after : Option (List ℕ)) where
-  -- a piece was answered, and its replies are sent
-  pub piece_answered : (bytes : List ℕ) (left : Moment S) → left.holding ≡ new.holding → left.kept.begun ≡ new.kept.begun → OnOk done (GoesOver facts manner old bytes new)
-      → is_ok done ≡ true → left.kept.replies.items ≡ [] → Appends before after new.kept.replies.items → AnswersPiece facts manner old bytes left before after
-  piece_answered bytes left held begun goes well none appended =
-      record {
-        written = new.kept.replies.items;
-        appended = appended;
-        none_left = none;
-        goes = λ start read sent p. rw (none, append-nil (sent ++ new.kept.replies.items), held, begun) (was_ok done well goes start read sent p);
-      }
+  -- nothing was answered
+  pub AnswersPiece-none : (old : Moment S) (out : Option (List ℕ)) → AnswersPiece facts manner old [] old out out
+  AnswersPiece-none old out = record { written = []; appended = Appends-nil out; goes = λ start read sent p. rw (append-nil read, append-nil sent) p }
 
-  -- the last line was answered, and its reply is sent
-  pub rest_answered : OnOk done (Ends facts manner old new) → is_ok done ≡ true → Appends before after new.kept.replies.items → AnswersRest facts manner old new.holding before after
-  rest_answered ends well appended = record { written = new.kept.replies.items; appended = appended; answered = was_ok done well ends }
+  module _ (old mid : Moment S) (xs ys : List ℕ) (before out after : Option (List ℕ)) (first : AnswersPiece facts manner old xs mid before out) where
+    -- more was answered, and sent
+    pub AnswersPiece-trans : (new : Moment S) → AnswersPiece facts manner mid ys new out after → AnswersPiece facts manner old (xs ++ ys) new before after
+    AnswersPiece-trans new second =
+        record {
+          written = first.written ++ second.written;
+          appended = Appends-trans before out after first.written second.written first.appended second.appended;
+          goes = λ start read sent p. rw (← append_assoc read xs ys, ← append_assoc sent first.written second.written)
+              (second.goes start (read ++ xs) (sent ++ first.written) (first.goes start read sent p));
+        }
 
-  -- a piece or the writer stopped the run
-  pub piece_stopped : (bytes : List ℕ) (fault : RunFault) → OnOk done (GoesOver facts manner old bytes new) → IfErr done (λ fault. StopsIn fault facts manner old bytes new)
-      → (fault ≡ faults.Write) ⊎ ((done ≡ Err fault) × Appends before after new.kept.replies.items)
-      → ((fault ≡ faults.Write) × Unsent facts manner old bytes new.holding) ⊎ StopsPiece fault facts manner old bytes new.holding before after
-  piece_stopped bytes fault goes stops (inl failed) = inl (failed, Unsent-piece facts manner old new bytes done goes stops)
-  piece_stopped bytes fault goes stops (inr t) = inr (record { written = new.kept.replies.items; appended = t.1; stops = was_fault _ done fault t.0 stops })
+    -- the writer failed then, or the run stopped
+    pub PieceFails-trans : (fault : RunFault) (new : Holding S) → PieceFails fault facts manner mid ys new out after → PieceFails fault facts manner old (xs ++ ys) new before after
+    PieceFails-trans fault new (inl failed) =
+        inl (failed.0, λ start read sent p. rw (← append_assoc read xs ys) (failed.1 start (read ++ xs) (sent ++ first.written) (first.goes start read sent p)))
+    PieceFails-trans fault new (inr stops) =
+        inr (record {
+          written = first.written ++ stops.written;
+          appended = Appends-trans before out after first.written stops.written first.appended stops.appended;
+          stops = λ start read sent p. rw (← append_assoc read xs ys, ← append_assoc sent first.written stops.written)
+              (stops.stops start (read ++ xs) (sent ++ first.written) (first.goes start read sent p));
+        })
 
-  -- the last line or the writer stopped it
-  pub rest_stopped : (fault : RunFault) → OnOk done (Ends facts manner old new) → IfErr done (λ fault. StopsAtEnd fault facts manner old new)
-      → (fault ≡ faults.Write) ⊎ ((done ≡ Err fault) × Appends before after new.kept.replies.items)
-      → ((fault ≡ faults.Write) × Unsent facts manner old [] new.holding) ⊎ StopsRest fault facts manner old new.holding before after
-  rest_stopped fault ends stops (inl failed) = inl (failed, Unsent-end facts manner old new done ends stops)
-  rest_stopped fault ends stops (inr t) = inr (record { written = new.kept.replies.items; appended = t.1; stops = was_fault _ done fault t.0 stops })
+-- a fault has its cause still, where there are more
+pub HasCause-more : {P Q P' Q' : Type 0} (fault : RunFault) → (P → P') → (Q → Q') → HasCause fault P Q → HasCause fault P' Q'
+HasCause-more faults.Read f g h = f h
+HasCause-more faults.Write f g h = g h
+HasCause-more faults.Memory f g h = tt
+HasCause-more faults.Refused f g h = tt
+
+-- the session of a run that ended well is exact
+pub exact_after : {S : Type 0} (facts : S → StoreFacts) (manner : Manner) (old new : Holding S) (from to before after : Option (List ℕ)) (result : Result (Unit {0}) RunFault) → result ≡ Ok tt
+    → RunsTo result facts manner old from to before after new → AreExact facts old → IsExact facts new.session
+exact_after facts manner old new from to before after (Ok x) well runs exact = (runs exact).answered.answers.exact.0
+exact_after facts manner old new from to before after (Err fault) well runs exact = cc well

@@ -8,6 +8,8 @@ pub mod Outcome
 pub mod Program
 pub mod Progress
 pub mod Reading
+pub mod Refusals
 pub mod Replies
 pub mod RunFaults
 pub mod Runs
+pub mod Streams

@@ -1,5 +1,5 @@
 -- How far a run has come between two of its reads.
-use Rattle.std.specs.Prelude.{◌≡◌, ℕ, ◌<◌, List, [], ◌∷◌, ◌++◌, false, ◌==◌, IsTrue, length, take, Option}
+use Rattle.std.specs.Prelude.{◌≡◌, ◌⊎◌, ℕ, ◌<◌, List, [], ◌∷◌, ◌++◌, false, ◌==◌, IsTrue, length, take, Option}
 use Rattle.std.specs.Io.KnownBytes.{Appends}
 use Rattle.geos_model.specs.Script.{command, line_feed, lines, finished_lines}
 use Rattle.vm_store.specs.Facts.{StoreFacts}
@@ -89,12 +89,11 @@ StopsAtEnd {S} fault facts manner old new =
     (start : Holding S) (read sent : List ℕ) → ProgressOf facts manner start read sent old
     → (0 < length read) × StopsBy fault facts manner start read (sent ++ new.kept.replies.items) new.holding
 
--- The run goes over these bytes, and then writes its replies.
+-- The run goes over these bytes, and writes their replies.
 pub record AnswersPiece {S : Type 0} (facts : S → StoreFacts) (manner : Manner) (old : Moment S) (bytes : List ℕ)
     (new : Moment S) (before after : Option (List ℕ)) : Type 0 where
   pub written : List ℕ
   pub appended : Appends before after written
-  pub none_left : new.kept.replies.items ≡ []
   pub goes : (start : Holding S) (read sent : List ℕ) → ProgressOf facts manner start read sent old
       → ProgressOf facts manner start (read ++ bytes) (sent ++ written) new
 
@@ -127,3 +126,16 @@ abbrev pub Unsent : {S : Type 0} → (S → StoreFacts) → Manner → Moment S 
 Unsent {S} facts manner old bytes new =
     (start : Holding S) (read sent : List ℕ) → ProgressOf facts manner start read sent old
     → (replies : List ℕ) × StoppedWith facts manner start (lines (read ++ bytes)) replies new
+
+-- In these bytes the writer failed, or the run stopped and wrote its replies.
+abbrev pub PieceFails : {S : Type 0} → RunFault → (S → StoreFacts) → Manner → Moment S → List ℕ → Holding S
+    → Option (List ℕ) → Option (List ℕ) → Type 0
+PieceFails fault facts manner old bytes new before after =
+    ((fault ≡ faults.Write) × Unsent facts manner old bytes new)
+    ⊎ StopsPiece fault facts manner old bytes new before after
+
+-- At the last line the writer failed, or the run stopped and wrote its replies.
+abbrev pub RestFails : {S : Type 0} → RunFault → (S → StoreFacts) → Manner → Moment S → Holding S → Option (List ℕ)
+    → Option (List ℕ) → Type 0
+RestFails fault facts manner old new before after =
+    ((fault ≡ faults.Write) × Unsent facts manner old [] new) ⊎ StopsRest fault facts manner old new before after

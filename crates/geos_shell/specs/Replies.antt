@@ -8,8 +8,7 @@ use Rattle.geos_model.specs.declared.command.Command.TheVariants as commands
 use Rattle.geos_model.specs.declared.fault.Fault.{Fault}
 use Rattle.geos_model.specs.declared.reply.Reply.{Reply as GivenReply}
 use Rattle.vm_store.specs.Facts.{StoreFacts}
-use Rattle.vm_file.specs.Disk.{KeepsCommitted}
-use Rattle.undo_log.specs.Sessions.{SessionState, IsStep}
+use Rattle.undo_log.specs.Sessions.{SessionState, IsStep, KeepsSession}
 use Rattle.geos_shell.specs.Holdings.{Holding, MayServe, ServesRequest}
 
 -- The bytes are still there, whatever stands behind them.
@@ -66,13 +65,13 @@ asks_no_body commands.Undos = true
 asks_no_body commands.Redos = true
 asks_no_body _ = false
 
--- The machine answers a command so, and nothing is committed. Where there was memory for the reply's text, that was put
--- behind what was there.
+-- The machine answers a command so, and over any store the session is kept. Where there was memory for the reply's
+-- text, that was put behind what was there.
 pub record Told {S T E : Type 0} (result : Result T E) (facts : S → StoreFacts) (old : SessionState S)
     (command : Command) (new : SessionState S) (before after : List ℕ) : Type 0 where
   pub reply : Reply
   pub step : IsStep facts old new command reply
-  pub passes : KeepsCommitted facts old.disk new.disk
+  pub keeps : KeepsSession facts old new
   pub text : OnOk result (after ≡ before ++ reply_text reply)
 
 -- The command is served, and its reply's text was put behind what was there.

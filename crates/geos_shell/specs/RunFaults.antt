@@ -1,5 +1,5 @@
--- What the faults of a run are called.
-use Rattle.std.specs.Prelude.{ℕ, List, codes}
+-- What the faults of a run are called, and why a run ends by one.
+use Rattle.std.specs.Prelude.{ℕ, List, codes, ⊤}
 use Rattle.geos_shell.specs.declared.runner.RunFault.{RunFault}
 use Rattle.geos_shell.specs.declared.runner.RunFault.TheVariants as faults
 
@@ -8,3 +8,10 @@ run_fault_text faults.Read = codes "read fault"
 run_fault_text faults.Write = codes "write fault"
 run_fault_text faults.Memory = codes "memory"
 run_fault_text faults.Refused = codes "refused"
+
+-- the cause of a fault: of a read's or a write's this, of others any
+abbrev pub HasCause : RunFault → Type 0 → Type 0 → Type 0
+HasCause faults.Read reading writing = reading
+HasCause faults.Write reading writing = writing
+HasCause faults.Memory reading writing = ⊤
+HasCause faults.Refused reading writing = ⊤

@@ -1,10 +1,11 @@
 //! The lines of a script and their replies, as the script comes piece by piece.
-ghost use Rattle.std.specs.Prelude.{◌≡◌, ◌++◌, ◌∷◌, [], ◌≤◌, ℕ, List, drop, length, IfOk, IfErr, OnOk, OnErr};
+ghost use Rattle.std.specs.Prelude.{◌≡◌, ◌++◌, ◌∷◌, [], ◌≤◌, ◌<◌, ℕ, List, drop, take, length, IfOk, IfErr, OnOk, OnErr};
 ghost use Rattle.geos_model.specs.Script.{command, line_feed};
 ghost use Rattle.geos_shell.specs.Holdings.{AreExact, MayServe, holding};
 ghost use Rattle.geos_shell.specs.Manners.{begins_with_no, lead};
 ghost use Rattle.geos_shell.specs.Progress.{Ends, GoesOver, HasNoFeed, IsAnswered, IsStopped, StandsFor, StopsAtEnd, StopsIn, moment};
 ghost use Rattle.geos_shell.specs.Replies.{Extends, Responds};
+ghost use Rattle.geos_shell.specs.RunFaults.{HasCause};
 
 use crate::replies::answer_line;
 use crate::runner::{Manner, RunFault};
@@ -17,6 +18,10 @@ use vm_store::Store;
 /// holds.
 const LONGEST_KEPT: usize = 140_001;
 
+/// How many bytes of replies wait at most, besides the last reply: they are written once they are more, or the piece of
+/// the script is answered.
+const HELD: usize = 65_536;
+
 /// What is kept of a script that is being answered, between two pieces of it.
 #[derive(Drop)]
 pub(crate) struct Answering {
@@ -27,7 +32,8 @@ pub(crate) struct Answering {
 }
 
 impl Answering {
-    /// Answers each line that ends in this piece, and keeps the rest of it.
+    /// Answers the lines that end in this piece, until their replies pass `HELD` bytes, and tells how much of the piece
+    /// that was. Behind its last line feed it keeps the rest of the piece, so that this was all of it.
     pub(crate) fn feed<S: Store>(
         &mut self,
         alloc: Global,
@@ -36,20 +42,26 @@ impl Answering {
         target: &mut Option<S>,
         former: &mut Option<S>,
         piece: &[u8],
-    ) -> Result<(), RunFault>
-        ensures ok { OnOk result
-            (GoesOver S.facts manner (moment (holding session.old target.old former.old) self.old) piece.now
+    ) -> Result<usize, RunFault>
+        ensures ok { IfOk result (λ used.
+            GoesOver S.facts manner (moment (holding session.old target.old former.old) self.old) (take used piece.now)
             (moment (holding session.new target.new former.new) self.new)) }
+        ensures used { IfOk result (λ used. (used ≤ length piece.now) × (0 < length piece.now → 0 < used)) }
         ensures err { IfErr result
             (λ fault. StopsIn fault S.facts manner (moment (holding session.old target.old former.old) self.old)
             piece.now (moment (holding session.new target.new former.new) self.new)) }
+        ensures cause { IfErr result (λ fault. HasCause fault ⊥ ⊥) }
     {
         let mut rest = piece;
         while let Some(end) = rest.find_byte(b'\n') {
             self.end_line(alloc, manner, session, target, former, &rest[..end])?;
             rest = &rest[end + 1..];
+            if self.replies.len() > HELD {
+                return Ok(piece.len() - rest.len());
+            }
         }
-        Ok(keep(&mut self.begun, rest)?)
+        keep(&mut self.begun, rest)?;
+        Ok(piece.len())
     }
 
     /// Answers the line that has begun and ends with `tail`.
@@ -68,6 +80,7 @@ impl Answering {
         ensures err { IfErr result (λ fault. HasNoFeed tail.now → (rest : List ℕ)
             → StopsIn fault S.facts manner (moment (holding session.old target.old former.old) self.old)
             (tail.now ++ line_feed ∷ rest) (moment (holding session.new target.new former.new) self.new)) }
+        ensures cause { IfErr result (λ fault. HasCause fault ⊥ ⊥) }
     {
         let replies = &mut self.replies;
         if self.begun.is_empty() {
@@ -94,6 +107,7 @@ impl Answering {
         ensures err { IfErr result
             (λ fault. StopsAtEnd fault S.facts manner (moment (holding session.old target.old former.old) self.old)
             (moment (holding session.new target.new former.new) self.new)) }
+        ensures cause { IfErr result (λ fault. HasCause fault ⊥ ⊥) }
     {
         if self.begun.is_empty() {
             return Ok(());
@@ -119,6 +133,7 @@ fn answer<S: Store>(
     ensures err { IfErr result (λ fault. AreExact S.facts (holding session.old target.old former.old)
         → IsStopped fault S.facts manner (holding session.old target.old former.old) line.now
         (holding session.new target.new former.new) out.old.items out.new.items) }
+    ensures cause { IfErr result (λ fault. HasCause fault ⊥ ⊥) }
 {
     let start = out.len();
     match push_lines(alloc, manner.echoes, session, target, former, line, out) {

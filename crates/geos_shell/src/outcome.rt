@@ -1,11 +1,16 @@
 //! What a run of the program comes to.
 ghost use Rattle.std.specs.Prelude.{◌≡◌, OnOk};
 ghost use Rattle.std.specs.Io.KnownBytes.{Appends};
-ghost use Rattle.geos_shell.specs.Outcome.{fault_line, status_of, outcome_text};
+ghost use Rattle.geos_shell.specs.Outcome.{IsTold, TellsOn, TellsText, fault_line, status_of, outcome_text};
 
 use crate::runner::RunFault;
+use crate::streams::Sink;
+use arrayvec::ArrayVec;
 use geos_model::{Bytes, Fault};
 use std::io::{self, Write};
+
+/// As many bytes as the line of a fault has at most.
+const LONGEST_LINE: usize = 80;
 
 /// What a run of the program comes to, in the order in which the program finds it out.
 #[derive(Drop)]
@@ -42,6 +47,40 @@ impl Outcome {
         }
     }
 
+    /// Tells it, help and the version on `out` and all else on `errors`, and gives the exit status. Help and a version
+    /// that can't be written are a write fault, which is told as one. It takes no memory.
+    pub fn tell<W: Sink, E: Sink>(&self, out: &mut W, errors: &mut E) -> u8
+        ensures { IsTold W.writes E.writes self.now out.old out.new errors.old errors.new result }
+    {
+        match self {
+            Outcome::Help(text) | Outcome::Version(text) => tell_text(text, out, errors),
+            Outcome::Done => 0,
+            Outcome::Usage(text) => {
+                // Where not even this can be told, the status still says what the words are.
+                let _ = errors.write_out(text.as_slice());
+                2
+            }
+            Outcome::SameFile
+            | Outcome::Create(_)
+            | Outcome::Open(_)
+            | Outcome::Target
+            | Outcome::Run(_) => self.tell_fault(errors),
+        }
+    }
+
+    /// Writes the line to standard error, and gives the exit status.
+    fn tell_fault<E: Sink>(&self, errors: &mut E) -> u8
+        ensures { TellsOn E.writes self.now errors.old errors.new × (result ≡ status_of self.now) }
+    {
+        let mut line = ArrayVec::<u8, LONGEST_LINE>::new();
+        // Where not even this can be told, the status still says what became of the run.
+        let _ = match self.write_line(&mut line) {
+            Ok(()) => errors.write_out(line.as_slice()),
+            Err(_) => errors.write_out(b"geosvm: memory\n"),
+        };
+        self.status()
+    }
+
     /// Writes what there is to tell: help and the version are for standard output, all else for standard error.
     pub fn write_line<W: Write>(&self, writer: &mut W) -> io::Result<()>
         ensures { OnOk result (Appends (W.contents writer.old) (W.contents writer.new) (outcome_text self.now)) }
@@ -67,4 +106,14 @@ fn write_fault<W: Write>(writer: &mut W, place: &str, fault: Fault) -> io::Resul
     let number = fault.number();
     let name = fault.name();
     writeln!(writer, "geosvm: {place} {number} {name}")
+}
+
+/// Writes a text to standard output, and gives the exit status. Where that fails, a write fault is told.
+fn tell_text<W: Sink, E: Sink>(text: &Bytes, out: &mut W, errors: &mut E) -> u8
+    ensures { TellsText W.writes E.writes text.now out.old out.new errors.old errors.new result }
+{
+    match out.write_out(text.as_slice()) {
+        Ok(()) => 0,
+        Err(_) => Outcome::Run(RunFault::Write).tell_fault(errors),
+    }
 }

@@ -1,17 +1,20 @@
 //! The program: a document file, a script and its replies.
-ghost use Rattle.std.specs.Prelude.{◌≡◌, ◌≤◌, true, false, None, OnErr, IfOk, IfErr, map};
+ghost use Rattle.std.specs.Prelude.{◌≡◌, ◌≤◌, ◌^◌, true, false, None, OnErr, IfOk, IfErr, MatchResult, map};
 ghost use Rattle.geos_shell.specs.Files.{OpensFile, FileFails, OpensTarget, TargetFails, ClosesAny};
 ghost use Rattle.geos_shell.specs.Options.{told_by};
+ghost use Rattle.geos_shell.specs.Outcome.{HasRunCause, IsTold, IsUnread};
 ghost use Rattle.geos_shell.specs.Program.{FromFile, BeginsSession, ComesTo, IsScriptAnswered, IsGivenUp, IsNotBegun};
+ghost use Rattle.geos_shell.specs.Streams.{StopsReading, StopsWriting};
 ghost use Rattle.geos_shell.specs.Holdings.{holding};
 
 use crate::command_line::options;
 use crate::outcome::Outcome;
-use crate::runner::{Manner, READS, run_in_manner};
-use geos_model::Fault;
+use crate::runner::{Manner, READS, RunFault, run_in_manner};
+use crate::streams::{Sink, Source};
+use geos_model::{Bytes, Fault};
 use std::alloc::Global;
 use std::convert::AsStr;
-use std::io::{Read, Write};
+use std::io::{self, ErrorKind};
 use undo_log::Session;
 use vm_store::{Files, StoreFault};
 
@@ -36,15 +39,18 @@ pub struct Options<'a> {
 /// What is wrong is found in this order: the command line, two names that are the same, FILE, the target, the run. A
 /// new document is made only after the target was opened, so that where the target is FILE by another name nothing is
 /// written.
-pub fn serve<'a, F: Files, T: AsStr, R: Read, W: Write>(
+#[tactic(auto, using(crate::proofs::Causes::refused_cause, crate::proofs::Causes::not_begun_cause))]
+pub fn serve<'a, F: Files, T: AsStr, R: Source, W: Sink>(
     alloc: Global,
     files: &mut F,
     words: &'a [T],
     reader: &mut R,
     writer: &mut W,
 ) -> Outcome
-    ensures { ComesTo F.calls F.Opened.facts (map T.text words.entry.now) files.old files.new (R.remaining reader.old)
+    ensures comes_to { ComesTo F.calls F.Opened.facts (map T.text words.entry.now) files.old files.new (R.remaining reader.old)
         (R.remaining reader.new) (W.contents writer.old) (W.contents writer.new) result }
+    ensures cause { HasRunCause result (StopsReading R.reads (2 ^ 24) reader.old reader.new)
+        (StopsWriting W.writes writer.new) }
 {
     match options(alloc, words) {
         Ok(options) => match begin(alloc, files, options) {
@@ -52,6 +58,51 @@ pub fn serve<'a, F: Files, T: AsStr, R: Read, W: Write>(
             Err(outcome) => outcome,
         },
         Err(outcome) => outcome,
+    }
+}
+
+/// The whole program: serves the words of a command line, where these could be read, and tells what that came to, help
+/// and the version on the writer that the replies go to, and all else on `errors`. Gives the exit status.
+pub fn run_program<F: Files, T: AsStr + Drop, R: Source, W: Sink, E: Sink>(
+    alloc: Global,
+    files: &mut F,
+    words: io::Result<Vec<T>>,
+    reader: &mut R,
+    writer: &mut W,
+    errors: &mut E,
+) -> u8
+    ensures { (outcome : Outcome) × (served : W)
+        × MatchResult words (λ words. ComesTo F.calls F.Opened.facts (map T.text words.items) files.old files.new
+        (R.remaining reader.old) (R.remaining reader.new) (W.contents writer.old) (W.contents served) outcome)
+        (λ _. IsUnread outcome × (files.new ≡ files.old) × (reader.new ≡ reader.old) × (served ≡ writer.old))
+        × HasRunCause outcome (StopsReading R.reads (2 ^ 24) reader.old reader.new) (StopsWriting W.writes served)
+        × IsTold W.writes E.writes outcome served writer.new errors.old errors.new result }
+{
+    match words {
+        Ok(words) => {
+            let outcome = serve(alloc, files, words.as_slice(), reader, writer);
+            outcome.tell(writer, errors)
+        }
+        Err(error) => {
+            let outcome = unread(alloc, error.kind());
+            outcome.tell(writer, errors)
+        }
+    }
+}
+
+/// What `clap` writes of a word that isn't text.
+const NOT_TEXT: &[u8] = b"error: invalid UTF-8 was detected in one or more arguments\n";
+
+/// What the words come to that couldn't be read.
+fn unread(alloc: Global, kind: ErrorKind) -> Outcome
+    ensures { IsUnread result }
+{
+    if kind == ErrorKind::OutOfMemory {
+        return Outcome::Run(RunFault::Memory);
+    }
+    match NOT_TEXT.to_vec(alloc) {
+        Ok(text) => Outcome::Usage(Bytes::from_vec(text)),
+        Err(_) => Outcome::Run(RunFault::Memory),
     }
 }
 
@@ -152,7 +203,7 @@ fn open<F: Files>(
 }
 
 /// Answers the script, and closes all files.
-fn answer<F: Files, R: Read, W: Write>(
+fn answer<F: Files, R: Source, W: Sink>(
     alloc: Global,
     manner: Manner,
     files: &mut F,
@@ -160,8 +211,10 @@ fn answer<F: Files, R: Read, W: Write>(
     reader: &mut R,
     writer: &mut W,
 ) -> Outcome
-    ensures { IsScriptAnswered F.calls F.Opened.facts manner (holding begun.0 begun.1 None) files.old files.new
+    ensures answered { IsScriptAnswered F.calls F.Opened.facts manner (holding begun.0 begun.1 None) files.old files.new
         (R.remaining reader.old) (R.remaining reader.new) (W.contents writer.old) (W.contents writer.new) result }
+    ensures cause { HasRunCause result (StopsReading R.reads (2 ^ 24) reader.old reader.new)
+        (StopsWriting W.writes writer.new) }
 {
     let (mut session, mut target) = begun;
     let mut old = None;

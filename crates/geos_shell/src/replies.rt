@@ -4,6 +4,7 @@ ghost use Rattle.geos_model.specs.Reply.{Accepted, reply_by};
 ghost use Rattle.geos_model.specs.Script.{command, reply_text};
 ghost use Rattle.geos_model.specs.declared.command.Command.TheVariants as commands;
 ghost use Rattle.geos_shell.specs.Holdings.{AreExact, MayServe, ServesRequest, holding};
+ghost use Rattle.geos_shell.specs.Refusals.{GivesReply, KeepsHolding, KeepsIfRefused};
 ghost use Rattle.geos_shell.specs.Replies.{Extends, Puts, Replied, Responds, Told, asks_no_body, is_look_up};
 
 use crate::parser::read_command;
@@ -94,9 +95,11 @@ fn save_as<S: Store>(
     target: &mut Option<S>,
     former: &mut Option<S>,
 ) -> Result<(), Fault>
-    ensures { AreExact S.facts (holding session.old target.old former.old)
+    ensures serves { AreExact S.facts (holding session.old target.old former.old)
         → ServesRequest S.facts (holding session.old target.old former.old) (Some commands.SaveAs)
         (reply_by (λ _. Accepted) result) (holding session.new target.new former.new) }
+    ensures stays { OnErr result (KeepsHolding S.facts
+        (holding session.old target.old former.old) (holding session.new target.new former.new)) }
 {
     let Some(store) = target.take() else {
         // What is to be done first, whether there is a target or not.
@@ -140,6 +143,8 @@ fn push_response<S: Store>(
     ensures replied { AreExact S.facts (holding session.old target.old former.old)
         → Replied result S.facts (holding session.old target.old former.old) command.now
         (holding session.new target.new former.new) out.old.items out.new.items }
+    ensures stays { GivesReply result S.facts (holding session.old target.old former.old)
+        (holding session.new target.new former.new) out.old.items out.new.items }
     ensures ok { OnOk result (Extends out.old.items out.new.items) }
     ensures err { OnErr result (Extends out.old.items out.new.items) }
 {
@@ -168,6 +173,9 @@ fn push_response<S: Store>(
 /// Where what is held is exact, over an honest store and target, each answer is the machine's, a file fault stands in
 /// its place only where a store failed in just this call, the files are as the reply tells, and all is exact still.
 ///
+/// Over any store a refusal leaves the document, as far as the store gives back what it has, the log, the locks, the
+/// frames and whether a target is left.
+///
 /// An `Err` is lack of memory for the line or for the text of its reply. Then `out` is as it was, and the line may be
 /// carried out all the same: what it was answered isn't told.
 pub fn answer_line<S: Store>(
@@ -184,6 +192,8 @@ pub fn answer_line<S: Store>(
     ensures may { OnErr result (AreExact S.facts (holding session.old target.old former.old)
         → MayServe S.facts (holding session.old target.old former.old) (command line.now)
         (holding session.new target.new former.new)) }
+    ensures stays { KeepsIfRefused S.facts (holding session.old target.old former.old)
+        (holding session.new target.new former.new) out.old.items out.new.items }
     ensures extends { Extends out.old.items out.new.items }
     ensures err { OnErr result (out.new.items ≡ out.old.items) }
 {

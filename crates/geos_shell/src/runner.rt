@@ -1,15 +1,18 @@
 //! A run over a script: pieces are read, their lines answered, and the replies written.
-ghost use Rattle.std.specs.Prelude.{◌≡◌, ◌⊎◌, [], true, IfOk, IfErr, OnOk, Err, None, Option, is_ok};
+ghost use Rattle.std.specs.Prelude.{◌≡◌, ◌^◌, [], IfErr, OnOk, Ok, None};
 ghost use Rattle.std.specs.Io.KnownBytes.{Appends};
 ghost use Rattle.undo_log.specs.Sessions.{IsExact};
-ghost use Rattle.geos_shell.specs.Holdings.{AreExact, Holding, holding};
+ghost use Rattle.geos_shell.specs.Holdings.{AreExact, holding};
 ghost use Rattle.geos_shell.specs.Manners.{plain};
-ghost use Rattle.geos_shell.specs.Runs.{AnswersAll, EndsBy, RunsTo};
+ghost use Rattle.geos_shell.specs.Progress.{AnswersPiece, AnswersRest, PieceFails, RestFails, moment};
+ghost use Rattle.geos_shell.specs.RunFaults.{HasCause};
+ghost use Rattle.geos_shell.specs.Runs.{RunsTo};
+ghost use Rattle.geos_shell.specs.Streams.{StopsReading, StopsWriting};
 
 use crate::answering::Answering;
+use crate::streams::{ReadFault, Sink, Source};
 use std::alloc::{AllocError, Global};
 use std::fmt;
-use std::io::{ErrorKind, Read, Write};
 use undo_log::Session;
 use vm_store::Store;
 
@@ -68,39 +71,63 @@ impl From<AllocError> for RunFault {
     }
 }
 
+/// What a run leaves, and how it ended.
+#[derive(Drop)]
+pub struct Ended<S: Store> {
+    /// The session, as the answered lines left it.
+    pub session: Session<S>,
+    /// The target of a save-as, while none was accepted.
+    pub target: Option<S>,
+    /// The store that an accepted save-as went away from.
+    pub former: Option<S>,
+    /// Why the run ended before its script did, if it did so.
+    pub result: Result<(), RunFault>,
+}
+
 /// Answers a script line by line, from the session's state on. It reads pieces of at most 16,384 bytes, and writes the
-/// replies to the lines of a piece together. A read that was interrupted is tried again.
+/// replies to the lines of a piece together, or in parts, each as soon as it is more than 65,536 bytes. A read that was
+/// interrupted is tried again. It makes 16,777,216 reads at most.
 ///
 /// The target is where the script's first save-as goes that goes well: its store is the session's from then on, and the
-/// store before is dropped. A later save-as has no target, as the first one has none where there is none to begin with.
+/// store before is put aside. A later save-as has no target, as the first one has none where there is none to begin
+/// with.
 ///
-/// Where what is held is exact, over an honest store and target, the session handed back is what the answers lead to,
-/// and is exact, and each answer is the machine's, with a file fault in its place only where a store failed in just
-/// this call. A crash now leaves the documents acknowledged last or those of a commit that failed since, as a session's
-/// `validity` says; where no call of a store failed in this run, those of none that failed in it. A session that isn't
-/// handed back is dropped, with nothing more written: `run_in` leaves it with its caller.
-pub fn run<S: Store, R: Read, W: Write>(
+/// Where what is held is exact, over an honest store and target, the session is what the answers lead to, and is exact,
+/// and each answer is the machine's, with a file fault in its place only where a store failed in just this call. A crash
+/// now leaves the documents acknowledged last or those of a commit that failed since, as a session's `validity` says;
+/// where no call of a store failed in this run, those of none that failed in it.
+pub fn run<S: Store, R: Source, W: Sink>(
     alloc: Global,
     session: Session<S>,
     target: Option<S>,
     reader: &mut R,
     writer: &mut W,
-) -> Result<Session<S>, RunFault>
-    // Where the run ends well, a whole script was read and each line of it answered.
-    ensures ok { IfOk result (λ after. AreExact S.facts (holding session target None) → (left former : Option S)
-        × AnswersAll S.facts plain (holding session target None) (R.remaining reader.old) (R.remaining reader.new)
-        (W.contents writer.old) (W.contents writer.new) (holding after left former)) }
-    ensures exact { IfOk result (λ after. AreExact S.facts (holding session target None) → IsExact S.facts after) }
-    // Where reading fails, each line that had ended is answered; where memory runs out or the writer fails, the first
-    // ones.
-    ensures err { IfErr result (λ fault. AreExact S.facts (holding session target None) → (after : Holding S)
-        × EndsBy fault S.facts plain (holding session target None) (R.remaining reader.old) (R.remaining reader.new)
-        (W.contents writer.old) (W.contents writer.new) after) }
+) -> Ended<S>
+    ensures runs { RunsTo result.result S.facts plain (holding session target None) (R.remaining reader.old)
+        (R.remaining reader.new) (W.contents writer.old) (W.contents writer.new)
+        (holding result.session result.target result.former) }
+    ensures exact { result.result ≡ Ok tt → AreExact S.facts (holding session target None)
+        → IsExact S.facts result.session }
+    ensures cause { IfErr result.result (λ fault. HasCause fault (StopsReading R.reads (2 ^ 24) reader.old reader.new)
+        (StopsWriting W.writes writer.new)) }
 {
     let mut session = session;
     let mut target = target;
-    run_in(alloc, &mut session, &mut target, &mut None, reader, writer)?;
-    Ok(session)
+    let mut former = None;
+    let result = run_in(
+        alloc,
+        &mut session,
+        &mut target,
+        &mut former,
+        reader,
+        writer,
+    );
+    Ended {
+        session,
+        target,
+        former,
+        result,
+    }
 }
 
 /// Answers a script as `run` does, in places that its caller lends, and so keeps however it ends. An accepted save-as
@@ -109,7 +136,7 @@ pub fn run<S: Store, R: Read, W: Write>(
 /// Where what is held is exact, over an honest store and target, the session is at each end what the answered lines
 /// lead to, as `answer_line` says of each of them. Where memory ran out, the next line may be carried out too, without
 /// its reply. Where the writer failed, some of the replies may not have gone out.
-pub fn run_in<S: Store, R: Read, W: Write>(
+pub fn run_in<S: Store, R: Source, W: Sink>(
     alloc: Global,
     session: &mut Session<S>,
     target: &mut Option<S>,
@@ -117,9 +144,11 @@ pub fn run_in<S: Store, R: Read, W: Write>(
     reader: &mut R,
     writer: &mut W,
 ) -> Result<(), RunFault>
-    ensures { RunsTo result S.facts plain (holding session.old target.old former.old) (R.remaining reader.old)
+    ensures runs { RunsTo result S.facts plain (holding session.old target.old former.old) (R.remaining reader.old)
         (R.remaining reader.new) (W.contents writer.old) (W.contents writer.new)
         (holding session.new target.new former.new) }
+    ensures cause { IfErr result (λ fault. HasCause fault (StopsReading R.reads (2 ^ 24) reader.old reader.new)
+        (StopsWriting W.writes writer.new)) }
 {
     let plain = Manner::default();
     run_in_manner(alloc, plain, session, target, former, reader, writer, READS)
@@ -129,7 +158,7 @@ pub fn run_in<S: Store, R: Read, W: Write>(
 /// ended after them has failed. Where lines are echoed, the line and a line feed go before its reply; of a line of more
 /// than 140,001 bytes, which is no command, so many. A run that bails ends by `Refused` behind the first reply that is
 /// a refusal, and carries out nothing further, whatever else was read.
-pub fn run_in_manner<S: Store, R: Read, W: Write>(
+pub fn run_in_manner<S: Store, R: Source, W: Sink>(
     alloc: Global,
     manner: Manner,
     session: &mut Session<S>,
@@ -139,9 +168,11 @@ pub fn run_in_manner<S: Store, R: Read, W: Write>(
     writer: &mut W,
     reads: u32,
 ) -> Result<(), RunFault>
-    ensures { RunsTo result S.facts manner (holding session.old target.old former.old) (R.remaining reader.old)
+    ensures runs { RunsTo result S.facts manner (holding session.old target.old former.old) (R.remaining reader.old)
         (R.remaining reader.new) (W.contents writer.old) (W.contents writer.new)
         (holding session.new target.new former.new) }
+    ensures cause { IfErr result (λ fault. HasCause fault (StopsReading R.reads reads reader.old reader.new)
+        (StopsWriting W.writes writer.new)) }
 {
     let mut answering = Answering {
         begun: Vec::new(alloc),
@@ -149,36 +180,100 @@ pub fn run_in_manner<S: Store, R: Read, W: Write>(
     };
     let mut piece = [0u8; PIECE];
     for _ in 0..reads {
-        match reader.read(&mut piece) {
+        match reader.read_piece(&mut piece) {
             Ok(0) => {
-                let ended = answering.end(alloc, manner, session, target, former);
-                return send(ended, &mut answering.replies, writer);
+                return answer_rest(
+                    alloc,
+                    manner,
+                    &mut answering,
+                    session,
+                    target,
+                    former,
+                    writer,
+                );
             }
             Ok(count) => {
-                let fed = answering.feed(alloc, manner, session, target, former, &piece[..count]);
-                send(fed, &mut answering.replies, writer)?;
+                let bytes = &piece[..count];
+                answer_piece(
+                    alloc,
+                    manner,
+                    &mut answering,
+                    session,
+                    target,
+                    former,
+                    bytes,
+                    writer,
+                )?;
             }
-            Err(error) if error.kind() == ErrorKind::Interrupted => {}
-            Err(_) => return Err(RunFault::Read),
+            Err(ReadFault::Interrupted) => {}
+            Err(ReadFault::Failed) => return Err(RunFault::Read),
         }
     }
     Err(RunFault::Read)
 }
 
-/// Writes the replies so far, so that they are seen before the next read, also where the run stopped in a line.
-fn send<W: Write>(
-    answered: Result<(), RunFault>,
-    replies: &mut Vec<u8>,
+/// Answers the lines that end in a piece, and writes their replies, so that they are seen before the next read.
+fn answer_piece<S: Store, W: Sink>(
+    alloc: Global,
+    manner: Manner,
+    answering: &mut Answering,
+    session: &mut Session<S>,
+    target: &mut Option<S>,
+    former: &mut Option<S>,
+    piece: &[u8],
     writer: &mut W,
 ) -> Result<(), RunFault>
-    ensures ok { OnOk result ((is_ok answered ≡ true) × (replies.new.items ≡ [])
-        × Appends (W.contents writer.old) (W.contents writer.new) replies.old.items) }
-    ensures err { IfErr result (λ fault. (fault ≡ RunFault.Write) ⊎ ((answered ≡ Err fault)
-        × Appends (W.contents writer.old) (W.contents writer.new) replies.old.items)) }
+    ensures ok { OnOk result (AnswersPiece S.facts manner
+        (moment (holding session.old target.old former.old) answering.old) piece.now
+        (moment (holding session.new target.new former.new) answering.new)
+        (W.contents writer.old) (W.contents writer.new)) }
+    ensures sent { OnOk result (answering.old.replies.items ≡ [] → answering.new.replies.items ≡ []) }
+    ensures err { IfErr result (λ fault. PieceFails fault S.facts manner
+        (moment (holding session.old target.old former.old) answering.old) piece.now
+        (holding session.new target.new former.new) (W.contents writer.old) (W.contents writer.new)) }
+    ensures cause { IfErr result (λ fault. HasCause fault ⊥ (StopsWriting W.writes writer.new)) }
 {
-    if writer.write_all(replies).is_err() || writer.flush().is_err() {
+    let mut rest = piece;
+    while !rest.is_empty() {
+        let fed = answering.feed(alloc, manner, session, target, former, rest);
+        send(&mut answering.replies, writer)?;
+        rest = &rest[fed?..];
+    }
+    Ok(())
+}
+
+/// Answers the last line, which no line feed ends, if there is one, and writes its reply.
+fn answer_rest<S: Store, W: Sink>(
+    alloc: Global,
+    manner: Manner,
+    answering: &mut Answering,
+    session: &mut Session<S>,
+    target: &mut Option<S>,
+    former: &mut Option<S>,
+    writer: &mut W,
+) -> Result<(), RunFault>
+    ensures ok { OnOk result (AnswersRest S.facts manner
+        (moment (holding session.old target.old former.old) answering.old)
+        (holding session.new target.new former.new) (W.contents writer.old) (W.contents writer.new)) }
+    ensures err { IfErr result (λ fault. RestFails fault S.facts manner
+        (moment (holding session.old target.old former.old) answering.old)
+        (holding session.new target.new former.new) (W.contents writer.old) (W.contents writer.new)) }
+    ensures cause { IfErr result (λ fault. HasCause fault ⊥ (StopsWriting W.writes writer.new)) }
+{
+    let ended = answering.end(alloc, manner, session, target, former);
+    send(&mut answering.replies, writer)?;
+    ended
+}
+
+/// Writes the replies so far, also where the run stopped in a line.
+fn send<W: Sink>(replies: &mut Vec<u8>, writer: &mut W) -> Result<(), RunFault>
+    ensures ok { OnOk result ((replies.new.items ≡ [])
+        × Appends (W.contents writer.old) (W.contents writer.new) replies.old.items) }
+    ensures err { IfErr result (λ fault. (fault ≡ RunFault.Write) × StopsWriting W.writes writer.new) }
+{
+    if writer.write_out(replies).is_err() {
         return Err(RunFault::Write);
     }
     replies.clear();
-    answered
+    Ok(())
 }

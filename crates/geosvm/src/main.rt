@@ -4,16 +4,11 @@
 mod prompt;
 
 use crate::prompt::Prompting;
-use geos_model::Bytes;
-use geos_shell::{Outcome, RunFault, serve};
-use std::alloc::Global;
+use geos_shell::run_program;
 use std::env;
-use std::io::{self, ErrorKind, IsTerminal};
+use std::io::{self, IsTerminal};
 use std::process::ExitCode;
 use vm_store::machine_files;
-
-/// What `clap` writes of a word that isn't text.
-const NOT_TEXT: &[u8] = b"error: invalid UTF-8 was detected in one or more arguments\n";
 
 /// The words of the command line.
 fn words(rt: &HostRuntime) -> io::Result<Vec<String>> {
@@ -24,17 +19,6 @@ fn words(rt: &HostRuntime) -> io::Result<Vec<String>> {
     Ok(words)
 }
 
-/// What the words come to that couldn't be read.
-fn refused(alloc: Global, kind: ErrorKind) -> Outcome {
-    if kind == ErrorKind::OutOfMemory {
-        return Outcome::Run(RunFault::Memory);
-    }
-    match NOT_TEXT.to_vec(alloc) {
-        Ok(text) => Outcome::Usage(Bytes::from_vec(text)),
-        Err(_) => Outcome::Run(RunFault::Memory),
-    }
-}
-
 fn main(rt: HostRuntime) -> ExitCode {
     // They keep the standard streams guarded until all is told.
     let mut files = machine_files(&rt);
@@ -43,20 +27,13 @@ fn main(rt: HostRuntime) -> ExitCode {
         reader: rt.reader(),
         prompts: is_typed.then_some(rt.stderr()),
     };
-    let outcome = match words(&rt) {
-        Ok(words) => serve(
-            rt.alloc(),
-            &mut files,
-            &words,
-            &mut reader,
-            &mut io::writer(&rt),
-        ),
-        Err(error) => refused(rt.alloc(), error.kind()),
-    };
-    // Where not even this can be told, the status still says what became of the run.
-    let _ = match &outcome {
-        Outcome::Help(_) | Outcome::Version(_) => outcome.write_line(&mut io::writer(&rt)),
-        _ => outcome.write_line(&mut rt.stderr()),
-    };
-    ExitCode::from(outcome.status())
+    let status = run_program(
+        rt.alloc(),
+        &mut files,
+        words(&rt),
+        &mut reader,
+        &mut io::writer(&rt),
+        &mut rt.stderr(),
+    );
+    ExitCode::from(status)
 }

@@ -39,7 +39,6 @@ use vm_store::Store;
 /// document is the one that callers see: what was changed in memory an accepted update or save makes the file's.
 #[derive(Drop)]
 pub struct FileBlocks<S: Store> {
-    alloc: Global,
     cache: Cache<S>,
 }
 
@@ -68,7 +67,7 @@ impl<S: Store> FileBlocks<S> {
         ensures empty { IfOk result (λ blocks. blocks.resident ≡ []) }
     {
         match Cache::create(alloc, store, frames) {
-            Ok(cache) => Ok(FileBlocks { alloc, cache }),
+            Ok(cache) => Ok(FileBlocks { cache }),
             Err(refused) => Err(refused),
         }
     }
@@ -87,7 +86,7 @@ impl<S: Store> FileBlocks<S> {
         match Cache::open(alloc, store, frames) {
             Ok(cache) => {
                 cache.validity();
-                Ok(FileBlocks { alloc, cache })
+                Ok(FileBlocks { cache })
             }
             Err(refused) => Err(refused),
         }
@@ -171,13 +170,6 @@ impl<S: Store> FileBlocks<S> {
         let result = self.cache.save_as(target);
         self.cache.validity();
         result
-    }
-
-    /// How many blocks may be in memory.
-    pub fn frames(&self) -> usize
-        ensures { result ≡ self.now.frames }
-    {
-        self.cache.frames()
     }
 
     /// How often a block is locked, 0 where it isn't in memory.

@@ -3,12 +3,12 @@ use Rattle.geos_shell.specs.Options.{told_by}
 use Rattle.geos_shell.proofs.program.serve.Goals as goal
 
 -- The files are opened, and the script is answered.
-pub returns-in-Ok-begin : goal.returns-in-Ok-begin
-returns-in-Ok-begin g c =
+pub returns-in-Ok-begin-clause-comes_to : goal.returns-in-Ok-begin-clause-comes_to
+returns-in-Ok-begin-clause-comes_to g c =
     let begun = c.in-Ok-begin.begun in
     inr (
       told_by c.in-Ok.options,
       c.in-Ok.ensures.ok.0,
       c.in-Ok.ensures.ok.1,
-      inr (record { begun = c.begin.new.files; session = begun.0; target = begun.1; begins = c.in-Ok-begin.ensures.ok; answers = c.answer.ensures }),
+      inr (record { begun = c.begin.new.files; session = begun.0; target = begun.1; begins = c.in-Ok-begin.ensures.ok; answers = c.answer.ensures.answered }),
     )

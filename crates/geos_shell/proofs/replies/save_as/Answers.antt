@@ -1,18 +1,25 @@
 use Rattle.std.proofs.Common.{◌∙◌, sym}
+use Rattle.geos_shell.proofs.Refusals.{keeps_target}
 use Rattle.geos_shell.proofs.Serving.{serves_accepted, serves_refused}
 use Rattle.geos_shell.proofs.replies.save_as.Goals as goal
 
 -- The old store is put aside.
-pub returns-in-Ok : goal.returns-in-Ok
-returns-in-Ok g c =
+pub returns-in-Ok-clause-serves : goal.returns-in-Ok-clause-serves
+returns-in-Ok-clause-serves g c =
     let was = sym c.take.ensures.value ∙ c.in-Some.is in
     let done = c.in-Ok.ensures in
     let gone = c.take.ensures.after in
     rw (was, gone) (serves_accepted g.S.Store.facts c.args.session.now c.save_as.new.self c.in-Some.store c.in-Ok.old c.args.former.now done.ok done.saved_as.reverted done.saved_as.new_file done.saved_as.follows)
 
 -- The target goes back into its place.
-pub returns-in-Err : goal.returns-in-Err
-returns-in-Err g c =
+pub returns-in-Err-clause-serves : goal.returns-in-Err-clause-serves
+returns-in-Err-clause-serves g c =
     let was = sym c.take.ensures.value ∙ c.in-Some.is in
     let refused = c.in-Err.ensures in
     rw was (serves_refused g.S.Store.facts c.args.session.now c.save_as.new.self c.in-Some.store c.in-Err.refused.store c.args.former.now c.in-Err.refused.fault refused.err refused.saved_as.commits refused.saved_as.passes refused.saved_as.follows)
+
+pub returns-in-Err-clause-stays : goal.returns-in-Err-clause-stays
+returns-in-Err-clause-stays g c =
+    let was = sym c.take.ensures.value ∙ c.in-Some.is in
+    let refused = c.in-Err.ensures in
+    rw was (keeps_target g.S.Store.facts c.args.session.now c.save_as.new.self c.in-Some.store c.in-Err.refused.store c.args.former.now c.in-Err.refused.fault refused.saved_as (λ f is. (c.save_as.ensures.held f is).1) c.save_as.ensures.lists c.save_as.ensures.resident)

@@ -1,9 +1,9 @@
 use Rattle.std.proofs.Common.{◌≡◌, ◌++◌, ◌∷◌, [], ◌+◌, ◌<◌, length, take, drop, arith, sym, ap, ◌∙◌, refl}
-use Rattle.std.proofs.lemmas.List.{append_assoc, take_rest}
+use Rattle.std.proofs.lemmas.List.{append_assoc, take_all, take_rest}
 use Rattle.std.proofs.lemmas.Result.{err_from_is_err_and}
 use Rattle.geos_shell.specs.Holdings.{holding}
 use Rattle.geos_shell.specs.Progress.{StopsIn, moment}
-use Rattle.geos_shell.proofs.Lines.{HasNoFeed-before, HasNoFeed-from_reads, cut_at_feed, rest_at_feed}
+use Rattle.geos_shell.proofs.Lines.{HasNoFeed-before, HasNoFeed-from_reads, cut_at_feed, front_of, rest_at_feed}
 use Rattle.geos_shell.proofs.Steps.{GoesOver-trans, StopsIn-trans, StopsIn-same, Progress-part}
 use Rattle.geos_shell.specs.declared.runner.RunFault.TheVariants as faults
 use Rattle.geos_shell.proofs.answering.Answering.feed.Goals as goal
@@ -43,9 +43,26 @@ loop-end-preserved g c =
     let after = moment (holding c.end_line.new.session c.end_line.new.target c.end_line.new.former) c.end_line.new.self in
     (used ++ line, rw (take_rest rest (end + 1)) all, GoesOver-trans g.S.Store.facts c.args.manner first before after used line goes (c.in_ok-end_line.ensures.ok free))
 
+-- The replies are to be sent before the next line.
+pub returns-then-len-gt-HELD-clause-ok : goal.returns-then-len-gt-HELD-clause-ok
+returns-then-len-gt-HELD-clause-ok g c start read sent p =
+    let (used, cut, goes) = c.loop-end.invariant in
+    let rest = c.loop-end.rest.now in
+    let end = c.in-Some.end in
+    let found = c.in-Some.ensures in
+    let within : end < length rest = found.0.high in
+    let free = HasNoFeed-before rest end (omega arith) (λ k low. found.0.before k (omega arith) low) in
+    let line = take end rest ++ 10 ∷ [] in
+    let all : c.args.piece.now ≡ (used ++ line) ++ drop (end + 1) rest =
+    cut ∙ ap (λ l. used ++ l) (cut_at_feed rest end within found.1) ∙ sym (append_assoc used line (drop (end + 1) rest)) in
+    let first = moment (holding c.args.session.now c.args.target.now c.args.former.now) c.args.self.now in
+    let before = moment (holding c.loop-end.session c.loop-end.target c.loop-end.former) c.loop-end.self in
+    let after = moment (holding c.end_line.new.session c.end_line.new.target c.end_line.new.former) c.end_line.new.self in
+    rw (take_rest rest (end + 1), front_of (used ++ line) (drop (end + 1) rest) c.args.piece.now all) (GoesOver-trans g.S.Store.facts c.args.manner first before after used line goes (c.in_ok-end_line.ensures.ok free) start read sent p)
+
 -- The rest of the piece is kept.
 pub returns-clause-ok : goal.returns-clause-ok
-returns-clause-ok g c =
+returns-clause-ok g c start read sent p =
     let (used, cut, goes) = c.loop-end.invariant in
     let rest = c.loop-end.rest.now in
     let held = holding c.loop-end.session c.loop-end.target c.loop-end.former in
@@ -53,7 +70,8 @@ returns-clause-ok g c =
     let before = moment held c.loop-end.self in
     let after = moment held (record c.loop-end.self { begun = c.keep.new.begun }) in
     let free = HasNoFeed-from_reads rest (λ k low. c.in_default.ensures k (omega arith) low) in
-    rw cut (GoesOver-trans g.S.Store.facts c.args.manner first before after used rest goes (λ start read sent p. Progress-part p rest c.keep.new.begun.items free c.in_ok-keep.ensures.ok))
+    let whole = take_all (length c.args.piece.now) c.args.piece.now (omega arith) in
+    rw (whole, cut) (GoesOver-trans g.S.Store.facts c.args.manner first before after used rest goes (λ start read sent p. Progress-part p rest c.keep.new.begun.items free c.in_ok-keep.ensures.ok) start read sent p)
 
 -- No memory to keep it.
 pub returns-in_err-keep-clause-err : goal.returns-in_err-keep-clause-err
