@@ -22,9 +22,9 @@ ar rs libgeosvm.a channel.o files.o 2> /dev/null
 heap=$kit/c/liblibc_c.a
 gcc -std=c99 -pedantic $strict -fsyntax-only -x c "$here/geosvm.h"
 g++ -std=c++11 -pedantic $strict -fsyntax-only -x c++ "$here/geosvm.h"
-for name in try container; do gcc -std=c11 $strict "$here/$name.c" libgeosvm.a "$heap" -lpthread -o ${name}_c; done
+for name in try container misuse; do gcc -std=c11 $strict "$here/$name.c" libgeosvm.a "$heap" -lpthread -o ${name}_c; done
 rustc --edition 2024 -O "$here/try.rs" -C link-arg=libgeosvm.a -C link-arg="$heap" -o try_rs
-for name in try_c try_rs container_c; do
+for name in try_c try_rs container_c misuse_c; do
     rm -f ./*.document
     ./$name > $name.output
     if [ "$1" = --keep ]; then cp $name.output "$here/"; fi

@@ -6,6 +6,9 @@
 ** library has them. It calls read and write for all of that, which the archive has under the names below (see build.sh), so nothing
 ** leaves the process: a message is answered by the functions geosvm_io_* of geosvm.h before the call that brought it returns.
 **
+** A message that asks whether a session may begin on a file has, in place of the offset, the number of the file that the session is in, or
+** -1, by its two's complement.
+**
 ** A message that can't be carried out is answered as a write that failed, and so are bytes that weren't taken. After a read that gave
 ** too little the library asks whether that was the file's end. Nothing else is expected after any failure, so it may go on by a message.
 */
@@ -23,7 +26,7 @@ intptr_t geosvm_channel_write(int32_t number, const void *bytes, size_t size);
 enum { MESSAGE_LENGTH = 24 };
 
 /* What a message asks for. */
-enum operation { NOTHING, READ, READ_END, WRITE, LEN, SET_LEN, SYNC };
+enum operation { NOTHING, READ, READ_END, WRITE, LEN, SET_LEN, SYNC, BEGIN };
 
 /* What the last message of this thread asked for and isn't done yet. A message and all that follows it lie within one call of the
    library, so there is one at a time, however many sessions a thread has. */
@@ -41,10 +44,24 @@ static uint64_t number_at(const uint8_t *text) {
   return number;
 }
 
+/* For a program that defines the five functions on its files and not this one, as those that were written before it. */
+__attribute__((weak)) int32_t geosvm_io_begin(int32_t number, int32_t own) {
+  (void)number;
+  (void)own;
+  return 0;
+}
+
+/* The number of a file that stands in place of an offset, in its low four bytes. */
+static int32_t file_number_of(uint64_t at) {
+  const uint32_t low = (uint32_t)at;
+  return low <= INT32_MAX ? (int32_t)low : (int32_t)(low - 0x80000000u) + INT32_MIN;
+}
+
 /* Carries out what a message asks for, or keeps it until its bytes come. */
 static bool is_carried_out(int32_t number, const uint8_t *message) {
   const uint64_t at = number_at(message + 8), size = number_at(message + 16);
   pending.operation = NOTHING;
+  if (message[0] == BEGIN) return geosvm_io_begin(number, file_number_of(at)) == 0;
   if (at > INT64_MAX || size > INT64_MAX - at) return false;
   switch (message[0]) {
   case READ:

@@ -1,11 +1,13 @@
 /*
-** files.c: the five functions of geosvm.h for programs whose documents are files, each by the descriptor of its file. It is linked only
+** files.c: the six functions of geosvm.h for programs whose documents are files, each by the descriptor of its file. It is linked only
 ** into a program that doesn't define them itself. A call that a signal interrupts is made again.
 */
 #define _POSIX_C_SOURCE 200809L
 #define _FILE_OFFSET_BITS 64
 #include "geosvm.h"
 #include <errno.h>
+#include <fcntl.h>
+#include <sys/stat.h>
 #include <sys/types.h>
 #include <unistd.h>
 
@@ -14,6 +16,16 @@
   do { \
     result = call; \
   } while (result < 0 && errno == EINTR)
+
+/* Two numbers may be one file by dup, by its name or by another name of it. */
+int32_t geosvm_io_begin(int32_t file, int32_t own) {
+  struct stat here, there;
+  const int flags = fcntl(file, F_GETFL);
+  if (flags < 0 || (flags & O_APPEND) != 0) return -1;
+  if (own < 0) return 0;
+  if (fstat(file, &here) != 0 || fstat(own, &there) != 0) return -1;
+  return here.st_dev == there.st_dev && here.st_ino == there.st_ino ? -1 : 0;
+}
 
 int64_t geosvm_io_read(int32_t file, void *buffer, size_t size, int64_t at) {
   ssize_t count;

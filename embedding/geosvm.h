@@ -24,15 +24,17 @@
 **   - Bytes that geosvm_locked_chunk and geosvm_locked_raw have lent are never written, and are read as long as they are lent ("Locks"),
 **     and not while a call on their session runs.
 **   - A descriptor is open to be read and written, and stays so until geosvm_close; it stays the caller's, since no call closes it.
-**     Its position moves. It doesn't append.
+**     Its position moves.
 **   - No two open sessions have the same file, and none is saved into one that another has. Nobody else writes it meanwhile: take
-**     flock(fd, LOCK_EX | LOCK_NB) before. After a file was made, sync the folder that it lies in, or a crash may lose its name.
+**     flock(fd, LOCK_EX | LOCK_NB) before anything else is done with it. So it is opened without O_TRUNC, which cuts the document of
+**     whoever has the lock; geosvm_create and geosvm_save_as make a new document of whatever is there. After a file was made, sync
+**     the folder that it lies in, or a crash may lose its name.
 **   - Where the program defines the functions geosvm_io_* itself, they do what stands at them, below.
 **   - malloc, realloc and free are one allocator, and malloc aligns a block to each power of two up to 16 that divides its size.
 **   - No call comes from a signal handler, nor from the forked child of a process with threads.
 **
 ** These are no such cases, and do no harm: a call on a closed session, opening an open one, closing one twice, a handle that names
-** no block, a number that is no descriptor, a file that is no document.
+** no block, a number that is no descriptor, a file that is no document, a descriptor that appends, a save-as into the session's own file.
 */
 #ifndef GEOSVM_H
 #define GEOSVM_H
@@ -96,7 +98,7 @@ typedef struct geosvm_session {
 #define GEOSVM_NO_GROUP        29
 #define GEOSVM_NOT_OPEN       100   /* the session is closed */
 #define GEOSVM_OPEN_ALREADY   101   /* the session is open */
-#define GEOSVM_BAD_ARGUMENT   102   /* a number is out of its bounds */
+#define GEOSVM_BAD_ARGUMENT   102   /* a number is out of its bounds, or the session's own */
 #define GEOSVM_CUT_OFF        103   /* the buffer took a part; all was done */
 #define GEOSVM_UNTOLD         104   /* no memory for a reply; the command may be done */
 
@@ -112,9 +114,10 @@ int32_t geosvm_fault_name(int32_t code, uint8_t *name, size_t room, size_t *leng
 ** CAPI: Open and close
 **
 ** geosvm_open opens the document of a file, which is its updated one, with nothing to undo. geosvm_create makes an empty document of
-** a file, whatever was in it. `number` is the file's descriptor, or what the program itself calls it ("Files of the program's own"). At
-** most `frames` blocks are in memory at a time, 1 to 64. Where they answer anything but GEOSVM_OK the session is as it was;
-** GEOSVM_MEMORY, FILE, DAMAGED, NOT_DOCUMENT, OPEN_ALREADY, BAD_ARGUMENT.
+** a file, whatever was in it. `number` is the file's descriptor, or what the program itself calls it ("Files of the program's own"). A
+** descriptor that appends is GEOSVM_FILE, and so is a number that the program refuses, before anything is written. At most `frames`
+** blocks are in memory at a time, 1 to 64. Where they answer anything but GEOSVM_OK the session is as it was; GEOSVM_MEMORY, FILE,
+** DAMAGED, NOT_DOCUMENT, OPEN_ALREADY, BAD_ARGUMENT.
 **
 ** geosvm_close writes nothing: what was edited since the last commit is given up.
 */
@@ -159,7 +162,8 @@ int32_t geosvm_abandon(geosvm_session *s);
 **
 ** geosvm_save_as saves into another file, whatever was in it, and goes on in that, with all that can be undone; the file that is left
 ** goes back to its saved document. The number is as for geosvm_open. Where it is refused the session stays in its file, and the other one
-** may have any bytes. Either way one of the two files is the caller's alone again, as after geosvm_close.
+** may have any bytes. Either way one of the two files is the caller's alone again, as after geosvm_close. The number that the session
+** has itself is GEOSVM_BAD_ARGUMENT, and another number of the same file GEOSVM_FILE; both are refused before anything is written.
 */
 int32_t geosvm_update(geosvm_session *s);
 int32_t geosvm_save(geosvm_session *s);
@@ -202,7 +206,8 @@ int32_t geosvm_locked_raw(geosvm_session *s, uint16_t block, const uint8_t **byt
 ** anything but GEOSVM_OK. Bytes are copied, so they may be freed or written after the call. Numbers may be as large as their types allow.
 **
 ** At each call stand its refusals; the first that applies is answered. Any edit may be GEOSVM_MEMORY; GEOSVM_FILE where a block has to be
-** brought into memory, or another one out of it, and the file failed; and GEOSVM_DAMAGED where what was read of it is no block. What is
+** brought into memory, or another one out of it, and the file failed, and of geosvm_newraw, newheap, vcopy and chcopy, which write what
+** they make to the file at once; and GEOSVM_DAMAGED where what was read of it is no block. What is
 ** refused while blocks are locked stands in docs/SCRIPT.md under Locks.
 */
 
@@ -376,16 +381,24 @@ int32_t geosvm_redos(geosvm_session *s, size_t *count);
 /*
 ** CAPI: Files of the program's own
 **
-** The library has no file: it calls these five, with the number that geosvm_open was passed. A program that defines none of them gets
-** those of embedding/files.c, for which that number is the descriptor of an open file. A program that defines all five has its documents
-** wherever it likes, and the number is its own.
+** The library has no file: it calls these six, with the number that geosvm_open was passed. A program that defines none of them gets
+** those of embedding/files.c, for which that number is the descriptor of an open file. A program that defines all six, or all but the
+** first, has its documents wherever it likes, and the number is its own.
 **
 ** Each of them writes nothing but the buffer that it is lent, keeps no pointer to it, and calls nothing of this library. It is called by
-** the thread that called the library, so by several at once where sessions are in several. A negative number says that it failed. The
-** first two else answer how many bytes they moved, from and to `at`, which may be fewer than `size`; a read answers none only at the
-** file's end or past it, and a write, which may lie past the end, takes one at least. geosvm_io_len answers how long the file is. The
-** last two answer 0: geosvm_io_set_len cuts the file or adds zeros, and after geosvm_io_sync no crash loses what was done before.
+** the thread that called the library, so by several at once where sessions are in several.
+**
+** geosvm_io_begin is called before anything else is done with a file, for geosvm_open and geosvm_create with -1 as `own`, and for
+** geosvm_save_as with the number of the file that the session is in. It answers 0 where the session may go on, and anything else where it
+** may not, which is then GEOSVM_FILE: where the file can't be written at a place, or where both numbers are one file, which the save-as
+** would destroy. Where a program doesn't define it, each may go on.
+**
+** Of the others a negative number says that it failed. The first two else answer how many bytes they moved, from and to `at`, which may be
+** fewer than `size`; a read answers none only at the file's end or past it, and a write, which may lie past the end, takes one at least.
+** geosvm_io_len answers how long the file is. The last two answer 0: geosvm_io_set_len cuts the file or adds zeros, and after
+** geosvm_io_sync no crash loses what was done before.
 */
+int32_t geosvm_io_begin(int32_t number, int32_t own);
 int64_t geosvm_io_read(int32_t number, void *buffer, size_t size, int64_t at);
 int64_t geosvm_io_write(int32_t number, const void *bytes, size_t size, int64_t at);
 int64_t geosvm_io_len(int32_t number);

@@ -33,9 +33,10 @@ static void show(geosvm_session *s, const char *line) {
 }
 #define TELL(call) printf("%-26s %s\n", #call, name_of(call))
 
-/* Opens a file as the library wants it: to be read and written, and locked. */
+/* Opens a file as the library wants it: to be read and written, and locked before anything is done to it. So it isn't opened with
+   O_TRUNC, which would cut a document that another program has open; geosvm_create makes a new one of it anyway. */
 static int file(const char *path) {
-  int fd = open(path, O_RDWR | O_CREAT | O_TRUNC, 0644);
+  int fd = open(path, O_RDWR | O_CREAT, 0644);
   if (fd < 0 || flock(fd, LOCK_EX | LOCK_NB) != 0) { perror(path); exit(1); }
   return fd;
 }

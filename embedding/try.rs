@@ -51,7 +51,8 @@ struct Session {
 
 impl Session {
     fn on(path: &str, create: bool) -> Result<Session, Code> {
-        let opened = OpenOptions::new().read(true).write(true).create(create).truncate(create).open(path);
+        // Nothing is cut before the lock is taken: another program may have the document open. `geosvm_create` makes it anew.
+        let opened = OpenOptions::new().read(true).write(true).create(create).truncate(false).open(path);
         let file = opened.map_err(|_| Code(IN_USE))?;
         file.try_lock().map_err(|_| Code(IN_USE))?;
         let mut raw = Raw { at: std::ptr::null_mut(), is_open: false };

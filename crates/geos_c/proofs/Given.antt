@@ -1,14 +1,15 @@
 -- A number that the program gave is always found, and is its file.
-use Rattle.std.proofs.Common.{◌≡◌, ℕ, ℤ, List, [], ◌∷◌, length, Result, Ok, Err, true, false, refl, sym, ap, ◌∙◌, ◌^◌, ◌-◌, arith, inl, inr}
+use Rattle.std.proofs.Common.{◌≡◌, ℕ, List, [], ◌∷◌, length, Result, Ok, Err, true, false, refl, sym, ap, ◌∙◌, ◌^◌, ◌-◌, arith, inl, inr}
 use Rattle.vm_store.specs.System.{AreInterrupted, GivesUpOn, IsInterruptedOften, IsNotOpenedOrLocked, IsOpenedAndLocked}
 use Rattle.vm_store.specs.declared.system.SystemFault.{SystemFault}
 use Rattle.vm_store.specs.declared.system.SystemFault.TheVariants.{Interrupted, Failed}
 use Rattle.geos_c.specs.Stores.{FileStore, given_calls, store_on}
 use Rattle.geos_c.specs.declared.channel.ChannelFile.{ChannelFile}
 use Rattle.geos_c.specs.declared.channel.Given.{Given}
+use Rattle.geos_c.specs.declared.files.FileNumber.{FileNumber}
 
 module _ (path : List ℕ) (old : Given) where
-  abbrev finds : Given → Result ℤ SystemFault → Given → Type 0
+  abbrev finds : Given → Result FileNumber SystemFault → Given → Type 0
   finds = λ s. given_calls.opens s path false
 
   uninterrupted : (states : List Given) (new : Given) → AreInterrupted finds old states new → (states ≡ []) × (new ≡ old)
@@ -42,5 +43,5 @@ module _ (path : List ℕ) (old : Given) where
       let locked : Ok file ≡ Ok (record { number = opened.handle }) = opened.locks.1 in
       cc (same, found, locked)
 
-pub is_store : (s : FileStore) (n : ℤ) → s.file ≡ record { number = n } → s.has_failed_sync ≡ false → s.failures ≡ 0 → s ≡ store_on n
+pub is_store : (s : FileStore) (n : FileNumber) → s.file ≡ record { number = n } → s.has_failed_sync ≡ false → s.failures ≡ 0 → s ≡ store_on n
 is_store s n file syncs failures = λ i. record { file = file i; has_failed_sync = syncs i; failures = failures i }

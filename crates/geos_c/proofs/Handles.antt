@@ -20,12 +20,11 @@ use Rattle.std_alloc.proofs.ResultValues.{and_tt}
 use Rattle.std.specs.contracts.alloc.Global as heap
 use Rattle.std.proofs.alloc.Global.TheLaws as heap_laws
 use Rattle.std.specs.contracts.impls.GlobalAllocator.TheImpl.{ghosts}
-use Rattle.geos_c.specs.contracts.kept.Kept as state
 use Rattle.geos_c.specs.contracts.handle.Handle as handle
-use Rattle.geos_c.specs.Owning.{held}
+use Rattle.geos_c.specs.Owning.{held, kept_row}
 
 abbrev pub R : RattleType
-R = state.the_row
+R = kept_row
 
 abbrev pub Z : RattleType
 Z = heap.the_row

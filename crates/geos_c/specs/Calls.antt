@@ -64,29 +64,26 @@ Reverts facts old new answer = Steps facts commands.Revert old new answer
     × FailsCommit facts old new answer
     × MatchResult answer (λ _. new.log ≡ empty_log) (λ _. new.log ≡ old.log)
 
--- what a save-as that was accepted leaves: the session is in the target, and the store of the old file isn't kept
-pub record IsMovedTo {S : Type 0} (facts : S → StoreFacts) (target : S) (old new : SessionState S) : Type 0 where
-  pub store : S
-  pub saved : IsSavedAs facts target store (file_of old) (file_of new)
+-- what a save-as that was accepted leaves: the session is in the target, and the store of the old file is left
+pub record IsMovedTo {S : Type 0} (facts : S → StoreFacts) (target former : S) (old new : SessionState S)
+    : Type 0 where
+  pub saved : IsSavedAs facts target former (file_of old) (file_of new)
   pub step : IsExact facts old → IsTrue (facts target).honest
       → IsExact facts new × Step false (machine_of true old) (Some commands.SaveAs) Accepted (machine_of false new)
+  pub lists : new.log ≡ old.log
+  pub resident : new.resident ≡ old.resident
 
--- one that was refused: the session stays where it is, and the target isn't kept
-pub record IsNotMovedTo {S : Type 0} (facts : S → StoreFacts) (target : S) (old new : SessionState S) (fault : Fault)
-    : Type 0 where
-  pub store : S
-  pub refused : IsSaveAsRefused facts target store old new fault
+-- one that was refused: the session stays where it is, and the target is left so
+pub record IsNotMovedTo {S : Type 0} (facts : S → StoreFacts) (target left : S) (old new : SessionState S)
+    (fault : Fault) : Type 0 where
+  pub refused : IsSaveAsRefused facts target left old new fault
   pub step : IsExact facts old → IsExact facts new
-      × Step (failed_since (facts old.disk.store) (facts new.disk.store) || failed_since (facts target) (facts store))
+      × Step (failed_since (facts old.disk.store) (facts new.disk.store) || failed_since (facts target) (facts left))
       (machine_of true old) (Some commands.SaveAs) (Refused fault) (machine_of true new)
   -- what is busy is refused before all else
-  pub held : (busy : Fault) → IsBusy old busy → (fault ≡ busy) × (new ≡ old)
-
-abbrev pub SavesAs : {S : Type 0} → (S → StoreFacts) → S → SessionState S → SessionState S → Answer → Type 0
-SavesAs facts target old new answer =
-    MatchResult answer (λ _. IsMovedTo facts target old new) (IsNotMovedTo facts target old new)
-    × (new.log ≡ old.log)
-    × (new.resident ≡ old.resident)
+  pub held : (busy : Fault) → IsBusy old busy → (fault ≡ busy) × (left ≡ target) × (new ≡ old)
+  pub lists : new.log ≡ old.log
+  pub resident : new.resident ≡ old.resident
 
 -- Groups.
 

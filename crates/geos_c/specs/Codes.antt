@@ -14,7 +14,7 @@ not_open = pos 100
 abbrev pub open_already : ℤ
 open_already = pos 101
 
--- how many frames there may be is out of its bounds
+-- how many frames there may be is out of its bounds, or a save-as is into the session's own file
 abbrev pub bad_argument : ℤ
 bad_argument = pos 102
 

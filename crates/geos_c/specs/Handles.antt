@@ -1,26 +1,28 @@
 -- What calls make of a handle.
-use Rattle.std.specs.Prelude.{◌≡◌, ◌⊎◌, ◌<◌, ◌≤◌, ℕ, ℤ, pos, true, false, if◌then◌else◌, List, Result, IfOk, MatchResult}
+use Rattle.std.specs.Prelude.{◌≡◌, ◌⊎◌, ◌<◌, ◌≤◌, ℕ, ℤ, pos, true, false, if◌then◌else◌, List, Result, MatchResult}
 use Rattle.geos_model.specs.Refusal.{number_of_fault}
 use Rattle.geos_model.specs.declared.command.Command.{Command}
 use Rattle.geos_model.specs.declared.command.Edit.{Edit}
 use Rattle.geos_model.specs.declared.fault.Fault.{Fault}
 use Rattle.geos_model.specs.declared.fault.Fault.TheVariants.{Memory}
-use Rattle.vm_file.specs.declared.file.Refused.{Refused}
-use Rattle.vm_blocks.specs.Opening.{IsOpenedFrom, IsNotOpened, IsMadeIn, IsNotMade}
-use Rattle.undo_log.specs.Logging.{empty_log}
-use Rattle.undo_log.specs.Sessions.{SessionState, file_of}
+use Rattle.undo_log.specs.Sessions.{SessionState}
 use Rattle.geos_c.specs.Codes.{Tells, bad_argument, not_open, open_already}
 use Rattle.geos_c.specs.Edits.{Edits, Makes}
+use Rattle.geos_c.specs.Files.{Begun}
+use Rattle.geos_c.specs.Keeping.{IsBegun, SavesInto}
 use Rattle.geos_c.specs.LookUps.{TellsReply}
-use Rattle.geos_c.specs.Stores.{FileStore, facts, store_on}
+use Rattle.geos_c.specs.Stores.{FileStore, channel_calls, facts, file_number}
 use Rattle.geos_c.specs.Telling.{HandsOutEqual, HandsOutInfo, HandsOutNumber}
+use Rattle.geos_c.specs.declared.channel.Channel.{Channel}
 use Rattle.geos_c.specs.declared.handle.Handle.{Handle}
+use Rattle.geos_c.specs.declared.kept.Kept.{Kept}
 
--- A call on a handle. One that has a session still has it, and it has done what the code tells; one that has none still
--- has none, and that is what the code says.
+-- A call on a handle. One that has a session still has it, in the file with the same number, and it has done what the
+-- code tells; one that has none still has none, and that is what the code says.
 pub record OnHandle {T : Type 0} (does : SessionState FileStore → SessionState FileStore → Result T Fault → Type 0)
     (old new : Handle) (code : ℤ) : Type 0 where
   pub same : new.is_open ≡ old.is_open
+  pub number : old.is_open ≡ true → new.kept.number ≡ old.kept.number
   pub told : old.is_open ≡ true → Tells (does old.kept.session new.kept.session) code
   pub closed : old.is_open ≡ false → code ≡ not_open
 
@@ -28,6 +30,7 @@ pub record OnHandle {T : Type 0} (does : SessionState FileStore → SessionState
 pub record HandsOutOnHandle (does : SessionState FileStore → SessionState FileStore → List ℕ → List ℕ → ℕ → ℤ → Type 0)
     (old new : Handle) (before after : List ℕ) (count : ℕ) (code : ℤ) : Type 0 where
   pub same : new.is_open ≡ old.is_open
+  pub number : old.is_open ≡ true → new.kept.number ≡ old.kept.number
   pub told : old.is_open ≡ true → does old.kept.session new.kept.session before after count code
   pub closed : old.is_open ≡ false → (code ≡ not_open) × (count ≡ 0) × (after ≡ before)
 
@@ -35,6 +38,7 @@ pub record HandsOutOnHandle (does : SessionState FileStore → SessionState File
 pub record TellsOnHandle (does : SessionState FileStore → SessionState FileStore → ℤ → Type 0) (nothing : Type 0)
     (old new : Handle) (code : ℤ) : Type 0 where
   pub same : new.is_open ≡ old.is_open
+  pub number : old.is_open ≡ true → new.kept.number ≡ old.kept.number
   pub told : old.is_open ≡ true → does old.kept.session new.kept.session code
   pub closed : old.is_open ≡ false → (code ≡ not_open) × nothing
 
@@ -71,37 +75,35 @@ Copies does old new code = does old new code ⊎ IsUncopied old new code
 abbrev pub CopiesAndTells : ℕ → (Handle → Handle → ℤ → Type 0) → Handle → Handle → ℤ → Type 0
 CopiesAndTells number does old new code = does old new code ⊎ (IsUncopied old new code × (number ≡ 0))
 
--- Beginning.
+-- Sessions and the files that they are in.
 
-abbrev pub Begun : Type 0
-Begun = Result (SessionState FileStore) (Refused FileStore)
+-- what calls of the program's files a call makes, from one state of them to another
+abbrev pub OnFiles : (Channel → Channel → Type 0) → Type 0
+OnFiles makes = (from : Channel) × (to : Channel) × makes from to
 
--- a session on what a store has, with so many frames and nothing to undo, or why there is none
-abbrev pub IsOpening : FileStore → ℕ → Begun → Type 0
-IsOpening store frames begun =
-    MatchResult begun (λ session. IsOpenedFrom facts store (file_of session))
-    (λ refused. IsNotOpened facts store refused.store refused.fault)
-    × IfOk begun (λ session. (session.log ≡ empty_log) × (session.frames ≡ frames))
+-- what was begun is behind the handle, or the handle is as it was, and the code is the fault's number
+abbrev pub IsPut : Result (Kept FileStore) Fault → Handle → Handle → ℤ → Type 0
+IsPut answer old new code = MatchResult answer (λ kept. (code ≡ pos 0) × (new.is_open ≡ true) × (new.kept ≡ kept))
+    (λ fault. (new ≡ old) × (code ≡ pos (number_of_fault fault)))
 
--- likewise one on an empty document that a store was made
-abbrev pub IsCreation : FileStore → ℕ → Begun → Type 0
-IsCreation store frames begun =
-    MatchResult begun (λ session. IsMadeIn facts store (file_of session))
-    (λ refused. IsNotMade facts store refused.store refused.fault)
-    × IfOk begun (λ session. (session.log ≡ empty_log) × (session.frames ≡ frames))
-
--- What was begun is behind the handle; or the handle is as it was, for the fault, or since there is no memory for the
--- box.
-abbrev pub IsBegun : Begun → Handle → Handle → ℤ → Type 0
-IsBegun begun old new code = MatchResult begun
-    (λ session. ((code ≡ pos 0) × (new.is_open ≡ true) × (new.kept.session ≡ session))
-    ⊎ ((new ≡ old) × (code ≡ pos (number_of_fault Memory))))
-    (λ refused. (new ≡ old) × (code ≡ pos (number_of_fault refused.fault)))
-
--- A session is begun on a number behind a handle that has none, where so many frames are allowed.
-pub record Begins (is : FileStore → ℕ → Begun → Type 0) (number : ℤ) (frames : ℕ) (old new : Handle) (code : ℤ)
+-- A session is begun on the file with a number behind a handle that has none, where so many frames are allowed.
+pub record Begins (is : FileStore → Begun FileStore → Type 0) (number : ℤ) (frames : ℕ) (old new : Handle) (code : ℤ)
     : Type 0 where
   pub in_use : old.is_open ≡ true → (code ≡ open_already) × (new ≡ old)
   pub out_of_bounds : old.is_open ≡ false → (frames < 1) ⊎ (64 < frames) → (code ≡ bad_argument) × (new ≡ old)
-  pub begun : old.is_open ≡ false → 1 ≤ frames → frames ≤ 64
-      → (begun : Begun) × is (store_on number) frames begun × IsBegun begun old new code
+  pub begun : old.is_open ≡ false → 1 ≤ frames → frames ≤ 64 → (answer : Result (Kept FileStore) Fault)
+      × OnFiles (λ from to. IsBegun channel_calls is (file_number number) from answer to) × IsPut answer old new code
+
+-- A save-as behind a handle, likewise.
+pub record SavesOnHandle (number : ℤ) (old new : Handle) (code : ℤ) : Type 0 where
+  pub same : new.is_open ≡ old.is_open
+  pub told : old.is_open ≡ true
+      → OnFiles (λ from to. SavesInto channel_calls facts (file_number number) old.kept new.kept from to code)
+  pub closed : old.is_open ≡ false → code ≡ not_open
+
+-- The session is given up, and its store closed as it was.
+pub record ClosesHandle (old new : Handle) (code : ℤ) : Type 0 where
+  pub now : new.is_open ≡ false
+  pub told : old.is_open ≡ true
+      → (code ≡ pos 0) × OnFiles (λ from to. channel_calls.closes from old.kept.session.disk.store to)
+  pub closed : old.is_open ≡ false → code ≡ not_open

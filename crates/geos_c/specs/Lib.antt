@@ -1,7 +1,9 @@
 pub mod Calls
 pub mod Codes
 pub mod Edits
+pub mod Files
 pub mod Handles
+pub mod Keeping
 pub mod Lending
 pub mod Lines
 pub mod LookUps

@@ -1,6 +1,6 @@
 //! Calls on a session over any store, answered by codes.
 ghost use Rattle.std.specs.Prelude.{◌≡◌};
-ghost use Rattle.geos_c.specs.Calls.{AbandonsGroup, BeginsGroup, CountsLocks, Dirties, EndsGroup, LocksBlock, Redoes, Reverts, Saves, SavesAs, Undoes, UnlocksBlock, Updates};
+ghost use Rattle.geos_c.specs.Calls.{AbandonsGroup, BeginsGroup, CountsLocks, Dirties, EndsGroup, LocksBlock, Redoes, Reverts, Saves, Undoes, UnlocksBlock, Updates};
 ghost use Rattle.geos_c.specs.Codes.{Tells};
 ghost use Rattle.geos_c.specs.Edits.{Makes, number_of as number_done};
 
@@ -42,19 +42,6 @@ pub(crate) fn revert<S: Store>(session: &mut Session<S>) -> i32
 {
     let answer = session.revert();
     code_of(answer)
-}
-
-/// Goes on in the target. The store that is left is dropped: its file is the program's.
-pub(crate) fn save_as<S: Store>(session: &mut Session<S>, target: S) -> i32
-    ensures { Tells (SavesAs S.facts target session.old session.new) result }
-{
-    match session.save_as(target) {
-        Ok(former) => {
-            drop(former);
-            0
-        }
-        Err(refused) => i32::from(refused.fault.number()),
-    }
 }
 
 pub(crate) fn begin<S: Store>(session: &mut Session<S>) -> i32

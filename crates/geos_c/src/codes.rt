@@ -4,6 +4,7 @@ ghost use Rattle.geos_model.specs.Refusal.{number_of_fault, name_of_fault};
 ghost use Rattle.geos_model.specs.Reply.{BytesAre, reply_by};
 ghost use Rattle.geos_c.specs.Codes.{HandsOut, HandsOutReply, IsNamed, code_of as code_told};
 
+use crate::files::ProgramFiles;
 use geos_model::Fault;
 
 /// The handle has no session.
@@ -12,7 +13,7 @@ pub(crate) const NOT_OPEN: i32 = 100;
 /// The handle has a session already.
 pub(crate) const OPEN_ALREADY: i32 = 101;
 
-/// A number is out of its bounds.
+/// A number is out of its bounds, or the session's own.
 pub(crate) const BAD_ARGUMENT: i32 = 102;
 
 /// The buffer took a part.
@@ -99,8 +100,14 @@ pub(crate) fn hand_out_answer(
 }
 
 /// Hands out the name of the fault that has this number.
-pub(crate) fn fault_name(code: i32, name: &mut [u8], length: &mut usize) -> i32
-    ensures { IsNamed code name.old name.new length.new result }
+pub(crate) fn fault_name<F: ProgramFiles>(
+    files: &mut F,
+    code: i32,
+    name: &mut [u8],
+    length: &mut usize,
+) -> i32
+    ensures named { IsNamed code name.old name.new length.new result }
+    ensures calls_nothing { files.new ≡ files.old }
 {
     match fault_of(code) {
         Some(fault) => hand_out(fault.name().as_bytes(), name, length),

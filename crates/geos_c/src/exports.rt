@@ -1,24 +1,25 @@
 //! What C calls. Each call answers 0, the number of a fault of the document, 1 to 29, or a code of its own from 100 on.
-ghost use Rattle.std.specs.Prelude.{◌≡◌, if◌then◌else◌, pos, true, false};
-ghost use Rattle.geos_c.specs.Calls.{AbandonsGroup, BeginsGroup, CountsLocks, Dirties, EndsGroup, LocksBlock, Redoes, Reverts, Saves, SavesAs, Undoes, UnlocksBlock, Updates};
-ghost use Rattle.geos_c.specs.Codes.{IsNamed, not_open};
-ghost use Rattle.geos_c.specs.Handles.{Begins, IsBegun, IsCreation, IsOpening, HandsOutOnHandle, OnHandle};
+ghost use Rattle.std.specs.Prelude.{◌≡◌, false, pos, true, MatchResult};
+ghost use Rattle.geos_model.specs.Refusal.{number_of_fault};
+ghost use Rattle.geos_c.specs.Calls.{AbandonsGroup, BeginsGroup, CountsLocks, Dirties, EndsGroup, LocksBlock, Redoes, Reverts, Saves, Undoes, UnlocksBlock, Updates};
+ghost use Rattle.geos_c.specs.Codes.{IsNamed};
+ghost use Rattle.geos_c.specs.Handles.{Begins, ClosesHandle, HandsOutOnHandle, OnHandle, SavesOnHandle};
+ghost use Rattle.geos_c.specs.Keeping.{IsCreation, IsOpening};
 ghost use Rattle.geos_c.specs.Lines.{AnswersLine};
-ghost use Rattle.geos_c.specs.Stores.{facts, store_on};
+ghost use Rattle.geos_c.specs.Stores.{facts};
 
 use crate::calls::{
-    abandon, begin as begin_group, dirty, end, lock, locks, redo, revert, save, save_as, undo,
-    unlock, update,
+    abandon, begin as begin_group, dirty, end, lock, locks, redo, revert, save, undo, unlock,
+    update,
 };
-use crate::channel::{ChannelFile, store};
+use crate::channel::{Channel, ChannelFile};
 use crate::codes::{BAD_ARGUMENT, NOT_OPEN, OPEN_ALREADY, fault_name};
+use crate::files::FileNumber;
 use crate::handle::{Handle, put, take};
-use crate::kept::Kept;
+use crate::kept::{Kept, close, create, open, save_as};
 use crate::line::command;
 use geos_model::Fault;
 use std::alloc::Global;
-use undo_log::Session;
-use vm_file::Refused;
 use vm_store::HostStore;
 
 /// No session has more frames.
@@ -44,31 +45,25 @@ mod lending;
 mod look_ups;
 
 // Puts a session that was begun behind a handle.
-fn begin(
-    handle: &mut Handle,
-    alloc: Global,
-    begun: Result<Session<HostStore<ChannelFile>>, Refused<HostStore<ChannelFile>>>,
-) -> i32
+fn begin(handle: &mut Handle, begun: Result<Box<Kept<HostStore<ChannelFile>>>, Fault>) -> i32
     requires { handle.old.is_open ≡ false }
-    ensures { IsBegun begun handle.old handle.new result }
+    ensures { MatchResult begun
+        (λ kept. (result ≡ pos 0) × (handle.new.is_open ≡ true) × (handle.new.kept ≡ kept.value))
+        (λ fault. (handle.new ≡ handle.old) × (result ≡ pos (number_of_fault fault))) }
 {
-    let session = match begun {
-        Ok(session) => session,
-        Err(refused) => return i32::from(refused.fault.number()),
-    };
-    match Box::new(alloc, Kept { session }) {
+    match begun {
         Ok(kept) => {
             put(handle, kept);
             0
         }
-        Err(_) => i32::from(Fault::Memory.number()),
+        Err(fault) => i32::from(fault.number()),
     }
 }
 
 /// Opens the document of a file of the program's, with so many frames, 1 to 64.
 #[unsafe(no_mangle)]
 pub extern "C" fn geosvm_open(handle: &mut Handle, alloc: Global, number: i32, frames: usize) -> i32
-    ensures { Begins IsOpening number frames handle.old handle.new result }
+    ensures { Begins (IsOpening facts frames) number frames handle.old handle.new result }
 {
     if handle.is_open() {
         return OPEN_ALREADY;
@@ -76,7 +71,10 @@ pub extern "C" fn geosvm_open(handle: &mut Handle, alloc: Global, number: i32, f
     if frames < 1 || frames > MOST_FRAMES {
         return BAD_ARGUMENT;
     }
-    begin(handle, alloc, Session::open(alloc, store(number), frames))
+    begin(
+        handle,
+        open(alloc, &mut Channel, FileNumber(number), frames),
+    )
 }
 
 /// Makes a file of the program's an empty document, whatever was in it.
@@ -87,7 +85,7 @@ pub extern "C" fn geosvm_create(
     number: i32,
     frames: usize,
 ) -> i32
-    ensures { Begins IsCreation number frames handle.old handle.new result }
+    ensures { Begins (IsCreation facts frames) number frames handle.old handle.new result }
 {
     if handle.is_open() {
         return OPEN_ALREADY;
@@ -95,19 +93,21 @@ pub extern "C" fn geosvm_create(
     if frames < 1 || frames > MOST_FRAMES {
         return BAD_ARGUMENT;
     }
-    begin(handle, alloc, Session::create(alloc, store(number), frames))
+    begin(
+        handle,
+        create(alloc, &mut Channel, FileNumber(number), frames),
+    )
 }
 
 /// Gives up what isn't committed. Nothing is written.
 #[unsafe(no_mangle)]
 pub extern "C" fn geosvm_close(handle: &mut Handle, alloc: Global) -> i32
-    ensures closed { handle.new.is_open ≡ false }
-    ensures code { result ≡ (if handle.old.is_open then pos 0 else not_open) }
+    ensures { ClosesHandle handle.old handle.new result }
 {
     match take(handle, alloc) {
         None => NOT_OPEN,
         Some(kept) => {
-            drop(kept);
+            close(&mut Channel, Box::into_inner(kept));
             0
         }
     }
@@ -172,9 +172,16 @@ pub extern "C" fn geosvm_revert(handle: &mut Handle, alloc: Global) -> i32
 /// Goes on in another file of the program's. The old one is no longer used.
 #[unsafe(no_mangle)]
 pub extern "C" fn geosvm_save_as(handle: &mut Handle, alloc: Global, number: i32) -> i32
-    ensures { OnHandle (SavesAs facts (store_on number)) handle.old handle.new result }
+    ensures { SavesOnHandle number handle.old handle.new result }
 {
-    answer!(handle, alloc, |session| save_as(session, store(number)))
+    match take(handle, alloc) {
+        None => NOT_OPEN,
+        Some(mut kept) => {
+            let code = save_as(&mut Channel, &mut kept, FileNumber(number));
+            put(handle, kept);
+            code
+        }
+    }
 }
 
 /// The name of the fault that has this number, 1 to 29.
@@ -182,7 +189,7 @@ pub extern "C" fn geosvm_save_as(handle: &mut Handle, alloc: Global, number: i32
 pub extern "C" fn geosvm_fault_name(code: i32, name: &mut [u8], length: &mut usize) -> i32
     ensures { IsNamed code name.old name.new length.new result }
 {
-    fault_name(code, name, length)
+    fault_name(&mut Channel, code, name, length)
 }
 
 #[unsafe(no_mangle)]

@@ -1,15 +1,21 @@
 //! What C holds of a session: a struct of its own memory, which owns a box where it is open.
 ghost use Rattle.std.specs.Prelude.{◌≡◌, true, false};
 ghost use Rattle.std.specs.Option.{MatchOption};
-ghost use Rattle.geos_c.specs.contracts.kept.Kept.{the_row};
-ghost use Rattle.geos_c.specs.declared.kept.Kept.{Kept as Session};
+ghost use Rattle.geos_c.specs.Owning.{kept_row};
+ghost use Rattle.geos_c.specs.Stores.{FileStore};
+ghost use Rattle.geos_c.specs.declared.kept.Kept.{Kept as KeptIn};
 
+use crate::channel::ChannelFile;
 use crate::kept::Kept;
 use crate::loose::Loose;
 use std::alloc::Global;
 use std::marker::Model;
 use std::mem::replace;
 use std::ptr::null_mut;
+use vm_store::HostStore;
+
+/// What lies behind an open handle.
+type KeptSession = Kept<HostStore<ChannelFile>>;
 
 /// A struct of zeros is a closed one. Dropping an open one would forget its session.
 #[repr(C)]
@@ -18,14 +24,13 @@ pub struct Handle {
     at: *mut u8,
     is_open: bool,
     /// What the box has, where it is open.
-    pub(crate) ghost kept: { Session } by { the_row.coded },
+    pub(crate) ghost kept: { KeptIn FileStore } by { kept_row.coded },
 }
 
 impl Model for Handle {
-    ghost use Rattle.geos_c.specs.Owning.{held};
-    ghost use Rattle.geos_c.specs.contracts.kept.Kept.{the_row};
+    ghost use Rattle.geos_c.specs.Owning.{held, kept_row};
 
-    ghost also_owns = { λ h. held the_row h.is_open h.at h.kept };
+    ghost also_owns = { λ h. held kept_row h.is_open h.at h.kept };
 }
 
 impl Handle {
@@ -35,7 +40,7 @@ impl Handle {
         Handle { at, is_open: false }
     }
 
-    fn of(loose: Loose<Kept, Global>) -> Handle
+    fn of(loose: Loose<KeptSession, Global>) -> Handle
         ensures { (result.is_open ≡ true) × (result.kept ≡ loose.value) }
     {
         let Loose { at, alloc: _ } = loose;
@@ -45,13 +50,13 @@ impl Handle {
         }
     }
 
-    fn into_loose(self, alloc: Global) -> Loose<Kept, Global>
+    fn into_loose(self, alloc: Global) -> Loose<KeptSession, Global>
         requires { self.is_open ≡ true }
         ensures { result.value ≡ self.kept }
     {
         let Handle { at, is_open: _ } = self;
         Loose {
-            at: at as *mut Kept,
+            at: at as *mut KeptSession,
             alloc,
         }
     }
@@ -68,7 +73,7 @@ fn null() -> *mut u8 {
 }
 
 /// Takes out what lies behind a handle, which is closed from then on.
-pub(crate) fn take(handle: &mut Handle, alloc: Global) -> Option<Box<Kept>>
+pub(crate) fn take(handle: &mut Handle, alloc: Global) -> Option<Box<KeptSession>>
     ensures closed { handle.new.is_open ≡ false }
     ensures was_open { MatchOption result (handle.old.is_open ≡ false)
         (λ kept. (handle.old.is_open ≡ true) × (kept.value ≡ handle.old.kept)) }
@@ -84,7 +89,7 @@ pub(crate) fn take(handle: &mut Handle, alloc: Global) -> Option<Box<Kept>>
 }
 
 /// Puts a session behind a handle.
-pub(crate) fn put(handle: &mut Handle, kept: Box<Kept>)
+pub(crate) fn put(handle: &mut Handle, kept: Box<KeptSession>)
     requires { handle.old.is_open ≡ false }
     ensures { (handle.new.is_open ≡ true) × (handle.new.kept ≡ kept.value) }
 {

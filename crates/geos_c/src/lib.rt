@@ -6,6 +6,7 @@ mod channel;
 mod codes;
 mod copying;
 mod exports;
+mod files;
 mod handle;
 mod kept;
 mod lending;

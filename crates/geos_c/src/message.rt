@@ -22,6 +22,8 @@ pub(crate) enum Operation {
     SetLen,
     /// To sync the file.
     Sync,
+    /// Whether a session may begin on the file, which is told by what number the session has so far.
+    Begin,
 }
 
 impl Operation {
@@ -35,6 +37,7 @@ impl Operation {
             Operation::Len => 4,
             Operation::SetLen => 5,
             Operation::Sync => 6,
+            Operation::Begin => 7,
         }
     }
 }

@@ -25,7 +25,7 @@ use Rattle.std.proofs.raw_atomic.Walks.{proved_at, leaves}
 use Rattle.std.specs.Prelude.{None, pos}
 use Rattle.geos_model.specs.Document.{empty_document}
 use Rattle.undo_log.specs.Logging.{empty_log}
-use Rattle.geos_c.specs.Stores.{store_on}
+use Rattle.geos_c.specs.Stores.{file_number, store_on}
 use Rattle.geos_c.proofs.Handles.{R, two, two_good, handle_in}
 use Rattle.geos_c.specs.contracts.handle.Handle.closed.{ended, clauses}
 use Rattle.geos_c.specs.contracts.handle.Handle.closed.Key.{name as #self}
@@ -35,8 +35,9 @@ use Rattle.geos_c.proofs.handle.Handle.closed.Code as code
 -- what a closed handle says of a value, which is nothing
 abbrev closed_kept : R.Denot
 closed_kept = record {
+  number = file_number (pos 0);
   session = record {
-    disk = record { store = store_on (pos 0); updated = empty_document; saved = empty_document; in_doubt = []; sequence = 0; marked = None };
+    disk = record { store = store_on (file_number (pos 0)); updated = empty_document; saved = empty_document; in_doubt = []; sequence = 0; marked = None };
     document = empty_document;
     resident = [];
     frames = 0;

@@ -1,0 +1,72 @@
+-- How a session is begun that is kept, and how it moves into another file of the program's.
+use Rattle.std.specs.Prelude.{◌≡◌, ◌≢◌, ◌⊎◌, ℕ, ℤ, Some, Result, Ok, IfOk, MatchResult}
+use Rattle.geos_model.specs.declared.fault.Fault.{Fault}
+use Rattle.vm_store.specs.Facts.{StoreFacts}
+use Rattle.vm_blocks.specs.Opening.{IsOpenedFrom, IsNotOpened, IsMadeIn, IsNotMade}
+use Rattle.undo_log.specs.Logging.{empty_log}
+use Rattle.undo_log.specs.Sessions.{file_of}
+use Rattle.geos_c.specs.Calls.{IsMovedTo, IsNotMovedTo}
+use Rattle.geos_c.specs.Codes.{Tells, bad_argument}
+use Rattle.geos_c.specs.Files.{BeginsOn, Begun, FileCalls, IsNotBegun, IsShut}
+use Rattle.geos_c.specs.declared.files.FileNumber.{FileNumber}
+use Rattle.geos_c.specs.declared.kept.Kept.{Kept}
+
+-- a session on what a store has, with so many frames and nothing to undo, or why there is none
+abbrev pub IsOpening : {S : Type 0} → (S → StoreFacts) → ℕ → S → Begun S → Type 0
+IsOpening facts frames store begun =
+    MatchResult begun (λ session. IsOpenedFrom facts store (file_of session))
+    (λ refused. IsNotOpened facts store refused.store refused.fault)
+    × IfOk begun (λ session. (session.log ≡ empty_log) × (session.frames ≡ frames))
+
+-- likewise one on an empty document that a store was made
+abbrev pub IsCreation : {S : Type 0} → (S → StoreFacts) → ℕ → S → Begun S → Type 0
+IsCreation facts frames store begun =
+    MatchResult begun (λ session. IsMadeIn facts store (file_of session))
+    (λ refused. IsNotMade facts store refused.store refused.fault)
+    × IfOk begun (λ session. (session.log ≡ empty_log) × (session.frames ≡ frames))
+
+-- What is kept, or why nothing is, and what was called for that: the file with this number is opened, and its store is
+-- the session's or is closed as it was left.
+abbrev pub IsBegun : {F S : Type 0} → FileCalls F S → (S → Begun S → Type 0) → FileNumber → F
+    → Result (Kept S) Fault → F → Type 0
+IsBegun calls is number old answer new = MatchResult answer
+    (λ kept. (kept.number ≡ number) × BeginsOn calls is number old kept.session new)
+    (λ fault. IsNotBegun calls is number old fault new)
+
+-- The file with this number was opened and saved into, and the session is in it; the store of the file that it left was
+-- closed as the save-as left it, and no other call was made.
+pub record IsMoved {F S : Type 0} (calls : FileCalls F S) (facts : S → StoreFacts) (number : FileNumber)
+    (old new : Kept S) (from to : F) : Type 0 where
+  pub target : S
+  pub opened : F
+  pub opens : calls.opens from number (Some old.number) (Ok target) opened
+  pub former : S
+  pub moved : IsMovedTo facts target former old.session new.session
+  pub closes : calls.closes opened former to
+  pub number_is : new.number ≡ number
+
+-- The file was opened and couldn't be saved into, and its store was closed as the save-as left it.
+pub record StaysBehind {F S : Type 0} (calls : FileCalls F S) (facts : S → StoreFacts) (number : FileNumber)
+    (old new : Kept S) (from : F) (fault : Fault) (to : F) : Type 0 where
+  pub target : S
+  pub opened : F
+  pub opens : calls.opens from number (Some old.number) (Ok target) opened
+  pub back : S
+  pub stays : IsNotMovedTo facts target back old.session new.session fault
+  pub closes : calls.closes opened back to
+  pub number_is : new.number ≡ old.number
+
+-- it couldn't be opened, or couldn't be saved into
+abbrev pub IsNotMoved : {F S : Type 0} → FileCalls F S → (S → StoreFacts) → FileNumber → Kept S → Kept S → F → Fault
+    → F → Type 0
+IsNotMoved calls facts number old new from fault to =
+    (IsShut calls number (Some old.number) from fault to × (new ≡ old))
+    ⊎ StaysBehind calls facts number old new from fault to
+
+-- A save-as into the session's own file is refused before anything is called.
+pub record SavesInto {F S : Type 0} (calls : FileCalls F S) (facts : S → StoreFacts) (number : FileNumber)
+    (old new : Kept S) (from to : F) (code : ℤ) : Type 0 where
+  pub own : number ≡ old.number → (code ≡ bad_argument) × (new ≡ old) × (to ≡ from)
+  pub other : number ≢ old.number → Tells (λ (answer : Result (Unit {0}) Fault). MatchResult answer
+      (λ _. IsMoved calls facts number old new from to)
+      (λ fault. IsNotMoved calls facts number old new from fault to)) code
