@@ -1,5 +1,5 @@
 //! The commit before the last one.
-ghost use Rattle.std.specs.Prelude.{◌≡◌, IsTrue, IfOk, IfErr, IsErrOf, length};
+ghost use Rattle.std.specs.Prelude.{◌≡◌, ◌≤◌, IsTrue, IfOk, IfErr, IsErrOf, length};
 ghost use Rattle.vm_store.specs.Facts.{FailedSince, Holds, IsUnchanged};
 ghost use Rattle.vm_file.specs.Calls.{IsResourceFault};
 ghost use Rattle.document_dump.specs.Other.{IsCopyRefusal, IsWithGateClosed};
@@ -14,6 +14,7 @@ const GATE: usize = 4;
 /// All bytes of a file.
 fn read_all<S: Store>(alloc: Global, store: &mut S) -> Result<Vec<u8>, Fault>
     ensures honest { (S.facts store.new).honest ≡ (S.facts store.old).honest }
+    ensures failures { (S.facts store.old).failures ≤ (S.facts store.new).failures }
     ensures unchanged { IsTrue (S.facts store.old).honest → IsUnchanged (S.facts store.old) (S.facts store.new) }
     ensures size { IfOk result (λ bytes. IsTrue (S.facts store.old).honest
         → length bytes.items ≡ length (S.facts store.old).content) }
@@ -41,6 +42,7 @@ pub fn copy_with_gate_closed<S: Store>(
 ) -> Result<MemStore, Fault>
     // The store.
     ensures honest { (S.facts store.new).honest ≡ (S.facts store.old).honest }
+    ensures failures { (S.facts store.old).failures ≤ (S.facts store.new).failures }
     ensures unchanged { IsTrue (S.facts store.old).honest → IsUnchanged (S.facts store.old) (S.facts store.new) }
     // The copy.
     ensures ok { IfOk result (λ copy. IsTrue (S.facts store.old).honest

@@ -1,5 +1,5 @@
 -- The documents of the slot that counts, and why a file has none.
-use Rattle.std.proofs.Common.{◌≡◌, ◌<◌, ◌≤◌, ◌==◌, ◌||◌, not, ℕ, Bool, true, false, List, Option, Some, None, Result, Ok, Err, length, refl, sym, ap, ap₂, ◌∙◌, inl, inr, [], ◌∷◌, ◌++◌}
+use Rattle.std.proofs.Common.{◌≡◌, ◌<◌, ◌≤◌, ◌==◌, ℕ, Bool, true, false, List, Option, Some, None, Result, Ok, Err, length, refl, sym, ap, ap₂, ◌∙◌, inl, inr}
 use Rattle.std.specs.Prelude.{if◌then◌else◌, nat_lt, MatchOption, ◌⊎◌}
 use Rattle.std.specs.Option.{option_and_then, option_map}
 use Rattle.std.specs.Result.{result_map_both}
@@ -17,7 +17,6 @@ use Rattle.file_report.specs.Checked.{chosen_by, header_verdict}
 use Rattle.file_report.specs.Pages.{file_usages, slot_usages}
 use Rattle.file_report.proofs.SlotLemmas.{pair_right, pair_wrong}
 use Rattle.document_stat.specs.Counted.{Blocks}
-use Rattle.vm_space.specs.Listed.{shown}
 use Rattle.document_stat.specs.Files.{IsChosen, IsCountingSlot, IsDocumentStat, IsSavedStat, counting_usages}
 use Rattle.document_stat.specs.declared.counting.CountingSlot.{CountingSlot}
 use Rattle.document_stat.specs.declared.file_stat.DocumentStat.{DocumentStat}

@@ -1,13 +1,9 @@
 -- The chunks of a heap, by its table.
-use Rattle.std.proofs.Common.{◌≡◌, ◌+◌, ◌*◌, ◌<◌, ◌≤◌, ℕ, suc, true, List, [], ◌∷◌, ◌++◌, length, take, Option, None, Some, is_some, unwrap_or, refl, sym, ap, ap₂, ◌∙◌, arith, append_assoc, flat_map}
-use Rattle.std.specs.FinMap.{empty, entries, get, keys, values}
+use Rattle.std.proofs.Common.{◌≡◌, ◌+◌, ◌*◌, ◌<◌, ◌≤◌, ℕ, suc, true, List, [], ◌∷◌, ◌++◌, length, take, Option, None, Some, is_some, unwrap_or, refl, sym, ap, ap₂, ◌∙◌, arith}
+use Rattle.std.specs.FinMap.{empty, entries, get, keys}
 use Rattle.std.proofs.lemmas.List.{take_more, take_all, length-take}
-use Rattle.geos_model.specs.Heap.{ChunkMap, chunk_bytes, handle_of, is_heap_map, need, table_len}
-use Rattle.geos_model.specs.Image.{handles_to, image, size_word}
-use Rattle.geos_model.specs.Words.{word, word_at}
-use Rattle.geos_model.specs.declared.command.Body.TheVariants.{Heap}
-use Rattle.geos_model.proofs.HeapTables.{chunk_bytes_le, length-table_of, need_le, table_map-table_of, table_of}
-use Rattle.geos_model.proofs.Images.{word-reads_back}
+use Rattle.geos_model.specs.Heap.{ChunkMap, chunk_bytes, handle_of, is_heap_map, table_len}
+use Rattle.geos_model.proofs.HeapTables.{chunk_bytes_le, length-table_of, table_map-table_of, table_of}
 use Rattle.geos_model.proofs.Table.{table_entries}
 use Rattle.geos_model.proofs.Tables.{entries-table_map, get-table_map, slot_at, table_map-nil}
 use Rattle.file_report.proofs.HeapLemmas.{table_len_le}

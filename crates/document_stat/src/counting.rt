@@ -4,6 +4,7 @@ ghost use Rattle.std.specs.Option.{option_and_then, option_map};
 ghost use Rattle.geos_model.specs.File.{counting_slot, directory_of, if_open, open_slot};
 ghost use Rattle.vm_space.specs.Listed.{shown};
 ghost use Rattle.vm_file.specs.Calls.{IsResourceFault};
+ghost use Rattle.vm_store.specs.Facts.{FailedSince};
 ghost use Rattle.vm_file.specs.Opened.{IsReadRefusal, OnlyReadsStore};
 ghost use Rattle.document_stat.specs.Files.{IsChosen, IsCountingSlot, IsRefusal};
 
@@ -35,6 +36,7 @@ fn read_open_slot<S: Store>(alloc: Global, store: &mut S, page: u32) -> Result<O
     ensures looks { OnlyReadsStore (S.facts store.old) (S.facts store.new) }
     ensures slot { IfOk result (λ slot. IsTrue (S.facts store.old).honest
         → slot ≡ open_slot (S.facts store.old).content page) }
+    ensures file { IsErrOf result Fault.File → FailedSince (S.facts store.old) (S.facts store.new) }
     ensures refusals { IfErr result IsResourceFault }
 {
     Ok(if_open(read_slot_at(alloc, store, page)?))
@@ -71,6 +73,7 @@ fn read_directory<S: Store>(
         → directory_of version (S.facts store.old).content extent ≡ Some (shown d)) }
     ensures damaged { IsErrOf result Fault.Damaged → IsTrue (S.facts store.old).honest
         → directory_of version (S.facts store.old).content extent ≡ None }
+    ensures file { IsErrOf result Fault.File → FailedSince (S.facts store.old) (S.facts store.new) }
     ensures refusals { IfErr result IsReadRefusal }
 {
     match file_report::read_directory(alloc, store, file_length, version, extent)? {
@@ -85,6 +88,7 @@ fn choose_slot<S: Store>(alloc: Global, store: &mut S, file_length: u64) -> Resu
     ensures looks { OnlyReadsStore (S.facts store.old) (S.facts store.new) }
     ensures ok { IfOk result (λ slot. IsTrue (S.facts store.old).honest
         → IsChosen (S.facts store.old).content slot) }
+    ensures file { IsErrOf result Fault.File → FailedSince (S.facts store.old) (S.facts store.new) }
     ensures err { IfErr result (IsRefusal (S.facts store.old)) }
 {
     if file_length < 2 * u64::from(PAGE) {
@@ -108,6 +112,7 @@ pub fn read_counting_slot<S: Store>(
     ensures looks { OnlyReadsStore (S.facts store.old) (S.facts store.new) }
     ensures ok { IfOk result (λ c. IsTrue (S.facts store.old).honest
         → IsCountingSlot (S.facts store.old).content c) }
+    ensures file { IsErrOf result Fault.File → FailedSince (S.facts store.old) (S.facts store.new) }
     ensures err { IfErr result (IsRefusal (S.facts store.old)) }
 {
     let slot = choose_slot(alloc, store, file_length)?;

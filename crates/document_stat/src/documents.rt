@@ -1,6 +1,7 @@
 //! The blocks of a directory, read and counted.
 ghost use Rattle.std.specs.Prelude.{◌≡◌, IsTrue, IfOk, IfErr, IsErrOf, Some, None};
 ghost use Rattle.geos_model.specs.File.{block_of, blocks_of_entries};
+ghost use Rattle.vm_store.specs.Facts.{FailedSince};
 ghost use Rattle.vm_file.specs.Opened.{IsReadRefusal, OnlyReadsStore};
 ghost use Rattle.file_report.specs.Reading.{block_with};
 ghost use Rattle.document_stat.specs.Counted.{Blocks, IsCount};
@@ -18,6 +19,7 @@ fn read_image<S: Store>(alloc: Global, store: &mut S, entry: &Entry) -> Result<I
         → block_of (S.facts store.old).content entry.now ≡ Some (block_with entry.now image)) }
     ensures damaged { IsErrOf result Fault.Damaged → IsTrue (S.facts store.old).honest
         → block_of (S.facts store.old).content entry.now ≡ None }
+    ensures file { IsErrOf result Fault.File → FailedSince (S.facts store.old) (S.facts store.new) }
     ensures refusals { IfErr result IsReadRefusal }
 {
     match file_report::read_image(alloc, store, entry)? {
@@ -38,6 +40,7 @@ pub fn count_blocks<S: Store>(
         → (bs : Blocks) × (blocks_of_entries (S.facts store.old).content entries.now ≡ Some bs) × IsCount bs stat) }
     ensures damaged { IsErrOf result Fault.Damaged → IsTrue (S.facts store.old).honest
         → blocks_of_entries (S.facts store.old).content entries.now ≡ None }
+    ensures file { IsErrOf result Fault.File → FailedSince (S.facts store.old) (S.facts store.new) }
     ensures refusals { IfErr result IsReadRefusal }
 {
     let mut stat = BlockStat::new(alloc);

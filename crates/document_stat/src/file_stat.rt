@@ -3,6 +3,7 @@ ghost use Rattle.std.specs.Prelude.{◌≡◌, ℕ, true, IsTrue, IfOk, IfErr, I
 ghost use Rattle.geos_model.specs.Document.{Document};
 ghost use Rattle.geos_model.specs.File.{document_of, is_directory};
 ghost use Rattle.vm_space.specs.Listed.{shown};
+ghost use Rattle.vm_store.specs.Facts.{FailedSince};
 ghost use Rattle.vm_file.specs.Opened.{IsReadRefusal, OnlyReadsStore};
 ghost use Rattle.document_stat.specs.Files.{IsCountingSlot, IsDocumentStat, IsFileStat, IsRefusal, IsSavedStat};
 
@@ -51,6 +52,7 @@ fn count_document<S: Store>(
         × IsDocumentStat d stat) }
     ensures damaged { IsErrOf result Fault.Damaged → IsTrue (S.facts store.old).honest
         → document_of (S.facts store.old).content (shown directory.now) ≡ None }
+    ensures file { IsErrOf result Fault.File → FailedSince (S.facts store.old) (S.facts store.new) }
     ensures refusals { IfErr result IsReadRefusal }
 {
     let blocks = count_blocks(alloc, store, &directory.entries)?;
@@ -73,6 +75,7 @@ fn count_saved<S: Store>(
         → IsSavedStat (S.facts store.old).content slot.now.slot stat) }
     ensures damaged { IsErrOf result Fault.Damaged → IsTrue (S.facts store.old).honest
         → document_of (S.facts store.old).content (shown slot.now.saved) ≡ None }
+    ensures file { IsErrOf result Fault.File → FailedSince (S.facts store.old) (S.facts store.new) }
     ensures refusals { IfErr result IsReadRefusal }
 {
     if slot.slot.working == slot.slot.saved {
@@ -87,6 +90,7 @@ fn count_saved<S: Store>(
 pub fn stat<S: Store>(alloc: Global, store: &mut S) -> Result<FileStat, Fault>
     ensures looks { OnlyReadsStore (S.facts store.old) (S.facts store.new) }
     ensures ok { IfOk result (λ stat. IsTrue (S.facts store.old).honest → IsFileStat (S.facts store.old).content stat) }
+    ensures file { IsErrOf result Fault.File → FailedSince (S.facts store.old) (S.facts store.new) }
     ensures err { IfErr result (IsRefusal (S.facts store.old)) }
 {
     let file_length = read_length(store)?;

@@ -1,5 +1,5 @@
 -- What lies in a file, by what was found of it.
-use Rattle.std.proofs.Common.{◌≡◌, ℕ, ◌<◌, ◌≤◌, ◌==◌, ◌||◌, not, Bool, true, false, List, ◌∷◌, ◌++◌, length, map, get_or, Option, Some, None, Result, Ok, Err, arith, refl, sym, subst, ap, ap₂, ◌∙◌, inl, inr}
+use Rattle.std.proofs.Common.{◌≡◌, ℕ, ◌<◌, ◌≤◌, ◌==◌, Bool, true, false, List, length, map, get_or, Option, Some, None, Result, Ok, Err, arith, refl, sym, subst, ap, ap₂, ◌∙◌, inl, inr}
 use Rattle.std.specs.Prelude.{if◌then◌else◌, nat_lt, IfErr, IsOk, IsErr, IsTrue, IsPermutation, OnOk}
 use Rattle.std.specs.Option.{option_map}
 use Rattle.std.specs.Result.{result_ok}
@@ -9,10 +9,9 @@ use Rattle.std.proofs.lemmas.Result.{on_ok_weaker}
 use Rattle.std.proofs.lemmas.List as lists
 use Rattle.std.proofs.lemmas.List.{length-map}
 use Rattle.geos_model.specs.Document.{Document}
-use Rattle.geos_model.specs.File.{both, counting_slot, document_at, open_slot, pages_of, pair_of, pair_of_counting, stands}
+use Rattle.geos_model.specs.File.{counting_slot, open_slot, pages_of, pair_of, pair_of_counting, stands}
 use Rattle.geos_model.specs.declared.fault.Fault.{Fault}
 use Rattle.geos_model.specs.declared.fault.Fault.TheVariants.{Damaged, NotDocument}
-use Rattle.geos_model.specs.declared.file.Extent.{Extent}
 use Rattle.geos_model.specs.declared.file.Slot.{Slot}
 use Rattle.file_report.proofs.SlotLemmas.{pair_wrong}
 use Rattle.file_report.proofs.StandsLemmas.{state_opened, file_verdict}

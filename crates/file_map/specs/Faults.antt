@@ -28,9 +28,13 @@ IsMapRefusal store Write = Unit {0}
 abbrev pub IsReadLack : MapFault → Type 0
 IsReadLack fault = (fault ≡ Memory) ⊎ (fault ≡ File)
 
--- or the writer failed
+-- lack of memory, or a writer that failed
+abbrev pub IsWriteLack : MapFault → Type 0
+IsWriteLack fault = (fault ≡ Memory) ⊎ (fault ≡ Write)
+
+-- or the store failed
 abbrev pub IsLack : MapFault → Type 0
-IsLack fault = IsReadLack fault ⊎ (fault ≡ Write)
+IsLack fault = IsWriteLack fault ⊎ (fault ≡ File)
 
 -- a file that was found not to open, or in which no slot counts
 abbrev pub IsUncounted : Report → MapFault → Type 0

@@ -1,5 +1,5 @@
 -- What lies in the extents of a file, and whose it is.
-use Rattle.std.specs.Prelude.{ℕ, ◌-◌, ◌*◌, ◌==◌, ◌&&◌, Bool, true, false, not, List, [], ◌∷◌, ◌++◌, map, fold, take, slice_get, Option, None, Some, length, if◌then◌else◌}
+use Rattle.std.specs.Prelude.{ℕ, ◌-◌, ◌*◌, ◌==◌, ◌&&◌, Bool, true, false, not, List, [], ◌∷◌, ◌++◌, fold, take, slice_get, Option, None, Some, length, if◌then◌else◌}
 use Rattle.geos_model.specs.declared.file.Extent.{Extent}
 use Rattle.vm_store.specs.Facts.{byte}
 use Rattle.file_report.specs.declared.finding.Named.{Named}

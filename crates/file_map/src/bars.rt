@@ -1,11 +1,12 @@
 //! Heaps as SVG: a bar for each, with its chunks.
-ghost use Rattle.std.specs.Prelude.{◌≡◌, false, ◌≤◌, ◌<◌, ◌+◌, ◌*◌, ◌-◌, ◌^◌, ◌++◌, IfErr, IfOk, IsTrue, OnOk, length};
+ghost use Rattle.std.specs.Prelude.{◌≡◌, false, ◌≤◌, ◌<◌, ◌+◌, ◌*◌, ◌-◌, ◌^◌, ◌++◌, IfErr, IfOk, IsErrOf, IsTrue, OnOk, length};
 ghost use Rattle.std.specs.Io.KnownBytes.{Appends};
 ghost use Rattle.geos_model.specs.File.{bytes_in};
 ghost use Rattle.geos_model.specs.Heap.{most_chunks};
+ghost use Rattle.vm_store.specs.Facts.{FailedSince};
 ghost use Rattle.vm_file.specs.Opened.{OnlyReadsStore};
 ghost use Rattle.file_map.specs.Bars.{bar_drawn, bar_of, bars_drawn, below, caption, chunk_drawn, chunk_place, chunk_start, chunk_title, chunks_drawn, flipped, room};
-ghost use Rattle.file_map.specs.Faults.{IsLack};
+ghost use Rattle.file_map.specs.Faults.{IsLack, IsWriteLack};
 ghost use Rattle.file_map.specs.Heaps.{header};
 
 use crate::fault::MapFault;
@@ -94,7 +95,7 @@ fn write_chunks<W: Write>(alloc: Global, sizes: &[u16], writer: &mut W) -> Resul
     requires { length sizes.now ≤ most_chunks }
     ensures text { OnOk result (Appends (W.contents writer.old) (W.contents writer.new)
         (chunks_drawn false (header sizes.now) 0 sizes.now)) }
-    ensures refusals { IfErr result IsLack }
+    ensures refusals { IfErr result IsWriteLack }
 {
     let mut at = header(sizes);
     let mut dark = false;
@@ -145,7 +146,7 @@ fn write_bar<W: Write>(
     requires y { y < 2 ^ 60 }
     ensures text { OnOk result (Appends (W.contents writer.old) (W.contents writer.new)
         (bar_drawn part.now y sizes.now)) }
-    ensures refusals { IfErr result IsLack }
+    ensures refusals { IfErr result IsWriteLack }
 {
     let mut out = Vec::new(alloc);
     push_caption(&mut out, part, y, sizes)?;
@@ -168,6 +169,7 @@ fn write_heap<S: Store, W: Write>(
     ensures next { IfOk result (λ next. next ≡ below part y) }
     ensures text { IfOk result (λ next. IsTrue (S.facts store.old).honest
         → Appends (W.contents writer.old) (W.contents writer.new) (bar_of (S.facts store.old).content y part)) }
+    ensures file { IsErrOf result MapFault.File → FailedSince (S.facts store.old) (S.facts store.new) }
     ensures refusals { IfErr result IsLack }
 {
     if !part.is_heap() {
@@ -192,6 +194,7 @@ pub fn write_bars<S: Store, W: Write>(
     ensures text { OnOk result (IsTrue (S.facts store.old).honest
         → Appends (W.contents writer.old) (W.contents writer.new)
         (bars_drawn (S.facts store.old).content top parts.now)) }
+    ensures file { IsErrOf result MapFault.File → FailedSince (S.facts store.old) (S.facts store.new) }
     ensures refusals { IfErr result IsLack }
 {
     let mut y = top;

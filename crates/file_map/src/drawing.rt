@@ -1,12 +1,13 @@
 //! The whole picture.
-ghost use Rattle.std.specs.Prelude.{◌≡◌, ◌≤◌, ◌<◌, ◌+◌, ◌*◌, ◌^◌, IsTrue, IfOk, IfErr, OnOk, count_by, length};
+ghost use Rattle.std.specs.Prelude.{◌≡◌, ◌≤◌, ◌<◌, ◌+◌, ◌*◌, ◌^◌, IsTrue, IfOk, IfErr, IsErrOf, OnOk, count_by, length};
 ghost use Rattle.std.specs.List.Sorted.{IsNonDecreasingBy};
 ghost use Rattle.std.specs.Io.KnownBytes.{Appends};
 ghost use Rattle.geos_model.specs.File.{bytes_in};
 ghost use Rattle.geos_model.specs.Heap.{most_chunks};
+ghost use Rattle.vm_store.specs.Facts.{FailedSince};
 ghost use Rattle.vm_file.specs.Opened.{OnlyReadsStore};
 ghost use Rattle.file_map.specs.Drawn.{IsDrawn, svg_of, text_of};
-ghost use Rattle.file_map.specs.Faults.{IsLack, IsMapRefusal, IsReadLack};
+ghost use Rattle.file_map.specs.Faults.{IsLack, IsMapRefusal, IsWriteLack};
 ghost use Rattle.file_map.specs.Heaps.{heap_lines, line_of, sizes};
 ghost use Rattle.file_map.specs.Parts.{drawn, is_heap};
 
@@ -51,6 +52,7 @@ fn write_line<S: Store, W: Write>(
     ensures looks { OnlyReadsStore (S.facts store.old) (S.facts store.new) }
     ensures text { OnOk result (IsTrue (S.facts store.old).honest
         → Appends (W.contents writer.old) (W.contents writer.new) (line_of (S.facts store.old).content part)) }
+    ensures file { IsErrOf result MapFault.File → FailedSince (S.facts store.old) (S.facts store.new) }
     ensures refusals { IfErr result IsLack }
 {
     let mut out = Vec::new(alloc);
@@ -72,6 +74,7 @@ fn write_heaps<S: Store, W: Write>(
     ensures text { OnOk result (IsTrue (S.facts store.old).honest
         → Appends (W.contents writer.old) (W.contents writer.new)
         (heap_lines (S.facts store.old).content parts.now)) }
+    ensures file { IsErrOf result MapFault.File → FailedSince (S.facts store.old) (S.facts store.new) }
     ensures refusals { IfErr result IsLack }
 {
     for part in parts {
@@ -82,7 +85,7 @@ fn write_heaps<S: Store, W: Write>(
 
 fn write_heading<W: Write>(writer: &mut W) -> Result<(), MapFault>
     ensures text { OnOk result (Appends (W.contents writer.old) (W.contents writer.new) HEADING.now) }
-    ensures refusals { IfErr result IsLack }
+    ensures refusals { IfErr result IsWriteLack }
 {
     send(HEADING, writer)
 }
@@ -100,6 +103,7 @@ fn write_text<S: Store, W: Write>(
     ensures text { OnOk result (IsTrue (S.facts store.old).honest
         → Appends (W.contents writer.old) (W.contents writer.new)
         (text_of (S.facts store.old).content map.now.parts.items map.now.pages)) }
+    ensures file { IsErrOf result MapFault.File → FailedSince (S.facts store.old) (S.facts store.new) }
     ensures refusals { IfErr result IsLack }
 {
     write_pages(alloc, &map.parts, map.pages, writer)?;
@@ -120,6 +124,7 @@ pub fn draw_text<S: Store, W: Write>(
     ensures looks { OnlyReadsStore (S.facts store.old) (S.facts store.new) }
     ensures text { OnOk result (IsTrue (S.facts store.old).honest
         → IsDrawn text_of (S.facts store.old).content (W.contents writer.old) (W.contents writer.new)) }
+    ensures file { IsErrOf result MapFault.File → FailedSince (S.facts store.old) (S.facts store.new) }
     ensures refusals { IfErr result (IsMapRefusal (S.facts store.old)) }
 {
     let map = read_map(alloc, store)?;
@@ -154,6 +159,7 @@ fn write_svg<S: Store, W: Write>(
     ensures text { OnOk result (IsTrue (S.facts store.old).honest
         → Appends (W.contents writer.old) (W.contents writer.new)
         (svg_of (S.facts store.old).content map.now.parts.items map.now.pages)) }
+    ensures file { IsErrOf result MapFault.File → FailedSince (S.facts store.old) (S.facts store.new) }
     ensures refusals { IfErr result IsLack }
 {
     let once = draw_once(alloc, &map.parts)?;
@@ -176,6 +182,7 @@ pub fn draw_svg<S: Store, W: Write>(
     ensures looks { OnlyReadsStore (S.facts store.old) (S.facts store.new) }
     ensures text { OnOk result (IsTrue (S.facts store.old).honest
         → IsDrawn svg_of (S.facts store.old).content (W.contents writer.old) (W.contents writer.new)) }
+    ensures file { IsErrOf result MapFault.File → FailedSince (S.facts store.old) (S.facts store.new) }
     ensures refusals { IfErr result (IsMapRefusal (S.facts store.old)) }
 {
     let map = read_map(alloc, store)?;

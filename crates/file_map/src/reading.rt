@@ -1,9 +1,9 @@
 //! Reading what lies in a file.
-ghost use Rattle.std.specs.Prelude.{◌≡◌, ◌≤◌, ◌<◌, ◌^◌, IsTrue, IfOk, IfErr, IsOk, Some, map, length};
+ghost use Rattle.std.specs.Prelude.{◌≡◌, ◌≤◌, ◌<◌, ◌^◌, IsTrue, IfOk, IfErr, IsErrOf, IsOk, IsPermutation, OnOk, Some, map, length};
 ghost use Rattle.file_report.specs.Checked.{IsReport, counting_between};
 ghost use Rattle.std.specs.List.Sorted.{IsNonDecreasingBy};
 ghost use Rattle.vm_file.specs.Opened.{OnlyReadsStore};
-ghost use Rattle.vm_store.specs.Facts.{byte};
+ghost use Rattle.vm_store.specs.Facts.{FailedSince, byte};
 ghost use Rattle.file_map.specs.Drawn.{IsFileMap};
 ghost use Rattle.file_map.specs.Faults.{IsMapRefusal, IsReadLack, IsUncounted};
 ghost use Rattle.file_map.specs.Parts.{is_heap_at, kind_at, part_of};
@@ -12,7 +12,7 @@ use crate::fault::MapFault;
 use crate::part::{Kind, Part, Users, users_of};
 use file_report::{Content, Report, SlotReport, Usage, check, page_count, usages};
 use geos_model::{Extent, Fault, PAGE, VmHandle};
-use std::alloc::Global;
+use std::alloc::{AllocError, Global};
 use vm_store::Store;
 
 /// The first byte of the image of a heap.
@@ -32,6 +32,7 @@ fn is_heap_at<S: Store>(store: &mut S, extent: Extent) -> Result<bool, MapFault>
     ensures looks { OnlyReadsStore (S.facts store.old) (S.facts store.new) }
     ensures kind { IfOk result (λ is. IsTrue (S.facts store.old).honest
         → is ≡ is_heap_at (S.facts store.old).content extent) }
+    ensures file { IsErrOf result MapFault.File → FailedSince (S.facts store.old) (S.facts store.new) }
     ensures refusals { IfErr result (λ fault. fault ≡ MapFault.File) }
 {
     let mut kind = [0; 1];
@@ -47,6 +48,7 @@ fn read_part<S: Store>(store: &mut S, usage: Usage) -> Result<Part, MapFault>
     ensures extent { IfOk result (λ part. part.extent ≡ usage.extent) }
     ensures part { IfOk result (λ part. IsTrue (S.facts store.old).honest
         → part ≡ part_of (S.facts store.old).content usage) }
+    ensures file { IsErrOf result MapFault.File → FailedSince (S.facts store.old) (S.facts store.new) }
     ensures refusals { IfErr result (λ fault. fault ≡ MapFault.File) }
 {
     let extent = usage.extent;
@@ -68,6 +70,7 @@ fn image_kind<S: Store>(store: &mut S, extent: Extent) -> Result<Kind, MapFault>
     ensures looks { OnlyReadsStore (S.facts store.old) (S.facts store.new) }
     ensures kind { IfOk result (λ kind. IsTrue (S.facts store.old).honest
         → kind ≡ kind_at (S.facts store.old).content extent) }
+    ensures file { IsErrOf result MapFault.File → FailedSince (S.facts store.old) (S.facts store.new) }
     ensures refusals { IfErr result (λ fault. fault ≡ MapFault.File) }
 {
     if is_heap_at(store, extent)? {
@@ -86,6 +89,7 @@ fn read_parts<S: Store>(
     ensures extents { IfOk result (λ parts. map (λ p. p.extent) parts.items ≡ map (λ u. u.extent) usages.now) }
     ensures parts { IfOk result (λ parts. IsTrue (S.facts store.old).honest
         → parts.items ≡ map (part_of (S.facts store.old).content) usages.now) }
+    ensures file { IsErrOf result MapFault.File → FailedSince (S.facts store.old) (S.facts store.new) }
     ensures refusals { IfErr result IsReadLack }
 {
     let mut parts = Vec::new(alloc);
@@ -93,6 +97,26 @@ fn read_parts<S: Store>(
         parts.push(read_part(store, *usage)?)?;
     }
     Ok(parts)
+}
+
+// The number of the block whose image it is, else 0.
+fn block_number(content: Content) -> u16 {
+    match content {
+        Content::Slots | Content::Directory(_) => 0,
+        Content::Image(_, block) => block.0,
+    }
+}
+
+// Of the usages that begin on one page puts those of one block side by side, that of the updated document first: there
+// may be several blocks, and what both documents have of each is to be one part.
+fn join_blocks(usages: &mut Vec<Usage>) -> Result<(), AllocError>
+    ensures all { OnOk result (IsPermutation usages.old.items usages.new.items) }
+    ensures order { OnOk result (IsNonDecreasingBy (λ u. u.extent.page) usages.new.items) }
+{
+    // What is equal stays in its order.
+    usages.sort_by_key(|usage| block_number(usage.content))?;
+    usages.sort_by_key(|usage| usage.extent.page)?;
+    Ok(())
 }
 
 // The slot of a file that counts, where the file opens.
@@ -118,13 +142,15 @@ fn read_report<S: Store>(alloc: Global, store: &mut S, report: &Report) -> Resul
     ensures few { IfOk result (λ map. map.pages < 2 ^ 56) }
     ensures map { IfOk result (λ map. IsTrue (S.facts store.old).honest
         → IsFileMap (S.facts store.old).content map) }
+    ensures file { IsErrOf result MapFault.File → FailedSince (S.facts store.old) (S.facts store.new) }
     ensures refusals { IfErr result (IsMapRefusal (S.facts store.old)) }
 {
     let slot = match counting_slot(report) {
         Ok(slot) => slot,
         Err(fault) => return Err(fault),
     };
-    let usages = usages(alloc, slot)?;
+    let mut usages = usages(alloc, slot)?;
+    join_blocks(&mut usages)?;
     let parts = read_parts(alloc, store, &usages)?;
     Ok(FileMap {
         pages: page_count(report.file_length),
@@ -139,6 +165,7 @@ pub fn read_map<S: Store>(alloc: Global, store: &mut S) -> Result<FileMap, MapFa
     ensures few { IfOk result (λ map. map.pages < 2 ^ 56) }
     ensures map { IfOk result (λ map. IsTrue (S.facts store.old).honest
         → IsFileMap (S.facts store.old).content map) }
+    ensures file { IsErrOf result MapFault.File → FailedSince (S.facts store.old) (S.facts store.new) }
     ensures refusals { IfErr result (IsMapRefusal (S.facts store.old)) }
 {
     let report = check(alloc, store)?;

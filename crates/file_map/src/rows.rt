@@ -2,7 +2,7 @@
 ghost use Rattle.std.specs.Prelude.{◌≡◌, ◌≤◌, ◌<◌, ◌+◌, ◌*◌, ◌/◌, ◌^◌, ◌++◌, ◌∷◌, [], IfErr, IfOk, OnOk, IsTrue, length};
 ghost use Rattle.std.specs.List.Sorted.{IsNonDecreasingBy};
 ghost use Rattle.std.specs.Io.KnownBytes.{Appends};
-ghost use Rattle.file_map.specs.Faults.{IsLack};
+ghost use Rattle.file_map.specs.Faults.{IsWriteLack};
 ghost use Rattle.file_map.specs.Pages.{content_at, glyph, legend, legend_line, page_picture, row_end, row_text, rows};
 ghost use Rattle.file_map.specs.Tallies.{IsTally};
 ghost use Rattle.file_map.specs.Walks.{IsWalk};
@@ -87,7 +87,7 @@ fn write_rows<W: Write>(
     requires tally { IsTally parts.now 0 counts.old }
     ensures tally { OnOk result (IsTally parts.now pages counts.new) }
     ensures text { OnOk result (Appends (W.contents writer.old) (W.contents writer.new) (rows parts.now pages)) }
-    ensures refusals { IfErr result IsLack }
+    ensures refusals { IfErr result IsWriteLack }
 {
     let mut walk = start_walk(parts);
     for row in 0..pages.div_ceil(ROW) {
@@ -141,7 +141,7 @@ pub fn write_pages<W: Write>(
     requires below { pages < 2 ^ 56 }
     ensures text { OnOk result (Appends (W.contents writer.old) (W.contents writer.new)
         (page_picture parts.now pages)) }
-    ensures refusals { IfErr result IsLack }
+    ensures refusals { IfErr result IsWriteLack }
 {
     let mut counts = [0; CONTENTS];
     write_rows(alloc, parts, pages, &mut counts, writer)?;

@@ -1,7 +1,7 @@
 //! The pages of a file as SVG: a rectangle for each part and row, in cells of a fixed width.
 ghost use Rattle.std.specs.Prelude.{◌≡◌, ◌≤◌, ◌<◌, ◌+◌, ◌*◌, ◌-◌, ◌/◌, ◌%◌, ◌^◌, ◌++◌, ◌∷◌, IfErr, OnOk};
 ghost use Rattle.std.specs.Io.KnownBytes.{Appends};
-ghost use Rattle.file_map.specs.Faults.{IsLack};
+ghost use Rattle.file_map.specs.Faults.{IsWriteLack};
 ghost use Rattle.file_map.specs.Svg.{filled, gaps, heaps_top, kind_words, label, labels, last_row, legend_drawn, opening, part_drawn, parts_drawn, place, rect, rects, row_rect, rows_height, start_drawn, subject, swatch, swatch_at, swatch_text, title, unused_drawn, users_words, whole_rows};
 
 use crate::colours::{PATTERNS, content_fill, fill};
@@ -138,7 +138,7 @@ fn push_part_drawn(out: &mut Vec<u8>, part: &Part) -> Result<(), AllocError>
 /// Each part once, in their order.
 pub fn write_parts<W: Write>(alloc: Global, parts: &[Part], writer: &mut W) -> Result<(), MapFault>
     ensures text { OnOk result (Appends (W.contents writer.old) (W.contents writer.new) (parts_drawn parts.now)) }
-    ensures refusals { IfErr result IsLack }
+    ensures refusals { IfErr result IsWriteLack }
 {
     for part in parts {
         let mut out = Vec::new(alloc);
@@ -245,7 +245,7 @@ fn push_swatches(out: &mut Vec<u8>) -> Result<(), AllocError>
 fn write_labels<W: Write>(alloc: Global, pages: u64, writer: &mut W) -> Result<(), MapFault>
     requires { pages < 2 ^ 56 }
     ensures text { OnOk result (Appends (W.contents writer.old) (W.contents writer.new) (labels pages)) }
-    ensures refusals { IfErr result IsLack }
+    ensures refusals { IfErr result IsWriteLack }
 {
     for k in 0..pages.div_ceil(4 * ROW) {
         let mut out = Vec::new(alloc);
@@ -303,7 +303,7 @@ pub fn write_start<W: Write>(
     requires { pages < 2 ^ 56 }
     ensures text { OnOk result (Appends (W.contents writer.old) (W.contents writer.new)
         (start_drawn pages height ++ labels pages)) }
-    ensures refusals { IfErr result IsLack }
+    ensures refusals { IfErr result IsWriteLack }
 {
     let mut out = Vec::new(alloc);
     push_start(&mut out, pages, height)?;
@@ -325,7 +325,7 @@ fn push_gaps(out: &mut Vec<u8>, pages: u64) -> Result<(), AllocError>
 pub fn write_gaps<W: Write>(alloc: Global, pages: u64, writer: &mut W) -> Result<(), MapFault>
     requires { pages < 2 ^ 56 }
     ensures text { OnOk result (Appends (W.contents writer.old) (W.contents writer.new) (gaps pages)) }
-    ensures refusals { IfErr result IsLack }
+    ensures refusals { IfErr result IsWriteLack }
 {
     let mut out = Vec::new(alloc);
     push_gaps(&mut out, pages)?;

@@ -1,7 +1,8 @@
 //! The tables of heaps.
-ghost use Rattle.std.specs.Prelude.{◌≡◌, ◌≤◌, IsTrue, IfOk, IfErr, length};
+ghost use Rattle.std.specs.Prelude.{◌≡◌, ◌≤◌, IsTrue, IfOk, IfErr, IsErrOf, length};
 ghost use Rattle.geos_model.specs.File.{bytes_in};
 ghost use Rattle.geos_model.specs.Heap.{most_chunks};
+ghost use Rattle.vm_store.specs.Facts.{FailedSince};
 ghost use Rattle.vm_file.specs.Opened.{OnlyReadsStore};
 ghost use Rattle.file_map.specs.Faults.{IsReadLack};
 ghost use Rattle.file_map.specs.Heaps.{sizes};
@@ -23,6 +24,7 @@ pub fn read_table<S: Store>(
     ensures table { IfOk result (λ table. IsTrue (S.facts store.old).honest
         → table.items ≡ sizes (bytes_in (S.facts store.old).content extent)) }
     ensures few { IfOk result (λ table. length table.items ≤ most_chunks) }
+    ensures file { IsErrOf result MapFault.File → FailedSince (S.facts store.old) (S.facts store.new) }
     ensures refusals { IfErr result IsReadLack }
 {
     let image = read_extent(alloc, store, extent)?;

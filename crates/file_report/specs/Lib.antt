@@ -2,3 +2,4 @@ pub mod Findings
 pub mod Checked
 pub mod Reading
 pub mod Pages
+pub mod Texts

@@ -1,7 +1,8 @@
 //! The check of a whole file.
-ghost use Rattle.std.specs.Prelude.{◌≡◌, ◌≤◌, ◌<◌, ◌&&◌, if◌then◌else◌, IsTrue, IfOk, IfErr, IsErr, Ok, Err, [], ◌==◌, ◌||◌, not, length};
+ghost use Rattle.std.specs.Prelude.{◌≡◌, ◌≤◌, ◌<◌, ◌&&◌, if◌then◌else◌, IsTrue, IfOk, IfErr, IsErr, IsErrOf, Ok, Err, [], ◌==◌, ◌||◌, not, length};
 ghost use Rattle.std.specs.Option.{option_map};
 ghost use Rattle.std.specs.Result.{result_map_both};
+ghost use Rattle.vm_store.specs.Facts.{FailedSince};
 ghost use Rattle.vm_file.specs.Calls.{IsResourceFault};
 ghost use Rattle.vm_file.specs.Opened.{OnlyReadsStore};
 ghost use Rattle.file_report.specs.Findings.{FindsMore};
@@ -122,6 +123,7 @@ fn check_slot<S: Store>(
     ensures slot { IfOk result (λ r. r.slot ≡ slot) }
     ensures report { IfOk result (λ r. IsTrue (S.facts store.old).honest
         → IsSlotReport (S.facts store.old).content r) }
+    ensures file { IsErrOf result Fault.File → FailedSince (S.facts store.old) (S.facts store.new) }
     ensures refusals { IfErr result IsResourceFault }
 {
     let mut findings = slot_findings(alloc, &slot)?;
@@ -170,6 +172,7 @@ fn check_page<S: Store>(
     ensures looks { OnlyReadsStore (S.facts store.old) (S.facts store.new) }
     ensures state { IfOk result (λ state. IsTrue (S.facts store.old).honest
         → IsState (S.facts store.old).content page state) }
+    ensures file { IsErrOf result Fault.File → FailedSince (S.facts store.old) (S.facts store.new) }
     ensures refusals { IfErr result IsResourceFault }
 {
     match read_slot_at(alloc, store, page)? {
@@ -266,6 +269,7 @@ fn verdict_between(first: &SlotState, second: &SlotState) -> Result<(), Fault>
 pub fn check<S: Store>(alloc: Global, store: &mut S) -> Result<Report, Fault>
     ensures looks { OnlyReadsStore (S.facts store.old) (S.facts store.new) }
     ensures report { IfOk result (λ r. IsTrue (S.facts store.old).honest → IsReport (S.facts store.old).content r) }
+    ensures file { IsErrOf result Fault.File → FailedSince (S.facts store.old) (S.facts store.new) }
     ensures refusals { IfErr result IsResourceFault }
 {
     let file_length = read_length(store)?;

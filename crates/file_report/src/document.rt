@@ -1,7 +1,8 @@
 //! One of a slot's documents: its directory, and the images of its blocks.
-ghost use Rattle.std.specs.Prelude.{◌≡◌, ◌<◌, IsTrue, OnOk, IfOk, IfErr, false, None, is_some, length};
+ghost use Rattle.std.specs.Prelude.{◌≡◌, ◌<◌, IsTrue, OnOk, IfOk, IfErr, IsErrOf, false, None, is_some, length};
 ghost use Rattle.std.specs.Option.{option_map};
 ghost use Rattle.geos_model.specs.File.{block_of, blocks_of_entries};
+ghost use Rattle.vm_store.specs.Facts.{FailedSince};
 ghost use Rattle.vm_file.specs.Calls.{IsResourceFault};
 ghost use Rattle.vm_file.specs.Opened.{OnlyReadsStore};
 ghost use Rattle.file_report.specs.Findings.{FindsMore, directory_extent};
@@ -35,6 +36,7 @@ pub fn read_image<S: Store>(
     ensures looks { OnlyReadsStore (S.facts store.old) (S.facts store.new) }
     ensures image { IfOk result (λ image. IsTrue (S.facts store.old).honest
         → block_of (S.facts store.old).content entry.now ≡ option_map (block_with entry.now) image) }
+    ensures file { IsErrOf result Fault.File → FailedSince (S.facts store.old) (S.facts store.new) }
     ensures refusals { IfErr result IsResourceFault }
 {
     let bytes = read_extent(alloc, store, entry.extent)?;
@@ -49,6 +51,7 @@ fn has_image<S: Store>(alloc: Global, store: &mut S, entry: &Entry) -> Result<bo
     ensures looks { OnlyReadsStore (S.facts store.old) (S.facts store.new) }
     ensures image { IfOk result (λ has. IsTrue (S.facts store.old).honest
         → has ≡ is_some (block_of (S.facts store.old).content entry.now)) }
+    ensures file { IsErrOf result Fault.File → FailedSince (S.facts store.old) (S.facts store.new) }
     ensures refusals { IfErr result IsResourceFault }
 {
     Ok(read_image(alloc, store, entry)?.is_some())
@@ -68,6 +71,7 @@ fn check_images<S: Store>(
     ensures found { OnOk result (FindsMore (IsSoOfEntries (S.facts store.old) name entries.now)
         findings.old.items findings.new.items) }
     ensures some { IfOk result (λ have. have ≡ false → length findings.old.items < length findings.new.items) }
+    ensures file { IsErrOf result Fault.File → FailedSince (S.facts store.old) (S.facts store.new) }
     ensures refusals { IfErr result IsResourceFault }
 {
     let mut have = true;
@@ -104,6 +108,7 @@ pub fn check_document<S: Store>(
     ensures found { OnOk result (FindsMore (IsSoIn (S.facts store.old) slot.now)
         findings.old.items findings.new.items) }
     ensures some { IfOk result (λ d. d.stands ≡ false → length findings.old.items < length findings.new.items) }
+    ensures file { IsErrOf result Fault.File → FailedSince (S.facts store.old) (S.facts store.new) }
     ensures refusals { IfErr result IsResourceFault }
 {
     let extent = directory_extent(slot, name);

@@ -83,6 +83,11 @@ pub fn note_unless(
 }
 
 impl fmt::Display for Named {
+    ghost use Rattle.std.specs.Prelude.{Some};
+    ghost use Rattle.file_report.specs.Texts.{name_text};
+
+    ghost output = { λ name. Some (name_text name) };
+
     fn fmt<W: fmt::Write>(&self, f: &mut fmt::Formatter<W>) -> fmt::Result {
         match self {
             Named::Updated => write!(f, "updated"),
@@ -92,6 +97,11 @@ impl fmt::Display for Named {
 }
 
 impl fmt::Display for HeaderFault {
+    ghost use Rattle.std.specs.Prelude.{Some};
+    ghost use Rattle.file_report.specs.Texts.{header_text};
+
+    ghost output = { λ fault. Some (header_text fault) };
+
     fn fmt<W: fmt::Write>(&self, f: &mut fmt::Formatter<W>) -> fmt::Result {
         match self {
             HeaderFault::Mark => write!(f, "its mark is not GDIR"),
@@ -103,6 +113,11 @@ impl fmt::Display for HeaderFault {
 }
 
 impl fmt::Display for EntryFault {
+    ghost use Rattle.std.specs.Prelude.{Some};
+    ghost use Rattle.file_report.specs.Texts.{entry_text};
+
+    ghost output = { λ fault. Some (entry_text fault) };
+
     fn fmt<W: fmt::Write>(&self, f: &mut fmt::Formatter<W>) -> fmt::Result {
         match self {
             EntryFault::Order => write!(f, "its handle does not rise"),
@@ -119,6 +134,11 @@ impl fmt::Display for EntryFault {
 struct At(Extent);
 
 impl fmt::Display for At {
+    ghost use Rattle.std.specs.Prelude.{Some};
+    ghost use Rattle.file_report.specs.Texts.{extent_text};
+
+    ghost output = { λ at. Some (extent_text at.0) };
+
     fn fmt<W: fmt::Write>(&self, f: &mut fmt::Formatter<W>) -> fmt::Result {
         let Extent { page, length } = self.0;
         write!(f, "page {page}, {length} bytes")
@@ -126,6 +146,11 @@ impl fmt::Display for At {
 }
 
 impl fmt::Display for Finding {
+    ghost use Rattle.std.specs.Prelude.{Some};
+    ghost use Rattle.file_report.specs.Texts.{finding_text};
+
+    ghost output = { λ finding. Some (finding_text finding) };
+
     fn fmt<W: fmt::Write>(&self, f: &mut fmt::Formatter<W>) -> fmt::Result {
         match self {
             Finding::SlotVersion(version) => write!(f, "its version is {version}"),

@@ -1,6 +1,7 @@
 //! Reading the length of a file, the bytes of an extent, a slot and a directory.
-ghost use Rattle.std.specs.Prelude.{◌≡◌, ◌≤◌, ◌*◌, IsTrue, IfOk, IfErr, ◌↔◌, length, take, drop};
+ghost use Rattle.std.specs.Prelude.{◌≡◌, ◌≤◌, ◌*◌, IsTrue, IfOk, IfErr, IsErrOf, ◌↔◌, length, take, drop};
 ghost use Rattle.geos_model.specs.File.{bytes_in, slot_of};
+ghost use Rattle.vm_store.specs.Facts.{FailedSince};
 ghost use Rattle.vm_file.specs.Calls.{IsResourceFault};
 ghost use Rattle.vm_file.specs.Opened.{IsDirectoryPlace, OnlyReadsStore};
 ghost use Rattle.file_report.specs.Reading.{IsRead};
@@ -14,6 +15,7 @@ use vm_store::Store;
 pub fn read_length<S: Store>(store: &mut S) -> Result<u64, Fault>
     ensures looks { OnlyReadsStore (S.facts store.old) (S.facts store.new) }
     ensures length { IfOk result (λ n. IsTrue (S.facts store.old).honest → n ≡ length (S.facts store.old).content) }
+    ensures file { IsErrOf result Fault.File → FailedSince (S.facts store.old) (S.facts store.new) }
     ensures refusals { IfErr result IsResourceFault }
 {
     match store.len() {
@@ -28,6 +30,7 @@ pub fn read_extent<S: Store>(alloc: Global, store: &mut S, extent: Extent) -> Re
     ensures bytes { IfOk result (λ bytes. IsTrue (S.facts store.old).honest
         → bytes.items ≡ bytes_in (S.facts store.old).content extent) }
     ensures size { IfOk result (λ bytes. length bytes.items ≡ extent.length) }
+    ensures file { IsErrOf result Fault.File → FailedSince (S.facts store.old) (S.facts store.new) }
     ensures refusals { IfErr result IsResourceFault }
 {
     let mut bytes = vec![in alloc; 0; extent.length as usize]?;
@@ -47,6 +50,7 @@ pub fn read_slot_at<S: Store>(
     ensures looks { OnlyReadsStore (S.facts store.old) (S.facts store.new) }
     ensures slot { IfOk result (λ slot. IsTrue (S.facts store.old).honest
         → slot ≡ slot_of (take 32 (drop (512 * page) (S.facts store.old).content))) }
+    ensures file { IsErrOf result Fault.File → FailedSince (S.facts store.old) (S.facts store.new) }
     ensures refusals { IfErr result IsResourceFault }
 {
     let extent = Extent {
@@ -91,6 +95,7 @@ pub fn read_directory<S: Store>(
     ensures looks { OnlyReadsStore (S.facts store.old) (S.facts store.new) }
     ensures read { IfOk result (λ read. IsTrue (S.facts store.old).honest
         → IsRead version extent read (S.facts store.old).content) }
+    ensures file { IsErrOf result Fault.File → FailedSince (S.facts store.old) (S.facts store.new) }
     ensures refusals { IfErr result IsResourceFault }
 {
     if !can_have_directory(extent, version, file_length) {

@@ -1,7 +1,7 @@
 //! A dump: a script that makes documents of a file again.
 use crate::command_line::Dumped;
 use document_dump::{DumpFault, Which, copy_with_gate_closed, dump};
-use file_report::check;
+use file_report::{Report, check};
 use geos_model::Fault;
 use std::fmt;
 use std::io::{self, BufWriter, Write};
@@ -51,11 +51,19 @@ pub fn run_dump<S: Store>(rt: &HostRuntime, store: S, dumped: Dumped) -> Result<
 fn dump_other<S: Store>(rt: &HostRuntime, store: S) -> Result<(), NoDump> {
     let mut store = store;
     let report = check(rt.alloc(), &mut store).map_err(unread)?;
-    let Some(slot) = report.counting_slot() else {
-        return Err(NoDump::Refused(Reason::Unopened(Fault::NotDocument)));
-    };
+    let slot = counting_slot(&report)?;
     let copy = copy_with_gate_closed(rt.alloc(), &mut store, slot).map_err(unread)?;
     dump_file(rt, copy, Which::Both).map_err(of_other)
+}
+
+// Where none counts it is told why.
+fn counting_slot(report: &Report) -> Result<u8, NoDump> {
+    match (report.counting_slot(), report.verdict) {
+        (Some(slot), _) => Ok(slot),
+        (None, Err(fault)) => Err(NoDump::Refused(Reason::Unopened(fault))),
+        // So it is with no file.
+        (None, Ok(())) => Err(NoDump::Refused(Reason::Unopened(Fault::NotDocument))),
+    }
 }
 
 fn of_other(none: NoDump) -> NoDump {
@@ -68,8 +76,7 @@ fn of_other(none: NoDump) -> NoDump {
 fn dump_file<S: Store>(rt: &HostRuntime, store: S, which: Which) -> Result<(), NoDump> {
     let mut file = match VmFile::open(rt.alloc(), store) {
         Ok(file) => file,
-        Err(refused) if refused.fault == Fault::Memory => return Err(NoDump::Memory),
-        Err(refused) => return Err(NoDump::Refused(Reason::Unopened(refused.fault))),
+        Err(refused) => return Err(unread(refused.fault)),
     };
     let mut writer = BufWriter::new(rt.alloc(), io::writer(rt)).map_err(|_| NoDump::Memory)?;
     dump(rt.alloc(), &mut file, which, &mut writer).map_err(undumped)?;

@@ -43,7 +43,7 @@ fn main(rt: HostRuntime) -> ExitCode {
         Err(NoRequest::Told(text)) => {
             match io::writer(&rt).write_all(text.as_slice()) {
                 Ok(()) => ExitCode::from(0),
-                Err(_) => ExitCode::from(1),
+                Err(_) => complain(&rt, b"geosdoc: write fault\n", 1),
             }
         }
         Err(NoRequest::Usage(text)) => complain(&rt, text.as_slice(), 2),

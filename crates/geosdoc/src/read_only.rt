@@ -94,10 +94,17 @@ impl System<ReadOnlyFile> for ReadOnlySystem {
 
     // Of what the machine does nothing is known.
     ghost calls = { record {
+      guards = λ old result new. Unit {0};
       opens = λ old path make result new. Unit {0};
       syncs_folder = λ old path result new. Unit {0};
       locks = λ old handle result new. Unit {0};
+      closes = λ old file new. Unit {0};
     } };
+
+    /// No file is opened that something could be written to.
+    fn guard_streams(&mut self) -> Result<(), SystemFault> {
+        Ok(())
+    }
 
     /// Nothing is made. What isn't a regular file isn't opened, since a pipe would make the program wait.
     fn open(&mut self, path: &str, make: bool) -> Result<ReadOnlyHandle, SystemFault> {
@@ -124,6 +131,10 @@ impl System<ReadOnlyFile> for ReadOnlySystem {
             Err(TryLockError::WouldBlock) => Err(self.refused(Cause::InUse)),
             Err(TryLockError::Error(error)) => Err(self.failed(error)),
         }
+    }
+
+    fn close(&mut self, file: ReadOnlyFile) {
+        drop(file);
     }
 }
 

@@ -105,6 +105,21 @@ fn overlaps_are_drawn(rt: HostRuntime) -> Result<(), Fail> {
     Ok(())
 }
 
+// Two blocks of each document have the same heap.
+const SHARED: Listed = (2, &[(1, 3, HEAP), (2, 3, HEAP)]);
+
+#[test]
+fn a_heap_of_two_blocks_is_told_once_for_each(rt: HostRuntime) -> Result<(), Fail> {
+    let mut file = made(rt.alloc(), 5, SHARED, SHARED)?;
+    put_table(&mut file);
+    let text = text_of(rt.alloc(), &file)?;
+    assert_eq!(rt; times(&text, b"\n0001 both    ["), 1);
+    assert_eq!(rt; times(&text, b"\n0002 both    ["), 1);
+    // No other line has a bar.
+    assert_eq!(rt; times(&text, b" ["), 2);
+    Ok(())
+}
+
 #[test]
 fn each_part_is_a_rectangle_with_a_title(rt: HostRuntime) -> Result<(), Fail> {
     let mut file = made(rt.alloc(), 10, UPDATED, SAVED)?;

@@ -33,9 +33,10 @@ pub(crate) struct Made {
 fn answered(alloc: Global, session: Session<MemStore>, script: &[u8]) -> Result<Made, Fail> {
     let mut replies = Vec::new(alloc);
     let mut reader = script;
-    let session = run(alloc, session, None, &mut reader, &mut replies)?;
+    let ended = run(alloc, session, None, &mut reader, &mut replies);
+    ended.result?;
     Ok(Made {
-        file: session.close(),
+        file: ended.session.close(),
         replies,
     })
 }

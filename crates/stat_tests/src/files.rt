@@ -28,8 +28,9 @@ pub(crate) fn make(alloc: Global, script: &[u8]) -> Result<Vec<u8>, Fail> {
         Ok(session) => {
             let mut replies = Vec::new(alloc);
             let mut reader = script;
-            let session = run(alloc, session, None, &mut reader, &mut replies)?;
-            Ok(session.close().bytes().to_vec(alloc)?)
+            let ended = run(alloc, session, None, &mut reader, &mut replies);
+            ended.result?;
+            Ok(ended.session.close().bytes().to_vec(alloc)?)
         }
         Err(refused) => Err(Fail::from(refused.fault)),
     }

@@ -13,6 +13,9 @@ use Rattle.file_report.specs.declared.pages.Usage.{Usage}
 use Rattle.document_stat.proofs.Files.{document_there, refused_by, refused_saved, refused_updated, saved_there, stands_chosen, usages_read}
 use Rattle.document_stat.proofs.file_stat.stat.Goals as goal
 
+pub returns-in_err-slot-clause-looks : goal.returns-in_err-slot-clause-looks
+returns-in_err-slot-clause-looks g c = OnlyReadsStore-trans _ _ _ (λ so. g.met.S.Store.timely c.args.store.now so) c.read_length.ensures.looks c.read_counting_slot.ensures.looks
+
 pub returns-in_err-slot-clause-err : goal.returns-in_err-slot-clause-err
 returns-in_err-slot-clause-err g c =
     let fault = c.in_err-slot.field-0.0 in

@@ -10,6 +10,9 @@ use Rattle.file_report.specs.declared.reading.ReadDirectory.TheVariants.{Right}
 use Rattle.file_report.proofs.FindingsLemmas.{finds_both, finds_as}
 use Rattle.file_report.proofs.document.check_document.Goals as goal
 
+pub returns-in_err-stands-in-Right-clause-looks : goal.returns-in_err-stands-in-Right-clause-looks
+returns-in_err-stands-in-Right-clause-looks g c = OnlyReadsStore-trans _ _ _ (λ so. g.met.S.Store.timely c.args.store.now so) c.read_directory.ensures.looks c.check_images.ensures.looks
+
 pub returns-in_ok-stands-in-Right-clause-looks : goal.returns-in_ok-stands-in-Right-clause-looks
 returns-in_ok-stands-in-Right-clause-looks g c = OnlyReadsStore-trans _ _ _ (λ so. g.met.S.Store.timely c.args.store.now so) c.read_directory.ensures.looks c.check_images.ensures.looks
 

@@ -1,4 +1,4 @@
-use Rattle.std.proofs.Common.{◌∷◌, [], ap, arith, length, refl, sym, subst, ◌∙◌, List, ℕ}
+use Rattle.std.proofs.Common.{◌∷◌, [], ap, arith, length, refl, sym, subst}
 use Rattle.geos_model.specs.declared.command.Body.{Body}
 use Rattle.geos_model.proofs.Images.{length_image_body_le}
 use Rattle.document_stat.specs.Counted.{AddsBlocks}
