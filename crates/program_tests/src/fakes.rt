@@ -15,7 +15,8 @@ pub(crate) fn fault_of<R: Read, W: Write>(
     reader: &mut R,
     writer: &mut W,
 ) -> Result<Option<RunFault>, Fault> {
-    Ok(run(alloc, new_session(alloc)?, None, reader, writer).err())
+    let ended = run(alloc, new_session(alloc)?, None, reader, writer);
+    Ok(ended.result.err())
 }
 
 /// A session on a new document, in a file in memory.
@@ -140,6 +141,25 @@ impl Write for Counting<'_> {
     fn flush(&mut self) -> io::Result<()> {
         let desk = self.0;
         desk.flushed.set(desk.written.get());
+        Ok(())
+    }
+}
+
+// A writer that keeps how long the longest write was, and how long all are together.
+#[derive(Drop)]
+pub(crate) struct Weighing {
+    pub(crate) longest: usize,
+    pub(crate) total: usize,
+}
+
+impl Write for Weighing {
+    fn write(&mut self, buf: &[u8]) -> io::Result<usize> {
+        self.longest = self.longest.max(buf.len());
+        self.total = self.total.saturating_add(buf.len());
+        Ok(buf.len())
+    }
+
+    fn flush(&mut self) -> io::Result<()> {
         Ok(())
     }
 }

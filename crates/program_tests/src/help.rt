@@ -24,6 +24,19 @@ const ABOVE: &str =
 
 const HEADING: &str = "Commands, which docs/SCRIPT.md explains:\n";
 
+const COMMANDS: &str = "  \
+    newraw uid size\n  newheap uid\n  vfree b\n  vcopy b\n  vwrite b at hex\n  attach b hex\n  \
+    uid b uid\n  settype b type\n  map b\n  alloc b n\n  free b c\n  resize b c n\n  insert b c at n\n  \
+    delete b c at n\n  write b c at hex\n  acreate b e x\n  ainsert b c i hex\n  aset b c i hex\n  \
+    aresize b c i n\n  adelete b c i k\n  azero b c\n  ecreate b e\n  eadd b c hex\n  eref b c t\n  \
+    eunref b c t\n  edelete b c t\n  echange b c t hex\n  ncreate b d\n  nadd b c name part keep|set\n  \
+    nname b c t name\n  nunref b c t\n  chcopy b\n  chfree b\n  undo\n  redo\n  begin\n  end\n  \
+    abandon\n  update\n  save\n  revert\n  saveas\n  info b\n  gettype b\n  list\n  find uid start\n  \
+    mapblock\n  vread b\n  chunks b\n  read b c\n  acount b c\n  aget b c i\n  ecount b c t\n  \
+    edata b c t\n  eused b c\n  etoken b c k\n  eindex b c t\n  nfind b c name\n  ncount b c t\n  \
+    ntext b c t\n  ndata b c t\n  walk b\n  chsize b\n  chequal b b2\n  lock b\n  unlock b\n  \
+    dirty b\n  locks b\n  undos\n  redos\n";
+
 // A word that spells what help calls so, and nothing that another of these kinds is spelled by.
 fn spelled(operand: &str) -> Option<&'static str> {
     match operand {
@@ -111,6 +124,15 @@ fn each_command_of_help_is_taken_with_just_its_operands(rt: HostRuntime) -> Resu
         Some(commands) => same_number(&rt, count(&rt, alloc, commands)?, 70),
         None => return Err(Fail::from("other text stands above the commands")),
     }
+    Ok(())
+}
+
+#[test]
+fn help_lists_these_commands(rt: HostRuntime) -> Result<(), Fail> {
+    let alloc = rt.alloc();
+    let bytes = help(alloc, &["geosvm", "-h"])?;
+    let text = String::from_utf8_lossy(alloc, &bytes)?;
+    assert!(rt; commands(text.as_str()) == Some(COMMANDS));
     Ok(())
 }
 

@@ -1,4 +1,5 @@
 //! Outcomes of the program.
+use crate::fakes::writer_that_tires;
 use crate::mismatches::{Mismatch, named, same};
 use geos_model::{Bytes, Fault};
 use geos_shell::{Outcome, RunFault};
@@ -74,4 +75,32 @@ fn all_are_told(alloc: Global) -> Result<(), Mismatch> {
 #[test]
 fn each_outcome_has_its_status_and_line(rt: HostRuntime) -> Result<(), Fail> {
     named("outcomes", all_are_told(rt.alloc()))
+}
+
+// Help is told on a writer that takes so many writes and flushes: with this status, and this line on standard error.
+fn help_is_told(
+    alloc: Global,
+    writes: u32,
+    flushes: u32,
+    status: u8,
+    line: &str,
+) -> Result<(), Mismatch> {
+    let help = Outcome::Help(Bytes::from_vec(b"help".to_vec(alloc)?));
+    let mut out = writer_that_tires(alloc, 100, writes, flushes);
+    let mut errors = Vec::new(alloc);
+    let told = help.tell(&mut out, &mut errors);
+    same(alloc, &errors, line)?;
+    if told == status {
+        return Ok(());
+    }
+    Err(Mismatch::Status(told))
+}
+
+#[test]
+fn help_that_cant_be_written_is_a_write_fault(rt: HostRuntime) -> Result<(), Fail> {
+    let alloc = rt.alloc();
+    named("all goes well", help_is_told(alloc, 1, 1, 0, ""))?;
+    let line = "geosvm: write fault\n";
+    named("the write fails", help_is_told(alloc, 0, 1, 1, line))?;
+    named("the flush fails", help_is_told(alloc, 1, 0, 1, line))
 }

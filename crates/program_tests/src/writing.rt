@@ -1,8 +1,9 @@
 //! Writers that fail, or take a byte a write, and the order of reads and writes.
 use crate::asserting::same_number;
-use crate::fakes::{Counting, Desk, Line, Piece, Waiting, fault_of};
+use crate::fakes::{Counting, Desk, Line, Piece, Waiting, Weighing, fault_of};
 use crate::runs::{Run, each_goes};
 use geos_shell::RunFault;
+use std::alloc::Global;
 use std::cell::Cell;
 use std::test::Fail;
 
@@ -91,5 +92,37 @@ fn replies_are_flushed_before_the_next_read(rt: HostRuntime) -> Result<(), Fail>
     let fault = fault_of(rt.alloc(), &mut reader, &mut Counting(&desk))?;
     assert!(rt; fault.is_none());
     same_number(&rt, desk.flushed.get() as u64, 48);
+    Ok(())
+}
+
+// What is written of a block of so many bytes that one read asks for so often.
+fn weighed(alloc: Global, size: u32, count: u32) -> Result<Weighing, Fail> {
+    let mut script = format!(in alloc; "newraw 7 {size}\n")?;
+    for _ in 0..count {
+        script.push_str("vread 0001\n")?;
+    }
+    let mut writer = Weighing {
+        longest: 0,
+        total: 0,
+    };
+    match fault_of(alloc, &mut script.as_bytes(), &mut writer)? {
+        None => Ok(writer),
+        Some(_) => Err(Fail::from("the run ends before its script does")),
+    }
+}
+
+#[test]
+fn replies_that_are_long_are_written_one_by_one(rt: HostRuntime) -> Result<(), Fail> {
+    let written = weighed(rt.alloc(), 65_000, 100)?;
+    same_number(&rt, written.total as u64, 11 + 100 * 130_007);
+    same_number(&rt, written.longest as u64, 11 + 130_007);
+    Ok(())
+}
+
+#[test]
+fn replies_are_written_once_they_are_more_than_65536_bytes(rt: HostRuntime) -> Result<(), Fail> {
+    let written = weighed(rt.alloc(), 1_000, 1_000)?;
+    same_number(&rt, written.total as u64, 11 + 1_000 * 2_007);
+    same_number(&rt, written.longest as u64, 11 + 33 * 2_007);
     Ok(())
 }

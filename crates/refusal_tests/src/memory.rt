@@ -1,5 +1,5 @@
 //! One request for memory is refused.
-// Here none is: `docs/each_request.sh` runs each of these tests once for each request that they make, with just that
+// Here none is: `checks/each_request.sh` runs each of these tests once for each request that they make, with just that
 // one refused, until a run meets no refusal.
 use crate::driver::Driver;
 use crate::scenarios::{

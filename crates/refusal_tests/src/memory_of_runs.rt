@@ -1,4 +1,4 @@
-//! One request for memory is refused while a script is run, as `docs/each_request.sh` has it.
+//! One request for memory is refused while a script is run, as `checks/each_request.sh` has it.
 use crate::running::{Left, Lent, Play, Script, count_lines, is_led_to, lend, what_is_left};
 use crate::scenarios::{ARRAYS, CHAINS, CHUNK, NAMES, OPENED_AGAIN, SAVED_AS, Scenario};
 use crate::shim::{signal_begin, signal_refusal};

@@ -278,6 +278,29 @@ pub(crate) const OPENED_AGAIN: Scenario = Scenario {
     former: "",
 };
 
+/// Commits of each kind, of one byte, which is another one each time.
+const ONE_BYTE: Scenario = Scenario {
+    least: 1,
+    openings: &[
+        "
+        newraw 0 1       = block 0001
+        save             = ok
+        vwrite 0001 0 61 = ok
+        update           = ok
+        vwrite 0001 0 62 = ok
+        save             = ok
+        vwrite 0001 0 63 = ok
+        revert           = ok
+        ",
+        "
+        vread 0001       = bytes 62
+        revert           = ok
+        vread 0001       = bytes 62
+        ",
+    ],
+    former: "",
+};
+
 pub(crate) const SAVED_AS: Scenario = Scenario {
     least: 1,
     openings: &[
@@ -460,6 +483,7 @@ const SCENARIOS: &[&Scenario] = &[
     &CHAINS,
     &BLOCKS,
     &OPENED_AGAIN,
+    &ONE_BYTE,
     &SAVED_AS,
     &LOCKED,
     &GROUPS,

@@ -1,4 +1,4 @@
-//! What is told to the program that has one request for memory refused, `docs/each_request.sh`.
+//! What is told to the program that has one request for memory refused, `checks/each_request.sh`.
 // It is told by requests of sizes that are asked for nowhere else. Without that program they do nothing.
 use std::alloc::{AllocError, Global};
 

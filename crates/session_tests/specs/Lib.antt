@@ -1,1 +1,1 @@
-pub mod Lying
+pub mod Unpromised

@@ -1,27 +1,17 @@
-//! Tests of sessions over files: crashes, failing stores, calls of the store, undo over commits, limits and locks.
+//! Tests of sessions and dialogues that no case file holds: stores of which nothing is promised, and bytes that are lent.
 #![tactic(auto)]
 
 #[cfg(test)]
-mod caching;
-#[cfg(test)]
 mod calls;
 #[cfg(test)]
-mod copying;
+mod forgetful;
 #[cfg(test)]
-mod counting;
-#[cfg(test)]
-mod crashing;
-#[cfg(test)]
-mod failing;
-#[cfg(test)]
-mod grouping;
-#[cfg(test)]
-mod limits;
-#[cfg(test)]
-mod locking;
+mod lending;
 #[cfg(test)]
 mod lying;
 #[cfg(test)]
-mod undoing;
+mod memory;
 #[cfg(test)]
-mod vectors;
+mod mismatches;
+#[cfg(test)]
+mod parts;

@@ -1,6 +1,6 @@
 //! A store that lies: all that a session does over it ends, and a refused call leaves what can be known.
 ghost use Rattle.std.specs.Prelude.{◌≡◌};
-ghost use Rattle.session_tests.specs.Lying.{lying_facts, lying_timely};
+ghost use Rattle.session_tests.specs.Unpromised.{unpromised_facts, unpromised_timely};
 
 use crate::calls::{FRAMES, answer, made, open_in};
 use geos_model::Fault;
@@ -31,9 +31,9 @@ impl Liar {
 }
 
 impl Store for Liar {
-    ghost facts = { λ l. lying_facts l.store.failures };
+    ghost facts = { λ l. unpromised_facts l.store.failures };
 
-    ghost timely = { λ l honest. lying_timely l.store.failures };
+    ghost timely = { λ l honest. unpromised_timely l.store.failures };
 
     fn len(&mut self) -> Result<u64, StoreFault> {
         self.is_lied();

@@ -1,0 +1,408 @@
+//! What a case is played on: a file and a session on it, and what a save-as makes and leaves.
+use crate::mismatch::{Mismatch, expect, mismatch_at};
+use crate::step::{Action, Side};
+use dialogues::Dialogue;
+use geos_model::{Fault, VmHandle};
+use geos_shell::run_in;
+use std::alloc::{AllocError, Global};
+use std::mem;
+use undo_log::Session;
+use vm_store::{FuseStore, MemStore};
+
+/// A file in memory that fails on order.
+type File = FuseStore<MemStore>;
+
+/// Of which store the call after so many fails, or all from there on.
+#[derive(Clone, Copy)]
+pub(crate) struct Fuse {
+    pub(crate) side: Side,
+    pub(crate) passes: u64,
+    pub(crate) all: bool,
+}
+
+/// No call fails.
+pub(crate) const NO_FUSE: Fuse = Fuse {
+    side: Side::File,
+    passes: u64::MAX,
+    all: false,
+};
+
+/// Lines of a script that aren't said yet, the replies that they must get, and the number of the line of each reply.
+#[derive(Drop)]
+struct Pending {
+    script: String,
+    replies: String,
+    numbers: Vec<usize>,
+}
+
+fn no_lines(alloc: Global) -> Pending {
+    Pending {
+        script: String::new(alloc),
+        replies: String::new(alloc),
+        numbers: Vec::new(alloc),
+    }
+}
+
+impl Pending {
+    fn put(&mut self, number: usize, line: &Dialogue) -> Result<(), AllocError> {
+        self.script.push_str(line.script())?;
+        if !line.replies().is_empty() {
+            self.replies.push_str(line.replies())?;
+            self.numbers.push(number)?;
+        }
+        Ok(())
+    }
+
+    // The number of the line that gets the reply at a place, or of the last one.
+    fn number_at(&self, place: usize) -> usize {
+        let last = self.numbers.last().copied().unwrap_or(0);
+        self.numbers.get(place).copied().unwrap_or(last)
+    }
+
+    // The first reply that differs.
+    fn first_mismatch(&self, alloc: Global, given: &str) -> Mismatch {
+        for (place, (want, give)) in self.replies.lines().zip(given.lines()).enumerate() {
+            if want != give {
+                return mismatch_at(alloc, self.number_at(place), want, give);
+            }
+        }
+        let count = given.lines().count();
+        mismatch_at(
+            alloc,
+            self.number_at(count),
+            "as many replies",
+            "more or fewer",
+        )
+    }
+
+    fn compare(&self, alloc: Global, given: &[u8]) -> Result<(), Mismatch> {
+        if given == self.replies.as_bytes() {
+            return Ok(());
+        }
+        let given = String::from_utf8_lossy(alloc, given)?;
+        Err(self.first_mismatch(alloc, given.as_str()))
+    }
+}
+
+/// Where a case is played.
+#[derive(Drop)]
+pub(crate) struct Bench {
+    alloc: Global,
+    frames: usize,
+    fuse: Fuse,
+    /// Whether it is looked at whether all is as it must be.
+    is_judged: bool,
+    /// The session, while the file is open.
+    session: Option<Session<File>>,
+    /// The file, while it isn't open.
+    file: Option<File>,
+    target: Option<File>,
+    former: Option<File>,
+    /// The bytes of the file when it was opened last.
+    opened: Vec<u8>,
+    pending: Pending,
+}
+
+// A session on a new file, or on the one that a store has; or what it is refused for, with the store.
+fn begun(
+    alloc: Global,
+    store: File,
+    frames: usize,
+    is_new: bool,
+) -> Result<Session<File>, (Fault, File)> {
+    if frames == 0 || frames > 64 {
+        return Err((Fault::Range, store));
+    }
+    let begun = if is_new {
+        Session::create(alloc, store, frames)
+    } else {
+        Session::open(alloc, store, frames)
+    };
+    match begun {
+        Ok(session) => Ok(session),
+        Err(refused) => Err((refused.fault, refused.store)),
+    }
+}
+
+// How a fault is told.
+fn refusal(alloc: Global, fault: Fault) -> Result<String, AllocError> {
+    let (number, name) = (fault.number(), fault.name());
+    format!(in alloc; "no {number} {name}")
+}
+
+impl Bench {
+    /// With no file and no session.
+    pub(crate) fn new(alloc: Global, frames: usize, fuse: Fuse, is_judged: bool) -> Bench {
+        Bench {
+            alloc,
+            frames,
+            fuse,
+            is_judged,
+            session: None,
+            file: None,
+            target: None,
+            former: None,
+            opened: Vec::new(alloc),
+            pending: no_lines(alloc),
+        }
+    }
+
+    // A store that fails as this side's does.
+    fn fused(&self, side: Side, store: MemStore) -> File {
+        let fuse = if self.fuse.side == side {
+            self.fuse
+        } else {
+            NO_FUSE
+        };
+        FuseStore::new(store, fuse.passes, fuse.all)
+    }
+
+    /// Begins a session on a new file.
+    pub(crate) fn create(&mut self, number: usize) -> Result<(), Mismatch> {
+        let store = self.fused(Side::File, MemStore::new(self.alloc));
+        match begun(self.alloc, store, self.frames, true) {
+            Ok(session) => {
+                self.session = Some(session);
+                Ok(())
+            }
+            Err((fault, _)) => {
+                let given = refusal(self.alloc, fault)?;
+                Err(mismatch_at(self.alloc, number, "a new file", &given))
+            }
+        }
+    }
+
+    // Fails where a line that is judged isn't as it must be.
+    fn expect(
+        &self,
+        number: usize,
+        holds: bool,
+        wanted: &str,
+        given: &str,
+    ) -> Result<(), Mismatch> {
+        expect(self.alloc, number, holds || !self.is_judged, wanted, given)
+    }
+
+    // There is no file that isn't open.
+    fn no_file(&self, number: usize) -> Mismatch {
+        mismatch_at(self.alloc, number, "a file that isn't open", "none")
+    }
+
+    // There is no session.
+    fn no_session(&self, number: usize) -> Mismatch {
+        mismatch_at(self.alloc, number, "a file that is open", "none")
+    }
+
+    /// Says the lines that aren't said yet.
+    pub(crate) fn say(&mut self) -> Result<(), Mismatch> {
+        let lines = mem::replace(&mut self.pending, no_lines(self.alloc));
+        if lines.script.is_empty() {
+            return Ok(());
+        }
+        let Some(session) = &mut self.session else {
+            return Err(self.no_session(lines.number_at(0)));
+        };
+        let mut given = Vec::new(self.alloc);
+        let end = run_in(
+            self.alloc,
+            session,
+            &mut self.target,
+            &mut self.former,
+            &mut lines.script.as_bytes(),
+            &mut given,
+        );
+        if end.is_err() {
+            return Err(Mismatch::Memory);
+        }
+        if self.is_judged {
+            return lines.compare(self.alloc, &given);
+        }
+        Ok(())
+    }
+
+    fn open(&mut self, number: usize, wanted: &str) -> Result<(), Mismatch> {
+        self.opened = self.closed_file(number)?.bytes().to_vec(self.alloc)?;
+        let Some(file) = self.file.take() else {
+            return Err(self.no_file(number));
+        };
+        match begun(self.alloc, file, self.frames, false) {
+            Ok(session) => {
+                self.session = Some(session);
+                self.expect(number, wanted.is_empty(), wanted, "a document")
+            }
+            Err((fault, file)) => {
+                self.file = Some(file);
+                let given = refusal(self.alloc, fault)?;
+                let is_wanted = given.as_str() == wanted;
+                self.expect(number, is_wanted, wanted, &given)
+            }
+        }
+    }
+
+    fn close(&mut self, number: usize) -> Result<(), Mismatch> {
+        match self.session.take() {
+            Some(session) => {
+                self.file = Some(session.close());
+                Ok(())
+            }
+            None => Err(self.no_session(number)),
+        }
+    }
+
+    // The file is another one.
+    fn turn_to(&mut self, store: MemStore) {
+        let file = self.fused(Side::File, store);
+        self.file = Some(file);
+    }
+
+    // The file that a save-as has left is the one that there is.
+    fn turn_back(&mut self, number: usize) -> Result<(), Mismatch> {
+        match self.former.take() {
+            Some(former) => {
+                self.file = Some(former);
+                Ok(())
+            }
+            None => Err(mismatch_at(self.alloc, number, "a save-as", "none")),
+        }
+    }
+
+    fn closed_file(&self, number: usize) -> Result<&MemStore, Mismatch> {
+        match &self.file {
+            Some(file) => Ok(file.inner()),
+            None => Err(self.no_file(number)),
+        }
+    }
+
+    // A crash comes over the file, whose store serves from then on.
+    fn crash(&mut self, number: usize, keep: usize, fill: u8) -> Result<(), Mismatch> {
+        let left = self.closed_file(number)?.crashed(keep, fill)?;
+        self.file = Some(FuseStore::new(left, NO_FUSE.passes, NO_FUSE.all));
+        Ok(())
+    }
+
+    // A file of so many zeros is there.
+    fn give(&mut self, length: usize) -> Result<(), Mismatch> {
+        let mut bytes = Vec::new(self.alloc);
+        bytes.resize(length, 0)?;
+        let store = MemStore::from_bytes(self.alloc, &bytes)?;
+        self.turn_to(store);
+        Ok(())
+    }
+
+    // Puts bytes into the file.
+    fn put(&mut self, number: usize, at: usize, bytes: &[u8]) -> Result<(), Mismatch> {
+        let mut all = self.closed_file(number)?.bytes().to_vec(self.alloc)?;
+        let end = at.saturating_add(bytes.len());
+        if end > all.len() || end - at != bytes.len() {
+            return Err(mismatch_at(self.alloc, number, "a longer file", "a short one"));
+        }
+        all[at..end].copy_from_slice(bytes);
+        let store = MemStore::from_bytes(self.alloc, &all)?;
+        self.turn_to(store);
+        Ok(())
+    }
+
+    // A save-as can make a file of these bytes.
+    fn aim(&mut self, bytes: &[u8]) -> Result<(), Mismatch> {
+        let store = MemStore::from_bytes(self.alloc, bytes)?;
+        self.target = Some(self.fused(Side::Target, store));
+        Ok(())
+    }
+
+    // Looks whether a block is in memory.
+    fn look_for(&self, number: usize, block: VmHandle, is_wanted: bool) -> Result<(), Mismatch> {
+        let (wanted, given) = if is_wanted {
+            ("in memory", "away")
+        } else {
+            ("away", "in memory")
+        };
+        match &self.session {
+            Some(session) => {
+                let holds = session.is_resident(block) == is_wanted;
+                self.expect(number, holds, wanted, given)
+            }
+            None => Err(self.no_session(number)),
+        }
+    }
+
+    // Looks at bytes of the file.
+    fn look_at(&self, number: usize, at: usize, bytes: &[u8]) -> Result<(), Mismatch> {
+        let file = self.closed_file(number)?.bytes();
+        let there = file.get(at..at.saturating_add(bytes.len())).unwrap_or(&[]);
+        let wanted = format!(in self.alloc; "{bytes:?}")?;
+        let given = format!(in self.alloc; "{there:?}")?;
+        self.expect(number, there == bytes, &wanted, &given)
+    }
+
+    // Looks whether the file has the bytes that it had when it was opened.
+    fn look_for_change(&self, number: usize) -> Result<(), Mismatch> {
+        let is_same = self.closed_file(number)?.bytes() == self.opened.as_slice();
+        self.expect(number, is_same, "the bytes as they were", "others")
+    }
+
+    // Looks whether a crash now leaves the file as it is.
+    fn look_for_crash(&self, number: usize) -> Result<(), Mismatch> {
+        let file = self.closed_file(number)?;
+        let left = file.crashed(0, 255)?;
+        let is_same = left.bytes() == file.bytes();
+        self.expect(number, is_same, "a file that is synced", "another one")
+    }
+
+    // Looks whether something is as it must be.
+    fn look(&self, number: usize, action: &Action) -> Result<(), Mismatch> {
+        match action {
+            Action::Resident(block) => self.look_for(number, *block, true),
+            Action::Away(block) => self.look_for(number, *block, false),
+            Action::Has(at, bytes) => self.look_at(number, *at, bytes),
+            Action::Unchanged => self.look_for_change(number),
+            Action::Synced => self.look_for_crash(number),
+            _ => Ok(()),
+        }
+    }
+
+    /// Takes a step.
+    pub(crate) fn take(&mut self, number: usize, action: &Action) -> Result<(), Mismatch> {
+        if let Action::Say(line) = action {
+            self.pending.put(number, line)?;
+            return Ok(());
+        }
+        self.say()?;
+        match action {
+            Action::File(length) => self.give(*length),
+            Action::Put(at, bytes) => self.put(number, *at, bytes),
+            Action::Open(wanted) => self.open(number, wanted),
+            Action::Close => self.close(number),
+            Action::Target(bytes) => self.aim(bytes),
+            Action::Former => self.turn_back(number),
+            Action::Crash(keep, fill) => self.crash(number, *keep, *fill),
+            _ => self.look(number, action),
+        }
+    }
+
+    /// How many calls the store has had that is the session's, or the one of the file that isn't open, and the other
+    /// one.
+    pub(crate) fn calls(self) -> (u64, u64) {
+        let Bench {
+            session,
+            file,
+            target,
+            former,
+            ..
+        } = self;
+        let here = match session {
+            Some(session) => session.close().calls(),
+            None => calls_of(&file),
+        };
+        match former {
+            Some(former) => (former.calls(), here),
+            None => (here, calls_of(&target)),
+        }
+    }
+}
+
+fn calls_of(store: &Option<File>) -> u64 {
+    match store {
+        Some(store) => store.calls(),
+        None => 0,
+    }
+}

@@ -1,0 +1,45 @@
+//! How a case differs from what is written.
+use std::alloc::{AllocError, Global};
+
+#[derive(Debug, Drop)]
+pub(crate) enum Mismatch {
+    Memory,
+    /// What a line of the case file expects, and what came in its place.
+    Line {
+        number: usize,
+        wanted: String,
+        given: String,
+    },
+}
+
+impl From<AllocError> for Mismatch {
+    fn from(_: AllocError) -> Mismatch {
+        Mismatch::Memory
+    }
+}
+
+/// What a line expects, and what came.
+pub(crate) fn mismatch_at(alloc: Global, number: usize, wanted: &str, given: &str) -> Mismatch {
+    match (wanted.to_string(alloc), given.to_string(alloc)) {
+        (Ok(wanted), Ok(given)) => Mismatch::Line {
+            number,
+            wanted,
+            given,
+        },
+        _ => Mismatch::Memory,
+    }
+}
+
+/// Fails where something is not as a line expects it.
+pub(crate) fn expect(
+    alloc: Global,
+    number: usize,
+    holds: bool,
+    wanted: &str,
+    given: &str,
+) -> Result<(), Mismatch> {
+    if holds {
+        return Ok(());
+    }
+    Err(mismatch_at(alloc, number, wanted, given))
+}
