@@ -1,9 +1,10 @@
 #!/bin/sh
+# Needs: file groff man-db
 # Looks over the pages for newcomers: that the manual pages are in order, that geosvm.1 has the commands of SCRIPT.md, that the magic
 # lines tell a document, and that the commands and replies of TUTORIAL.md are those of its scripts. With a program it runs these scripts
-# too, on files. What isn't on the machine, mandoc, man or file, is left out and said.
+# too, on files.
 #
-#     sh docs/pages_checked.sh [crates/geosvm/out/geosvm]
+#     sh checks/pages_checked.sh [crates/geosvm/out/geosvm]
 set -u
 cd "$(dirname "$0")/.." || exit 2
 program=
@@ -27,12 +28,11 @@ told() {
     fi
 }
 
-# there COMMAND: whether the machine has it
+# there COMMAND: whether the machine has it, which it has to
 there() {
-    if command -v "$1" >"$folder/where"; then
-        return 0
-    fi
-    echo "left out: there is no $1"
+    command -v "$1" >"$folder/where" && return 0
+    failed=$((failed + 1))
+    echo "FAILED  there is no $1"
     return 1
 }
 
@@ -42,9 +42,9 @@ same() {
 }
 
 echo "-- manual pages"
-if there mandoc; then
+if there groff; then
     for page in docs/*.1; do
-        told "mandoc finds nothing in $page" "" "$(mandoc -T lint "$page" 2>&1)"
+        told "groff warns of nothing in $page" "" "$(groff -mandoc -ww -z "$page" 2>&1)"
     done
 fi
 if there man; then

@@ -1,7 +1,8 @@
+# Needs: python3
 """Dumps random documents, makes them again from their dumps, by `geosvm --new` or by `geosdoc restore`, and compares both documents
 byte for byte. Then it has `geosdoc restore` refuse a file that is there, and a script with a line that is refused.
 
-    python3 docs/dumped_documents.py GEOSVM GEOSDOC [COUNT] [SEED]
+    python3 checks/dumped_documents.py GEOSVM GEOSDOC [COUNT] [SEED]
 
 GEOSVM and GEOSDOC are the programs of `crates/geosvm` and `crates/geosdoc`. Files are read here by docs/FORMAT.md alone.
 """
@@ -223,13 +224,23 @@ def main():
     geosvm, geosdoc = map(os.path.abspath, sys.argv[1:3])
     count = int(sys.argv[3]) if len(sys.argv) > 3 else 1000
     start = int(sys.argv[4]) if len(sys.argv) > 4 else 1
-    lines = changed = others = 0
+    lines = changed = others = failed = 0
     with tempfile.TemporaryDirectory() as folder:
         for seed in range(start, start + count):
-            done = try_one(geosvm, geosdoc, folder, seed)
-            lines, changed, others = lines + done[0], changed + done[1], others + done[2]
-        try_refused(geosvm, geosdoc, folder)
-    print(f"{count} documents, {changed} of them with another updated one, {others} with another slot that opens; {lines} lines")
+            try:
+                done = try_one(geosvm, geosdoc, folder, seed)
+                lines, changed, others = lines + done[0], changed + done[1], others + done[2]
+            except AssertionError as wrong:
+                failed += 1
+                print(f"FAILED  the document of seed {seed}: {wrong}")
+        try:
+            try_refused(geosvm, geosdoc, folder)
+        except AssertionError as wrong:
+            failed += 1
+            print(f"FAILED  what a restore refuses: {wrong}")
+    print(f"        {count} documents, {changed} of them with another updated one, {others} with another slot that opens; {lines} lines")
+    print(f"{count + 1 - failed} passed, {failed} failed")
+    sys.exit(failed != 0)
 
 
 if __name__ == "__main__":

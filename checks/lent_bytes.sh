@@ -1,9 +1,10 @@
 #!/bin/sh
+# Needs: git, and rt of the Rattle kit
 # Bytes that are lent of a locked block are held by a borrow of the session: while they are used, nothing can be edited. So the compiler
 # must refuse the functions below whose names begin with `late`, and no others. It stops at the borrow, before anything is proved, so that
 # no must-fail edit can say it.
 #
-#     sh docs/lent_bytes.sh
+#     sh checks/lent_bytes.sh
 set -eu
 root=$(realpath "$(dirname "$0")/..")
 folder=$(mktemp -d)
@@ -60,18 +61,24 @@ try() {
 
 early=$(try early "$look" "$edit")
 late=$(try late "$edit" "$look")
+passed=0
 failed=0
 case $early in
 *error*)
     echo "FAILED  an edit behind the last use of the bytes is refused: $early"
-    failed=1
+    failed=$((failed + 1))
     ;;
-*) echo "ok      an edit behind the last use of the bytes is taken" ;;
+*)
+    echo "ok      an edit behind the last use of the bytes is taken"
+    passed=$((passed + 1))
+    ;;
 esac
 if [ "$(printf '%s\n' "$late" | grep -c 'error\[borrow-e0502\]')" = 2 ]; then
     echo "ok      an edit while the bytes are used is refused, of a raw block and of a chunk"
+    passed=$((passed + 1))
 else
     echo "FAILED  an edit while the bytes are used is not refused by the borrow: $late"
-    failed=1
+    failed=$((failed + 1))
 fi
-exit $failed
+echo "$passed passed, $failed failed"
+[ "$failed" = 0 ]

@@ -1,9 +1,10 @@
 #!/bin/sh
+# Needs: gcc
 # Has each request for memory refused, one a run, until a run meets no refusal: in the tests of `refusal_tests` whose names begin with
 # `memory`, and in geosvm on each example. No code of Rattle can have the allocator refuse, so that rt ci runs those tests without a
 # refusal; here malloc and the like are those of a library of a few lines. Then geosvm is run where there is little memory.
 #
-#     sh docs/each_request.sh crates/geosvm/out/geosvm crates/refusal_tests/out/refusal_tests_tests
+#     sh checks/each_request.sh crates/geosvm/out/geosvm crates/refusal_tests/out/refusal_tests_tests
 set -u
 geosvm=$(realpath "${1:?the path of the program}")
 tests=$(realpath "${2:?the path of the tests of refusal_tests}")

@@ -1,7 +1,8 @@
+# Needs: python3
 """Types to geosvm where its standard streams are terminals and where they are pipes, and looks at the prompts, the replies and the
 exit status: a prompt comes just where standard input and standard error are both terminals, and the replies are the same everywhere.
 
-    python3 docs/prompts.py crates/geosvm/out/geosvm
+    python3 checks/prompts.py crates/geosvm/out/geosvm
 """
 
 import os
@@ -80,6 +81,7 @@ def main():
             name = f"input {'typed' if input_is_terminal else 'piped'}, errors {'shown' if errors_are_terminal else 'piped'}"
             print("ok     " if given == wanted else f"FAILED  wanted {wanted}, got {given}", name)
             failed += given != wanted
+    print(f"{4 - failed} passed, {failed} failed")
     sys.exit(failed != 0)
 
 

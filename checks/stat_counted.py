@@ -1,9 +1,11 @@
-"""Compares each number of `geosdoc stat --json` with what docs/FORMAT.md alone says of random documents.
+# Needs: python3
+"""Compares each number of `geosdoc stat --json` with what docs/FORMAT.md alone says of random documents, and the text of `geosdoc stat`
+with the same numbers in their columns.
 
-    python3 docs/stat_counted.py GEOSVM GEOSDOC [COUNT] [SEED]
+    python3 checks/stat_counted.py GEOSVM GEOSDOC [COUNT] [SEED]
 
 GEOSVM and GEOSDOC are the programs of `crates/geosvm` and `crates/geosdoc`. Half of the documents are those of
-docs/dumped_documents.py, and half have arrays of each kind, and chunks that are almost arrays.
+checks/dumped_documents.py, and half have arrays of each kind, and chunks that are almost arrays.
 """
 import json
 import os
@@ -169,6 +171,41 @@ def wanted(data):
     }
 
 
+# The text.
+
+def tally_line(name, tally, unit):
+    largest = tally["largest"]
+    if largest is None:
+        said = "-"
+    else:
+        said = f"{largest[unit]} in {largest['block']}" + (f" {largest['chunk']}" if "chunk" in largest else "")
+    return f"{name:<18} {tally['count']:>10} {tally[unit]:>12}   {said}"
+
+
+def heading(unit):
+    return f"{'':<18} {'count':>10} {unit:>12}   largest"
+
+
+def text_of_document(name, stat):
+    heaps = stat["heaps"]
+    lines = ["", f"{name} document", f"  map block        {stat['map_block'] or 'none'}"]
+    lines += [heading("bytes"), tally_line("  raw blocks", stat["raw_blocks"], "bytes"), tally_line("  chunks", stat["chunks"], "bytes")]
+    lines += [heading("needed bytes"), tally_line("  heaps", heaps, "needed_bytes")]
+    lines += [tally_line(f"    type {tally['type']}", tally, "needed_bytes") for tally in heaps["types"]]
+    lines += [f"  free in heaps {heaps['free_bytes']:>26}", heading("elements")]
+    return lines + [tally_line("  " + kind.replace("_", " "), stat[kind], "elements") for kind in ("chunk_arrays", "element_arrays", "name_arrays")]
+
+
+def text_of(stat):
+    """What `geosdoc stat` has to write."""
+    free = stat["free_pages"]
+    lines = [f"bytes        {stat['bytes']:>10}", f"pages        {stat['pages']:>10}"]
+    lines += [f"free pages   {free['count']:>10}   runs: {free['runs']}, longest: {free['longest']}"]
+    lines += text_of_document("updated", stat["updated"])
+    lines += ["", "the saved document is the updated one"] if stat["saved"] is None else text_of_document("saved", stat["saved"])
+    return "\n".join(lines) + "\n"
+
+
 class Arrays(Scripts):
     """Heaps whose chunks are arrays, whole ones and some of which a byte is changed."""
 
@@ -216,7 +253,7 @@ def try_one(geosvm, geosdoc, folder, seed):
     assert told == wants, (seed, told, wants)
     assert list(told) == list(wants) and list(told["updated"]) == list(wants["updated"]), "another order"
     text = run([geosdoc, "stat", path])
-    assert f"{told['pages']}" in text
+    assert text == text_of(wants), (seed, "another text", text, text_of(wants))
     return [told["updated"][kind]["count"] for kind in ("chunk_arrays", "element_arrays", "name_arrays")]
 
 
@@ -243,12 +280,22 @@ def main():
     geosvm, geosdoc = map(os.path.abspath, sys.argv[1:3])
     count = int(sys.argv[3]) if len(sys.argv) > 3 else 1000
     start = int(sys.argv[4]) if len(sys.argv) > 4 else 1
-    arrays = [0, 0, 0]
+    arrays, failed = [0, 0, 0], 0
     with tempfile.TemporaryDirectory() as folder:
         for seed in range(start, start + count):
-            arrays = [a + b for a, b in zip(arrays, try_one(geosvm, geosdoc, folder, seed))]
-        try_damaged(geosdoc, folder)
-    print(f"{count} documents, with {arrays[0]} chunk arrays, {arrays[1]} element arrays and {arrays[2]} name arrays")
+            try:
+                arrays = [a + b for a, b in zip(arrays, try_one(geosvm, geosdoc, folder, seed))]
+            except AssertionError as wrong:
+                failed += 1
+                print(f"FAILED  the document of seed {seed}: {wrong}")
+        try:
+            try_damaged(geosdoc, folder)
+        except AssertionError as wrong:
+            failed += 1
+            print(f"FAILED  a damaged document: {wrong}")
+    print(f"        {count} documents, with {arrays[0]} chunk arrays, {arrays[1]} element arrays and {arrays[2]} name arrays")
+    print(f"{count + 1 - failed} passed, {failed} failed")
+    sys.exit(failed != 0)
 
 
 if __name__ == "__main__":

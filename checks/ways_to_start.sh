@@ -1,9 +1,11 @@
 #!/bin/sh
+# Needs: nothing but sh
 # Starts geosvm in the ways in which a document could be touched that shouldn't be: with closed standard streams, beside another
 # geosvm on the same file, and with FILE2 as another name of FILE. Each try looks at the exit status, at what was told, and at the
-# document, byte by byte. With geosdoc too, it starts its restore with closed standard streams.
+# document, byte by byte; help and the version are asked for where they can't be written. With geosdoc too, it starts its restore with
+# closed standard streams.
 #
-#     sh docs/ways_to_start.sh crates/geosvm/out/geosvm [crates/geosdoc/out/geosdoc]
+#     sh checks/ways_to_start.sh crates/geosvm/out/geosvm [crates/geosdoc/out/geosdoc]
 set -u
 geosvm=$(realpath "${1:?the path of the program}")
 geosdoc=
@@ -53,6 +55,12 @@ same "no input"
 "$geosvm" document <script >&- 2>errors
 told "no output" "1 geosvm: write fault" "$? $(cat errors)"
 same "no output"
+for word in --help --version; do
+    "$geosvm" "$word" >&- 2>errors
+    told "no output for $word" "1 geosvm: write fault" "$? $(cat errors)"
+    "$geosvm" "$word" >/dev/full 2>errors
+    told "a full device for $word" "1 geosvm: write fault" "$? $(cat errors)"
+done
 "$geosvm" document <script >replies 2>&-
 told "no errors" "0 blocks 0001
 block 0001

@@ -1,8 +1,9 @@
 #!/bin/sh
+# Needs: nothing but sh
 # Compares the commands that SCRIPT.md lists, and their operands there, with the rows of the program's table, which its parser and its
-# help read. It prints what stands in one of the two alone: "<" in SCRIPT.md, ">" in the table.
+# help read. It prints what stands in one of the two alone: "<" in SCRIPT.md, ">" in the table; and how many commands it compared.
 #
-#     sh docs/commands_listed.sh
+#     sh checks/commands_listed.sh
 set -eu
 cd "$(dirname "$0")/.."
 folder=$(mktemp -d)
@@ -14,5 +15,10 @@ sed -n '/^| Command |/,/^$/s/^| \(`[^`]*`\(, `[^`]*`\)*\) |.*/\1/p' docs/SCRIPT.
 sed -n 's/^ *"\([a-z]*\)" => .*/\1/p; s/^ *"\([a-z]*\)" "\([^"]*\)" => .*/\1 \2/p' crates/geos_shell/src/commands.rt \
     | sort > "$folder/rows"
 
-diff "$folder/listed" "$folder/rows"
-echo "$(wc -l < "$folder/rows") commands are listed"
+if differs=$(diff "$folder/listed" "$folder/rows"); then
+    echo "$(wc -l < "$folder/rows" | tr -d ' ') passed, 0 failed"
+else
+    printf '%s\n' "$differs"
+    echo "$(comm -12 "$folder/listed" "$folder/rows" | wc -l | tr -d ' ') passed, $(printf '%s\n' "$differs" | grep -c '^[<>]') failed"
+    exit 1
+fi

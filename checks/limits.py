@@ -1,0 +1,184 @@
+# Needs: python3
+"""Runs that are ten times as long, and files ten times as large, as those that the tests of the crates try. Each reply is looked at.
+
+    python3 checks/limits.py GEOSVM GEOSDOC [NAME..]
+"""
+import json
+import os
+import subprocess
+import sys
+import tempfile
+import time
+
+COMMITS = 10_000
+STEPS = 327_520
+GROUP = 20_000
+BLOCKS = 660
+BLOCK_BYTES = 65_520
+READS = 80
+
+
+class Script:
+    """The lines of a script with the replies that are right."""
+
+    def __init__(self):
+        self.lines, self.replies = [], []
+
+    def ask(self, line, reply="ok"):
+        self.lines.append(line)
+        self.replies.append(reply)
+
+    def undo_all(self, values):
+        """Undoes as many steps as there are values, each the one that an undo gives back, and looks at one of a thousand."""
+        for number, value in enumerate(values):
+            self.ask("undo")
+            if number % 1000 == 0 or number == len(values) - 1:
+                self.ask("vread 0001", f"bytes {value}")
+
+    def run(self, program, *words):
+        done = subprocess.run([program, *words], input="\n".join(self.lines) + "\n", stdout=subprocess.PIPE, stderr=subprocess.PIPE, text=True)
+        assert done.returncode == 0 and done.stderr == "", (done.returncode, done.stderr)
+        replies = done.stdout.splitlines()
+        for number, (got, wanted) in enumerate(zip(replies, self.replies)):
+            assert got == wanted, f"line {number + 1}, {self.lines[number][:60]}, is answered {got[:60]} and not {wanted[:60]}"
+        assert len(replies) == len(self.replies), f"{len(replies)} replies to {len(self.replies)} lines"
+
+
+def word(number):
+    return f"{number:08x}"
+
+
+def many_commits(geosvm, geosdoc, path):
+    """Commits of one session, of each kind, and the documents of the last one. The file doesn't grow with them."""
+    script = Script()
+    script.ask("newraw 7 4", "block 0001")
+    for number in range(1, COMMITS + 1):
+        script.ask(f"vwrite 0001 0 {word(number)}")
+        script.ask(["save", "update", "save", "update"][number % 4])
+    script.ask("revert")
+    script.ask("vread 0001", f"bytes {word(COMMITS - COMMITS % 2)}")
+    script.run(geosvm, "--new", path)
+    assert os.path.getsize(path) < 8_000, f"{os.path.getsize(path)} bytes"
+    opened = Script()
+    opened.ask("vread 0001", f"bytes {word(COMMITS - COMMITS % 2)}")
+    opened.run(geosvm, path)
+    return f"{COMMITS} commits"
+
+
+def many_steps(geosvm, geosdoc, path):
+    """Edits, all of them undone."""
+    script = Script()
+    script.ask("newraw 7 4", "block 0001")
+    for number in range(1, STEPS + 1):
+        script.ask(f"vwrite 0001 0 {word(number)}")
+    script.ask("undos", f"number {STEPS + 1}")
+    script.undo_all([word(number) for number in range(STEPS - 1, -1, -1)])
+    script.ask("redos", f"number {STEPS}")
+    script.ask("undo")
+    script.ask("list", "blocks")
+    script.run(geosvm, "--new", path)
+    return f"{STEPS + 1} steps undone"
+
+
+def large_groups(geosvm, geosdoc, path):
+    """A group that is undone, made again and undone, and one that is abandoned."""
+    script = Script()
+    script.ask("newraw 7 4", "block 0001")
+    script.ask("newheap 7", "block 0002")
+    script.ask("alloc 0002 4", "chunk 0010")
+    for ending in ("end", "abandon"):
+        script.ask("begin")
+        for number in range(1, GROUP // 2 + 1):
+            script.ask(f"vwrite 0001 0 {word(number)}")
+            script.ask(f"write 0002 0010 0 {word(number)}")
+        script.ask(ending)
+        turns = [("undo", 0), ("redo", GROUP // 2), ("undo", 0)] if ending == "end" else [(None, 0)]
+        for turn, value in turns:
+            if turn:
+                script.ask(turn)
+            script.ask("vread 0001", f"bytes {word(value)}")
+            script.ask("read 0002 0010", f"bytes {word(value)}")
+    script.ask("undos", "number 3")
+    script.run(geosvm, "--new", path)
+    return f"groups of {GROUP} edits"
+
+
+def block_bytes(number):
+    """What a block of the large file has at its front and at its end, between zeros."""
+    return word(number) * 4
+
+
+def large_file(geosvm, geosdoc, path):
+    """A file of 43 MB: it is made, opened, looked at in each way, and made again of its dump."""
+    script = Script()
+    for number in range(1, BLOCKS + 1):
+        script.ask(f"newraw {number} {BLOCK_BYTES}", f"block {number:04x}")
+        script.ask(f"vwrite {number:04x} 0 {block_bytes(number)}")
+        script.ask(f"vwrite {number:04x} {BLOCK_BYTES - 16} {block_bytes(number)}")
+    script.ask("save")
+    script.run(geosvm, "--new", path)
+    length = os.path.getsize(path)
+    assert length > BLOCKS * BLOCK_BYTES, f"{length} bytes"
+    opened = Script()
+    for number in range(1, BLOCKS + 1, 13):
+        front = block_bytes(number)
+        opened.ask(f"vread {number:04x}", "bytes " + front + "00" * (BLOCK_BYTES - 32) + front)
+    opened.run(geosvm, path)
+    looked(geosdoc, "check", path, lambda text: text.startswith(f"opens: yes\nlength: {length} bytes\n"))
+    stat = json.loads(looked(geosdoc, "stat", "--json", path))
+    raw = stat["updated"]["raw_blocks"]
+    assert (stat["bytes"], raw["count"], raw["bytes"]) == (length, BLOCKS, BLOCKS * BLOCK_BYTES), stat
+    looked(geosdoc, "stat", path, lambda text: f" {BLOCKS * BLOCK_BYTES}   " in text)
+    looked(geosdoc, "map", path)
+    looked(geosdoc, "map", "--svg", path, lambda text: text.rstrip().endswith("</svg>"))
+    dumped = looked(geosdoc, "dump", path)
+    again = path + ".again"
+    subprocess.run([geosdoc, "restore", again], input=dumped, text=True, check=True)
+    counted = json.loads(looked(geosdoc, "stat", "--json", again))["updated"]
+    assert counted == stat["updated"], "another document is made again"
+    opened.run(geosvm, again)
+    os.remove(again)
+    return f"a file of {length} bytes"
+
+
+def looked(geosdoc, *words, holds=None):
+    *words, holds = words if callable(words[-1]) else (*words, holds)
+    done = subprocess.run([geosdoc, *words], stdout=subprocess.PIPE, stderr=subprocess.PIPE, text=True)
+    assert done.returncode == 0 and done.stderr == "", (words, done.returncode, done.stderr)
+    assert done.stdout and (holds is None or holds(done.stdout)), (words, done.stdout[:300])
+    return done.stdout
+
+
+def long_replies(geosvm, geosdoc, path):
+    """The replies to the lines of one read are 10 MB."""
+    script = Script()
+    script.ask(f"newraw 7 {BLOCK_BYTES}", "block 0001")
+    script.ask("vwrite 0001 100 616263")
+    for _ in range(READS):
+        script.ask("vread 0001", "bytes " + "00" * 100 + "616263" + "00" * (BLOCK_BYTES - 103))
+    script.run(geosvm, "--new", path)
+    return f"{sum(map(len, script.replies))} bytes of replies to one read"
+
+
+TRIED = {it.__name__: it for it in (many_commits, many_steps, large_groups, large_file, long_replies)}
+
+
+def main():
+    geosvm, geosdoc = map(os.path.abspath, sys.argv[1:3])
+    passed = failed = 0
+    for name in sys.argv[3:] or TRIED:
+        began = time.monotonic()
+        with tempfile.TemporaryDirectory() as folder:
+            try:
+                said = TRIED[name](geosvm, geosdoc, os.path.join(folder, "document"))
+                print(f"ok      {name}: {said}, in {time.monotonic() - began:.0f} s", flush=True)
+                passed += 1
+            except (AssertionError, subprocess.CalledProcessError) as wrong:
+                print(f"FAILED  {name}: {wrong}", flush=True)
+                failed += 1
+    print(f"{passed} passed, {failed} failed")
+    sys.exit(failed != 0)
+
+
+if __name__ == "__main__":
+    main()

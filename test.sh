@@ -1,0 +1,131 @@
+#!/bin/sh
+# The gate: `rt ci`, which proves each crate and runs the tests and the programs, and then checks on the programs that it built. What
+# each came to stands on a line; a failure ends nothing. The last line is `N passed, M failed`, the sum of all counts.
+#
+#     sh test.sh                              rt ci, and then the checks of the gate
+#     sh test.sh --all [--long]               and all other checks too, with --long in their long forms
+#     sh test.sh --checks [--all] [NAME..]    the checks alone, or those of these names, on the programs as they were built last
+set -u
+cd "$(dirname "$0")" || exit 2
+root=$(pwd)
+# program NAME CRATE: where a program is. PROGRAMS may name a folder that has them all.
+program() {
+    printf %s "${PROGRAMS:-$root/crates/$2/out}/$1"
+}
+geosvm=$(program geosvm geosvm)
+geosdoc=$(program geosdoc geosdoc)
+refusals=$(program refusal_tests_tests refusal_tests)
+
+# How many documents are made by chance, and of how many bytes of a file each is changed.
+documents=100
+every=10
+if [ "${LONG:-}" ]; then
+    documents=1000
+    every=1
+fi
+
+# check NAME: runs it. Those that take longest come first.
+check() {
+    case $1 in
+    embedding) command -v valgrind && sh embedding/build.sh ;;
+    each_request) sh checks/each_request.sh "$geosvm" "$refusals" ;;
+    failing_calls) python3 checks/failing_calls.py "$geosvm" "$geosdoc" ;;
+    dumped_documents) python3 checks/dumped_documents.py "$geosvm" "$geosdoc" $documents ;;
+    limits) python3 checks/limits.py "$geosvm" "$geosdoc" ;;
+    lent_bytes) sh checks/lent_bytes.sh ;;
+    stat_counted) python3 checks/stat_counted.py "$geosvm" "$geosdoc" $documents ;;
+    changed_bytes) python3 checks/changed_bytes.py "$geosvm" "$geosdoc" crates/geosdoc/data/small_document.bin $every ;;
+    bench) (cd bench && GEOSVM=$geosvm python3 -m unittest) ;;
+    made_beside) sh checks/made_beside.sh "$geosvm" ;;
+    ways_to_start) sh checks/ways_to_start.sh "$geosvm" "$geosdoc" ;;
+    program_ends) python3 checks/program_ends.py "$geosvm" "$geosdoc" ;;
+    pages_checked) sh checks/pages_checked.sh "$geosvm" ;;
+    prompts) python3 checks/prompts.py "$geosvm" ;;
+    commands_listed) sh checks/commands_listed.sh ;;
+    # It links the library that `embedding` has made.
+    failing_calls_from_c)
+        python3 checks/failing_calls.py "$geosvm" "$geosdoc" --library embedding/out/libgeosvm.a "$(dirname "$(rt doc)")/c/liblibc_c.a" ;;
+    *) echo "there is no check $1"; return 2 ;;
+    esac
+}
+# Those of the gate, and the others.
+first="program_ends made_beside ways_to_start pages_checked bench prompts commands_listed"
+second=
+others="embedding limits each_request failing_calls dumped_documents lent_bytes stat_counted changed_bytes"
+last=failing_calls_from_c
+
+# Runs one check, and tells what it came to.
+if [ "${1:-}" = --one ]; then
+    began=$(date +%s)
+    check "$2" >"$3/$2" 2>&1 </dev/null
+    status=$?
+    took=$(($(date +%s) - began))
+    if [ "$status" = 0 ]; then
+        echo "passed" >"$3/$2.status"
+        echo "$2: passed ($(tail -n 1 "$3/$2"); $took s)"
+    else
+        echo "failed" >"$3/$2.status"
+        { echo "$2: FAILED, with status $status, after $took s"; tail -n 12 "$3/$2" | cut -c 1-400 | sed 's/^/    /'; } >"$3/$2.told"
+        cat "$3/$2.told"
+    fi
+    exit 0
+fi
+
+# As many checks at once as there are processors. Left to itself the runner leaves some idle, since it asks for more memory than checks
+# take: 3 GB each are enough.
+jobs_at_once() {
+    processors=$(nproc)
+    memory=$(($(sed -n 's/^MemAvailable: *\([0-9]*\) kB$/\1/p' /proc/meminfo) / 3000000))
+    echo $((memory < 1 ? 1 : memory < processors ? memory : processors))
+}
+
+proves=yes
+named=
+for word in "$@"; do
+    case $word in
+    --checks) proves= ;;
+    --all)
+        first="$others $first"
+        second=$last
+        ;;
+    --long) export LONG=yes ;;
+    -*) echo "usage: sh test.sh [--checks [NAME..]] [--all] [--long]" >&2; exit 2 ;;
+    *) named="$named $word" ;;
+    esac
+done
+if [ "$named" ]; then
+    proves=
+    first=$named
+    second=
+fi
+
+folder=$(mktemp -d)
+trap 'rm -rf "$folder"' EXIT
+passed=0
+failed=0
+if [ "$proves" ]; then
+    RT_JOBS=${RT_JOBS:-$(jobs_at_once)} rt ci 2>&1 | tee "$folder/ci"
+    counts=$(sed -n 's/^.*\<\([0-9][0-9]*\) passed, \([0-9][0-9]*\) failed.*$/\1 \2/p' "$folder/ci" | tail -n 1)
+    if [ "$counts" ]; then
+        passed=${counts% *}
+        failed=${counts#* }
+    else
+        echo "rt ci: FAILED, it ended without its counts"
+        failed=1
+    fi
+fi
+
+# Each is a process of its own, four at a time.
+for group in "$first" "$second"; do
+    # shellcheck disable=SC2086
+    printf '%s\n' $group | xargs -r -P 4 -I NAME sh test.sh --one NAME "$folder"
+done
+for name in $first $second; do
+    if [ "$(cat "$folder/$name.status" 2>&1)" = passed ]; then
+        passed=$((passed + 1))
+    else
+        failed=$((failed + 1))
+    fi
+done
+echo "$passed passed, $failed failed"
+[ "$failed" = 0 ]
