@@ -79,7 +79,7 @@ rebased_words (w ∷ ws) from to =
 
 -- How many bytes a patch takes, gives and holds.
 
-piece-length : (p : Piece) (bytes : List ℕ) → IsPieceOf p bytes → length bytes ≡ taken p
+pub piece-length : (p : Piece) (bytes : List ℕ) → IsPieceOf p bytes → length bytes ≡ taken p
 piece-length (Keep n) bytes is = is
 piece-length (Put old new) bytes is = ap length is
 piece-length (Rebase words from to) bytes is = is.0

@@ -1,15 +1,16 @@
 -- The pieces of spans: how many bytes they are of, and which ones come next.
-use Rattle.std.proofs.Common.{◌≡◌, ℕ, ◌+◌, ◌≤◌, ◌<◌, max, List, [], ◌∷◌, ◌++◌, length, take, drop, get_or, refl, sym, ap, ap₂, ◌∙◌, arith, add-one, append-nil, length-drop, length-take-le, drop-cons}
+use Rattle.std.proofs.Common.{◌≡◌, ℕ, ◌+◌, ◌≤◌, ◌<◌, max, List, [], ◌∷◌, ◌++◌, length, take, drop, get_or, refl, sym, ap, ap₂, ◌∙◌, arith, add-one, append-nil, length-drop, length-take, length-take-le, drop-cons, subst}
 use Rattle.std.proofs.lemmas.List.{take-append-le, drop-append-le, take_at, drop_at, take_all}
 use Rattle.std.proofs.lemmas.List.Sums.{sum_by-cons}
+use Rattle.std.specs.Prelude.{◌↔◌}
 use Rattle.std.specs.List.{sum_by}
-use Rattle.chunk_edits.specs.Patching.{Piece, Put, taken, given, held_by, total_taken, peak, held, directed_piece, directed_pieces}
+use Rattle.chunk_edits.specs.Patching.{ArePiecesOf, IsPieceOf, Piece, Put, taken, given, held_by, total_taken, peak, held, directed_piece, directed_pieces}
 use Rattle.chunk_edits.specs.Spans.{own, total_own, extent, piece_of, pieces_of}
 use Rattle.chunk_edits.specs.declared.direction.Direction.{Direction}
 use Rattle.chunk_edits.specs.declared.direction.Direction.TheVariants.{Forwards, Backwards}
 use Rattle.chunk_edits.specs.declared.patch.Span.{Span}
 use Rattle.chunk_edits.specs.declared.patch.Span.TheVariants as spans
-use Rattle.chunk_edits.proofs.PatchingLemmas.{taken-cons, peak-cons, held-cons, taken-reversed}
+use Rattle.chunk_edits.proofs.PatchingLemmas.{piece-length, taken-cons, peak-cons, held-cons, taken-reversed}
 
 pub own-cons : (s : Span) (ss : List Span) → total_own (s ∷ ss) ≡ own s + total_own ss
 own-cons s ss = sum_by-cons own s ss
@@ -48,7 +49,7 @@ piece-held (spans.Put old new) row l =
     ap₂ (λ (a b : ℕ). a + b) (length-take-le old row (omega arith)) (length-take-le new (drop old row) (omega (arith, length-drop old row)))
 piece-held (spans.Rebase words from to) row l = refl
 
-piece-extent : (d : Direction) (s : Span) (row : List ℕ) → own s ≤ length row → taken (directed_piece d (piece_of s row)) ≡ extent d s
+pub piece-extent : (d : Direction) (s : Span) (row : List ℕ) → own s ≤ length row → taken (directed_piece d (piece_of s row)) ≡ extent d s
 piece-extent Forwards (spans.Keep n) row l = refl
 piece-extent Backwards (spans.Keep n) row l = refl
 piece-extent Forwards (spans.Put old new) row l = length-take-le old row (omega arith)
@@ -105,3 +106,31 @@ module _ (ss : List Span) (i : ℕ) (less : i < length ss) where
   pub next_pieces : (d : Direction) (row : List ℕ)
       → directed_pieces d (pieces_of (drop i ss) row) ≡ directed_piece d (piece_of here row) ∷ directed_pieces d (pieces_of (drop (i + 1) ss) (drop (own here) row))
   next_pieces d row = ap (λ (l : List Span). directed_pieces d (pieces_of l row)) next_span ∙ directed-cons d (piece_of here row) (pieces_of (drop (i + 1) ss) (drop (own here) row))
+
+  -- bytes are those of the pieces from here on where they begin with those of the first, and go on with those of the others
+  module _ (d : Direction) (row rest : List ℕ) (room : own here ≤ length row) where
+    abbrev next : Piece
+    next = directed_piece d (piece_of here row)
+
+    abbrev behind : List Piece
+    behind = directed_pieces d (pieces_of (drop (i + 1) ss) (drop (own here) row))
+
+    next_standing : ArePiecesOf (directed_pieces d (pieces_of (drop i ss) row)) rest ≡ (IsPieceOf next (take (taken next) rest) × ArePiecesOf behind (drop (taken next) rest))
+    next_standing = ap (λ (ps : List Piece). ArePiecesOf ps rest) (next_pieces d row)
+
+    pub begun_reach : IsPieceOf next (take (taken next) rest) → extent d here ≤ length rest
+    begun_reach is =
+        let size = piece-length next (take (taken next) rest) is in
+        omega (arith, size, length-take (taken next) rest, piece-extent d here row room)
+
+    pub none_begun : (IsPieceOf next (take (taken next) rest) → ⊥) → ArePiecesOf (directed_pieces d (pieces_of (drop i ss) row)) rest → ⊥
+    none_begun other are = other (subst (λ (X : Type 0). X) next_standing are).0
+
+    pub goes_on_same : (F : Type 0) (row' rest' : List ℕ) → row' ≡ drop (own here) row → rest' ≡ drop (extent d here) rest → IsPieceOf next (take (taken next) rest)
+        → (ArePiecesOf (directed_pieces d (pieces_of (drop i ss) row)) rest ↔ F) → (ArePiecesOf (directed_pieces d (pieces_of (drop (i + 1) ss) row')) rest' ↔ F)
+    goes_on_same F row' rest' row_is rest_is begins same =
+        let at : ArePiecesOf (directed_pieces d (pieces_of (drop (i + 1) ss) row')) rest' ≡ ArePiecesOf behind (drop (taken next) rest) =
+        ap₂ (λ (r x : List ℕ). ArePiecesOf (directed_pieces d (pieces_of (drop (i + 1) ss) r)) x) row_is (rest_is ∙ ap (λ (n : ℕ). drop n rest) (sym (piece-extent d here row room))) in (
+          λ are. same.0 (subst (λ (X : Type 0). X) (sym next_standing) (begins, subst (λ (X : Type 0). X) at are)),
+          λ f. subst (λ (X : Type 0). X) (sym at) (subst (λ (X : Type 0). X) next_standing (same.1 f)).1,
+        )

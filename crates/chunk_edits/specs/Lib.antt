@@ -1,3 +1,4 @@
+pub mod Directions
 pub mod Holding
 pub mod Patching
 pub mod Spans

@@ -1,9 +1,9 @@
 //! A patch: all bytes of a chunk in pieces, of which some stay and others change.
-ghost use Rattle.std.specs.Prelude.{◌≡◌, ◌≤◌, ◌+◌, ◌-◌, ◌*◌, ◌/◌, ◌%◌, ◌^◌, ◌<◌, ◌++◌, [], ◌∷◌, IsTrue, OnOk, OnErr, IfOk, length, min, take, drop, replicate};
+ghost use Rattle.std.specs.Prelude.{◌≡◌, ◌≤◌, ◌+◌, ◌-◌, ◌*◌, ◌/◌, ◌%◌, ◌^◌, ◌<◌, ◌++◌, ◌↔◌, [], ◌∷◌, IsTrue, OnOk, OnErr, IfOk, length, min, take, drop, replicate};
 ghost use Rattle.std.specs.List.{splice};
 ghost use Rattle.std.specs.FinMap.{insert, contains_key};
 ghost use Rattle.geos_model.specs.Heap.{capacity, chunk_bytes, fits_with};
-ghost use Rattle.chunk_edits.specs.Patching.{Keep, Put, Rebase, directed_piece, directed_pieces, given, held, patched, peak, rebased, taken, total_taken, with_piece};
+ghost use Rattle.chunk_edits.specs.Patching.{ArePiecesOf, IsPieceOf, Keep, Put, Rebase, directed_piece, directed_pieces, given, held, patched, peak, rebased, taken, total_taken, with_piece};
 ghost use Rattle.chunk_edits.specs.Spans.{own, piece_of, pieces_of, total_own};
 
 use crate::chunk::{chunk_of, put};
@@ -48,6 +48,25 @@ impl Span {
                 Direction::Backwards => new as usize,
             },
             Span::Rebase { words, .. } => 2 * words as usize,
+        }
+    }
+
+    /// Whether bytes begin with those that its piece is of in a direction, where it holds the first ones of the row.
+    fn begins(self, bytes: &[u8], row: &[u8], direction: Direction) -> bool
+        requires { own self ≤ length row.now }
+        ensures { IsTrue result ↔ IsPieceOf (directed_piece direction (piece_of self row.now))
+            (take (taken (directed_piece direction (piece_of self row.now))) bytes.now) }
+    {
+        match self {
+            Span::Keep(n) => n as usize <= bytes.len(),
+            Span::Put { old, new } => {
+                let (old, behind) = row.split_at(old as usize);
+                match direction {
+                    Direction::Forwards => bytes.starts_with(old),
+                    Direction::Backwards => bytes.starts_with(&behind[..new as usize]),
+                }
+            }
+            Span::Rebase { words, .. } => 2 * words as usize <= bytes.len(),
         }
     }
 
@@ -189,6 +208,31 @@ impl Patch {
         }
         peak
     }
+
+    /// Whether these are the bytes that it is of in a direction, so that it leads from them, and back to them.
+    pub fn is_of(&self, bytes: &[u8], direction: Direction) -> bool
+        ensures { IsTrue result ↔ ArePiecesOf (directed_pieces direction self.now) bytes.now }
+    {
+        let pieces = &*self.pieces;
+        are_of(pieces.spans.as_slice(), pieces.content.as_slice(), bytes, direction)
+    }
+}
+
+/// Whether bytes are those that spans are of in a direction, whose pieces hold the bytes of the row.
+fn are_of(spans: &[Span], row: &[u8], bytes: &[u8], direction: Direction) -> bool
+    requires { total_own spans.now ≡ length row.now }
+    ensures { IsTrue result ↔ ArePiecesOf (directed_pieces direction (pieces_of spans.now row.now)) bytes.now }
+{
+    let mut row = row;
+    let mut rest = bytes;
+    for span in spans {
+        if !span.begins(rest, row, direction) {
+            return false;
+        }
+        rest = &rest[span.extent(direction)..];
+        row = &row[span.own()..];
+    }
+    rest.is_empty()
 }
 
 /// Makes of all bytes of a chunk what a patch makes of them in a direction.

@@ -1,0 +1,10 @@
+use Rattle.std.proofs.Common.{◌≡◌, ◌↔◌, length, drop}
+use Rattle.chunk_edits.specs.Patching.{ArePiecesOf, directed_pieces}
+use Rattle.chunk_edits.specs.Spans.{pieces_of, total_own}
+use Rattle.chunk_edits.proofs.patch.are_of.Given as goal
+
+abbrev pub invariant-loop-span : goal.invariant-loop-span
+invariant-loop-span l = record {
+  whole : total_own (drop l.span-index l.spans) ≡ length l.row;
+  same : ArePiecesOf (directed_pieces l.fn.direction (pieces_of (drop l.span-index l.spans) l.row)) l.rest ↔ ArePiecesOf (directed_pieces l.fn.direction (pieces_of l.spans l.fn.row)) l.fn.bytes;
+}
