@@ -82,10 +82,10 @@ module _ (d : Document) (valid : IsValid d) where
 
 -- A block changes in place.
 module _ (d : Document) (b : ℕ) (old new : Block) (there : get d.blocks b ≡ Some old) where
-  new_there : get (with_block d b new).blocks b ≡ Some new
+  pub new_there : get (with_block d b new).blocks b ≡ Some new
   new_there = get-put_same d.blocks b new b refl
 
-  old_back : with_block (with_block d b new) b old ≡ d
+  pub old_back : with_block (with_block d b new) b old ≡ d
   old_back = ap (λ (m : FinMap nat_cmp Block). record d { blocks = m }) (put_back d.blocks b old new there)
 
   new_valid : IsValid d → FitAttributes new.attributes → IsTyped (is_heap_body new.body) new.attributes → is_valid_body new.body ≡ true → IsValid (with_block d b new)
@@ -120,7 +120,7 @@ module _ (d : Document) (b : ℕ) (u : Attributes) (bytes : List ℕ) (there : g
   raw_few s fits = rw there at fits.fits
 
 -- bytes that are spliced, and back
-spliced_back : (s : Splice) (bytes : List ℕ) → OccursAt bytes s.at s.old → OccursAt (forwards s bytes) s.at s.new × (backwards s (forwards s bytes) ≡ bytes)
+pub spliced_back : (s : Splice) (bytes : List ℕ) → OccursAt bytes s.at s.old → OccursAt (forwards s bytes) s.at s.new × (backwards s (forwards s bytes) ≡ bytes)
 spliced_back s bytes stands = leads_back s bytes (forwards s bytes) (length s.old + length s.new) (record { stands = stands; gives = refl; holds = refl })
 
 raw_undone : (d : Document) (b : ℕ) (s : Splice) → IsValid d → FitsRaw d b s → PartUndone b (parts.Raw s) d
@@ -191,7 +191,7 @@ module _ (d : Document) (b : ℕ) (u : Attributes) (m : ChunkMap) (there : get d
     heap_back k is = ap (λ (x : ChunkMap). with_block (with_block d b (heap_block u n)) b (heap_block u x)) is ∙ old_back d b (heap_block u m) (heap_block u n) there
 
 -- a chunk put back fits where the heap it gives is one that can be
-fits_again : (m n : ChunkMap) (c : ℕ) (bytes : List ℕ) → insert n c bytes ≡ m → is_heap_map m ≡ true → fits_with n c bytes ≡ true
+pub fits_again : (m n : ChunkMap) (c : ℕ) (bytes : List ℕ) → insert n c bytes ≡ m → is_heap_map m ≡ true → fits_with n c bytes ≡ true
 unfolding fits_with is_heap_map
 fits_again m n c bytes is heap = ap fits is ∙ (and_parts (list_all is_chunk_handle (keys m)) (fits m) heap).1
 
@@ -223,7 +223,7 @@ chunk_undone d b c s valid fits =
     (splice_made (with_block d b (heap_block u n)) b u n now c.0 (reversed_splice s) (forwards s bytes) is_now ∙ heap_back d b u m there n _ given)
 
 -- other bytes of a chunk ask for the same room
-room_again : (m : ChunkMap) (c : ℕ) (bytes more : List ℕ) → fits_with m c more ≡ true → fits_with (insert m c bytes) c more ≡ true
+pub room_again : (m : ChunkMap) (c : ℕ) (bytes more : List ℕ) → fits_with m c more ≡ true → fits_with (insert m c bytes) c more ≡ true
 unfolding fits_with
 room_again m c bytes more room = ap fits (put_again m c bytes more) ∙ room
 
@@ -343,7 +343,7 @@ change_back (changes.Part b part) d valid applies = part_back b.0 part d valid a
 change_back (changes.Attributes b old new) d valid applies = fitted_undone d b.0 old new valid applies
 change_back (changes.Map old new) d valid applies = map_undone d old.0 new.0 valid applies
 
-part_twice : (p : PartChange) → reversed_part (reversed_part p) ≡ p
+pub part_twice : (p : PartChange) → reversed_part (reversed_part p) ≡ p
 part_twice (parts.Raw s) = refl
 part_twice (parts.Chunk c s) = refl
 part_twice (parts.Patch c ps) = ap (parts.Patch c) (reversed_twice ps)

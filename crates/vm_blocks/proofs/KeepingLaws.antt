@@ -219,3 +219,10 @@ err-with_frame state h P Q (Err fault) free err = elim err as (λ _. P fault ⊎
     | inr lacks ↦ absurd (frame-there state h fault free lacks)
   ]
 ]
+
+pub err-open : {A S : Type 0} (state : CacheState S) (h : ℕ) (P : Fault → Type 0) (r : Result A Fault) → is_shut_out state h ≡ false → IfErr r (λ fault. P fault ⊎ IsCacheFull state h fault) → IfErr r P
+err-open state h P (Ok done) free err = tt
+err-open state h P (Err fault) free err = elim err as (λ _. P fault) [
+  | inl one ↦ one
+  | inr lacks ↦ absurd (frame-there state h fault free lacks)
+]

@@ -1,5 +1,5 @@
 -- Which blocks are in memory.
-use Rattle.std.proofs.Common.{◌≡◌, ℕ, Bool, true, false, cond, nat_eq, List, [], ◌∷◌, Option, None, Some, is_some, unwrap_or, refl, sym, ap, subst, ◌∙◌, eq-eqb}
+use Rattle.std.proofs.Common.{◌≡◌, ℕ, Bool, true, false, cond, nat_eq, List, [], ◌∷◌, Option, None, Some, is_some, unwrap_or, refl, sym, ap, subst, ◌∙◌, eq-eqb, eqb-true}
 use Rattle.std.specs.Prelude.{nat_lt, length, ◌&&◌}
 use Rattle.std.specs.Map.{lookup, lookup_entry, remove_entry}
 use Rattle.std.specs.Option.{option_map_or}
@@ -40,3 +40,32 @@ seated_there frames h ss = by (is_resident ss h) refl
     by : (b : Bool) → is_resident ss h ≡ b → is_resident (cond b (promoted h ss) ((h, 0) ∷ cond (nat_lt (length ss) frames) ss (evicted ss))) h ≡ true
     by true is = promoted_there h ss is
     by false is = ap (λ b. is_some (cond b (Some 0) (lookup (nat_eq h) (cond (nat_lt (length ss) frames) ss (evicted ss))))) (eq-eqb h h refl)
+
+-- Any other that was in memory stays there where the block was in memory too.
+
+removed_other : (h k : ℕ) (ss : List ResidentBlock) → nat_eq k h ≡ false → lookup (nat_eq k) (remove_entry (nat_eq h) ss) ≡ lookup (nat_eq k) ss
+removed_other h k [] other = refl
+removed_other h k (s ∷ ss) other = by (nat_eq h s.0) refl (removed_other h k ss other)
+  where
+    by : (b : Bool) → nat_eq h s.0 ≡ b → lookup (nat_eq k) (remove_entry (nat_eq h) ss) ≡ lookup (nat_eq k) ss → lookup (nat_eq k) (cond b ss (s ∷ remove_entry (nat_eq h) ss)) ≡ lookup (nat_eq k) (s ∷ ss)
+    by true is later =
+        let same : h ≡ s.0 = eqb-true h s.0 is in
+        sym (ap (λ b. cond b (Some s.1) (lookup (nat_eq k) ss)) (ap (nat_eq k) (sym same) ∙ other))
+    by false is later = ap (λ o. cond (nat_eq k s.0) (Some s.1) o) later
+
+promoted_stays : (h k : ℕ) (ss : List ResidentBlock) → is_resident ss k ≡ true → is_resident (promoted h ss) k ≡ true
+promoted_stays h k ss there = by (lookup_entry (nat_eq h) ss) refl
+  where
+    first : (s : ResidentBlock) (b : Bool) → nat_eq k s.0 ≡ b → h ≡ s.0 → is_resident (s ∷ remove_entry (nat_eq h) ss) k ≡ true
+    first s true is same = ap (λ b. is_some (cond b (Some s.1) (lookup (nat_eq k) (remove_entry (nat_eq h) ss)))) is
+    first s false is same =
+        ap (λ b. is_some (cond b (Some s.1) (lookup (nat_eq k) (remove_entry (nat_eq h) ss)))) is
+        ∙ ap is_some (removed_other h k ss (ap (nat_eq k) same ∙ is)) ∙ there
+
+    by : (o : Option ResidentBlock) → lookup_entry (nat_eq h) ss ≡ o → is_resident (option_map_or (λ s. s ∷ remove_entry (nat_eq h) ss) o ss) k ≡ true
+    by None is = there
+    by (Some s) is = first s (nat_eq k s.0) refl (eqb-true h s.0 (entry_passes (nat_eq h) ss s is))
+
+pub seated_stays : (frames h k : ℕ) (ss : List ResidentBlock) → is_resident ss h ≡ true → is_resident ss k ≡ true → is_resident (after_load frames h ss) k ≡ true
+seated_stays frames h k ss here there =
+    ap (λ b. is_resident (cond b (promoted h ss) ((h, 0) ∷ cond (nat_lt (length ss) frames) ss (evicted ss))) k) here ∙ promoted_stays h k ss there

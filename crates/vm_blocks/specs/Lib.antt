@@ -1,10 +1,12 @@
 pub mod Allowing
 pub mod Changes
-pub mod Parts
 pub mod Committing
-pub mod Opening
+pub mod Exactness
+pub mod InMemory
 pub mod Keeping
 pub mod Kinds
 pub mod Locking
+pub mod Opening
+pub mod Parts
 pub mod Preparing
 pub mod Sound

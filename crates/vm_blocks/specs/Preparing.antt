@@ -120,6 +120,21 @@ ByHandleLaw =
     (honest : Bool) (cs : List Change) (old new : Document) → SameUnlessCorrupt honest old new
     → CanApplyAllByHandle cs old → CanApplyAllByHandle cs new
 
+-- each can be made, one after another
+abbrev pub CanApplyAll : List Change → Document → Type 0
+CanApplyAll [] d = Unit {0}
+CanApplyAll (c ∷ cs) d = CanApply c d × CanApplyAll cs (after_change c d)
+
+-- none of them brings blocks in
+abbrev pub NoneComesIn : List Change → Type 0
+NoneComesIn [] = Unit {0}
+NoneComesIn (c ∷ cs) = (incoming_blocks c ≡ []) × NoneComesIn cs
+
+-- each block whose body one of them changes is in memory
+abbrev pub AreInMemory : {S : Type 0} → List Change → CacheState S → Type 0
+AreInMemory [] state = Unit {0}
+AreInMemory (c ∷ cs) state = IsInMemory c state × AreInMemory cs state
+
 -- the body of each takes it, one after another
 abbrev pub AllowAll : List Change → Document → Type 0
 AllowAll [] d = Unit {0}

@@ -5,7 +5,7 @@ ghost use Rattle.std.specs.Result.{IsErrAnd};
 ghost use Rattle.std.specs.FinMap.{contains_key, get, keys};
 ghost use Rattle.std.specs.Map.{set_value};
 ghost use Rattle.std.specs.List.{All};
-ghost use Rattle.geos_model.specs.Document.{IsValid, block_at, chunks_of, is_heap, is_raw, next_handle, is_live, is_vm_handle, attributes_of, handles_of, without_block, without_blocks, IsTyped};
+ghost use Rattle.geos_model.specs.Document.{IsValid, block_at, chunks_of, is_heap, is_raw, next_handle, is_live, is_vm_handle, attributes_of, handles_of, with_attributes, without_block, without_blocks, IsTyped};
 ghost use Rattle.geos_model.specs.ElementArray.{all_distinct};
 ghost use Rattle.geos_model.specs.Heap.{chunk_bytes};
 ghost use Rattle.geos_model.specs.Reply.{found};
@@ -23,8 +23,9 @@ ghost use Rattle.vm_blocks.specs.Locking.{GainsLock, LosesLock, CantLock, HasNoL
 ghost use Rattle.vm_blocks.specs.Opening.{IsOpenedFrom, IsNotOpened, IsMadeIn, IsNotMade};
 ghost use Rattle.vm_blocks.specs.Parts.{AllowsPart};
 ghost use Rattle.vm_blocks.specs.Kinds.{IsWrongBlock};
-ghost use Rattle.vm_blocks.specs.Preparing.{CanRemoveByHandle, CanApplyByHandle, CanApplyAllByHandle, AreUnlocked, AllowsChange, IsInMemory, IsShutOut, CantPrepare, CantPrepareAll, IsApplied, AreApplied, Turns};
+ghost use Rattle.vm_blocks.specs.Preparing.{after_changes, CanRemoveByHandle, CanApplyAll, CanApplyByHandle, CanApplyAllByHandle, AreInMemory, NoneComesIn, AreUnlocked, AllowsChange, IsInMemory, IsShutOut, CantPrepare, CantPrepareAll, IsApplied, AreApplied, Turns};
 
+use crate::in_memory::change_in_memory;
 use crate::part::{can_take, carry_out_heap, carry_out_raw};
 use crate::{BlockBody, Change, Direction, Members, PartChange};
 use block_cache::Cache;
@@ -296,8 +297,8 @@ impl<S: Store> FileBlocks<S> {
         self.load_live(handle)
     }
 
-    // Brings a live block into memory, if it isn't shut out.
-    fn load_live(&mut self, handle: VmHandle) -> Result<(), Fault>
+    /// Brings a live block into memory, if it isn't shut out.
+    pub(crate) fn load_live(&mut self, handle: VmHandle) -> Result<(), Fault>
         requires { is_live self.old.document handle.0 ≡ true }
         ensures keeps { KeepsBlocks S.facts self.old self.new }
         ensures ok { OnOk result (is_loaded self.new handle.0 ≡ true) }
@@ -305,6 +306,8 @@ impl<S: Store> FileBlocks<S> {
             ⊎ IsCacheFull self.old handle.0 fault) }
         ensures already { is_loaded self.old handle.0 ≡ true
             → IsOk result × (self.new.disk ≡ self.old.disk) × (self.new.document ≡ self.old.document) }
+        ensures stay { is_loaded self.old handle.0 ≡ true
+            → (h : ℕ) → is_loaded self.old h ≡ true → is_loaded self.new h ≡ true }
         ensures shut { is_shut_out self.old handle.0 ≡ true → (result ≡ Err Fault.CacheFull) × (self.new ≡ self.old) }
     {
         self.validity();
@@ -477,10 +480,37 @@ impl<S: Store> FileBlocks<S> {
         self.turn(change, direction)
     }
 
-    /// Carries changes out in a direction one after another, the last one first: all of them or none. What is changed
-    /// in memory is first written to the file. Damaged where a body doesn't take its change; otherwise refused as
-    /// `load` is, but never CacheFull. Where it is refused after that no block is in memory.
+    /// Carries changes out in a direction one after another, the last one first: all of them or none. Where no blocks
+    /// come in, and those whose bodies change are in memory, it takes no memory, calls no store and isn't refused for
+    /// want of either, if what goes stands there; those that aren't are first brought there. Else what is changed in
+    /// memory is first written to the file. Damaged where a body doesn't take its change; otherwise refused as `load`
+    /// is, but never CacheFull. Where it is refused after that no block is in memory.
     pub fn change_all(&mut self, changes: &[Change], direction: Direction) -> Result<(), Fault>
+        // Asked of the caller.
+        requires unmarked { self.old.disk.marked ≡ None }
+        requires listed { CanApplyAllByHandle (directed_all direction changes.now) self.old.document }
+        requires unlocked { locked_count self.old.resident ≡ 0 }
+        // What is done.
+        ensures ok { OnOk result (AreApplied S.facts (directed_all direction changes.now) self.old self.new) }
+        ensures err { OnErr result (KeepsBlocks S.facts self.old self.new) }
+        // Refusals.
+        ensures refusals { IfErr result
+            (CantPrepareAll S.facts (directed_all direction changes.now) self.old self.new) }
+        // When the answer is known beforehand.
+        ensures sure { NoneComesIn (directed_all direction changes.now)
+            → AreInMemory (directed_all direction changes.now) self.old
+            → CanApplyAll (directed_all direction changes.now) self.old.document
+            → IsOk result × (self.new.disk ≡ self.old.disk)
+            × (self.new.document ≡ after_changes (directed_all direction changes.now) self.old.document) }
+    {
+        if change_in_memory(self, changes, direction)? {
+            return Ok(());
+        }
+        self.change_marked(changes, direction)
+    }
+
+    // So it does where the document is marked first, which writes what is changed in memory to the file.
+    fn change_marked(&mut self, changes: &[Change], direction: Direction) -> Result<(), Fault>
         requires unmarked { self.old.disk.marked ≡ None }
         requires listed { CanApplyAllByHandle (directed_all direction changes.now) self.old.document }
         requires unlocked { locked_count self.old.resident ≡ 0 }
@@ -571,7 +601,8 @@ impl<S: Store> FileBlocks<S> {
         Ok(())
     }
 
-    fn take_all(&mut self, members: &Members)
+    /// Takes each of these blocks out.
+    pub(crate) fn take_all(&mut self, members: &Members)
         requires leave { CanRemoveByHandle self.old.document (handles_of (imaged_blocks members.now.list.items)) }
         requires unlocked { All
             (λ h. locks_of self.old.resident h ≡ 0) (handles_of (imaged_blocks members.now.list.items)) }
@@ -645,8 +676,8 @@ impl<S: Store> FileBlocks<S> {
         }
     }
 
-    // Changes the body of a block in memory in place.
-    fn carry_out_part(&mut self, handle: VmHandle, part: &PartChange, direction: Direction)
+    /// Changes the body of a block in memory in place.
+    pub(crate) fn carry_out_part(&mut self, handle: VmHandle, part: &PartChange, direction: Direction)
         requires loaded { is_loaded self.old handle.0 ≡ true }
         requires takes { AllowsPart (directed_part direction part.now) (block_at self.old.document handle.0).body }
         ensures { self.new
@@ -669,9 +700,18 @@ impl<S: Store> FileBlocks<S> {
         requires { is_live self.old.document handle.0 ≡ true }
         ensures { Turns S.facts (Change.Attributes handle old new) self.old self.new result }
     {
-        let given = attributes_for_kind(self.is_heap(handle), new);
-        self.cache.set_attributes(handle, given);
+        self.put_attributes(handle, new);
         Ok(())
+    }
+
+    /// Gives a block these attributes, of which only a heap has a type.
+    pub(crate) fn put_attributes(&mut self, handle: VmHandle, attributes: Attributes)
+        requires { is_live self.old.document handle.0 ≡ true }
+        ensures { self.new ≡ record self.old { document = with_attributes self.old.document handle.0
+            (attributes_for_kind (is_heap self.old.document handle.0) attributes) } }
+    {
+        let given = attributes_for_kind(self.is_heap(handle), attributes);
+        self.cache.set_attributes(handle, given);
     }
 
     // Makes another block the map block in place of the old one; 0 stands for none.
@@ -679,8 +719,17 @@ impl<S: Store> FileBlocks<S> {
         requires { new.0 ≢ 0 → is_live self.old.document new.0 ≡ true }
         ensures { Turns S.facts (Change.Map old new) self.old self.new result }
     {
-        self.cache.set_map(new);
+        self.put_map(new);
         Ok(())
+    }
+
+    /// Makes a block the map block; 0 stands for none.
+    pub(crate) fn put_map(&mut self, block: VmHandle)
+        requires { block.0 ≢ 0 → is_live self.old.document block.0 ≡ true }
+        ensures { self.new
+            ≡ record self.old { document = record self.old.document { map_block = block.0 } } }
+    {
+        self.cache.set_map(block);
     }
 }
 

@@ -3,6 +3,7 @@
 
 mod change;
 mod file_blocks;
+mod in_memory;
 mod law;
 mod member;
 mod part;

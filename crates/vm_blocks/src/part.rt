@@ -1,12 +1,15 @@
 //! Changes of a part of a body: whether a body takes one, and its carrying out in place.
-ghost use Rattle.std.specs.Prelude.{◌≡◌, ◌+◌, ◌≤◌, ◌↔◌, ℕ, List, IsTrue, None, length};
+ghost use Rattle.std.specs.Prelude.{◌≡◌, ◌+◌, ◌≤◌, ◌↔◌, ℕ, List, IsTrue, None, Some, true, length, replicate, take};
 ghost use Rattle.std.specs.FinMap.{get, insert, contains_key};
+ghost use Rattle.geos_model.specs.Document.{is_valid_body};
 ghost use Rattle.geos_model.specs.Heap.{chunk_bytes, fits_with, is_chunk_handle, is_heap_map};
 ghost use Rattle.geos_model.specs.declared.command.Body.TheVariants as bodies;
 ghost use Rattle.chunk_edits.specs.Patching.{directed_pieces};
+ghost use Rattle.chunk_edits.specs.Splicing.{OccursAt};
 ghost use Rattle.block_cache.specs.Bodies.{body_value};
 ghost use Rattle.vm_blocks.specs.Allowing.{AllowsRaw, AllowsChunk, AllowsPatch, AllowsNewChunk};
 ghost use Rattle.vm_blocks.specs.Changes.{content_bytes, directed_part};
+ghost use Rattle.vm_blocks.specs.Exactness.{HeapHolds, HoldsPart, IsExactPart, RawHolds};
 ghost use Rattle.vm_blocks.specs.Parts.{AllowsPart, RawAllowsPart, HeapAllowsPart, body_after_part};
 
 use crate::{BlockBody, Content, Direction, PartChange};
@@ -67,6 +70,121 @@ fn heap_can_take(heap: &Heap, change: &PartChange, direction: Direction) -> bool
         },
         PartChange::Raw(_) => false,
     }
+}
+
+/// Whether a body takes a change of a part and has what goes, so that the same the other way round gives it back.
+pub(crate) fn is_exact(body: &BlockBody, change: &PartChange, direction: Direction) -> bool
+    ensures { IsTrue result ↔ IsExactPart (directed_part direction change.now) (body_value body.now) }
+{
+    can_take(body, change, direction) && holds(body, change, direction)
+}
+
+/// It does nothing: its caller learns that a body in memory is one that can be.
+pub(crate) fn validity(body: &BlockBody)
+    ensures { is_valid_body (body_value body.now) ≡ true }
+{
+    match body {
+        BlockBody::Raw(body) => {
+            let _bytes = body.bytes();
+        }
+        BlockBody::Heap(heap) => {
+            let _none = heap.chunk(ChunkHandle(0));
+        }
+    }
+}
+
+/// Whether a body has what goes, where it goes.
+fn holds(body: &BlockBody, change: &PartChange, direction: Direction) -> bool
+    ensures { IsTrue result ↔ HoldsPart (directed_part direction change.now) (body_value body.now) }
+{
+    match body {
+        BlockBody::Raw(body) => raw_holds(body, change, direction),
+        BlockBody::Heap(heap) => heap_holds(heap, change, direction),
+    }
+}
+
+/// Of a raw body.
+fn raw_holds(body: &RawBody, change: &PartChange, direction: Direction) -> bool
+    ensures { IsTrue result ↔ RawHolds (directed_part direction change.now) body.now }
+{
+    match change {
+        PartChange::Raw(splice) => match direction {
+            Direction::Forwards => occurs_at(body.bytes(), splice.at(), splice.old()),
+            Direction::Backwards => occurs_at(body.bytes(), splice.at(), splice.new()),
+        },
+        PartChange::Chunk(_, _)
+        | PartChange::Patch(_, _)
+        | PartChange::ChunkIn(_, _)
+        | PartChange::ChunkOut(_, _) => false,
+    }
+}
+
+/// Of a heap.
+fn heap_holds(heap: &Heap, change: &PartChange, direction: Direction) -> bool
+    ensures { IsTrue result ↔ HeapHolds (directed_part direction change.now) heap.now.chunks }
+{
+    match change {
+        PartChange::Chunk(chunk, splice) => match direction {
+            Direction::Forwards => occurs_at(chunk_bytes(heap, *chunk), splice.at(), splice.old()),
+            Direction::Backwards => occurs_at(chunk_bytes(heap, *chunk), splice.at(), splice.new()),
+        },
+        PartChange::Patch(chunk, patch) => patch.is_of(chunk_bytes(heap, *chunk), direction),
+        PartChange::ChunkIn(chunk, content) => match direction {
+            Direction::Forwards => true,
+            Direction::Backwards => has_content(heap, *chunk, content),
+        },
+        PartChange::ChunkOut(chunk, content) => match direction {
+            Direction::Forwards => has_content(heap, *chunk, content),
+            Direction::Backwards => true,
+        },
+        PartChange::Raw(_) => false,
+    }
+}
+
+/// The bytes of a chunk; none where it isn't live.
+fn chunk_bytes(heap: &Heap, chunk: ChunkHandle) -> &[u8]
+    ensures { result.now ≡ chunk_bytes heap.now.chunks chunk.0 }
+{
+    heap.chunk(chunk).unwrap_or(&[])
+}
+
+/// Whether a part stands at a place of some bytes.
+fn occurs_at(bytes: &[u8], at: u32, part: &[u8]) -> bool
+    ensures { IsTrue result ↔ OccursAt bytes.now at part.now }
+{
+    at as usize <= bytes.len() && begins_with(&bytes[at as usize..], part)
+}
+
+/// Whether bytes begin with a part.
+fn begins_with(bytes: &[u8], part: &[u8]) -> bool
+    ensures { IsTrue result ↔ take (length part.now) bytes.now ≡ part.now }
+{
+    bytes.starts_with(part)
+}
+
+/// Whether a chunk is live, with this content.
+fn has_content(heap: &Heap, chunk: ChunkHandle, content: &Content) -> bool
+    ensures { IsTrue result ↔ get heap.now.chunks chunk.0 ≡ Some (content_bytes content.now) }
+{
+    match heap.chunk(chunk) {
+        Some(bytes) => match content {
+            Content::Bytes(content) => bytes == content.as_slice(),
+            Content::Zeros(n) => bytes.len() == *n as usize && are_zeros(bytes),
+        },
+        None => false,
+    }
+}
+
+/// Whether all bytes are zeros.
+fn are_zeros(bytes: &[u8]) -> bool
+    ensures { IsTrue result ↔ bytes.now ≡ replicate (length bytes.now) 0 }
+{
+    for byte in bytes {
+        if *byte != 0 {
+            return false;
+        }
+    }
+    true
 }
 
 /// Whether so many bytes have a part of `k` bytes at a place.

@@ -1,12 +1,13 @@
 use Rattle.std.proofs.Common.{◌≡◌, ◌⊎◌, true, false, refl, ap, sym, subst, ◌∙◌}
-use Rattle.std.specs.Prelude.{Result, IfErr, IsOk}
+use Rattle.std.specs.Prelude.{Result, IfErr, IsOk, OnOk}
 use Rattle.geos_model.specs.Document.{is_live}
 use Rattle.geos_model.specs.declared.fault.Fault.{Fault}
-use Rattle.block_cache.specs.State.{CacheState, all_locked, is_resident}
+use Rattle.block_cache.specs.State.{CacheState, after_load, all_locked, is_resident}
 use Rattle.vm_blocks.specs.Keeping.{KeepsBlocks, IsEnvironmentFault, IsCacheFull}
-use Rattle.vm_blocks.proofs.KeepingLaws.{keeps-by, keeps-refl, loaded-resident, resident-open}
+use Rattle.vm_blocks.proofs.KeepingLaws.{keeps-by, keeps-refl, loaded-by, loaded-live, loaded-resident, resident-open}
 use Rattle.vm_blocks.proofs.Locking.{one_of, room_by}
 use Rattle.vm_blocks.proofs.ChangeOutcomes.{lacks_of, loaded_there}
+use Rattle.vm_blocks.proofs.Residents.{seated_stays}
 use Rattle.vm_blocks.proofs.file_blocks.FileBlocks.load_live.Goals as goal
 
 -- A block that is shut out.
@@ -54,3 +55,21 @@ returns-clause-already g c = λ loaded.
       done.1 ∙ ap (λ (s : CacheState g.row.S.Denot). s.disk) c.self.view_is,
       done.2 ∙ ap (λ (s : CacheState g.row.S.Denot). s.document) c.self.view_is,
     )
+
+pub returns-clause-stay : goal.returns-clause-stay
+returns-clause-stay g c = λ loaded h there.
+    let old = c.args.self.now in
+    let here : is_resident c.self.inside.cache.resident c.args.handle.0 ≡ true = subst (λ (s : CacheState g.row.S.Denot). is_resident s.resident c.args.handle.0 ≡ true) (sym c.self.view_is) (loaded-resident old c.args.handle.0 loaded) in
+    let done = c.load.ensures.already here in
+    let seats = subst (λ (r : Result (Unit {0}) Fault). OnOk r (c.load.new.self.resident ≡ after_load c.self.inside.cache.frames c.args.handle.0 c.self.inside.cache.resident)) done.0 c.load.ensures.ok in
+    let was : is_resident c.self.inside.cache.resident h ≡ true = subst (λ (s : CacheState g.row.S.Denot). is_resident s.resident h ≡ true) (sym c.self.view_is) (loaded-resident old h there) in
+    loaded-by c.load.new.self h
+    (ap (λ ss. is_resident ss h) seats ∙ seated_stays c.self.inside.cache.frames c.args.handle.0 h c.self.inside.cache.resident here was)
+    (ap (λ d. is_live d h) (done.2 ∙ ap (λ (s : CacheState g.row.S.Denot). s.document) c.self.view_is) ∙ loaded-live old h there)
+
+pub returns-then-is_shut_out-clause-stay : goal.returns-then-is_shut_out-clause-stay
+returns-then-is_shut_out-clause-stay g c = λ loaded.
+    let state = c.args.self.now in
+    let out = resident-open state c.args.handle.0 c.validity.ensures.few (loaded-resident state c.args.handle.0 loaded) in
+    let wrong : true ≡ false = sym c.if-is_shut_out.true ∙ c.is_shut_out.ensures ∙ out in
+    absurd (cc wrong)

@@ -1,20 +1,12 @@
-use Rattle.std.proofs.Common.{◌≡◌, ap, sym, subst, ◌∙◌}
-use Rattle.geos_model.specs.Document.{is_live}
+use Rattle.std.proofs.Common.{ap}
 use Rattle.block_cache.specs.State.{CacheState}
-use Rattle.vm_blocks.specs.Sound.{IsValidState}
 use Rattle.vm_blocks.specs.declared.change.Change.TheVariants as changes
-use Rattle.vm_blocks.proofs.StateValidity.{sound_map}
 use Rattle.vm_blocks.proofs.ChangeOutcomes.{same_locks, turns_exact}
 use Rattle.vm_blocks.proofs.file_blocks.FileBlocks.set_map.Goals as goal
-
-pub invariant_of-self : goal.invariant_of-self
-invariant_of-self g c =
-    subst (λ (s : CacheState g.row.S.Denot). IsValidState g.S.Store.facts s) (sym c.set_map.ensures) (sound_map g.S.Store.facts c.self.inside.cache c.args.new.0 (λ some. ap (λ (s : CacheState g.row.S.Denot). is_live s.document c.args.new.0) c.self.view_is ∙ c.requires some) c.self.invariant)
 
 pub returns : goal.returns
 returns g c =
     let old = c.args.self.now in
-    let new = c.set_map.new.self in
-    let is : new ≡ record old { document = record old.document { map_block = c.args.new.0 } } =
-    c.set_map.ensures ∙ ap (λ (s : CacheState g.row.S.Denot). record s { document = record s.document { map_block = c.args.new.0 } }) c.self.view_is in
+    let new = c.put_map.new.self in
+    let is = c.put_map.ensures in
     turns_exact g.S.Store.facts (changes.Map c.args.old c.args.new) old new (ap (λ (s : CacheState g.row.S.Denot). s.disk) is) (ap (λ (s : CacheState g.row.S.Denot). s.document) is) (ap (λ (s : CacheState g.row.S.Denot). s.frames) is) (same_locks old.resident new.resident (ap (λ (s : CacheState g.row.S.Denot). s.resident) is)) tt (λ far. far)
