@@ -1,12 +1,12 @@
 -- Changes that are being carried out in memory, the last one first.
-use Rattle.std.proofs.Common.{◌≡◌, ◌-◌, ◌+◌, ◌≤◌, ◌<◌, ◌∷◌, [], ℕ, zero, List, length, take, drop, get_or, drop_of_length-le, arith, refl, sym, ap, subst, ◌∙◌}
+use Rattle.std.proofs.Common.{◌≡◌, ◌-◌, ◌+◌, ◌≤◌, ◌<◌, ◌∷◌, [], ℕ, List, length, take, drop, get_or, drop_of_length-le, arith, refl, sym, ap, subst, ◌∙◌}
 use Rattle.std.proofs.lemmas.List.{take_all}
 use Rattle.geos_model.specs.Document.{Document}
 use Rattle.chunk_edits.specs.Directions.{opposite}
 use Rattle.chunk_edits.specs.declared.direction.Direction.{Direction}
 use Rattle.block_cache.specs.State.{CacheState}
 use Rattle.vm_blocks.specs.Changes.{directed, directed_all}
-use Rattle.vm_blocks.specs.InMemory.{AllFit, AreListed, CanTakeBack, FitsInPlace, IsListed, IsReady, IsReversible, all_in_place, carried, in_place, taken_back}
+use Rattle.vm_blocks.specs.InMemory.{AllFit, AreListed, CanTakeBack, FitsInPlace, IsListed, IsReversible, all_in_place, carried, in_place, taken_back}
 use Rattle.vm_blocks.specs.Preparing.{AreInMemory, IsInMemory}
 use Rattle.vm_blocks.specs.declared.change.Change.{Change}
 use Rattle.vm_blocks.proofs.Reversing.{all_in_memory_on, next_done, next_left}

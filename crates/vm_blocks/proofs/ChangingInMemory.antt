@@ -1,17 +1,17 @@
 -- Changes that are carried out after blocks were brought into memory.
-use Rattle.std.proofs.Common.{◌≡◌, ◌⊎◌, Bool, List, inl, inr, sym, ap, subst, ◌∙◌}
+use Rattle.std.proofs.Common.{◌≡◌, Bool, List, inl, inr, sym, subst, ◌∙◌}
 use Rattle.geos_model.specs.Document.{Document, without_blocks}
 use Rattle.geos_model.specs.declared.fault.Fault.{Fault}
 use Rattle.vm_store.specs.Facts.{StoreFacts}
 use Rattle.vm_file.specs.Disk.{Disk, SameUnlessCorrupt, KeepsCommitted}
-use Rattle.vm_file.proofs.PassingLemmas.{KeepsCommitted-trans, SameUnlessCorrupt-refl, SameUnlessCorrupt-trans}
+use Rattle.vm_file.proofs.PassingLemmas.{KeepsCommitted-trans, SameUnlessCorrupt-trans}
 use Rattle.block_cache.specs.State.{CacheState, KeepsLocks}
-use Rattle.vm_blocks.specs.InMemory.{AreListed, all_in_place, all_outgoing}
-use Rattle.vm_blocks.specs.Keeping.{KeepsBlocks, IsEnvironmentFault}
+use Rattle.vm_blocks.specs.InMemory.{all_in_place, all_outgoing}
+use Rattle.vm_blocks.specs.Keeping.{KeepsBlocks}
 use Rattle.vm_blocks.specs.Preparing.{after_changes, AllowAll, AreApplied, CanApplyAllByHandle, CantPrepareAll, NoneComesIn}
 use Rattle.vm_blocks.specs.declared.change.Change.{Change}
 use Rattle.vm_blocks.proofs.ChangingAll.{made_all_on}
-use Rattle.vm_blocks.proofs.InMemory.{all_listed, all_settled}
+use Rattle.vm_blocks.proofs.InMemory.{all_settled}
 use Rattle.vm_blocks.proofs.KeepingLaws.{keeps-frames, keeps-locks, keeps-passes, keeps-same, keeps-steady, keeps-unless_corrupt, lacks-later}
 use Rattle.vm_blocks.proofs.Preparing.{all_listed_on}
 

@@ -1,10 +1,8 @@
 -- A change of a part that is exact leads back.
-use Rattle.std.proofs.Common.{◌≡◌, ◌≤◌, ◌+◌, ℕ, List, [], true, false, length, replicate, Option, Some, None, is_some, refl, sym, ap, subst, ◌∙◌, arith, leb-true}
-use Rattle.std.proofs.lemmas.Bool.{and_parts}
-use Rattle.std.specs.List.{list_all}
+use Rattle.std.proofs.Common.{◌≡◌, ◌≤◌, ℕ, List, [], true, false, length, replicate, Option, Some, None, is_some, refl, sym, ap, subst, ◌∙◌, arith, leb-true}
 use Rattle.std.specs.Prelude.{unwrap_or}
-use Rattle.std.specs.FinMap.{get, insert, remove, keys, contains_key}
-use Rattle.geos_model.specs.Heap.{ChunkMap, chunk_bytes, capacity, fits, fits_with, is_chunk_handle, is_heap_map}
+use Rattle.std.specs.FinMap.{get, insert, remove, contains_key}
+use Rattle.geos_model.specs.Heap.{ChunkMap, chunk_bytes, capacity, fits, fits_with, is_heap_map}
 use Rattle.geos_model.specs.Document.{Block, Document, is_valid_body}
 use Rattle.geos_model.specs.declared.command.Body.{Body}
 use Rattle.geos_model.specs.declared.command.Body.TheVariants.{Raw, Heap}
@@ -13,7 +11,7 @@ use Rattle.geos_model.proofs.HeapTables.{live_handle}
 use Rattle.chunk_edits.specs.Patching.{Piece, ArePiecesOf, patched, peak, reversed_pieces}
 use Rattle.chunk_edits.specs.Splicing.{Splice, OccursAt, forwards, backwards}
 use Rattle.chunk_edits.proofs.PatchingLemmas.{patch_leads_back, pieces_length, reversed_peak}
-use Rattle.vm_blocks.specs.Changes.{content_bytes, reversed_part, reversed_splice, CanApplyPart}
+use Rattle.vm_blocks.specs.Changes.{content_bytes, reversed_part, CanApplyPart}
 use Rattle.vm_blocks.specs.Exactness.{HoldsPart, IsExactPart}
 use Rattle.vm_blocks.specs.Parts.{AllowsPart, body_after_part}
 use Rattle.vm_blocks.specs.declared.change.PartChange.{PartChange}

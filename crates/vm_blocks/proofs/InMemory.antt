@@ -1,18 +1,16 @@
 -- Changes that are carried out in memory, with the blocks that go taken out last: what they make of a document is what they make of it one
 -- after another.
-use Rattle.std.proofs.Common.{◌≡◌, ◌≢◌, ◌++◌, ℕ, Bool, List, [], ◌∷◌, true, false, get_or, Option, Some, None, is_some, nat_cmp, append-nil, append_assoc, refl, sym, ap, subst, ◌∙◌, inl, inr}
+use Rattle.std.proofs.Common.{◌≡◌, ◌≢◌, ◌++◌, ℕ, List, [], ◌∷◌, true, false, get_or, Option, Some, is_some, nat_cmp, append-nil, append_assoc, refl, sym, ap, subst, ◌∙◌, inl, inr}
 use Rattle.std.specs.Prelude.{unwrap_or}
 use Rattle.std.specs.Option.{option_map_or}
 use Rattle.std.specs.List.{All}
 use Rattle.std.specs.FinMap.{FinMap, get}
 use Rattle.std.proofs.lemmas.Bool.{cases_eq, cases_Bool, true≢false}
-use Rattle.std.proofs.lemmas.List.Elements.{All-nil, All-cons, All-head, All-tail}
-use Rattle.geos_model.specs.Document.{Block, Document, attributes_of, block_at, handles_of, is_heap, is_heap_body, is_live, is_vm_handle, no_attributes, no_block, with_attributes, with_block, with_blocks, without_block, without_blocks}
+use Rattle.std.proofs.lemmas.List.Elements.{All-nil, All-cons}
+use Rattle.geos_model.specs.Document.{Block, Document, block_at, handles_of, is_heap, is_heap_body, is_live, is_vm_handle, no_attributes, no_block, with_attributes, with_block, with_blocks, without_block, without_blocks}
 use Rattle.geos_model.specs.declared.block.Attributes.{Attributes}
-use Rattle.geos_model.specs.ElementArray.{all_distinct}
 use Rattle.geos_model.proofs.HeapEdits.{get-put_same, get-put_other, get-taken_same, get-taken_other}
 use Rattle.vm_file.specs.Members.{imaged_blocks}
-use Rattle.block_cache.specs.State.{CacheState, is_resident}
 use Rattle.vm_blocks.specs.Changes.{after_change, after_part, attributes_for_kind, incoming_blocks, CanApply, CanApplyPart}
 use Rattle.vm_blocks.specs.Exactness.{IsExactPart}
 use Rattle.vm_blocks.specs.InMemory.{in_place, all_in_place, outgoing, all_outgoing, CanTakeOut, IsListed, AreListed, FitsInPlace, AllFit}

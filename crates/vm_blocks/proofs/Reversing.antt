@@ -1,6 +1,6 @@
 -- Changes that are carried out in memory and taken back.
-use Rattle.std.proofs.Common.{◌≡◌, ◌≢◌, ◌⊎◌, ◌+◌, ◌-◌, ◌<◌, ◌++◌, ℕ, suc, Bool, List, [], ◌∷◌, length, map, reverse, take, drop, get_or, true, false, Option, Some, None, inl, inr, refl, sym, ap, subst, ◌∙◌, ap₂, nat_eq, arith, add-one, take-suc, drop-cons, eq-eqb, eqb-true}
-use Rattle.std.specs.Prelude.{◌&&◌, unwrap_or}
+use Rattle.std.proofs.Common.{◌≡◌, ◌+◌, ◌<◌, ℕ, Bool, List, [], ◌∷◌, length, map, take, drop, get_or, true, false, Some, refl, sym, ap, subst, ◌∙◌, ap₂, nat_eq, add-one, take-suc, drop-cons, eq-eqb, eqb-true}
+use Rattle.std.specs.Prelude.{◌&&◌}
 use Rattle.std.proofs.lemmas.Bool.{and_parts, true≢false}
 use Rattle.std.specs.Option.{option_map}
 use Rattle.std.proofs.lemmas.List.{reverse-append}
@@ -9,13 +9,12 @@ use Rattle.geos_model.specs.Document.{Block, Document, attributes_of, block_at, 
 use Rattle.geos_model.specs.declared.block.Attributes.{Attributes}
 use Rattle.geos_model.specs.declared.command.Body.{Body}
 use Rattle.geos_model.specs.declared.handle.VmHandle.{VmHandle}
-use Rattle.chunk_edits.specs.Directions.{opposite}
 use Rattle.chunk_edits.specs.declared.direction.Direction.{Direction}
 use Rattle.chunk_edits.specs.declared.direction.Direction.TheVariants.{Forwards, Backwards}
 use Rattle.block_cache.specs.State.{CacheState}
 use Rattle.vm_blocks.specs.Changes.{after_part, attributes_for_kind, directed, directed_all, directed_part, reversed_part}
 use Rattle.vm_blocks.specs.Exactness.{IsExactPart}
-use Rattle.vm_blocks.specs.InMemory.{in_place, carried, taken_back, IsListed, IsReversible, IsReversiblePart, StaysInMemory}
+use Rattle.vm_blocks.specs.InMemory.{carried, IsListed, IsReversible, IsReversiblePart, StaysInMemory}
 use Rattle.vm_blocks.specs.Keeping.{is_loaded}
 use Rattle.vm_blocks.specs.Parts.{AllowsPart, body_after_part}
 use Rattle.vm_blocks.specs.Preparing.{AreInMemory, IsInMemory}

@@ -1,4 +1,4 @@
-use Rattle.vm_blocks.proofs.CarryingOut.{begins, ends, goes_on, next_fits, next_here, next_listed}
+use Rattle.vm_blocks.proofs.CarryingOut.{begins, goes_on, next_listed}
 use Rattle.vm_blocks.proofs.in_memory.carry_out_all.Goals as goal
 
 pub loop-rest-init : goal.loop-rest-init

@@ -1,4 +1,4 @@
-use Rattle.std.proofs.Common.{◌≡◌, List, refl, sym, ap, subst, ◌∙◌}
+use Rattle.std.proofs.Common.{sym, ap, subst, ◌∙◌}
 use Rattle.std.specs.Prelude.{Ok}
 use Rattle.geos_model.specs.Document.{without_blocks}
 use Rattle.block_cache.specs.State.{CacheState, KeepsLocks, locked_count}

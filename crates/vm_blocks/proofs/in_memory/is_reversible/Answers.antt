@@ -1,10 +1,8 @@
-use Rattle.std.proofs.Common.{◌≡◌, true, sym, subst, ◌∙◌}
+use Rattle.std.proofs.Common.{sym, subst, ◌∙◌}
 use Rattle.geos_model.specs.Document.{is_heap, IsTyped}
 use Rattle.chunk_edits.specs.declared.direction.Direction.{Direction}
 use Rattle.chunk_edits.specs.declared.direction.Direction.TheVariants.{Forwards, Backwards}
-use Rattle.block_cache.specs.State.{CacheState}
-use Rattle.vm_blocks.specs.Changes.{directed}
-use Rattle.vm_blocks.specs.InMemory.{IsListed, IsReversible}
+use Rattle.vm_blocks.specs.InMemory.{IsReversible}
 use Rattle.vm_blocks.specs.declared.change.Change.{Change}
 use Rattle.vm_blocks.proofs.Reversing.{attributes_reverse, attributes_reverse_back, part_reverses, same_attributes}
 use Rattle.vm_blocks.proofs.in_memory.is_reversible.Goals as goal

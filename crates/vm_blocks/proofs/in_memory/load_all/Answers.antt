@@ -1,11 +1,11 @@
-use Rattle.std.proofs.Common.{◌≡◌, ◌∷◌, ◌≤◌, ◌+◌, ℕ, List, length, reverse, refl, sym, ap, subst, ◌∙◌, arith}
+use Rattle.std.proofs.Common.{List, length, sym, ap, subst, ◌∙◌}
 use Rattle.std.specs.Prelude.{Result, Err, IfErr}
 use Rattle.std.proofs.lemmas.List.{length_push}
 use Rattle.std.proofs.lemmas.Result.{err_from_is_err_and}
 use Rattle.std.proofs.lemmas.Iterator.Adapters.{YieldsList-from_rev_slice}
-use Rattle.std.proofs.lemmas.Iterator.Consumers.{YieldsList-turn, YieldsList-end}
+use Rattle.std.proofs.lemmas.Iterator.Consumers.{YieldsList-turn}
 use Rattle.geos_model.specs.declared.fault.Fault.{Fault}
-use Rattle.vm_blocks.specs.Changes.{directed, directed_all}
+use Rattle.vm_blocks.specs.Changes.{directed}
 use Rattle.vm_blocks.specs.Keeping.{IsEnvironmentFault}
 use Rattle.vm_blocks.specs.Preparing.{AreInMemory}
 use Rattle.vm_blocks.specs.declared.change.Change.{Change}

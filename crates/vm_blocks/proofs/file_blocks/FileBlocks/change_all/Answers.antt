@@ -1,10 +1,7 @@
-use Rattle.std.proofs.Common.{◌≡◌, ap, ◌∙◌}
+use Rattle.std.proofs.Common.{ap, ◌∙◌}
 use Rattle.std.specs.Prelude.{Result, Ok, Err, IfErr, OnErr, OnOk}
 use Rattle.geos_model.specs.declared.fault.Fault.{Fault}
-use Rattle.block_cache.specs.State.{CacheState}
 use Rattle.vm_blocks.specs.Changes.{directed_all}
-use Rattle.vm_blocks.specs.Keeping.{KeepsBlocks}
-use Rattle.vm_blocks.specs.Preparing.{AreApplied, CantPrepareAll}
 use Rattle.vm_blocks.proofs.ChangingAll.{keeps_unmarked}
 use Rattle.vm_blocks.proofs.ChangingInMemory.{applied_since, cant_since, listed_then}
 use Rattle.vm_blocks.proofs.KeepingLaws.{keeps-locks, keeps-trans}

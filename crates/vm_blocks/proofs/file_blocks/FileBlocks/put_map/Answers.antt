@@ -1,4 +1,4 @@
-use Rattle.std.proofs.Common.{◌≡◌, ap, sym, subst, ◌∙◌}
+use Rattle.std.proofs.Common.{ap, sym, subst, ◌∙◌}
 use Rattle.geos_model.specs.Document.{is_live}
 use Rattle.block_cache.specs.State.{CacheState}
 use Rattle.vm_blocks.specs.Sound.{IsValidState}
