@@ -9,7 +9,8 @@ use Rattle.vm_store.specs.Facts.{StoreFacts, FailedSince}
 use Rattle.vm_file.specs.Disk.{Disk, MayCommit, IsCrashConsistent, HasSequence, KeepsCommitted}
 use Rattle.vm_file.specs.Documents.{Documents}
 use Rattle.undo_log.specs.Sessions.{SessionState, IsExact, machine_of, failed_since}
-use Rattle.undo_log.specs.Turning.{IsSure, abandon_fault, busy_fault}
+use Rattle.undo_log.specs.Logging.{open_changes}
+use Rattle.undo_log.specs.Turning.{IsSure, IsSureGroup, abandon_fault, busy_fault}
 use Rattle.chunk_edits.specs.declared.direction.Direction.TheVariants.{Forwards, Backwards}
 
 -- a session, the target of a save-as while one is left, and the store that a save-as went away from, where it was put
@@ -132,14 +133,15 @@ LeavesFiles facts old None reply new = SameFiles old new
 -- Requests.
 
 -- An undo or a redo that is sure, as a session says which are, is accepted and calls no store, where no group is open
--- and no block is locked. So is an abandon of a group without an edit, where no block is locked.
+-- and no block is locked. So is an abandon of a group whose changes are sure to be taken back, where no block is locked.
 abbrev pub IsTakenIfSure : {S : Type 0} → (S → StoreFacts) → SessionState S → Request → Reply → SessionState S → Type 0
 IsTakenIfSure facts old (Some commands.Undo) reply new =
     busy_fault old ≡ None → IsSure facts old Backwards old.log.undo → (reply ≡ Accepted) × (new.disk ≡ old.disk)
 IsTakenIfSure facts old (Some commands.Redo) reply new =
     busy_fault old ≡ None → IsSure facts old Forwards old.log.redo → (reply ≡ Accepted) × (new.disk ≡ old.disk)
 IsTakenIfSure facts old (Some commands.Abandon) reply new =
-    abandon_fault old ≡ None → old.log.group ≡ Some [] → (reply ≡ Accepted) × (new.disk ≡ old.disk)
+    abandon_fault old ≡ None → IsSureGroup facts old Backwards (open_changes old.log.group)
+    → (reply ≡ Accepted) × (new.disk ≡ old.disk)
 IsTakenIfSure facts old request reply new = Unit {0}
 
 -- The request is answered so: by the machine, with a file fault in place of its answer only where a store failed in

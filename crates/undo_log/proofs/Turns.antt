@@ -18,6 +18,7 @@ use Rattle.vm_file.specs.Disk.{SameUnlessCorrupt, KeepsCommitted}
 use Rattle.block_cache.specs.State.{CacheState, KeepsLocks, ResidentBlock, locks_of}
 use Rattle.vm_blocks.specs.Changes.{after_change, directed, CanApply}
 use Rattle.vm_blocks.specs.Keeping.{IsEnvironmentFault, is_full}
+use Rattle.vm_blocks.specs.Preparing as preparing
 use Rattle.vm_blocks.specs.Preparing.{AllowAll, AreUnlocked, CantPrepareAll, IsShutOut, CantPrepare, AreApplied}
 use Rattle.vm_blocks.specs.declared.change.Change.{Change}
 use Rattle.vm_blocks.specs.declared.change.Change.TheVariants as changes
@@ -61,6 +62,11 @@ none_locked (changes.Map old new) ss none = tt
 all_take : (direction : Direction) (cs : List Change) (d : Document) → CanApplyAll direction cs d → AllowAll (map (directed direction) cs) d
 all_take direction [] d can = tt
 all_take direction (c ∷ cs) d can = (applies_takes (directed direction c) d can.0, all_take direction cs (after_change (directed direction c) d) can.1)
+
+-- so in the words of blocks
+pub all_apply : (direction : Direction) (cs : List Change) (d : Document) → CanApplyAll direction cs d → preparing.CanApplyAll (map (directed direction) cs) d
+all_apply direction [] d can = tt
+all_apply direction (c ∷ cs) d can = (can.0, all_apply direction cs (after_change (directed direction c) d) can.1)
 
 -- What is refused before all else of a session is so of its machine.
 
@@ -170,11 +176,10 @@ module _ {S : Type 0} (facts : S → StoreFacts) where
   sure_one s Backwards (changes.Attributes b old new) applies sure = (refl, tt, tt)
   sure_one s Backwards (changes.Map old new) applies sure = (refl, tt, tt)
 
-  sure_entry : (s : SessionState S) (direction : Direction) (e : LogEntry) (es : List LogEntry) → (IsExact facts s → CanApplyAll direction (all_changes (e ∷ es)) s.document) → IsSureKind facts s direction (kind_of_entry e)
+  sure_entry : (s : SessionState S) (direction : Direction) (e : LogEntry) (es : List LogEntry) → (IsExact facts s → CanApplyAll direction (all_changes (e ∷ es)) s.document) → IsSure facts s direction (e ∷ es)
       → CanApplyEntry direction e (cache_of s)
   sure_entry s direction (entries.One c) es can sure = sure_one s direction c (λ exact. (can exact).0) sure
-  sure_entry s Forwards (entries.Group cs) es can sure = absurd sure
-  sure_entry s Backwards (entries.Group cs) es can sure = absurd sure
+  sure_entry s direction (entries.Group cs) es can sure = (sure.none_comes_in, sure.in_memory, (can_split direction cs (all_changes es) s.document (can sure.exact)).0)
 
   -- the newest of a list is
   pub sure_turns : (s : SessionState S) (direction : Direction) (e : LogEntry) (from : List LogEntry) → IsHead e from → (IsExact facts s → CanApplyAll direction (all_changes from) s.document) → IsSure facts s direction from

@@ -11,12 +11,13 @@ use Rattle.vm_store.specs.Facts.{StoreFacts}
 use Rattle.block_cache.specs.State.{CacheState}
 use Rattle.vm_blocks.specs.Changes.{directed, incoming_blocks}
 use Rattle.vm_blocks.specs.Keeping.{IsHonest, IsEnvironmentFault, is_loaded}
-use Rattle.vm_blocks.specs.Preparing.{CantPrepareAll, AllowsChange, IsInMemory, IsApplied, AreApplied}
+use Rattle.vm_blocks.specs.Preparing.{CantPrepareAll, AllowsChange, AreInMemory, IsInMemory, IsApplied, AreApplied, NoneComesIn}
 use Rattle.vm_blocks.specs.declared.change.Change.{Change}
 use Rattle.chunk_edits.specs.declared.direction.Direction.{Direction}
 use Rattle.chunk_edits.specs.declared.direction.Direction.TheVariants.{Forwards, Backwards}
-use Rattle.undo_log.specs.Logging.{after_entry, kind_of_entry, open_changes, turned_over}
-use Rattle.undo_log.specs.Sessions.{SessionState, cache_of, has_locks, IsExact}
+use Rattle.doc_edits.specs.Planning.{kind_of_change}
+use Rattle.undo_log.specs.Logging.{after_entry, open_changes, turned_over}
+use Rattle.undo_log.specs.Sessions.{SessionState, cache_of, has_locks, CanApplyAll, IsExact}
 use Rattle.undo_log.specs.declared.entry.LogEntry.{LogEntry}
 use Rattle.undo_log.specs.declared.entry.LogEntry.TheVariants as entries
 
@@ -40,12 +41,15 @@ CantApplyEntry facts direction (entries.One c) old new fault = CantApply facts (
 CantApplyEntry facts direction (entries.Group cs) old new fault =
     CantPrepareAll facts (map (directed direction) cs) old new fault
 
--- That of one edit can: no block comes in, and the body that changes is in memory and takes the change.
+-- That of one edit can where no block comes in, and the body that changes is in memory and takes the change; those of a
+-- group where that is so of each, and what goes stands there.
 abbrev pub CanApplyEntry : {S : Type 0} → Direction → LogEntry → CacheState S → Type 0
 CanApplyEntry direction (entries.One c) blocks =
     (incoming_blocks (directed direction c) ≡ []) × IsInMemory (directed direction c) blocks
     × AllowsChange (directed direction c) blocks.document
-CanApplyEntry direction (entries.Group cs) blocks = ⊥
+CanApplyEntry direction (entries.Group cs) blocks =
+    NoneComesIn (map (directed direction) cs) × AreInMemory (map (directed direction) cs) blocks
+    × CanApplyAll direction cs blocks.document
 
 -- the newest entry of a list is made, and is the newest of the other
 pub record MovesEntry {S : Type 0} (facts : S → StoreFacts) (direction : Direction) (old new : CacheState S)
@@ -117,7 +121,16 @@ IsSureKind facts s Forwards Freed = Unit {0}
 IsSureKind facts s Backwards Freed = ⊥
 IsSureKind facts s direction Group = ⊥
 
+-- So it is of the changes of a group in an exact session, where no blocks come in, and each block whose body changes is in
+-- memory.
+pub record IsSureGroup {S : Type 0} (facts : S → StoreFacts) (s : SessionState S) (direction : Direction)
+    (cs : List Change) : Type 0 where
+  pub exact : IsExact facts s
+  pub none_comes_in : NoneComesIn (map (directed direction) cs)
+  pub in_memory : AreInMemory (map (directed direction) cs) (cache_of s)
+
 -- whether there is a newest entry, and it is
 abbrev pub IsSure : {S : Type 0} → (S → StoreFacts) → SessionState S → Direction → List LogEntry → Type 0
 IsSure facts s direction [] = ⊥
-IsSure facts s direction (e ∷ es) = IsSureKind facts s direction (kind_of_entry e)
+IsSure facts s direction (entries.One c ∷ es) = IsSureKind facts s direction (kind_of_change c)
+IsSure facts s direction (entries.Group cs ∷ es) = IsSureGroup facts s direction cs

@@ -26,7 +26,7 @@ ghost use Rattle.doc_edits.specs.Room.{has_no_room, ReadsNothing};
 ghost use Rattle.undo_log.specs.Editing.{EditsInMemory};
 ghost use Rattle.undo_log.specs.Locking.{IsBarred};
 ghost use Rattle.undo_log.specs.Committing.{IsBusy, IsSaveAsRefused, IsSessionCommit};
-ghost use Rattle.undo_log.specs.Logging.{AreExclusive, empty_log, next_entries, open_changes, to_redo, to_undo, total_weight, with_group_closed};
+ghost use Rattle.undo_log.specs.Logging.{AreExclusive, before, empty_log, next_entries, open_changes, to_redo, to_undo, total_weight, with_group_closed};
 ghost use Rattle.undo_log.specs.Sessions.{cache_of, file_of, has_locks, machine_of, opposite, failed_since, total_cost, IsExact, IsStep, KeepsSession, PushesEdit};
 ghost use Rattle.undo_log.specs.Turning.{Abandons, IsNotAbandoned, IsRefusedUndoOrRedo, IsSure, MovesEntry, abandon_fault, newest_made, busy_fault, nothing_to_turn, turn_command};
 
@@ -286,8 +286,10 @@ impl<S: Store> Session<S> {
 
     /// Goes back to the document before the newest step: an edit, or a group of edits as a whole. GroupOpen while a
     /// group is open, and then Locked where any block is, before all else; NothingToUndo. Memory or File where a block
-    /// has to be brought into memory or comes in, and of a group always; Damaged only over a store that isn't honest,
-    /// or after a save-as from one. Where a group is refused so no block may be in memory afterwards.
+    /// has to be brought into memory or comes in; Damaged only over a store that isn't honest, or after a save-as from
+    /// one. Where blocks come in with a group, or those that it changes don't fit into memory together, all that is
+    /// changed in memory is written to the file first, and where it is refused then no block may be in memory
+    /// afterwards.
     pub fn undo(&mut self) -> Result<(), Fault>
         // What is done.
         ensures step { IsStep S.facts self.old self.new commands.Undo (reply_by (λ _. Accepted) result) }
@@ -424,6 +426,10 @@ impl<S: Store> Session<S> {
         // When the answer is known beforehand.
         ensures empty { abandon_fault self.old ≡ None → self.old.log.group ≡ Some []
             → IsOk result × (self.new ≡ record self.old { log = record self.old.log { group = None } }) }
+        ensures sure { abandon_fault self.old ≡ None
+            → IsSureGroup S.facts self.old Backwards (open_changes self.old.log.group)
+            → IsOk result × (self.new.disk ≡ self.old.disk)
+            × (self.new.document ≡ before self.old.log.group self.old.document) }
     {
         self.blocks.validity();
         self.log.validity();

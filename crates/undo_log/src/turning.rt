@@ -3,9 +3,10 @@ ghost use Rattle.std.specs.Prelude.{◌≡◌, [], true, false, None, map, nat_l
 ghost use Rattle.block_cache.specs.State.{locked_count};
 ghost use Rattle.vm_blocks.specs.Changes.{directed};
 ghost use Rattle.vm_blocks.specs.Keeping.{KeepsBlocks};
-ghost use Rattle.vm_blocks.specs.Preparing.{CanApplyAllByHandle, CantPrepareAll, AreApplied};
+ghost use Rattle.vm_blocks.specs.Preparing.{AreInMemory, CanApplyAllByHandle, CantPrepareAll, AreApplied, NoneComesIn};
 ghost use Rattle.chunk_edits.specs.declared.direction.Direction.TheVariants.{Backwards};
-ghost use Rattle.undo_log.specs.Logging.{after_entry, changes_in};
+ghost use Rattle.undo_log.specs.Logging.{after_all, after_entry, changes_in};
+ghost use Rattle.undo_log.specs.Sessions.{CanApplyAll};
 ghost use Rattle.undo_log.specs.Turning.{CanApplyEntry, CantApplyEntry, IsEntryApplied, nothing_to_turn};
 
 use crate::entry::LogEntry;
@@ -65,6 +66,11 @@ pub fn take_back<S: Store>(blocks: &mut FileBlocks<S>, changes: &[Change]) -> Re
         (CantPrepareAll S.facts (map (directed Backwards) (reverse changes.now)) blocks.old blocks.new) }
     // When the answer is known beforehand.
     ensures none { changes.now ≡ [] → IsOk result × (blocks.new ≡ blocks.old) }
+    ensures sure { NoneComesIn (map (directed Backwards) (reverse changes.now))
+        → AreInMemory (map (directed Backwards) (reverse changes.now)) blocks.old
+        → CanApplyAll Backwards (reverse changes.now) blocks.old.document
+        → IsOk result × (blocks.new.disk ≡ blocks.old.disk)
+        × (blocks.new.document ≡ after_all Backwards (reverse changes.now) blocks.old.document) }
 {
     if changes.is_empty() {
         return Ok(());

@@ -38,7 +38,7 @@ returns-in-End-clause-replied g c = λ exact.
 pub returns-in-Abandon-clause-replied : goal.returns-in-Abandon-clause-replied
 returns-in-Abandon-clause-replied g c = λ exact.
     let done = c.abandon.ensures in
-    rw c.in-Abandon.is (replied g.S.Store.facts c.push_accepted-in-Abandon.result _ _ _ _ _ _ (serves_passing g.S.Store.facts _ _ _ _ _ _ done.passes done.step (λ nothing. nothing) (λ free none. let taken = done.empty free none in (told_as_accepted _ taken.0, ap (λ s. s.disk) taken.1)) exact) c.push_accepted-in-Abandon.ensures.ok)
+    rw c.in-Abandon.is (replied g.S.Store.facts c.push_accepted-in-Abandon.result _ _ _ _ _ _ (serves_passing g.S.Store.facts _ _ _ _ _ _ done.passes done.step (λ nothing. nothing) (λ free sure. let taken = done.sure free sure in (told_as_accepted _ taken.0, taken.1)) exact) c.push_accepted-in-Abandon.ensures.ok)
 
 -- Commits.
 pub returns-in-Update-clause-replied : goal.returns-in-Update-clause-replied

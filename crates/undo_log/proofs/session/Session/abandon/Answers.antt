@@ -1,21 +1,22 @@
-use Rattle.std.proofs.Common.{Err, List, map, inr, refl, ap, sym, subst, ◌∙◌}
+use Rattle.std.proofs.Common.{◌≡◌, None, Ok, Err, IsOk, List, map, inr, refl, ap, sym, subst, ◌∙◌}
 use Rattle.std.specs.Prelude.{IfErr}
 use Rattle.std.proofs.lemmas.Result.{err_from_is_err_and}
 use Rattle.geos_model.specs.Reply.{Accepted, reply_by}
 use Rattle.geos_model.specs.declared.command.Command.TheVariants as commands
 use Rattle.vm_file.specs.Disk.{KeepsCommitted}
 use Rattle.vm_blocks.specs.Changes.{directed}
-use Rattle.vm_blocks.specs.Preparing.{CanApplyAllByHandle, CantPrepareAll, AreApplied}
+use Rattle.geos_model.specs.declared.fault.Fault.{Fault}
+use Rattle.vm_blocks.specs.Preparing.{AreInMemory, CanApplyAllByHandle, CantPrepareAll, AreApplied, NoneComesIn}
 use Rattle.vm_blocks.specs.declared.change.Change.{Change}
 use Rattle.chunk_edits.specs.declared.direction.Direction.TheVariants.{Backwards}
 use Rattle.vm_blocks.proofs.KeepingLaws.{keeps-passes}
-use Rattle.undo_log.specs.Logging.{open_changes}
-use Rattle.undo_log.specs.Sessions.{SessionState, cache_of, IsStep}
-use Rattle.undo_log.specs.Turning.{IsNotAbandoned, abandon_fault}
+use Rattle.undo_log.specs.Logging.{after_all, before, open_changes}
+use Rattle.undo_log.specs.Sessions.{SessionState, cache_of, CanApplyAll, IsStep}
+use Rattle.undo_log.specs.Turning.{IsNotAbandoned, IsSureGroup, abandon_fault}
 use Rattle.undo_log.proofs.Groups.{abandoned_invariant, group_listed}
 use Rattle.undo_log.proofs.Keeping.{Holds, keeps_refl, kept_invariant}
 use Rattle.undo_log.proofs.LookUps.{session_with}
-use Rattle.undo_log.proofs.Turns.{abandon_free, abandon_held, abandon_refused, abandon_taken, group_not_taken, some_changes}
+use Rattle.undo_log.proofs.Turns.{abandon_free, abandon_held, abandon_refused, abandon_taken, group_can, group_not_taken, some_changes}
 use Rattle.undo_log.proofs.session.Session.abandon.Goals as goal
 
 pub returns-in-Some-clause-step : goal.returns-in-Some-clause-step
@@ -85,3 +86,31 @@ returns-clause-step g c =
     subst (λ (s : SessionState g.row.S.Denot). IsStep facts s new commands.Abandon Accepted) c.self.view_is
     (abandon_taken facts old new (open_changes log.group) is_free.0 is_free.1 c.validity-2.ensures c.forget_group.ensures
     (subst (λ (cs : List Change). AreApplied facts (map (directed Backwards) cs) c.self.inside.blocks c.take_back.new.blocks) c.group.ensures c.in_ok-take_back.ensures.ok))
+
+pub returns-in_err-take_back-clause-sure : goal.returns-in_err-take_back-clause-sure
+returns-in_err-take_back-clause-sure g c =
+    let facts = g.S.Store.facts in let log = c.self.inside.log.lists in let e = c.in_err-take_back in
+    let blocks = c.self.inside.blocks in
+    let old = session_with blocks log in
+    let new = session_with c.take_back.new.blocks log in
+    subst (λ (s : SessionState g.row.S.Denot). abandon_fault s ≡ None → IsSureGroup facts s Backwards (open_changes s.log.group)
+        → IsOk c.from_residual.result × (new.disk ≡ s.disk) × (new.document ≡ before s.log.group s.document)) c.self.view_is
+    (λ free sure.
+        let can = group_can facts old new (open_changes log.group) (abandon_free old free).0 sure.exact in
+        let taken = subst (λ (xs : List Change). NoneComesIn (map (directed Backwards) xs) → AreInMemory (map (directed Backwards) xs) blocks → CanApplyAll Backwards xs blocks.document
+            → IsOk {T = Unit {0}} (Err e.field-0.0) × (c.take_back.new.blocks.disk ≡ blocks.disk) × (c.take_back.new.blocks.document ≡ after_all Backwards xs blocks.document)) c.group.ensures e.ensures.sure in
+        absurd (cc (taken sure.none_comes_in sure.in_memory can).0))
+
+pub returns-clause-sure : goal.returns-clause-sure
+returns-clause-sure g c =
+    let facts = g.S.Store.facts in let log = c.self.inside.log.lists in
+    let blocks = c.self.inside.blocks in
+    let old = session_with blocks log in
+    let new = session_with c.take_back.new.blocks c.forget_group.new.self.lists in
+    subst (λ (s : SessionState g.row.S.Denot). abandon_fault s ≡ None → IsSureGroup facts s Backwards (open_changes s.log.group)
+        → IsOk {E = Fault} (Ok (tt {0})) × (new.disk ≡ s.disk) × (new.document ≡ before s.log.group s.document)) c.self.view_is
+    (λ free sure.
+        let can = group_can facts old new (open_changes log.group) (abandon_free old free).0 sure.exact in
+        let taken = subst (λ (xs : List Change). NoneComesIn (map (directed Backwards) xs) → AreInMemory (map (directed Backwards) xs) blocks → CanApplyAll Backwards xs blocks.document
+            → IsOk c.take_back.result × (c.take_back.new.blocks.disk ≡ blocks.disk) × (c.take_back.new.blocks.document ≡ after_all Backwards xs blocks.document)) c.group.ensures c.take_back.ensures.sure in
+        let made = taken sure.none_comes_in sure.in_memory can in (refl, made.1, made.2))
