@@ -28,7 +28,7 @@ ghost use Rattle.undo_log.specs.Locking.{IsBarred};
 ghost use Rattle.undo_log.specs.Committing.{IsBusy, IsSaveAsRefused, IsSessionCommit};
 ghost use Rattle.undo_log.specs.Logging.{AreExclusive, before, empty_log, next_entries, open_changes, to_redo, to_undo, total_weight, with_group_closed};
 ghost use Rattle.undo_log.specs.Sessions.{cache_of, file_of, has_locks, machine_of, opposite, failed_since, total_cost, IsExact, IsStep, KeepsSession, PushesEdit};
-ghost use Rattle.undo_log.specs.Turning.{Abandons, IsNotAbandoned, IsRefusedUndoOrRedo, IsSure, MovesEntry, abandon_fault, newest_made, busy_fault, nothing_to_turn, turn_command};
+ghost use Rattle.undo_log.specs.Turning.{Abandons, IsNotAbandoned, IsRefusedUndoOrRedo, IsSure, IsSureGroup, MovesEntry, abandon_fault, newest_made, busy_fault, nothing_to_turn, turn_command};
 
 mod look_ups;
 
