@@ -17,7 +17,7 @@ refusals=$(program refusal_tests_tests refusal_tests)
 
 # How many documents are made by chance, of how many bytes of a file each is changed, and which requests for memory are refused.
 documents=100
-every=10
+every=4
 requests=5
 long=
 if [ "${LONG:-}" ]; then
@@ -72,8 +72,9 @@ has_needs() {
     script=$(script_of "$1")
     [ -f "$script" ] || return 0
     needs=$(sed -n 's/^# Needs: //p' "$script" | head -n 1)
-    echo "needs: $needs"
-    for need in ${needs:?}; do
+    echo "needs: ${needs:-nothing, it says nowhere what}"
+    [ "$needs" ] || return 1
+    for need in $needs; do
         command -v "$need" >/dev/null || { echo "there is no $need"; return 1; }
     done
 }
