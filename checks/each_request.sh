@@ -186,10 +186,11 @@ judge() {
             [ "$answered" = 0 ] && [ -z "$before" ] && [ ! -s document ] && return
         fi
         ;;
-    "1 geosvm: create 1 Memory")
+    # A call on the system that has no memory for its path, say, has failed, and is told as one that failed otherwise.
+    "1 geosvm: create 1 Memory" | "1 geosvm: create 2 File")
         [ ! -s replies ] && [ ! -s document ] && return
         ;;
-    "1 geosvm: open 1 Memory")
+    "1 geosvm: open 1 Memory" | "1 geosvm: open 2 File")
         [ ! -s replies ] && cmp -s left behind/0 && return
         ;;
     esac
