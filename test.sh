@@ -32,7 +32,7 @@ check() {
     case $1 in
     embedding) sh embedding/build.sh ;;
     each_request) sh checks/each_request.sh "$geosvm" "$refusals" $requests ;;
-    failing_calls) python3 checks/failing_calls.py "$geosvm" "$geosdoc" $long ;;
+    failing_calls) python3 checks/failing_calls.py "$geosvm" "$geosdoc" ;;
     dumped_documents) python3 checks/dumped_documents.py "$geosvm" "$geosdoc" $documents ;;
     limits) python3 checks/limits.py "$geosvm" "$geosdoc" $long ;;
     lent_bytes) sh checks/lent_bytes.sh ;;
@@ -47,7 +47,7 @@ check() {
     commands_listed) sh checks/commands_listed.sh ;;
     # It links the library that `embedding` has made.
     failing_calls_from_c)
-        python3 checks/failing_calls.py "$geosvm" "$geosdoc" $long --library embedding/out/libgeosvm.a "$(dirname "$(rt doc)")/c/liblibc_c.a"
+        python3 checks/failing_calls.py "$geosvm" "$geosdoc" --library embedding/out/libgeosvm.a "$(dirname "$(rt doc)")/c/liblibc_c.a"
         ;;
     *) echo "there is no check $1"; return 2 ;;
     esac

@@ -242,7 +242,7 @@ within() {
 # The program, its libraries and the shortest script take this much, in steps of 100 kB.
 least=1000
 printf 'newraw 7 1\nundo\n' >shortest
-until [ "$(within $least --new document shortest | tail -n 1)" = ok ]; do
+until [ "$(within $least --new document shortest 2>errors | tail -n 1)" = ok ]; do
     least=$((least + 100))
     [ $least -lt 100000 ] || exit 2
 done

@@ -1,7 +1,7 @@
 # Needs: gcc python3
 """Has each call of the system behind a document fail in turn, and looks at what is told and what is left in the files.
 
-    python3 checks/failing_calls.py GEOSVM GEOSDOC [--long] [--library LIBGEOSVM LIBC]
+    python3 checks/failing_calls.py GEOSVM GEOSDOC [--library LIBGEOSVM LIBC]
 
 GEOSVM and GEOSDOC are the programs of `crates/geosvm` and `crates/geosdoc`. With `--library` the program is one in C over the library
 (checks/embedded.c), in place of these two: LIBGEOSVM is the archive that `embedding/build.sh` makes, LIBC the kit's `liblibc_c.a`.
@@ -11,12 +11,9 @@ its bytes, or with an error from it on. Of each run of a program is looked at: w
 the last commit that was acknowledged, or of one that was tried since; that no other file was touched. And of what is left by a stop of
 the machine behind any call: that it leads to such documents too, where only what was synced is there, or that and one write more, or
 the first few, or all. So it is seen whether the file is synced before and after each commit, and its folder after a file was made.
-
-Of calls that are made more often than MOST_FAILING the first, the last, and others by chance fail in turn; with `--long` each of them.
 """
 import errno
 import os
-import random
 import shutil
 import subprocess
 import sys
@@ -44,8 +41,6 @@ HOWS = {
 }
 # A failure of these is no failure of the program: a file is closed all the same, and a lock goes with it.
 HARMLESS = {"close", "unlink", "lseek", "fchmod", "fchown"}
-# How many calls of a kind fail in turn, but for the long form.
-MOST_FAILING = 4
 # Syncs are only counted, so that no disk needs to be waited for.
 ROOMS = "/dev/shm" if os.access("/dev/shm", os.W_OK | os.X_OK) else None
 
@@ -59,15 +54,8 @@ class Call:
 
 
 class Checks:
-    def __init__(self, is_long):
+    def __init__(self):
         self.passed = self.failed = 0
-        self.is_long, self.chance = is_long, random.Random(1)
-
-    def numbers(self, most):
-        """Which of so many calls are to fail."""
-        if self.is_long or most <= MOST_FAILING:
-            return range(1, most + 1)
-        return sorted({1, most, *self.chance.sample(range(2, most), MOST_FAILING - 2)})
 
     def told(self, name, wrong):
         if wrong:
@@ -416,7 +404,7 @@ def try_scenario(checks, library, geosvm, program, scenario, room, has_streams=T
             continue
         for how, lasts in hows_of(name):
             wrong = []
-            for number in checks.numbers(most):
+            for number in range(1, most + 1):
                 files = scenario.prepare(geosvm, folder)
                 machine = Machine(folder)
                 ran = run(library, folder, words, scenario.script, f"{name} {kind}", number, how, lasts)
@@ -450,7 +438,7 @@ def try_look(checks, library, geosdoc, words, scenario, geosvm, room):
             continue
         for how, lasts in hows_of(call):
             wrong = []
-            for number in checks.numbers(most):
+            for number in range(1, most + 1):
                 ran = run(library, folder, [*geosdoc, *words], "", f"{call} {kind}", number, how, lasts)
                 wrong += [f"number {number}: {it}" for it in wrong_look(first, ran, call, kind, how) if it]
                 for it, content in files.items():
@@ -498,7 +486,7 @@ def try_restore(checks, library, geosvm, geosdoc, room):
             continue
         for how, lasts in hows_of(call):
             wrong = []
-            for number in checks.numbers(most):
+            for number in range(1, most + 1):
                 scenario.prepare(geosvm, folder)
                 ran = run(library, folder, [*geosdoc, *scenario.words], scenario.script, f"{call} {kind}", number, how, lasts)
                 pair = pair_of(os.path.join(folder, "document"))
@@ -523,8 +511,8 @@ def compiled(room, name, *words):
 
 
 def main():
-    checks = Checks("--long" in sys.argv)
-    geosvm, geosdoc, *rest = map(os.path.abspath, (word for word in sys.argv[1:] if word not in ("--long", "--library")))
+    checks = Checks()
+    geosvm, geosdoc, *rest = map(os.path.abspath, (word for word in sys.argv[1:] if word != "--library"))
     with tempfile.TemporaryDirectory(dir=ROOMS) as room:
         library = compiled(room, "failing_calls", "-shared", "-fPIC")
         if rest:
