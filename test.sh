@@ -1,10 +1,9 @@
 #!/bin/sh
-# The gate: `rt ci`, which proves each crate and runs the tests and the programs, and then checks on the programs that it built. What
+# The gate: `rt ci`, which proves each crate and runs the tests and the programs, and then the checks on the programs that it built. What
 # each came to stands on a line; a failure ends nothing. The last line is `N passed, M failed`, the sum of all counts.
 #
-#     sh test.sh                              rt ci, and then the checks of the gate
-#     sh test.sh --all [--long]               and all other checks too, with --long in their long forms
-#     sh test.sh --checks [--all] [NAME..]    the checks alone, or those of these names, on the programs as they were built last
+#     sh test.sh [--long]                      rt ci, and then the checks, with --long in their long forms
+#     sh test.sh --checks [--long] [NAME..]    the checks alone, or those of these names, on the programs as they were built last
 set -u
 cd "$(dirname "$0")" || exit 2
 root=$(pwd)
@@ -16,22 +15,26 @@ geosvm=$(program geosvm geosvm)
 geosdoc=$(program geosdoc geosdoc)
 refusals=$(program refusal_tests_tests refusal_tests)
 
-# How many documents are made by chance, and of how many bytes of a file each is changed.
+# How many documents are made by chance, of how many bytes of a file each is changed, and which requests for memory are refused.
 documents=100
-every=10
+every=4
+requests=5
+long=
 if [ "${LONG:-}" ]; then
     documents=1000
     every=1
+    requests=1
+    long=--long
 fi
 
-# check NAME: runs it. Those that take longest come first.
+# check NAME: runs it.
 check() {
     case $1 in
-    embedding) command -v valgrind && sh embedding/build.sh ;;
-    each_request) sh checks/each_request.sh "$geosvm" "$refusals" ;;
+    embedding) sh embedding/build.sh ;;
+    each_request) sh checks/each_request.sh "$geosvm" "$refusals" $requests ;;
     failing_calls) python3 checks/failing_calls.py "$geosvm" "$geosdoc" ;;
     dumped_documents) python3 checks/dumped_documents.py "$geosvm" "$geosdoc" $documents ;;
-    limits) python3 checks/limits.py "$geosvm" "$geosdoc" ;;
+    limits) python3 checks/limits.py "$geosvm" "$geosdoc" $long ;;
     lent_bytes) sh checks/lent_bytes.sh ;;
     stat_counted) python3 checks/stat_counted.py "$geosvm" "$geosdoc" $documents ;;
     changed_bytes) python3 checks/changed_bytes.py "$geosvm" "$geosdoc" crates/geosdoc/data/small_document.bin $every ;;
@@ -44,20 +47,42 @@ check() {
     commands_listed) sh checks/commands_listed.sh ;;
     # It links the library that `embedding` has made.
     failing_calls_from_c)
-        python3 checks/failing_calls.py "$geosvm" "$geosdoc" --library embedding/out/libgeosvm.a "$(dirname "$(rt doc)")/c/liblibc_c.a" ;;
+        python3 checks/failing_calls.py "$geosvm" "$geosdoc" --library embedding/out/libgeosvm.a "$(dirname "$(rt doc)")/c/liblibc_c.a"
+        ;;
     *) echo "there is no check $1"; return 2 ;;
     esac
 }
-# Those of the gate, and the others.
-first="program_ends made_beside ways_to_start pages_checked bench prompts commands_listed"
-second=
-others="embedding limits each_request failing_calls dumped_documents lent_bytes stat_counted changed_bytes"
-last=failing_calls_from_c
+# Those that take longest come first, and behind them what needs one of them.
+first="embedding lent_bytes each_request failing_calls limits dumped_documents bench made_beside stat_counted changed_bytes"
+first="$first program_ends pages_checked ways_to_start prompts commands_listed"
+second=failing_calls_from_c
+
+# script_of NAME: the file of a check.
+script_of() {
+    case $1 in
+    embedding) echo embedding/build.sh ;;
+    bench) echo bench/test_workloads.py ;;
+    failing_calls_from_c) echo checks/failing_calls.py ;;
+    *) find checks -name "$1.py" -o -name "$1.sh" ;;
+    esac
+}
+
+# has_needs NAME: whether the machine has what the first line of its file names
+has_needs() {
+    script=$(script_of "$1")
+    [ -f "$script" ] || return 0
+    needs=$(sed -n 's/^# Needs: //p' "$script" | head -n 1)
+    echo "needs: ${needs:-nothing, it says nowhere what}"
+    [ "$needs" ] || return 1
+    for need in $needs; do
+        command -v "$need" >/dev/null || { echo "there is no $need"; return 1; }
+    done
+}
 
 # Runs one check, and tells what it came to.
 if [ "${1:-}" = --one ]; then
     began=$(date +%s)
-    check "$2" >"$3/$2" 2>&1 </dev/null
+    { has_needs "$2" && check "$2"; } >"$3/$2" 2>&1 </dev/null
     status=$?
     took=$(($(date +%s) - began))
     if [ "$status" = 0 ]; then
@@ -84,19 +109,18 @@ named=
 for word in "$@"; do
     case $word in
     --checks) proves= ;;
-    --all)
-        first="$others $first"
-        second=$last
-        ;;
     --long) export LONG=yes ;;
-    -*) echo "usage: sh test.sh [--checks [NAME..]] [--all] [--long]" >&2; exit 2 ;;
+    -*) echo "usage: sh test.sh [--checks [NAME..]] [--long]" >&2; exit 2 ;;
     *) named="$named $word" ;;
     esac
 done
 if [ "$named" ]; then
     proves=
-    first=$named
+    first=
     second=
+    for name in $named; do
+        if [ "$name" = failing_calls_from_c ]; then second=$name; else first="$first $name"; fi
+    done
 fi
 
 folder=$(mktemp -d)

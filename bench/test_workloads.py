@@ -1,3 +1,4 @@
+# Needs: python3
 """Tests of the models, of the workloads and of the runner: `python3 -m unittest` in this folder.
 
 Where the environment variable GEOSVM names a built program, it is run on a small script of each workload too.

@@ -1,5 +1,5 @@
 #!/bin/sh
-# Needs: nothing but sh
+# Needs: sh
 # Compares the commands that SCRIPT.md lists, and their operands there, with the rows of the program's table, which its parser and its
 # help read. It prints what stands in one of the two alone: "<" in SCRIPT.md, ">" in the table; and how many commands it compared.
 #

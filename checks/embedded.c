@@ -29,13 +29,21 @@ static int refused(const char *what, int32_t code) {
   return 1;
 }
 
+/* open, again where a signal interrupts it */
+static int opens(const char *path, int flags) {
+  int file;
+  do file = open(path, flags, 0666);
+  while (file < 0 && errno == EINTR);
+  return file;
+}
+
 /* The descriptor of a file that is locked, and whose name is on the disk where it was made; less than 0 where it can't be had. */
 static int opened(const char *path, int flags) {
   int folder, status;
-  const int file = open(path, O_RDWR | flags, 0666);
+  const int file = opens(path, O_RDWR | flags);
   if (file < 0) return -1;
   if (flags & O_CREAT) {
-    if ((folder = open(".", O_RDONLY | O_DIRECTORY)) < 0) return -1;
+    if ((folder = opens(".", O_RDONLY | O_DIRECTORY)) < 0) return -1;
     do status = fsync(folder);
     while (status < 0 && errno == EINTR);
     if (status < 0) return -1;

@@ -41,6 +41,8 @@ HOWS = {
 }
 # A failure of these is no failure of the program: a file is closed all the same, and a lock goes with it.
 HARMLESS = {"close", "unlink", "lseek", "fchmod", "fchown"}
+# Syncs are only counted, so that no disk needs to be waited for.
+ROOMS = "/dev/shm" if os.access("/dev/shm", os.W_OK | os.X_OK) else None
 
 
 class Call:
@@ -229,32 +231,34 @@ def replies_of(calls):
     return sum(bytes.fromhex(call.more).count(b"\n") for call in calls if call.name == "write" and call.kind == "output" and call.result > 0)
 
 
+def made(geosvm, path, script):
+    """The bytes of a new document."""
+    subprocess.run([*geosvm, "--new", path], input=script.encode(), stdout=subprocess.DEVNULL, check=True)
+    with open(path, "rb") as file:
+        return file.read()
+
+
 class Scenario:
     """A program on a file, with a script."""
 
     def __init__(self, name, words, script, file=SAVED, target=None, makes=False, opens=True):
         self.name, self.words, self.script, self.file, self.target, self.makes = name, words, script, file, target, makes
         self.opens = opens
+        self.files = None
 
     def prepare(self, geosvm, folder):
+        """The files of a run, anew; the program makes them once."""
         shutil.rmtree(folder, ignore_errors=True)
         os.makedirs(folder)
-        for name, script in (("document", self.file), ("target", self.target)):
-            if script is None:
-                continue
-            path = os.path.join(folder, name)
-            if isinstance(script, bytes):
-                with open(path, "wb") as file:
-                    file.write(script)
-            else:
-                subprocess.run([*geosvm, "--new", path], input=script.encode(), stdout=subprocess.DEVNULL, check=True)
-        with open(os.path.join(folder, "other"), "wb") as file:
-            file.write(OTHER)
-        files = {}
-        for name in os.listdir(folder):
-            with open(os.path.join(folder, name), "rb") as file:
-                files[name] = file.read()
-        return files
+        if self.files is None:
+            self.files = {"other": OTHER}
+            for name, script in (("document", self.file), ("target", self.target)):
+                if script is not None:
+                    self.files[name] = script if isinstance(script, bytes) else made(geosvm, os.path.join(folder, name), script)
+        for name, content in self.files.items():
+            with open(os.path.join(folder, name), "wb") as file:
+                file.write(content)
+        return self.files
 
     def fails_as(self, call, how, number=1):
         """What is to be told: "well", "refused" where something has to be, "any" where it needn't, or just that."""
@@ -321,15 +325,13 @@ def judge_stops(scenario, folder, files, ran, machine, before):
     is_in_place = not any(call.name == "rename" and call.result == 0 for call in ran.calls) and any(
         call.result < 0 and call.result != -errno.ENOENT and call.name in ("flock", "open", "stat", "rename") for call in ran.calls)
     replies = ran.output.splitlines()
-    seen = set()
+    seen, allowed, allowed_for, told = set(), [], None, 0
     for at, call in enumerate(ran.calls):
         machine.happens(call)
-        told = replies_of(ran.calls[:at + 1])
+        told += replies_of([call])
         has_begun = has_begun or told > 0
-        session, target = sessions_of(scenario.script, replies[:told], None if scenario.makes else before)
-        # What was carried out and isn't told yet may be there.
-        allowed = [*session.allowed(), *later(scenario.script, replies, told, None if scenario.makes else before)]
-        allowed = [pair for pair in allowed if pair]
+        if told != allowed_for:
+            allowed, allowed_for = allowed_behind(scenario.script, replies, told, None if scenario.makes else before), told
         for content in machine.left("document"):
             key = content, told
             if key in seen:
@@ -351,6 +353,12 @@ def judge_stops(scenario, folder, files, ran, machine, before):
                     continue
                 return f"a stop behind call {at} ({call.name} {call.kind}), {told} replies, leaves {pair}, and not one of {allowed}"
     return None
+
+
+def allowed_behind(script, replies, told, before):
+    """What a file may have where so many replies are told. What was carried out and isn't told yet may be there."""
+    session, _ = sessions_of(script, replies[:told], before)
+    return [pair for pair in (*session.allowed(), *later(script, replies, told, before)) if pair]
 
 
 def later(script, replies, told, before):
@@ -505,7 +513,7 @@ def compiled(room, name, *words):
 def main():
     checks = Checks()
     geosvm, geosdoc, *rest = map(os.path.abspath, (word for word in sys.argv[1:] if word != "--library"))
-    with tempfile.TemporaryDirectory() as room:
+    with tempfile.TemporaryDirectory(dir=ROOMS) as room:
         library = compiled(room, "failing_calls", "-shared", "-fPIC")
         if rest:
             embedding = os.path.join(HERE, "..", "embedding")

@@ -1,5 +1,5 @@
 #!/bin/sh
-# Needs: git, and rt of the Rattle kit
+# Needs: git rt
 # Tries the changes of the code in crates/*/further-edits, which the prover must refuse, in a copy of the crates.
 # They are no part of the gate: most are of functions that only their own crate calls, and where the contract of such a one is too weak
 # the proof of a public one fails. Of a change in must-fail, which rt ci tries, that isn't so.

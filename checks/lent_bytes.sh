@@ -1,5 +1,5 @@
 #!/bin/sh
-# Needs: git, and rt of the Rattle kit
+# Needs: git rt
 # Bytes that are lent of a locked block are held by a borrow of the session: while they are used, nothing can be edited. So the compiler
 # must refuse the functions below whose names begin with `late`, and no others. It stops at the borrow, before anything is proved, so that
 # no must-fail edit can say it.
@@ -46,39 +46,27 @@ END
 
 look='if let Some(bytes) = lent { count = bytes.len(); }'
 edit='let _done = session.edit(&Edit::SetMap(VmHandle(0)));'
-try() {
-    {
-        echo '#![tactic(auto)]'
-        echo 'use geos_model::{ChunkHandle, Edit, VmHandle};'
-        echo 'use undo_log::Session;'
-        echo 'use vm_store::MemStore;'
-        functions "$@"
-        echo '#[test]'
-        echo 'fn is_read() {}'
-    } >src/lib.rt
-    rt try --test 2>&1 || true
-}
+{
+    echo '#![tactic(auto)]'
+    echo 'use geos_model::{ChunkHandle, Edit, VmHandle};'
+    echo 'use undo_log::Session;'
+    echo 'use vm_store::MemStore;'
+    functions early "$look" "$edit"
+    functions late "$edit" "$look"
+    echo '#[test]'
+    echo 'fn is_read() {}'
+} >src/lib.rt
+told=$(rt try --test 2>&1 || true)
 
-early=$(try early "$look" "$edit")
-late=$(try late "$edit" "$look")
-passed=0
-failed=0
-case $early in
-*error*)
-    echo "FAILED  an edit behind the last use of the bytes is refused: $early"
-    failed=$((failed + 1))
-    ;;
-*)
-    echo "ok      an edit behind the last use of the bytes is taken"
-    passed=$((passed + 1))
-    ;;
-esac
-if [ "$(printf '%s\n' "$late" | grep -c 'error\[borrow-e0502\]')" = 2 ]; then
-    echo "ok      an edit while the bytes are used is refused, of a raw block and of a chunk"
-    passed=$((passed + 1))
+# The edits of the functions that begin with `late`, each of which has to be refused by the borrow; nothing else is.
+wanted=$(awk -v edit="    $edit" '/^pub fn late/ { late = 1 } /^}/ { late = 0 } late && $0 == edit { print "src/lib.rt:" NR }' src/lib.rt)
+refused=$(printf '%s\n' "$told" | sed -n 's/^\(src.lib.rt:[0-9]*\):.*error\[borrow-e0502\].*/\1/p')
+errors=$(printf '%s\n' "$told" | grep -c error || true)
+if [ "$(printf '%s\n' "$wanted" | wc -l)" = 2 ] && [ "$refused" = "$wanted" ] && [ "$errors" = 2 ]; then
+    echo "ok      an edit while the bytes are used is refused, of a raw block and of a chunk; one behind their last use is taken"
+    echo "1 passed, 0 failed"
 else
-    echo "FAILED  an edit while the bytes are used is not refused by the borrow: $late"
-    failed=$((failed + 1))
+    echo "FAILED  refused are not the two edits while the bytes are used and those alone: $told"
+    echo "0 passed, 1 failed"
+    exit 1
 fi
-echo "$passed passed, $failed failed"
-[ "$failed" = 0 ]

@@ -1,7 +1,9 @@
 # Needs: python3
 """Runs that are ten times as long, and files ten times as large, as those that the tests of the crates try. Each reply is looked at.
 
-    python3 checks/limits.py GEOSVM GEOSDOC [NAME..]
+    python3 checks/limits.py GEOSVM GEOSDOC [--long] [NAME..]
+
+Each commit waits for the disk, so there are fewer of them but for `--long`.
 """
 import json
 import os
@@ -10,7 +12,7 @@ import sys
 import tempfile
 import time
 
-COMMITS = 10_000
+COMMITS = 10_000 if "--long" in sys.argv else 2_000
 STEPS = 327_520
 GROUP = 20_000
 BLOCKS = 660
@@ -164,9 +166,10 @@ TRIED = {it.__name__: it for it in (many_commits, many_steps, large_groups, larg
 
 
 def main():
-    geosvm, geosdoc = map(os.path.abspath, sys.argv[1:3])
+    geosvm, geosdoc, *names = [word for word in sys.argv[1:] if word != "--long"]
+    geosvm, geosdoc = map(os.path.abspath, (geosvm, geosdoc))
     passed = failed = 0
-    for name in sys.argv[3:] or TRIED:
+    for name in names or TRIED:
         began = time.monotonic()
         with tempfile.TemporaryDirectory() as folder:
             try:

@@ -1,6 +1,7 @@
 #!/bin/sh
-# Needs: gcc. Tries on the built program that a document which is made anew, by --new or by a saveas, is made beside the old one and
-# takes its place when it is whole: the old one stays wherever that is refused, with its owner, its mode and its links.
+# Needs: gcc
+# Tries on the built program that a document which is made anew, by --new or by a saveas, is made beside the old one and takes its
+# place when it is whole: the old one stays wherever that is refused, with its owner, its mode and its links.
 #
 #     sh checks/made_beside.sh crates/geosvm/out/geosvm
 set -u

@@ -1,5 +1,5 @@
 #!/bin/sh
-# Needs: file groff man-db
+# Needs: file groff man
 # Looks over the pages for newcomers: that the manual pages are in order, that geosvm.1 has the commands of SCRIPT.md, that the magic
 # lines tell a document, and that the commands and replies of TUTORIAL.md are those of its scripts. With a program it runs these scripts
 # too, on files.

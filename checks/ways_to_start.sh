@@ -1,5 +1,5 @@
 #!/bin/sh
-# Needs: nothing but sh
+# Needs: sh
 # Starts geosvm in the ways in which a document could be touched that shouldn't be: with closed standard streams, beside another
 # geosvm on the same file, and with FILE2 as another name of FILE. Each try looks at the exit status, at what was told, and at the
 # document, byte by byte; help and the version are asked for where they can't be written. With geosdoc too, it starts its restore with

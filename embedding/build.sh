@@ -1,7 +1,8 @@
 #!/bin/sh
+# Needs: rt gcc g++ ar objcopy rustc python3 valgrind
 # Proves and builds the library, builds the examples, runs these in a folder of their own, and compares what they print with *.output
-# beside this script. With valgrind, where it is there, it also looks for leaks and bad accesses, and with python3 it compares the
-# prototypes of geosvm.h with the exports. `--keep` writes *.output.
+# beside this script. By hand it can be run without the last two of these: with valgrind it also looks for leaks and bad accesses, and
+# with python3 it compares the prototypes of geosvm.h with the exports. `--keep` writes *.output.
 # KIT is the folder of the Rattle kit, found by `rt doc` where it isn't set.
 set -e
 here=$(cd "$(dirname "$0")" && pwd)
