@@ -214,7 +214,12 @@ impl Patch {
         ensures { IsTrue result ↔ ArePiecesOf (directed_pieces direction self.now) bytes.now }
     {
         let pieces = &*self.pieces;
-        are_of(pieces.spans.as_slice(), pieces.content.as_slice(), bytes, direction)
+        are_of(
+            pieces.spans.as_slice(),
+            pieces.content.as_slice(),
+            bytes,
+            direction,
+        )
     }
 }
 

@@ -80,14 +80,14 @@ module _ {S : Type 0} (direction : Direction) (cs : List Change) (old : CacheSta
 
     pub goes_on : (new : CacheState S) → IsReversible direction change now → new ≡ carried one now → UnderWay direction cs k old new
     goes_on new reversible is_new = subst (UnderWay direction cs k old) (sym is_new) (
-      let again : carried (directed (opposite direction) change) (carried one now) ≡ now = ap (λ (d : Document). record now { document = d }) reversible.gives in
-      record {
-        within = (let within = w.within in omega (arith, within));
-        state = ap (λ (s : CacheState S). record s { document = in_place one now.document }) w.state;
-        listed = both_listed.1;
-        made = ap (λ (xs : List Change). all_in_place xs now.document) (sym left) ∙ w.made;
-        fit = λ fit. (subst (λ (xs : List Change). AllFit xs now.document) left (w.fit fit)).1;
-        here = λ here. all_in_memory_on others one now both_listed.0 (subst (λ (xs : List Change). AreInMemory xs now) left (w.here here)).1;
-        can = subst (λ (xs : List Change). CanTakeBack direction xs (carried one now)) (sym done) (reversible.back, subst (CanTakeBack direction (drop rest cs)) (sym again) w.can);
-        back = ap (λ (xs : List Change). taken_back direction xs (carried one now)) done ∙ ap (taken_back direction (drop rest cs)) again ∙ w.back;
-      })
+        let again : carried (directed (opposite direction) change) (carried one now) ≡ now = ap (λ (d : Document). record now { document = d }) reversible.gives in
+        record {
+          within = (let within = w.within in omega (arith, within));
+          state = ap (λ (s : CacheState S). record s { document = in_place one now.document }) w.state;
+          listed = both_listed.1;
+          made = ap (λ (xs : List Change). all_in_place xs now.document) (sym left) ∙ w.made;
+          fit = λ fit. (subst (λ (xs : List Change). AllFit xs now.document) left (w.fit fit)).1;
+          here = λ here. all_in_memory_on others one now both_listed.0 (subst (λ (xs : List Change). AreInMemory xs now) left (w.here here)).1;
+          can = subst (λ (xs : List Change). CanTakeBack direction xs (carried one now)) (sym done) (reversible.back, subst (CanTakeBack direction (drop rest cs)) (sym again) w.can);
+          back = ap (λ (xs : List Change). taken_back direction xs (carried one now)) done ∙ ap (taken_back direction (drop rest cs)) again ∙ w.back;
+        })

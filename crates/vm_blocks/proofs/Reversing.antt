@@ -113,8 +113,8 @@ module _ (b : ℕ) (was new : Attributes) (d : Document) (live : is_live d b ≡
   attributes_back = subst (λ (x : Document). (is_live x b ≡ true) × (with_attributes x b (attributes_for_kind (is_heap x b) was) ≡ d)) (sym after_is) (
     rw remade_there refl,
     attributes_with b was (with_block d b remade) remade remade_there
-    ∙ ap (λ (a : Attributes). with_block (with_block d b remade) b (record block { attributes = a })) (attributes_for_kind-same (is_heap_body block.body) was fits ∙ sym had_is)
-    ∙ old_back d b block remade stands,
+        ∙ ap (λ (a : Attributes). with_block (with_block d b remade) b (record block { attributes = a })) (attributes_for_kind-same (is_heap_body block.body) was fits ∙ sym had_is)
+        ∙ old_back d b block remade stands,
   )
 
 pub attributes_reverse : {S : Type 0} (h : VmHandle) (old new : Attributes) (state : CacheState S) → is_live state.document h.0 ≡ true → IsTyped (is_heap state.document h.0) (attributes_of state.document h.0)

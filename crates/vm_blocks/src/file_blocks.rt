@@ -677,7 +677,12 @@ impl<S: Store> FileBlocks<S> {
     }
 
     /// Changes the body of a block in memory in place.
-    pub(crate) fn carry_out_part(&mut self, handle: VmHandle, part: &PartChange, direction: Direction)
+    pub(crate) fn carry_out_part(
+        &mut self,
+        handle: VmHandle,
+        part: &PartChange,
+        direction: Direction,
+    )
         requires loaded { is_loaded self.old handle.0 ≡ true }
         requires takes { AllowsPart (directed_part direction part.now) (block_at self.old.document handle.0).body }
         ensures { self.new
@@ -707,8 +712,10 @@ impl<S: Store> FileBlocks<S> {
     /// Gives a block these attributes, of which only a heap has a type.
     pub(crate) fn put_attributes(&mut self, handle: VmHandle, attributes: Attributes)
         requires { is_live self.old.document handle.0 ≡ true }
-        ensures { self.new ≡ record self.old { document = with_attributes self.old.document handle.0
-            (attributes_for_kind (is_heap self.old.document handle.0) attributes) } }
+        ensures { self.new ≡ record self.old {
+          document = with_attributes self.old.document handle.0
+              (attributes_for_kind (is_heap self.old.document handle.0) attributes);
+        } }
     {
         let given = attributes_for_kind(self.is_heap(handle), attributes);
         self.cache.set_attributes(handle, given);

@@ -126,7 +126,8 @@ fn carry_out_all<S: Store>(
 ) -> bool
     requires { AreListed (directed_all direction changes.now) blocks.old.document }
     ensures all { result ≡ true → blocks.new ≡ record blocks.old {
-        document = all_in_place (directed_all direction changes.now) blocks.old.document } }
+      document = all_in_place (directed_all direction changes.now) blocks.old.document;
+    } }
     ensures none { result ≡ false → (blocks.new ≡ blocks.old)
         × (AreInMemory (directed_all direction changes.now) blocks.old
         → AllFit (directed_all direction changes.now) blocks.old.document → ⊥) }

@@ -54,7 +54,7 @@ returns-then-done-clause-sure g c = λ none here applies.
       ap (λ b. Ok b) c.if-done.true,
       c.take_out_all.ensures.disk ∙ ap (λ (s : CacheState g.row.S.Denot). s.disk) is ∙ stays.disk,
       c.take_out_all.ensures.document ∙ ap (λ (s : CacheState g.row.S.Denot). without_blocks s.document (all_outgoing all)) is
-      ∙ all_settled all mid.document listed none ∙ ap (after_changes all) stays.document,
+          ∙ all_settled all mid.document listed none ∙ ap (after_changes all) stays.document,
     )
 
 pub returns-else-done-clause-sure : goal.returns-else-done-clause-sure

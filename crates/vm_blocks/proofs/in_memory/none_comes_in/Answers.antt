@@ -16,10 +16,12 @@ loop-change-init c = (λ none. none, λ none. none)
 pub returns-then-brings_in : goal.returns-then-brings_in
 returns-then-brings_in c =
     let l = c.loop-change in
-    let t = YieldsList-turn (YieldsList-from_rev_slice c.args.changes.now cc) l.yielded _ l.yielded_by _ _ c.in-Some.change c.in-Some.is c.next.ensures.steps in
-    (λ wrong. absurd (cc wrong), λ none.
-        let next = subst (λ (xs : List Change). NoneComesIn xs) (left_more c.args.direction c.args.changes.now (length l.yielded) c.in-Some.change.now t) (l.invariant.1 none) in
-        absurd (true≢false (sym c.if-brings_in.true ∙ c.brings_in.ensures.1 next.0)))
+    let t = YieldsList-turn (YieldsList-from_rev_slice c.args.changes.now cc) l.yielded _ l.yielded_by _ _ c.in-Some.change c.in-Some.is c.next.ensures.steps in (
+      λ wrong. absurd (cc wrong),
+      λ none.
+          let next = subst (λ (xs : List Change). NoneComesIn xs) (left_more c.args.direction c.args.changes.now (length l.yielded) c.in-Some.change.now t) (l.invariant.1 none) in
+          absurd (true≢false (sym c.if-brings_in.true ∙ c.brings_in.ensures.1 next.0)),
+    )
 
 pub loop-change-preserved : goal.loop-change-preserved
 loop-change-preserved c =

@@ -94,12 +94,12 @@ returns-in_err-take_back-clause-sure g c =
     let old = session_with blocks log in
     let new = session_with c.take_back.new.blocks log in
     subst (λ (s : SessionState g.row.S.Denot). abandon_fault s ≡ None → IsSureGroup facts s Backwards (open_changes s.log.group)
-        → IsOk c.from_residual.result × (new.disk ≡ s.disk) × (new.document ≡ before s.log.group s.document)) c.self.view_is
+    → IsOk c.from_residual.result × (new.disk ≡ s.disk) × (new.document ≡ before s.log.group s.document)) c.self.view_is
     (λ free sure.
-        let can = group_can facts old new (open_changes log.group) (abandon_free old free).0 sure.exact in
-        let taken = subst (λ (xs : List Change). NoneComesIn (map (directed Backwards) xs) → AreInMemory (map (directed Backwards) xs) blocks → CanApplyAll Backwards xs blocks.document
-            → IsOk {T = Unit {0}} (Err e.field-0.0) × (c.take_back.new.blocks.disk ≡ blocks.disk) × (c.take_back.new.blocks.document ≡ after_all Backwards xs blocks.document)) c.group.ensures e.ensures.sure in
-        absurd (cc (taken sure.none_comes_in sure.in_memory can).0))
+    let can = group_can facts old new (open_changes log.group) (abandon_free old free).0 sure.exact in
+    let taken = subst (λ (xs : List Change). NoneComesIn (map (directed Backwards) xs) → AreInMemory (map (directed Backwards) xs) blocks → CanApplyAll Backwards xs blocks.document
+    → IsOk {T = Unit {0}} (Err e.field-0.0) × (c.take_back.new.blocks.disk ≡ blocks.disk) × (c.take_back.new.blocks.document ≡ after_all Backwards xs blocks.document)) c.group.ensures e.ensures.sure in
+    absurd (cc (taken sure.none_comes_in sure.in_memory can).0))
 
 pub returns-clause-sure : goal.returns-clause-sure
 returns-clause-sure g c =
@@ -108,9 +108,9 @@ returns-clause-sure g c =
     let old = session_with blocks log in
     let new = session_with c.take_back.new.blocks c.forget_group.new.self.lists in
     subst (λ (s : SessionState g.row.S.Denot). abandon_fault s ≡ None → IsSureGroup facts s Backwards (open_changes s.log.group)
-        → IsOk {E = Fault} (Ok (tt {0})) × (new.disk ≡ s.disk) × (new.document ≡ before s.log.group s.document)) c.self.view_is
+    → IsOk {E = Fault} (Ok (tt {0})) × (new.disk ≡ s.disk) × (new.document ≡ before s.log.group s.document)) c.self.view_is
     (λ free sure.
-        let can = group_can facts old new (open_changes log.group) (abandon_free old free).0 sure.exact in
-        let taken = subst (λ (xs : List Change). NoneComesIn (map (directed Backwards) xs) → AreInMemory (map (directed Backwards) xs) blocks → CanApplyAll Backwards xs blocks.document
-            → IsOk c.take_back.result × (c.take_back.new.blocks.disk ≡ blocks.disk) × (c.take_back.new.blocks.document ≡ after_all Backwards xs blocks.document)) c.group.ensures c.take_back.ensures.sure in
-        let made = taken sure.none_comes_in sure.in_memory can in (refl, made.1, made.2))
+    let can = group_can facts old new (open_changes log.group) (abandon_free old free).0 sure.exact in
+    let taken = subst (λ (xs : List Change). NoneComesIn (map (directed Backwards) xs) → AreInMemory (map (directed Backwards) xs) blocks → CanApplyAll Backwards xs blocks.document
+    → IsOk c.take_back.result × (c.take_back.new.blocks.disk ≡ blocks.disk) × (c.take_back.new.blocks.document ≡ after_all Backwards xs blocks.document)) c.group.ensures c.take_back.ensures.sure in
+    let made = taken sure.none_comes_in sure.in_memory can in (refl, made.1, made.2))
