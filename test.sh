@@ -16,11 +16,14 @@ geosvm=$(program geosvm geosvm)
 geosdoc=$(program geosdoc geosdoc)
 refusals=$(program refusal_tests_tests refusal_tests)
 
-# How many documents are made by chance, and of how many bytes of a file each is changed.
-documents=100
+# How many documents are made by chance, how often edits are made by chance, and of how many bytes of a file each is changed.
+documents=12
+times=10
 every=10
+[ "${ALL:-}" ] && documents=100
 if [ "${LONG:-}" ]; then
     documents=1000
+    times=200
     every=1
 fi
 
@@ -33,6 +36,10 @@ check() {
     dumped_documents) python3 checks/dumped_documents.py "$geosvm" "$geosdoc" $documents ;;
     limits) python3 checks/limits.py "$geosvm" "$geosdoc" ;;
     lent_bytes) sh checks/lent_bytes.sh ;;
+    heap_by_chance) python3 checks/heap_by_chance.py "$geosvm" $((times * 1000)) ;;
+    memory_given_back) python3 checks/memory_given_back.py "$geosvm" ;;
+    edits_by_chance) python3 checks/edits_by_chance.py "$geosvm" $times ;;
+    looks) python3 checks/looks.py "$geosvm" "$geosdoc" ;;
     stat_counted) python3 checks/stat_counted.py "$geosvm" "$geosdoc" $documents ;;
     changed_bytes) python3 checks/changed_bytes.py "$geosvm" "$geosdoc" crates/geosdoc/data/small_document.bin $every ;;
     bench) (cd bench && GEOSVM=$geosvm python3 -m unittest) ;;
@@ -49,9 +56,10 @@ check() {
     esac
 }
 # Those of the gate, and the others.
-first="program_ends made_beside ways_to_start pages_checked bench prompts commands_listed"
+first="edits_by_chance memory_given_back dumped_documents looks heap_by_chance stat_counted
+    program_ends made_beside ways_to_start pages_checked bench prompts commands_listed"
 second=
-others="embedding limits each_request failing_calls dumped_documents lent_bytes stat_counted changed_bytes"
+others="embedding limits each_request failing_calls lent_bytes changed_bytes"
 last=failing_calls_from_c
 
 # Runs one check, and tells what it came to.
@@ -85,6 +93,7 @@ for word in "$@"; do
     case $word in
     --checks) proves= ;;
     --all)
+        export ALL=yes
         first="$others $first"
         second=$last
         ;;
