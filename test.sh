@@ -15,13 +15,16 @@ geosvm=$(program geosvm geosvm)
 geosdoc=$(program geosdoc geosdoc)
 refusals=$(program refusal_tests_tests refusal_tests)
 
-# How many documents are made by chance, of how many bytes of a file each is changed, and which requests for memory are refused.
+# How many documents are made by chance, how often edits are, of how many bytes of a file each is changed, and which requests for memory
+# are refused.
 documents=100
+times=10
 every=4
 requests=5
 long=
 if [ "${LONG:-}" ]; then
     documents=1000
+    times=200
     every=1
     requests=1
     long=--long
@@ -36,6 +39,10 @@ check() {
     dumped_documents) python3 checks/dumped_documents.py "$geosvm" "$geosdoc" $documents ;;
     limits) python3 checks/limits.py "$geosvm" "$geosdoc" $long ;;
     lent_bytes) sh checks/lent_bytes.sh ;;
+    heap_by_chance) python3 checks/heap_by_chance.py "$geosvm" $((times * 1000)) ;;
+    memory_given_back) python3 checks/memory_given_back.py "$geosvm" ;;
+    edits_by_chance) python3 checks/edits_by_chance.py "$geosvm" $times ;;
+    looks) python3 checks/looks.py "$geosvm" "$geosdoc" ;;
     stat_counted) python3 checks/stat_counted.py "$geosvm" "$geosdoc" $documents ;;
     changed_bytes) python3 checks/changed_bytes.py "$geosvm" "$geosdoc" crates/geosdoc/data/small_document.bin $every ;;
     bench) (cd bench && GEOSVM=$geosvm python3 -m unittest) ;;
@@ -53,8 +60,8 @@ check() {
     esac
 }
 # Those that take longest come first, and behind them what needs one of them.
-first="embedding lent_bytes each_request failing_calls limits dumped_documents bench made_beside stat_counted changed_bytes"
-first="$first program_ends pages_checked ways_to_start prompts commands_listed"
+first="embedding lent_bytes each_request failing_calls limits dumped_documents looks memory_given_back edits_by_chance heap_by_chance bench"
+first="$first made_beside stat_counted changed_bytes program_ends pages_checked ways_to_start prompts commands_listed"
 second=failing_calls_from_c
 
 # script_of NAME: the file of a check.

@@ -1,6 +1,5 @@
 //! The calls of a heap.
 use crate::asserting::same_number;
-use crate::plain_chunks::handle_of;
 use geos_model::ChunkHandle;
 use lmem_heap::Heap;
 use std::alloc::{AllocError, Global};
@@ -216,14 +215,13 @@ fn a_chunk_grows_by_single_bytes_into_all_the_room_between_others(
 
 // An empty chunk under the greatest handle, where one with a byte doesn't fit.
 fn last_put(heap: &mut Heap) -> bool {
-    let greatest = handle_of(32_751);
-    if greatest != GREATEST || heap.chunk(greatest).is_some() {
+    if heap.chunk(GREATEST).is_some() {
         return false;
     }
-    if !heap.fits_at(greatest, 0) || heap.fits_at(greatest, 1) {
+    if !heap.fits_at(GREATEST, 0) || heap.fits_at(GREATEST, 1) {
         return false;
     }
-    heap.alloc_at(greatest, 0);
+    heap.alloc_at(GREATEST, 0);
     true
 }
 

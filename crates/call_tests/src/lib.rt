@@ -16,17 +16,7 @@ mod marks;
 #[cfg(test)]
 mod memory;
 #[cfg(test)]
-mod paired_calls;
-#[cfg(test)]
 mod patches;
-#[cfg(test)]
-mod places;
-#[cfg(test)]
-mod plain_chunks;
-#[cfg(test)]
-mod random;
-#[cfg(test)]
-mod random_heaps;
 #[cfg(test)]
 mod regions;
 #[cfg(test)]

@@ -15,8 +15,3 @@ pub(crate) fn same_number(rt: &impl Abort, given: usize, wanted: usize) {
 pub(crate) fn are_some(rt: &impl Abort, crashes: usize) {
     assert!(rt; crashes > 0);
 }
-
-/// There were, behind so many calls of a store.
-pub(crate) fn are_some_behind(rt: &impl Abort, crashes: usize, calls: u64) {
-    assert!(rt; crashes > 0, "behind {calls} calls");
-}

@@ -19,9 +19,9 @@ pub(crate) struct Beside<S: Store> {
     pub(crate) former: Option<S>,
 }
 
-/// A session on a new file, or on the one that a store has, with so many frames; or what it is refused for, with the
-/// store.
-pub(crate) fn begun<S: Store>(
+// A session on a new file, or on the one that a store has, with so many frames; or what it is refused for, with the
+// store.
+fn begun<S: Store>(
     alloc: Global,
     store: S,
     frames: usize,
@@ -79,8 +79,6 @@ enum Mode {
 #[derive(Drop)]
 pub(crate) struct Driver {
     alloc: Global,
-    /// The file is made when it is opened the first time.
-    is_new: bool,
     mode: Mode,
     /// Which file's store fails.
     failing: Side,
@@ -110,32 +108,22 @@ const ROOM: usize = 4_096;
 impl Driver {
     /// Goes through a scenario a first time, on a new file.
     pub(crate) fn new(alloc: Global, scenario: &Scenario) -> Result<Driver, Fail> {
-        Driver::first(alloc, scenario, true, MemStore::new(alloc))
-    }
-
-    /// Goes through a scenario a first time, on a file that is there.
-    pub(crate) fn on(alloc: Global, scenario: &Scenario, file: MemStore) -> Result<Driver, Fail> {
-        Driver::first(alloc, scenario, false, file)
-    }
-
-    fn first(
-        alloc: Global,
-        scenario: &Scenario,
-        is_new: bool,
-        file: MemStore,
-    ) -> Result<Driver, Fail> {
-        let mut driver = Driver::empty(alloc, is_new)?;
-        driver.go(scenario, scenario.least, file, MemStore::new(alloc))?;
+        let mut driver = Driver::empty(alloc)?;
+        driver.go(
+            scenario,
+            scenario.least,
+            MemStore::new(alloc),
+            MemStore::new(alloc),
+        )?;
         Ok(driver)
     }
 
     // Has been through nothing.
-    fn empty(alloc: Global, is_new: bool) -> Result<Driver, AllocError> {
+    fn empty(alloc: Global) -> Result<Driver, AllocError> {
         let reply = Vec::with_capacity(alloc, ROOM)?;
         let state = Vec::with_capacity(alloc, ROOM)?;
         Ok(Driver {
             alloc,
-            is_new,
             mode: Mode::First,
             failing: Side::File,
             states: Vec::new(alloc),
@@ -227,7 +215,7 @@ impl Driver {
         store: S,
         beside: &mut Beside<S>,
     ) -> Result<S, Fail> {
-        let is_new = self.is_new && place == 0;
+        let is_new = place == 0;
         let last = last_of(scenario, place);
         self.open(store, frames, is_new, beside, text, last)
     }

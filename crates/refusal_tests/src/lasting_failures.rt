@@ -102,19 +102,14 @@ fn crash_with(
     Ok(are_all)
 }
 
-/// What stands where a write is lost.
-pub(crate) const FILLS: &[u8] = &[0, 1, 255];
+// What stands where a write is lost.
+const FILLS: &[u8] = &[0, 1, 255];
 
-/// More writes than there are between two syncs.
-pub(crate) const MANY: usize = 100;
+// More writes than there are between two syncs.
+const MANY: usize = 100;
 
-/// Looks at what each crash leaves. Gives how many there are, for each fill.
-pub(crate) fn crash(
-    alloc: Global,
-    driver: &Driver,
-    side: Side,
-    store: &MemStore,
-) -> Result<usize, Fail> {
+// Looks at what each crash leaves. Gives how many there are, for each fill.
+fn crash(alloc: Global, driver: &Driver, side: Side, store: &MemStore) -> Result<usize, Fail> {
     for keep in 0..MANY {
         if crash_with(alloc, driver, side, store, keep)? {
             return Ok(keep.saturating_add(1));
@@ -184,8 +179,8 @@ fn first_of(side: Side) -> u64 {
     }
 }
 
-/// The store calls that make a file.
-pub(crate) const MAKING: u64 = 7;
+// The store calls that make a file.
+const MAKING: u64 = 7;
 
 // Does so with the file and with the target, in so many frames.
 fn fail_and_crash_both(

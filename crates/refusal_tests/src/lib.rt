@@ -4,17 +4,11 @@
 #[cfg(test)]
 mod asserting;
 #[cfg(test)]
-mod by_chance;
-#[cfg(test)]
 mod committed;
 #[cfg(test)]
 mod driver;
 #[cfg(test)]
-mod going_on;
-#[cfg(test)]
 mod lasting_failures;
-#[cfg(test)]
-mod many_blocks;
 #[cfg(test)]
 mod memory;
 #[cfg(test)]

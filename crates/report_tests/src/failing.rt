@@ -1,5 +1,5 @@
 //! Checks and dumps over stores and writers that fail.
-use crate::files::{SMALL, dump_of, make, open};
+use crate::files::{open, small};
 use document_dump::{DumpFault, Which, dump};
 use file_report::check;
 use geos_model::Fault;
@@ -8,10 +8,6 @@ use std::io::{self, ErrorKind, Write};
 use std::process::Abort;
 use std::test::Fail;
 use vm_store::{FuseStore, MemStore};
-
-fn small(alloc: Global) -> Result<MemStore, Fail> {
-    Ok(make(alloc, SMALL.as_bytes())?.file)
-}
 
 // The small document's file, of which the call after so many fails.
 fn fused(alloc: Global, passes: u64) -> Result<FuseStore<MemStore>, Fail> {
@@ -113,7 +109,14 @@ fn end_in(alloc: Global, room: usize) -> Result<Option<DumpFault>, Fail> {
 
 // How many bytes it has.
 fn length(alloc: Global) -> Result<usize, Fail> {
-    Ok(dump_of(alloc, small(alloc)?.bytes(), Which::Both)?.len())
+    let mut text = Vec::new(alloc);
+    dump(
+        alloc,
+        &mut open(alloc, small(alloc)?)?,
+        Which::Both,
+        &mut text,
+    )?;
+    Ok(text.len())
 }
 
 #[test]

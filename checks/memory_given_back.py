@@ -1,0 +1,66 @@
+# Needs: python3
+"""Has blocks and chunks of the most bytes come and go, and looks at how much memory the program has at most: no more than where they come
+and go a few times.
+
+    python3 checks/memory_given_back.py GEOSVM [ROUNDS]
+"""
+import os
+import subprocess
+import sys
+import tempfile
+
+FULL_HEAP = ["newheap 0", "alloc 0001 65498"]
+# A name, what is done at first, what in each round, and what is asked at the end, with its reply.
+ROUNDS = [
+    ("raw blocks are made and undone", [], ["newraw 0 65520", "undo"], "list", "blocks"),
+    ("a raw block is undone and redone", ["newraw 0 65520"], ["undo", "redo"], "info 0001", "raw 0 65520"),
+    ("a full heap is undone and redone", FULL_HEAP, ["undo", "redo"], "info 0001", "heap 0 65520"),
+    ("a full heap is freed and comes back", FULL_HEAP, ["vfree 0001", "undo"], "info 0001", "heap 0 65520"),
+    ("a full heap is copied and the copy undone", FULL_HEAP, ["vcopy 0001", "undo"], "list", "blocks 0001"),
+    ("a chunk grows to the greatest size and back", ["newheap 0", "alloc 0001 0"], ["insert 0001 0010 0 65498", "undo"], "info 0001",
+     "heap 0 20"),
+]
+# In kB. A round that keeps a block adds 64 to it.
+MORE = 16000
+
+
+def most(geosvm, path, first, lines, rounds, last, reply):
+    """The most kB that the program had in memory."""
+    script = "\n".join(first + lines * rounds + [last]) + "\n"
+    # Of a program that is built to look at each access of memory: what it keeps back of what was freed.
+    environment = dict(os.environ, ASAN_OPTIONS="quarantine_size_mb=1")
+    with open(path + ".script", "w", encoding="ascii") as file:
+        file.write(script)
+    with open(path + ".script", encoding="ascii") as file, open(path + ".replies", "w+", encoding="ascii") as replies:
+        started = subprocess.Popen([geosvm, "--new", path], stdin=file, stdout=replies, env=environment)
+        _, status, usage = os.wait4(started.pid, 0)
+        started.returncode = os.waitstatus_to_exitcode(status)
+        replies.seek(0)
+        answers = replies.read().splitlines()
+    assert started.returncode == 0 and len(answers) == script.count("\n"), "a run ends before its script does"
+    refused = [answer for answer in answers if answer.startswith("no ")]
+    assert not refused and answers[-1] == reply, f"{refused[:1]}, {answers[-1]}"
+    return usage.ru_maxrss
+
+
+def main():
+    geosvm = os.path.abspath(sys.argv[1])
+    rounds = int(sys.argv[2]) if len(sys.argv) > 2 else 1000
+    passed = failed = 0
+    for name, first, lines, last, reply in ROUNDS:
+        with tempfile.TemporaryDirectory() as folder:
+            path = os.path.join(folder, "document")
+            try:
+                few = most(geosvm, path, first, lines, 20, last, reply)
+                many = most(geosvm, path, first, lines, rounds, last, reply)
+                assert many < few + MORE, f"{many} kB, and {few} in 20 rounds"
+                passed += 1
+            except AssertionError as wrong:
+                failed += 1
+                print(f"FAILED  {name}: {wrong}")
+    print(f"{passed} passed, {failed} failed")
+    sys.exit(failed != 0)
+
+
+if __name__ == "__main__":
+    main()
