@@ -33,7 +33,7 @@ fi
 # check NAME: runs it.
 check() {
     case $1 in
-    embedding) sh embedding/build.sh ;;
+    embedding) OVER_CI=yes sh embedding/build.sh ;;
     each_request) sh checks/each_request.sh "$geosvm" "$refusals" $requests ;;
     failing_calls) python3 checks/failing_calls.py "$geosvm" "$geosdoc" ;;
     dumped_documents) python3 checks/dumped_documents.py "$geosvm" "$geosdoc" $documents ;;

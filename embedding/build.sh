@@ -3,13 +3,14 @@
 # Proves and builds the library, builds the examples, runs these in a folder of their own, and compares what they print with *.output
 # beside this script. By hand it can be run without the last two of these: with valgrind it also looks for leaks and bad accesses, and
 # with python3 it compares the prototypes of geosvm.h with the exports. `--keep` writes *.output.
-# KIT is the folder of the Rattle kit, found by `rt doc` where it isn't set.
+# KIT is the folder of the Rattle kit, found by `rt doc` where it isn't set. With OVER_CI set the library is built over those that the last
+# `rt ci` left, in some minutes; `rt lib` would prove all of these once more.
 set -e
 here=$(cd "$(dirname "$0")" && pwd)
 crate=$here/../crates/geos_c
 kit=${KIT:-$(dirname "$(rt doc)")}
 if command -v python3 > /dev/null; then python3 "$here/prototypes.py"; fi
-(cd "$crate" && rt lib)
+if [ "${OVER_CI:-}" ]; then python3 "$here/library.py" "$crate"; else (cd "$crate" && rt lib); fi
 work=$(mktemp -d)
 trap 'rm -rf "$work"' EXIT
 cd "$work"
