@@ -83,7 +83,7 @@ fn push_open_line(out: &mut Vec<u8>, number: u8, report: &SlotReport) -> Result<
     push_numbered(out, b"open, version ", u64::from(report.slot.version))?;
     push_numbered(out, b", sequence ", report.slot.sequence)?;
     out.extend_from_slice(b": ")?;
-    push_stands(out, report.verdict)
+    Ok(push_stands(out, report.verdict)?)
 }
 
 fn push_closed(out: &mut Vec<u8>, slot: &Slot) -> Result<(), AllocError>
