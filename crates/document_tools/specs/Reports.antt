@@ -4,7 +4,6 @@ use Rattle.std.specs.List.{flat_map}
 use Rattle.std.specs.Fmt.{decimal}
 use Rattle.geos_model.specs.Refusal.{name_of_fault}
 use Rattle.geos_model.specs.declared.fault.Fault.{Fault}
-use Rattle.geos_model.specs.declared.file.Slot.{Slot}
 use Rattle.file_report.specs.Checked.{counting_number, opened}
 use Rattle.file_report.specs.Texts.{finding_text}
 use Rattle.file_report.specs.declared.checking.Report.{Report}

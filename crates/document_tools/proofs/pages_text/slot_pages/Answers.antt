@@ -1,4 +1,3 @@
-use Rattle.std.proofs.Common.{ap, ◌∙◌}
 use Rattle.document_tools.proofs.PageLemmas.{pages_told}
 use Rattle.document_tools.proofs.pages_text.slot_pages.Goals as goal
 
