@@ -1,0 +1,45 @@
+-- How a tool ends: what is told of that on standard error, and the exit status.
+use Rattle.std.specs.Prelude.{◌≡◌, ◌≢◌, ℕ, List, codes, Option, Some, None, Result, ⊤}
+use Rattle.geos_model.specs.declared.fault.Fault.{Fault}
+use Rattle.geos_model.specs.declared.fault.Fault.TheVariants.{Memory}
+use Rattle.geos_shell.specs.Streams.{Writes}
+use Rattle.geos_shell.specs.declared.streams.WriteFault.{WriteFault}
+use Rattle.document_tools.specs.Obstacles.{refusal_line}
+use Rattle.document_tools.specs.declared.ending.Ending.{Ending}
+use Rattle.document_tools.specs.declared.ending.Ending.TheVariants as endings
+use Rattle.document_tools.specs.declared.obstacle.Obstacle.{Obstacle}
+use Rattle.document_tools.specs.declared.obstacle.Obstacle.TheVariants.{Unread}
+
+-- the exit status
+abbrev pub status_of : Ending → ℕ
+status_of endings.Done = 0
+status_of endings.Unsound = 1
+status_of (endings.Refused line) = 1
+status_of endings.Memory = 1
+status_of endings.ReadFault = 1
+status_of endings.WriteFault = 1
+
+-- the line for standard error, if there is one
+abbrev pub told_line : Ending → Option (List ℕ)
+told_line endings.Done = None
+told_line endings.Unsound = None
+told_line (endings.Refused line) = Some line
+told_line endings.Memory = Some (codes "geosdoc: memory\n")
+told_line endings.ReadFault = Some (codes "geosdoc: read fault\n")
+told_line endings.WriteFault = Some (codes "geosdoc: write fault\n")
+
+-- a line is written, whatever comes of the write, or nothing where there is no line
+abbrev pub TellsLine : {E : Type 0} → Writes E → Option (List ℕ) → E → E → Type 0
+TellsLine writes None old new = new ≡ old
+TellsLine writes (Some line) old new = (result : Result (Unit {0}) WriteFault) × writes old line result new
+
+-- it is told that this stands against it, or that there is no memory for the line
+abbrev pub IsRefusedFor : List ℕ → Obstacle → Ending → Type 0
+IsRefusedFor file obstacle (endings.Refused line) = line ≡ refusal_line file obstacle
+IsRefusedFor file obstacle endings.Memory = ⊤
+IsRefusedFor file obstacle ending = ⊥
+
+-- What comes of a reading that failed: lack of memory is told as such, all else as a file that can't be read.
+pub record EndsUnread (file : List ℕ) (fault : Fault) (ending : Ending) : Type 0 where
+  pub memory : fault ≡ Memory → ending ≡ endings.Memory
+  pub others : fault ≢ Memory → IsRefusedFor file Unread ending

@@ -1,0 +1,24 @@
+-- What stands against what is asked of a file, and the line that tells it.
+use Rattle.std.specs.Prelude.{ℕ, List, ◌++◌, codes}
+use Rattle.geos_model.specs.Refusal.{name_of_fault}
+use Rattle.document_tools.specs.declared.obstacle.Cause.{Cause}
+use Rattle.document_tools.specs.declared.obstacle.Cause.TheVariants as causes
+use Rattle.document_tools.specs.declared.obstacle.Obstacle.{Obstacle}
+use Rattle.document_tools.specs.declared.obstacle.Obstacle.TheVariants as obstacles
+
+abbrev pub cause_text : Cause → List ℕ
+cause_text causes.Missing = codes "no such file"
+cause_text causes.Forbidden = codes "permission denied"
+cause_text causes.NoFile = codes "not a regular file"
+cause_text causes.InUse = codes "in use by another program"
+cause_text causes.Failed = codes "it can't be read"
+
+abbrev pub obstacle_text : Obstacle → List ℕ
+obstacle_text (obstacles.Unviewed cause) = cause_text cause
+obstacle_text obstacles.Unread = codes "it can't be read"
+obstacle_text (obstacles.Unopened fault) = codes "it doesn't open, " ++ name_of_fault fault
+obstacle_text (obstacles.NoOther fault) = codes "the other slot doesn't open, " ++ name_of_fault fault
+
+-- of which file it is told, and why
+abbrev pub refusal_line : List ℕ → Obstacle → List ℕ
+refusal_line file obstacle = codes "geosdoc: " ++ file ++ codes ": " ++ obstacle_text obstacle ++ codes "\n"

@@ -1,0 +1,60 @@
+-- The text of a check's report, one fact a line.
+use Rattle.std.specs.Prelude.{ℕ, List, ◌++◌, codes, Option, Some, None, Result, Ok, Err}
+use Rattle.std.specs.List.{flat_map}
+use Rattle.std.specs.Fmt.{decimal}
+use Rattle.geos_model.specs.Refusal.{name_of_fault}
+use Rattle.geos_model.specs.declared.fault.Fault.{Fault}
+use Rattle.file_report.specs.Checked.{counting_number, opened}
+use Rattle.file_report.specs.Texts.{finding_text}
+use Rattle.file_report.specs.declared.checking.Report.{Report}
+use Rattle.file_report.specs.declared.checking.SlotReport.{SlotReport}
+use Rattle.file_report.specs.declared.checking.SlotState.{SlotState}
+use Rattle.file_report.specs.declared.checking.SlotState.TheVariants.{Short, NoMark, Closed, Open}
+use Rattle.file_report.specs.declared.finding.Finding.{Finding}
+
+-- whether the file opens, or why not
+abbrev pub opens_line : Result (Unit {0}) Fault → List ℕ
+opens_line (Ok v) = codes "opens: yes\n"
+opens_line (Err fault) = codes "opens: no, " ++ name_of_fault fault ++ codes "\n"
+
+-- how each line of a slot begins
+abbrev pub slot_start : ℕ → List ℕ
+slot_start number = codes "slot " ++ decimal number ++ codes ": "
+
+abbrev pub stands_text : Result (Unit {0}) Fault → List ℕ
+stands_text (Ok v) = codes "its documents stand\n"
+stands_text (Err fault) = codes "its documents don't stand\n"
+
+-- words, and a number behind them
+abbrev pub numbered : List ℕ → ℕ → List ℕ
+numbered words n = words ++ decimal n
+
+abbrev pub open_line : ℕ → SlotReport → List ℕ
+open_line number r =
+    slot_start number ++ numbered (codes "open, version ") r.slot.version
+    ++ numbered (codes ", sequence ") r.slot.sequence ++ codes ": " ++ stands_text r.verdict
+
+abbrev pub finding_line : ℕ → Finding → List ℕ
+finding_line number f = slot_start number ++ finding_text f ++ codes "\n"
+
+-- what stands at a slot's page, and what is wrong with it
+abbrev pub slot_lines : ℕ → SlotState → List ℕ
+slot_lines number Short = slot_start number ++ codes "the file is shorter than 1024 bytes\n"
+slot_lines number NoMark = slot_start number ++ codes "its mark is not GVMF\n"
+slot_lines number (Closed s) = slot_start number ++ codes "closed, its gate is " ++ decimal s.gate ++ codes "\n"
+slot_lines number (Open r) = open_line number r ++ flat_map (finding_line number) r.findings.items
+
+-- why no slot counts
+abbrev pub none_line : Option SlotReport → List ℕ
+none_line None = codes "counts: no slot, none is open\n"
+none_line (Some r) = codes "counts: no slot, both have the same sequence number\n"
+
+-- which slot counts, or why none does
+abbrev pub counts_line : Option ℕ → SlotState → List ℕ
+counts_line (Some number) first = codes "counts: slot " ++ decimal number ++ codes "\n"
+counts_line None first = none_line (opened first)
+
+abbrev pub report_text : Report → List ℕ
+report_text r =
+    opens_line r.verdict ++ (codes "length: " ++ decimal r.file_length ++ codes " bytes\n")
+    ++ slot_lines 0 r.first ++ slot_lines 1 r.second ++ counts_line (counting_number r.first r.second) r.first

@@ -1,0 +1,90 @@
+//! How a tool ends.
+ghost use Rattle.std.specs.Prelude.{◌≡◌, Some};
+ghost use Rattle.vm_file.specs.Calls.{IsResourceFault};
+ghost use Rattle.document_tools.specs.Endings.{EndsUnread, IsRefusedFor, TellsLine, status_of, told_line};
+
+use crate::obstacle::{Obstacle, push_refusal};
+use geos_model::{Bytes, Fault};
+use geos_shell::Sink;
+use std::alloc::Global;
+
+/// How a tool ends.
+#[derive(Drop)]
+pub enum Ending {
+    /// All is told, or done.
+    Done,
+    /// All is told, of a file that doesn't open.
+    Unsound,
+    /// The file can't be looked at, or made, or not as was asked. The line says which file, and why.
+    Refused(Bytes),
+    Memory,
+    /// The script couldn't be read.
+    ReadFault,
+    /// What was asked for couldn't be written.
+    WriteFault,
+}
+
+impl Ending {
+    /// The exit status.
+    pub fn status(&self) -> u8
+        ensures { result ≡ status_of self.now }
+    {
+        match self {
+            Ending::Done => 0,
+            Ending::Unsound
+            | Ending::Refused(_)
+            | Ending::Memory
+            | Ending::ReadFault
+            | Ending::WriteFault => 1,
+        }
+    }
+
+    /// Tells it on `errors`, where there is anything to tell, and gives the exit status.
+    pub fn tell<E: Sink>(&self, errors: &mut E) -> u8
+        ensures status { result ≡ status_of self.now }
+        ensures told { TellsLine E.writes (told_line self.now) errors.old errors.new }
+    {
+        self.tell_line(errors);
+        self.status()
+    }
+
+    fn tell_line<E: Sink>(&self, errors: &mut E)
+        ensures { TellsLine E.writes (told_line self.now) errors.old errors.new }
+    {
+        match self {
+            Ending::Done | Ending::Unsound => {}
+            Ending::Refused(line) => complain(errors, line.as_slice()),
+            Ending::Memory => complain(errors, b"geosdoc: memory\n"),
+            Ending::ReadFault => complain(errors, b"geosdoc: read fault\n"),
+            Ending::WriteFault => complain(errors, b"geosdoc: write fault\n"),
+        }
+    }
+}
+
+/// Writes a line to standard error. Where not even that can be done, the status still says what became of the run.
+pub fn complain<E: Sink>(errors: &mut E, line: &[u8])
+    ensures { TellsLine E.writes (Some line.now) errors.old errors.new }
+{
+    let _ = errors.write_out(line);
+}
+
+/// What is told where this stands against what is asked of a file.
+pub fn refused(alloc: Global, file: &str, obstacle: Obstacle) -> Ending
+    ensures { IsRefusedFor file.now obstacle result }
+{
+    let mut line = Vec::new(alloc);
+    match push_refusal(&mut line, file, obstacle) {
+        Ok(()) => Ending::Refused(Bytes::from_vec(line)),
+        Err(_) => Ending::Memory,
+    }
+}
+
+/// What comes of a reading that failed.
+pub fn unread(alloc: Global, file: &str, fault: Fault) -> Ending
+    ensures { EndsUnread file.now fault result }
+{
+    match fault {
+        Fault::Memory => Ending::Memory,
+        _ => refused(alloc, file, Obstacle::Unread),
+    }
+}

@@ -1,0 +1,52 @@
+//! What is told where a command line asks for nothing.
+ghost use Rattle.std.specs.Prelude.{◌≡◌};
+ghost use Rattle.document_tools.specs.Requests.{TellsNoRequest, TellsText};
+
+use crate::ending::{Ending, complain};
+use geos_model::Bytes;
+use geos_shell::Sink;
+
+/// Why a command line asks for nothing.
+#[derive(Drop)]
+pub enum NoRequest {
+    /// It asks for help, or for the version, and the text tells that.
+    Told(Bytes),
+    /// It is none. The text says why.
+    Usage(Bytes),
+    /// Its words can't be read.
+    Unread,
+    Memory,
+}
+
+impl NoRequest {
+    /// Tells it, help and the version on `out` and all else on `errors`, and gives the exit status.
+    pub fn tell<W: Sink, E: Sink>(&self, out: &mut W, errors: &mut E) -> u8
+        ensures { TellsNoRequest W.writes E.writes self.now out.old out.new errors.old errors.new result }
+    {
+        match self {
+            NoRequest::Told(text) => tell_text(text, out, errors),
+            NoRequest::Usage(text) => {
+                complain(errors, text.as_slice());
+                2
+            }
+            NoRequest::Unread => {
+                complain(errors, b"geosdoc: the command line can't be read\n");
+                2
+            }
+            NoRequest::Memory => {
+                complain(errors, b"geosdoc: memory\n");
+                1
+            }
+        }
+    }
+}
+
+// Writes a text to standard output, and gives the exit status. Where that fails, a write fault is told.
+fn tell_text<W: Sink, E: Sink>(text: &Bytes, out: &mut W, errors: &mut E) -> u8
+    ensures { TellsText W.writes E.writes text.now out.old out.new errors.old errors.new result }
+{
+    match out.write_out(text.as_slice()) {
+        Ok(()) => 0,
+        Err(_) => Ending::WriteFault.tell(errors),
+    }
+}
