@@ -2,11 +2,37 @@
 // No contract can say what they give, so they claim no honesty, as those that `geosvm` writes.
 ghost use Rattle.vm_store.specs.HostSystem.{host_system_facts, host_system_timely};
 
-use document_tools::{Cause, Viewer};
 use std::fs::{File, TryLockError, metadata};
-use std::io;
 use std::os::unix::fs::FileExt;
-use vm_store::{HostStore, System, SystemFault, SystemFile};
+use std::{fmt, io};
+use vm_store::{System, SystemFault, SystemFile};
+
+/// Why a file can't be looked at.
+#[derive(Clone, Copy)]
+pub enum Cause {
+    /// There is none.
+    Missing,
+    /// The system doesn't let the caller read it.
+    Forbidden,
+    /// It is a folder, a device or a pipe.
+    NoFile,
+    /// Another program has it open to write it.
+    InUse,
+    /// The system failed otherwise.
+    Failed,
+}
+
+impl fmt::Display for Cause {
+    fn fmt<W: fmt::Write>(&self, f: &mut fmt::Formatter<W>) -> fmt::Result {
+        match self {
+            Cause::Missing => write!(f, "no such file"),
+            Cause::Forbidden => write!(f, "permission denied"),
+            Cause::NoFile => write!(f, "not a regular file"),
+            Cause::InUse => write!(f, "in use by another program"),
+            Cause::Failed => write!(f, "it can't be read"),
+        }
+    }
+}
 
 /// The host's own files, to be read alone.
 #[derive(Drop)]
@@ -36,6 +62,11 @@ impl ReadOnlySystem {
         }
     }
 
+    /// Why the last file couldn't be opened.
+    pub fn cause(&self) -> Cause {
+        self.cause
+    }
+
     fn refused(&mut self, cause: Cause) -> SystemFault {
         self.cause = cause;
         SystemFault::Failed
@@ -47,20 +78,6 @@ impl ReadOnlySystem {
             io::ErrorKind::NotFound => self.refused(Cause::Missing),
             io::ErrorKind::PermissionDenied => self.refused(Cause::Forbidden),
             _ => self.refused(Cause::Failed),
-        }
-    }
-}
-
-impl Viewer for ReadOnlySystem {
-    type Opened = HostStore<ReadOnlyFile>;
-
-    // Of what the machine does nothing is known.
-    ghost views = { λ old name result new. Unit {0} };
-
-    fn view(&mut self, name: &str) -> Result<HostStore<ReadOnlyFile>, Cause> {
-        match HostStore::open(self, name, false) {
-            Ok(store) => Ok(store),
-            Err(_) => Err(self.cause),
         }
     }
 }
