@@ -3,7 +3,6 @@ use crate::bench::{Bench, Fuse, NO_FUSE};
 use crate::case_file::Case;
 use crate::mismatch::{Mismatch, expect, mismatch_at};
 use crate::step::{Action, Failing, Side};
-use crate::streaming::Beginning;
 use std::alloc::Global;
 use std::ops::Range;
 
@@ -24,10 +23,7 @@ impl Play<'_> {
             .iter()
             .find(|step| !matches!(step.action, Action::Say(_)))
         {
-            Some(step) => matches!(
-                step.action,
-                Action::File(_) | Action::Begin(Beginning::Program(_))
-            ),
+            Some(step) => matches!(step.action, Action::File(_)),
             None => false,
         }
     }
