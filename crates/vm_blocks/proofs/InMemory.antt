@@ -48,7 +48,7 @@ pub without_append : (hs ks : List ℕ) (d : Document) → without_blocks d (hs 
 without_append [] ks d = refl
 without_append (h ∷ hs) ks d = without_append hs ks (without_block d h)
 
-abbrev AreAlike : Document → Document → Type 0
+abbrev pub AreAlike : Document → Document → Type 0
 AreAlike a b = (h : ℕ) → is_live a h ≡ is_live b h
 
 alike_without_one : (a b : Document) (k : ℕ) → AreAlike a b → AreAlike (without_block a k) (without_block b k)
@@ -61,7 +61,7 @@ alike_without : (hs : List ℕ) (a b : Document) → AreAlike a b → AreAlike (
 alike_without [] a b alike = alike
 alike_without (k ∷ hs) a b alike = alike_without hs (without_block a k) (without_block b k) (alike_without_one a b k alike)
 
-dead_without : (hs : List ℕ) (d : Document) (b : ℕ) → is_live d b ≡ false → is_live (without_blocks d hs) b ≡ false
+pub dead_without : (hs : List ℕ) (d : Document) (b : ℕ) → is_live d b ≡ false → is_live (without_blocks d hs) b ≡ false
 dead_without hs d b dead = elim (cases_Bool (is_live (without_blocks d hs) b)) as (λ _. is_live (without_blocks d hs) b ≡ false) [
   | inl live ↦ absurd (true≢false (sym (live_before hs d b live) ∙ dead))
   | inr gone ↦ gone
@@ -187,7 +187,7 @@ map_stays_other (c ∷ cs) d h dead some other listed none =
         let live : is_live d new.0 ≡ true = listed.live (λ none. some (sym same ∙ none)) in
         true≢false (sym live ∙ (ap (is_live d) same ∙ dead))
 
-none_go : (d : Document) → CanRemoveByHandle d []
+pub none_go : (d : Document) → CanRemoveByHandle d []
 none_go d = record { live = All-nil (λ h. is_live d h ≡ true); others = All-nil (λ h. d.map_block ≢ h); distinct = refl }
 
 -- Those that go can go at the end.

@@ -1,9 +1,11 @@
+pub mod BringingIn
 pub mod CarryingOut
 pub mod ChangeLaws
 pub mod ChangeOutcomes
 pub mod ChangingAll
 pub mod ChangingInMemory
 pub mod Exactness
+pub mod Incoming
 pub mod InMemory
 pub mod KeepingLaws
 pub mod KindLemmas

@@ -45,7 +45,7 @@ put_after d h b there = ap (λ (m : FinMap nat_cmp Block). record d { blocks = m
 
 -- Under a handle that none of them has.
 
-put_later : (d : Document) (hs : List ℕ) (h : ℕ) (b : Block) → IsAbsent h hs → with_block (without_blocks d hs) h b ≡ without_blocks (with_block d h b) hs
+pub put_later : (d : Document) (hs : List ℕ) (h : ℕ) (b : Block) → IsAbsent h hs → with_block (without_blocks d hs) h b ≡ without_blocks (with_block d h b) hs
 put_later d [] h b absent = refl
 put_later d (k ∷ hs) h b absent =
     put_later (without_block d k) hs h b (is_later h k hs absent) ∙ ap (λ (x : Document). without_blocks x hs) (swapped d h k b (is_other h k hs absent))

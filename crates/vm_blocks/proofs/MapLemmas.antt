@@ -33,3 +33,12 @@ module _ {X : Type 0} (m : FinMap nat_cmp X) (h : ℕ) where
       | inr away ↦ get-taken_other m k q away ∙ sym (get-taken_other (insert m h x) k q away ∙ get-put_other m h x q far)
     ]
   ])
+
+  pub put_past_put : (k : ℕ) (x y : X) → h ≢ k → insert (insert m k y) h x ≡ insert (insert m h x) k y
+  put_past_put k x y other = same_map nat_cmp_total nat_cmp-IsAntisymmetric _ _ (λ q. elim (cases_eq q h) [
+    | inl e ↦ get-put_same (insert m k y) h x q e ∙ sym (get-put_other (insert m h x) k y q (λ is. other (sym e ∙ is)) ∙ get-put_same m h x q e)
+    | inr far ↦ get-put_other (insert m k y) h x q far ∙ elim (cases_eq q k) [
+      | inl e ↦ get-put_same m k y q e ∙ sym (get-put_same (insert m h x) k y q e)
+      | inr away ↦ get-put_other m k y q away ∙ sym (get-put_other (insert m h x) k y q away ∙ get-put_other m h x q far)
+    ]
+  ])

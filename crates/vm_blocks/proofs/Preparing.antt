@@ -155,20 +155,23 @@ made_alike (changes.Attributes h old new) a b unless_corrupt =
     subst (λ (x : Attributes). Alike (with_attributes a h.0 given) (with_attributes b h.0 x)) (ap (λ (k : Bool). attributes_for_kind k new) (sym (unless_corrupt.kinds h.0))) (attributes_alike a b h.0 given unless_corrupt)
 made_alike (changes.Map old new) a b unless_corrupt = record { live = unless_corrupt.live; attributes = unless_corrupt.attributes; kinds = unless_corrupt.kinds; map_block = refl; same = λ no. absurd (true≢false (sym no)) }
 
-none_there : (o : Option Block) → is_some o ≡ false → o ≡ None
+pub none_there : (o : Option Block) → is_some o ≡ false → o ≡ None
 none_there None free = refl
 none_there (Some block) free = absurd (true≢false free)
+
+removable_alike : (hs : List ℕ) (a b : Document) → Alike a b → CanRemoveByHandle a hs → CanRemoveByHandle b hs
+removable_alike hs a b unless_corrupt can = record {
+  live = λ i h within. unless_corrupt.live _ ∙ can.live i h within;
+  others = λ i h within same. can.others i h within (sym unless_corrupt.map_block ∙ same);
+  distinct = can.distinct;
+}
 
 listed_alike : (c : Change) (a b : Document) → Alike a b → CanApplyByHandle c a → CanApplyByHandle c b
 listed_alike (changes.BlocksIn ms) a b unless_corrupt are = record {
   free = λ i h within. record { handle = (are.free i h within).handle; free = none_there _ (unless_corrupt.live _ ∙ ap is_some (are.free i h within).free) };
   distinct = are.distinct;
 }
-listed_alike (changes.BlocksOut ms) a b unless_corrupt can = record {
-  live = λ i h within. unless_corrupt.live _ ∙ can.live i h within;
-  others = λ i h within same. can.others i h within (sym unless_corrupt.map_block ∙ same);
-  distinct = can.distinct;
-}
+listed_alike (changes.BlocksOut ms) a b unless_corrupt can = removable_alike (handles_of (imaged_blocks ms.list.items)) a b unless_corrupt can
 listed_alike (changes.Part h part) a b unless_corrupt live = unless_corrupt.live h.0 ∙ live
 listed_alike (changes.Attributes h old new) a b unless_corrupt live = unless_corrupt.live h.0 ∙ live
 listed_alike (changes.Map old new) a b unless_corrupt has = record { stands = unless_corrupt.map_block ∙ has.stands; live = λ some. unless_corrupt.live new.0 ∙ has.live some }
@@ -205,7 +208,7 @@ part_live_made h (parts.ChunkIn c content) d = ap is_some (get-put_same d.blocks
 part_live_made h (parts.ChunkOut c content) d = ap is_some (get-put_same d.blocks h _ h refl)
 
 -- and each one that was there still is
-put_live : (d : Document) (h : ℕ) (block : Block) (k : ℕ) → is_live d k ≡ true → is_live (with_block d h block) k ≡ true
+pub put_live : (d : Document) (h : ℕ) (block : Block) (k : ℕ) → is_live d k ≡ true → is_live (with_block d h block) k ≡ true
 put_live d h block k live = elim (cases_eq k h) as (λ _. is_live (with_block d h block) k ≡ true) [
   | inl here ↦ ap is_some (get-put_same d.blocks h block k here)
   | inr other ↦ ap is_some (get-put_other d.blocks h block k other) ∙ live
@@ -226,6 +229,30 @@ made_on c honest old new unless_corrupt = let same = made_alike c old new (alike
   map_block = same.map_block;
   same = λ so. ap (after_change c) (unless_corrupt.same so);
 }
+
+-- so are blocks that are put in or taken out
+
+module _ (honest : Bool) (old new : Document) (unless_corrupt : SameUnlessCorrupt honest old new) where
+  pub put_on : (ps : List (ℕ × Block)) → SameUnlessCorrupt honest (with_blocks old ps) (with_blocks new ps)
+  put_on ps = let same = put_all_alike old new ps (alike honest old new unless_corrupt) in record {
+    live = same.live;
+    attributes = same.attributes;
+    kinds = same.kinds;
+    map_block = same.map_block;
+    same = λ so. ap (λ (d : Document). with_blocks d ps) (unless_corrupt.same so);
+  }
+
+  pub taken_on : (hs : List ℕ) → SameUnlessCorrupt honest (without_blocks old hs) (without_blocks new hs)
+  taken_on hs = let same = taken_all_alike old new hs (alike honest old new unless_corrupt) in record {
+    live = same.live;
+    attributes = same.attributes;
+    kinds = same.kinds;
+    map_block = same.map_block;
+    same = λ so. ap (λ (d : Document). without_blocks d hs) (unless_corrupt.same so);
+  }
+
+  pub removable_on : (hs : List ℕ) → CanRemoveByHandle old hs → CanRemoveByHandle new hs
+  removable_on hs can = removable_alike hs old new (alike honest old new unless_corrupt) can
 
 abbrev pub with_document : {S : Type 0} → CacheState S → Document → CacheState S
 with_document state d = record state { document = d }

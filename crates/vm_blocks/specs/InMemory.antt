@@ -1,5 +1,5 @@
--- Changes that are carried out in memory, one after another, and taken back there. Blocks that go are left for last,
--- since nothing in memory brings them back.
+-- Changes that are carried out in memory, one after another, and taken back there. Blocks that come in are there by
+-- then (`Incoming`), and blocks that go are left for last, since nothing in memory brings them back.
 use Rattle.std.specs.Prelude.{◌≡◌, ◌≢◌, ◌++◌, ℕ, List, [], ◌∷◌, true}
 use Rattle.geos_model.specs.Document.{Document, attributes_of, block_at, handles_of, is_heap, is_live, with_attributes, without_blocks}
 use Rattle.chunk_edits.specs.Directions.{opposite}

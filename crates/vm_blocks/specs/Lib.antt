@@ -2,6 +2,7 @@ pub mod Allowing
 pub mod Changes
 pub mod Committing
 pub mod Exactness
+pub mod Incoming
 pub mod InMemory
 pub mod Keeping
 pub mod Kinds

@@ -25,7 +25,7 @@ ghost use Rattle.vm_blocks.specs.Parts.{AllowsPart};
 ghost use Rattle.vm_blocks.specs.Kinds.{IsWrongBlock};
 ghost use Rattle.vm_blocks.specs.Preparing.{after_changes, CanRemoveByHandle, CanApplyAll, CanApplyByHandle, CanApplyAllByHandle, AreInMemory, NoneComesIn, AreUnlocked, AllowsChange, IsInMemory, IsShutOut, CantPrepare, CantPrepareAll, IsApplied, AreApplied, Turns};
 
-use crate::in_memory::change_in_memory;
+use crate::in_memory::{Obstacle, change_in_memory};
 use crate::part::{can_take, carry_out_heap, carry_out_raw};
 use crate::{BlockBody, Change, Direction, Members, PartChange};
 use block_cache::Cache;
@@ -480,11 +480,13 @@ impl<S: Store> FileBlocks<S> {
         self.turn(change, direction)
     }
 
-    /// Carries changes out in a direction one after another, the last one first: all of them or none. Where no blocks
-    /// come in, and those whose bodies change are in memory, it takes no memory, calls no store and isn't refused for
-    /// want of either, if what goes stands there; those that aren't are first brought there. Else what is changed in
-    /// memory is first written to the file. Damaged where a body doesn't take its change; otherwise refused as `load`
-    /// is, but never CacheFull. Where it is refused after that no block is in memory.
+    /// Carries changes out in a direction one after another, the last one first: all of them or none. Blocks that come
+    /// in are written to the file before all else, and those whose bodies change are brought into memory; where none
+    /// comes in, and these are there, it takes no memory, calls no store and isn't refused for want of either, if what
+    /// goes stands there. What else is changed in memory is first written to the file only where the changes can't be
+    /// carried out so: a block comes in under the handle of one that goes, those whose bodies change don't fit into
+    /// memory together, or what goes doesn't stand there; where it is refused after that no block is in memory. Damaged
+    /// where a body doesn't take its change; otherwise refused as `load` is, but never CacheFull.
     pub fn change_all(&mut self, changes: &[Change], direction: Direction) -> Result<(), Fault>
         // Asked of the caller.
         requires unmarked { self.old.disk.marked ≡ None }
@@ -503,10 +505,11 @@ impl<S: Store> FileBlocks<S> {
             → IsOk result × (self.new.disk ≡ self.old.disk)
             × (self.new.document ≡ after_changes (directed_all direction changes.now) self.old.document) }
     {
-        if change_in_memory(self, changes, direction)? {
-            return Ok(());
+        match change_in_memory(self, changes, direction) {
+            Ok(()) => Ok(()),
+            Err(Obstacle::Fault(fault)) => Err(fault),
+            Err(Obstacle::NotInMemory) => self.change_marked(changes, direction),
         }
-        self.change_marked(changes, direction)
     }
 
     // So it does where the document is marked first, which writes what is changed in memory to the file.
@@ -581,10 +584,11 @@ impl<S: Store> FileBlocks<S> {
         }
     }
 
-    // Puts each of these blocks under its handle. Memory, File.
-    fn put_in(&mut self, members: &Members) -> Result<(), Fault>
+    /// Puts each of these blocks under its handle. Memory, File.
+    pub(crate) fn put_in(&mut self, members: &Members) -> Result<(), Fault>
         requires { AreFree self.old.document (handles_of (imaged_blocks members.now.list.items)) }
-        ensures { Turns S.facts (Change.BlocksIn members.now) self.old self.new result }
+        ensures turns { Turns S.facts (Change.BlocksIn members.now) self.old self.new result }
+        ensures resident { self.new.resident ≡ self.old.resident }
     {
         self.cache.validity();
         self.cache.put_blocks(&members.list)

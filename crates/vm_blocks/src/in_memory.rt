@@ -1,53 +1,104 @@
 //! Changes that are carried out in memory, all or none.
-ghost use Rattle.std.specs.Prelude.{◌≡◌, ◌↔◌, [], true, false, Ok, IfErr, IsOk, IsTrue, OnErr};
+ghost use Rattle.std.specs.Prelude.{◌≡◌, true, false, IfErr, IsOk, OnErr, OnOk};
 ghost use Rattle.chunk_edits.specs.Directions.{opposite};
 ghost use Rattle.geos_model.specs.Document.{block_at, without_blocks};
 ghost use Rattle.block_cache.specs.State.{KeepsLocks, locked_count};
-ghost use Rattle.vm_blocks.specs.Changes.{directed, directed_all, directed_part, incoming_blocks};
+ghost use Rattle.vm_blocks.specs.Changes.{directed, directed_all, directed_part};
 ghost use Rattle.vm_blocks.specs.Exactness.{IsExactPart};
+ghost use Rattle.vm_blocks.specs.Incoming.{IsObstacle, others};
 ghost use Rattle.vm_blocks.specs.InMemory.{AllFit, AreListed, CanTakeBack, CanTakeOut, FitsInPlace, IsListed, IsReady, IsReversible, IsReversiblePart, StaysInMemory, all_in_place, all_outgoing, carried, outgoing, taken_back};
 ghost use Rattle.vm_blocks.specs.Keeping.{IsEnvironmentFault, KeepsBlocks, is_loaded};
 ghost use Rattle.vm_blocks.specs.Preparing.{after_changes, AreApplied, AreInMemory, CanApplyAll, CanApplyAllByHandle, CanRemoveByHandle, IsInMemory, NoneComesIn};
 
+use crate::bringing_in::{bring_in_all, take_out_again};
 use crate::part::{is_exact, validity};
 use crate::{Change, Direction, FileBlocks, PartChange};
 use geos_model::{Fault, VmHandle};
 use vm_store::Store;
 
-/// Carries out changes in a direction, the last one first, without a call of the store but for what has to be brought
-/// into memory: all of them, or none where blocks come in, or where those whose bodies change don't fit into memory
-/// together. Says which. A body has to have what goes, so that all can be taken back on the way.
+/// Why changes aren't carried out in memory.
+#[derive(Drop)]
+pub(crate) enum Obstacle {
+    /// Memory ran out, the store failed, or what it gave back is no body.
+    Fault(Fault),
+    /// They can't be carried out there: a block comes in under a handle that is live before the blocks go that do, those
+    /// whose bodies change don't fit into memory together, or what goes doesn't stand there.
+    NotInMemory,
+}
+
+impl From<Fault> for Obstacle {
+    ghost use Rattle.std.specs.Prelude.{◌≡◌};
+    ghost use Rattle.vm_blocks.specs.declared.in_memory.Obstacle.{Obstacle};
+
+    ghost from_gives = { λ fault obstacle. obstacle ≡ Obstacle.Fault fault };
+
+    fn from(fault: Fault) -> Obstacle {
+        Obstacle::Fault(fault)
+    }
+}
+
+/// Carries out changes in a direction, the last one first, all or none, but blocks that come in before all else, and
+/// those that go last. The store is called for the blocks that come in, and for what has to be brought into memory. A
+/// body has to have what goes, so that all can be taken back on the way.
 pub(crate) fn change_in_memory<S: Store>(
     blocks: &mut FileBlocks<S>,
     changes: &[Change],
     direction: Direction,
-) -> Result<bool, Fault>
+) -> Result<(), Obstacle>
     // Asked of the caller.
     requires listed { CanApplyAllByHandle (directed_all direction changes.now) blocks.old.document }
     requires unlocked { locked_count blocks.old.resident ≡ 0 }
     // What is done.
-    ensures all { result ≡ Ok true → AreApplied S.facts (directed_all direction changes.now) blocks.old blocks.new }
-    ensures none { result ≡ Ok false → KeepsBlocks S.facts blocks.old blocks.new }
+    ensures ok { OnOk result (AreApplied S.facts (directed_all direction changes.now) blocks.old blocks.new) }
     ensures err { OnErr result (KeepsBlocks S.facts blocks.old blocks.new) }
     // Refusals.
-    ensures refusals { IfErr result (IsEnvironmentFault S.facts blocks.old.disk.store blocks.new.disk.store) }
+    ensures refusals { IfErr result (IsObstacle S.facts blocks.old.disk.store blocks.new.disk.store) }
     // When the answer is known beforehand.
     ensures sure { NoneComesIn (directed_all direction changes.now)
         → AreInMemory (directed_all direction changes.now) blocks.old
         → CanApplyAll (directed_all direction changes.now) blocks.old.document
-        → (result ≡ Ok true) × (blocks.new.disk ≡ blocks.old.disk)
+        → IsOk result × (blocks.new.disk ≡ blocks.old.disk)
         × (blocks.new.document ≡ after_changes (directed_all direction changes.now) blocks.old.document) }
 {
-    if !none_comes_in(changes, direction) {
-        return Ok(false);
+    bring_in_all(blocks, changes, direction)?;
+    match change_others(blocks, changes, direction) {
+        Ok(()) => Ok(()),
+        Err(obstacle) => {
+            take_out_again(blocks, changes, direction);
+            Err(obstacle)
+        }
     }
+}
+
+/// Carries out those changes that bring no blocks in.
+fn change_others<S: Store>(
+    blocks: &mut FileBlocks<S>,
+    changes: &[Change],
+    direction: Direction,
+) -> Result<(), Obstacle>
+    // Asked of the caller.
+    requires listed { CanApplyAllByHandle (others (directed_all direction changes.now)) blocks.old.document }
+    requires unlocked { locked_count blocks.old.resident ≡ 0 }
+    // What is done.
+    ensures ok { OnOk result
+        (AreApplied S.facts (others (directed_all direction changes.now)) blocks.old blocks.new) }
+    ensures err { OnErr result (KeepsBlocks S.facts blocks.old blocks.new) }
+    // Refusals.
+    ensures refusals { IfErr result (IsObstacle S.facts blocks.old.disk.store blocks.new.disk.store) }
+    // When the answer is known beforehand.
+    ensures sure { AreInMemory (others (directed_all direction changes.now)) blocks.old
+        → CanApplyAll (others (directed_all direction changes.now)) blocks.old.document
+        → IsOk result × (blocks.new.disk ≡ blocks.old.disk)
+        × (blocks.new.document
+        ≡ after_changes (others (directed_all direction changes.now)) blocks.old.document) }
+{
     load_all(blocks, changes, direction)?;
     blocks.validity();
-    let done = carry_out_all(blocks, changes, direction);
-    if done {
-        take_out_all(blocks, changes, direction);
+    if !carry_out_all(blocks, changes, direction) {
+        return Err(Obstacle::NotInMemory);
     }
-    Ok(done)
+    take_out_all(blocks, changes, direction);
+    Ok(())
 }
 
 /// Carries out a change of what is there; blocks that come in or go are left out.
@@ -161,7 +212,7 @@ fn take_out_all<S: Store>(blocks: &mut FileBlocks<S>, changes: &[Change], direct
 }
 
 /// Takes out the blocks that a change takes out in a direction.
-fn take_out<S: Store>(blocks: &mut FileBlocks<S>, change: &Change, direction: Direction)
+pub(crate) fn take_out<S: Store>(blocks: &mut FileBlocks<S>, change: &Change, direction: Direction)
     requires leave { CanRemoveByHandle blocks.old.document (outgoing (directed direction change.now)) }
     requires unlocked { locked_count blocks.old.resident ≡ 0 }
     ensures disk { blocks.new.disk ≡ blocks.old.disk }
@@ -181,35 +232,6 @@ fn take_out<S: Store>(blocks: &mut FileBlocks<S>, change: &Change, direction: Di
         },
         Change::Part(_, _) | Change::Attributes { .. } | Change::Map { .. } => {}
     }
-}
-
-/// Whether a change brings blocks in, in a direction.
-fn brings_in(change: &Change, direction: Direction) -> bool
-    ensures { result ≡ false ↔ incoming_blocks (directed direction change.now) ≡ [] }
-{
-    match change {
-        Change::BlocksIn(members) => match direction {
-            Direction::Forwards => !members.list.is_empty(),
-            Direction::Backwards => false,
-        },
-        Change::BlocksOut(members) => match direction {
-            Direction::Forwards => false,
-            Direction::Backwards => !members.list.is_empty(),
-        },
-        Change::Part(_, _) | Change::Attributes { .. } | Change::Map { .. } => false,
-    }
-}
-
-/// Whether none of the changes brings blocks in.
-fn none_comes_in(changes: &[Change], direction: Direction) -> bool
-    ensures { IsTrue result ↔ NoneComesIn (directed_all direction changes.now) }
-{
-    for change in changes.iter().rev() {
-        if brings_in(change, direction) {
-            return false;
-        }
-    }
-    true
 }
 
 /// Brings the block whose body a change changes into memory.

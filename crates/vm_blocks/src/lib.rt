@@ -1,6 +1,7 @@
 //! The blocks of a document file: looked up, and changed in either direction, with so many of them in memory.
 #![tactic(auto)]
 
+mod bringing_in;
 mod change;
 mod file_blocks;
 mod in_memory;

@@ -1,68 +1,79 @@
-use Rattle.std.proofs.Common.{sym, ap, subst, ◌∙◌}
-use Rattle.std.specs.Prelude.{Ok}
-use Rattle.geos_model.specs.Document.{without_blocks}
-use Rattle.block_cache.specs.State.{CacheState, KeepsLocks, locked_count}
+use Rattle.std.proofs.Common.{Err, refl, sym, ap, subst, ◌∙◌}
+use Rattle.std.specs.Prelude.{Result, IfErr}
+use Rattle.std.proofs.lemmas.Result.{err_from_is_err_and}
+use Rattle.block_cache.proofs.Marking.{on_err_always}
 use Rattle.vm_blocks.specs.Changes.{directed_all}
-use Rattle.vm_blocks.specs.InMemory.{CanTakeOut, all_outgoing}
+use Rattle.vm_blocks.specs.Incoming.{IsObstacle, others}
 use Rattle.vm_blocks.specs.Preparing.{CanApplyAll, after_changes}
-use Rattle.vm_blocks.proofs.ChangingInMemory.{applied_in_memory, listed_then}
-use Rattle.vm_blocks.proofs.InMemory.{all_can_go, all_fit, all_listed, all_settled}
-use Rattle.vm_blocks.proofs.KeepingLaws.{keeps-locks, keeps-refl}
+use Rattle.vm_blocks.specs.declared.in_memory.Obstacle.{Obstacle}
+use Rattle.vm_blocks.proofs.BringingIn.{applied_by_others, keeps_out, leave_since, obstacle_since, others_known, unlocked_since}
+use Rattle.vm_blocks.proofs.Incoming.{only_others_here, others_same}
 use Rattle.vm_blocks.proofs.Reversing.{all_in_memory_stay}
 use Rattle.vm_blocks.proofs.in_memory.change_in_memory.Goals as goal
 
-pub returns-then-not-none_comes_in-clause-none : goal.returns-then-not-none_comes_in-clause-none
-returns-then-not-none_comes_in-clause-none g c = λ _. keeps-refl g.S.Store.facts c.args.blocks.now
+-- a block can't be brought in
 
-pub carry_out_all-done-requires : goal.carry_out_all-done-requires
-carry_out_all-done-requires g c =
-    let all = directed_all c.args.direction c.args.changes.now in
-    all_listed all c.load_all.new.blocks.document (listed_then g.S.Store.facts all c.args.blocks.now c.load_all.new.blocks c.load_all.ensures.keeps c.requires.listed) (c.none_comes_in.ensures.0 c.if-not-none_comes_in.false)
+pub returns-in_err-bring_in_all-clause-err : goal.returns-in_err-bring_in_all-clause-err
+returns-in_err-bring_in_all-clause-err g c = on_err_always c.from_residual.result c.in_err-bring_in_all.ensures.err
 
-pub take_out_all-requires-clause-leave : goal.take_out_all-requires-clause-leave
-take_out_all-requires-clause-leave g c =
-    let all = directed_all c.args.direction c.args.changes.now in
-    let mid = c.load_all.new.blocks in
-    let document = ap (λ (s : CacheState g.row.S.Denot). s.document) (c.carry_out_all-done.ensures.all c.if-done.true) in
-    subst (CanTakeOut all) (sym document)
-    (all_can_go all mid.document (listed_then g.S.Store.facts all c.args.blocks.now mid c.load_all.ensures.keeps c.requires.listed) (c.none_comes_in.ensures.0 c.if-not-none_comes_in.false) c.validity.ensures.listed.handles)
+pub returns-in_err-bring_in_all-clause-refusals : goal.returns-in_err-bring_in_all-clause-refusals
+returns-in_err-bring_in_all-clause-refusals g c =
+    let e = err_from_is_err_and c.from_residual.result c.from_residual.ensures.1 in
+    subst (λ (r : Result (Unit {0}) Obstacle). IfErr r (IsObstacle g.S.Store.facts c.args.blocks.now.disk.store c.bring_in_all.new.blocks.disk.store)) (sym (e.1 ∙ ap Err e.2)) c.in_err-bring_in_all.ensures.refusals
 
-pub take_out_all-requires-clause-unlocked : goal.take_out_all-requires-clause-unlocked
-take_out_all-requires-clause-unlocked g c =
-    ap (λ (s : CacheState g.row.S.Denot). locked_count s.resident) (c.carry_out_all-done.ensures.all c.if-done.true)
-    ∙ (keeps-locks g.S.Store.facts c.args.blocks.now c.load_all.new.blocks c.load_all.ensures.keeps).count ∙ c.requires.unlocked
+pub returns-in_err-bring_in_all-clause-sure : goal.returns-in_err-bring_in_all-clause-sure
+returns-in_err-bring_in_all-clause-sure g c = λ none here applies. absurd (cc (c.in_err-bring_in_all.ensures.sure none).0)
 
-pub returns-then-done-clause-all : goal.returns-then-done-clause-all
-returns-then-done-clause-all g c = λ _.
-    let all = directed_all c.args.direction c.args.changes.now in
-    let mid = c.load_all.new.blocks in
-    let is = c.carry_out_all-done.ensures.all c.if-done.true in
-    let new = c.take_out_all.new.blocks in
-    applied_in_memory g.S.Store.facts all c.args.blocks.now mid c.load_all.ensures.keeps new c.requires.listed (c.none_comes_in.ensures.0 c.if-not-none_comes_in.false)
-    (c.take_out_all.ensures.disk ∙ ap (λ (s : CacheState g.row.S.Denot). s.disk) is)
-    (c.take_out_all.ensures.document ∙ ap (λ (s : CacheState g.row.S.Denot). without_blocks s.document (all_outgoing all)) is)
-    (c.take_out_all.ensures.frames ∙ ap (λ (s : CacheState g.row.S.Denot). s.frames) is)
-    (subst (λ (s : CacheState g.row.S.Denot). KeepsLocks s.resident new.resident) is c.take_out_all.ensures.locks)
+-- all are in
 
-pub returns-then-done-clause-sure : goal.returns-then-done-clause-sure
-returns-then-done-clause-sure g c = λ none here applies.
-    let all = directed_all c.args.direction c.args.changes.now in
-    let mid = c.load_all.new.blocks in
-    let stays = (c.load_all.ensures.sure here).1 in
-    let is = c.carry_out_all-done.ensures.all c.if-done.true in
-    let listed = listed_then g.S.Store.facts all c.args.blocks.now mid c.load_all.ensures.keeps c.requires.listed in (
-      ap (λ b. Ok b) c.if-done.true,
-      c.take_out_all.ensures.disk ∙ ap (λ (s : CacheState g.row.S.Denot). s.disk) is ∙ stays.disk,
-      c.take_out_all.ensures.document ∙ ap (λ (s : CacheState g.row.S.Denot). without_blocks s.document (all_outgoing all)) is
-          ∙ all_settled all mid.document listed none ∙ ap (after_changes all) stays.document,
-    )
+pub change_others-requires-clause-listed : goal.change_others-requires-clause-listed
+change_others-requires-clause-listed g c =
+    others_known g.S.Store.facts c.args.direction c.args.changes.now c.args.blocks.now c.bring_in_all.new.blocks c.in_ok-bring_in_all.ensures.ok c.requires.listed
 
-pub returns-else-done-clause-sure : goal.returns-else-done-clause-sure
-returns-else-done-clause-sure g c = λ none here applies.
+pub change_others-requires-clause-unlocked : goal.change_others-requires-clause-unlocked
+change_others-requires-clause-unlocked g c = c.in_ok-bring_in_all.ensures.ok.back.locks.count ∙ c.requires.unlocked
+
+pub returns-in-Ok-clause-ok : goal.returns-in-Ok-clause-ok
+returns-in-Ok-clause-ok g c =
+    applied_by_others g.S.Store.facts c.args.direction c.args.changes.now c.args.blocks.now c.bring_in_all.new.blocks c.in_ok-bring_in_all.ensures.ok c.requires.listed c.change_others.new.blocks c.in-Ok.ensures.ok
+
+pub returns-in-Ok-clause-sure : goal.returns-in-Ok-clause-sure
+returns-in-Ok-clause-sure g c = λ none here applies.
     let all = directed_all c.args.direction c.args.changes.now in
     let old = c.args.blocks.now in
-    let mid = c.load_all.new.blocks in
-    let stays = (c.load_all.ensures.sure here).1 in
-    let listed = listed_then g.S.Store.facts all old mid c.load_all.ensures.keeps c.requires.listed in
-    let fit = all_fit all mid.document (subst (CanApplyAll all) (sym stays.document) applies) listed none in
-    absurd ((c.carry_out_all-done.ensures.none c.if-done.false).1 (all_in_memory_stay all old mid stays here) fit)
+    let mid = c.bring_in_all.new.blocks in
+    let stays = (c.in_ok-bring_in_all.ensures.sure none).1 in
+    let same = others_same all old.document none applies in
+    let did = c.in-Ok.ensures.sure (only_others_here mid all (all_in_memory_stay all old mid stays here)) (subst (CanApplyAll (others all)) (sym stays.document) same.0) in
+    (refl, did.1 ∙ stays.disk, did.2 ∙ ap (after_changes (others all)) stays.document ∙ same.1)
+
+-- the others can't be made
+
+pub take_out_again-requires-clause-leave : goal.take_out_again-requires-clause-leave
+take_out_again-requires-clause-leave g c =
+    leave_since g.S.Store.facts c.args.direction c.args.changes.now c.args.blocks.now c.bring_in_all.new.blocks c.change_others.new.blocks c.in_ok-bring_in_all.ensures.ok.back c.in-Err.ensures.err
+
+pub take_out_again-requires-clause-unlocked : goal.take_out_again-requires-clause-unlocked
+take_out_again-requires-clause-unlocked g c =
+    unlocked_since g.S.Store.facts c.args.direction c.args.changes.now c.args.blocks.now c.bring_in_all.new.blocks c.change_others.new.blocks c.in_ok-bring_in_all.ensures.ok.back c.in-Err.ensures.err c.requires.unlocked
+
+pub returns-in-Err-clause-err : goal.returns-in-Err-clause-err
+returns-in-Err-clause-err g c =
+    let out = c.take_out_again.ensures in
+    keeps_out g.S.Store.facts c.args.direction c.args.changes.now c.args.blocks.now c.bring_in_all.new.blocks c.change_others.new.blocks c.in_ok-bring_in_all.ensures.ok.back c.in-Err.ensures.err c.take_out_again.new.blocks
+    out.disk out.document out.frames out.locks
+
+pub returns-in-Err-clause-refusals : goal.returns-in-Err-clause-refusals
+returns-in-Err-clause-refusals g c =
+    obstacle_since g.S.Store.facts c.args.direction c.args.changes.now c.args.blocks.now c.bring_in_all.new.blocks c.change_others.new.blocks c.in_ok-bring_in_all.ensures.ok.back c.in-Err.ensures.err c.take_out_again.new.blocks
+    c.take_out_again.ensures.disk c.in-Err.obstacle c.in-Err.ensures.refusals
+
+pub returns-in-Err-clause-sure : goal.returns-in-Err-clause-sure
+returns-in-Err-clause-sure g c = λ none here applies.
+    let all = directed_all c.args.direction c.args.changes.now in
+    let old = c.args.blocks.now in
+    let mid = c.bring_in_all.new.blocks in
+    let stays = (c.in_ok-bring_in_all.ensures.sure none).1 in
+    let same = others_same all old.document none applies in
+    let did = c.in-Err.ensures.sure (only_others_here mid all (all_in_memory_stay all old mid stays here)) (subst (CanApplyAll (others all)) (sym stays.document) same.0) in
+    absurd (cc did.0)

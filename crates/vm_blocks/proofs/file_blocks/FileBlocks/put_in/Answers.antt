@@ -1,4 +1,4 @@
-use Rattle.std.proofs.Common.{◌≡◌, false, List, All, sym, subst}
+use Rattle.std.proofs.Common.{◌≡◌, false, List, All, sym, ap, subst, ◌∙◌}
 use Rattle.geos_model.specs.Document.{IsValid, handles_of}
 use Rattle.vm_file.specs.Calls.{IsPut, put_all}
 use Rattle.vm_file.specs.Members.{imaged_blocks}
@@ -31,9 +31,12 @@ invariant_of-self g c =
     sound_put g.S.Store.facts old c.put_blocks.new.self (put_all c.deref.result.now old.document) c.put_blocks.result c.self.invariant
     (λ valid. subst (λ (xs : List Member). IsValid (put_all xs old.document)) (sym c.deref.ensures.value) (change_back (changes.BlocksIn ms) old.document valid free).0) c.put_blocks.ensures.keeps c.put_blocks.ensures.resident
 
-pub returns : goal.returns
-returns g c =
+pub returns-clause-turns : goal.returns-clause-turns
+returns-clause-turns g c =
     let ms = c.args.members.now in
     subst (λ (s : CacheState g.row.S.Denot). Turns g.S.Store.facts (changes.BlocksIn ms) s c.put_blocks.new.self c.put_blocks.result) c.self.view_is
     (put_in_turns g.S.Store.facts ms c.deref.result.now c.self.inside.cache c.put_blocks.new.self c.deref.ensures.value c.put_blocks.ensures.resident c.put_blocks.result
     c.put_blocks.ensures.keeps c.put_blocks.ensures.fails c.put_blocks.ensures.none)
+
+pub returns-clause-resident : goal.returns-clause-resident
+returns-clause-resident g c = c.put_blocks.ensures.resident.0 ∙ ap (λ (s : CacheState g.row.S.Denot). s.resident) c.self.view_is
