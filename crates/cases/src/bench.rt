@@ -1,4 +1,7 @@
 //! What a case is played on: a file and a session on it, and what a save-as makes and leaves.
+mod running;
+
+use crate::bench::running::{Seen, Stream};
 use crate::mismatch::{Mismatch, expect, mismatch_at};
 use crate::step::{Action, Side};
 use dialogues::Dialogue;
@@ -10,7 +13,7 @@ use undo_log::Session;
 use vm_store::{FuseStore, MemStore};
 
 /// A file in memory that fails on order.
-type File = FuseStore<MemStore>;
+pub(crate) type File = FuseStore<MemStore>;
 
 /// Of which store the call after so many fails, or all from there on.
 #[derive(Clone, Copy)]
@@ -47,9 +50,15 @@ impl Pending {
     fn put(&mut self, number: usize, line: &Dialogue) -> Result<(), AllocError> {
         self.script.push_str(line.script())?;
         if !line.replies().is_empty() {
-            self.replies.push_str(line.replies())?;
-            self.numbers.push(number)?;
+            self.put_written(number, line.replies())?;
         }
+        Ok(())
+    }
+
+    // Puts a line that is written behind the replies.
+    fn put_written(&mut self, number: usize, line: &str) -> Result<(), AllocError> {
+        self.replies.push_str(line)?;
+        self.numbers.push(number)?;
         Ok(())
     }
 
@@ -101,6 +110,9 @@ pub(crate) struct Bench {
     /// The bytes of the file when it was opened last.
     opened: Vec<u8>,
     pending: Pending,
+    /// What was begun and hasn't ended. The lines that aren't said yet are its script.
+    stream: Option<Stream>,
+    seen: Seen,
 }
 
 // A session on a new file, or on the one that a store has; or what it is refused for, with the store.
@@ -144,6 +156,8 @@ impl Bench {
             former: None,
             opened: Vec::new(alloc),
             pending: no_lines(alloc),
+            stream: None,
+            seen: Seen::nothing(alloc),
         }
     }
 
@@ -196,6 +210,9 @@ impl Bench {
     /// Says the lines that aren't said yet.
     pub(crate) fn say(&mut self) -> Result<(), Mismatch> {
         let lines = mem::replace(&mut self.pending, no_lines(self.alloc));
+        if self.stream.is_some() {
+            return Err(self.no_end(lines.number_at(0)));
+        }
         if lines.script.is_empty() {
             return Ok(());
         }
@@ -356,18 +373,31 @@ impl Bench {
             Action::Has(at, bytes) => self.look_at(number, *at, bytes),
             Action::Unchanged => self.look_for_change(number),
             Action::Synced => self.look_for_crash(number),
+            Action::Look(look) => self.look_behind(number, look),
             _ => Ok(()),
         }
     }
 
+    // Takes a step that belongs to what was begun, if it is one.
+    fn take_streamed(&mut self, number: usize, action: &Action) -> Result<bool, Mismatch> {
+        match action {
+            Action::Say(line) => self.pending.put(number, line)?,
+            Action::Stream(step) => self.stream_on(number, step)?,
+            Action::Ends(wanted) => self.end(number, wanted)?,
+            _ => return Ok(false),
+        }
+        Ok(true)
+    }
+
     /// Takes a step.
     pub(crate) fn take(&mut self, number: usize, action: &Action) -> Result<(), Mismatch> {
-        if let Action::Say(line) = action {
-            self.pending.put(number, line)?;
+        if self.take_streamed(number, action)? {
             return Ok(());
         }
         self.say()?;
         match action {
+            Action::Begin(beginning) => self.begin(beginning),
+            Action::Closed => self.turn_to_closed(number),
             Action::File(length) => self.give(*length),
             Action::Put(at, bytes) => self.put(number, *at, bytes),
             Action::Open(wanted) => self.open(number, wanted),

@@ -3,10 +3,13 @@
 
 mod bench;
 mod case_file;
+mod files;
 mod mismatch;
 mod numbers;
 mod playing;
 mod step;
+mod streaming;
+mod streams;
 
 use crate::case_file::{Case, CaseFault, read_cases};
 use crate::mismatch::Mismatch;

@@ -1,5 +1,5 @@
 //! How a case differs from what is written.
-use std::alloc::{AllocError, Global};
+use std::alloc::{AllocError, AllocFailed, Global};
 
 #[derive(Debug, Drop)]
 pub(crate) enum Mismatch {
@@ -14,6 +14,12 @@ pub(crate) enum Mismatch {
 
 impl From<AllocError> for Mismatch {
     fn from(_: AllocError) -> Mismatch {
+        Mismatch::Memory
+    }
+}
+
+impl<T: Drop> From<AllocFailed<T>> for Mismatch {
+    fn from(_: AllocFailed<T>) -> Mismatch {
         Mismatch::Memory
     }
 }

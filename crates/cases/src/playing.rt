@@ -3,6 +3,7 @@ use crate::bench::{Bench, Fuse, NO_FUSE};
 use crate::case_file::Case;
 use crate::mismatch::{Mismatch, expect, mismatch_at};
 use crate::step::{Action, Failing, Side};
+use crate::streaming::Beginning;
 use std::alloc::Global;
 use std::ops::Range;
 
@@ -23,7 +24,10 @@ impl Play<'_> {
             .iter()
             .find(|step| !matches!(step.action, Action::Say(_)))
         {
-            Some(step) => matches!(step.action, Action::File(_)),
+            Some(step) => matches!(
+                step.action,
+                Action::File(_) | Action::Begin(Beginning::Program(_))
+            ),
             None => false,
         }
     }

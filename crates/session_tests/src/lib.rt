@@ -4,14 +4,8 @@
 #[cfg(test)]
 mod calls;
 #[cfg(test)]
-mod forgetful;
-#[cfg(test)]
 mod lending;
 #[cfg(test)]
 mod lying;
 #[cfg(test)]
-mod memory;
-#[cfg(test)]
 mod mismatches;
-#[cfg(test)]
-mod parts;
