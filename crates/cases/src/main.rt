@@ -1,6 +1,7 @@
 //! Plays the cases of files, each a script with the replies that it must get, and what fails or is looked at between.
 #![tactic(auto)]
 
+mod anywhere;
 mod bench;
 mod case_file;
 mod files;

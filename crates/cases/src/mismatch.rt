@@ -12,6 +12,24 @@ pub(crate) enum Mismatch {
     },
 }
 
+impl Mismatch {
+    /// Whether what came is the refusal that a store which failed leads to.
+    pub(crate) fn is_of_store(&self) -> bool {
+        match self {
+            Mismatch::Line { given, .. } => given.as_str() == "no 2 File",
+            Mismatch::Memory => false,
+        }
+    }
+
+    /// What came, where that isn't that memory ran out.
+    pub(crate) fn given(self) -> Result<Vec<u8>, Mismatch> {
+        match self {
+            Mismatch::Line { given, .. } => Ok(given.into_bytes()),
+            Mismatch::Memory => Err(Mismatch::Memory),
+        }
+    }
+}
+
 impl From<AllocError> for Mismatch {
     fn from(_: AllocError) -> Mismatch {
         Mismatch::Memory

@@ -32,6 +32,8 @@ pub(crate) enum Failing {
 pub(crate) enum Action {
     /// A line of a script is said, and its reply is this one, if it gets any.
     Say(Dialogue),
+    /// A new file is made and opened.
+    New,
     /// There is a file of so many zeros, which isn't open.
     File(usize),
     /// Bytes are put into the file.

@@ -35,6 +35,8 @@ pub(crate) enum Streaming {
     Reads(usize),
     /// A read is interrupted before each one that serves.
     IsInterrupted,
+    /// The script comes over and over.
+    IsEndless,
     /// A write takes so many bytes at most.
     Takes(usize),
     /// So many writes serve.
@@ -88,6 +90,7 @@ pub(crate) fn read_streaming(
     match word {
         "piece" => Ok(Some(Streaming::Stop(Stop::Piece))),
         "interrupted" => Ok(Some(Streaming::IsInterrupted)),
+        "endless" => Ok(Some(Streaming::IsEndless)),
         "unguarded" => Ok(Some(Streaming::IsUnguarded)),
         "read" => Ok(read_stop(rest)),
         "|" | "|*" | "told" => read_text(alloc, word, rest),

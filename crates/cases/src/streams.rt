@@ -21,6 +21,10 @@ pub(crate) struct Strength {
     pub(crate) reads: usize,
     /// A read is interrupted before each one that serves.
     pub(crate) is_interrupted: bool,
+    /// The script comes over and over.
+    pub(crate) is_endless: bool,
+    /// So many reads serve.
+    pub(crate) serves: usize,
     /// A write takes so many bytes at most.
     pub(crate) takes: usize,
     /// So many writes serve.
@@ -33,6 +37,8 @@ pub(crate) struct Strength {
 pub(crate) const STRONG: Strength = Strength {
     reads: usize::MAX,
     is_interrupted: false,
+    is_endless: false,
+    serves: usize::MAX,
     takes: usize::MAX,
     writes: usize::MAX,
     flushes: usize::MAX,
@@ -52,12 +58,25 @@ impl Desk {
     }
 }
 
+// Counts down to a failure.
+fn tire(left: &mut usize) -> io::Result<()> {
+    match left.checked_sub(1) {
+        Some(less) => {
+            *left = less;
+            Ok(())
+        }
+        None => Err(io::Error::from(ErrorKind::BrokenPipe)),
+    }
+}
+
 /// A reader of a script, which stops at places. At the first read behind one it fails where the replies to the lines
 /// before aren't flushed, or others are.
 #[derive(Drop)]
 pub(crate) struct Feeding<'a> {
     desk: &'a Desk,
+    script: &'a [u8],
     left: &'a [u8],
+    is_endless: bool,
     // How many bytes are read.
     at: usize,
     places: &'a [Place],
@@ -65,6 +84,8 @@ pub(crate) struct Feeding<'a> {
     is_interrupted: bool,
     // Whether the next read is interrupted.
     is_next_interrupted: bool,
+    // How many reads serve.
+    serves: usize,
 }
 
 // Puts as much as there is room for, and tells how much that is.
@@ -85,12 +106,15 @@ impl<'a> Feeding<'a> {
     ) -> Feeding<'a> {
         Feeding {
             desk,
+            script,
             left: script,
+            is_endless: strength.is_endless,
             at: 0,
             places,
             piece: strength.reads,
             is_interrupted: strength.is_interrupted,
             is_next_interrupted: strength.is_interrupted,
+            serves: strength.serves,
         }
     }
 
@@ -121,6 +145,9 @@ impl<'a> Feeding<'a> {
     fn give(&mut self, buf: &mut [u8]) -> usize
         ensures { result ≤ length buf.new }
     {
+        if self.is_endless && self.left.is_empty() {
+            self.left = self.script;
+        }
         let left = self.left;
         let most = self.ahead().min(self.piece).min(left.len());
         let count = put_front(&left[..most], buf);
@@ -149,6 +176,7 @@ impl Read for Feeding<'_> {
             return Err(io::Error::from(ErrorKind::Interrupted));
         }
         self.is_next_interrupted = self.is_interrupted;
+        tire(&mut self.serves)?;
         if let Some(place) = self.stop() {
             if let Some(kind) = self.error_at(place) {
                 return Err(io::Error::from(kind));
@@ -176,17 +204,6 @@ impl<'a> Taking<'a> {
             taken: Vec::new(alloc),
             longest: 0,
         }
-    }
-}
-
-// Counts down to a failure.
-fn tire(left: &mut usize) -> io::Result<()> {
-    match left.checked_sub(1) {
-        Some(less) => {
-            *left = less;
-            Ok(())
-        }
-        None => Err(io::Error::from(ErrorKind::BrokenPipe)),
     }
 }
 

@@ -46,6 +46,7 @@ impl Stream {
             Streaming::Told(text) => self.told.push_str(text)?,
             Streaming::Reads(most) => self.strength.reads = *most,
             Streaming::IsInterrupted => self.strength.is_interrupted = true,
+            Streaming::IsEndless => self.strength.is_endless = true,
             Streaming::Takes(most) => self.strength.takes = *most,
             Streaming::Writes(count) => self.strength.writes = *count,
             Streaming::Flushes(count) => self.strength.flushes = *count,
@@ -105,6 +106,17 @@ fn end_of(alloc: Global, end: Result<(), RunFault>) -> Result<String, AllocError
     }
 }
 
+// How many lines end in these bytes.
+fn count_lines(bytes: &[u8]) -> usize {
+    let mut count = 0_usize;
+    for byte in bytes {
+        if *byte == b'\n' {
+            count = count.saturating_add(1);
+        }
+    }
+    count
+}
+
 impl Bench {
     /// What was begun doesn't end.
     pub(super) fn no_end(&self, number: usize) -> Mismatch {
@@ -150,6 +162,31 @@ impl Bench {
             Beginning::Program(text) => self.serve(text, &lines, &stream)?,
         }
         self.compare_end(number, wanted, &lines, &stream)
+    }
+
+    // Compares the replies of a run to so many lines, of which some may not be written where a write or a flush failed.
+    fn compare_cut(&self, lines: &Pending, count: usize) -> Result<(), Mismatch> {
+        let (written, replies) = (self.seen.written.as_slice(), lines.replies.as_bytes());
+        let may_lack = self.seen.ends.as_str() == "write fault";
+        if replies.starts_with(written) && (may_lack || count_lines(written) == count) {
+            return Ok(());
+        }
+        let number = lines.number_at(count);
+        Err(mismatch_at(self.alloc, number, "the first replies", "others"))
+    }
+
+    /// Has the lines that aren't said yet in a run, which may end by a fault of the reader or of the writer. Gives how
+    /// many lines were read, and whether the run ended well.
+    pub(crate) fn cut(&mut self, strength: Strength) -> Result<(usize, bool), Mismatch> {
+        let lines = mem::replace(&mut self.pending, no_lines(self.alloc));
+        let mut stream = Stream::new(self.alloc, Beginning::Run(Manner::default()));
+        stream.strength = strength;
+        self.run(lines.number_at(0), Manner::default(), &lines, &stream)?;
+        let script = lines.script.as_bytes();
+        let read = script.len().saturating_sub(self.seen.unread);
+        let count = count_lines(script.get(..read).unwrap_or(&[]));
+        self.compare_cut(&lines, count)?;
+        Ok((count, self.seen.ends.as_str() == "well"))
     }
 
     fn compare_end(
