@@ -3,7 +3,7 @@ use Rattle.std.proofs.lemmas.List.Sorted.{IsPermutation-middle}
 use Rattle.geos_model.specs.declared.file.Extent.{Extent}
 use Rattle.vm_space.specs.Space.{AreTaken}
 use Rattle.vm_space.proofs.SpaceLemmas.{taken-permuted}
-use Rattle.space_tests.proofs.placing.extents_that_overlap_are_given_back_one_by_one.Goals as goal
+use Rattle.file_tests.proofs.placing.extents_that_overlap_are_given_back_one_by_one.Goals as goal
 
 pub release-requires : goal.release-requires
 release-requires g c =
