@@ -13,7 +13,6 @@ program() {
 }
 geosvm=$(program geosvm geosvm)
 geosdoc=$(program geosdoc geosdoc)
-refusals=$(program refusal_tests_tests refusal_tests)
 
 # How many documents are made by chance, how often edits are, of how many bytes of a file each is changed, and which requests for memory
 # are refused.
@@ -34,7 +33,7 @@ fi
 check() {
     case $1 in
     embedding) OVER_CI=yes sh embedding/build.sh ;;
-    each_request) sh checks/each_request.sh "$geosvm" "$refusals" $requests ;;
+    each_request) sh checks/each_request.sh "$geosvm" $requests ;;
     failing_calls) python3 checks/failing_calls.py "$geosvm" "$geosdoc" ;;
     dumped_documents) python3 checks/dumped_documents.py "$geosvm" "$geosdoc" $documents ;;
     limits) python3 checks/limits.py "$geosvm" "$geosdoc" $long ;;

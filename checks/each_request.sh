@@ -1,17 +1,17 @@
 #!/bin/sh
 # Needs: gcc
-# Has each request for memory refused, one a run, until a run meets no refusal: in the tests of `refusal_tests` whose names begin with
-# `memory`, and in geosvm on each example. No code of Rattle can have the allocator refuse, so that rt ci runs those tests without a
-# refusal; here malloc and the like are those of a library of a few lines. Then geosvm is run where there is little memory.
+# Has each request of geosvm for memory refused, one a run, until a run meets no refusal: on each example, and on each case of
+# crates/cases/data/refusals.cases. No code of Rattle can have the allocator refuse; here malloc and the like are those of a library of a
+# few lines. Then geosvm is run where there is little memory.
 #
-#     sh checks/each_request.sh crates/geosvm/out/geosvm crates/refusal_tests/out/refusal_tests_tests [EVERY]
+#     sh checks/each_request.sh crates/geosvm/out/geosvm [EVERY]
 #
 # Where EVERY is given only one of so many requests is refused, the first one of all among them.
 set -u
 geosvm=$(realpath "${1:?the path of the program}")
-tests=$(realpath "${2:?the path of the tests of refusal_tests}")
-every=${3:-1}
+every=${2:-1}
 data=$(realpath "$(dirname "$0")/../crates/examples/data")
+cases=$(realpath "$(dirname "$0")/../crates/cases/data/refusals.cases")
 folder=$(mktemp -d)
 cd "$folder" || exit 2
 trap 'rm -rf "$folder"' EXIT
@@ -29,102 +29,41 @@ told() {
     fi
 }
 
-# Refuses the request of the number in REFUSED. They are counted from the start where FROM_THE_START is set, and else from one of 1,000,003
-# bytes on, by which a test says that it begins. By one of 1,000,033 a test says that a call was answered as memory that ran out is. What
-# happened is told on descriptor 9.
+# Refuses the request of the number in REFUSED, and tells on descriptor 9 that it has.
 cat >refusing.c <<'END'
 #include <errno.h>
-#include <malloc.h>
 #include <stddef.h>
 #include <stdlib.h>
-#include <string.h>
 #include <unistd.h>
 
 void *__libc_malloc(size_t), *__libc_calloc(size_t, size_t), *__libc_realloc(void *, size_t), *__libc_memalign(size_t, size_t);
 
 static long number, count;
-static int counts, has_refused;
-
-static void tell(const char *text) {
-    if (write(9, text, strlen(text)) < 0)
-        _exit(4);
-}
 
 __attribute__((constructor)) static void begin(void) {
     const char *it = getenv("REFUSED");
     number = it ? atol(it) : 0;
-    counts = getenv("FROM_THE_START") != NULL;
 }
 
-/* The library's `collect` asks a second time, for as much, where it is refused; and a vector that is to give room back keeps it where that
-   is refused. Neither is answered as memory that ran out. */
-static size_t wanted;
-
-static int refuses(size_t size, int gives_back) {
-    if (has_refused && size == wanted)
-        tell("asked again\n");
-    wanted = 0;
-    if (size == 1000003) {
-        counts = 1;
+static int refuses(void) {
+    if (++count != number)
         return 0;
-    }
-    if (size == 1000033) {
-        tell(has_refused ? "answered\n" : "answered without a refusal\n");
-        return 0;
-    }
-    if (!counts || ++count != number)
-        return 0;
-    has_refused = 1;
-    wanted = size;
-    tell(gives_back ? "kept\n" : "refused\n");
+    if (write(9, "refused\n", 8) < 0)
+        _exit(4);
     errno = ENOMEM;
     return 1;
 }
 
-void *malloc(size_t n) { return refuses(n, 0) ? NULL : __libc_malloc(n); }
-void *calloc(size_t k, size_t n) { return refuses(k * n, 0) ? NULL : __libc_calloc(k, n); }
-void *realloc(void *p, size_t n) { return refuses(n, p && n <= malloc_usable_size(p)) ? NULL : __libc_realloc(p, n); }
-void *aligned_alloc(size_t a, size_t n) { return refuses(n, 0) ? NULL : __libc_memalign(a, n); }
+void *malloc(size_t n) { return refuses() ? NULL : __libc_malloc(n); }
+void *calloc(size_t k, size_t n) { return refuses() ? NULL : __libc_calloc(k, n); }
+void *realloc(void *p, size_t n) { return refuses() ? NULL : __libc_realloc(p, n); }
+void *aligned_alloc(size_t a, size_t n) { return refuses() ? NULL : __libc_memalign(a, n); }
 int posix_memalign(void **p, size_t a, size_t n) {
-    *p = refuses(n, 0) ? NULL : __libc_memalign(a, n);
+    *p = refuses() ? NULL : __libc_memalign(a, n);
     return *p ? 0 : ENOMEM;
 }
 END
 gcc -O1 -Wall -shared -fPIC -o refusing.so refusing.c || exit 2
-
-# refusing NUMBER COMMAND..: with that request refused
-refusing() {
-    number=$1
-    shift
-    LD_PRELOAD=$folder/refusing.so REFUSED=$number "$@" 9>happened
-}
-
-echo "-- each request of a test: what is refused is answered as lack of memory once, has changed nothing, and is done when it is asked for again"
-total=0
-unanswered=0
-for test in $("$tests" --list | sed -n 's/: test$//p' | grep '^memory'); do
-    number=1
-    tried=0
-    wrong=
-    while :; do
-        refusing "$number" "$tests" "$test" >said 2>&1
-        status=$?
-        [ "$status" = 0 ] || wrong="$wrong $number ($(tr '\n' ' ' <said))"
-        [ -s happened ] || break
-        tried=$((tried + 1))
-        case "$(tr '\n' ' ' <happened)" in
-        "refused answered " | "refused asked again answered " | "kept answered " | "kept asked again answered ") ;;
-        "refused asked again " | "kept " | "kept asked again ") unanswered=$((unanswered + 1)) ;;
-        *) wrong="$wrong $number ($(tr '\n' ' ' <happened))" ;;
-        esac
-        [ "$number" -lt 10000 ] || break
-        number=$((number + every))
-    done
-    total=$((total + tried))
-    [ $((tried * every)) -gt 20 ] || wrong="$wrong $tried requests alone"
-    told "$tried requests of $test" "" "$wrong"
-done
-echo "        $total requests, of which $unanswered needn't be met: the same is asked again, or room is kept"
 
 # A script that asks a document for all that it has, and then for all that was saved.
 awk 'function ask(b, c) {
@@ -136,16 +75,19 @@ awk 'function ask(b, c) {
     }
     BEGIN { ask(); print "revert"; ask() }' >questions
 
-# shown FILE: what the document has; nothing where it is none
+# shown: what the document has, and the file of a save-as. What a save-as that is refused leaves there is no document.
 shown() {
-    rm -f looked_into
-    if [ -e "$1" ]; then cp "$1" looked_into; fi
-    "$geosvm" looked_into <questions 2>&1
+    for looked_at in document copy; do
+        rm -f looked_into
+        if [ -e $looked_at ]; then cp $looked_at looked_into; fi
+        echo "$looked_at"
+        "$geosvm" looked_into <questions 2>/dev/null
+    done
 }
 
-# start: the document as an example finds it
+# start: the document as a script finds it
 start() {
-    rm -f document
+    rm -f document copy
     [ -z "$before" ] || cp "$before" document
 }
 
@@ -157,12 +99,12 @@ foresee() {
     while [ "$line" -le "$lines" ]; do
         start
         head -n "$line" script | "$geosvm" $options document >behind/"$line".replies
-        shown document >behind/"$line"
+        shown >behind/"$line"
         start
         if [ "$line" -gt 0 ]; then
             sed "${line}d" script | "$geosvm" $options document | sed "${line}i no 1 Memory" >without/"$line".replies
             [ "$line" -lt "$lines" ] || echo "no 1 Memory" >>without/"$line".replies
-            shown document >without/"$line"
+            shown >without/"$line"
         fi
         line=$((line + 1))
     done
@@ -171,7 +113,7 @@ foresee() {
 # judge STATUS: what a run with a request refused has written and left is that behind some lines of the script, or without one
 judge() {
     answered=$(wc -l <replies | tr -d ' ')
-    shown document >left
+    shown >left
     case "$1 $(cat errors)" in
     "0 ")
         cmp -s replies behind/"$lines".replies && cmp -s left behind/"$lines" && return
@@ -186,6 +128,10 @@ judge() {
             [ "$answered" = 0 ] && [ -z "$before" ] && [ ! -s document ] && return
         fi
         ;;
+    # The file of a save-as is opened before a new document is made.
+    "1 geosvm: target 2 File")
+        [ ! -s replies ] && [ ! -s document ] && return
+        ;;
     # A call on the system that has no memory for its path, say, has failed, and is told as one that failed otherwise.
     "1 geosvm: create 1 Memory" | "1 geosvm: create 2 File")
         [ ! -s replies ] && [ ! -s document ] && return
@@ -197,20 +143,20 @@ judge() {
     wrong="$wrong $number ($1 $(cat errors))"
 }
 
-# each_of NAME OPTIONS BEFORE: an example, with each request of geosvm refused
+# each_of NAME OPTIONS BEFORE: a script, with its replies beside it, with each request of geosvm refused
 each_of() {
     options=$2
     before=$3
-    grep -v '^[[:space:]]*\(#\|$\)' "$data/$1.script" >script
+    grep -v '^[[:space:]]*\(#\|$\)' "$1.script" >script
     lines=$(wc -l <script | tr -d ' ')
     foresee
     wrong=
-    cmp -s behind/"$lines".replies "$data/$1.replies" || wrong=" other replies than the example's"
+    cmp -s behind/"$lines".replies "$1.replies" || wrong=" other replies than those beside it"
     number=1
     tried=0
     while :; do
         start
-        FROM_THE_START=1 refusing "$number" "$geosvm" $options document <script >replies 2>errors
+        REFUSED=$number LD_PRELOAD=$folder/refusing.so "$geosvm" $options document <script >replies 2>errors 9>happened
         judge $?
         [ -s happened ] || break
         tried=$((tried + 1))
@@ -219,16 +165,48 @@ each_of() {
     done
     total=$((total + tried))
     [ $((tried * every)) -gt 40 ] || wrong="$wrong $tried requests alone"
-    told "$tried requests of geosvm, $1" "" "$wrong"
+    told "$tried requests, $(basename "$1") $options" "" "$wrong"
 }
 
-echo "-- each request of geosvm: the replies to the first lines and the document that these lead to, or all but of the line that is refused"
+echo "-- each request: the replies to the first lines and the document that these lead to, or all but of the line that is refused"
 total=0
 for name in first_path chunk_edits arrays chains contents locks small_document files_made; do
-    each_of $name --new ""
+    each_of "$data/$name" --new ""
 done
 "$geosvm" --new saved <"$data/files_made.script" >replies
-each_of files_opened "" saved
+each_of "$data/files_opened" "" saved
+
+# The cases, each opening as a script with its replies: `case_3.0` is that of the new file, and `case_3.1` of the file that it leaves. In
+# `case_3.options` is how the first is run, in `case_3.files` on which file each other one is.
+awk 'function put(command, reply) {
+        print command >>(name "." opening ".script")
+        print reply >>(name "." opening ".replies")
+    }
+    function commit() { put("update", "ok"); put("save", "ok"); put("revert", "ok") }
+    function say(line) { sub(/^ +/, "", line); split(line, parts, / += /); put(parts[1], parts[2]) }
+    /^define/ { name = "" }
+    /^case/ { name = "case_" ++cases; opening = 0; file = "document"; options = "--new" }
+    !name { next }
+    /^frames/ { print options " --cache " $2 >(name ".options") }
+    /^target/ { printf " --as copy" >>(name ".options"); file = "copy" }
+    /^use commits/ { commit() }
+    /^former/ { file = "document" }
+    /^open/ { opening++; print file >>(name ".files") }
+    /^ / { say($0) }' "$cases"
+for script in case_*.0.script; do
+    name=${script%.0.script}
+    options=$(tr '\n' ' ' <"$name".options)
+    each_of "$name".0 "$options" ""
+    before=
+    start
+    "$geosvm" $options document <"$name".0.script >replies
+    for file in document copy; do [ ! -e $file ] || cp $file left_by_$file; done
+    opening=0
+    [ ! -e "$name".files ] || while read -r file; do
+        opening=$((opening + 1))
+        each_of "$name".$opening "" left_by_"$file"
+    done <"$name".files
+done
 echo "        $total requests"
 
 # within ROOM OPTIONS FILE SCRIPT: what geosvm answers where it has so many kB of addresses

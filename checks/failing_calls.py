@@ -541,7 +541,8 @@ SCENARIOS = [
 ]
 # The library makes no file beside an old one: its program opens the files.
 OF_LIBRARY = ["opened", "no document", "made", "saved as a new one"]
-LOOKS = [["check", "document"], ["dump", "document"], ["dump", "--other", "document"], ["stat", "document"], ["map", "document"]]
+LOOKS = [["check", "document"], ["dump", "document"], ["dump", "--other", "document"], ["stat", "document"], ["map", "document"],
+         ["map", "--svg", "document"]]
 
 if __name__ == "__main__":
     main()

@@ -12,8 +12,8 @@ use vm_store::{MemStore, Store};
 
 const BLOCK: VmHandle = VmHandle(1);
 
-/// Those of each block here.
-pub(crate) const ATTRIBUTES: Attributes = Attributes {
+// Those of each block here.
+const ATTRIBUTES: Attributes = Attributes {
     user_id: 7,
     heap_type: 0,
 };
@@ -69,7 +69,7 @@ fn images_are_written_and_read(rt: HostRuntime) -> Result<(), Fail> {
 }
 
 // The least free handle gets a block with an empty heap.
-pub(crate) fn put<S: Store>(alloc: Global, blocks: &mut FileBlocks<S>) -> Result<(), Fault> {
+fn put<S: Store>(alloc: Global, blocks: &mut FileBlocks<S>) -> Result<(), Fault> {
     let block = BlockImage::empty_heap(alloc, ATTRIBUTES)?;
     match blocks.next_handle() {
         None => Err(Fault::NoHandles),

@@ -8,8 +8,6 @@ mod asserting;
 #[cfg(test)]
 mod calls;
 #[cfg(test)]
-mod changing_all;
-#[cfg(test)]
 mod heaps;
 #[cfg(test)]
 mod marks;

@@ -1,6 +1,9 @@
 //! What a case is played on: a file and a session on it, and what a save-as makes and leaves.
+mod running;
+
+use crate::bench::running::{Seen, Stream};
 use crate::mismatch::{Mismatch, expect, mismatch_at};
-use crate::step::{Action, Side};
+use crate::step::{Action, Side, Step};
 use dialogues::Dialogue;
 use geos_model::{Fault, VmHandle};
 use geos_shell::run_in;
@@ -10,7 +13,7 @@ use undo_log::Session;
 use vm_store::{FuseStore, MemStore};
 
 /// A file in memory that fails on order.
-type File = FuseStore<MemStore>;
+pub(crate) type File = FuseStore<MemStore>;
 
 /// Of which store the call after so many fails, or all from there on.
 #[derive(Clone, Copy)]
@@ -47,9 +50,15 @@ impl Pending {
     fn put(&mut self, number: usize, line: &Dialogue) -> Result<(), AllocError> {
         self.script.push_str(line.script())?;
         if !line.replies().is_empty() {
-            self.replies.push_str(line.replies())?;
-            self.numbers.push(number)?;
+            self.put_written(number, line.replies())?;
         }
+        Ok(())
+    }
+
+    // Puts a line that is written behind the replies.
+    fn put_written(&mut self, number: usize, line: &str) -> Result<(), AllocError> {
+        self.replies.push_str(line)?;
+        self.numbers.push(number)?;
         Ok(())
     }
 
@@ -101,6 +110,9 @@ pub(crate) struct Bench {
     /// The bytes of the file when it was opened last.
     opened: Vec<u8>,
     pending: Pending,
+    /// What was begun and hasn't ended. The lines that aren't said yet are its script.
+    stream: Option<Stream>,
+    seen: Seen,
 }
 
 // A session on a new file, or on the one that a store has; or what it is refused for, with the store.
@@ -144,6 +156,8 @@ impl Bench {
             former: None,
             opened: Vec::new(alloc),
             pending: no_lines(alloc),
+            stream: None,
+            seen: Seen::nothing(alloc),
         }
     }
 
@@ -157,15 +171,19 @@ impl Bench {
         FuseStore::new(store, fuse.passes, fuse.all)
     }
 
-    /// Begins a session on a new file.
+    /// Begins a session on a new file, in the store of the one that there is or in a new one.
     pub(crate) fn create(&mut self, number: usize) -> Result<(), Mismatch> {
-        let store = self.fused(Side::File, MemStore::new(self.alloc));
+        let store = match self.file.take() {
+            Some(file) => file,
+            None => self.fused(Side::File, MemStore::new(self.alloc)),
+        };
         match begun(self.alloc, store, self.frames, true) {
             Ok(session) => {
                 self.session = Some(session);
                 Ok(())
             }
-            Err((fault, _)) => {
+            Err((fault, file)) => {
+                self.file = Some(file);
                 let given = refusal(self.alloc, fault)?;
                 Err(mismatch_at(self.alloc, number, "a new file", &given))
             }
@@ -193,27 +211,39 @@ impl Bench {
         mismatch_at(self.alloc, number, "a file that is open", "none")
     }
 
-    /// Says the lines that aren't said yet.
-    pub(crate) fn say(&mut self) -> Result<(), Mismatch> {
-        let lines = mem::replace(&mut self.pending, no_lines(self.alloc));
-        if lines.script.is_empty() {
-            return Ok(());
-        }
-        let Some(session) = &mut self.session else {
-            return Err(self.no_session(lines.number_at(0)));
-        };
+    /// The replies to a script; none where no file is open.
+    pub(crate) fn answered(&mut self, script: &str) -> Result<Vec<u8>, Mismatch> {
         let mut given = Vec::new(self.alloc);
+        let Some(session) = &mut self.session else {
+            return Ok(given);
+        };
         let end = run_in(
             self.alloc,
             session,
             &mut self.target,
             &mut self.former,
-            &mut lines.script.as_bytes(),
+            &mut script.as_bytes(),
             &mut given,
         );
-        if end.is_err() {
-            return Err(Mismatch::Memory);
+        match end {
+            Ok(()) => Ok(given),
+            Err(_) => Err(Mismatch::Memory),
         }
+    }
+
+    /// Says the lines that aren't said yet.
+    pub(crate) fn say(&mut self) -> Result<(), Mismatch> {
+        let lines = mem::replace(&mut self.pending, no_lines(self.alloc));
+        if self.stream.is_some() {
+            return Err(self.no_end(lines.number_at(0)));
+        }
+        if lines.script.is_empty() {
+            return Ok(());
+        }
+        if self.session.is_none() {
+            return Err(self.no_session(lines.number_at(0)));
+        }
+        let given = self.answered(&lines.script)?;
         if self.is_judged {
             return lines.compare(self.alloc, &given);
         }
@@ -356,18 +386,32 @@ impl Bench {
             Action::Has(at, bytes) => self.look_at(number, *at, bytes),
             Action::Unchanged => self.look_for_change(number),
             Action::Synced => self.look_for_crash(number),
+            Action::Look(look) => self.look_behind(number, look),
             _ => Ok(()),
         }
     }
 
+    // Takes a step that belongs to what was begun, if it is one.
+    fn take_streamed(&mut self, number: usize, action: &Action) -> Result<bool, Mismatch> {
+        match action {
+            Action::Say(line) => self.pending.put(number, line)?,
+            Action::Stream(step) => self.stream_on(number, step)?,
+            Action::Ends(wanted) => self.end(number, wanted)?,
+            _ => return Ok(false),
+        }
+        Ok(true)
+    }
+
     /// Takes a step.
     pub(crate) fn take(&mut self, number: usize, action: &Action) -> Result<(), Mismatch> {
-        if let Action::Say(line) = action {
-            self.pending.put(number, line)?;
+        if self.take_streamed(number, action)? {
             return Ok(());
         }
         self.say()?;
         match action {
+            Action::New => self.create(number),
+            Action::Begin(beginning) => self.begin(beginning),
+            Action::Closed => self.turn_to_closed(number),
             Action::File(length) => self.give(*length),
             Action::Put(at, bytes) => self.put(number, *at, bytes),
             Action::Open(wanted) => self.open(number, wanted),
@@ -379,24 +423,65 @@ impl Bench {
         }
     }
 
-    /// How many calls the store has had that is the session's, or the one of the file that isn't open, and the other
-    /// one.
-    pub(crate) fn calls(self) -> (u64, u64) {
-        let Bench {
-            session,
-            file,
-            target,
-            former,
-            ..
-        } = self;
-        let here = match session {
-            Some(session) => session.close().calls(),
-            None => calls_of(&file),
+    // Takes a step, and says it if it is a line.
+    fn take_now(&mut self, step: &Step) -> Result<(), Mismatch> {
+        self.take(step.number, &step.action)?;
+        self.say()
+    }
+
+    /// Takes a step. Whether it is refused, since a call of a store failed in it.
+    pub(crate) fn is_refused(&mut self, step: &Step) -> Result<bool, Mismatch> {
+        let Err(mismatch) = self.take_now(step) else {
+            return Ok(false);
         };
-        match former {
-            Some(former) => (former.calls(), here),
-            None => (here, calls_of(&target)),
+        if mismatch.is_of_store() {
+            return Ok(true);
         }
+        Err(mismatch)
+    }
+
+    /// Closes the file that is open, if one is. Gives how many calls the file's store has had, and the target's.
+    pub(crate) fn calls(&mut self) -> (u64, u64) {
+        if let Some(session) = self.session.take() {
+            self.file = Some(session.close());
+        }
+        let here = calls_of(&self.file);
+        match &self.former {
+            Some(former) => (former.calls(), here),
+            None => (here, calls_of(&self.target)),
+        }
+    }
+
+    /// The file that is open, which is closed, or the one that isn't.
+    pub(crate) fn left(&mut self) -> Option<File> {
+        match self.session.take() {
+            Some(session) => Some(session.close()),
+            None => self.file.take(),
+        }
+    }
+
+    /// With no file and no session, and so a store may fail.
+    pub(crate) fn begin_anew(&mut self, fuse: Fuse) {
+        *self = Bench::new(self.alloc, self.frames, fuse, self.is_judged);
+    }
+
+    /// What a file stands for: what its updated document answers to these questions, and then its saved one; or how it
+    /// is refused.
+    pub(crate) fn documents_of(
+        &mut self,
+        file: MemStore,
+        questions: &str,
+    ) -> Result<Vec<u8>, Mismatch> {
+        self.begin_anew(NO_FUSE);
+        self.turn_to(file);
+        if let Err(mismatch) = self.open(0, "") {
+            return mismatch.given();
+        }
+        let mut documents = self.answered(questions)?;
+        self.answered("revert\n")?;
+        let saved = self.answered(questions)?;
+        documents.extend_from_slice(&saved)?;
+        Ok(documents)
     }
 }
 

@@ -1,6 +1,6 @@
 //! Files of cases, and how they are read.
 use crate::numbers::{Numbers, line_for};
-use crate::step::{Step, StepFault, first_word, read_action, read_line};
+use crate::step::{Action, Step, StepFault, first_word, read_action, read_line};
 use std::alloc::{AllocError, AllocFailed, Global};
 
 /// Why a file of cases can't be read.
@@ -29,6 +29,8 @@ pub(crate) struct Case {
     pub(crate) name: String,
     pub(crate) frames: Vec<usize>,
     pub(crate) steps: Vec<Step>,
+    /// What is asked of a session where the case is played once for each place where something can fail, else nothing.
+    pub(crate) questions: String,
 }
 
 /// A line of a script.
@@ -160,6 +162,7 @@ impl Case {
             name: name.to_string(alloc)?,
             frames: FRAMES.to_vec(alloc)?,
             steps: Vec::new(alloc),
+            questions: String::new(alloc),
         })
     }
 
@@ -258,6 +261,35 @@ impl Case {
         Ok(())
     }
 
+    // The lines of the script.
+    fn script(&self, alloc: Global) -> Result<String, AllocError> {
+        let mut script = String::new(alloc);
+        for step in &self.steps {
+            if let Action::Say(line) = &step.action {
+                script.push_str(line.script())?;
+            }
+        }
+        Ok(script)
+    }
+
+    // Anything may fail from here on, where a new file is made if the case hasn't begun on one. The lines of the
+    // section are what is asked.
+    fn begin_anywhere(
+        &mut self,
+        alloc: Global,
+        number: usize,
+        section: &Section,
+    ) -> Result<(), CaseFault> {
+        let mut asked = Case::new(alloc, "")?;
+        asked.put_all(alloc, &section.items)?;
+        self.questions = asked.script(alloc)?;
+        if self.steps.is_empty() {
+            let action = Action::New;
+            self.steps.push(Step { number, action })?;
+        }
+        Ok(())
+    }
+
     // Puts the steps there that an item uses, or what it says itself.
     fn put_or_use(
         &mut self,
@@ -265,18 +297,31 @@ impl Case {
         sections: &[Section],
         item: &Item,
     ) -> Result<(), CaseFault> {
-        let ("use", name) = first_word(&item.text) else {
-            return self.put(alloc, item);
-        };
-        match sections
-            .iter()
-            .find(|section| section.name.as_str() == name)
-        {
-            Some(section) => self.put_all(alloc, &section.items)?,
-            None => return Err(CaseFault::Line(item.number)),
+        let number = item.number;
+        match first_word(&item.text) {
+            ("use", name) => self.put_all(alloc, &section_of(sections, number, name)?.items)?,
+            ("anywhere", name) => {
+                self.begin_anywhere(alloc, number, section_of(sections, number, name)?)?
+            }
+            _ => return self.put(alloc, item),
         }
         self.say(alloc, &item.lines)?;
         Ok(())
+    }
+}
+
+// The section of a name that a line says.
+fn section_of<'a>(
+    sections: &'a [Section],
+    number: usize,
+    name: &str,
+) -> Result<&'a Section, CaseFault> {
+    match sections
+        .iter()
+        .find(|section| section.name.as_str() == name)
+    {
+        Some(section) => Ok(section),
+        None => Err(CaseFault::Line(number)),
     }
 }
 

@@ -1,12 +1,16 @@
 //! Plays the cases of files, each a script with the replies that it must get, and what fails or is looked at between.
 #![tactic(auto)]
 
+mod anywhere;
 mod bench;
 mod case_file;
+mod files;
 mod mismatch;
 mod numbers;
 mod playing;
 mod step;
+mod streaming;
+mod streams;
 
 use crate::case_file::{Case, CaseFault, read_cases};
 use crate::mismatch::Mismatch;

@@ -1,5 +1,5 @@
 //! How a case differs from what is written.
-use std::alloc::{AllocError, Global};
+use std::alloc::{AllocError, AllocFailed, Global};
 
 #[derive(Debug, Drop)]
 pub(crate) enum Mismatch {
@@ -12,8 +12,32 @@ pub(crate) enum Mismatch {
     },
 }
 
+impl Mismatch {
+    /// Whether what came is the refusal that a store which failed leads to.
+    pub(crate) fn is_of_store(&self) -> bool {
+        match self {
+            Mismatch::Line { given, .. } => given.as_str() == "no 2 File",
+            Mismatch::Memory => false,
+        }
+    }
+
+    /// What came, where that isn't that memory ran out.
+    pub(crate) fn given(self) -> Result<Vec<u8>, Mismatch> {
+        match self {
+            Mismatch::Line { given, .. } => Ok(given.into_bytes()),
+            Mismatch::Memory => Err(Mismatch::Memory),
+        }
+    }
+}
+
 impl From<AllocError> for Mismatch {
     fn from(_: AllocError) -> Mismatch {
+        Mismatch::Memory
+    }
+}
+
+impl<T: Drop> From<AllocFailed<T>> for Mismatch {
+    fn from(_: AllocFailed<T>) -> Mismatch {
         Mismatch::Memory
     }
 }

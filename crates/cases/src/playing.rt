@@ -1,8 +1,10 @@
 //! How a case is played: once with each number of frames, or once for each call of a store that is to fail.
+use crate::anywhere::fail_anywhere;
 use crate::bench::{Bench, Fuse, NO_FUSE};
 use crate::case_file::Case;
 use crate::mismatch::{Mismatch, expect, mismatch_at};
 use crate::step::{Action, Failing, Side};
+use crate::streaming::Beginning;
 use std::alloc::Global;
 use std::ops::Range;
 
@@ -23,7 +25,10 @@ impl Play<'_> {
             .iter()
             .find(|step| !matches!(step.action, Action::Say(_)))
         {
-            Some(step) => matches!(step.action, Action::File(_)),
+            Some(step) => matches!(
+                step.action,
+                Action::New | Action::File(_) | Action::Begin(Beginning::Program(_))
+            ),
             None => false,
         }
     }
@@ -50,7 +55,8 @@ impl Play<'_> {
 
     // The calls of a store's side behind the first steps, so many.
     fn calls_behind(self, count: usize, side: Side, fuse: Fuse) -> Result<u64, Mismatch> {
-        let (file, target) = self.run(count, fuse, false)?.calls();
+        let mut bench = self.run(count, fuse, false)?;
+        let (file, target) = bench.calls();
         Ok(match side {
             Side::File => file,
             Side::Target => target,
@@ -140,6 +146,9 @@ impl Play<'_> {
     }
 
     fn begin(self) -> Result<(), Mismatch> {
+        if !self.case.questions.is_empty() {
+            return fail_anywhere(self.alloc, self.case, self.frames);
+        }
         for (place, step) in self.case.steps.iter().enumerate() {
             if let Action::Fail(failing) = step.action {
                 return self.fail(place, step.number, failing);

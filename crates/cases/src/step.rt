@@ -1,5 +1,6 @@
 //! The steps of a case.
 use crate::numbers::{read_handle, with_list};
+use crate::streaming::{Beginning, Streaming, read_run, read_streaming};
 use dialogues::Dialogue;
 use geos_model::VmHandle;
 use std::alloc::{AllocError, Global};
@@ -31,6 +32,8 @@ pub(crate) enum Failing {
 pub(crate) enum Action {
     /// A line of a script is said, and its reply is this one, if it gets any.
     Say(Dialogue),
+    /// A new file is made and opened.
+    New,
     /// There is a file of so many zeros, which isn't open.
     File(usize),
     /// Bytes are put into the file.
@@ -59,6 +62,31 @@ pub(crate) enum Action {
     Unchanged,
     /// A crash now leaves the file as it is.
     Synced,
+    /// A run or the program is begun.
+    Begin(Beginning),
+    Stream(Streaming),
+    /// What was begun ends so.
+    Ends(String),
+    /// The file is the next one of those that the program has closed.
+    Closed,
+    Look(Look),
+}
+
+/// What must be so of what has ended, or of the session or the file.
+#[derive(Drop)]
+pub(crate) enum Look {
+    /// The program has asked for this.
+    Asked(String),
+    /// It has closed no other file.
+    AllClosed,
+    /// So many bytes of the script weren't read.
+    Unread(usize),
+    /// The longest write has so many bytes.
+    Longest(usize),
+    /// The file has so many bytes.
+    Length(usize),
+    /// The records of the session weigh so much, no less than the first and no more than the second.
+    Weight(u64, u64),
 }
 
 /// A step, and the number of its line in the case file.
@@ -116,6 +144,13 @@ pub(crate) fn read_line(alloc: Global, text: &str) -> Result<Action, AllocError>
     let mut line = Dialogue::new(alloc);
     line.add_lines(&with_list(alloc, text)?)?;
     Ok(Action::Say(marked(alloc, line.script(), line.replies())?))
+}
+
+/// A line that stands as the lines of a script do, with its line feed.
+pub(crate) fn expanded(alloc: Global, text: &str) -> Result<String, AllocError> {
+    let mut line = Dialogue::new(alloc);
+    line.add_lines(text)?;
+    with_marks(alloc, line.script())
 }
 
 // A line that ends without a line feed.
@@ -177,9 +212,44 @@ fn read_failing(text: &str) -> Result<Action, StepFault> {
     }
 }
 
+// `12`, or `up to 12`.
+fn read_weight(text: &str) -> Result<Look, StepFault> {
+    match text.strip_prefix("up to ") {
+        Some(most) => Ok(Look::Weight(0, read_number(most)? as u64)),
+        None => {
+            let weight = read_number(text)? as u64;
+            Ok(Look::Weight(weight, weight))
+        }
+    }
+}
+
+// What must be so of what has ended, or of the session or the file.
+fn read_look(alloc: Global, word: &str, rest: &str) -> Result<Option<Look>, StepFault> {
+    Ok(Some(match word {
+        "asked" => Look::Asked(rest.to_string(alloc)?),
+        "unread" => Look::Unread(read_number(rest)?),
+        "longest" => Look::Longest(read_number(rest)?),
+        "length" => Look::Length(read_number(rest)?),
+        "weight" => read_weight(rest)?,
+        _ => return Ok(None),
+    }))
+}
+
+// What a run or the program is about.
+fn read_stream(alloc: Global, word: &str, rest: &str) -> Result<Option<Action>, StepFault> {
+    match word {
+        "run" => Ok(read_run(rest).map(Action::Begin)),
+        "serve" => Ok(Some(Action::Begin(Beginning::Program(rest.to_string(alloc)?)))),
+        "ends" => Ok(Some(Action::Ends(rest.to_string(alloc)?))),
+        _ => Ok(read_streaming(alloc, word, rest)?.map(Action::Stream)),
+    }
+}
+
 // A step that is one word.
 fn read_alone(word: &str) -> Result<Action, StepFault> {
     match word {
+        "closed" => Ok(Action::Closed),
+        "all closed" => Ok(Action::Look(Look::AllClosed)),
         "close" => Ok(Action::Close),
         "former" => Ok(Action::Former),
         "count" => Ok(Action::Count),
@@ -191,6 +261,18 @@ fn read_alone(word: &str) -> Result<Action, StepFault> {
 
 /// A step that isn't a line of a script.
 pub(crate) fn read_action(alloc: Global, text: &str) -> Result<Action, StepFault> {
+    let (word, rest) = first_word(text);
+    if let Some(action) = read_stream(alloc, word, rest)? {
+        return Ok(action);
+    }
+    match read_look(alloc, word, rest)? {
+        Some(look) => Ok(Action::Look(look)),
+        None => read_other(alloc, text),
+    }
+}
+
+// A step that is neither.
+fn read_other(alloc: Global, text: &str) -> Result<Action, StepFault> {
     let (word, rest) = first_word(text);
     match word {
         "last" => Ok(read_last(alloc, rest)?),

@@ -1,10 +1,9 @@
 //! A dialogue, and whether a run goes as it is written.
-ghost use Rattle.std.specs.Prelude.{◌≡◌, ◌≤◌, ◌++◌, ◌∷◌, [], None, Option, IfOk, OnOk};
-ghost use Rattle.geos_model.specs.Script.{line_feed, lines, requests};
+ghost use Rattle.std.specs.Prelude.{◌≡◌, ◌++◌, [], None, Option, IfOk, OnOk};
+ghost use Rattle.geos_model.specs.Script.{lines, requests};
 ghost use Rattle.undo_log.specs.Sessions.{IsExact};
 ghost use Rattle.geos_shell.specs.Holdings.{AreExact, holding};
 ghost use Rattle.geos_shell.specs.Runs.{AnswersOf};
-ghost use Rattle.dialogues.specs.Dialogues.{Goes};
 
 use crate::shorthand::push_expanded;
 use geos_model::Fault;
@@ -12,7 +11,7 @@ use geos_shell::{RunFault, run_in};
 use std::alloc::{AllocError, Global};
 use std::marker::Model;
 use undo_log::Session;
-use vm_store::{MemStore, Store};
+use vm_store::Store;
 
 /// Why a run did not go as the dialogue is written.
 #[derive(Debug, Drop)]
@@ -80,15 +79,6 @@ impl Dialogue {
         self.replies.push_str(replies)
     }
 
-    /// A command and its reply.
-    pub fn add_line(&mut self, command: &str, reply: &str) -> Result<(), AllocError>
-        ensures { OnOk result
-            (self.new ≡ ((self.old.0 ++ command.now) ++ line_feed ∷ [], (self.old.1 ++ reply.now) ++ line_feed ∷ [])) }
-    {
-        self.add_text(command, reply)?;
-        self.add_text("\n", "\n")
-    }
-
     /// Lines, each a command, then ` = ` and its reply, or one that gets no reply. Spaces round each are left out. In a
     /// word `61+00*4` stands for `6100000000`.
     pub fn add_lines(&mut self, text: &str) -> Result<(), AllocError> {
@@ -122,33 +112,6 @@ impl Dialogue {
         self.replies.as_str()
     }
 
-    /// Runs the script on a new document, in a file in memory, with 1, 2, 8 and 64 frames, and compares the replies.
-    pub fn expect_replies(&self) -> Result<(), Mismatch>
-        ensures one { OnOk result (Goes 1 self.now.0 self.now.1) }
-        ensures two { OnOk result (Goes 2 self.now.0 self.now.1) }
-        ensures eight { OnOk result (Goes 8 self.now.0 self.now.1) }
-        ensures most { OnOk result (Goes 64 self.now.0 self.now.1) }
-    {
-        self.expect_replies_in(1)?;
-        self.expect_replies_in(2)?;
-        self.expect_replies_in(8)?;
-        self.expect_replies_in(64)
-    }
-
-    /// Runs the script on a new document that is held in so many frames, in a file in memory, and compares the replies.
-    pub fn expect_replies_in(&self, frames: usize) -> Result<(), Mismatch>
-        requires { (1 ≤ frames) × (frames ≤ 64) }
-        ensures { OnOk result (Goes frames self.now.0 self.now.1) }
-    {
-        match Session::create(self.alloc, MemStore::new(self.alloc), frames) {
-            Ok(session) => {
-                self.expect_replies_on(session, None)?;
-                Ok(())
-            }
-            Err(refused) => Err(Mismatch::Refused(refused.fault)),
-        }
-    }
-
     /// Runs the script on the document of a session, with what a save-as may make a file of, and compares the replies.
     /// Gives the session back.
     pub fn expect_replies_on<S: Store>(
@@ -178,13 +141,6 @@ impl Dialogue {
         }
         Err(first_mismatch(self.alloc, &self.replies, &written)?)
     }
-}
-
-/// Runs a dialogue that is written in lines, as for `add_lines`.
-pub fn expect_replies(alloc: Global, text: &str) -> Result<(), Mismatch> {
-    let mut dialogue = Dialogue::new(alloc);
-    dialogue.add_lines(text)?;
-    dialogue.expect_replies()
 }
 
 // Finds the first reply that differs.

@@ -4,4 +4,4 @@
 mod dialogue;
 mod shorthand;
 
-pub use dialogue::{Dialogue, Mismatch, expect_replies};
+pub use dialogue::{Dialogue, Mismatch};

@@ -1,15 +1,6 @@
 //! What many tests assert, each in a call: its proof is made once, and no test repeats it.
 use crate::steps::Mismatch;
 
-/// It is so.
-pub(crate) fn is_so<E: Into<Mismatch>>(answer: Result<bool, E>) -> Result<(), Mismatch> {
-    match answer {
-        Ok(true) => Ok(()),
-        Ok(false) => Err(Mismatch::NotSo),
-        Err(error) => Err(error.into()),
-    }
-}
-
 /// This number is the wanted one.
 pub(crate) fn same_number(given: Result<u64, Mismatch>, wanted: u64) -> Result<(), Mismatch> {
     match given {

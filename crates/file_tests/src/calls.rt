@@ -1,11 +1,9 @@
 //! Calls of a document file, each with what it has to know beforehand.
-ghost use Rattle.std.specs.Prelude.{◌≤◌, All, IfOk, OnOk, length};
+ghost use Rattle.std.specs.Prelude.{◌≤◌, All, IfOk, length};
 ghost use Rattle.vm_file.specs.Calls.{IsPut};
-ghost use Rattle.vm_file.specs.Disk.{MarkSameUnlessCorrupt};
 ghost use Rattle.geos_model.specs.Document.{most_blocks};
 
 use geos_model::{Attributes, CAPACITY, Fault, MOST_BLOCKS, VmHandle};
-use lmem_heap::Heap;
 use std::alloc::Global;
 use vm_file::{BlockImage, Image, Member, Refused, VmFile};
 use vm_store::{MemStore, Store};
@@ -56,20 +54,7 @@ pub(crate) fn raw_block(
     })
 }
 
-/// A block of a heap. Range where there can be none like it.
-pub(crate) fn heap_block(handle: u16, attributes: Attributes, heap: &Heap) -> Result<Member, Fault>
-    ensures { IfOk result IsPut }
-{
-    if handle == 0 || handle > MOST_BLOCKS {
-        return Err(Fault::Range);
-    }
-    Ok(Member {
-        handle: VmHandle(handle),
-        block: BlockImage::new(attributes, Image::of_heap(heap)?),
-    })
-}
-
-// The commits and the copy, without what their contracts say: a test that calls them is proved to be safe, no more.
+// The commits, without what their contracts say: a test that calls them is proved to be safe, no more.
 
 pub(crate) fn update<S: Store>(file: &mut VmFile<S>) -> Result<(), Fault> {
     file.commit_update()
@@ -83,18 +68,12 @@ pub(crate) fn revert<S: Store>(file: &mut VmFile<S>) -> Result<(), Fault> {
     file.commit_revert()
 }
 
-pub(crate) fn copy<S: Store>(file: &mut VmFile<S>, target: S) -> Result<VmFile<S>, Refused<S>> {
-    file.copy_to(target)
-}
-
 /// Puts a block into the document, where there is one.
 pub(crate) fn put_block<S: Store>(
     file: &mut VmFile<S>,
     block: Result<Member, Fault>,
 ) -> Result<(), Fault>
     requires { IfOk block IsPut }
-    ensures { OnOk result
-        (MarkSameUnlessCorrupt (S.facts file.old.disk.store).honest file.old.disk.marked file.new.disk.marked) }
 {
     file.put_blocks(&[block?], &[])
 }
@@ -106,21 +85,8 @@ pub(crate) fn put<S: Store>(
     handle: u16,
     user_id: u16,
     body: &[u8],
-) -> Result<(), Fault>
-    ensures { OnOk result
-        (MarkSameUnlessCorrupt (S.facts file.old.disk.store).honest file.old.disk.marked file.new.disk.marked) }
-{
-    put_block(file, raw_block(alloc, handle, user_id, body))
-}
-
-/// Puts an empty heap into the document.
-pub(crate) fn put_heap<S: Store>(
-    alloc: Global,
-    file: &mut VmFile<S>,
-    handle: u16,
-    attributes: Attributes,
 ) -> Result<(), Fault> {
-    put_block(file, heap_block(handle, attributes, &Heap::new(alloc)?))
+    put_block(file, raw_block(alloc, handle, user_id, body))
 }
 
 // A block under each handle, with its handle as user ID and this body.
@@ -227,24 +193,6 @@ pub(crate) fn set_user_id<S: Store>(
     }
 }
 
-pub(crate) fn set_type<S: Store>(
-    file: &mut VmFile<S>,
-    handle: u16,
-    heap_type: u16,
-) -> Result<(), Fault> {
-    match attributes_of(file, handle) {
-        Some(attributes) => set_attributes(
-            file,
-            handle,
-            Attributes {
-                heap_type,
-                ..attributes
-            },
-        ),
-        None => Err(Fault::NoBlock),
-    }
-}
-
 // WrongKind where a raw block would have a type.
 fn set_attributes<S: Store>(
     file: &mut VmFile<S>,
@@ -284,55 +232,9 @@ pub(crate) fn live_blocks<S: Store>(alloc: Global, file: &VmFile<S>) -> Result<V
     Ok(live)
 }
 
-// Whether there is a block under this handle, which has it as user ID, or none where there can be none.
-fn is_own<S: Store>(file: &VmFile<S>, handle: u16) -> bool {
-    match attributes_of(file, handle) {
-        Some(attributes) => handle != 0 && handle <= MOST_BLOCKS && attributes.user_id == handle,
-        None => handle == 0 || handle > MOST_BLOCKS,
-    }
-}
-
-/// Whether there is a block under each handle, which has it as user ID.
-pub(crate) fn is_full<S: Store>(file: &VmFile<S>) -> bool {
-    for handle in 0..u16::MAX {
-        if !is_own(file, handle) {
-            return false;
-        }
-    }
-    true
-}
-
 /// Whether these handles are those.
 pub(crate) fn are_same(given: Result<Vec<u16>, Fault>, wanted: &[u16]) -> Result<bool, Fault> {
     Ok(given?.as_slice() == wanted)
-}
-
-// The numbers of these handles.
-fn numbers(alloc: Global, blocks: &[VmHandle]) -> Result<Vec<u16>, Fault> {
-    let mut handles = Vec::new(alloc);
-    for block in blocks {
-        handles.push(block.0)?;
-    }
-    Ok(handles)
-}
-
-/// The handles that the document tells.
-pub(crate) fn listed<S: Store>(alloc: Global, file: &VmFile<S>) -> Result<Vec<u16>, Fault> {
-    numbers(alloc, &file.list()?)
-}
-
-pub(crate) fn next_handle<S: Store>(file: &VmFile<S>) -> Option<u16> {
-    match file.next_handle() {
-        Some(block) => Some(block.0),
-        None => None,
-    }
-}
-
-pub(crate) fn found<S: Store>(file: &VmFile<S>, user_id: u16, start: u16) -> Option<u16> {
-    match file.find(user_id, VmHandle(start)) {
-        Some(block) => Some(block.0),
-        None => None,
-    }
 }
 
 /// The first live block, 0 where there is none.
@@ -352,14 +254,6 @@ pub(crate) fn has_saved_block<S: Store>(file: &VmFile<S>) -> bool {
         }
     }
     false
-}
-
-/// Whether each commit is refused.
-pub(crate) fn is_worn_out<S: Store>(file: &mut VmFile<S>) -> bool {
-    file.is_worn()
-        && update(file) == Err(Fault::Worn)
-        && save(file) == Err(Fault::Worn)
-        && revert(file) == Err(Fault::Worn)
 }
 
 /// The first place at which these bytes are other ones than those, or at which one of them ends.

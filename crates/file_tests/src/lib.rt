@@ -1,4 +1,5 @@
-//! Tests of document files: what they hold, what opens, what a crash leaves, and their limits.
+//! Tests of document files that no script reaches: slots, directories and placement at their limits, what opens, byte by
+//! byte, and a file of the machine.
 #![tactic(auto)]
 
 #[cfg(test)]
@@ -6,28 +7,20 @@ mod asserting;
 #[cfg(test)]
 mod calls;
 #[cfg(test)]
-mod copying;
-#[cfg(test)]
-mod crashing;
-#[cfg(test)]
-mod creating;
+mod directories;
 #[cfg(test)]
 mod example;
 #[cfg(test)]
+mod extents;
+#[cfg(test)]
 mod limits;
-#[cfg(test)]
-mod listing;
-#[cfg(test)]
-mod marking;
 #[cfg(test)]
 mod opening;
 #[cfg(test)]
+mod placing;
+#[cfg(test)]
 mod real;
 #[cfg(test)]
-mod room;
+mod slots;
 #[cfg(test)]
 mod steps;
-#[cfg(test)]
-mod versions;
-#[cfg(test)]
-mod wearing;
