@@ -3,7 +3,7 @@ use crate::asserting::same_number;
 use crate::command_lines::{ends_with, help};
 use crate::mismatches::named;
 use geos_model::Fault;
-use geos_shell::parse;
+use geos_script::{parse, push_command};
 use std::alloc::{AllocError, Global};
 use std::process::Abort;
 use std::test::Fail;
@@ -52,8 +52,14 @@ fn is_bad(alloc: Global, line: &str) -> bool {
     matches!(parse(alloc, line.as_bytes()), Err(Fault::BadCommand))
 }
 
-fn is_good(alloc: Global, line: &str) -> bool {
-    parse(alloc, line.as_bytes()).is_ok()
+// Whether it is a command that is printed as the line.
+fn is_good(alloc: Global, line: &str) -> Result<bool, AllocError> {
+    let Ok(command) = parse(alloc, line.as_bytes()) else {
+        return Ok(false);
+    };
+    let mut printed = Vec::new(alloc);
+    push_command(&mut printed, &command)?;
+    Ok(printed.as_slice() == line.as_bytes())
 }
 
 // Puts a word for an operand behind a line that is no command before. Returns whether both are so.
@@ -81,9 +87,10 @@ fn adds_all(alloc: Global, line: &mut String, command: &str) -> Result<bool, All
     Ok(true)
 }
 
-// Whether a line that begins a command is one with all of its operands, and none with another word behind them.
+// Whether a line that begins a command is one with all of its operands, which is printed as it was, and none with another
+// word behind them.
 fn is_completed(alloc: Global, line: &mut String, command: &str) -> Result<bool, AllocError> {
-    if !adds_all(alloc, line, command)? || !is_good(alloc, line) {
+    if !adds_all(alloc, line, command)? || !is_good(alloc, line)? {
         return Ok(false);
     }
     line.push_str(" 7")?;
