@@ -12,7 +12,7 @@ trap 'rm -rf "$folder"' EXIT
 # In the first cell of a row stands a command, or several.
 sed -n '/^| Command |/,/^$/s/^| \(`[^`]*`\(, `[^`]*`\)*\) |.*/\1/p' docs/SCRIPT.md | grep -o '`[^`]*`' | tr -d '`\\' | sort > "$folder/listed"
 
-sed -n 's/^ *"\([a-z]*\)" => .*/\1/p; s/^ *"\([a-z]*\)" "\([^"]*\)" => .*/\1 \2/p' crates/geos_shell/src/commands.rt \
+sed -n 's/^ *"\([a-z]*\)" => .*/\1/p; s/^ *"\([a-z]*\)" "\([^"]*\)" => .*/\1 \2/p' crates/geos_script/src/commands.rt \
     | sort > "$folder/rows"
 
 if differs=$(diff "$folder/listed" "$folder/rows"); then

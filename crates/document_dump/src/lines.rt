@@ -1,83 +1,46 @@
 //! The lines of a script, each put behind those before it. Where memory runs out, a part of one may stand there.
-#![tactic(auto, unfolding(crate::specs::Lines::spelled))]
+#![tactic(auto, unfolding(geos_script::specs::Printing::edit_text))]
 
-ghost use Rattle.std.specs.Prelude.{◌≡◌, ◌++◌, OnOk};
-ghost use Rattle.hex.specs.Hex.{encode_lower};
+ghost use Rattle.std.specs.Prelude.{◌≡◌, ◌++◌, ◌∷◌, [], OnOk};
+ghost use Rattle.std.specs.List.{flat_map};
+ghost use Rattle.geos_model.specs.Script.{line_feed};
 ghost use Rattle.geos_model.specs.declared.command.Edit.TheVariants as edits;
-ghost use Rattle.document_dump.specs.Lines.{line, with_bytes, with_handle, with_number};
+ghost use Rattle.geos_script.specs.Printing.{word_text};
+ghost use Rattle.document_dump.specs.Lines.{line};
 
 use geos_model::{ChunkHandle, VmHandle};
+use geos_script::{Word, push_words};
 use std::alloc::AllocError;
 
-// A word, and a number behind a blank.
-fn push_number(out: &mut Vec<u8>, word: &[u8], number: u64) -> Result<(), AllocError>
-    ensures { OnOk result (out.new.items ≡ out.old.items ++ (word.now ++ with_number number)) }
+// A name and its operands, each of them behind a space.
+fn push_line(out: &mut Vec<u8>, name: &str, operands: &[Word]) -> Result<(), AllocError>
+    ensures { OnOk result (out.new.items ≡ out.old.items
+        ++ (name.now ++ flat_map (λ w. 32 ∷ word_text w) operands.now ++ line_feed ∷ [])) }
 {
-    out.extend_from_slice(word)?;
-    out.push(b' ')?;
-    out.extend_from_slice(itoa::Buffer::new().format(number).as_bytes())
-}
-
-// A word, and a handle behind a blank.
-fn push_handle(out: &mut Vec<u8>, word: &[u8], handle: u16) -> Result<(), AllocError>
-    ensures { OnOk result (out.new.items ≡ out.old.items ++ (word.now ++ with_handle handle)) }
-{
-    let mut digits = [0; 4];
-    hex::encode_to_slice(handle.to_be_bytes(), &mut digits).unwrap();
-    out.extend_from_slice(word)?;
-    out.push(b' ')?;
-    out.extend_from_slice(&digits)
-}
-
-// Bytes behind a blank. Encoded in place.
-fn push_bytes(out: &mut Vec<u8>, bytes: &[u8]) -> Result<(), AllocError>
-    ensures { OnOk result (out.new.items ≡ out.old.items ++ with_bytes bytes.now) }
-{
-    match bytes {
-        [] => out.extend_from_slice(b" -"),
-        bytes => {
-            out.push(b' ')?;
-            push_digits(out, bytes)
-        }
-    }
-}
-
-fn push_digits(out: &mut Vec<u8>, bytes: &[u8]) -> Result<(), AllocError>
-    ensures { OnOk result (out.new.items ≡ out.old.items ++ encode_lower bytes.now) }
-{
-    let start = out.len();
-    let Some(end) = bytes
-        .len()
-        .checked_mul(2)
-        .and_then(|digits| start.checked_add(digits))
-    else {
-        return Err(AllocError);
-    };
-    out.resize(end, 0)?;
-    hex::encode_to_slice(bytes, &mut out[start..]).unwrap();
-    Ok(())
+    push_words(out, name, operands)?;
+    Ok(out.push(b'\n')?)
 }
 
 pub fn push_new_raw(out: &mut Vec<u8>, user_id: u16, size: usize) -> Result<(), AllocError>
     ensures { OnOk result (out.new.items ≡ out.old.items ++ line (edits.NewRaw user_id size)) }
 {
-    push_number(out, b"newraw", u64::from(user_id))?;
-    push_number(out, b"", size as u64)?;
-    Ok(out.push(b'\n')?)
+    push_line(
+        out,
+        "newraw",
+        &[Word::Number(u64::from(user_id)), Word::Number(size as u64)],
+    )
 }
 
 pub fn push_new_heap(out: &mut Vec<u8>, user_id: u16) -> Result<(), AllocError>
     ensures { OnOk result (out.new.items ≡ out.old.items ++ line (edits.NewHeap user_id)) }
 {
-    push_number(out, b"newheap", u64::from(user_id))?;
-    Ok(out.push(b'\n')?)
+    push_line(out, "newheap", &[Word::Number(u64::from(user_id))])
 }
 
 pub fn push_free_block(out: &mut Vec<u8>, block: VmHandle) -> Result<(), AllocError>
     ensures { OnOk result (out.new.items ≡ out.old.items ++ line (edits.FreeBlock block)) }
 {
-    push_handle(out, b"vfree", block.0)?;
-    Ok(out.push(b'\n')?)
+    push_line(out, "vfree", &[Word::Handle(block.0)])
 }
 
 pub fn push_write_raw(
@@ -88,49 +51,57 @@ pub fn push_write_raw(
 ) -> Result<(), AllocError>
     ensures { OnOk result (out.new.items ≡ out.old.items ++ line (edits.WriteRaw block at bytes.now)) }
 {
-    push_handle(out, b"vwrite", block.0)?;
-    push_number(out, b"", at as u64)?;
-    push_bytes(out, bytes)?;
-    Ok(out.push(b'\n')?)
+    push_line(
+        out,
+        "vwrite",
+        &[
+            Word::Handle(block.0),
+            Word::Number(at as u64),
+            Word::Bytes(bytes),
+        ],
+    )
 }
 
 pub fn push_user_id(out: &mut Vec<u8>, block: VmHandle, user_id: u16) -> Result<(), AllocError>
     ensures { OnOk result (out.new.items ≡ out.old.items ++ line (edits.SetUserId block user_id)) }
 {
-    push_handle(out, b"uid", block.0)?;
-    push_number(out, b"", u64::from(user_id))?;
-    Ok(out.push(b'\n')?)
+    push_line(
+        out,
+        "uid",
+        &[Word::Handle(block.0), Word::Number(u64::from(user_id))],
+    )
 }
 
 pub fn push_type(out: &mut Vec<u8>, block: VmHandle, heap_type: u16) -> Result<(), AllocError>
     ensures { OnOk result (out.new.items ≡ out.old.items ++ line (edits.SetType block heap_type)) }
 {
-    push_handle(out, b"settype", block.0)?;
-    push_number(out, b"", u64::from(heap_type))?;
-    Ok(out.push(b'\n')?)
+    push_line(
+        out,
+        "settype",
+        &[Word::Handle(block.0), Word::Number(u64::from(heap_type))],
+    )
 }
 
 pub fn push_map(out: &mut Vec<u8>, block: VmHandle) -> Result<(), AllocError>
     ensures { OnOk result (out.new.items ≡ out.old.items ++ line (edits.SetMap block)) }
 {
-    push_handle(out, b"map", block.0)?;
-    Ok(out.push(b'\n')?)
+    push_line(out, "map", &[Word::Handle(block.0)])
 }
 
 pub fn push_alloc(out: &mut Vec<u8>, block: VmHandle, size: usize) -> Result<(), AllocError>
     ensures { OnOk result (out.new.items ≡ out.old.items ++ line (edits.Alloc block size)) }
 {
-    push_handle(out, b"alloc", block.0)?;
-    push_number(out, b"", size as u64)?;
-    Ok(out.push(b'\n')?)
+    push_line(
+        out,
+        "alloc",
+        &[Word::Handle(block.0), Word::Number(size as u64)],
+    )
 }
 
 pub fn push_free(out: &mut Vec<u8>, block: VmHandle, chunk: ChunkHandle) -> Result<(), AllocError>
     ensures { OnOk result (out.new.items ≡ out.old.items ++ line (edits.Free block chunk)) }
 {
-    push_handle(out, b"free", block.0)?;
-    push_handle(out, b"", chunk.0)?;
-    Ok(out.push(b'\n')?)
+    push_line(out, "free", &[Word::Handle(block.0), Word::Handle(chunk.0)])
 }
 
 pub fn push_write(
@@ -142,9 +113,14 @@ pub fn push_write(
 ) -> Result<(), AllocError>
     ensures { OnOk result (out.new.items ≡ out.old.items ++ line (edits.Write block chunk at bytes.now)) }
 {
-    push_handle(out, b"write", block.0)?;
-    push_handle(out, b"", chunk.0)?;
-    push_number(out, b"", at as u64)?;
-    push_bytes(out, bytes)?;
-    Ok(out.push(b'\n')?)
+    push_line(
+        out,
+        "write",
+        &[
+            Word::Handle(block.0),
+            Word::Handle(chunk.0),
+            Word::Number(at as u64),
+            Word::Bytes(bytes),
+        ],
+    )
 }

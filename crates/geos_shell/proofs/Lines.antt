@@ -6,7 +6,7 @@ use Rattle.std.proofs.lemmas.Bool.{cases_lt, eqb-true}
 use Rattle.geos_model.specs.Script.{lines, begin_line, finished_lines, command}
 use Rattle.geos_shell.specs.Manners.{longest_kept}
 use Rattle.geos_shell.specs.Progress.{HasNoFeed, StandsFor}
-use Rattle.geos_shell.proofs.Words.{command-long}
+use Rattle.geos_script.proofs.Words.{command-long}
 
 -- a line feed ends the first line
 pub lines-at_feed : (line rest : List ℕ) → HasNoFeed line → lines (line ++ 10 ∷ rest) ≡ line ∷ lines rest

@@ -1,13 +1,10 @@
 pub mod Files
-pub mod Help
 pub mod Holdings
-pub mod Making
 pub mod Manners
 pub mod Options
 pub mod Outcome
 pub mod Program
 pub mod Progress
-pub mod Reading
 pub mod Refusals
 pub mod Replies
 pub mod RunFaults

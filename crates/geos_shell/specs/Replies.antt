@@ -1,5 +1,5 @@
 -- What a call that appends leaves, and which commands are looked up by which call.
-use Rattle.std.specs.Prelude.{ℕ, List, ◌++◌, ◌≡◌, Bool, true, false, Some, Result, Err, IsOkAnd, MatchResult, OnOk, length, take}
+use Rattle.std.specs.Prelude.{ℕ, List, ◌++◌, ◌≡◌, Bool, true, false, Some, Result, Err, IsOkAnd, MatchResult, OnOk}
 use Rattle.geos_model.specs.Reply.{Reply, reply_by, reply_of}
 use Rattle.geos_model.specs.Machine.{Request}
 use Rattle.geos_model.specs.Script.{reply_line, reply_text}
@@ -9,11 +9,8 @@ use Rattle.geos_model.specs.declared.fault.Fault.{Fault}
 use Rattle.geos_model.specs.declared.reply.Reply.{Reply as GivenReply}
 use Rattle.vm_store.specs.Facts.{StoreFacts}
 use Rattle.undo_log.specs.Sessions.{SessionState, IsStep, KeepsSession}
+pub use Rattle.geos_script.specs.Texts.{Extends}
 use Rattle.geos_shell.specs.Holdings.{Holding, MayServe, ServesRequest}
-
--- The bytes are still there, whatever stands behind them.
-abbrev pub Extends : List ℕ → List ℕ → Type 0
-Extends old new = take (length old) new ≡ old
 
 -- An answer is made a reply, and where there was memory for the reply's text, that was put behind what was there.
 abbrev pub Puts : {T A E : Type 0} → (A → GivenReply → Type 0) → Result A Fault → Result T E → List ℕ → List ℕ → Type 0

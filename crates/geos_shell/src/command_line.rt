@@ -4,13 +4,13 @@ ghost use Rattle.std.specs.List.{Contains};
 ghost use Rattle.clap.specs.Words.{FailsBy, app_of, fault_of, found_of, kind_of, matches_of, rows_of, rule_of};
 ghost use Rattle.geos_shell.specs.Options.{IsMatched, IsUsable, RefusesWords, TurnsInto, command_line, flag, geosvm, said, told_by};
 
-use crate::commands::command_list;
 use crate::outcome::Outcome;
 use crate::program::Options;
 use crate::runner::{Manner, RunFault};
 use clap::error::ErrorKind;
 use clap::{Arg, ArgAction, ArgMatches, Command, Error, value_parser};
 use geos_model::Bytes;
+use geos_script::command_list;
 use std::alloc::{AllocError, Global};
 use std::convert::AsStr;
 

@@ -3,20 +3,14 @@
 
 mod answering;
 mod command_line;
-mod commands;
-mod operands;
 mod outcome;
-mod parser;
 mod program;
 mod replies;
 mod runner;
-mod shapes;
 mod streams;
-mod text;
 
 pub use command_line::options;
 pub use outcome::Outcome;
-pub use parser::parse;
 pub use program::{Options, run_program, serve};
 pub use replies::answer_line;
 pub use runner::{Ended, Manner, RunFault, run, run_in, run_in_manner};

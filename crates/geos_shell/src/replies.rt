@@ -7,9 +7,8 @@ ghost use Rattle.geos_shell.specs.Holdings.{AreExact, MayServe, ServesRequest, h
 ghost use Rattle.geos_shell.specs.Refusals.{GivesReply, KeepsHolding, KeepsIfRefused};
 ghost use Rattle.geos_shell.specs.Replies.{Extends, Puts, Replied, Responds, Told, asks_no_body, is_look_up};
 
-use crate::parser::read_command;
-use crate::text::push_reply;
 use geos_model::{Command, Fault, Reply, VmHandle};
+use geos_script::{push_reply, read_command};
 use std::alloc::{AllocError, Global};
 use undo_log::Session;
 use vm_store::Store;

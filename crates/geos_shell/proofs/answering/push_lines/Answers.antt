@@ -1,6 +1,6 @@
 use Rattle.std.proofs.Common.{◌≡◌, ◌++◌, ◌-◌, ap, arith, drop, length-drop, take, take_all, append-nil, length, sym, ◌∙◌}
 use Rattle.geos_shell.specs.Manners.{begins_with_no, lead}
-use Rattle.geos_shell.proofs.Extending.{Extends-length}
+use Rattle.geos_script.proofs.Extending.{Extends-length}
 use Rattle.geos_shell.proofs.Manners.{lead_pushed}
 use Rattle.geos_shell.proofs.answering.push_lines.Goals as goal
 use Rattle.geos_shell.proofs.answering.push_lines.Goals.{then-echoes+in_ok-extend_from_slice+in_ok-push, else-echoes}

@@ -1,0 +1,98 @@
+-- Rows of the script's table: what is made of the words behind a name is what they mean.
+use Rattle.std.proofs.Common.{◌≡◌, ◌∙◌, ap, sym, subst, refl, ℕ, Bool, true, false, List, [], ◌∷◌, drop, map, Bor, Option, Some, None, Result, Ok, Err, inl, inr, if◌then◌else◌}
+use Rattle.std.specs.Prelude.{IsTrue}
+use Rattle.std.specs.Option.{option_and_then, option_map}
+use Rattle.geos_model.specs.Script.{by_name, commands_by_name, operand, same_bytes, with_none, with_1, with_2, with_3, with_4}
+use Rattle.geos_model.proofs.Arrays.{same_bytes-is}
+use Rattle.geos_model.specs.declared.command.Command.{Command}
+use Rattle.geos_model.specs.declared.fault.Fault.{Fault}
+use Rattle.geos_model.specs.declared.fault.Fault.TheVariants as faults
+use Rattle.geos_script.specs.Making.{Makes, named_from, nothing, operand_then}
+use Rattle.geos_script.specs.Reading.{ReadsAs, command_has_bytes}
+
+-- the row with the name
+pub at_row : (from : ℕ) (name text : List ℕ) (operands : List (List ℕ)) (meant : Option Command) (result : Result Command Fault)
+    → true ≡ same_bytes name text → by_name text operands (drop from commands_by_name) ≡ meant → ReadsAs command_has_bytes meant result
+    → ReadsAs command_has_bytes (named_from from name operands) result
+unfolding named_from
+at_row from name text operands meant result same is made =
+    let called : name ≡ text = same_bytes-is name text (sym same) in
+    let means : by_name name operands (drop from commands_by_name) ≡ meant = ap (λ n. by_name n operands (drop from commands_by_name)) called ∙ is in
+    subst (λ o. ReadsAs command_has_bytes o result) (sym means) made
+
+-- a row with another name is passed over
+pub passed : (from to : ℕ) (name text : List ℕ) (operands : List (List ℕ)) (f : List (List ℕ) → Option Command)
+    → drop from commands_by_name ≡ (text, f) ∷ drop to commands_by_name → false ≡ same_bytes name text → named_from from name operands ≡ named_from to name operands
+unfolding named_from
+passed from to name text operands f is other =
+    ap (by_name name operands) is ∙ ap (λ b. if b then f operands else by_name name operands (drop to commands_by_name)) (sym other)
+
+-- what is made of what words spell is what they mean
+made : {T : Type 0} (is_kept : T → Bool) (made_by : T → Command → Type 0) (to : T → Command) (spelled : Option T) (result : Result Command Fault)
+    → Makes is_kept made_by spelled result → ((t : T) (x : Command) → made_by t x → x ≡ to t) → ((t : T) → is_kept t ≡ command_has_bytes (to t))
+    → ReadsAs command_has_bytes (option_map to spelled) result
+made is_kept made_by to None (Ok x) m same has = absurd m
+made is_kept made_by to (Some t) (Ok x) m same has = ap Some (sym (same t x m))
+made is_kept made_by to None (Err fault) (inl bad) same has = inl (bad.0, refl)
+made is_kept made_by to None (Err fault) (inr memory) same has = absurd (memory.1)
+made is_kept made_by to (Some t) (Err fault) (inl bad) same has = cc (bad.1)
+made is_kept made_by to (Some t) (Err fault) (inr memory) same has = inr (memory.0, subst IsTrue (has t) memory.1)
+
+-- what no word means
+nothing_is : (to : Unit {0} → Command) (ws : List (List ℕ)) → with_none (to tt) ws ≡ option_map to (nothing ws)
+nothing_is to [] = refl
+nothing_is to (w ∷ ws) = refl
+
+-- what an operand and those behind it mean
+operand_is : {A T : Type 0} (p : List ℕ → Option A) (f : A → List (List ℕ) → Option Command) (others : List (List ℕ) → Option T) (to : A × T → Command)
+    → ((a : A) (ws : List (List ℕ)) → f a ws ≡ option_map (λ t. to (a, t)) (others ws)) → (ws : List (List ℕ)) → operand p f ws ≡ option_map to (operand_then p others ws)
+operand_is p f others to each [] = refl
+operand_is {A} {T} p f others to each (w ∷ ws) = read (p w)
+  where
+    mapped : (a : A) (o : Option T) → option_map (λ t. to (a, t)) o ≡ option_map to (option_map (λ t. (a, t)) o)
+    mapped a None = refl
+    mapped a (Some t) = refl
+
+    read : (o : Option A) → option_and_then (λ a. f a ws) o ≡ option_map to (option_and_then (λ a. option_map (λ t. (a, t)) (others ws)) o)
+    read None = refl
+    read (Some a) = each a ws ∙ mapped a (others ws)
+
+pub made_0 : (made_by : Unit {0} → Command → Type 0) (to : Command) (ws : List (Bor (List ℕ))) (result : Result Command Fault)
+    → Makes (λ _. false) made_by (nothing (map (λ w. w.now) ws)) result → ((x : Command) → made_by tt x → x ≡ to) → false ≡ command_has_bytes to
+    → ReadsAs command_has_bytes (with_none to (map (λ w. w.now) ws)) result
+made_0 made_by to ws result m same has =
+    rw (nothing_is (λ _. to) (map (λ w. w.now) ws)) (made (λ _. false) made_by (λ _. to) _ result m (λ t. same) (λ t. has))
+
+pub made_1 : {A : Type 0} (p : List ℕ → Option A) (is_kept : A × Unit {0} → Bool) (made_by : A × Unit {0} → Command → Type 0) (to : A → Command) (ws : List (Bor (List ℕ))) (result : Result Command Fault)
+    → Makes is_kept made_by (operand_then p nothing (map (λ w. w.now) ws)) result → ((a : A) (x : Command) → made_by (a, tt) x → x ≡ to a) → ((a : A) → is_kept (a, tt) ≡ command_has_bytes (to a))
+    → ReadsAs command_has_bytes (with_1 p to (map (λ w. w.now) ws)) result
+made_1 p is_kept made_by to ws result m same has =
+    let means = operand_is p (λ a. with_none (to a)) nothing (λ t. to t.0) (λ a. nothing_is (λ _. to a)) (map (λ w. w.now) ws) in
+    rw means (made is_kept made_by (λ t. to t.0) _ result m (λ t. same t.0) (λ t. has t.0))
+
+pub made_2 : {A B : Type 0} (p : List ℕ → Option A) (q : List ℕ → Option B) (is_kept : A × (B × Unit {0}) → Bool) (made_by : A × (B × Unit {0}) → Command → Type 0) (to : A → B → Command) (ws : List (Bor (List ℕ))) (result : Result Command Fault)
+    → Makes is_kept made_by (operand_then p (operand_then q nothing) (map (λ w. w.now) ws)) result → ((a : A) (b : B) (x : Command) → made_by (a, (b, tt)) x → x ≡ to a b) → ((a : A) (b : B) → is_kept (a, (b, tt)) ≡ command_has_bytes (to a b))
+    → ReadsAs command_has_bytes (with_2 p q to (map (λ w. w.now) ws)) result
+made_2 p q is_kept made_by to ws result m same has =
+    let means = operand_is p (λ a. with_1 q (to a)) (operand_then q nothing) (λ t. to t.0 t.1.0) (λ a. operand_is q (λ b. with_none (to a b)) nothing (λ t. to a t.0) (λ b. nothing_is (λ _. to a b))) (map (λ w. w.now) ws) in
+    rw means (made is_kept made_by (λ t. to t.0 t.1.0) _ result m (λ t. same t.0 t.1.0) (λ t. has t.0 t.1.0))
+
+pub made_3 : {A B C : Type 0} (p : List ℕ → Option A) (q : List ℕ → Option B) (r : List ℕ → Option C) (is_kept : A × (B × (C × Unit {0})) → Bool) (made_by : A × (B × (C × Unit {0})) → Command → Type 0) (to : A → B → C → Command) (ws : List (Bor (List ℕ))) (result : Result Command Fault)
+    → Makes is_kept made_by (operand_then p (operand_then q (operand_then r nothing)) (map (λ w. w.now) ws)) result → ((a : A) (b : B) (c : C) (x : Command) → made_by (a, (b, (c, tt))) x → x ≡ to a b c) → ((a : A) (b : B) (c : C) → is_kept (a, (b, (c, tt))) ≡ command_has_bytes (to a b c))
+    → ReadsAs command_has_bytes (with_3 p q r to (map (λ w. w.now) ws)) result
+made_3 p q r is_kept made_by to ws result m same has =
+    let means = operand_is p (λ a. with_2 q r (to a)) (operand_then q (operand_then r nothing)) (λ t. to t.0 t.1.0 t.1.1.0) (λ a. operand_is q (λ b. with_1 r (to a b)) (operand_then r nothing) (λ t. to a t.0 t.1.0) (λ b. operand_is r (λ c. with_none (to a b c)) nothing (λ t. to a b t.0) (λ c. nothing_is (λ _. to a b c)))) (map (λ w. w.now) ws) in
+    rw means (made is_kept made_by (λ t. to t.0 t.1.0 t.1.1.0) _ result m (λ t. same t.0 t.1.0 t.1.1.0) (λ t. has t.0 t.1.0 t.1.1.0))
+
+pub made_4 : {A B C D : Type 0} (p : List ℕ → Option A) (q : List ℕ → Option B) (r : List ℕ → Option C) (s : List ℕ → Option D) (is_kept : A × (B × (C × (D × Unit {0}))) → Bool) (made_by : A × (B × (C × (D × Unit {0}))) → Command → Type 0) (to : A → B → C → D → Command) (ws : List (Bor (List ℕ))) (result : Result Command Fault)
+    → Makes is_kept made_by (operand_then p (operand_then q (operand_then r (operand_then s nothing))) (map (λ w. w.now) ws)) result → ((a : A) (b : B) (c : C) (d : D) (x : Command) → made_by (a, (b, (c, (d, tt)))) x → x ≡ to a b c d) → ((a : A) (b : B) (c : C) (d : D) → is_kept (a, (b, (c, (d, tt)))) ≡ command_has_bytes (to a b c d))
+    → ReadsAs command_has_bytes (with_4 p q r s to (map (λ w. w.now) ws)) result
+made_4 p q r s is_kept made_by to ws result m same has =
+    let means = operand_is p (λ a. with_3 q r s (to a)) (operand_then q (operand_then r (operand_then s nothing))) (λ t. to t.0 t.1.0 t.1.1.0 t.1.1.1.0) (λ a. operand_is q (λ b. with_2 r s (to a b)) (operand_then r (operand_then s nothing)) (λ t. to a t.0 t.1.0 t.1.1.0) (λ b. operand_is r (λ c. with_1 s (to a b c)) (operand_then s nothing) (λ t. to a b t.0 t.1.0) (λ c. operand_is s (λ d. with_none (to a b c d)) nothing (λ t. to a b c t.0) (λ d. nothing_is (λ _. to a b c d))))) (map (λ w. w.now) ws) in
+    rw means (made is_kept made_by (λ t. to t.0 t.1.0 t.1.1.0 t.1.1.1.0) _ result m (λ t. same t.0 t.1.0 t.1.1.0 t.1.1.1.0) (λ t. has t.0 t.1.0 t.1.1.0 t.1.1.1.0))
+
+-- behind the last row there is none
+pub none_behind : (from : ℕ) (name : List ℕ) (operands : List (List ℕ)) → named_from from name operands ≡ named_from 70 name operands
+    → ReadsAs command_has_bytes (named_from from name operands) (Err faults.BadCommand)
+unfolding named_from
+none_behind from name operands none = inl (refl, none)

@@ -1,0 +1,118 @@
+-- How a line falls into words.
+use Rattle.std.proofs.Common.{Bor, map, not, append_assoc, get_or-take, length-drop, add-zero, ◌-◌, ◌≡◌, ℕ, zero, suc, ◌+◌, ◌<◌, ◌≤◌, true, false, List, [], ◌∷◌, ◌++◌, length, take, drop, slice_index, inl, inr, None, refl, sym, subst, ap, ◌∙◌, arith}
+use Rattle.std.proofs.lemmas.Bool.Decides.{nat_tests}
+use Rattle.std.proofs.lemmas.Bool.{and_parts, cases_eq, not-true}
+use Rattle.std.specs.List.{list_all}
+use Rattle.std.proofs.lemmas.List.{take_all, get_or-drop, map-append}
+use Rattle.geos_model.specs.Script.{command, command_of_words, words, begin_word, is_blank}
+
+-- blanks in front of a line change no word
+pub words-skip : (xs : List ℕ) (n : ℕ) → n ≤ length xs → ((k : ℕ) → k < n → is_blank (slice_index xs k) ≡ true) → words xs ≡ words (drop n xs)
+words-skip xs zero le h = refl
+words-skip [] (suc n) le h = absurd (omega arith)
+words-skip (x ∷ xs) (suc n) le h =
+    let blank : is_blank x ≡ true = h 0 (omega arith) in
+    rw blank (words-skip xs n (omega arith) (λ k lt. h (suc k) (omega arith)))
+
+-- a byte before a blank or the end is a word
+begin_word-last : (x : ℕ) (ys : List ℕ) (ws : List (List ℕ)) → (ys ≡ [] → ws ≡ []) → (0 < length ys → is_blank (slice_index ys 0) ≡ true) → begin_word x ys ws ≡ (x ∷ []) ∷ ws
+begin_word-last x [] ws none h = refl
+begin_word-last x (y ∷ ys) [] none h = refl
+begin_word-last x (y ∷ ys) (w ∷ ws) none h =
+    let blank : is_blank y ≡ true = h (omega arith) in
+    rw blank
+
+-- a byte before a word's first byte belongs to the word
+begin_word-more : (x : ℕ) (ys : List ℕ) (w : List ℕ) (ws : List (List ℕ)) → 0 < length ys → is_blank (slice_index ys 0) ≡ false → begin_word x ys (w ∷ ws) ≡ (x ∷ w) ∷ ws
+begin_word-more x [] w ws some h = absurd (omega arith)
+begin_word-more x (y ∷ ys) w ws some h = rw h
+
+-- the bytes up to the first blank are a word
+words-cut : (xs : List ℕ) (n : ℕ) → 0 < n → n ≤ length xs → ((k : ℕ) → k < n → is_blank (slice_index xs k) ≡ false)
+    → (n < length xs → is_blank (slice_index xs n) ≡ true) → words xs ≡ take n xs ∷ words (drop n xs)
+words-cut xs zero some le h stop = absurd (omega arith)
+words-cut [] (suc n) some le h stop = absurd (omega arith)
+words-cut (x ∷ xs) (suc zero) some le h stop =
+    let solid : is_blank x ≡ false = h 0 (omega arith) in
+    rw solid (begin_word-last x xs (words xs) (λ e. rw e) (λ lt. stop (omega arith)))
+words-cut (x ∷ xs) (suc (suc n)) some le h stop =
+    let solid : is_blank x ≡ false = h 0 (omega arith) in
+    let rest = words-cut xs (suc n) (omega arith) (omega arith) (λ k lt. h (suc k) (omega arith)) (λ lt. stop (omega arith)) in
+    rw (solid, rest) (begin_word-more x xs (take (suc n) xs) (words (drop (suc n) xs)) (omega arith) (h 1 (omega arith)))
+
+-- the tail of a list, as a slice up to its end gives it
+pub take_rest : (xs : List ℕ) (n : ℕ) → take (length xs - n) (drop n xs) ≡ drop n xs
+take_rest xs n = take_all (length xs - n) (drop n xs) (omega (arith, length-drop n xs))
+
+-- a byte of the front is no blank where it is none there
+pub solid_head : (xs : List ℕ) (n k : ℕ) → k < n → is_blank (slice_index (take n xs) k) ≡ false → is_blank (slice_index xs k) ≡ false
+solid_head xs n k lt solid = rw (get_or-take n xs k 0 lt) at solid
+
+-- a byte of the tail is no blank where it is none there
+pub solid_tail : (xs : List ℕ) (n k : ℕ) → n ≤ k → is_blank (slice_index (take (length xs - n) (drop n xs)) (k - n)) ≡ false
+    → is_blank (slice_index xs k) ≡ false
+solid_tail xs n k le solid =
+    let at_k : n + (k - n) ≡ k = omega arith in
+    subst (λ (i : ℕ). is_blank (slice_index xs i) ≡ false) at_k (rw (take_rest xs n, get_or-drop n xs (k - n) 0) at solid)
+
+-- and it is one where it is one there
+pub blank_tail : (xs : List ℕ) (n k : ℕ) → is_blank (slice_index (take (length xs - n) (drop n xs)) k) ≡ true
+    → is_blank (slice_index xs (n + k)) ≡ true
+blank_tail xs n k blank = rw (take_rest xs n, get_or-drop n xs k 0) at blank
+
+-- what stands behind the blanks in front begins with no blank
+pub solid_front : (xs rest : List ℕ) (n : ℕ) → (n < length xs → is_blank (slice_index xs n) ≡ false) → rest ≡ drop n xs → 0 < length rest
+    → is_blank (slice_index rest 0) ≡ false
+solid_front xs rest n ends is some =
+    let first : slice_index rest 0 ≡ slice_index xs n = rw is (rw get_or-drop (rw add-zero)) in
+    rw first (ends (omega (arith, ap length is, length-drop n xs)))
+
+-- a word has bytes where a text begins with no blank
+pub word_some : (xs : List ℕ) (end : ℕ) → 0 < length xs → is_blank (slice_index xs 0) ≡ false
+    → (end < length xs → is_blank (slice_index xs end) ≡ true) → 0 < end
+word_some xs end some solid stops =
+    elim (cases_eq end 0) [ inl none ↦ cc (sym (rw none at (stops (omega arith))) ∙ solid) | inr more ↦ omega arith ]
+
+-- The words of a text that begins with no blank are the bytes up to the first blank, and the words behind the blanks there.
+pub words-step : (xs tail rest : List ℕ) (end skip : ℕ) → 0 < length xs → is_blank (slice_index xs 0) ≡ false
+    → end ≤ length xs → ((k : ℕ) → k < end → is_blank (slice_index xs k) ≡ false) → (end < length xs → is_blank (slice_index xs end) ≡ true)
+    → tail ≡ drop end xs → skip ≤ length tail → ((k : ℕ) → k < skip → is_blank (slice_index tail k) ≡ true) → rest ≡ drop skip tail
+    → words xs ≡ take end xs ∷ words rest
+words-step xs tail rest end skip some solid fits word stops is_tail few blanks is_rest =
+    let skipped : words (drop end xs) ≡ words rest = ap words (sym is_tail) ∙ words-skip tail skip few blanks ∙ ap words (sym is_rest) in
+    words-cut xs end (word_some xs end some solid stops) fits word stops ∙ ap (λ (ws : List (List ℕ)). take end xs ∷ ws) skipped
+
+-- one word more keeps the words so far and those of the rest the line's
+pub words-pushed : (old new : List (Bor (List ℕ))) (word : Bor (List ℕ)) (line rest after : List ℕ) → new ≡ old ++ word ∷ []
+    → map (λ (w : Bor (List ℕ)). w.now) old ++ words rest ≡ words line → words rest ≡ word.now ∷ words after
+    → map (λ (w : Bor (List ℕ)). w.now) new ++ words after ≡ words line
+words-pushed old new word line rest after e kept step =
+    rw (e, map-append, append_assoc) (rw step at kept)
+
+-- a line that is too long is no command
+pub command-long : (line : List ℕ) → 140000 < length line → command line ≡ None
+unfolding command
+command-long line long = grind (arith, nat_tests)
+
+-- another line is what its words are
+pub command-short : (line : List ℕ) → length line ≤ 140000 → command line ≡ command_of_words (words line)
+unfolding command
+command-short line short = grind (arith, nat_tests)
+
+-- a byte that is no blank begins a word
+words-solid : (x : ℕ) (xs : List ℕ) → is_blank x ≡ false → words (x ∷ xs) ≡ begin_word x xs (words xs)
+words-solid x xs solid = rw solid refl
+
+-- bytes that are no blanks, and then a blank or the end, are a word
+pub words-word : (x : ℕ) (w rest : List ℕ) → list_all (λ y. not (is_blank y)) (x ∷ w) ≡ true → (0 < length rest → is_blank (slice_index rest 0) ≡ true)
+    → words ((x ∷ w) ++ rest) ≡ (x ∷ w) ∷ words rest
+words-word x [] rest solid ends =
+    let first : is_blank x ≡ false = not-true (is_blank x) (and_parts (not (is_blank x)) true solid).0 in
+    words-solid x rest first ∙ begin_word-last x rest (words rest) (λ e. rw e) ends
+words-word x (y ∷ w) rest solid ends =
+    let both = and_parts (not (is_blank x)) (list_all (λ z. not (is_blank z)) (y ∷ w)) solid in
+    let first : is_blank x ≡ false = not-true (is_blank x) both.0 in
+    let next : is_blank y ≡ false = not-true (is_blank y) (and_parts (not (is_blank y)) (list_all (λ z. not (is_blank z)) w) both.1).0 in
+    words-solid x ((y ∷ w) ++ rest) first
+    ∙ ap (begin_word x ((y ∷ w) ++ rest)) (words-word y w rest both.1 ends)
+    ∙ begin_word-more x ((y ∷ w) ++ rest) (y ∷ w) (words rest) (omega arith) next

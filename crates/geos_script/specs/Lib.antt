@@ -1,0 +1,5 @@
+pub mod Help
+pub mod Making
+pub mod Printing
+pub mod Reading
+pub mod Texts

@@ -1,0 +1,255 @@
+//! The table of the commands: the name of each, its operands, and what makes it of words that spell these. A line is read by
+//! it, and a command printed.
+ghost use Rattle.std.specs.Prelude.{◌≡◌, ◌++◌, OnOk, OnErr, Some, drop, length, map};
+ghost use Rattle.geos_model.specs.Script.{block, bytes as spelled_bytes, chunk, is_set, same_bytes, with_5};
+ghost use Rattle.geos_model.specs.declared.command.Command.TheVariants as commands;
+ghost use Rattle.geos_model.specs.declared.command.Edit.TheVariants as edits;
+ghost use Rattle.geos_model.specs.Script as script;
+ghost use Rattle.geos_script.specs.Help.{ListsCommands};
+ghost use Rattle.geos_script.specs.Making.{named_from};
+ghost use Rattle.geos_script.specs.Printing.{IsSpellable, command_text, edit_text};
+ghost use Rattle.geos_script.specs.Reading.{ReadsAs, command_has_bytes, putting};
+ghost use Rattle.geos_script.specs.Texts.{Extends};
+
+use crate::operands::{LastOperand, Operand, spells_bytes};
+use crate::shapes::{four, none, one, three, two};
+use crate::word::{Spelled, push_words};
+use geos_model::{Bytes, ChunkHandle, Command, Edit, Fault, VmHandle};
+use std::alloc::{AllocError, Global};
+
+// Hands the rows of the table to a macro, so that the parser, the printer and the help read the same ones. A row has the
+// name of a command, its operands as help shows them, what reads so many words, and the command with its operands.
+macro_rules! commands {
+    ($with:ident($($given:tt)*)) => {
+        $with! { ($($given)*)
+            Edit {
+                // Of blocks, of chunks and of arrays of each kind, and of chains.
+                "newraw" "uid size" => two NewRaw(uid, size),
+                "newheap" "uid" => one NewHeap(uid),
+                "vfree" "b" => one FreeBlock(b),
+                "vcopy" "b" => one CopyBlock(b),
+                "vwrite" "b at hex" => three WriteRaw(b, at, hex),
+                "attach" "b hex" => two Attach(b, hex),
+                "uid" "b uid" => two SetUserId(b, uid),
+                "settype" "b type" => two SetType(b, heap_type),
+                "map" "b" => one SetMap(b),
+                "alloc" "b n" => two Alloc(b, n),
+                "free" "b c" => two Free(b, c),
+                "resize" "b c n" => three Resize(b, c, n),
+                "insert" "b c at n" => four Insert(b, c, at, n),
+                "delete" "b c at n" => four Delete(b, c, at, n),
+                "write" "b c at hex" => four Write(b, c, at, hex),
+                "acreate" "b e x" => three CreateArray(b, e, x),
+                "ainsert" "b c i hex" => four InsertElement(b, c, i, hex),
+                "aset" "b c i hex" => four SetElement(b, c, i, hex),
+                "aresize" "b c i n" => four ResizeElement(b, c, i, n),
+                "adelete" "b c i k" => four DeleteElements(b, c, i, k),
+                "azero" "b c" => two ZeroArray(b, c),
+                "ecreate" "b e" => two CreateElementArray(b, e),
+                "eadd" "b c hex" => three AddElement(b, c, hex),
+                "eref" "b c t" => three AddReference(b, c, t),
+                "eunref" "b c t" => three RemoveReference(b, c, t),
+                "edelete" "b c t" => three DeleteElement(b, c, t),
+                "echange" "b c t hex" => four ChangeElement(b, c, t, hex),
+                "ncreate" "b d" => two CreateNameArray(b, d),
+                "nadd" "b c name part keep|set" => add_name AddName(b, c, name, part, replace),
+                "nname" "b c t name" => four ChangeName(b, c, t, name),
+                "nunref" "b c t" => three RemoveName(b, c, t),
+                "chcopy" "b" => one CopyChain(b),
+                "chfree" "b" => one FreeChain(b),
+            }
+            Command {
+                // Steps and commits.
+                "undo" => none Undo,
+                "redo" => none Redo,
+                "begin" => none Begin,
+                "end" => none End,
+                "abandon" => none Abandon,
+                "update" => none Update,
+                "save" => none Save,
+                "revert" => none Revert,
+                "saveas" => none SaveAs,
+                // Look-ups of blocks, chunks, arrays of any kind and chains, and locks and counts.
+                "info" "b" => one Info(b),
+                "gettype" "b" => one HeapType(b),
+                "list" => none List,
+                "find" "uid start" => two Find(uid, start),
+                "mapblock" => none MapBlock,
+                "vread" "b" => one ReadRaw(b),
+                "chunks" "b" => one Chunks(b),
+                "read" "b c" => two Read(b, c),
+                "acount" "b c" => two ArrayCount(b, c),
+                "aget" "b c i" => three ArrayElement(b, c, i),
+                "ecount" "b c t" => three ElementReferences(b, c, t),
+                "edata" "b c t" => three ElementBytes(b, c, t),
+                "eused" "b c" => two ElementsUsed(b, c),
+                "etoken" "b c k" => three TokenOfUsed(b, c, k),
+                "eindex" "b c t" => three UsedOfToken(b, c, t),
+                "nfind" "b c name" => three NameFind(b, c, name),
+                "ncount" "b c t" => three NameReferences(b, c, t),
+                "ntext" "b c t" => three NameText(b, c, t),
+                "ndata" "b c t" => three NamePart(b, c, t),
+                "walk" "b" => one Walk(b),
+                "chsize" "b" => one ChainSize(b),
+                "chequal" "b b2" => two ChainEqual(b, b2),
+                "lock" "b" => one Lock(b),
+                "unlock" "b" => one Unlock(b),
+                "dirty" "b" => one Dirty(b),
+                "locks" "b" => one Locks(b),
+                "undos" => none Undos,
+                "redos" => none Redos,
+            }
+        }
+    };
+}
+
+// A heading, and a line for each row: its name and its operands.
+macro_rules! list_of {
+    (() $($kind:ident {
+        $($text:literal $($shown:literal)? => $shape:ident $made:ident $(($($operand:ident),*))?,)*
+    })*) => {
+        concat!(
+            "Commands, which docs/SCRIPT.md explains:\n",
+            $($("  ", $text, $(" ", $shown,)? "\n",)*)*
+        )
+    };
+}
+
+/// The commands with their operands, one in a line behind the heading.
+pub fn command_list() -> &'static str
+    ensures { ListsCommands result.now }
+{
+    commands! { list_of() }
+}
+
+// What reads the words of a row.
+macro_rules! read {
+    (none, $alloc:expr, $place:expr, $words:expr, $made:expr) => {
+        none($place, $words, $made)
+    };
+    (add_name, $alloc:expr, $place:expr, $words:expr, $made:expr) => {
+        add_name($alloc, $place, $words)
+    };
+    ($shape:ident, $alloc:expr, $place:expr, $words:expr, $made:expr) => {
+        $shape($alloc, $place, $words, $made)
+    };
+}
+
+// What the row with the name makes, where there is one.
+macro_rules! row_of {
+    (($alloc:expr, $place:expr, $name:expr, $words:expr) $($kind:ident {
+        $($text:literal $($shown:literal)? => $shape:ident $made:ident $(($($operand:ident),*))?,)*
+    })*) => {
+        $($(if is($name, $text) {
+            return read!($shape, $alloc, $place, $words, $kind::$made);
+        })*)*
+        Err(Fault::BadCommand)
+    };
+}
+
+// Inlined, so that a name costs a compare or two of its length and its first bytes: a comparison of slices is a call where
+// the first bytes are the same.
+#[inline(always)]
+fn is(name: &[u8], text: &str) -> bool
+    ensures { result ≡ same_bytes name.now text.now }
+{
+    let text = text.as_bytes();
+    if name.len() != text.len() {
+        return false;
+    }
+    for i in 0..text.len() {
+        if name[i] != text[i] {
+            return false;
+        }
+    }
+    true
+}
+
+/// Puts the command that a name and its operands are in its place.
+#[tactic(none)]
+pub(crate) fn command_of(
+    alloc: Global,
+    place: &mut Command,
+    name: &[u8],
+    words: &[&[u8]],
+) -> Result<(), Fault>
+    ensures { ReadsAs command_has_bytes (named_from 0 name.now (map (λ w. w.now) words.now))
+        (putting result place.new) }
+{
+    commands! { row_of(alloc, place, name, words) }
+}
+
+/// A name, what stands before it, and whether that replaces what stands there.
+fn add_name(alloc: Global, place: &mut Command, words: &[&[u8]]) -> Result<(), Fault>
+    ensures { ReadsAs command_has_bytes
+        (with_5 block chunk spelled_bytes spelled_bytes is_set
+        (λ b c name part replace. commands.Edit (edits.AddName b c name part replace))
+        (map (λ w. w.now) words.now)) (putting result place.new) }
+{
+    let [block, chunk, name, part, replace] = words else {
+        return Err(Fault::BadCommand);
+    };
+    let block = VmHandle::read(block)?;
+    let chunk = ChunkHandle::read(chunk)?;
+    let replace = bool::read(replace)?;
+    // A line that is no command takes no memory, not even for its first byte text.
+    if !spells_bytes(part) {
+        return Err(Fault::BadCommand);
+    }
+    let name = Bytes::read_last(alloc, name)?;
+    let part = Bytes::read_last(alloc, part)?;
+    *place = Command::Edit(Edit::AddName(block, chunk, name, part, replace));
+    Ok(())
+}
+
+// The words of the row of an edit.
+macro_rules! push_edit_row {
+    (($out:expr, $edit:expr) Edit {
+        $($text:literal $($shown:literal)? => $shape:ident $made:ident $(($($operand:ident),*))?,)*
+    } $($others:tt)*) => {
+        match $edit {
+            $(Edit::$made $(($($operand),*))? => push_words($out, $text, &[$($($operand.word()),*)?]),)*
+        }
+    };
+}
+
+// The words of the row of any other command; a blank line has none.
+macro_rules! push_command_row {
+    (($out:expr, $command:expr) Edit { $($edits:tt)* } Command {
+        $($text:literal $($shown:literal)? => $shape:ident $made:ident $(($($operand:ident),*))?,)*
+    }) => {
+        match $command {
+            Command::Blank => Ok(()),
+            Command::Edit(edit) => push_edit($out, edit),
+            $(Command::$made $(($($operand),*))? => push_words($out, $text, &[$($($operand.word()),*)?]),)*
+        }
+    };
+}
+
+/// Puts the text of an edit behind `out`, without a line feed. Where memory runs out, a part of it may stand there.
+#[tactic(auto, unfolding(crate::specs::Printing::edit_text))]
+pub fn push_edit(out: &mut Vec<u8>, edit: &Edit) -> Result<(), AllocError>
+    ensures ok { OnOk result (out.new.items ≡ out.old.items ++ edit_text edit.now) }
+    ensures err { OnErr result (Extends out.old.items out.new.items) }
+{
+    commands! { push_edit_row(out, edit) }
+}
+
+#[tactic(auto, unfolding(crate::specs::Printing::command_text, crate::specs::Printing::edit_text))]
+fn push_row(out: &mut Vec<u8>, command: &Command) -> Result<(), AllocError>
+    ensures ok { OnOk result (out.new.items ≡ out.old.items ++ command_text command.now) }
+    ensures err { OnErr result (Extends out.old.items out.new.items) }
+{
+    commands! { push_command_row(out, command) }
+}
+
+/// Puts the text of a command behind `out`, without a line feed; a blank line has none. A command that some line spells is
+/// what its text is parsed as. Where memory runs out, a part of the text may stand there.
+pub fn push_command(out: &mut Vec<u8>, command: &Command) -> Result<(), AllocError>
+    ensures ok { OnOk result (out.new.items ≡ out.old.items ++ command_text command.now) }
+    ensures law { OnOk result (IsSpellable command.now
+        → script.command (drop (length out.old.items) out.new.items) ≡ Some command.now) }
+    ensures err { OnErr result (Extends out.old.items out.new.items) }
+{
+    push_row(out, command)
+}
