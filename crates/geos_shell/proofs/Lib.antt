@@ -3,6 +3,8 @@ pub mod Calls
 pub mod Causes
 pub mod Composed
 pub mod Failures
+pub mod FileFaults
+pub mod Frames
 pub mod Lasting
 pub mod Lines
 pub mod LookUps

@@ -5,7 +5,6 @@ pub mod Options
 pub mod Outcome
 pub mod Program
 pub mod Progress
-pub mod Refusals
 pub mod Replies
 pub mod RunFaults
 pub mod Runs
