@@ -1,15 +1,14 @@
 //! Reads the command line: a command, `check`, `dump`, `stat`, `map` or `restore`, its flags and the name of a file.
 use clap::error::ErrorKind;
 use clap::{Arg, ArgAction, ArgMatches, Command, Error, value_parser};
+use document_tools::NoRequest;
 use geos_model::Bytes;
 use std::alloc::{AllocError, Global};
 use std::convert::AsStr;
 
-/// What is asked of a file.
+/// What is asked of a file but for a check.
 #[derive(Clone, Copy)]
 pub enum Asked {
-    /// Whether the file opens, and what is wrong with it.
-    Check,
     /// A script that makes documents of the file again.
     Dump(Dumped),
     /// What the file has, counted.
@@ -46,20 +45,12 @@ pub enum Dumped {
 /// What a command line asks for.
 #[derive(Clone, Copy)]
 pub enum Request<'a> {
+    /// Whether a file opens, and what is wrong with it.
+    Check(&'a str),
     /// This is to be told of a file.
     Look(Asked, &'a str),
     /// A file is to be made by a script.
     Restore(&'a str),
-}
-
-/// Why a command line asks for nothing.
-#[derive(Drop)]
-pub enum NoRequest {
-    /// It asks for help, or for the version, and the text tells that.
-    Told(Bytes),
-    /// It is none. The text says why.
-    Usage(Bytes),
-    Memory,
 }
 
 /// Reads a command line, whose first word is the name of the program.
@@ -153,7 +144,7 @@ fn request_of<'a>(matches: &ArgMatches<'a>) -> Option<Request<'a>> {
         "stat" => Request::Look(Asked::Stat(form_asked(matches)), file),
         "map" => Request::Look(Asked::Map(picture_asked(matches)), file),
         "restore" => Request::Restore(file),
-        _ => Request::Look(Asked::Check, file),
+        _ => Request::Check(file),
     })
 }
 

@@ -4,19 +4,17 @@
 mod command_line;
 mod dumping;
 mod mapping;
-mod pages_telling;
 mod read_only;
 mod restoring;
 mod run;
 mod stat_json;
 mod stat_text;
-mod telling;
 
-use crate::command_line::{NoRequest, read_command_line};
-use crate::run::{Ending, run};
-use std::env;
-use std::io::{self, Write};
+use crate::command_line::read_command_line;
+use crate::run::run;
+use document_tools::NoRequest;
 use std::process::ExitCode;
+use std::{env, io};
 
 /// The words of the command line.
 fn words(rt: &HostRuntime) -> io::Result<Vec<String>> {
@@ -28,31 +26,14 @@ fn words(rt: &HostRuntime) -> io::Result<Vec<String>> {
 }
 
 fn main(rt: HostRuntime) -> ExitCode {
-    let words = match words(&rt) {
-        Ok(words) => words,
-        Err(_) => return complain(&rt, b"geosdoc: the command line can't be read\n", 2),
+    let words = words(&rt);
+    let asked = match &words {
+        Ok(words) => read_command_line(rt.alloc(), words),
+        Err(_) => Err(NoRequest::Unread),
     };
-    match read_command_line(rt.alloc(), &words) {
-        Ok(request) => match run(&rt, request) {
-            Ending::Told { status } => ExitCode::from(status),
-            Ending::Refused { text } => complain(&rt, text.as_bytes(), 1),
-            Ending::Memory => complain(&rt, b"geosdoc: memory\n", 1),
-            Ending::ReadFault => complain(&rt, b"geosdoc: read fault\n", 1),
-            Ending::WriteFault => complain(&rt, b"geosdoc: write fault\n", 1),
-        },
-        Err(NoRequest::Told(text)) => {
-            match io::writer(&rt).write_all(text.as_slice()) {
-                Ok(()) => ExitCode::from(0),
-                Err(_) => complain(&rt, b"geosdoc: write fault\n", 1),
-            }
-        }
-        Err(NoRequest::Usage(text)) => complain(&rt, text.as_slice(), 2),
-        Err(NoRequest::Memory) => complain(&rt, b"geosdoc: memory\n", 1),
-    }
-}
-
-// Where not even this can be told, the status still says what became of the run.
-fn complain(rt: &HostRuntime, text: &[u8], status: u8) -> ExitCode {
-    let _ = rt.stderr().write_all(text);
+    let status = match asked {
+        Ok(request) => run(&rt, request).tell(&mut rt.stderr()),
+        Err(none) => none.tell(&mut io::writer(&rt), &mut rt.stderr()),
+    };
     ExitCode::from(status)
 }

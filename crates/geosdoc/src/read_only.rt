@@ -2,37 +2,11 @@
 // No contract can say what they give, so they claim no honesty, as those that `geosvm` writes.
 ghost use Rattle.vm_store.specs.HostSystem.{host_system_facts, host_system_timely};
 
+use document_tools::{Cause, SystemViewer, TellsCause};
 use std::fs::{File, TryLockError, metadata};
+use std::io;
 use std::os::unix::fs::FileExt;
-use std::{fmt, io};
 use vm_store::{System, SystemFault, SystemFile};
-
-/// Why a file can't be looked at.
-#[derive(Clone, Copy)]
-pub enum Cause {
-    /// There is none.
-    Missing,
-    /// The system doesn't let the caller read it.
-    Forbidden,
-    /// It is a folder, a device or a pipe.
-    NoFile,
-    /// Another program has it open to write it.
-    InUse,
-    /// The system failed otherwise.
-    Failed,
-}
-
-impl fmt::Display for Cause {
-    fn fmt<W: fmt::Write>(&self, f: &mut fmt::Formatter<W>) -> fmt::Result {
-        match self {
-            Cause::Missing => write!(f, "no such file"),
-            Cause::Forbidden => write!(f, "permission denied"),
-            Cause::NoFile => write!(f, "not a regular file"),
-            Cause::InUse => write!(f, "in use by another program"),
-            Cause::Failed => write!(f, "it can't be read"),
-        }
-    }
-}
 
 /// The host's own files, to be read alone.
 #[derive(Drop)]
@@ -54,19 +28,6 @@ pub struct ReadOnlyFile {
 }
 
 impl ReadOnlySystem {
-    /// The system that the runtime stands on.
-    pub fn new(rt: HostRuntime) -> ReadOnlySystem {
-        ReadOnlySystem {
-            rt,
-            cause: Cause::Failed,
-        }
-    }
-
-    /// Why the last file couldn't be opened.
-    pub fn cause(&self) -> Cause {
-        self.cause
-    }
-
     fn refused(&mut self, cause: Cause) -> SystemFault {
         self.cause = cause;
         SystemFault::Failed
@@ -79,6 +40,22 @@ impl ReadOnlySystem {
             io::ErrorKind::PermissionDenied => self.refused(Cause::Forbidden),
             _ => self.refused(Cause::Failed),
         }
+    }
+}
+
+/// The files of this machine, opened to be read alone.
+pub fn read_only_files(rt: &HostRuntime) -> SystemViewer<ReadOnlyFile, ReadOnlySystem> {
+    SystemViewer::new(ReadOnlySystem {
+        rt: *rt,
+        cause: Cause::Failed,
+    })
+}
+
+impl TellsCause for ReadOnlySystem {
+    ghost cause = { λ system. system.cause };
+
+    fn cause(&self) -> Cause {
+        self.cause
     }
 }
 
