@@ -1,10 +1,10 @@
 -- What is counted of a document: the things, each with its size.
-use Rattle.std.specs.Prelude.{ℕ, List, [], ◌∷◌, Bool, not, ◌==◌, ◌&&◌, length, map, if◌then◌else◌, Option, None, Some}
+use Rattle.std.specs.Prelude.{ℕ, ◌-◌, ◌*◌, ◌^◌, min, List, [], ◌∷◌, Bool, not, ◌==◌, ◌&&◌, length, map, if◌then◌else◌, Option, None, Some}
 use Rattle.std.specs.List.{filter, flat_map}
 use Rattle.std.specs.FinMap.{entries}
 use Rattle.std.specs.Ordering.{nat_cmp}
 use Rattle.std.specs.BTreeMap.{get}
-use Rattle.geos_model.specs.Heap.{need}
+use Rattle.geos_model.specs.Heap.{capacity, need}
 use Rattle.geos_model.specs.Document.{Block, is_heap_body, chunks_of_body}
 use Rattle.geos_model.specs.declared.command.Body.{Body}
 use Rattle.geos_model.specs.declared.command.Body.TheVariants.{Raw, Heap}
@@ -83,6 +83,10 @@ pub record IsBlockStat (bs : Blocks) (s : BlockStat) : Type 0 where
   pub types : (t : ℕ) → IsTallyIfAny (typed_items t bs) (get nat_cmp s.types t)
   pub chunks : IsTally (all_chunk_items bs) s.chunks.all
   pub arrays : (kind : ArrayKind) → IsTally (all_array_items kind bs) (tally_of kind s.chunks.arrays)
+
+-- what the heaps don't need of the bytes that each of them has, as far as the largest number goes
+abbrev pub free_bytes : BlockStat → ℕ
+free_bytes s = min (capacity * s.heaps.count) (2 ^ 64 - 1) - s.heaps.sum
 
 -- Steps.
 

@@ -6,7 +6,7 @@ ghost use Rattle.std.specs.FinMap.{keys};
 ghost use Rattle.geos_model.specs.Heap.{capacity, is_heap_map, table_len};
 ghost use Rattle.geos_model.specs.declared.block.Attributes.{Attributes};
 ghost use Rattle.geos_model.specs.declared.command.Body.TheVariants as bodies;
-ghost use Rattle.document_stat.specs.Counted.{AddsBlocks, IsBlockStat, if_so};
+ghost use Rattle.document_stat.specs.Counted.{AddsBlocks, IsBlockStat, free_bytes, if_so};
 ghost use Rattle.document_stat.specs.Tallies.{AddsIfAny, most_items};
 
 use crate::chunks::ChunkStat;
@@ -57,7 +57,8 @@ impl BlockStat {
 
     /// How many bytes the heaps don't need of the 65,520 that each of them has.
     pub fn free_bytes(&self) -> u64
-        ensures { self.now.heaps.count ≤ most_items
+        ensures exact { result ≡ free_bytes self.now }
+        ensures told { self.now.heaps.count ≤ most_items
             → result ≡ capacity * self.now.heaps.count - self.now.heaps.sum }
     {
         (CAPACITY as u64)

@@ -1,3 +1,4 @@
 pub mod Checked
 pub mod Joined
+pub mod Looked
 pub mod PageLemmas

@@ -1,7 +1,12 @@
 pub mod Checks
+pub mod DumpedFiles
 pub mod Endings
+pub mod Looks
+pub mod Maps
 pub mod Obstacles
 pub mod Pages
 pub mod Reports
 pub mod Requests
+pub mod Restores
+pub mod Stats
 pub mod Views

@@ -3,6 +3,8 @@ use Rattle.std.specs.Prelude.{ℕ, List, ◌++◌, codes}
 use Rattle.geos_model.specs.Refusal.{name_of_fault}
 use Rattle.document_tools.specs.declared.obstacle.Cause.{Cause}
 use Rattle.document_tools.specs.declared.obstacle.Cause.TheVariants as causes
+use Rattle.document_tools.specs.declared.obstacle.MakeFault.{MakeFault}
+use Rattle.document_tools.specs.declared.obstacle.MakeFault.TheVariants as make_faults
 use Rattle.document_tools.specs.declared.obstacle.Obstacle.{Obstacle}
 use Rattle.document_tools.specs.declared.obstacle.Obstacle.TheVariants as obstacles
 
@@ -13,11 +15,18 @@ cause_text causes.NoFile = codes "not a regular file"
 cause_text causes.InUse = codes "in use by another program"
 cause_text causes.Failed = codes "it can't be read"
 
+abbrev pub make_fault_text : MakeFault → List ℕ
+make_fault_text make_faults.Present = codes "it is there already"
+make_fault_text make_faults.NoFolder = codes "no such folder"
+make_fault_text make_faults.Forbidden = codes "permission denied"
+make_fault_text make_faults.Failed = codes "it can't be made"
+
 abbrev pub obstacle_text : Obstacle → List ℕ
 obstacle_text (obstacles.Unviewed cause) = cause_text cause
 obstacle_text obstacles.Unread = codes "it can't be read"
 obstacle_text (obstacles.Unopened fault) = codes "it doesn't open, " ++ name_of_fault fault
 obstacle_text (obstacles.NoOther fault) = codes "the other slot doesn't open, " ++ name_of_fault fault
+obstacle_text (obstacles.Unmade fault) = make_fault_text fault
 
 -- of which file it is told, and why
 abbrev pub refusal_line : List ℕ → Obstacle → List ℕ

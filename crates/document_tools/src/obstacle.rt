@@ -1,7 +1,7 @@
 //! What stands against what is asked of a file.
 ghost use Rattle.std.specs.Prelude.{◌≡◌, ◌++◌, OnOk};
 ghost use Rattle.geos_model.specs.Refusal.{name_of_fault};
-ghost use Rattle.document_tools.specs.Obstacles.{cause_text, obstacle_text, refusal_line};
+ghost use Rattle.document_tools.specs.Obstacles.{cause_text, make_fault_text, obstacle_text, refusal_line};
 
 use geos_model::Fault;
 use std::alloc::AllocError;
@@ -21,6 +21,19 @@ pub enum Cause {
     Failed,
 }
 
+/// Why a file isn't made.
+#[derive(Clone, Copy)]
+pub enum MakeFault {
+    /// Something of that name is there.
+    Present,
+    /// There is no folder for it.
+    NoFolder,
+    /// The system doesn't let the caller make it.
+    Forbidden,
+    /// The system failed otherwise.
+    Failed,
+}
+
 /// What stands against what is asked of a file.
 #[derive(Clone, Copy)]
 pub enum Obstacle {
@@ -32,6 +45,8 @@ pub enum Obstacle {
     Unopened(Fault),
     /// What the slot leads to that doesn't count doesn't open, or there is no such slot.
     NoOther(Fault),
+    /// It can't be made, or no document in it.
+    Unmade(MakeFault),
 }
 
 impl Cause {
@@ -44,6 +59,19 @@ impl Cause {
             Cause::NoFile => "not a regular file",
             Cause::InUse => "in use by another program",
             Cause::Failed => "it can't be read",
+        }
+    }
+}
+
+impl MakeFault {
+    fn text(self) -> &'static str
+        ensures { result.now ≡ make_fault_text self }
+    {
+        match self {
+            MakeFault::Present => "it is there already",
+            MakeFault::NoFolder => "no such folder",
+            MakeFault::Forbidden => "permission denied",
+            MakeFault::Failed => "it can't be made",
         }
     }
 }
@@ -64,6 +92,7 @@ fn push_obstacle(out: &mut Vec<u8>, obstacle: Obstacle) -> Result<(), AllocError
         Obstacle::Unread => out.extend_from_slice(b"it can't be read"),
         Obstacle::Unopened(fault) => push_named(out, b"it doesn't open, ", fault),
         Obstacle::NoOther(fault) => push_named(out, b"the other slot doesn't open, ", fault),
+        Obstacle::Unmade(fault) => out.extend_from_slice(fault.text().as_bytes()),
     }
 }
 

@@ -2,13 +2,10 @@
 #![tactic(auto)]
 
 mod command_line;
-mod dumping;
-mod mapping;
+mod new_files;
+mod other_slot;
 mod read_only;
-mod restoring;
 mod run;
-mod stat_json;
-mod stat_text;
 
 use crate::command_line::read_command_line;
 use crate::run::run;
