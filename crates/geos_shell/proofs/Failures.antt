@@ -28,7 +28,7 @@ not_failed false none so = cc so
 
 module _ {S : Type 0} (facts : S → StoreFacts) where
   -- where the session's store failed and no target was used up
-  failed_so : (failed : Bool) (old new : Option S) → (new ≡ None → old ≡ None) → failed ≡ true → failed_with failed facts old new ≡ true
+  pub failed_so : (failed : Bool) (old new : Option S) → (new ≡ None → old ≡ None) → failed ≡ true → failed_with failed facts old new ≡ true
   failed_so failed None new left so = so
   failed_so failed (Some t) (Some back) left so = or_left failed (failed_since (facts t) (facts back)) so
   failed_so failed (Some t) None left so = let none : Some t ≡ None = left refl in cc none

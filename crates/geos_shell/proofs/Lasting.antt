@@ -3,7 +3,7 @@ use Rattle.std.proofs.Common.{◌≡◌, ℕ, ◌<◌, List, [], ◌∷◌, ◌+
 use Rattle.std.proofs.lemmas.List.{nil_from_length}
 use Rattle.geos_model.specs.Script.{lines}
 use Rattle.vm_store.specs.Facts.{StoreFacts}
-use Rattle.geos_shell.specs.Holdings.{AreExact, Holding}
+use Rattle.geos_shell.specs.Holdings.{Holding}
 use Rattle.geos_shell.specs.Runs.{AnswersLines, StopsBy}
 use Rattle.geos_shell.specs.Progress.{HasNoFeed, IsAnswered, IsStopped, Progress, StandsFor}
 use Rattle.geos_shell.specs.declared.runner.RunFault.{RunFault}
@@ -14,37 +14,37 @@ use Rattle.geos_shell.proofs.Steps.{Answered-last, Progress-feed, Progress-part,
 module _ {S : Type 0} (facts : S → StoreFacts) (manner : Manner) (start now new : Holding S) (read kept sent old replies : List ℕ) where
   -- a whole line, whose front may have been kept before, and which the bytes in full stand for
   pub line_answered : (tail full rest : List ℕ) → StandsFor (kept ++ tail) full → length rest ≡ 0 → HasNoFeed tail
-      → (AreExact facts now → IsAnswered facts manner now full new old replies)
+      → IsAnswered facts manner now full new old replies
       → Progress facts manner start read (sent ++ old) now kept → Progress facts manner start (read ++ (tail ++ 10 ∷ [])) (sent ++ replies) new rest
   line_answered tail full rest stands none free answers p =
-      let (written, answered, grown) = answers p.run.answers.exact in
+      let (written, answered, grown) = answers in
       rw (nil_from_length rest none, grown, ← append_assoc sent old written, ← append_assoc read tail (10 ∷ [])) (Progress-feed (Progress-part p tail full free stands) answered)
 
   -- such a line, in which the run stops
   pub line_stopped : (fault : RunFault) (tail full rest : List ℕ) → StandsFor (kept ++ tail) full → HasNoFeed tail
-      → (AreExact facts now → IsStopped fault facts manner now full new old replies)
+      → IsStopped fault facts manner now full new old replies
       → Progress facts manner start read (sent ++ old) now kept → StopsBy fault facts manner start (read ++ (tail ++ 10 ∷ rest)) (sent ++ replies) new
   line_stopped faults.Memory tail full rest stands free stops p =
-      let (may, same) = stops p.run.answers.exact in
+      let (may, same) = stops in
       rw (same, ← append_assoc read tail (10 ∷ rest)) (StopsBy-feed (Progress-part p tail full free stands) rest may)
   line_stopped faults.Refused tail full rest stands free stops p =
-      let (bails, (written, refused, grown)) = stops p.run.answers.exact in
+      let (bails, (written, refused, grown)) = stops in
       (bails, rw (grown, ← append_assoc sent old written, ← append_assoc read tail (10 ∷ rest)) (Refused-feed (Progress-part p tail full free stands) rest refused))
-  line_stopped faults.Read tail full rest stands free stops p = absurd (stops p.run.answers.exact)
-  line_stopped faults.Write tail full rest stands free stops p = absurd (stops p.run.answers.exact)
+  line_stopped faults.Read tail full rest stands free stops p = absurd stops
+  line_stopped faults.Write tail full rest stands free stops p = absurd stops
 
   -- the last line, of which all is kept
-  pub last_answered : (line : List ℕ) → line ≡ kept → 0 < length kept → (AreExact facts now → IsAnswered facts manner now line new old replies)
+  pub last_answered : (line : List ℕ) → line ≡ kept → 0 < length kept → IsAnswered facts manner now line new old replies
       → Progress facts manner start read (sent ++ old) now kept → AnswersLines facts manner start (lines read) (sent ++ replies) new
   last_answered line is some answers p =
-      let (written, answered, grown) = subst (λ (l : List ℕ). IsAnswered facts manner now l new old replies) is (answers p.run.answers.exact) in
+      let (written, answered, grown) = subst (λ (l : List ℕ). IsAnswered facts manner now l new old replies) is answers in
       rw (grown, ← append_assoc sent old written) (Answered-last p some answered)
 
   -- that line, in which the run stops
-  pub last_stopped : (fault : RunFault) (line : List ℕ) → line ≡ kept → 0 < length kept → (AreExact facts now → IsStopped fault facts manner now line new old replies)
+  pub last_stopped : (fault : RunFault) (line : List ℕ) → line ≡ kept → 0 < length kept → IsStopped fault facts manner now line new old replies
       → Progress facts manner start read (sent ++ old) now kept → (0 < length read) × StopsBy fault facts manner start read (sent ++ replies) new
   last_stopped fault line is some stops p =
-      (Progress-some p some, by fault (subst (λ (l : List ℕ). IsStopped fault facts manner now l new old replies) is (stops p.run.answers.exact)))
+      (Progress-some p some, by fault (subst (λ (l : List ℕ). IsStopped fault facts manner now l new old replies) is stops))
     where
       by : (fault : RunFault) → IsStopped fault facts manner now kept new old replies → StopsBy fault facts manner start read (sent ++ replies) new
       by faults.Memory at = rw at.1 (StopsBy-last p some at.0)

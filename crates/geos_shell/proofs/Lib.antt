@@ -7,6 +7,8 @@ pub mod Counted
 pub mod Digits
 pub mod Extending
 pub mod Failures
+pub mod FileFaults
+pub mod Frames
 pub mod Lasting
 pub mod Lines
 pub mod LookUps

@@ -5,21 +5,22 @@ use Rattle.std.specs.List.{list_any}
 use Rattle.std.proofs.Math.Seq.{drop-append_seam, drop-length}
 use Rattle.std.proofs.lemmas.Bool.{cases_lt}
 use Rattle.std.proofs.lemmas.List.{length-map, map-append, take_all}
+use Rattle.std.proofs.lemmas.List.Elements.{filter-append}
 use Rattle.std.proofs.lemmas.List.Folds.{list_any-append}
 use Rattle.std.proofs.lemmas.Grind.{flat_map-append}
-use Rattle.geos_model.specs.Machine.{Call, Request}
+use Rattle.geos_model.specs.Machine.{Call, Request, failed_calls}
 use Rattle.geos_model.specs.Reply.{Reply, Accepted, Refused, BlockIs, ChunkIs, TokenIs, NumberIs, BytesAre, BlocksAre, ChunksAre, RawIs, HeapIs, AreEqual}
 use Rattle.geos_model.specs.Script.{command, gets_reply, output, reply_line, reply_text, requests}
 use Rattle.geos_model.specs.declared.command.Command.TheVariants as commands
 use Rattle.vm_store.specs.Facts.{StoreFacts}
-use Rattle.geos_shell.specs.Holdings.{AreExact, Holding, ServesRequest}
+use Rattle.geos_shell.specs.Holdings.{AnswersCalls, AnswersRequest, AreExact, Holding, failed_since_in}
 use Rattle.geos_shell.specs.Manners.{begins_with_no, echoed, is_refusal, lead, longest_kept, plain, written_of}
 use Rattle.geos_shell.specs.Progress.{IsAnswered, StandsFor}
 use Rattle.geos_shell.specs.Replies.{Responds}
 use Rattle.geos_shell.specs.Runs.{AnswersLines, AnswersOf, EndsBy, RefusesRequest, replies_of}
 use Rattle.geos_shell.specs.declared.runner.RunFault.TheVariants as faults
 use Rattle.geos_shell.specs.declared.runner.Manner.{Manner}
-use Rattle.geos_shell.proofs.Composed.{AnswersOf-append, AnswersOf-asked, AnswersOf-none, AnswersOf-one, AnswersOf-unasked}
+use Rattle.geos_shell.proofs.Composed.{AnswersCalls-append, AnswersCalls-one, serves_calls}
 use Rattle.geos_shell.proofs.Lines.{StandsFor-command, longest_kept-is}
 
 -- ---- what is written
@@ -113,51 +114,49 @@ or_false false = refl
 -- ---- lines
 
 module _ {S : Type 0} (facts : S → StoreFacts) (manner : Manner) where
+  -- lines whose calls are answered
+  by_calls : (old new : Holding S) (asked : List (List ℕ)) (written : List ℕ) (calls : List Call) → map (λ c. c.request) calls ≡ filter gets_reply (requests asked) → AnswersCalls facts old calls new
+      → written ≡ written_of manner.echoes asked (replies_of calls) → (manner.bails && list_any is_refusal (replies_of calls)) ≡ false → AnswersLines facts manner old asked written new
+  by_calls old new asked written calls asks answers text goes_on =
+      record { calls = calls; asks = asks; answers = answers; text = text; goes_on = goes_on; serves = serves_calls facts old new calls answers }
+
   -- none
-  pub AnswersLines-none : (h : Holding S) → AreExact facts h → AnswersLines facts manner h [] [] h
-  AnswersLines-none h exact = record { replies = []; answers = AnswersOf-none facts h exact; text = written_of-none manner.echoes; goes_on = none_so manner.bails }
+  pub AnswersLines-none : (h : Holding S) → AnswersLines facts manner h [] [] h
+  AnswersLines-none h = by_calls h h [] [] [] refl refl (written_of-none manner.echoes) (none_so manner.bails)
 
   -- one that gets no reply
-  AnswersLines-unasked : (old new : Holding S) (line : List ℕ) → gets_reply (command line) ≡ false → new ≡ old → AreExact facts old
-      → AnswersLines facts manner old (line ∷ []) (lead manner.echoes line) new
-  AnswersLines-unasked old new line none same exact =
-      record {
-        replies = [];
-        answers = AnswersOf-unasked facts old new (command line ∷ []) (rw none refl) same exact;
-        text = written_of-unasked manner.echoes line none;
-        goes_on = none_so manner.bails;
-      }
+  AnswersLines-unasked : (old new : Holding S) (line : List ℕ) → gets_reply (command line) ≡ false → new ≡ old → AnswersLines facts manner old (line ∷ []) (lead manner.echoes line) new
+  AnswersLines-unasked old new line none same =
+      let quiet : filter gets_reply (command line ∷ []) ≡ [] = rw none refl in
+      by_calls old new (line ∷ []) (lead manner.echoes line) [] (sym quiet) same (written_of-unasked manner.echoes line none) (none_so manner.bails)
 
-  -- one that is served
-  AnswersLines-one : (old new : Holding S) (line : List ℕ) (reply : Reply) → gets_reply (command line) ≡ true → ServesRequest facts old (command line) reply new
-      → (manner.bails && is_refusal reply) ≡ false → AreExact facts old → AnswersLines facts manner old (line ∷ []) (lead manner.echoes line ++ reply_line reply) new
-  AnswersLines-one old new line reply asks serves goes_on exact =
-      record {
-        replies = reply_line reply;
-        answers = AnswersOf-one facts old new (command line) reply asks exact serves;
-        text = written_of-one manner.echoes line reply asks;
-        goes_on = ap (λ b. manner.bails && b) (or_false (is_refusal reply)) ∙ goes_on;
-      }
+  -- one that is answered
+  AnswersLines-one : (old new : Holding S) (line : List ℕ) (reply : Reply) → gets_reply (command line) ≡ true → AnswersRequest facts old (command line) reply new
+      → (manner.bails && is_refusal reply) ≡ false → AnswersLines facts manner old (line ∷ []) (lead manner.echoes line ++ reply_line reply) new
+  AnswersLines-one old new line reply asks answers goes_on =
+      let one : filter gets_reply (command line ∷ []) ≡ command line ∷ [] = rw asks refl in
+      by_calls old new (line ∷ []) (lead manner.echoes line ++ reply_line reply) (record { request = command line; reply = reply; failed = failed_since_in facts old new } ∷ []) (sym one) (AnswersCalls-one facts old new (command line) reply answers)
+      (written_of-one manner.echoes line reply asks) (ap (λ b. manner.bails && b) (or_false (is_refusal reply)) ∙ goes_on)
 
   -- what was put behind the line is no refusal, where the run bails
   answered_by : (old new : Holding S) (line : List ℕ) (request : Request) → command line ≡ request → (before mid after : List ℕ) → mid ≡ before ++ lead manner.echoes line
-      → Responds facts old request new mid after → (manner.bails && begins_with_no (drop (length mid) after)) ≡ false → AreExact facts old → IsAnswered facts manner old line new before after
-  answered_by old new line (Some commands.Blank) is before mid after led r goes_on exact =
-      (lead manner.echoes line, AnswersLines-unasked old new line (ap gets_reply is) r.0 exact, r.1 ∙ led)
-  answered_by old new line request is before mid after led r goes_on exact =
+      → Responds facts old request new mid after → (manner.bails && begins_with_no (drop (length mid) after)) ≡ false → IsAnswered facts manner old line new before after
+  answered_by old new line (Some commands.Blank) is before mid after led r goes_on =
+      (lead manner.echoes line, AnswersLines-unasked old new line (ap gets_reply is) r.0, r.1 ∙ led)
+  answered_by old new line request is before mid after led r goes_on =
       let last = reply_line r.0 in
       let same : begins_with_no (drop (length mid) after) ≡ is_refusal r.0 =
       ap (λ l. begins_with_no (drop (length mid) l)) r.2 ∙ ap begins_with_no (drop-append_seam mid last) ∙ begins_with_no-refusal r.0 in
-      let serves = subst (λ q. ServesRequest facts old q r.0 new) (sym is) r.1 in (
+      let answers = subst (λ q. AnswersRequest facts old q r.0 new) (sym is) r.1 in (
         lead manner.echoes line ++ last,
-        AnswersLines-one old new line r.0 (ap gets_reply is) serves (ap (λ b. manner.bails && b) (sym same) ∙ goes_on) exact,
+        AnswersLines-one old new line r.0 (ap gets_reply is) answers (ap (λ b. manner.bails && b) (sym same) ∙ goes_on),
         r.2 ∙ ap (λ l. l ++ last) led ∙ append_assoc before (lead manner.echoes line) last,
       )
 
-  refusal_is : (reply : Reply) → is_refusal reply ≡ true → (old new : Holding S) (line : List ℕ) → ServesRequest facts old (command line) reply new
+  refusal_is : (reply : Reply) → is_refusal reply ≡ true → (old new : Holding S) (line : List ℕ) → AnswersRequest facts old (command line) reply new
       → RefusesRequest facts manner old line (lead manner.echoes line ++ reply_line reply) new
-  refusal_is (Refused fault) so old new line serves = record { fault = fault; serves = serves; text = refl }
-  refusal_is reply so old new line serves = cc so
+  refusal_is (Refused fault) so old new line answers = record { fault = fault; answers = answers; text = refl }
+  refusal_is reply so old new line answers = cc so
 
   -- it is one
   refused_by : (old new : Holding S) (line : List ℕ) (request : Request) → command line ≡ request → (before mid after : List ℕ) → mid ≡ before ++ lead manner.echoes line
@@ -170,16 +169,16 @@ module _ {S : Type 0} (facts : S → StoreFacts) (manner : Manner) where
       let last = reply_line r.0 in
       let same : begins_with_no (drop (length mid) after) ≡ is_refusal r.0 =
       ap (λ l. begins_with_no (drop (length mid) l)) r.2 ∙ ap begins_with_no (drop-append_seam mid last) ∙ begins_with_no-refusal r.0 in
-      let serves = subst (λ q. ServesRequest facts old q r.0 new) (sym is) r.1 in (
+      let answers = subst (λ q. AnswersRequest facts old q r.0 new) (sym is) r.1 in (
         lead manner.echoes line ++ last,
-        refusal_is r.0 (sym same ∙ so) old new line serves,
+        refusal_is r.0 (sym same ∙ so) old new line answers,
         r.2 ∙ ap (λ l. l ++ last) led ∙ append_assoc before (lead manner.echoes line) last,
       )
 
   -- a line was answered
-  pub answered : (old new : Holding S) (line before after : List ℕ) → AreExact facts old → Responds facts old (command line) new (before ++ lead manner.echoes line) after
+  pub answered : (old new : Holding S) (line before after : List ℕ) → Responds facts old (command line) new (before ++ lead manner.echoes line) after
       → (manner.bails && begins_with_no (drop (length (before ++ lead manner.echoes line)) after)) ≡ false → IsAnswered facts manner old line new before after
-  answered old new line before after exact r goes_on = answered_by old new line (command line) refl before _ after refl r goes_on exact
+  answered old new line before after r goes_on = answered_by old new line (command line) refl before _ after refl r goes_on
 
   -- by a refusal
   pub refused : (old new : Holding S) (line before after : List ℕ) → Responds facts old (command line) new (before ++ lead manner.echoes line) after
@@ -195,15 +194,15 @@ counted calls asked e = length-map calls (λ (c : Call). c.reply) ∙ sym (lengt
 pub AnswersLines-append : {S : Type 0} {facts : S → StoreFacts} {manner : Manner} {old mid new : Holding S} {xs ys : List (List ℕ)} {ws vs : List ℕ}
     → AnswersLines facts manner old xs ws mid → AnswersLines facts manner mid ys vs new → AnswersLines facts manner old (xs ++ ys) (ws ++ vs) new
 AnswersLines-append {S} {facts} {manner} {old} {mid} {new} {xs} {ys} {ws} {vs} p q =
-    let first = replies_of p.answers in
-    let second = replies_of q.answers in
-    let all = map-append (λ (c : Call). c.reply) p.answers.answered.calls q.answers.answered.calls in
-    record {
-      replies = p.replies ++ q.replies;
-      answers = AnswersOf-asked (map-append command xs ys) (AnswersOf-append p.answers q.answers);
-      text = ap₂ (λ (a b : List ℕ). a ++ b) p.text q.text ∙ sym (written_of-append manner.echoes xs ys first second (counted _ _ p.answers.answered.asks)) ∙ ap (written_of manner.echoes (xs ++ ys)) (sym all);
-      goes_on = ap (λ l. manner.bails && list_any is_refusal l) all ∙ ap (λ b. manner.bails && b) (list_any-append is_refusal first second) ∙ neither manner.bails _ _ p.goes_on q.goes_on;
-    }
+    let first = replies_of p.calls in
+    let second = replies_of q.calls in
+    let all = map-append (λ (c : Call). c.reply) p.calls q.calls in
+    let asks : map (λ (c : Call). c.request) (p.calls ++ q.calls) ≡ filter gets_reply (requests (xs ++ ys)) =
+    map-append (λ (c : Call). c.request) p.calls q.calls ∙ ap₂ (λ (a b : List Request). a ++ b) p.asks q.asks ∙ sym (filter-append gets_reply (requests xs) (requests ys))
+    ∙ ap (filter gets_reply) (sym (map-append command xs ys)) in
+    by_calls facts manner old new (xs ++ ys) (ws ++ vs) (p.calls ++ q.calls) asks (AnswersCalls-append facts old mid new p.calls q.calls p.answers q.answers)
+    (ap₂ (λ (a b : List ℕ). a ++ b) p.text q.text ∙ sym (written_of-append manner.echoes xs ys first second (counted _ _ p.asks)) ∙ ap (written_of manner.echoes (xs ++ ys)) (sym all))
+    (ap (λ l. manner.bails && list_any is_refusal l) all ∙ ap (λ b. manner.bails && b) (list_any-append is_refusal first second) ∙ neither manner.bails _ _ p.goes_on q.goes_on)
 
 -- ---- what stands for a line
 
@@ -220,26 +219,40 @@ module _ {S : Type 0} {facts : S → StoreFacts} {manner : Manner} {old new : Ho
   pub AnswersLines-StandsFor : AnswersLines facts manner old (kept ∷ []) written new → AnswersLines facts manner old (begun ∷ []) written new
   AnswersLines-StandsFor a =
       record {
-        replies = a.replies;
-        answers = AnswersOf-asked (ap (λ c. c ∷ []) (sym (StandsFor-command begun kept h))) a.answers;
-        text = a.text ∙ written_of-StandsFor manner.echoes begun kept (replies_of a.answers) h;
+        calls = a.calls;
+        asks = a.asks ∙ ap (λ (c : Request). filter gets_reply (c ∷ [])) (StandsFor-command begun kept h);
+        answers = a.answers;
+        text = a.text ∙ written_of-StandsFor manner.echoes begun kept (replies_of a.calls) h;
         goes_on = a.goes_on;
+        serves = a.serves;
       }
 
   pub RefusesRequest-StandsFor : RefusesRequest facts manner old kept written new → RefusesRequest facts manner old begun written new
   RefusesRequest-StandsFor r =
       record {
         fault = r.fault;
-        serves = subst (λ c. ServesRequest facts old c (Refused r.fault) new) (StandsFor-command begun kept h) r.serves;
+        answers = subst (λ c. AnswersRequest facts old c (Refused r.fault) new) (StandsFor-command begun kept h) r.answers;
         text = r.text ∙ ap (λ l. l ++ reply_line (Refused r.fault)) (lead-StandsFor manner.echoes begun kept h);
       }
 
 -- ---- the plain manner
 
+-- a manner that neither bails nor echoes is that
+pub manner_is : (manner : Manner) → manner.bails ≡ false → manner.echoes ≡ false → manner ≡ plain
+manner_is manner bails echoes = λ i. record { bails = bails i; echoes = echoes i }
+
 -- what is written is the replies
-pub AnswersOf-plain : {S : Type 0} {facts : S → StoreFacts} {old new : Holding S} {asked : List (List ℕ)} {written : List ℕ} → AnswersLines facts plain old asked written new → AnswersOf facts old (requests asked) written new
-AnswersOf-plain {S} {facts} {old} {new} {asked} {written} a =
-    subst (λ (w : List ℕ). AnswersOf facts old (requests asked) w new) (a.answers.answered.text ∙ sym a.text) a.answers
+pub AnswersOf-plain : {S : Type 0} {facts : S → StoreFacts} {old new : Holding S} {asked : List (List ℕ)} {written : List ℕ} → AnswersLines facts plain old asked written new → AreExact facts old
+    → AnswersOf facts old (requests asked) written new
+AnswersOf-plain {S} {facts} {old} {new} {asked} {written} a exact =
+    let served = a.serves exact in
+    record {
+      exact = served.exact;
+      failed = failed_calls a.calls;
+      answered = record { calls = a.calls; asks = a.asks; run = served.run; text = a.text; fails = refl };
+      serving = served.serving;
+      stores = served.stores;
+    }
 
 -- and no refusal ends the run
 pub Refused-plain : {S : Type 0} {facts : S → StoreFacts} {old new : Holding S} {from to before after : Option (List ℕ)} → EndsBy faults.Refused facts plain old from to before after new → ⊥

@@ -1,8 +1,8 @@
 -- A reply's line is what is written for its request.
-use Rattle.std.proofs.Common.{◌≡◌, List, ℕ, ◌++◌, Bool, true, false, length, refl, ap, subst, Option, Result, Ok, OnOk, Err, Some, inr, ◌∷◌, [], ◌∙◌, is_err, rules, None}
+use Rattle.std.proofs.Common.{◌≡◌, List, ℕ, ◌++◌, Bool, true, false, length, refl, sym, ap, subst, Option, Result, Ok, OnOk, OnErr, IfErr, IsTrue, Err, Some, inr, ◌∷◌, [], ◌∙◌, is_err, rules, None}
 use Rattle.std.specs.Prelude.{IsOkAnd, MatchResult}
 use Rattle.std.proofs.lemmas.List.{append_assoc, take_at}
-use Rattle.geos_model.specs.Reply.{Refused, Reply, reply_by, reply_of}
+use Rattle.geos_model.specs.Reply.{Accepted, Refused, Reply, reply_by, reply_of, reply_of_done}
 use Rattle.geos_model.specs.declared.fault.Fault.{Fault}
 use Rattle.geos_model.specs.declared.fault.Fault.TheVariants as faults
 use Rattle.geos_model.specs.declared.reply.Reply.{Reply as GivenReply}
@@ -10,22 +10,77 @@ use Rattle.geos_model.specs.Machine.{Request, Step}
 use Rattle.geos_model.specs.Script.{reply_line, reply_text}
 use Rattle.geos_model.specs.declared.command.Command.{Command}
 use Rattle.geos_model.specs.declared.command.Command.TheVariants as commands
-use Rattle.vm_store.specs.Facts.{StoreFacts}
-use Rattle.undo_log.specs.Sessions.{SessionState, IsStep, KeepsSession, failed_since, machine_of}
-use Rattle.undo_log.proofs.Keeping.{kept_passes, keeps_refl}
-use Rattle.geos_shell.specs.Holdings.{AreExact, CommitsNothing, Holding, IsTakenIfSure, LeavesFiles, MayServe, ServesRequest, SameFiles, failed_since_in, holding, machine}
+use Rattle.geos_model.specs.declared.command.Done.{Done}
+use Rattle.geos_model.specs.declared.command.Done.TheVariants as done
+use Rattle.vm_store.specs.Facts.{StoreFacts, FailedSince}
+use Rattle.undo_log.specs.Sessions.{SessionState, AnswersAlongChain, AnswersLookUp, IsStep, KeepsSession, failed_since, machine_of}
+use Rattle.undo_log.proofs.Keeping.{kept_frames, kept_passes, keeps_refl}
+use Rattle.geos_shell.specs.Holdings.{AnswersRequest, AreExact, CommitsNothing, Holding, IsTakenIfSure, KeepsHolding, LeavesFiles, MayServe, ServesRequest, SameFiles, failed_since_in, holding, machine}
+use Rattle.geos_shell.specs.Manners.{is_refusal}
 use Rattle.geos_shell.specs.Replies.{Extends, Replied, Responds, Told, asks_no_body, is_look_up}
+use Rattle.geos_shell.proofs.FileFaults.{IsFailure, failed_in, file_along, file_at_rest, file_seen}
+use Rattle.geos_shell.proofs.Refusals.{keeps_all, keeps_with}
 use Rattle.geos_shell.proofs.Serving.{serves_passing, step_any}
 
 extends_by : (old more new : List ℕ) → new ≡ old ++ more → Extends old new
 extends_by old more new e = rw e (take_at old more (length old) refl)
 
+-- what an edit did is no refusal
+pub done_is_other : (x : Done) → is_refusal (reply_of_done x) ≡ false
+done_is_other done.Nothing = refl
+done_is_other (done.Block b) = refl
+done_is_other (done.Chunk c) = refl
+done_is_other (done.Token t) = refl
+
 module _ {S : Type 0} (facts : S → StoreFacts) where
-  -- what serves a command, and a call that puts its reply's text
-  pub replied : {T E : Type 0} (put : Result T E) (old new : Holding S) (c : Command) (reply : Reply) (before after : List ℕ)
-      → ServesRequest facts old (Some c) reply new → OnOk put (after ≡ before ++ reply_text reply) → Replied put facts old c new before after
-  replied (Ok x) old new c reply before after serves said = record { reply = reply; serves = serves; text = said }
-  replied (Err e) old new c reply before after serves said = inr (reply, serves)
+  -- what a call of a session answers a command, where it is refused and where it isn't, and a call that puts its text
+  pub replied : {A T E : Type 0} (put : Result T E) (f : A → Reply) (r : Result A Fault) (old new : Holding S) (c : Command) (before after : List ℕ)
+      → ((x : A) → is_refusal (f x) ≡ false) → OnErr r (KeepsHolding facts old new) → IfErr r (λ fault. fault ≡ faults.File → IsTrue (failed_since_in facts old new))
+      → new.session.frames ≡ old.session.frames → (AreExact facts old → ServesRequest facts old (Some c) (reply_by f r) new) → OnOk put (after ≡ before ++ reply_text (reply_by f r))
+      → Replied put facts old c new before after
+  replied put f (Ok x) old new c before after other keeps file frames serves said =
+      record {
+        reply = f x;
+        answers = record {
+          keeps = λ refusal. absurd (cc (refusal, other x));
+          file = λ is. let no : false ≡ true = sym (other x) ∙ ap is_refusal is in absurd (cc no);
+          frames = frames;
+          serves = serves;
+        };
+        text = said;
+      }
+  replied put f (Err fault) old new c before after other keeps file frames serves said =
+      record {
+        reply = Refused fault;
+        answers = record {
+          keeps = λ refusal. keeps;
+          file = λ is. let same : fault ≡ faults.File = cc is in file same;
+          frames = frames;
+          serves = serves;
+        };
+        text = said;
+      }
+
+  -- in which the target is left
+  module _ (old new : SessionState S) (target former : Option S) where
+    failures_in : {A : Type 0} (r : Result A Fault) → IfErr r (IsFailure facts old.disk.store new.disk.store)
+        → IfErr r (λ fault. fault ≡ faults.File → IsTrue (failed_since_in facts (holding old target former) (holding new target former)))
+    failures_in (Ok x) file = tt
+    failures_in (Err fault) file = λ is. failed_in facts old new target former (file is)
+
+    pub replied_left : {A T E : Type 0} (put : Result T E) (f : A → Reply) (r : Result A Fault) (c : Command) (before after : List ℕ)
+        → ((x : A) → is_refusal (f x) ≡ false) → OnErr r (KeepsHolding facts (holding old target former) (holding new target former)) → IfErr r (IsFailure facts old.disk.store new.disk.store)
+        → new.frames ≡ old.frames → (AreExact facts (holding old target former) → ServesRequest facts (holding old target former) (Some c) (reply_by f r) (holding new target former))
+        → OnOk put (after ≡ before ++ reply_text (reply_by f r)) → Replied put facts (holding old target former) c (holding new target former) before after
+    replied_left put f r c before after other keeps file frames serves said =
+        replied put f r (holding old target former) (holding new target former) c before after other keeps (failures_in r file) frames serves said
+
+    -- accepted, or refused
+    pub replied_accepted : {T E : Type 0} (put : Result T E) (r : Result (Unit {0}) Fault) (c : Command) (before after : List ℕ)
+        → OnErr r (KeepsHolding facts (holding old target former) (holding new target former)) → IfErr r (IsFailure facts old.disk.store new.disk.store) → new.frames ≡ old.frames
+        → (AreExact facts (holding old target former) → ServesRequest facts (holding old target former) (Some c) (reply_by (λ _. Accepted) r) (holding new target former))
+        → OnOk put (after ≡ before ++ reply_text (reply_by (λ _. Accepted) r)) → Replied put facts (holding old target former) c (holding new target former) before after
+    replied_accepted put r c before after keeps file frames serves said = replied_left put (λ _. Accepted) r c before after (λ x. refl) keeps file frames serves said
 
   -- a look-up commits nothing
   leaves : (c : Command) (old new : Holding S) (reply : Reply) → is_look_up c ≡ true → (asks_no_body c ≡ true → SameFiles old new) → CommitsNothing facts old new → LeavesFiles facts old (Some c) reply new
@@ -56,25 +111,39 @@ module _ {S : Type 0} (facts : S → StoreFacts) where
   -- what was told of a look-up
   pub replied_told : {T E : Type 0} (put : Result T E) (old new : SessionState S) (target former : Option S) (c : Command) (before after : List ℕ)
       → is_look_up c ≡ true → (asks_no_body c ≡ true → new ≡ old) → Told put facts old c new before after
-      → AreExact facts (holding old target former) → Replied put facts (holding old target former) c (holding new target former) before after
-  replied_told put old new target former c before after asks same t exact =
+      → Replied put facts (holding old target former) c (holding new target former) before after
+  replied_told put old new target former c before after asks same t =
       let first = holding old target former in
       let last = holding new target former in
       let stays : asks_no_body c ≡ true → SameFiles first last = λ none. record { disk = ap (λ (s : SessionState S). s.disk) (same none); target = refl; former = refl } in
-      let served = serves_passing facts old new target former c t.reply (kept_passes facts old new t.keeps) t.step (leaves c first last t.reply asks stays) (unsure c old new t.reply asks) exact in
-      replied put first last c t.reply before after served t.text
+      record {
+        reply = t.reply;
+        answers = record {
+          keeps = λ refusal. keeps_with facts target former old new t.keeps;
+          file = λ is. failed_in facts old new target former (t.file is);
+          frames = kept_frames facts old new t.keeps;
+          serves = serves_passing facts old new target former c t.reply (kept_passes facts old new t.keeps) t.step (leaves c first last t.reply asks stays) (unsure c old new t.reply asks);
+        };
+        text = t.text;
+      }
 
 module _ {S T E : Type 0} (facts : S → StoreFacts) (put : Result T E) (c : Command) (reply : Reply) (before after : List ℕ) where
   -- a look-up whose reply's text a call that may fail has put
-  pub told : (old new : SessionState S) → IsStep facts old new c reply → KeepsSession facts old new → OnOk put (after ≡ before ++ reply_text reply)
-      → Told put facts old c new before after
-  told old new step keeps said = record { reply = reply; step = step; keeps = keeps; text = said }
+  pub told : (old new : SessionState S) → IsStep facts old new c reply → KeepsSession facts old new → (reply ≡ Refused faults.File → FailedSince (facts old.disk.store) (facts new.disk.store))
+      → OnOk put (after ≡ before ++ reply_text reply) → Told put facts old c new before after
+  told old new step keeps file said = record { reply = reply; step = step; keeps = keeps; file = file; text = said }
 
   -- one that calls no store
   pub told_at_rest : (s : SessionState S) → ((target : Bool) → Step false (machine_of target s) (Some c) reply (machine_of target s)) → OnOk put (after ≡ before ++ reply_text reply)
       → Told put facts s c s before after
   told_at_rest s step said =
-      record { reply = reply; step = λ exact. (exact, λ target. step_any (failed_since (facts s.disk.store) (facts s.disk.store)) _ _ (Some c) reply (step target)); keeps = keeps_refl facts s; text = said }
+      record {
+        reply = reply;
+        step = λ exact. (exact, λ target. step_any (failed_since (facts s.disk.store) (facts s.disk.store)) _ _ (Some c) reply (step target));
+        keeps = keeps_refl facts s;
+        file = file_at_rest (machine_of false s) (machine_of false s) (Some c) reply (step false);
+        text = said;
+      }
 
 -- the text of a look-up's reply, put behind what was there, leaves that
 pub extends_told : {S T E : Type 0} (put : Result T E) (facts : S → StoreFacts) (old new : SessionState S) (c : Command) (before after : List ℕ)
@@ -96,16 +165,27 @@ module _ {S T E A : Type 0} (facts : S → StoreFacts) (put : Result T E) (c : C
   put_so = subst (λ (x : Reply). OnOk put (after ≡ before ++ reply_text x)) (mapped f made r m is same) said
 
   -- a look-up whose answer is made a reply, and that put
-  pub told_mapped : (old new : SessionState S) → IsStep facts old new c (reply_by f r) → KeepsSession facts old new → Told put facts old c new before after
-  told_mapped old new step keeps = told facts put c (reply_by f r) before after old new step keeps put_so
+  told_mapped : (old new : SessionState S) → IsStep facts old new c (reply_by f r) → KeepsSession facts old new
+      → (reply_by f r ≡ Refused faults.File → FailedSince (facts old.disk.store) (facts new.disk.store)) → Told put facts old c new before after
+  told_mapped old new step keeps file = told facts put c (reply_by f r) before after old new step keeps file put_so
+
+  -- into one block, and along chains
+  pub told_seen : (old new : SessionState S) → AnswersLookUp facts old new c (reply_by f r) → Told put facts old c new before after
+  told_seen old new looks = told_mapped old new looks.step looks.keeps (file_seen facts old new c (reply_by f r) looks.sees)
+
+  pub told_along : (old new : SessionState S) → AnswersAlongChain facts old new c (reply_by f r) → Told put facts old c new before after
+  told_along old new looks = told_mapped old new looks.step looks.keeps (file_along facts old new c (reply_by f r) looks.sees)
 
   -- and one that calls no store
   pub told_mapped_at_rest : (s : SessionState S) → ((target : Bool) → Step false (machine_of target s) (Some c) (reply_by f r) (machine_of target s)) → Told put facts s c s before after
   told_mapped_at_rest s step = told_at_rest facts put c (reply_by f r) before after s step put_so
 
-  -- what is served, whose answer is made a reply, and that put
-  pub replied_mapped : (old new : Holding S) → ServesRequest facts old (Some c) (reply_by f r) new → Replied put facts old c new before after
-  replied_mapped old new serves = replied facts put old new c (reply_by f r) before after serves put_so
+  -- what a call answers that is made a reply, and that put
+  pub replied_mapped : (old new : SessionState S) (target former : Option S) → ((x : A) → is_refusal (f x) ≡ false) → OnErr r (KeepsHolding facts (holding old target former) (holding new target former))
+      → IfErr r (IsFailure facts old.disk.store new.disk.store) → new.frames ≡ old.frames
+      → (AreExact facts (holding old target former) → ServesRequest facts (holding old target former) (Some c) (reply_by f r) (holding new target former))
+      → Replied put facts (holding old target former) c (holding new target former) before after
+  replied_mapped old new target former other keeps file frames serves = replied_left facts old new target former put f r c before after other keeps file frames serves put_so
 
 -- a look-up that is never refused and calls no store, whose answer is made a reply, and that put
 pub told_given_at_rest : {S T E : Type 0} (facts : S → StoreFacts) (put : Result T E) (c : Command) (reply : Reply) (made : GivenReply → Type 0) (m : Result GivenReply Fault)
@@ -117,29 +197,30 @@ told_given_at_rest facts put c reply made (Err e) before after is same said s st
 
 module _ {S : Type 0} (facts : S → StoreFacts) (old new : Holding S) where
   -- a command that gets a reply, whose reply line is put
-  responds_some : (c : Command) (reply : Reply) (before after : List ℕ) → (c ≡ commands.Blank → ⊥) → ServesRequest facts old (Some c) reply new → after ≡ before ++ reply_line reply
+  responds_some : (c : Command) (reply : Reply) (before after : List ℕ) → (c ≡ commands.Blank → ⊥) → AnswersRequest facts old (Some c) reply new → after ≡ before ++ reply_line reply
       → Responds facts old (Some c) new before after
-  responds_some commands.Blank reply before after some serves said = absurd (some refl)
-  responds_some c reply before after some serves said = (reply, serves, said)
+  responds_some commands.Blank reply before after some answers said = absurd (some refl)
+  responds_some c reply before after some answers said = (reply, answers, said)
 
   -- the text of a reply, and a line feed, are its line
   pub responds_by : {T E : Type 0} (put : Result T E) (c : Command) (request : Request) (before mid after : List ℕ) → (c ≡ commands.Blank → ⊥) → request ≡ Some c
       → is_err put ≡ false → after ≡ mid ++ 10 ∷ [] → Replied put facts old c new before mid → Responds facts old request new before after
   responds_by (Ok x) c request before mid after some is well feed told =
       let said : after ≡ before ++ reply_line told.reply = feed ∙ ap (λ l. l ++ 10 ∷ []) told.text ∙ append_assoc before (reply_text told.reply) (10 ∷ []) in
-      rw is (responds_some c told.reply before after some told.serves said)
+      rw is (responds_some c told.reply before after some told.answers said)
   responds_by (Err e) c request before mid after some is well feed told = cc well
 
   -- whether its text is put or not, it may be served
   pub may_serve_by : {T E : Type 0} (put : Result T E) (c : Command) (request : Request) (before after : List ℕ) → request ≡ Some c
       → Replied put facts old c new before after → MayServe facts old request new
-  may_serve_by (Ok x) c request before after is told = rw is (inr (told.reply, told.serves))
-  may_serve_by (Err e) c request before after is told = rw is told
+  may_serve_by put c request before after is told = rw is (inr (told.reply, told.answers))
 
 -- a line that is no command
-pub responds_bad : {S : Type 0} (facts : S → StoreFacts) (old : Holding S) (before mid after : List ℕ) → AreExact facts old → mid ≡ before ++ reply_text (Refused faults.BadCommand)
+pub responds_bad : {S : Type 0} (facts : S → StoreFacts) (old : Holding S) (before mid after : List ℕ) → mid ≡ before ++ reply_text (Refused faults.BadCommand)
     → after ≡ mid ++ 10 ∷ [] → Responds facts old None old before after
-responds_bad facts old before mid after exact text feed =
+responds_bad facts old before mid after text feed =
     let step : Step (failed_since_in facts old old) (machine old) None (Refused faults.BadCommand) (machine old) = search rules in
-    let serves : ServesRequest facts old None (Refused faults.BadCommand) old = record { exact = exact; step = step; files = record { disk = refl; target = refl; former = refl }; sure = tt } in
-    (Refused faults.BadCommand, serves, feed ∙ ap (λ l. l ++ 10 ∷ []) text ∙ append_assoc before (reply_text (Refused faults.BadCommand)) (10 ∷ []))
+    let serves : AreExact facts old → ServesRequest facts old None (Refused faults.BadCommand) old = λ exact.
+    record { exact = exact; step = step; files = record { disk = refl; target = refl; former = refl }; sure = tt } in
+    let answers : AnswersRequest facts old None (Refused faults.BadCommand) old = record { keeps = λ refusal. keeps_all facts old; file = λ is. cc is; frames = refl; serves = serves } in
+    (Refused faults.BadCommand, answers, feed ∙ ap (λ l. l ++ 10 ∷ []) text ∙ append_assoc before (reply_text (Refused faults.BadCommand)) (10 ∷ []))

@@ -27,15 +27,15 @@ pub record Ran {S : Type 0} (facts : S → StoreFacts) (manner : Manner) (start 
   pub none_left : now.kept.replies.items ≡ []
 
 -- nothing was read
-pub Ran-none : {S : Type 0} (facts : S → StoreFacts) (manner : Manner) (reader writer : Option (List ℕ)) (h : Holding S) (kept : Answering) → AreExact facts h
+pub Ran-none : {S : Type 0} (facts : S → StoreFacts) (manner : Manner) (reader writer : Option (List ℕ)) (h : Holding S) (kept : Answering)
     → kept.begun.items ≡ [] → kept.replies.items ≡ [] → Ran facts manner h reader reader writer writer (moment h kept)
-Ran-none facts manner reader writer h kept exact begun replies =
+Ran-none facts manner reader writer h kept begun replies =
     record {
       read = [];
       consumed = Consumes-nil reader;
       written = [];
       appended = Appends-nil writer;
-      progress = rw (begun, replies) (Progress-none facts manner h exact);
+      progress = rw (begun, replies) (Progress-none facts manner h);
       none_left = replies;
     }
 
@@ -140,7 +140,7 @@ module _ {S : Type 0} (facts : S → StoreFacts) (manner : Manner) where
   stopped_with faults.Memory start read written new stops = (written, stops.0)
   stopped_with faults.Refused start read written new stops =
       let at = stops.1 in
-      (at.before, record { answered = at.answered; others = _; parts = at.parts; mid = at.mid; run = at.run; next = inr (Refused at.refuses.fault, at.refuses.serves) })
+      (at.before, record { answered = at.answered; others = _; parts = at.parts; mid = at.mid; run = at.run; next = inr (Refused at.refuses.fault, at.refuses.answers) })
   stopped_with faults.Read start read written new stops = absurd stops
   stopped_with faults.Write start read written new stops = absurd stops
 
@@ -219,5 +219,5 @@ HasCause-more faults.Refused f g h = tt
 -- the session of a run that ended well is exact
 pub exact_after : {S : Type 0} (facts : S → StoreFacts) (manner : Manner) (old new : Holding S) (from to before after : Option (List ℕ)) (result : Result (Unit {0}) RunFault) → result ≡ Ok tt
     → RunsTo result facts manner old from to before after new → AreExact facts old → IsExact facts new.session
-exact_after facts manner old new from to before after (Ok x) well runs exact = (runs exact).answered.answers.exact.0
+exact_after facts manner old new from to before after (Ok x) well runs exact = (runs.answered.serves exact).exact.0
 exact_after facts manner old new from to before after (Err fault) well runs exact = cc well

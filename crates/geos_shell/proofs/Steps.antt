@@ -3,7 +3,7 @@ use Rattle.std.proofs.Common.{◌≡◌, ℕ, ◌<◌, List, [], ◌∷◌, ◌+
 use Rattle.std.proofs.lemmas.List.{append_assoc, append-nil}
 use Rattle.geos_model.specs.Script.{lines, finished_lines, command}
 use Rattle.vm_store.specs.Facts.{StoreFacts}
-use Rattle.geos_shell.specs.Holdings.{AreExact, Holding, MayServe}
+use Rattle.geos_shell.specs.Holdings.{Holding, MayServe}
 use Rattle.geos_shell.specs.Runs.{AnswersLines, MayServeNext, RefusesRequest, StoppedByRefusal, StoppedWith, StopsBy}
 use Rattle.geos_shell.specs.Progress.{HasNoFeed, StandsFor, Progress, GoesOver, Moment, StopsIn}
 use Rattle.geos_shell.specs.declared.runner.RunFault.{RunFault}
@@ -13,8 +13,8 @@ use Rattle.geos_shell.proofs.Lines.{lines-at_feed, lines-one, lines-some, finish
 use Rattle.geos_shell.proofs.Manners.{AnswersLines-StandsFor, AnswersLines-append, AnswersLines-none, RefusesRequest-StandsFor}
 
 -- nothing was read
-pub Progress-none : {S : Type 0} (facts : S → StoreFacts) (manner : Manner) (start : Holding S) → AreExact facts start → Progress facts manner start [] [] start []
-Progress-none facts manner start exact =
+pub Progress-none : {S : Type 0} (facts : S → StoreFacts) (manner : Manner) (start : Holding S) → Progress facts manner start [] [] start []
+Progress-none facts manner start =
     record {
       answered = [];
       begun = [];
@@ -22,7 +22,7 @@ Progress-none facts manner start exact =
       in_finished = λ more. refl;
       unfinished = tt;
       stands = refl;
-      run = AnswersLines-none facts manner start exact;
+      run = AnswersLines-none facts manner start;
     }
 
 -- a line that has begun is one of what was read

@@ -6,12 +6,13 @@ use Rattle.geos_model.specs.declared.fault.Fault.{Fault}
 use Rattle.geos_model.specs.declared.fault.Fault.TheVariants.{File}
 use Rattle.geos_model.specs.declared.command.Command.TheVariants as commands
 use Rattle.vm_store.specs.Facts.{StoreFacts, FailedSince}
-use Rattle.vm_file.specs.Disk.{Disk, MayCommit, IsCrashConsistent, HasSequence, KeepsCommitted}
+use Rattle.vm_file.specs.Disk.{Disk, MayCommit, IsCrashConsistent, HasSequence, KeepsCommitted, SameUnlessCorrupt}
 use Rattle.vm_file.specs.Documents.{Documents}
-use Rattle.undo_log.specs.Sessions.{SessionState, IsExact, machine_of, failed_since}
+use Rattle.undo_log.specs.Sessions.{SessionState, IsExact, locks_in, machine_of, failed_since}
 use Rattle.undo_log.specs.Logging.{open_changes}
 use Rattle.undo_log.specs.Turning.{IsSure, IsSureGroup, abandon_fault, busy_fault}
 use Rattle.chunk_edits.specs.declared.direction.Direction.TheVariants.{Forwards, Backwards}
+use Rattle.geos_shell.specs.Manners.{is_refusal}
 
 -- a session, the target of a save-as while one is left, and the store that a save-as went away from, where it was put
 -- aside
@@ -144,8 +145,8 @@ IsTakenIfSure facts old (Some commands.Abandon) reply new =
     → (reply ≡ Accepted) × (new.disk ≡ old.disk)
 IsTakenIfSure facts old request reply new = Unit {0}
 
--- The request is answered so: by the machine, with a file fault in place of its answer only where a store failed in
--- this very call. The files are as the reply tells, and all is exact still.
+-- The request is answered so where all is exact: by the machine, with a file fault in place of its answer only where a
+-- store failed in this very call. The files are as the reply tells, and all is exact still.
 pub record ServesRequest {S : Type 0} (facts : S → StoreFacts) (old : Holding S) (request : Request) (reply : Reply)
     (new : Holding S) : Type 0 where
   pub exact : AreExact facts new
@@ -153,11 +154,39 @@ pub record ServesRequest {S : Type 0} (facts : S → StoreFacts) (old : Holding 
   pub files : LeavesFiles facts old request reply new
   pub sure : IsTakenIfSure facts old.session request reply new.session
 
--- Nothing is done, or the request is served by a reply that isn't told.
-abbrev pub MayServe : {S : Type 0} → (S → StoreFacts) → Holding S → Request → Holding S → Type 0
-MayServe facts old request new = (new ≡ old) ⊎ ((reply : Reply) × ServesRequest facts old request reply new)
+-- What a refusal leaves over any store: the document, as far as the store gives back what it has, the log with its
+-- group, the locks, the frames and the number of the last commit. A target is left where one was, and what was put aside
+-- stays.
+pub record KeepsHolding {S : Type 0} (facts : S → StoreFacts) (old new : Holding S) : Type 0 where
+  pub document : SameUnlessCorrupt (facts old.session.disk.store).honest old.session.document new.session.document
+  pub log : new.session.log ≡ old.session.log
+  pub locks : locks_in new.session.resident ≡ locks_in old.session.resident
+  pub frames : new.session.frames ≡ old.session.frames
+  pub sequence : new.session.disk.sequence ≡ old.session.disk.sequence
+  pub target : is_some new.target ≡ is_some old.target
+  pub former : new.former ≡ old.former
 
--- these calls are served, one after another
+-- The request is answered so over any store: a refusal leaves all, a file fault is answered only where a store failed in
+-- this very call, and there are as many frames as before. Where all is exact the request is served.
+pub record AnswersRequest {S : Type 0} (facts : S → StoreFacts) (old : Holding S) (request : Request) (reply : Reply)
+    (new : Holding S) : Type 0 where
+  pub keeps : IsTrue (is_refusal reply) → KeepsHolding facts old new
+  pub file : reply ≡ Refused File → IsTrue (failed_since_in facts old new)
+  pub frames : new.session.frames ≡ old.session.frames
+  pub serves : AreExact facts old → ServesRequest facts old request reply new
+
+-- Nothing is done, or the request is answered by a reply that isn't told.
+abbrev pub MayServe : {S : Type 0} → (S → StoreFacts) → Holding S → Request → Holding S → Type 0
+MayServe facts old request new = (new ≡ old) ⊎ ((reply : Reply) × AnswersRequest facts old request reply new)
+
+-- these calls are answered, one after another
+abbrev pub AnswersCalls : {S : Type 0} → (S → StoreFacts) → Holding S → List Call → Holding S → Type 0
+AnswersCalls {S} facts old [] new = new ≡ old
+AnswersCalls {S} facts old (c ∷ cs) new =
+    (mid : Holding S) × (c.failed ≡ failed_since_in facts old mid) × AnswersRequest facts old c.request c.reply mid
+    × AnswersCalls facts mid cs new
+
+-- so, where all is exact: they are served
 abbrev pub Serving : {S : Type 0} → (S → StoreFacts) → Holding S → List Call → Holding S → Type 0
 Serving {S} facts old [] new = new ≡ old
 Serving {S} facts old (c ∷ cs) new =

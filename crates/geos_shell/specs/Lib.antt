@@ -8,7 +8,6 @@ pub mod Outcome
 pub mod Program
 pub mod Progress
 pub mod Reading
-pub mod Refusals
 pub mod Replies
 pub mod RunFaults
 pub mod Runs

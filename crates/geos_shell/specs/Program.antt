@@ -13,7 +13,7 @@ use Rattle.undo_log.specs.Sessions.{SessionState, IsExact, machine_of}
 use Rattle.vm_store.specs.Files.{Opener}
 use Rattle.geos_shell.specs.Files.{OpensFile, FileFails, OpensTarget, TargetFails, ClosesAny}
 use Rattle.geos_shell.specs.Options.{CommandLine, IsUsable, RefusesWords, command_line}
-use Rattle.geos_shell.specs.Holdings.{Holding, AreExact, holding}
+use Rattle.geos_shell.specs.Holdings.{Holding, holding}
 use Rattle.geos_shell.specs.Runs.{AnswersAll, EndsBy}
 use Rattle.geos_shell.specs.declared.outcome.Outcome.{Outcome}
 use Rattle.geos_shell.specs.declared.outcome.Outcome.TheVariants as outcomes
@@ -28,6 +28,7 @@ pub record IsCreated {S : Type 0} (facts : S → StoreFacts) (frames : ℕ) (sto
   pub failures : (facts store).failures ≤ (facts session.disk.store).failures
   pub exact : IsTrue (facts store).honest → IsExact facts session
   pub machine : (target : Bool) → machine_of target session ≡ empty_machine frames target
+  pub frames_are : session.frames ≡ frames
   pub in_doubt : session.disk.in_doubt ≡ []
   pub numbered : IsTrue (facts store).honest → HasSequence (facts session.disk.store) 1
   pub crash_consistent : IsCrashConsistent facts session.disk
@@ -159,9 +160,9 @@ IsNotBegun calls facts line old new outcome =
 abbrev pub IsScriptAnswered : {F S : Type 0} → Opener F S → (S → StoreFacts) → Manner → Holding S → F → F
     → Option (List ℕ) → Option (List ℕ) → Option (List ℕ) → Option (List ℕ) → Outcome → Type 0
 IsScriptAnswered calls facts manner first old new from to before after outcomes.Done =
-    RunsOn calls (λ left. AreExact facts first → AnswersAll facts manner first from to before after left) old new
+    RunsOn calls (λ left. AnswersAll facts manner first from to before after left) old new
 IsScriptAnswered calls facts manner first old new from to before after (outcomes.Run fault) =
-    RunsOn calls (λ left. AreExact facts first → EndsBy fault facts manner first from to before after left) old new
+    RunsOn calls (λ left. EndsBy fault facts manner first from to before after left) old new
 IsScriptAnswered calls facts manner first old new from to before after _ = ⊥
 
 -- a session was begun on FILE, and the script is answered

@@ -1,15 +1,16 @@
 -- What a call that appends leaves, and which commands are looked up by which call.
 use Rattle.std.specs.Prelude.{ℕ, List, ◌++◌, ◌≡◌, Bool, true, false, Some, Result, Err, IsOkAnd, MatchResult, OnOk, length, take}
-use Rattle.geos_model.specs.Reply.{Reply, reply_by, reply_of}
+use Rattle.geos_model.specs.Reply.{Reply, Refused, reply_by, reply_of}
 use Rattle.geos_model.specs.Machine.{Request}
 use Rattle.geos_model.specs.Script.{reply_line, reply_text}
 use Rattle.geos_model.specs.declared.command.Command.{Command}
 use Rattle.geos_model.specs.declared.command.Command.TheVariants as commands
 use Rattle.geos_model.specs.declared.fault.Fault.{Fault}
+use Rattle.geos_model.specs.declared.fault.Fault.TheVariants.{File}
 use Rattle.geos_model.specs.declared.reply.Reply.{Reply as GivenReply}
-use Rattle.vm_store.specs.Facts.{StoreFacts}
+use Rattle.vm_store.specs.Facts.{StoreFacts, FailedSince}
 use Rattle.undo_log.specs.Sessions.{SessionState, IsStep, KeepsSession}
-use Rattle.geos_shell.specs.Holdings.{Holding, MayServe, ServesRequest}
+use Rattle.geos_shell.specs.Holdings.{AnswersRequest, Holding}
 
 -- The bytes are still there, whatever stands behind them.
 abbrev pub Extends : List ℕ → List ℕ → Type 0
@@ -65,30 +66,25 @@ asks_no_body commands.Undos = true
 asks_no_body commands.Redos = true
 asks_no_body _ = false
 
--- The machine answers a command so, and over any store the session is kept. Where there was memory for the reply's
--- text, that was put behind what was there.
+-- The machine answers a command so, and over any store the session is kept, and a file fault answered only where the
+-- store failed in this very call. Where there was memory for the reply's text, that was put behind what was there.
 pub record Told {S T E : Type 0} (result : Result T E) (facts : S → StoreFacts) (old : SessionState S)
     (command : Command) (new : SessionState S) (before after : List ℕ) : Type 0 where
   pub reply : Reply
   pub step : IsStep facts old new command reply
   pub keeps : KeepsSession facts old new
+  pub file : reply ≡ Refused File → FailedSince (facts old.disk.store) (facts new.disk.store)
   pub text : OnOk result (after ≡ before ++ reply_text reply)
 
--- The command is served, and its reply's text was put behind what was there.
-pub record Tells {S : Type 0} (facts : S → StoreFacts) (old : Holding S) (command : Command) (new : Holding S)
-    (before after : List ℕ) : Type 0 where
+-- A command is answered, and where there was memory for its reply's text, that was put behind what was there.
+pub record Replied {S T E : Type 0} (result : Result T E) (facts : S → StoreFacts) (old : Holding S)
+    (command : Command) (new : Holding S) (before after : List ℕ) : Type 0 where
   pub reply : Reply
-  pub serves : ServesRequest facts old (Some command) reply new
-  pub text : after ≡ before ++ reply_text reply
+  pub answers : AnswersRequest facts old (Some command) reply new
+  pub text : OnOk result (after ≡ before ++ reply_text reply)
 
--- A command is served, and where there was memory for its reply's text, that was put behind what was there.
-abbrev pub Replied : {S T E : Type 0} → Result T E → (S → StoreFacts) → Holding S → Command → Holding S → List ℕ
-    → List ℕ → Type 0
-Replied result facts old command new before after =
-    MatchResult result (λ _. Tells facts old command new before after) (λ _. MayServe facts old (Some command) new)
-
--- The request is served, and its reply line was put behind what was there; a blank line does nothing, and gets none.
+-- The request is answered, and its reply line was put behind what was there; a blank line does nothing, and gets none.
 abbrev pub Responds : {S : Type 0} → (S → StoreFacts) → Holding S → Request → Holding S → List ℕ → List ℕ → Type 0
 Responds facts old (Some commands.Blank) new before after = (new ≡ old) × (after ≡ before)
 Responds facts old request new before after =
-    (reply : Reply) × ServesRequest facts old request reply new × (after ≡ before ++ reply_line reply)
+    (reply : Reply) × AnswersRequest facts old request reply new × (after ≡ before ++ reply_line reply)

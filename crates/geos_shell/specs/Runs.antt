@@ -1,14 +1,14 @@
 -- What a run reads and writes, and what it makes of what its caller holds. Where a reader or a writer tells its bytes,
 -- it is they.
-use Rattle.std.specs.Prelude.{◌≡◌, ◌⊎◌, ℕ, ◌+◌, ◌<◌, ◌≤◌, ◌++◌, ◌&&◌, false, min, map, IsTrue, List, [], ◌∷◌, length, Option, None, Result, MatchResult}
+use Rattle.std.specs.Prelude.{◌≡◌, ◌⊎◌, ℕ, ◌+◌, ◌<◌, ◌≤◌, ◌++◌, ◌&&◌, false, filter, min, map, IsTrue, List, [], ◌∷◌, length, Option, None, Result, MatchResult}
 use Rattle.std.specs.List.{list_any}
 use Rattle.std.specs.Io.KnownBytes.{Appends, Consumes, IsAtEnd}
-use Rattle.geos_model.specs.Machine.{Request}
+use Rattle.geos_model.specs.Machine.{Call, Request, Run, failed_calls}
 use Rattle.geos_model.specs.Reply.{Reply, Refused}
-use Rattle.geos_model.specs.Script.{command, lines, finished_lines, reply_line, requests, Answered}
+use Rattle.geos_model.specs.Script.{command, gets_reply, lines, finished_lines, reply_line, requests, Answered}
 use Rattle.geos_model.specs.declared.fault.Fault.{Fault}
 use Rattle.vm_store.specs.Facts.{StoreFacts, last_count}
-use Rattle.geos_shell.specs.Holdings.{Holding, AreExact, MayServe, ServesRequest, Serving, machine}
+use Rattle.geos_shell.specs.Holdings.{AnswersCalls, AnswersRequest, Holding, AreExact, MayServe, Serving, machine}
 use Rattle.geos_shell.specs.Manners.{is_refusal, lead, written_of}
 use Rattle.geos_shell.specs.declared.runner.Manner.{Manner}
 use Rattle.geos_shell.specs.declared.runner.RunFault.{RunFault}
@@ -43,19 +43,28 @@ pub record AnswersOf {S : Type 0} (facts : S → StoreFacts) (old : Holding S) (
   pub serving : Serving facts old answered.calls new
   pub stores : AfterFailures facts old failed new
 
--- the replies, in order
-abbrev pub replies_of : {S : Type 0} {facts : S → StoreFacts} {old : Holding S} {asked : List Request}
-    {text : List ℕ} {new : Holding S} → AnswersOf facts old asked text new → List Reply
-replies_of a = map (λ c. c.reply) a.answered.calls
+-- What calls come to that are served one after another: together a run of the machine.
+pub record ServesCalls {S : Type 0} (facts : S → StoreFacts) (old : Holding S) (calls : List Call) (new : Holding S)
+    : Type 0 where
+  pub exact : AreExact facts new
+  pub run : Run (machine old) calls (machine new)
+  pub serving : Serving facts old calls new
+  pub stores : AfterFailures facts old (failed_calls calls) new
 
--- These lines are answered so in this manner: what is written is the replies, or the lines with their replies, and a
--- run that bails went on behind no refusal.
+-- the replies, in order
+abbrev pub replies_of : List Call → List Reply
+replies_of calls = map (λ c. c.reply) calls
+
+-- These lines are answered so in this manner, over any store call by call: what is written is the replies, or the lines
+-- with their replies, and a run that bails went on behind no refusal. Where all is exact the calls are served.
 pub record AnswersLines {S : Type 0} (facts : S → StoreFacts) (manner : Manner) (old : Holding S)
     (asked : List (List ℕ)) (written : List ℕ) (new : Holding S) : Type 0 where
-  pub replies : List ℕ
-  pub answers : AnswersOf facts old (requests asked) replies new
-  pub text : written ≡ written_of manner.echoes asked (replies_of answers)
-  pub goes_on : (manner.bails && list_any is_refusal (replies_of answers)) ≡ false
+  pub calls : List Call
+  pub asks : map (λ c. c.request) calls ≡ filter gets_reply (requests asked)
+  pub answers : AnswersCalls facts old calls new
+  pub text : written ≡ written_of manner.echoes asked (replies_of calls)
+  pub goes_on : (manner.bails && list_any is_refusal (replies_of calls)) ≡ false
+  pub serves : AreExact facts old → ServesCalls facts old calls new
 
 -- A script was read to its end, each line of it is answered, and nothing else is written.
 pub record AnswersAll {S : Type 0} (facts : S → StoreFacts) (manner : Manner) (old : Holding S)
@@ -80,12 +89,12 @@ pub record AnswersFinished {S : Type 0} (facts : S → StoreFacts) (manner : Man
 abbrev pub AreFirst : List (List ℕ) → List (List ℕ) → Type 0
 AreFirst first lines = (others : List (List ℕ)) × (lines ≡ first ++ others)
 
--- the next one of these lines may be served, without its reply
+-- the next one of these lines may be answered, without its reply
 abbrev pub MayServeNext : {S : Type 0} → (S → StoreFacts) → Holding S → List (List ℕ) → Holding S → Type 0
 MayServeNext facts old [] new = new ≡ old
 MayServeNext facts old (line ∷ lines) new = MayServe facts old (command line) new
 
--- The first ones of the lines are answered, and of the others at most the next is served, of which nothing is written.
+-- The first ones of the lines are answered, and of the others at most the next is, of which nothing is written.
 pub record StoppedWith {S : Type 0} (facts : S → StoreFacts) (manner : Manner) (old : Holding S)
     (lines : List (List ℕ)) (written : List ℕ) (new : Holding S) : Type 0 where
   pub answered : List (List ℕ)
@@ -99,7 +108,7 @@ pub record StoppedWith {S : Type 0} (facts : S → StoreFacts) (manner : Manner)
 pub record RefusesRequest {S : Type 0} (facts : S → StoreFacts) (manner : Manner) (old : Holding S) (line : List ℕ)
     (written : List ℕ) (new : Holding S) : Type 0 where
   pub fault : Fault
-  pub serves : ServesRequest facts old (command line) (Refused fault) new
+  pub answers : AnswersRequest facts old (command line) (Refused fault) new
   pub text : written ≡ lead manner.echoes line ++ reply_line (Refused fault)
 
 -- The first ones of the lines are answered, none of them by a refusal, and the next is refused, whose reply is written
@@ -157,5 +166,5 @@ EndsBy fault facts manner old from to before after new = AnswersSome fault facts
 abbrev pub RunsTo : {S : Type 0} → Result (Unit {0}) RunFault → (S → StoreFacts) → Manner → Holding S → Option (List ℕ)
     → Option (List ℕ) → Option (List ℕ) → Option (List ℕ) → Holding S → Type 0
 RunsTo result facts manner old from to before after new =
-    MatchResult result (λ _. AreExact facts old → AnswersAll facts manner old from to before after new)
-    (λ fault. AreExact facts old → EndsBy fault facts manner old from to before after new)
+    MatchResult result (λ _. AnswersAll facts manner old from to before after new)
+    (λ fault. EndsBy fault facts manner old from to before after new)

@@ -1,7 +1,7 @@
 //! The lines of a script and their replies, as the script comes piece by piece.
 ghost use Rattle.std.specs.Prelude.{◌≡◌, ◌++◌, ◌∷◌, [], ◌≤◌, ◌<◌, ℕ, List, drop, take, length, IfOk, IfErr, OnOk, OnErr};
 ghost use Rattle.geos_model.specs.Script.{command, line_feed};
-ghost use Rattle.geos_shell.specs.Holdings.{AreExact, MayServe, holding};
+ghost use Rattle.geos_shell.specs.Holdings.{MayServe, holding};
 ghost use Rattle.geos_shell.specs.Manners.{begins_with_no, lead};
 ghost use Rattle.geos_shell.specs.Progress.{Ends, GoesOver, HasNoFeed, IsAnswered, IsStopped, StandsFor, StopsAtEnd, StopsIn, moment};
 ghost use Rattle.geos_shell.specs.Replies.{Extends, Responds};
@@ -127,11 +127,10 @@ fn answer<S: Store>(
     line: &[u8],
     out: &mut Vec<u8>,
 ) -> Result<(), RunFault>
-    ensures ok { OnOk result (AreExact S.facts (holding session.old target.old former.old)
-        → IsAnswered S.facts manner (holding session.old target.old former.old) line.now
+    ensures ok { OnOk result (IsAnswered S.facts manner (holding session.old target.old former.old) line.now
         (holding session.new target.new former.new) out.old.items out.new.items) }
-    ensures err { IfErr result (λ fault. AreExact S.facts (holding session.old target.old former.old)
-        → IsStopped fault S.facts manner (holding session.old target.old former.old) line.now
+    ensures err { IfErr result
+        (λ fault. IsStopped fault S.facts manner (holding session.old target.old former.old) line.now
         (holding session.new target.new former.new) out.old.items out.new.items) }
     ensures cause { IfErr result (λ fault. HasCause fault ⊥ ⊥) }
 {
@@ -157,13 +156,11 @@ fn push_lines<S: Store>(
     line: &[u8],
     out: &mut Vec<u8>,
 ) -> Result<bool, AllocError>
-    ensures ok { OnOk result (AreExact S.facts (holding session.old target.old former.old)
-        → Responds S.facts (holding session.old target.old former.old) (command line.now)
+    ensures ok { OnOk result (Responds S.facts (holding session.old target.old former.old) (command line.now)
         (holding session.new target.new former.new) (out.old.items ++ lead echoes line.now) out.new.items) }
     ensures refused { IfOk result (λ is_refused.
         is_refused ≡ begins_with_no (drop (length (out.old.items ++ lead echoes line.now)) out.new.items)) }
-    ensures may { OnErr result (AreExact S.facts (holding session.old target.old former.old)
-        → MayServe S.facts (holding session.old target.old former.old) (command line.now)
+    ensures may { OnErr result (MayServe S.facts (holding session.old target.old former.old) (command line.now)
         (holding session.new target.new former.new)) }
     ensures err { OnErr result (Extends out.old.items out.new.items) }
 {

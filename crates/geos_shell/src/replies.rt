@@ -1,10 +1,9 @@
 //! A command is carried out by the session, and its reply line put behind those before it.
-ghost use Rattle.std.specs.Prelude.{◌≡◌, ◌≢◌, ◌++◌, true, OnOk, OnErr, Some, IsTrue};
+ghost use Rattle.std.specs.Prelude.{◌≡◌, ◌≢◌, ◌++◌, true, IfErr, OnOk, OnErr, Some, IsTrue};
 ghost use Rattle.geos_model.specs.Reply.{Accepted, reply_by};
 ghost use Rattle.geos_model.specs.Script.{command, reply_text};
 ghost use Rattle.geos_model.specs.declared.command.Command.TheVariants as commands;
-ghost use Rattle.geos_shell.specs.Holdings.{AreExact, MayServe, ServesRequest, holding};
-ghost use Rattle.geos_shell.specs.Refusals.{GivesReply, KeepsHolding, KeepsIfRefused};
+ghost use Rattle.geos_shell.specs.Holdings.{AreExact, KeepsHolding, MayServe, ServesRequest, failed_since_in, holding};
 ghost use Rattle.geos_shell.specs.Replies.{Extends, Puts, Replied, Responds, Told, asks_no_body, is_look_up};
 
 use crate::parser::read_command;
@@ -100,6 +99,9 @@ fn save_as<S: Store>(
         (reply_by (λ _. Accepted) result) (holding session.new target.new former.new) }
     ensures stays { OnErr result (KeepsHolding S.facts
         (holding session.old target.old former.old) (holding session.new target.new former.new)) }
+    ensures file { IfErr result (λ fault. fault ≡ Fault.File → IsTrue (failed_since_in S.facts
+        (holding session.old target.old former.old) (holding session.new target.new former.new))) }
+    ensures frames { session.new.frames ≡ session.old.frames }
 {
     let Some(store) = target.take() else {
         // What is to be done first, whether there is a target or not.
@@ -140,10 +142,7 @@ fn push_response<S: Store>(
     out: &mut Vec<u8>,
 ) -> Result<(), AllocError>
     requires { command.now ≢ Command.Blank }
-    ensures replied { AreExact S.facts (holding session.old target.old former.old)
-        → Replied result S.facts (holding session.old target.old former.old) command.now
-        (holding session.new target.new former.new) out.old.items out.new.items }
-    ensures stays { GivesReply result S.facts (holding session.old target.old former.old)
+    ensures replied { Replied result S.facts (holding session.old target.old former.old) command.now
         (holding session.new target.new former.new) out.old.items out.new.items }
     ensures ok { OnOk result (Extends out.old.items out.new.items) }
     ensures err { OnErr result (Extends out.old.items out.new.items) }
@@ -170,11 +169,11 @@ fn push_response<S: Store>(
 /// save-as goes to the target: where it goes well the target is used up, and the old store is put into `former`, whose
 /// store before is dropped.
 ///
-/// Where what is held is exact, over an honest store and target, each answer is the machine's, a file fault stands in
-/// its place only where a store failed in just this call, the files are as the reply tells, and all is exact still.
-///
 /// Over any store a refusal leaves the document, as far as the store gives back what it has, the log, the locks, the
-/// frames and whether a target is left.
+/// frames and whether a target is left, and a file fault is answered only where a store failed in just this call.
+///
+/// Where what is held is exact, over an honest store and target, each answer is the machine's but for such a fault or
+/// lack of memory, the files are as the reply tells, and all is exact still.
 ///
 /// An `Err` is lack of memory for the line or for the text of its reply. Then `out` is as it was, and the line may be
 /// carried out all the same: what it was answered isn't told.
@@ -186,14 +185,10 @@ pub fn answer_line<S: Store>(
     line: &[u8],
     out: &mut Vec<u8>,
 ) -> Result<(), AllocError>
-    ensures ok { OnOk result (AreExact S.facts (holding session.old target.old former.old)
-        → Responds S.facts (holding session.old target.old former.old) (command line.now)
+    ensures ok { OnOk result (Responds S.facts (holding session.old target.old former.old) (command line.now)
         (holding session.new target.new former.new) out.old.items out.new.items) }
-    ensures may { OnErr result (AreExact S.facts (holding session.old target.old former.old)
-        → MayServe S.facts (holding session.old target.old former.old) (command line.now)
+    ensures may { OnErr result (MayServe S.facts (holding session.old target.old former.old) (command line.now)
         (holding session.new target.new former.new)) }
-    ensures stays { KeepsIfRefused S.facts (holding session.old target.old former.old)
-        (holding session.new target.new former.new) out.old.items out.new.items }
     ensures extends { Extends out.old.items out.new.items }
     ensures err { OnErr result (out.new.items ≡ out.old.items) }
 {

@@ -14,13 +14,13 @@ slice_bounds-starts_with-start g c = omega (arith, c.len-reply.ensures, ap lengt
 
 -- The line stands before its reply where it is echoed.
 pub returns-clause-ok : goal.returns-clause-ok
-returns-clause-ok g c = λ exact.
+returns-clause-ok g c =
     let led : c.if-echoes.out.items ≡ c.args.out.now.items ++ lead c.args.echoes c.args.line.now = elim c.if-echoes.branch [
       | then-echoes+in_ok-extend_from_slice+in_ok-push w ↦
           rw w.out-is (lead_pushed c.args.echoes c.args.line.now c.args.out.now.items w.extend_from_slice.new.self.items w.push.new.self.items w.min.result w.if-echoes.true w.min.ensures w.in_ok-extend_from_slice.ensures.items w.in_ok-push.ensures.items)
       | else-echoes w ↦ rw (w.out-is, w.if-echoes.false) (sym (append-nil c.args.out.now.items))
     ] in
-    rw led at (c.in_ok-answer_line.ensures.ok exact)
+    rw led at c.in_ok-answer_line.ensures.ok
 
 pub returns-clause-refused : goal.returns-clause-refused
 returns-clause-refused g c =

@@ -12,6 +12,7 @@ returns-in-Ok-create-clause-ok g c =
         failures = file.follows.failures;
         exact = made.exact;
         machine = λ target. rw c.from.ensures at (made.machine target);
+        frames_are = cc (made.new.1, c.from.ensures);
         in_doubt = file.new_file.in_doubt;
         numbered = λ so. file.new_file.numbered (subst IsTrue (sym file.follows.honest) so);
         crash_consistent = file.new_file.crash_consistent;

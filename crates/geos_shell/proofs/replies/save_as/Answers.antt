@@ -1,4 +1,5 @@
 use Rattle.std.proofs.Common.{◌∙◌, sym}
+use Rattle.geos_shell.proofs.FileFaults.{file_save_as}
 use Rattle.geos_shell.proofs.Refusals.{keeps_target}
 use Rattle.geos_shell.proofs.Serving.{serves_accepted, serves_refused}
 use Rattle.geos_shell.proofs.replies.save_as.Goals as goal
@@ -23,3 +24,11 @@ returns-in-Err-clause-stays g c =
     let was = sym c.take.ensures.value ∙ c.in-Some.is in
     let refused = c.in-Err.ensures in
     rw was (keeps_target g.S.Store.facts c.args.session.now c.save_as.new.self c.in-Some.store c.in-Err.refused.store c.args.former.now c.in-Err.refused.fault refused.saved_as (λ f is. (c.save_as.ensures.held f is).1) c.save_as.ensures.lists c.save_as.ensures.resident)
+
+-- A store failed where the fault is the file's.
+pub returns-in-Err-clause-file : goal.returns-in-Err-clause-file
+returns-in-Err-clause-file g c =
+    let was = sym c.take.ensures.value ∙ c.in-Some.is in
+    let refused = c.in-Err.ensures in
+    let held = c.save_as.ensures.held in
+    rw was (file_save_as g.S.Store.facts c.args.session.now c.save_as.new.self c.in-Some.store c.in-Err.refused.store c.args.former.now c.in-Err.refused.fault refused.saved_as (λ f busy. (rw c.in-Err.is at (held f busy).0).0))

@@ -4,7 +4,6 @@ use Rattle.std.specs.Io.KnownBytes.{Consumes, IsAtEnd, ReadConsumes}
 use Rattle.std.proofs.KnownBytes.{Keeps-refl}
 use Rattle.std.proofs.lemmas.Result.{IfErr-weaker, MatchResult-from_both, err_from_is_err_and, on_ok_weaker}
 use Rattle.geos_shell.specs.Holdings.{holding}
-use Rattle.geos_shell.specs.Progress.{moment}
 use Rattle.geos_shell.proofs.ReadsMade.{ReadsOften-none, ReadsOften-one}
 use Rattle.geos_shell.proofs.Runs.{Ran-none, Ran-kept, Ran-piece, AnswersFinished-now, AnswersSome-piece, AnswersSome-rest, AnswersUnsent-behind, AnswersAll-end, EndsBy-or}
 use Rattle.geos_shell.proofs.runner.run_in_manner.Goals as goal
@@ -12,8 +11,7 @@ use Rattle.geos_shell.proofs.runner.run_in_manner.Goals.{in-Err-Interrupted, in-
 
 pub loop-init : goal.loop-init
 loop-init g c = (
-  λ exact.
-      Ran-none g.S.Store.facts c.args.manner _ _ (holding c.args.session.now c.args.target.now c.args.former.now) (record { begun = c.new.result; replies = c.new-2.result }) exact c.new.ensures.items c.new-2.ensures.items,
+  Ran-none g.S.Store.facts c.args.manner _ _ (holding c.args.session.now c.args.target.now c.args.former.now) (record { begun = c.new.result; replies = c.new-2.result }) c.new.ensures.items c.new-2.ensures.items,
   ReadsOften-none g.R.Source.reads c.args.reader.now,
   c.new-2.ensures.items,
 )
@@ -26,7 +24,7 @@ at_end old new buf r n is none reads some =
 
 -- The reader failed.
 pub returns-in-Err-Failed-clause-runs : goal.returns-in-Err-Failed-clause-runs
-returns-in-Err-Failed-clause-runs g c = λ exact. AnswersFinished-now (c.loop.invariant.0 exact) _ c.in-Err-Failed.ensures.bytes
+returns-in-Err-Failed-clause-runs g c = AnswersFinished-now c.loop.invariant.0 _ c.in-Err-Failed.ensures.bytes
 
 -- The script ended, and so did the run, or its last line or the writer stopped it.
 pub returns-in-Ok-eq0-clause-runs : goal.returns-in-Ok-eq0-clause-runs
@@ -39,9 +37,9 @@ returns-in-Ok-eq0-clause-runs g c =
     let done = c.answer_rest in
     let new = holding done.new.session done.new.target done.new.former in
     MatchResult-from_both done.result _ _
-    (on_ok_weaker done.result (λ rest exact. AnswersAll-end (c.loop.invariant.0 exact) to after new gives.0 gives.1 rest) done.ensures.ok)
-    (IfErr-weaker done.result _ _ (λ fault stops exact.
-    EndsBy-or fault facts manner _ _ to _ after new (AnswersUnsent-behind (c.loop.invariant.0 exact) to _ new gives.0) (AnswersSome-rest (c.loop.invariant.0 exact) fault to after new gives.0) stops) done.ensures.err)
+    (on_ok_weaker done.result (λ rest. AnswersAll-end c.loop.invariant.0 to after new gives.0 gives.1 rest) done.ensures.ok)
+    (IfErr-weaker done.result _ _ (λ fault stops.
+    EndsBy-or fault facts manner _ _ to _ after new (AnswersUnsent-behind c.loop.invariant.0 to _ new gives.0) (AnswersSome-rest c.loop.invariant.0 fault to after new gives.0) stops) done.ensures.err)
 
 -- A piece or the writer stopped the run.
 pub returns-in_err-answer_piece-in-Ok-clause-runs : goal.returns-in_err-answer_piece-in-Ok-clause-runs
@@ -58,8 +56,8 @@ returns-in_err-answer_piece-in-Ok-clause-runs g c =
     let new = holding done.new.session done.new.target done.new.former in
     let r = c.from_residual in
     let p = err_from_is_err_and r.result r.ensures.1 in
-    rw (p.1, p.2) (λ exact.
-    EndsBy-or _ facts manner _ _ to _ after new (AnswersUnsent-behind (c.loop.invariant.0 exact) to (take count piece) new gives.bytes.0) (AnswersSome-piece (c.loop.invariant.0 exact) _ to after (take count piece) new some gives.bytes.0) c.in_err-answer_piece-in-Ok.ensures.err)
+    rw (p.1, p.2)
+    (EndsBy-or _ facts manner _ _ to _ after new (AnswersUnsent-behind c.loop.invariant.0 to (take count piece) new gives.bytes.0) (AnswersSome-piece c.loop.invariant.0 _ to after (take count piece) new some gives.bytes.0) c.in_err-answer_piece-in-Ok.ensures.err)
 
 -- One more read.
 pub loop-preserved : goal.loop-preserved
@@ -69,13 +67,13 @@ loop-preserved g c =
     elim c.match-read_piece.branch [
       | in-Err-Interrupted w ↦
           let gives = w.in-Err-Interrupted.ensures.bytes in
-          rw (w.writer-is, w.answering-is, w.session-is, w.target-is, w.former-is) ((λ exact. Ran-kept (ran exact) _ gives), more, none)
+          rw (w.writer-is, w.answering-is, w.session-is, w.target-is, w.former-is) (Ran-kept ran _ gives, more, none)
       | in-Ok+in_ok-answer_piece-in-Ok w ↦
           let gives = w.in-Ok.ensures in
           let sent = w.in_ok-answer_piece-in-Ok.ensures.sent none in
           let bytes = take w.in-Ok.count c.read_piece.new.piece in
           rw (w.writer-is, w.answering-is, w.session-is, w.target-is, w.former-is) (
-            (λ exact. Ran-piece (ran exact) _ _ bytes _ gives.bytes.0 w.in_ok-answer_piece-in-Ok.ensures.ok sent),
+            Ran-piece ran _ _ bytes _ gives.bytes.0 w.in_ok-answer_piece-in-Ok.ensures.ok sent,
             more,
             sent,
           )
@@ -83,4 +81,4 @@ loop-preserved g c =
 
 -- The reader did not end.
 pub returns-clause-runs : goal.returns-clause-runs
-returns-clause-runs g c = λ exact. AnswersFinished-now (c.loop.invariant.0 exact) _ (Keeps-refl _)
+returns-clause-runs g c = AnswersFinished-now c.loop.invariant.0 _ (Keeps-refl _)

@@ -1,6 +1,6 @@
 -- What was read is answered, in as many reads as turns, and the replies are sent.
 use Rattle.std.proofs.Common.{◌≡◌, []}
-use Rattle.geos_shell.specs.Holdings.{AreExact, holding}
+use Rattle.geos_shell.specs.Holdings.{holding}
 use Rattle.geos_shell.specs.Progress.{moment}
 use Rattle.geos_shell.specs.Streams.{ReadsOften}
 use Rattle.geos_shell.proofs.Runs.{Ran}
@@ -8,8 +8,7 @@ use Rattle.geos_shell.proofs.runner.run_in_manner.Given as goal
 
 abbrev pub invariant-loop : goal.invariant-loop
 invariant-loop g l =
-    (AreExact g.S.Store.facts (holding l.initial.session l.initial.target l.initial.former)
-    → Ran g.S.Store.facts l.initial.manner (holding l.initial.session l.initial.target l.initial.former) (g.R.Source.remaining l.initial.reader) (g.R.Source.remaining l.reader) (g.W.Sink.contents l.initial.writer) (g.W.Sink.contents l.writer)
-    (moment (holding l.session l.target l.former) l.answering))
+    Ran g.S.Store.facts l.initial.manner (holding l.initial.session l.initial.target l.initial.former) (g.R.Source.remaining l.initial.reader) (g.R.Source.remaining l.reader) (g.W.Sink.contents l.initial.writer) (g.W.Sink.contents l.writer)
+    (moment (holding l.session l.target l.former) l.answering)
     × ReadsOften g.R.Source.reads l.counter l.initial.reader l.reader
     × (l.answering.replies.items ≡ [])
