@@ -13,6 +13,7 @@ returns-in-Ok g c =
         failures = file.follows.failures;
         exact = made.exact;
         machine = made.machine;
+        frames_are = made.new.1;
         in_doubt = file.new_file.in_doubt;
         numbered = λ so. file.new_file.numbered (subst IsTrue (sym file.follows.honest) so);
         crash_consistent = file.new_file.crash_consistent;
