@@ -1,0 +1,3 @@
+pub mod Matched
+pub mod NewFlag
+pub mod Telling

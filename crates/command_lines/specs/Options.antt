@@ -1,0 +1,142 @@
+-- The command line of `geosvm`.
+use Rattle.std.specs.Prelude.{◌≡◌, ◌≢◌, ◌≤◌, ◌||◌, false, ℕ, Bool, true, List, [], Option, Some, None, codes, is_some, option_map, unwrap_or, if◌then◌else◌, pos, ⊤}
+use Rattle.std.specs.Option.{option_map_or}
+use Rattle.std.specs.Str.{bytes_eq}
+use Rattle.std.specs.Str.Parse.{digits_value, without_leading_plus}
+use Rattle.clap.specs.Walk.{is_empty}
+use Rattle.clap.specs.declared.parser.matches.Found.{Found}
+use Rattle.clap.specs.Words.{App, IsAmong, IsSignedIn, first_value, one_text, without_minus, Row, Rule, Text, fault_of, first_of, matches_of, new_app, new_rule, one_of, with_rule}
+use Rattle.clap.specs.Simple.{on_top}
+use Rattle.clap.specs.declared.builder.action.ArgAction.TheVariants.{Set, SetTrue}
+use Rattle.clap.specs.declared.builder.value_parser.ValueParser.TheVariants as parsers
+use Rattle.clap.specs.declared.error.kind.ErrorKind.{ErrorKind}
+use Rattle.clap.specs.declared.error.kind.ErrorKind.TheVariants.{DisplayHelp, DisplayVersion, OutOfMemory}
+use Rattle.command_lines.specs.declared.asked.Options.{Options}
+use Rattle.command_lines.specs.declared.asked.NoOptions.{NoOptions}
+use Rattle.command_lines.specs.declared.asked.NoOptions.TheVariants as no_options
+
+-- ---- what the program takes: [--new] [--bail] [--echo] [--cache N] [--as FILE2] FILE
+
+abbrev pub flag : Text → Rule
+flag name = record (new_rule name) {
+  long = Some name;
+  action = Some SetTrue;
+  parser = Some parsers.Bool;
+}
+
+-- N is 1 to 64
+abbrev pub cache_option : Rule
+cache_option = record (new_rule (codes "cache")) {
+  long = Some (codes "cache");
+  action = Some Set;
+  value_names = 1;
+  parser = Some (parsers.Signed (pos 1) (pos 64));
+}
+
+abbrev pub as_option : Rule
+as_option = record (new_rule (codes "as")) {
+  long = Some (codes "as");
+  action = Some Set;
+  value_names = 1;
+}
+
+abbrev pub file_operand : Rule
+file_operand = record (new_rule (codes "file")) {
+  action = Some Set;
+  value_names = 1;
+  required = true;
+}
+
+-- a command that tells its version
+abbrev pub with_version : App → App
+with_version = on_top (λ s. record s { has_version = true })
+
+abbrev pub geosvm : App
+geosvm =
+    let flags = with_rule (
+    with_rule (with_rule (with_version (new_app (codes "geosvm"))) (flag (codes "new"))) (flag (codes "bail")))
+    (flag (codes "echo")) in
+    with_rule (with_rule (with_rule flags cache_option) as_option) file_operand
+
+-- ---- what a command line says
+
+pub record CommandLine : Type 0 where
+  pub is_new : Bool
+  pub bails : Bool
+  pub echoes : Bool
+  pub cache : ℕ
+  pub target : Option Text
+  pub file : Text
+
+abbrev pub read_number : Text → ℕ
+read_number text = digits_value 10 (without_leading_plus text)
+
+-- whether the words have this flag
+abbrev pub has_flag : Text → List Row → Bool
+has_flag name rows = option_map_or (λ t. bytes_eq t (codes "true")) (one_of name rows) false
+
+-- of what the words give: 8 frames where they have no number
+abbrev pub said : List Row → CommandLine
+said rows = record {
+  is_new = has_flag (codes "new") rows;
+  bails = has_flag (codes "bail") rows;
+  echoes = has_flag (codes "echo") rows;
+  cache = option_map_or read_number (one_of (codes "cache") rows) 8;
+  target = first_of (codes "as") rows;
+  file = unwrap_or (first_of (codes "file") rows) [];
+}
+
+-- what the words say, where they are a command line and nothing is wrong with them
+abbrev pub command_line : List Text → Option CommandLine
+command_line words = if is_empty (fault_of geosvm words) then Some (said (matches_of geosvm words)) else None
+
+-- the cache has 1 to 64 frames, and the target isn't the file
+abbrev pub IsUsable : CommandLine → Type 0
+IsUsable line = (1 ≤ line.cache) × (line.cache ≤ 64) × (line.target ≡ Some line.file → ⊥)
+
+-- what the options say
+abbrev pub told_by : Options → CommandLine
+told_by o =
+    record {
+      is_new = o.new;
+      bails = o.bail;
+      echoes = o.echo;
+      cache = o.cache;
+      target = option_map (λ t. t.now) o.target;
+      file = o.file.now;
+    }
+
+-- the flag reads as a truth value
+abbrev pub IsFlag : Found → Text → Type 0
+IsFlag found name =
+    (t : Text) → one_text found name ≡ Some t → (bytes_eq t (codes "true") || bytes_eq t (codes "false")) ≡ true
+
+-- What a match of the command line gives: the flags read as truth values, the number is in its range, and the file is
+-- there.
+pub record IsMatched (found : Found) : Type 0 where
+  pub new : IsFlag found (codes "new")
+  pub bail : IsFlag found (codes "bail")
+  pub echo : IsFlag found (codes "echo")
+  pub number : (t : Text) → one_text found (codes "cache") ≡ Some t
+      → (raw : Text) × (t ≡ without_minus raw) × IsSignedIn (pos 1) (pos 64) raw
+  pub file : is_some (first_value found (codes "file")) ≡ true
+
+-- ---- why there are no options
+
+-- what an error of this kind comes to
+abbrev pub TurnsInto : ErrorKind → NoOptions → Type 0
+TurnsInto kind (no_options.Usage text) = (kind ≢ DisplayHelp) × (kind ≢ DisplayVersion) × (kind ≢ OutOfMemory)
+TurnsInto kind (no_options.Help text) = kind ≡ DisplayHelp
+TurnsInto kind (no_options.Version text) = kind ≡ DisplayVersion
+TurnsInto kind no_options.SameFile = ⊥
+TurnsInto kind no_options.Memory = ⊤
+
+-- why the words give no options
+abbrev pub RefusesWords : List Text → NoOptions → Type 0
+RefusesWords words (no_options.Usage text) =
+    (kind : ErrorKind) × IsAmong kind (fault_of geosvm words) × (kind ≢ DisplayHelp) × (kind ≢ DisplayVersion)
+RefusesWords words (no_options.Help text) = IsAmong DisplayHelp (fault_of geosvm words)
+RefusesWords words (no_options.Version text) = IsAmong DisplayVersion (fault_of geosvm words)
+RefusesWords words no_options.SameFile =
+    (line : CommandLine) × (command_line words ≡ Some line) × (line.target ≡ Some line.file)
+RefusesWords words no_options.Memory = ⊤
