@@ -1,10 +1,13 @@
-//! Runs each example's script, and compares the replies with those that are written down beside it.
+//! Runs each example's script, and compares the replies with those that are written down beside it. Each of its commands
+//! is printed again, and compared with its line.
 #![tactic(auto)]
 
 mod playing;
+mod printing;
 
 use dialogues::Mismatch;
 use playing::{answer, begin};
+use printing::first_misprint;
 use std::process::ExitCode;
 use std::{fs, io};
 use vm_store::MemStore;
@@ -64,6 +67,29 @@ fn tell(rt: &HostRuntime, name: &str, mismatch: &Mismatch) -> io::Result<()> {
     }
 }
 
+/// Prints the commands of an example again. Whether each is printed as it stands; the first that isn't is told.
+fn print_again(rt: &HostRuntime, name: &str) -> io::Result<bool> {
+    let alloc = rt.alloc();
+    let script = fs::read_to_string(rt, format!(in alloc; "{name}.script")?.as_str())?;
+    match first_misprint(alloc, &script)? {
+        Some(line) => {
+            println!(rt; "{name}: {line:?} is printed otherwise")?;
+            Ok(false)
+        }
+        None => Ok(true),
+    }
+}
+
+/// So those of several examples.
+fn print_all(rt: &HostRuntime, names: &[&str]) -> io::Result<bool> {
+    for name in names {
+        if !print_again(rt, name)? {
+            return Ok(false);
+        }
+    }
+    Ok(true)
+}
+
 /// Runs examples in turn, each on what the one before it left, and tells how they go. Whether all went as expected.
 fn play_all(rt: &HostRuntime, names: &[&str]) -> io::Result<bool> {
     let mut left = None;
@@ -85,7 +111,7 @@ fn play_all(rt: &HostRuntime, names: &[&str]) -> io::Result<bool> {
 fn main(rt: HostRuntime) -> io::Result<ExitCode> {
     let mut status = ExitCode::SUCCESS;
     for names in EXAMPLES {
-        if !play_all(&rt, names)? {
+        if !print_all(&rt, names)? || !play_all(&rt, names)? {
             status = ExitCode::FAILURE;
         }
     }
