@@ -1,10 +1,9 @@
 //! A case that is played once for each place where something can fail: a call of the file or of the target, once or for
 //! good, and a read, a write or a flush of a run.
 use crate::bench::{Bench, Fuse, NO_FUSE};
-use crate::case_file::Case;
 use crate::mismatch::{Mismatch, expect, mismatch_at};
-use crate::step::{Action, Side, Step};
 use crate::streams::{STRONG, Strength};
+use case_files::{Action, Case, Side, Step};
 use std::alloc::Global;
 use vm_store::MemStore;
 

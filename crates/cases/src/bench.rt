@@ -3,8 +3,7 @@ mod running;
 
 use crate::bench::running::{Seen, Stream};
 use crate::mismatch::{Mismatch, expect, mismatch_at};
-use crate::step::{Action, Side, Step};
-use dialogues::Dialogue;
+use case_files::{Action, Said, Side, Step};
 use geos_model::{Fault, VmHandle};
 use geos_shell::run_in;
 use std::alloc::{AllocError, Global};
@@ -47,7 +46,7 @@ fn no_lines(alloc: Global) -> Pending {
 }
 
 impl Pending {
-    fn put(&mut self, number: usize, line: &Dialogue) -> Result<(), AllocError> {
+    fn put(&mut self, number: usize, line: &Said) -> Result<(), AllocError> {
         self.script.push_str(line.script())?;
         if !line.replies().is_empty() {
             self.put_written(number, line.replies())?;

@@ -3,18 +3,14 @@
 
 mod anywhere;
 mod bench;
-mod case_file;
 mod files;
 mod mismatch;
-mod numbers;
 mod playing;
-mod step;
-mod streaming;
 mod streams;
 
-use crate::case_file::{Case, CaseFault, read_cases};
 use crate::mismatch::Mismatch;
 use crate::playing::play_case;
+use case_files::{Case, CaseFault, read_cases};
 use std::process::ExitCode;
 use std::{env, fs, io};
 

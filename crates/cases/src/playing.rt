@@ -1,10 +1,8 @@
 //! How a case is played: once with each number of frames, or once for each call of a store that is to fail.
 use crate::anywhere::fail_anywhere;
 use crate::bench::{Bench, Fuse, NO_FUSE};
-use crate::case_file::Case;
 use crate::mismatch::{Mismatch, expect, mismatch_at};
-use crate::step::{Action, Failing, Side};
-use crate::streaming::Beginning;
+use case_files::{Action, Beginning, Case, Failing, Side};
 use std::alloc::Global;
 use std::ops::Range;
 

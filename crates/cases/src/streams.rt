@@ -1,7 +1,7 @@
 //! Readers and writers that give or take little at once, are interrupted or fail.
 ghost use Rattle.std.specs.Prelude.{◌≤◌, length};
 
-use crate::streaming::Stop;
+use case_files::Stop;
 use std::alloc::Global;
 use std::cell::Cell;
 use std::io::{self, ErrorKind, Read, Write};

@@ -5,7 +5,6 @@ ghost use Rattle.undo_log.specs.Sessions.{IsExact};
 ghost use Rattle.geos_shell.specs.Holdings.{AreExact, holding};
 ghost use Rattle.geos_shell.specs.Runs.{AnswersOf};
 
-use crate::shorthand::push_expanded;
 use geos_model::Fault;
 use geos_shell::{RunFault, run_in};
 use std::alloc::{AllocError, Global};
@@ -77,25 +76,6 @@ impl Dialogue {
     {
         self.script.push_str(script)?;
         self.replies.push_str(replies)
-    }
-
-    /// Lines, each a command, then ` = ` and its reply, or one that gets no reply. Spaces round each are left out. In a
-    /// word `61+00*4` stands for `6100000000`.
-    pub fn add_lines(&mut self, text: &str) -> Result<(), AllocError> {
-        for line in text.lines() {
-            match line.split_once(" = ") {
-                Some((command, reply)) => {
-                    push_expanded(&mut self.script, command)?;
-                    push_expanded(&mut self.replies, reply)?;
-                    self.add_text("\n", "\n")?;
-                }
-                None => {
-                    push_expanded(&mut self.script, line)?;
-                    self.add_text("\n", "")?;
-                }
-            }
-        }
-        Ok(())
     }
 
     /// The text of the script.

@@ -2,6 +2,5 @@
 #![tactic(auto)]
 
 mod dialogue;
-mod shorthand;
 
 pub use dialogue::{Dialogue, Mismatch};

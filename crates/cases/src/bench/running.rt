@@ -2,9 +2,8 @@
 use crate::bench::{Bench, File, NO_FUSE, Pending, no_lines};
 use crate::files::ProgramFiles;
 use crate::mismatch::{Mismatch, mismatch_at};
-use crate::step::Look;
-use crate::streaming::{Beginning, Streaming};
 use crate::streams::{Desk, Feeding, Place, STRONG, Strength, Taking};
+use case_files::{Beginning, Look, Streaming};
 use geos_shell::{Manner, RunFault, run_in_manner, serve};
 use std::alloc::{AllocError, Global};
 use std::mem;
@@ -131,7 +130,10 @@ impl Bench {
     /// Begins a run or the program.
     pub(super) fn begin(&mut self, beginning: &Beginning) -> Result<(), Mismatch> {
         let beginning = match beginning {
-            Beginning::Run(manner) => Beginning::Run(*manner),
+            Beginning::Run { bails, echoes } => Beginning::Run {
+                bails: *bails,
+                echoes: *echoes,
+            },
             Beginning::Program(text) => Beginning::Program(text.to_string(self.alloc)?),
         };
         self.stream = Some(Stream::new(self.alloc, beginning));
@@ -158,7 +160,13 @@ impl Bench {
         };
         let lines = mem::replace(&mut self.pending, no_lines(self.alloc));
         match &stream.beginning {
-            Beginning::Run(manner) => self.run(number, *manner, &lines, &stream)?,
+            Beginning::Run { bails, echoes } => {
+                let manner = Manner {
+                    bails: *bails,
+                    echoes: *echoes,
+                };
+                self.run(number, manner, &lines, &stream)?
+            }
             Beginning::Program(text) => self.serve(text, &lines, &stream)?,
         }
         self.compare_end(number, wanted, &lines, &stream)
@@ -179,7 +187,13 @@ impl Bench {
     /// many lines were read, and whether the run ended well.
     pub(crate) fn cut(&mut self, strength: Strength) -> Result<(usize, bool), Mismatch> {
         let lines = mem::replace(&mut self.pending, no_lines(self.alloc));
-        let mut stream = Stream::new(self.alloc, Beginning::Run(Manner::default()));
+        let mut stream = Stream::new(
+            self.alloc,
+            Beginning::Run {
+                bails: false,
+                echoes: false,
+            },
+        );
         stream.strength = strength;
         self.run(lines.number_at(0), Manner::default(), &lines, &stream)?;
         let script = lines.script.as_bytes();

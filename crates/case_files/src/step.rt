@@ -1,13 +1,13 @@
 //! The steps of a case.
 use crate::numbers::{read_handle, with_list};
+use crate::said::Said;
 use crate::streaming::{Beginning, Streaming, read_run, read_streaming};
-use dialogues::Dialogue;
 use geos_model::VmHandle;
 use std::alloc::{AllocError, Global};
 
 /// Which of two stores.
 #[derive(Clone, Copy, PartialEq, Eq)]
-pub(crate) enum Side {
+pub enum Side {
     /// The one of the file that the case begins on.
     File,
     /// The one that a save-as makes a file of.
@@ -16,7 +16,7 @@ pub(crate) enum Side {
 
 /// Which calls of a store fail.
 #[derive(Clone, Copy)]
-pub(crate) enum Failing {
+pub enum Failing {
     /// The next one of the file.
     Next,
     /// Each one of the file from here on.
@@ -29,9 +29,9 @@ pub(crate) enum Failing {
 
 /// What is done, or must be so.
 #[derive(Drop)]
-pub(crate) enum Action {
+pub enum Action {
     /// A line of a script is said, and its reply is this one, if it gets any.
-    Say(Dialogue),
+    Say(Said),
     /// A new file is made and opened.
     New,
     /// There is a file of so many zeros, which isn't open.
@@ -74,7 +74,7 @@ pub(crate) enum Action {
 
 /// What must be so of what has ended, or of the session or the file.
 #[derive(Drop)]
-pub(crate) enum Look {
+pub enum Look {
     /// The program has asked for this.
     Asked(String),
     /// It has closed no other file.
@@ -91,9 +91,9 @@ pub(crate) enum Look {
 
 /// A step, and the number of its line in the case file.
 #[derive(Drop)]
-pub(crate) struct Step {
-    pub(crate) number: usize,
-    pub(crate) action: Action,
+pub struct Step {
+    pub number: usize,
+    pub action: Action,
 }
 
 /// Why a line can't be read.
@@ -129,8 +129,8 @@ fn with_marks(alloc: Global, script: &str) -> Result<String, AllocError> {
 }
 
 // The same script and replies, with that in the place of what stands for it.
-fn marked(alloc: Global, script: &str, replies: &str) -> Result<Dialogue, AllocError> {
-    let mut line = Dialogue::new(alloc);
+fn marked(alloc: Global, script: &str, replies: &str) -> Result<Said, AllocError> {
+    let mut line = Said::new(alloc);
     if script.contains('<') {
         line.add_text(&with_marks(alloc, script)?, replies)?;
     } else {
@@ -141,21 +141,21 @@ fn marked(alloc: Global, script: &str, replies: &str) -> Result<Dialogue, AllocE
 
 /// The line of a script, with its reply if it has one.
 pub(crate) fn read_line(alloc: Global, text: &str) -> Result<Action, AllocError> {
-    let mut line = Dialogue::new(alloc);
+    let mut line = Said::new(alloc);
     line.add_lines(&with_list(alloc, text)?)?;
     Ok(Action::Say(marked(alloc, line.script(), line.replies())?))
 }
 
 /// A line that stands as the lines of a script do, with its line feed.
 pub(crate) fn expanded(alloc: Global, text: &str) -> Result<String, AllocError> {
-    let mut line = Dialogue::new(alloc);
+    let mut line = Said::new(alloc);
     line.add_lines(text)?;
     with_marks(alloc, line.script())
 }
 
 // A line that ends without a line feed.
 fn read_last(alloc: Global, text: &str) -> Result<Action, AllocError> {
-    let mut line = Dialogue::new(alloc);
+    let mut line = Said::new(alloc);
     line.add_lines(text)?;
     let script = line.script().trim_matches('\n');
     Ok(Action::Say(marked(alloc, script, line.replies())?))
@@ -168,7 +168,7 @@ pub(crate) fn first_word(text: &str) -> (&str, &str) {
 
 // Bytes in hexadecimal digits, in which `00*4` stands for `00000000`.
 fn read_bytes(alloc: Global, text: &str) -> Result<Vec<u8>, StepFault> {
-    let mut digits = Dialogue::new(alloc);
+    let mut digits = Said::new(alloc);
     digits.add_lines(text)?;
     match hex::decode(alloc, digits.script().trim_matches('\n')) {
         Ok(bytes) => Ok(bytes),

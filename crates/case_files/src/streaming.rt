@@ -1,20 +1,19 @@
 //! What comes between the lines of a run or of the program, and how its reader and its writer go.
 use crate::step::expanded;
-use geos_shell::Manner;
 use std::alloc::{AllocError, Global};
 
 /// What is begun, whose script stands in the lines below.
 #[derive(Drop)]
-pub(crate) enum Beginning {
+pub enum Beginning {
     /// A run in the session, which may end at a refusal, and may write each line before its reply.
-    Run(Manner),
+    Run { bails: bool, echoes: bool },
     /// The program, by these words behind its name.
     Program(String),
 }
 
 /// What a reader does where it has come to a place of the script.
 #[derive(Clone, Copy, PartialEq, Eq)]
-pub(crate) enum Stop {
+pub enum Stop {
     /// A read ends here.
     Piece,
     /// A read is interrupted here.
@@ -25,7 +24,7 @@ pub(crate) enum Stop {
 
 /// How the reader and the writer of what was begun go on.
 #[derive(Drop)]
-pub(crate) enum Streaming {
+pub enum Streaming {
     Stop(Stop),
     /// A line is written that is no reply.
     Line(String),
@@ -107,5 +106,5 @@ pub(crate) fn read_run(rest: &str) -> Option<Beginning> {
         "bail echo" => (true, true),
         _ => return None,
     };
-    Some(Beginning::Run(Manner { bails, echoes }))
+    Some(Beginning::Run { bails, echoes })
 }

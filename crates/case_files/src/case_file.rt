@@ -5,7 +5,7 @@ use std::alloc::{AllocError, AllocFailed, Global};
 
 /// Why a file of cases can't be read.
 #[derive(Debug, Drop)]
-pub(crate) enum CaseFault {
+pub enum CaseFault {
     Memory,
     /// The line with this number, from 1 on, says nothing that is known.
     Line(usize),
@@ -25,12 +25,12 @@ impl<T: Drop> From<AllocFailed<T>> for CaseFault {
 
 /// A case: what it shows, with how many frames it is played, once with each number, and its steps.
 #[derive(Drop)]
-pub(crate) struct Case {
-    pub(crate) name: String,
-    pub(crate) frames: Vec<usize>,
-    pub(crate) steps: Vec<Step>,
+pub struct Case {
+    pub name: String,
+    pub frames: Vec<usize>,
+    pub steps: Vec<Step>,
     /// What is asked of a session where the case is played once for each place where something can fail, else nothing.
-    pub(crate) questions: String,
+    pub questions: String,
 }
 
 /// A line of a script.
@@ -334,7 +334,7 @@ fn read_case(alloc: Global, sections: &[Section], section: &Section) -> Result<C
 }
 
 /// Reads a file of cases.
-pub(crate) fn read_cases(alloc: Global, text: &str) -> Result<Vec<Case>, CaseFault> {
+pub fn read_cases(alloc: Global, text: &str) -> Result<Vec<Case>, CaseFault> {
     let sections = read_sections(alloc, text)?;
     let mut cases = Vec::new(alloc);
     for section in &sections {
