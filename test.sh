@@ -41,6 +41,7 @@ check() {
     heap_by_chance) python3 checks/heap_by_chance.py "$geosvm" $((times * 1000)) ;;
     memory_given_back) python3 checks/memory_given_back.py "$geosvm" ;;
     edits_by_chance) python3 checks/edits_by_chance.py "$geosvm" $times ;;
+    examples) python3 checks/examples.py "$geosvm" ;;
     looks) python3 checks/looks.py "$geosvm" "$geosdoc" ;;
     stat_counted) python3 checks/stat_counted.py "$geosvm" "$geosdoc" $documents ;;
     changed_bytes) python3 checks/changed_bytes.py "$geosvm" "$geosdoc" crates/geosdoc/data/small_document.bin $every ;;
@@ -60,7 +61,7 @@ check() {
 }
 # Those that take longest come first, and behind them what needs one of them.
 first="embedding lent_bytes each_request failing_calls limits dumped_documents looks memory_given_back edits_by_chance heap_by_chance bench"
-first="$first made_beside stat_counted changed_bytes program_ends pages_checked ways_to_start prompts commands_listed"
+first="$first made_beside stat_counted changed_bytes program_ends examples pages_checked ways_to_start prompts commands_listed"
 second=failing_calls_from_c
 
 # script_of NAME: the file of a check.

@@ -10,7 +10,7 @@
 set -u
 geosvm=$(realpath "${1:?the path of the program}")
 every=${2:-1}
-data=$(realpath "$(dirname "$0")/../crates/examples/data")
+data=$(realpath "$(dirname "$0")/../examples")
 cases=$(realpath "$(dirname "$0")/../crates/cases/data/refusals.cases")
 folder=$(mktemp -d)
 cd "$folder" || exit 2

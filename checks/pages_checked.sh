@@ -11,7 +11,7 @@ program=
 if [ $# -gt 0 ]; then
     program=$(realpath "$1") || exit 2
 fi
-data=crates/examples/data
+data=examples
 folder=$(mktemp -d)
 trap 'rm -rf "$folder"' EXIT
 passed=0

@@ -5,7 +5,7 @@ use Rattle.geos_model.specs.Image.{image, body_of}
 use Rattle.geos_model.specs.declared.command.Body.TheVariants.{Raw, Heap}
 use Rattle.geos_model.proofs.Files.{body_of-image}
 use Rattle.geos_model.specs.File.{longest_image}
-use Rattle.lmem_heap.specs.HeapImage.{IsHeapImage}
+use Rattle.heap_images.specs.HeapImage.{IsHeapImage}
 
 pub raw_read : (bytes : List ℕ) → 1 ≤ length bytes → slice_index bytes 0 ≡ 0 → length bytes ≤ longest_image → body_of bytes ≡ Some (Raw (drop 1 bytes))
 unfolding image

@@ -1,21 +1,5 @@
-//! Tests of calls that no script reaches: regions, heaps, splices, patches, views of arrays, images, tables of blocks.
+//! Tests of what a heap keeps in mind of arrays, which no contract says and no script shows.
 #![tactic(auto)]
 
 #[cfg(test)]
-mod arrays;
-#[cfg(test)]
-mod asserting;
-#[cfg(test)]
-mod calls;
-#[cfg(test)]
-mod heaps;
-#[cfg(test)]
 mod marks;
-#[cfg(test)]
-mod memory;
-#[cfg(test)]
-mod patches;
-#[cfg(test)]
-mod regions;
-#[cfg(test)]
-mod splices;

@@ -1,13 +1,73 @@
 //! Chunks that a heap knows to be arrays: which marks are kept, and until when.
-use crate::arrays::{ELEMENTS, is_chunk_of_kind};
-use crate::heaps::{added, copied, freed, resized};
+ghost use Rattle.std.specs.Prelude.{◌≡◌, true, IsTrue};
+ghost use Rattle.std.specs.FinMap.{contains_key};
+ghost use Rattle.geos_model.specs.Heap.{chunk_bytes};
+ghost use Rattle.lmem_heap.specs.Known.{is_array_of};
+
+use element_arrays::is_element_array;
 use geos_model::ChunkHandle;
 use lmem_heap::{ArrayKind, Heap};
 use std::test::Fail;
 
+// An element array: the element 61 with two references, and a free one.
+const ELEMENTS: &[u8] = &[
+    2, 0, 0, 0, 0, 0, 10, 0, 1, 0, 14, 0, 18, 0, 2, 0, 0, 0x61, 255, 255, 255,
+];
+
+// A new chunk, where it fits.
+fn added(heap: &mut Heap, n: u32) -> Option<ChunkHandle> {
+    if heap.fits_alloc(n) {
+        Some(heap.alloc(n))
+    } else {
+        None
+    }
+}
+
+// Bytes are copied over those of a chunk of as many.
+fn copied(heap: &mut Heap, chunk: ChunkHandle, bytes: &[u8]) -> bool {
+    if heap.chunk(chunk).is_none() {
+        return false;
+    }
+    let place = heap.chunk_mut(chunk);
+    if place.len() != bytes.len() {
+        return false;
+    }
+    place.copy_from_slice(bytes);
+    true
+}
+
+// A chunk that is freed.
+fn freed(heap: &mut Heap, chunk: ChunkHandle) -> bool {
+    if heap.chunk(chunk).is_none() {
+        return false;
+    }
+    heap.free(chunk);
+    true
+}
+
+// One that gets another size, where it fits.
+fn resized(heap: &mut Heap, chunk: ChunkHandle, n: u32) -> bool {
+    if heap.chunk(chunk).is_none() || !heap.fits_resize(chunk, n) {
+        return false;
+    }
+    heap.resize(chunk, n);
+    true
+}
+
+// Whether a chunk is an element array.
+fn is_element_chunk(heap: &Heap, chunk: ChunkHandle) -> bool
+    ensures live { result ≡ true → IsTrue (contains_key heap.now.chunks chunk.0) }
+    ensures array { result ≡ true → is_array_of ArrayKind.Element (chunk_bytes heap.now.chunks chunk.0) ≡ true }
+{
+    match heap.known_chunk(chunk) {
+        Some(bytes) => is_element_array(&bytes),
+        None => false,
+    }
+}
+
 // An element array is marked.
 fn marked(heap: &mut Heap, chunk: ChunkHandle) -> bool {
-    if !is_chunk_of_kind(heap, chunk, ArrayKind::Element) {
+    if !is_element_chunk(heap, chunk) {
         return false;
     }
     heap.mark_array(chunk, ArrayKind::Element);

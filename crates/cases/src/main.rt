@@ -1,16 +1,11 @@
 //! Plays the cases of files, each a script with the replies that it must get, and what fails or is looked at between.
 #![tactic(auto)]
 
-mod anywhere;
-mod bench;
-mod files;
-mod mismatch;
-mod playing;
-mod streams;
+mod sessions;
 
-use crate::mismatch::Mismatch;
-use crate::playing::play_case;
+use crate::sessions::Opened;
 use case_files::{Case, CaseFault, read_cases};
+use case_player::{Mismatch, play_case};
 use std::process::ExitCode;
 use std::{env, fs, io};
 
@@ -39,7 +34,7 @@ fn tell_fault(rt: &HostRuntime, file: &str, fault: &CaseFault) -> io::Result<()>
 
 /// Plays a case, and tells how it went if it differs. Whether it went as it is written.
 fn is_played(rt: &HostRuntime, file: &str, case: &Case) -> io::Result<bool> {
-    match play_case(rt.alloc(), case) {
+    match play_case::<Opened>(rt.alloc(), case) {
         Ok(()) => Ok(true),
         Err(mismatch) => {
             tell(rt, file, case, &mismatch)?;

@@ -7,14 +7,12 @@ pub mod StoredLemmas
 pub mod FreePieceLemmas
 pub mod FreeListLemmas
 pub mod EntryLemmas
-pub mod PackedLemmas
 pub mod PlacedLemmas
 pub mod MarkLemmas
 pub mod ChunkBytesLemmas
 pub mod ResizingLemmas
 pub mod LendsChunkLemmas
 pub mod MovingLemmas
-pub mod HeapImageLemmas
 pub mod MergingLemmas
 pub mod ClosingLemmas
 pub mod RaisingLemmas

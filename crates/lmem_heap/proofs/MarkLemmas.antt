@@ -3,7 +3,7 @@ use Rattle.std.proofs.Common.{◌≡◌, ◌≢◌, ℕ, zero, suc, ◌≤◌, �
 use Rattle.std.proofs.lemmas.Bool.{cases_lt, cases_eq, cond-true, cond-false, ne_eqb, eq-eqb}
 use Rattle.std.proofs.lemmas.List.{get_or-take, get_or_past, length-take}
 use Rattle.geos_model.proofs.Tables.{put_at, slot_at-put_other}
-use Rattle.lmem_heap.specs.Packed.{PackedSlots}
+use Rattle.heap_images.specs.Packed.{PackedSlots}
 use Rattle.lmem_heap.specs.Known.{is_array_of}
 use Rattle.lmem_heap.specs.Marks.{kind_in, without, IsMarked, AreMarked}
 use Rattle.lmem_heap.specs.declared.known.ArrayKind.{ArrayKind}

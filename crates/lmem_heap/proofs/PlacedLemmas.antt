@@ -15,10 +15,11 @@ use Rattle.raw_region.specs.Bytes.{put}
 use Rattle.raw_region.proofs.Puts.{put_is}
 use Rattle.lmem_heap.specs.Stored.{Stored}
 use Rattle.lmem_heap.specs.Placed.{Placed, placed_in}
+use Rattle.heap_images.proofs.SlotLemmas.{need_is, is_heap}
 use Rattle.geos_model.specs.Image.{image}
 use Rattle.geos_model.specs.Words.{word}
-use Rattle.lmem_heap.specs.Packed.{PackedSlots}
-use Rattle.lmem_heap.specs.Slots.{space_in, need_of, need_in, IsCounted}
+use Rattle.heap_images.specs.Packed.{PackedSlots}
+use Rattle.heap_images.specs.Slots.{space_in, need_of, need_in, IsCounted}
 use Rattle.std.specs.List as list
 use Rattle.geos_model.specs.declared.command.Body.TheVariants as bodies
 
@@ -31,16 +32,6 @@ shown_places m p is = ap (λ (x : Placed). x.places) is
 
 pub same_placed : (m n : Placed) → m.chunks ≡ n.chunks → m.places ≡ n.places → m ≡ n
 same_placed m n chunks places = ap (λ (x : ChunkMap). record { chunks = x; places = m.places }) chunks ∙ ap (λ (x : FinMap nat_cmp ℕ). record { chunks = n.chunks; places = x }) places
-
-pub need_is : (t : PackedSlots) → IsTrimmed t → need (table_map 2 16 t) ≡ need_in t
-need_is t trimmed = need-table t trimmed
-
-pub is_heap : (t : PackedSlots) → IsTrimmed t → need_in t ≤ 65520 → is_heap_map (table_map 2 16 t) ≡ true
-is_heap t trimmed room = is_heap_map-trimmed t trimmed (omega (arith, need_is t trimmed))
-
-pub slot_some : (o : Option (List ℕ)) (size : ℕ) → Some size ≡ option_map length o → (b : List ℕ) × (o ≡ Some b) × (size ≡ length b)
-slot_some None size is = cc
-slot_some (Some b) size is = (b, refl, cc)
 
 -- ---- the least free handle
 
@@ -107,18 +98,9 @@ image_made t n a b c d e low m shows a_is b_is c_is low_is d_is e_is count trimm
 
 -- ---- slots one by one
 
--- a slot by its size
-pub none_by_size : (o : Option (List ℕ)) (size : Option ℕ) → size ≡ option_map length o → is_some size ≡ false → o ≡ None
-none_by_size None size is none = refl
-none_by_size (Some b) size is none = let e : is_some size ≡ true = ap is_some is in cc
-
 pub none_there : (o : Option (List ℕ)) → is_some o ≡ false → o ≡ None
 none_there None e = refl
 none_there (Some b) e = cc
-
-pub some_by_size : (o : Option (List ℕ)) (size : Option ℕ) → size ≡ option_map length o → is_some size ≡ true → is_some o ≡ true
-some_by_size None size is live = let e : is_some size ≡ false = ap is_some is in cc
-some_by_size (Some b) size is live = refl
 
 pub slot_from_live : (o : Option (List ℕ)) → is_some o ≡ true → o ≡ Some (unwrap_or o [])
 slot_from_live None live = cc
@@ -282,20 +264,6 @@ places_freed os vs ns i h m shows at l cleared same =
     table_map-same 2 16 ns vs same ∙ (ap (table_map 2 16) cleared ∙ (table_map-clear (omega arith) 16 os i l ∙ (ap (λ (q : ℕ). remove (table_map 2 16 os) q) (sym at) ∙ ap (λ (x : FinMap nat_cmp ℕ). remove x h) shows)))
 
 -- ---- the space, slot by slot
-
-pub space_some : (t : PackedSlots) (i size : ℕ) → i < length t → Some size ≡ option_map length (get_or t i None) → space_in (take (i + 1) t) ≡ space_in (take i t) + space_of size
-space_some t i size l is =
-    let slot = slot_some (get_or t i None) size is in
-    omega (arith, sum_by_more slot_space t i None l, ap slot_space slot.1, ap space_of slot.2)
-
-pub space_none : (t : PackedSlots) (i : ℕ) → i < length t → get_or t i None ≡ None → space_in (take (i + 1) t) ≡ space_in (take i t)
-space_none t i l gap = omega (arith, sum_by_more slot_space t i None l, ap slot_space gap)
-
-pub space_of_at_most : (n : ℕ) → space_of n ≤ n + 8
-space_of_at_most n = elim (cases_eq n 0) [
-  | inl e ↦ let is : space_of n ≡ 0 = ap space_of e in omega arith
-  | inr e ↦ let is : space_of n ≡ 4 * ((n + 5) / 4) = cond-false (n == 0) _ _ (ne_eqb n 0 e) in omega arith
-]
 
 -- ---- the handles, slot by slot
 

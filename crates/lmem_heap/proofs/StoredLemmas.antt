@@ -15,7 +15,7 @@ use Rattle.lmem_heap.specs.declared.space.Space.{Space}
 use Rattle.lmem_heap.specs.Pieces.{word_in, entry, piece_space, space, spaces, Piece, Used}
 use Rattle.lmem_heap.specs.Tiled.{chunk_under, chunks_in, offset_under, table_end}
 use Rattle.lmem_heap.specs.Space.{IsWellFormedBut, IsWellFormed}
-use Rattle.lmem_heap.specs.Slots.{space_in, need_in}
+use Rattle.heap_images.specs.Slots.{space_in, need_in}
 use Rattle.lmem_heap.specs.Stored.{Stored, store_of, offsets_in, IsStoredHeap, IsChunkApart, AreStoredDisjoint, AreBehind, StoredHoldsChunks, AreLast}
 use Rattle.lmem_heap.proofs.TiledLemmas.{under_dead, chunk_in, length-chunks_in, under_piece}
 use Rattle.lmem_heap.proofs.EntryLemmas.{live_piece, size_live, size_dead, space_dead, total_small}

@@ -4,9 +4,6 @@ pub mod Pieces
 pub mod Edits
 pub mod Tiled
 pub mod Space
-pub mod Packed
-pub mod Slots
-pub mod HeapImage
 pub mod Stored
 pub mod Placed
 pub mod LendsChunk

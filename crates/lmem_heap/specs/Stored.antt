@@ -5,7 +5,7 @@ use Rattle.geos_model.specs.Heap.{space_of}
 use Rattle.lmem_heap.specs.Pieces.{entry}
 use Rattle.lmem_heap.specs.Tiled.{chunks_in, offset_under}
 use Rattle.lmem_heap.specs.Space.{IsWellFormed}
-use Rattle.lmem_heap.specs.Slots.{space_in}
+use Rattle.heap_images.specs.Slots.{space_in}
 use Rattle.lmem_heap.specs.declared.space.Space.{Space}
 
 -- where the bytes of the chunks of t slots lie

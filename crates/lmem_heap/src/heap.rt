@@ -9,16 +9,16 @@ ghost use Rattle.geos_model.specs.Bytes.{resized};
 ghost use Rattle.geos_model.specs.Image.{image};
 ghost use Rattle.geos_model.specs.declared.command.Body.TheVariants as bodies;
 ghost use Rattle.geos_model.proofs.Table.{first_gap};
-ghost use Rattle.lmem_heap.specs.HeapImage.{IsHeapImage, HasHeapTable};
+ghost use Rattle.heap_images.specs.HeapImage.{IsHeapImage, HasHeapTable};
 ghost use Rattle.lmem_heap.specs.Known.{is_array_of};
 
-use crate::image::{HEAP_KIND, PREFIX, heap_slots, image_len, push_chunks, push_sizes, unpack};
+use crate::image::{image_len, push_chunks, push_sizes, unpack};
 use crate::known::{ArrayKind, KnownBytes};
 use crate::marks::Marks;
-use crate::sizes::{need_of, space_of};
 use crate::table::ChunkTable;
 use crate::words::{HEADER, NO_CHUNK, SIZE, entry_at, slot_at};
 use geos_model::{ChunkHandle, Fault};
+use heap_images::{HEAP_KIND, PREFIX, heap_slots, need_of, space_of};
 use raw_region::Region;
 use std::alloc::{AllocError, Global};
 use std::marker::Model;
@@ -39,7 +39,7 @@ pub struct Heap {
 
 impl Model for Heap {
     ghost use Rattle.lmem_heap.specs.Placed.{Placed, placed_code, placed_in};
-    ghost use Rattle.lmem_heap.specs.Slots.{IsCounted};
+    ghost use Rattle.heap_images.specs.Slots.{IsCounted};
     ghost use Rattle.lmem_heap.specs.Marks.{AreMarked};
 
     ghost Value = { Placed };

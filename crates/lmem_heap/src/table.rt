@@ -6,7 +6,7 @@ ghost use Rattle.std.specs.Option.{option_copied, option_map};
 ghost use Rattle.geos_model.specs.Bytes.{resized};
 ghost use Rattle.geos_model.proofs.Table.{IsTrimmed};
 ghost use Rattle.raw_region.specs.Bytes.{put};
-ghost use Rattle.lmem_heap.specs.Slots.{space_in, need_in, need_of};
+ghost use Rattle.heap_images.specs.Slots.{space_in, need_in, need_of};
 
 use crate::space::Space;
 use crate::words::EMPTY;

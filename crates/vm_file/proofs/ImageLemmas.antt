@@ -15,7 +15,7 @@ use Rattle.geos_model.specs.File.{longest_image}
 use Rattle.vm_file.specs.Images.{IsImage}
 use Rattle.geos_model.specs.Bytes.{same_bytes}
 use Rattle.std.proofs.lemmas.Bool.{cond-true}
-use Rattle.lmem_heap.specs.HeapImage.{IsHeapImage}
+use Rattle.heap_images.specs.HeapImage.{IsHeapImage}
 use Rattle.vm_file.specs.Opened.{IsImageOf}
 use Rattle.vm_file.specs.Documents.{of_kind}
 

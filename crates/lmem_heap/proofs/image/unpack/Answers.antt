@@ -1,8 +1,8 @@
 use Rattle.std.proofs.Common.{◌≡◌, ◌-◌, ◌++◌, ◌∙◌, ℕ, List, Option, None, length, get_or, set, replicate, refl, ap, arith}
-use Rattle.lmem_heap.specs.Packed.{slots_in}
-use Rattle.lmem_heap.specs.Slots.{space_in}
-use Rattle.lmem_heap.proofs.PackedLemmas.{length-slots_in}
-use Rattle.lmem_heap.proofs.HeapImageLemmas.{so_far_none, so_far_more, so_far_all, length-so_far, put_room}
+use Rattle.heap_images.specs.Packed.{slots_in}
+use Rattle.heap_images.specs.Slots.{space_in}
+use Rattle.heap_images.proofs.PackedLemmas.{length-slots_in}
+use Rattle.heap_images.proofs.HeapImageLemmas.{so_far_none, so_far_more, so_far_all, length-so_far, put_room}
 use Rattle.lmem_heap.proofs.image.unpack.Goals as goal
 
 pub grow-requires-clause-room : goal.grow-requires-clause-room

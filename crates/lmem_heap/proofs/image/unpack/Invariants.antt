@@ -1,6 +1,6 @@
 use Rattle.std.proofs.Common.{◌≡◌, ◌+◌, ◌*◌, length, take}
-use Rattle.lmem_heap.specs.Packed.{slots_in, chunks}
-use Rattle.lmem_heap.proofs.HeapImageLemmas.{so_far}
+use Rattle.heap_images.specs.Packed.{slots_in, chunks}
+use Rattle.heap_images.proofs.HeapImageLemmas.{so_far}
 use Rattle.lmem_heap.proofs.image.unpack.Given as goal
 
 -- the chunks so far are in the table

@@ -1,9 +1,9 @@
 use Rattle.std.proofs.Common.{◌≡◌, ◌<◌, ◌+◌, ℕ, List, [], is_some, Option, Some, None, length, get_or, set, unwrap_or, refl, sym, ap, ◌∙◌, arith}
 use Rattle.std.specs.List as list
-use Rattle.lmem_heap.specs.Packed.{slots_in}
-use Rattle.lmem_heap.proofs.PackedLemmas.{Opened, opened, slot_some, place_within, chunk_is}
-use Rattle.lmem_heap.proofs.PlacedLemmas.{none_by_size}
-use Rattle.lmem_heap.proofs.HeapImageLemmas.{chunks_more}
+use Rattle.heap_images.specs.Packed.{slots_in}
+use Rattle.heap_images.proofs.PackedLemmas.{Opened, opened, slot_some, place_within, chunk_is}
+use Rattle.heap_images.proofs.SlotLemmas.{none_by_size}
+use Rattle.heap_images.proofs.HeapImageLemmas.{chunks_more}
 use Rattle.lmem_heap.proofs.image.unpack_slot.Goals as goal
 
 pub overflow_add-at : goal.overflow_add-at

@@ -1,7 +1,7 @@
 use Rattle.std.proofs.Common.{◌≡◌, ◌≤◌, ◌+◌, ℕ, List, Option, None, max, length, get_or, replicate, ◌∙◌, refl, arith}
 use Rattle.geos_model.proofs.Table.{first_gap}
 use Rattle.geos_model.proofs.Tables.{put_at}
-use Rattle.lmem_heap.specs.Slots.{need_in}
+use Rattle.heap_images.specs.Slots.{need_in}
 use Rattle.lmem_heap.proofs.PlacedLemmas.{shown_chunks, free_slot, room_put, shows_put, counted_put, zeros_put, none_bytes, in_slots, grow_room, new_room, gap_found, first_gap_le, gap_put_here, gap_put_there}
 use Rattle.lmem_heap.proofs.MarkLemmas.{marked_put}
 use Rattle.lmem_heap.proofs.heap.Heap.alloc_at.Goals.{After-gap_from-gap, After-max, After-place, then-i-gap, else-i-gap}

@@ -4,7 +4,7 @@ use Rattle.geos_model.proofs.Tables.{put_at}
 use Rattle.raw_region.specs.Bytes.{put}
 use Rattle.raw_region.proofs.Puts.{length-put}
 use Rattle.lmem_heap.specs.LendsChunk.{with_chunk}
-use Rattle.lmem_heap.specs.Slots.{need_in}
+use Rattle.heap_images.specs.Slots.{need_in}
 use Rattle.lmem_heap.proofs.PlacedLemmas.{shown_chunks, shown_places, live_slot, shows_put, need_changed, put_changed, counted_changed, same_placed}
 use Rattle.lmem_heap.proofs.MarkLemmas.{marked_put}
 use Rattle.lmem_heap.proofs.heap.Heap.chunk_mut.Goals as goal

@@ -2,7 +2,7 @@ use Rattle.std.proofs.Common.{◌≡◌, ℕ, List, None, get_or, replicate, nat
 use Rattle.std.proofs.lemmas.List.{length-replicate}
 use Rattle.geos_model.specs.Heap.{space_of}
 use Rattle.geos_model.proofs.Tables.{put_at}
-use Rattle.lmem_heap.specs.Slots.{need_in}
+use Rattle.heap_images.specs.Slots.{need_in}
 use Rattle.lmem_heap.proofs.PlacedLemmas.{shown_chunks, free_slot, need_new, fits_put}
 use Rattle.lmem_heap.proofs.heap.Heap.fits_at.Goals as goal
 

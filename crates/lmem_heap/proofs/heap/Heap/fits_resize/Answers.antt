@@ -3,7 +3,7 @@ use Rattle.geos_model.specs.Heap.{chunk_bytes, space_of}
 use Rattle.geos_model.specs.Bytes.{resized}
 use Rattle.geos_model.proofs.Tables.{put_at}
 use Rattle.geos_model.proofs.HeapTables.{space_of_ge}
-use Rattle.lmem_heap.specs.Slots.{need_in}
+use Rattle.heap_images.specs.Slots.{need_in}
 use Rattle.lmem_heap.proofs.PlacedLemmas.{shown_chunks, live_at, live_slot, need_changed, fits_put, length-resized}
 use Rattle.lmem_heap.proofs.heap.Heap.fits_resize.Goals as goal
 

@@ -1,6 +1,7 @@
 use Rattle.std.proofs.Common.{arith, ap}
 use Rattle.geos_model.specs.Heap.{need}
-use Rattle.lmem_heap.proofs.PlacedLemmas.{shown_chunks, need_is}
+use Rattle.lmem_heap.proofs.PlacedLemmas.{shown_chunks}
+use Rattle.heap_images.proofs.SlotLemmas.{need_is}
 use Rattle.lmem_heap.proofs.heap.Heap.need.Goals as goal
 
 pub returns : goal.returns

@@ -2,8 +2,8 @@ use Rattle.std.proofs.Common.{◌≡◌, length, drop, arith, ap, ◌∙◌}
 use Rattle.std.proofs.lemmas.Slice.{between_to_end}
 use Rattle.std.specs.List as list
 use Rattle.geos_model.proofs.Table.{table_map}
-use Rattle.lmem_heap.specs.Packed.{slots_in}
-use Rattle.lmem_heap.proofs.HeapImageLemmas.{image_again}
+use Rattle.heap_images.specs.Packed.{slots_in}
+use Rattle.heap_images.proofs.HeapImageLemmas.{image_again}
 use Rattle.lmem_heap.proofs.heap.Heap.unpacked.Goals as goal
 
 pub returns : goal.returns

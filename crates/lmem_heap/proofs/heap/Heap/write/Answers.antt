@@ -3,7 +3,7 @@ use Rattle.std.specs.List as list
 use Rattle.geos_model.specs.Heap.{chunk_bytes, space_of}
 use Rattle.geos_model.proofs.Table.{table_map}
 use Rattle.geos_model.proofs.Tables.{put_at}
-use Rattle.lmem_heap.specs.Slots.{need_in}
+use Rattle.heap_images.specs.Slots.{need_in}
 use Rattle.lmem_heap.proofs.PlacedLemmas.{shown_chunks, shown_places, live_slot, shows_put, need_changed, put_written, counted_changed, length-splice}
 use Rattle.lmem_heap.proofs.MarkLemmas.{marked_put}
 use Rattle.lmem_heap.proofs.heap.Heap.write.Goals as goal

@@ -1,5 +1,5 @@
 use Rattle.std.proofs.Common.{◌≡◌, ◌+◌, ℕ, ap, sym, subst, ◌∙◌, arith}
-use Rattle.lmem_heap.specs.Slots.{space_in}
+use Rattle.heap_images.specs.Slots.{space_in}
 use Rattle.lmem_heap.specs.Stored.{offsets_in, AreLast}
 use Rattle.lmem_heap.specs.Tiled.{chunks_in}
 use Rattle.lmem_heap.proofs.StoredLemmas.{all_last}

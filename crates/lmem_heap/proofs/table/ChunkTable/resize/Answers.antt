@@ -5,7 +5,7 @@ use Rattle.geos_model.specs.Heap.{space_of}
 use Rattle.geos_model.proofs.HeapTables.{space_of_some}
 use Rattle.lmem_heap.specs.Pieces.{entry}
 use Rattle.lmem_heap.specs.Tiled.{chunks_in}
-use Rattle.lmem_heap.specs.Slots.{need_in}
+use Rattle.heap_images.specs.Slots.{need_in}
 use Rattle.lmem_heap.proofs.EntryLemmas.{space_live, space_dead}
 use Rattle.lmem_heap.proofs.StoredLemmas.{shown, in_table, empty_entry, live_entry, need_shown, place_fits, stored_set, stored_vacated}
 use Rattle.lmem_heap.proofs.LendsChunkLemmas.{run_size}

@@ -1,0 +1,3 @@
+pub mod PackedLemmas
+pub mod SlotLemmas
+pub mod HeapImageLemmas

@@ -1,0 +1,3 @@
+pub mod Packed
+pub mod Slots
+pub mod HeapImage
