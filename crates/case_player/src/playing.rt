@@ -126,7 +126,12 @@ impl Play<'_> {
     }
 
     // Plays the case once for each of those calls, in which this one fails.
-    fn fail_each<S: Subject>(self, place: usize, number: usize, side: Side) -> Result<(), Mismatch> {
+    fn fail_each<S: Subject>(
+        self,
+        place: usize,
+        number: usize,
+        side: Side,
+    ) -> Result<(), Mismatch> {
         for passes in self.calls_of_line::<S>(place, number, side)? {
             let all = false;
             self.play::<S>(Fuse { side, passes, all })?;

@@ -55,12 +55,6 @@ pub(crate) enum Mismatch {
     Answer(usize),
     /// The call at this place serves.
     Serves(usize),
-    /// A store has other bytes.
-    Bytes,
-    /// A crash leaves another image, the one at this place.
-    Image(usize),
-    /// A fuse has counted so many calls.
-    Calls(u64),
 }
 
 impl From<AllocError> for Mismatch {
