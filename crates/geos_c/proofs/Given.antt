@@ -6,7 +6,7 @@ use Rattle.vm_store.specs.declared.system.SystemFault.TheVariants.{Interrupted, 
 use Rattle.geos_c.specs.Stores.{FileStore, given_calls, store_on}
 use Rattle.geos_c.specs.declared.channel.ChannelFile.{ChannelFile}
 use Rattle.geos_c.specs.declared.channel.Given.{Given}
-use Rattle.geos_c.specs.declared.files.FileNumber.{FileNumber}
+use Rattle.c_sessions.specs.declared.files.FileNumber.{FileNumber}
 
 module _ (path : List ℕ) (old : Given) where
   abbrev finds : Given → Result FileNumber SystemFault → Given → Type 0

@@ -4,15 +4,15 @@ use Rattle.geos_model.specs.Refusal.{number_of_fault}
 use Rattle.geos_model.specs.declared.command.Edit.{Edit}
 use Rattle.geos_model.specs.declared.fault.Fault.{Fault}
 use Rattle.undo_log.specs.Sessions.{SessionState}
-use Rattle.geos_c.specs.Codes.{Tells}
-use Rattle.geos_c.specs.Files.{BeginsOn, Begun, IsNotBegun}
+use Rattle.c_sessions.specs.Codes.{Tells}
+use Rattle.c_sessions.specs.Files.{BeginsOn, Begun, IsNotBegun}
 use Rattle.geos_c.specs.Handles.{Begins, EditsOnHandle, HandsOutOnHandle, IsPut, MakesOnHandle, OnFiles, OnHandle, SavesOnHandle, TellsOnHandle}
-use Rattle.geos_c.specs.Keeping.{IsBegun, SavesInto}
+use Rattle.c_sessions.specs.Keeping.{IsBegun, SavesInto}
 use Rattle.geos_c.specs.Stores.{FileStore, channel_calls, facts, file_number}
 use Rattle.geos_c.specs.declared.channel.Channel.{Channel}
-use Rattle.geos_c.specs.declared.files.FileNumber.{FileNumber}
+use Rattle.c_sessions.specs.declared.files.FileNumber.{FileNumber}
 use Rattle.geos_c.specs.declared.handle.Handle.{Handle}
-use Rattle.geos_c.specs.declared.kept.Kept.{Kept}
+use Rattle.c_sessions.specs.declared.kept.Kept.{Kept}
 
 -- there was a session, it was worked on, and it is back
 module _ (old new : Handle) (kept lent : Kept FileStore) (after : SessionState FileStore) (code told : ℤ)

@@ -20,7 +20,7 @@ use Rattle.geos_model.specs.declared.handle.VmHandle.{VmHandle}
 use Rattle.geos_model.proofs.Undoing.{same_reply}
 use Rattle.undo_log.specs.Sessions.{SessionState, machine_of}
 use Rattle.undo_log.proofs.Locks.{is_locked-is, lock_count-is}
-use Rattle.geos_c.specs.Codes.{Tells}
+use Rattle.c_sessions.specs.Codes.{Tells}
 use Rattle.geos_c.specs.Lending.{HandsOutPlace, IsLent, Lends, lent_by}
 
 -- what takes no memory, where no call of the store has failed, is answered by the rules alone

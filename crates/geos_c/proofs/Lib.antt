@@ -4,4 +4,3 @@ pub mod HandleCalls
 pub mod LendingLemmas
 pub mod Opening
 pub mod Given
-pub mod Keepings

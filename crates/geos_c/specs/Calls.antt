@@ -1,8 +1,8 @@
 -- What calls of a session do, over any store, by what they are answered.
-use Rattle.std.specs.Prelude.{◌≡◌, ◌⊎◌, ◌||◌, ℕ, Bool, true, false, IsTrue, [], Some, Result, OnOk, OnErr, IfErr, MatchResult}
+use Rattle.std.specs.Prelude.{◌≡◌, ◌⊎◌, ℕ, Bool, false, [], Some, Result, OnOk, OnErr, IfErr, MatchResult}
 use Rattle.std.specs.Result.{result_unwrap_or}
 use Rattle.geos_model.specs.Machine.{Step}
-use Rattle.geos_model.specs.Reply.{Reply, Accepted, Refused, NumberIs, reply_by}
+use Rattle.geos_model.specs.Reply.{Reply, Accepted, NumberIs, reply_by}
 use Rattle.geos_model.specs.declared.command.Command.{Command}
 use Rattle.geos_model.specs.declared.command.Command.TheVariants as commands
 use Rattle.geos_model.specs.declared.handle.ChunkHandle.{ChunkHandle}
@@ -13,11 +13,10 @@ use Rattle.geos_model.specs.declared.fault.Fault.TheVariants.{NothingToUndo, Not
 use Rattle.chunk_edits.specs.declared.direction.Direction.TheVariants.{Forwards, Backwards}
 use Rattle.vm_store.specs.Facts.{StoreFacts}
 use Rattle.vm_file.specs.Effects.{Fails, IsWorn}
-use Rattle.vm_blocks.specs.Committing.{IsSavedAs}
 use Rattle.vm_blocks.specs.Locking.{GainsLock, LosesLock}
-use Rattle.undo_log.specs.Committing.{IsBusy, IsSaveAsRefused, IsSessionCommit}
+use Rattle.undo_log.specs.Committing.{IsBusy, IsSessionCommit}
 use Rattle.undo_log.specs.Logging.{empty_log, with_group_closed}
-use Rattle.undo_log.specs.Sessions.{SessionState, IsExact, IsStep, KeepsSession, cache_of, failed_since, file_of, machine_of}
+use Rattle.undo_log.specs.Sessions.{SessionState, IsStep, KeepsSession, cache_of, machine_of}
 use Rattle.undo_log.specs.Turning.{Abandons, IsNotAbandoned, IsRefusedUndoOrRedo, MovesEntry}
 
 abbrev pub Answer : Type 0
@@ -63,27 +62,6 @@ Reverts facts old new answer = Steps facts commands.Revert old new answer
     × IsSessionCommit facts (old.disk.saved, old.disk.saved) old.disk.saved old new answer
     × FailsCommit facts old new answer
     × MatchResult answer (λ _. new.log ≡ empty_log) (λ _. new.log ≡ old.log)
-
--- what a save-as that was accepted leaves: the session is in the target, and the store of the old file is left
-pub record IsMovedTo {S : Type 0} (facts : S → StoreFacts) (target former : S) (old new : SessionState S)
-    : Type 0 where
-  pub saved : IsSavedAs facts target former (file_of old) (file_of new)
-  pub step : IsExact facts old → IsTrue (facts target).honest
-      → IsExact facts new × Step false (machine_of true old) (Some commands.SaveAs) Accepted (machine_of false new)
-  pub lists : new.log ≡ old.log
-  pub resident : new.resident ≡ old.resident
-
--- one that was refused: the session stays where it is, and the target is left so
-pub record IsNotMovedTo {S : Type 0} (facts : S → StoreFacts) (target left : S) (old new : SessionState S)
-    (fault : Fault) : Type 0 where
-  pub refused : IsSaveAsRefused facts target left old new fault
-  pub step : IsExact facts old → IsExact facts new
-      × Step (failed_since (facts old.disk.store) (facts new.disk.store) || failed_since (facts target) (facts left))
-      (machine_of true old) (Some commands.SaveAs) (Refused fault) (machine_of true new)
-  -- what is busy is refused before all else
-  pub held : (busy : Fault) → IsBusy old busy → (fault ≡ busy) × (left ≡ target) × (new ≡ old)
-  pub lists : new.log ≡ old.log
-  pub resident : new.resident ≡ old.resident
 
 -- Groups.
 

@@ -6,16 +6,16 @@ use Rattle.geos_model.specs.declared.command.Edit.{Edit}
 use Rattle.geos_model.specs.declared.fault.Fault.{Fault}
 use Rattle.geos_model.specs.declared.fault.Fault.TheVariants.{Memory}
 use Rattle.undo_log.specs.Sessions.{SessionState}
-use Rattle.geos_c.specs.Codes.{Tells, bad_argument, not_open, open_already}
+use Rattle.c_sessions.specs.Codes.{Tells, bad_argument, not_open, open_already}
 use Rattle.geos_c.specs.Edits.{Edits, Makes}
-use Rattle.geos_c.specs.Files.{Begun}
-use Rattle.geos_c.specs.Keeping.{IsBegun, SavesInto}
+use Rattle.c_sessions.specs.Files.{Begun}
+use Rattle.c_sessions.specs.Keeping.{IsBegun, SavesInto}
 use Rattle.geos_c.specs.LookUps.{TellsReply}
 use Rattle.geos_c.specs.Stores.{FileStore, channel_calls, facts, file_number}
 use Rattle.geos_c.specs.Telling.{HandsOutEqual, HandsOutInfo, HandsOutNumber}
 use Rattle.geos_c.specs.declared.channel.Channel.{Channel}
 use Rattle.geos_c.specs.declared.handle.Handle.{Handle}
-use Rattle.geos_c.specs.declared.kept.Kept.{Kept}
+use Rattle.c_sessions.specs.declared.kept.Kept.{Kept}
 
 -- A call on a handle. One that has a session still has it, in the file with the same number, and it has done what the
 -- code tells; one that has none still has none, and that is what the code says.

@@ -10,7 +10,7 @@ use Rattle.geos_model.specs.declared.command.Command.{Command}
 use Rattle.geos_model.specs.declared.fault.Fault.{Fault}
 use Rattle.geos_model.specs.declared.fault.Fault.TheVariants.{NotLocked}
 use Rattle.undo_log.specs.Sessions.{SessionState, machine_of}
-use Rattle.geos_c.specs.Codes.{code_of}
+use Rattle.c_sessions.specs.Codes.{code_of}
 
 -- the refusals of a look-up into a block that has to be locked
 abbrev pub locked_conditions : Command → ℕ → Machine → Conditions

@@ -1,9 +1,6 @@
 pub mod Calls
-pub mod Codes
 pub mod Edits
-pub mod Files
 pub mod Handles
-pub mod Keeping
 pub mod Lending
 pub mod Lines
 pub mod LookUps

@@ -5,7 +5,7 @@ use Rattle.vm_store.specs.Facts.{StoreFacts}
 use Rattle.undo_log.specs.Sessions.{SessionState}
 use Rattle.geos_shell.specs.Holdings.{MayServe, holding}
 use Rattle.geos_shell.specs.Replies.{Responds}
-use Rattle.geos_c.specs.Codes.{HandsOut, untold}
+use Rattle.c_sessions.specs.Codes.{HandsOut, untold}
 
 -- The line is answered, without a target for a save-as, over any store, and its reply line is handed out.
 pub record IsAnswered {S : Type 0} (facts : S → StoreFacts) (line : List ℕ) (old new : SessionState S)

@@ -6,7 +6,7 @@ use Rattle.geos_model.specs.declared.command.Command.TheVariants as commands
 use Rattle.vm_store.specs.Facts.{StoreFacts}
 use Rattle.undo_log.specs.Sessions.{SessionState, AnswersAlongChain, AnswersLookUp}
 use Rattle.geos_c.specs.Calls.{AlwaysSteps}
-use Rattle.geos_c.specs.Codes.{HandsOutReply}
+use Rattle.c_sessions.specs.Codes.{HandsOutReply}
 
 -- one for which no body is looked into: over any store it is the step of the machine, and the session stays
 abbrev pub AnswersAtRest : {S : Type 0} → Command → SessionState S → SessionState S → Reply → Type 0

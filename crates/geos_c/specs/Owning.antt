@@ -11,7 +11,7 @@ use Rattle.vm_store.specs.contracts.host.HostStore as stores
 use Rattle.vm_store.specs.contracts.host.HostStoreStore.TheImpl as stores_impl
 use Rattle.geos_c.specs.contracts.channel.ChannelFile as files
 use Rattle.geos_c.specs.contracts.channel.ChannelFileSystemFile.TheImpl as files_impl
-use Rattle.geos_c.specs.contracts.kept.Kept as kept
+use Rattle.c_sessions.specs.contracts.kept.Kept as kept
 
 -- the allocator, of which there is one
 abbrev pub global : Global

@@ -4,11 +4,11 @@ use Rattle.vm_store.specs.Facts.{StoreFacts}
 use Rattle.vm_store.specs.Host.{Host, host_facts}
 use Rattle.vm_store.specs.HostSystem.{host_system_facts}
 use Rattle.vm_store.specs.System.{SystemCalls}
-use Rattle.geos_c.specs.Files.{FileCalls}
+use Rattle.c_sessions.specs.Files.{FileCalls}
 use Rattle.geos_c.specs.declared.channel.Channel.{Channel}
 use Rattle.geos_c.specs.declared.channel.ChannelFile.{ChannelFile}
 use Rattle.geos_c.specs.declared.channel.Given.{Given}
-use Rattle.geos_c.specs.declared.files.FileNumber.{FileNumber}
+use Rattle.c_sessions.specs.declared.files.FileNumber.{FileNumber}
 
 abbrev pub FileStore : Type 0
 FileStore = Host ChannelFile

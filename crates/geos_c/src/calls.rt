@@ -1,10 +1,10 @@
 //! Calls on a session over any store, answered by codes.
 ghost use Rattle.std.specs.Prelude.{◌≡◌};
 ghost use Rattle.geos_c.specs.Calls.{AbandonsGroup, BeginsGroup, CountsLocks, Dirties, EndsGroup, LocksBlock, Redoes, Reverts, Saves, Undoes, UnlocksBlock, Updates};
-ghost use Rattle.geos_c.specs.Codes.{Tells};
+ghost use Rattle.c_sessions.specs.Codes.{Tells};
 ghost use Rattle.geos_c.specs.Edits.{Makes, number_of as number_done};
 
-use crate::codes::code_of;
+use c_sessions::code_of;
 use geos_model::{Done, Edit, VmHandle};
 use undo_log::Session;
 use vm_store::Store;

@@ -3,9 +3,9 @@ ghost use Rattle.std.specs.Prelude.{◌≡◌};
 ghost use Rattle.vm_store.specs.HostSystem.{host_system_facts, host_system_timely};
 ghost use Rattle.geos_c.specs.Stores.{channel_calls, given_calls, store_on};
 
-use crate::files::{FileNumber, ProgramFiles};
 use crate::message::{Operation, message};
 use byteorder::{ByteOrder, LittleEndian};
+use c_sessions::{FileNumber, ProgramFiles};
 use vm_store::{HostStore, StoreFault, System, SystemFault, SystemFile};
 
 /// The files of the program. There is no other way to one of them.

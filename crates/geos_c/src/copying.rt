@@ -2,8 +2,8 @@
 ghost use Rattle.std.specs.Prelude.{◌≡◌, IfOk};
 ghost use Rattle.geos_c.specs.Handles.{IsUncopied};
 
-use crate::codes::NOT_OPEN;
 use crate::handle::Handle;
+use c_sessions::NOT_OPEN;
 use geos_model::{Bytes, Fault};
 use std::alloc::{AllocError, Global};
 

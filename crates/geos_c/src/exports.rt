@@ -2,9 +2,9 @@
 ghost use Rattle.std.specs.Prelude.{◌≡◌, false, pos, true, MatchResult};
 ghost use Rattle.geos_model.specs.Refusal.{number_of_fault};
 ghost use Rattle.geos_c.specs.Calls.{AbandonsGroup, BeginsGroup, CountsLocks, Dirties, EndsGroup, LocksBlock, Redoes, Reverts, Saves, Undoes, UnlocksBlock, Updates};
-ghost use Rattle.geos_c.specs.Codes.{IsNamed};
+ghost use Rattle.c_sessions.specs.Codes.{IsNamed};
 ghost use Rattle.geos_c.specs.Handles.{Begins, ClosesHandle, HandsOutOnHandle, OnHandle, SavesOnHandle};
-ghost use Rattle.geos_c.specs.Keeping.{IsCreation, IsOpening};
+ghost use Rattle.c_sessions.specs.Keeping.{IsCreation, IsOpening};
 ghost use Rattle.geos_c.specs.Lines.{AnswersLine};
 ghost use Rattle.geos_c.specs.Stores.{facts};
 
@@ -13,11 +13,12 @@ use crate::calls::{
     update,
 };
 use crate::channel::{Channel, ChannelFile};
-use crate::codes::{BAD_ARGUMENT, NOT_OPEN, OPEN_ALREADY, fault_name};
-use crate::files::FileNumber;
 use crate::handle::{Handle, put, take};
-use crate::kept::{Kept, close, create, open, save_as};
 use crate::line::command;
+use c_sessions::{
+    BAD_ARGUMENT, FileNumber, Kept, NOT_OPEN, OPEN_ALREADY, close, create, fault_name, open,
+    save_as,
+};
 use geos_model::Fault;
 use std::alloc::Global;
 use vm_store::HostStore;

@@ -3,11 +3,11 @@ ghost use Rattle.std.specs.Prelude.{◌≡◌, true, false};
 ghost use Rattle.std.specs.Option.{MatchOption};
 ghost use Rattle.geos_c.specs.Owning.{kept_row};
 ghost use Rattle.geos_c.specs.Stores.{FileStore};
-ghost use Rattle.geos_c.specs.declared.kept.Kept.{Kept as KeptIn};
+ghost use Rattle.c_sessions.specs.declared.kept.Kept.{Kept as KeptIn};
 
 use crate::channel::ChannelFile;
-use crate::kept::Kept;
 use crate::loose::Loose;
+use c_sessions::Kept;
 use std::alloc::Global;
 use std::marker::Model;
 use std::mem::replace;

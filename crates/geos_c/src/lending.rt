@@ -4,7 +4,7 @@ ghost use Rattle.std.specs.Ptr.{as_ptr, null_ptr};
 ghost use Rattle.geos_model.specs.Reply.{BytesAre, reply_by};
 ghost use Rattle.geos_model.specs.declared.command.Command.TheVariants as commands;
 ghost use Rattle.geos_c.specs.Calls.{chunk as chunk_of, vm};
-ghost use Rattle.geos_c.specs.Codes.{Tells};
+ghost use Rattle.c_sessions.specs.Codes.{Tells};
 ghost use Rattle.geos_c.specs.Lending.{HandsOutPlace, IsLent, Lends};
 
 use geos_model::{ChunkHandle, Fault, VmHandle};

@@ -3,12 +3,9 @@
 
 mod calls;
 mod channel;
-mod codes;
 mod copying;
 mod exports;
-mod files;
 mod handle;
-mod kept;
 mod lending;
 mod line;
 mod look_ups;

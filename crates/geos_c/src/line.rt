@@ -1,7 +1,7 @@
 //! One line, answered as a line of a script.
 ghost use Rattle.geos_c.specs.Lines.{AnswersLine};
 
-use crate::codes::{UNTOLD, hand_out};
+use c_sessions::{UNTOLD, hand_out};
 use geos_shell::answer_line;
 use std::alloc::Global;
 use undo_log::Session;

@@ -4,10 +4,10 @@ ghost use Rattle.geos_model.specs.declared.command.Command.TheVariants as comman
 ghost use Rattle.geos_c.specs.LookUps.{ReadsBytes, TellsReply, asks_bytes, asks_handles, asks_number, asks_word};
 ghost use Rattle.geos_c.specs.Telling.{HandsOutEqual, HandsOutInfo, HandsOutNumber};
 
-use crate::codes::hand_out_answer;
 use crate::telling::{
     tell_blocks, tell_chunks, tell_count, tell_equal, tell_info, tell_size, tell_token, tell_type,
 };
+use c_sessions::hand_out_answer;
 use geos_model::{Command, VmHandle};
 use undo_log::Session;
 use vm_store::Store;

@@ -1,10 +1,10 @@
 //! What look-ups answer, handed out through references; 0 where they are refused.
 ghost use Rattle.std.specs.Prelude.{◌≡◌, if◌then◌else◌, length, nat_le, pos, slice_index};
 ghost use Rattle.geos_model.specs.Reply.{AreEqual, NumberIs, TokenIs, blocks_are, chunks_are, info_is, reply_by};
-ghost use Rattle.geos_c.specs.Codes.{HandsOut, HandsOutReply, cut_off};
+ghost use Rattle.c_sessions.specs.Codes.{HandsOut, HandsOutReply, cut_off};
 ghost use Rattle.geos_c.specs.Telling.{HandsOutEqual, HandsOutInfo, HandsOutNumber, numbers_of};
 
-use crate::codes::CUT_OFF;
+use c_sessions::CUT_OFF;
 use geos_model::{ChunkHandle, Fault, Info, Token, VmHandle};
 
 pub(crate) fn tell_size(answer: Result<usize, Fault>, number: &mut usize) -> i32

@@ -4,9 +4,9 @@ ghost use Rattle.geos_c.specs.Calls.{chunk as chunk_of, token as token_of, vm};
 ghost use Rattle.geos_c.specs.Handles.{Copies, CopiesAndTells, EditsOnHandle, MakesOnHandle};
 
 use crate::calls;
-use crate::codes::NOT_OPEN;
 use crate::copying::{copied, uncopied};
 use crate::handle::{Handle, put, take};
+use c_sessions::NOT_OPEN;
 use geos_model::{ChunkHandle, Edit, Token, VmHandle};
 use std::alloc::Global;
 

@@ -6,9 +6,9 @@ ghost use Rattle.geos_c.specs.Calls.{chunk as chunk_of, vm};
 ghost use Rattle.geos_c.specs.Handles.{OnHandle};
 ghost use Rattle.geos_c.specs.Lending.{Lends};
 
-use crate::codes::NOT_OPEN;
 use crate::handle::{Handle, put, take};
 use crate::lending::{lend_chunk, lend_raw, nowhere};
+use c_sessions::NOT_OPEN;
 use std::alloc::Global;
 
 /// Lends the bytes of a chunk of a locked block. `bytes` becomes their address and `length` how many there are; where

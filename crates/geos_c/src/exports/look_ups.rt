@@ -6,10 +6,10 @@ ghost use Rattle.geos_c.specs.Handles.{CopiesAndTells, EqualOnHandle, HandsOutOn
 ghost use Rattle.geos_c.specs.LookUps.{ReadsBytes, asks_bytes, asks_handles, asks_number, asks_word};
 ghost use Rattle.geos_c.specs.Stores.{facts};
 
-use crate::codes::NOT_OPEN;
 use crate::copying::{copied, uncopied};
 use crate::handle::{Handle, put, take};
 use crate::look_ups;
+use c_sessions::NOT_OPEN;
 use geos_model::{ChunkHandle, Command, Token, VmHandle};
 use std::alloc::Global;
 

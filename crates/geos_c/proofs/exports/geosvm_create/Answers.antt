@@ -1,5 +1,5 @@
 use Rattle.std.proofs.Common.{◌≡◌, sym, ap, ◌∙◌, arith, rules, to_z, of_z, to_z-of_z, w32}
-use Rattle.geos_c.specs.Keeping.{IsCreation}
+use Rattle.c_sessions.specs.Keeping.{IsCreation}
 use Rattle.geos_c.specs.Stores.{facts, file_number}
 use Rattle.geos_c.proofs.HandleCalls.{begins}
 use Rattle.geos_c.proofs.exports.geosvm_create.Goals as goal

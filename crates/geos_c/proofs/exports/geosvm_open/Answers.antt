@@ -1,5 +1,5 @@
 use Rattle.std.proofs.Common.{◌≡◌, sym, ap, ◌∙◌, arith, rules, to_z, of_z, to_z-of_z, w32}
-use Rattle.geos_c.specs.Keeping.{IsOpening}
+use Rattle.c_sessions.specs.Keeping.{IsOpening}
 use Rattle.geos_c.specs.Stores.{facts, file_number}
 use Rattle.geos_c.proofs.HandleCalls.{begins}
 use Rattle.geos_c.proofs.exports.geosvm_open.Goals as goal

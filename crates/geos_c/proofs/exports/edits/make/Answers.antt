@@ -1,5 +1,5 @@
 use Rattle.std.proofs.Common.{◌≡◌, rules, to_z, of_z, w32}
-use Rattle.geos_c.specs.Codes.{Tells}
+use Rattle.c_sessions.specs.Codes.{Tells}
 use Rattle.geos_c.specs.Edits.{Makes}
 use Rattle.geos_c.specs.Stores.{facts}
 use Rattle.geos_c.proofs.HandleCalls.{tells}

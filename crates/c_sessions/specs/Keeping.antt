@@ -1,15 +1,19 @@
 -- How a session is begun that is kept, and how it moves into another file of the program's.
-use Rattle.std.specs.Prelude.{◌≡◌, ◌≢◌, ◌⊎◌, ℕ, ℤ, Some, Result, Ok, IfOk, MatchResult}
+use Rattle.std.specs.Prelude.{◌≡◌, ◌≢◌, ◌⊎◌, ◌||◌, ℕ, ℤ, true, false, IsTrue, Some, Result, Ok, IfOk, MatchResult}
+use Rattle.geos_model.specs.Machine.{Step}
+use Rattle.geos_model.specs.Reply.{Accepted, Refused}
+use Rattle.geos_model.specs.declared.command.Command.TheVariants as commands
 use Rattle.geos_model.specs.declared.fault.Fault.{Fault}
 use Rattle.vm_store.specs.Facts.{StoreFacts}
+use Rattle.vm_blocks.specs.Committing.{IsSavedAs}
 use Rattle.vm_blocks.specs.Opening.{IsOpenedFrom, IsNotOpened, IsMadeIn, IsNotMade}
+use Rattle.undo_log.specs.Committing.{IsBusy, IsSaveAsRefused}
 use Rattle.undo_log.specs.Logging.{empty_log}
-use Rattle.undo_log.specs.Sessions.{file_of}
-use Rattle.geos_c.specs.Calls.{IsMovedTo, IsNotMovedTo}
-use Rattle.geos_c.specs.Codes.{Tells, bad_argument}
-use Rattle.geos_c.specs.Files.{BeginsOn, Begun, FileCalls, IsNotBegun, IsShut}
-use Rattle.geos_c.specs.declared.files.FileNumber.{FileNumber}
-use Rattle.geos_c.specs.declared.kept.Kept.{Kept}
+use Rattle.undo_log.specs.Sessions.{SessionState, IsExact, failed_since, file_of, machine_of}
+use Rattle.c_sessions.specs.Codes.{Tells, bad_argument}
+use Rattle.c_sessions.specs.Files.{BeginsOn, Begun, FileCalls, IsNotBegun, IsShut}
+use Rattle.c_sessions.specs.declared.files.FileNumber.{FileNumber}
+use Rattle.c_sessions.specs.declared.kept.Kept.{Kept}
 
 -- a session on what a store has, with so many frames and nothing to undo, or why there is none
 abbrev pub IsOpening : {S : Type 0} → (S → StoreFacts) → ℕ → S → Begun S → Type 0
@@ -32,6 +36,27 @@ abbrev pub IsBegun : {F S : Type 0} → FileCalls F S → (S → Begun S → Typ
 IsBegun calls is number old answer new = MatchResult answer
     (λ kept. (kept.number ≡ number) × BeginsOn calls is number old kept.session new)
     (λ fault. IsNotBegun calls is number old fault new)
+
+-- what a save-as that was accepted leaves: the session is in the target, and the store of the old file is left
+pub record IsMovedTo {S : Type 0} (facts : S → StoreFacts) (target former : S) (old new : SessionState S)
+    : Type 0 where
+  pub saved : IsSavedAs facts target former (file_of old) (file_of new)
+  pub step : IsExact facts old → IsTrue (facts target).honest
+      → IsExact facts new × Step false (machine_of true old) (Some commands.SaveAs) Accepted (machine_of false new)
+  pub lists : new.log ≡ old.log
+  pub resident : new.resident ≡ old.resident
+
+-- one that was refused: the session stays where it is, and the target is left so
+pub record IsNotMovedTo {S : Type 0} (facts : S → StoreFacts) (target left : S) (old new : SessionState S)
+    (fault : Fault) : Type 0 where
+  pub refused : IsSaveAsRefused facts target left old new fault
+  pub step : IsExact facts old → IsExact facts new
+      × Step (failed_since (facts old.disk.store) (facts new.disk.store) || failed_since (facts target) (facts left))
+      (machine_of true old) (Some commands.SaveAs) (Refused fault) (machine_of true new)
+  -- what is busy is refused before all else
+  pub held : (busy : Fault) → IsBusy old busy → (fault ≡ busy) × (left ≡ target) × (new ≡ old)
+  pub lists : new.log ≡ old.log
+  pub resident : new.resident ≡ old.resident
 
 -- The file with this number was opened and saved into, and the session is in it; the store of the file that it left was
 -- closed as the save-as left it, and no other call was made.

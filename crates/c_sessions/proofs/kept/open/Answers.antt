@@ -1,6 +1,6 @@
-use Rattle.geos_c.specs.Keeping.{IsOpening}
-use Rattle.geos_c.proofs.Keepings.{begins}
-use Rattle.geos_c.proofs.kept.open.Goals as goal
+use Rattle.c_sessions.specs.Keeping.{IsOpening}
+use Rattle.c_sessions.proofs.Keepings.{begins}
+use Rattle.c_sessions.proofs.kept.open.Goals as goal
 
 pub returns-in-Ok : goal.returns-in-Ok
 returns-in-Ok g c =

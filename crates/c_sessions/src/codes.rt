@@ -2,28 +2,28 @@
 ghost use Rattle.std.specs.Prelude.{◌≡◌, ◌⊎◌, ◌≤◌, ◌≤ℤ◌, pos, IfSome, None, is_some, true};
 ghost use Rattle.geos_model.specs.Refusal.{number_of_fault, name_of_fault};
 ghost use Rattle.geos_model.specs.Reply.{BytesAre, reply_by};
-ghost use Rattle.geos_c.specs.Codes.{HandsOut, HandsOutReply, IsNamed, code_of as code_told};
+ghost use Rattle.c_sessions.specs.Codes.{HandsOut, HandsOutReply, IsNamed, code_of as code_told};
 
 use crate::files::ProgramFiles;
 use geos_model::Fault;
 
 /// The handle has no session.
-pub(crate) const NOT_OPEN: i32 = 100;
+pub const NOT_OPEN: i32 = 100;
 
 /// The handle has a session already.
-pub(crate) const OPEN_ALREADY: i32 = 101;
+pub const OPEN_ALREADY: i32 = 101;
 
 /// A number is out of its bounds, or the session's own.
-pub(crate) const BAD_ARGUMENT: i32 = 102;
+pub const BAD_ARGUMENT: i32 = 102;
 
 /// The buffer took a part.
-pub(crate) const CUT_OFF: i32 = 103;
+pub const CUT_OFF: i32 = 103;
 
 /// There was no memory for the line or for the text of its reply.
-pub(crate) const UNTOLD: i32 = 104;
+pub const UNTOLD: i32 = 104;
 
 /// 0, or the number of the fault.
-pub(crate) fn code_of(answer: Result<(), Fault>) -> i32
+pub fn code_of(answer: Result<(), Fault>) -> i32
     ensures { result ≡ code_told answer }
 {
     match answer {
@@ -72,7 +72,7 @@ fn fault_of(code: i32) -> Option<Fault>
 }
 
 /// Puts as many of the bytes as fit into the buffer, and how many there are into the length.
-pub(crate) fn hand_out(bytes: &[u8], buffer: &mut [u8], length: &mut usize) -> i32
+pub fn hand_out(bytes: &[u8], buffer: &mut [u8], length: &mut usize) -> i32
     ensures { HandsOut bytes.now buffer.old buffer.new length.new result }
 {
     let most = bytes.len().min(buffer.len());
@@ -82,11 +82,7 @@ pub(crate) fn hand_out(bytes: &[u8], buffer: &mut [u8], length: &mut usize) -> i
 }
 
 /// Hands out the bytes that were asked for, or nothing, where they are refused.
-pub(crate) fn hand_out_answer(
-    answer: Result<&[u8], Fault>,
-    buffer: &mut [u8],
-    length: &mut usize,
-) -> i32
+pub fn hand_out_answer(answer: Result<&[u8], Fault>, buffer: &mut [u8], length: &mut usize) -> i32
     ensures { HandsOutReply (reply_by (λ bytes. BytesAre bytes.now) answer.entry)
         buffer.old buffer.new length.new result }
 {
@@ -100,7 +96,7 @@ pub(crate) fn hand_out_answer(
 }
 
 /// Hands out the name of the fault that has this number.
-pub(crate) fn fault_name<F: ProgramFiles>(
+pub fn fault_name<F: ProgramFiles>(
     files: &mut F,
     code: i32,
     name: &mut [u8],

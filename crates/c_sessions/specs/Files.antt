@@ -6,7 +6,7 @@ use Rattle.vm_store.specs.Facts.{StoreFacts}
 use Rattle.vm_store.specs.declared.fault.StoreFault.{StoreFault}
 use Rattle.vm_file.specs.declared.file.Refused.{Refused}
 use Rattle.undo_log.specs.Sessions.{SessionState}
-use Rattle.geos_c.specs.declared.files.FileNumber.{FileNumber}
+use Rattle.c_sessions.specs.declared.files.FileNumber.{FileNumber}
 
 -- what the calls do, from one state to another
 pub record FileCalls (F S : Type 0) : Type 1 where

@@ -1,7 +1,7 @@
 //! What is kept behind a handle: a session, which no call takes its store from but those below, that close it.
 ghost use Rattle.std.specs.Prelude.{◌≡◌, ◌≤◌, Ok, MatchResult};
-ghost use Rattle.geos_c.specs.Files.{BeginsOn, IsNotBegun, fault_of, left_by};
-ghost use Rattle.geos_c.specs.Keeping.{IsCreation, IsMoved, IsNotMoved, IsOpening, SavesInto};
+ghost use Rattle.c_sessions.specs.Files.{BeginsOn, IsNotBegun, fault_of, left_by};
+ghost use Rattle.c_sessions.specs.Keeping.{IsCreation, IsMoved, IsNotMoved, IsOpening, SavesInto};
 
 use crate::codes::{BAD_ARGUMENT, code_of};
 use crate::files::{FileNumber, ProgramFiles};
@@ -13,9 +13,9 @@ use vm_store::Store;
 
 /// A session, and the number of the file that it is in.
 #[derive(Drop)]
-pub(crate) struct Kept<S: Store> {
-    pub(crate) number: FileNumber,
-    pub(crate) session: Session<S>,
+pub struct Kept<S: Store> {
+    pub number: FileNumber,
+    pub session: Session<S>,
 }
 
 /// A session that is kept, or why there is none.
@@ -23,7 +23,7 @@ type Keeping<F> = Result<Box<Kept<<F as ProgramFiles>::Opened>>, Fault>;
 
 /// Opens the document of the file that has a number. File also where the file can't be opened, in which case nothing is
 /// done to it; where no session is begun its store is closed as it was left.
-pub(crate) fn open<F: ProgramFiles>(
+pub fn open<F: ProgramFiles>(
     alloc: Global,
     files: &mut F,
     number: FileNumber,
@@ -42,7 +42,7 @@ pub(crate) fn open<F: ProgramFiles>(
 }
 
 /// Makes the file that has a number an empty document, likewise.
-pub(crate) fn create<F: ProgramFiles>(
+pub fn create<F: ProgramFiles>(
     alloc: Global,
     files: &mut F,
     number: FileNumber,
@@ -104,7 +104,7 @@ fn keep<F: ProgramFiles>(
 }
 
 /// Gives a session up. Its store is closed as it is, and nothing is written.
-pub(crate) fn close<F: ProgramFiles>(files: &mut F, kept: Kept<F::Opened>)
+pub fn close<F: ProgramFiles>(files: &mut F, kept: Kept<F::Opened>)
     ensures { F.calls.closes files.old kept.session.disk.store files.new }
 {
     files.close(kept.session.close());
@@ -139,7 +139,7 @@ fn move_to<F: ProgramFiles>(
 
 /// Saves into another file of the program's, and goes on in that. The number that the session has itself is refused
 /// before anything is called.
-pub(crate) fn save_as<F: ProgramFiles>(
+pub fn save_as<F: ProgramFiles>(
     files: &mut F,
     kept: &mut Kept<F::Opened>,
     number: FileNumber,

@@ -1,9 +1,9 @@
 -- What opening a file and keeping a session come to together.
 use Rattle.std.proofs.Common.{◌≡◌, None, Result, Ok, Err, MatchResult, sym, subst, inr}
 use Rattle.geos_model.specs.declared.fault.Fault.{Fault}
-use Rattle.geos_c.specs.Files.{BeginsOn, Begun, FileCalls, IsNotBegun, fault_of, left_by}
-use Rattle.geos_c.specs.declared.files.FileNumber.{FileNumber}
-use Rattle.geos_c.specs.declared.kept.Kept.{Kept}
+use Rattle.c_sessions.specs.Files.{BeginsOn, Begun, FileCalls, IsNotBegun, fault_of, left_by}
+use Rattle.c_sessions.specs.declared.files.FileNumber.{FileNumber}
+use Rattle.c_sessions.specs.declared.kept.Kept.{Kept}
 
 module _ {F S B : Type 0} (calls : FileCalls F S) (is : S → Begun S → Type 0) (number : FileNumber) (value : B → Kept S)
     (old opened new : F) (store : S) (begun : Begun S) (opens : calls.opens old number None (Ok store) opened) (began : is store begun) where

@@ -1,6 +1,6 @@
-use Rattle.geos_c.specs.Keeping.{IsCreation}
-use Rattle.geos_c.proofs.Keepings.{begins}
-use Rattle.geos_c.proofs.kept.create.Goals as goal
+use Rattle.c_sessions.specs.Keeping.{IsCreation}
+use Rattle.c_sessions.proofs.Keepings.{begins}
+use Rattle.c_sessions.proofs.kept.create.Goals as goal
 
 pub returns-in-Ok : goal.returns-in-Ok
 returns-in-Ok g c =

@@ -1,15 +1,15 @@
 //! Who has the files that a program gave numbers: the channel for programs.
-ghost use Rattle.geos_c.specs.Files.{FileCalls};
+ghost use Rattle.c_sessions.specs.Files.{FileCalls};
 
 use vm_store::{Store, StoreFault};
 
 /// What a program calls a file of its own.
 #[derive(Clone, Copy, PartialEq, Eq)]
-pub(crate) struct FileNumber(pub(crate) i32);
+pub struct FileNumber(pub i32);
 
 /// Who has the files. What its calls do is known by the relations of `calls` alone, so that where a contract has one of
 /// them, just that call was made.
-pub(crate) trait ProgramFiles {
+pub trait ProgramFiles {
     /// What a file is opened as.
     type Opened: Store;
 
