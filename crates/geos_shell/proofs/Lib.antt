@@ -9,12 +9,9 @@ pub mod Lasting
 pub mod Lines
 pub mod LookUps
 pub mod Manners
-pub mod Matched
-pub mod NewFlag
 pub mod ReadsMade
 pub mod Refusals
 pub mod Replying
 pub mod Runs
 pub mod Serving
 pub mod Steps
-pub mod Telling
