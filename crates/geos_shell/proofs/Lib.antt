@@ -5,6 +5,7 @@ pub mod Composed
 pub mod Failures
 pub mod FileFaults
 pub mod Frames
+pub mod InMemory
 pub mod Lasting
 pub mod Lines
 pub mod LookUps
