@@ -1,29 +1,26 @@
 -- Outcomes that are no fault of a run that read or wrote.
-use Rattle.std.proofs.Common.{◌≡◌, List, inl, inr}
-use Rattle.clap.specs.Words.{Text}
+use Rattle.std.proofs.Common.{◌≡◌, inl, inr, subst, sym}
 use Rattle.vm_store.specs.Facts.{StoreFacts}
 use Rattle.vm_store.specs.Files.{Opener}
-use Rattle.geos_shell.specs.Options.{CommandLine, RefusesWords}
-use Rattle.geos_shell.specs.Outcome.{HasRunCause, IsUnread}
+use Rattle.command_lines.specs.Options.{CommandLine}
+use Rattle.command_lines.specs.declared.asked.NoOptions.{NoOptions}
+use Rattle.command_lines.specs.declared.asked.NoOptions.TheVariants as no_options
+use Rattle.geos_shell.specs.Outcome.{HasRunCause, IsUnread, without_options}
 use Rattle.geos_shell.specs.Program.{IsNotBegun}
 use Rattle.geos_shell.specs.declared.outcome.Outcome.{Outcome}
 use Rattle.geos_shell.specs.declared.outcome.Outcome.TheVariants as outcomes
 use Rattle.geos_shell.specs.declared.runner.RunFault.TheVariants as faults
 
 -- where the words give no options
-pub refused_cause : (P Q : Type 0) (words : List Text) (outcome : Outcome) → RefusesWords words outcome → HasRunCause outcome P Q
-refused_cause P Q words (outcomes.Run faults.Memory) h = tt
-refused_cause P Q words (outcomes.Run faults.Refused) h = tt
-refused_cause P Q words (outcomes.Run faults.Read) h = absurd h
-refused_cause P Q words (outcomes.Run faults.Write) h = absurd h
-refused_cause P Q words (outcomes.Usage text) h = tt
-refused_cause P Q words (outcomes.Help text) h = tt
-refused_cause P Q words (outcomes.Version text) h = tt
-refused_cause P Q words outcomes.SameFile h = tt
-refused_cause P Q words (outcomes.Create fault) h = tt
-refused_cause P Q words (outcomes.Open fault) h = tt
-refused_cause P Q words outcomes.Target h = tt
-refused_cause P Q words outcomes.Done h = tt
+pub refused_cause : (P Q : Type 0) (none : NoOptions) (outcome : Outcome) → outcome ≡ without_options none → HasRunCause outcome P Q
+refused_cause P Q none outcome is = subst (λ (o : Outcome). HasRunCause o P Q) (sym is) (by none)
+  where
+    by : (none : NoOptions) → HasRunCause (without_options none) P Q
+    by (no_options.Usage text) = tt
+    by (no_options.Help text) = tt
+    by (no_options.Version text) = tt
+    by no_options.SameFile = tt
+    by no_options.Memory = tt
 
 -- where the words couldn't be read
 pub unread_cause : (P Q : Type 0) (outcome : Outcome) → IsUnread outcome → HasRunCause outcome P Q

@@ -5,16 +5,14 @@ pub mod Composed
 pub mod Failures
 pub mod FileFaults
 pub mod Frames
+pub mod InMemory
 pub mod Lasting
 pub mod Lines
 pub mod LookUps
 pub mod Manners
-pub mod Matched
-pub mod NewFlag
 pub mod ReadsMade
 pub mod Refusals
 pub mod Replying
 pub mod Runs
 pub mod Serving
 pub mod Steps
-pub mod Telling

@@ -1,5 +1,5 @@
 -- A reply's line is what is written for its request.
-use Rattle.std.proofs.Common.{◌≡◌, List, ℕ, ◌++◌, Bool, true, false, length, refl, sym, ap, subst, Option, Result, Ok, OnOk, OnErr, IfErr, IsTrue, Err, Some, inr, ◌∷◌, [], ◌∙◌, is_err, rules, None}
+use Rattle.std.proofs.Common.{◌≡◌, List, ℕ, ◌++◌, Bool, true, false, length, refl, sym, ap, subst, Option, Result, Ok, OnOk, OnErr, IfErr, IsTrue, Err, Some, inr, ◌∷◌, [], ◌∙◌, is_err, is_ok, rules, None}
 use Rattle.std.specs.Prelude.{IsOkAnd, MatchResult}
 use Rattle.std.proofs.lemmas.List.{append_assoc, take_at}
 use Rattle.geos_model.specs.Reply.{Accepted, Refused, Reply, reply_by, reply_of, reply_of_done}
@@ -15,7 +15,7 @@ use Rattle.geos_model.specs.declared.command.Done.TheVariants as done
 use Rattle.vm_store.specs.Facts.{StoreFacts, FailedSince}
 use Rattle.undo_log.specs.Sessions.{SessionState, AnswersAlongChain, AnswersLookUp, IsStep, KeepsSession, failed_since, machine_of}
 use Rattle.undo_log.proofs.Keeping.{kept_frames, kept_passes, keeps_refl}
-use Rattle.geos_shell.specs.Holdings.{AnswersRequest, AreExact, CommitsNothing, Holding, IsTakenIfSure, KeepsHolding, LeavesFiles, MayServe, ServesRequest, SameFiles, failed_since_in, holding, machine}
+use Rattle.geos_shell.specs.Holdings.{AnswersRequest, AreExact, CommitsNothing, Holding, IsTakenIfSure, KeepsHolding, LeavesFiles, LeavesInMemory, MayServe, ServesRequest, SameFiles, failed_since_in, holding, machine}
 use Rattle.geos_shell.specs.Manners.{is_refusal}
 use Rattle.geos_shell.specs.Replies.{Extends, Replied, Responds, Told, asks_no_body, is_look_up}
 use Rattle.geos_shell.proofs.FileFaults.{IsFailure, failed_in, file_along, file_at_rest, file_seen}
@@ -36,26 +36,28 @@ module _ {S : Type 0} (facts : S → StoreFacts) where
   -- what a call of a session answers a command, where it is refused and where it isn't, and a call that puts its text
   pub replied : {A T E : Type 0} (put : Result T E) (f : A → Reply) (r : Result A Fault) (old new : Holding S) (c : Command) (before after : List ℕ)
       → ((x : A) → is_refusal (f x) ≡ false) → OnErr r (KeepsHolding facts old new) → IfErr r (λ fault. fault ≡ faults.File → IsTrue (failed_since_in facts old new))
-      → new.session.frames ≡ old.session.frames → (AreExact facts old → ServesRequest facts old (Some c) (reply_by f r) new) → OnOk put (after ≡ before ++ reply_text (reply_by f r))
-      → Replied put facts old c new before after
-  replied put f (Ok x) old new c before after other keeps file frames serves said =
+      → new.session.frames ≡ old.session.frames → (AreExact facts old → ServesRequest facts old (Some c) (reply_by f r) new) → (is_ok r ≡ true → LeavesInMemory (Some c) new.session)
+      → OnOk put (after ≡ before ++ reply_text (reply_by f r)) → Replied put facts old c new before after
+  replied put f (Ok x) old new c before after other keeps file frames serves in_memory said =
       record {
         reply = f x;
         answers = record {
           keeps = λ refusal. absurd (cc (refusal, other x));
           file = λ is. let no : false ≡ true = sym (other x) ∙ ap is_refusal is in absurd (cc no);
           frames = frames;
+          in_memory = λ accepted. in_memory refl;
           serves = serves;
         };
         text = said;
       }
-  replied put f (Err fault) old new c before after other keeps file frames serves said =
+  replied put f (Err fault) old new c before after other keeps file frames serves in_memory said =
       record {
         reply = Refused fault;
         answers = record {
           keeps = λ refusal. keeps;
           file = λ is. let same : fault ≡ faults.File = cc is in file same;
           frames = frames;
+          in_memory = λ accepted. cc accepted;
           serves = serves;
         };
         text = said;
@@ -71,16 +73,19 @@ module _ {S : Type 0} (facts : S → StoreFacts) where
     pub replied_left : {A T E : Type 0} (put : Result T E) (f : A → Reply) (r : Result A Fault) (c : Command) (before after : List ℕ)
         → ((x : A) → is_refusal (f x) ≡ false) → OnErr r (KeepsHolding facts (holding old target former) (holding new target former)) → IfErr r (IsFailure facts old.disk.store new.disk.store)
         → new.frames ≡ old.frames → (AreExact facts (holding old target former) → ServesRequest facts (holding old target former) (Some c) (reply_by f r) (holding new target former))
+        → (is_ok r ≡ true → LeavesInMemory (Some c) new)
         → OnOk put (after ≡ before ++ reply_text (reply_by f r)) → Replied put facts (holding old target former) c (holding new target former) before after
-    replied_left put f r c before after other keeps file frames serves said =
-        replied put f r (holding old target former) (holding new target former) c before after other keeps (failures_in r file) frames serves said
+    replied_left put f r c before after other keeps file frames serves in_memory said =
+        replied put f r (holding old target former) (holding new target former) c before after other keeps (failures_in r file) frames serves in_memory said
 
     -- accepted, or refused
     pub replied_accepted : {T E : Type 0} (put : Result T E) (r : Result (Unit {0}) Fault) (c : Command) (before after : List ℕ)
         → OnErr r (KeepsHolding facts (holding old target former) (holding new target former)) → IfErr r (IsFailure facts old.disk.store new.disk.store) → new.frames ≡ old.frames
         → (AreExact facts (holding old target former) → ServesRequest facts (holding old target former) (Some c) (reply_by (λ _. Accepted) r) (holding new target former))
+        → (is_ok r ≡ true → LeavesInMemory (Some c) new)
         → OnOk put (after ≡ before ++ reply_text (reply_by (λ _. Accepted) r)) → Replied put facts (holding old target former) c (holding new target former) before after
-    replied_accepted put r c before after keeps file frames serves said = replied_left put (λ _. Accepted) r c before after (λ x. refl) keeps file frames serves said
+    replied_accepted put r c before after keeps file frames serves in_memory said =
+        replied_left put (λ _. Accepted) r c before after (λ x. refl) keeps file frames serves in_memory said
 
   -- a look-up commits nothing
   leaves : (c : Command) (old new : Holding S) (reply : Reply) → is_look_up c ≡ true → (asks_no_body c ≡ true → SameFiles old new) → CommitsNothing facts old new → LeavesFiles facts old (Some c) reply new
@@ -108,6 +113,14 @@ module _ {S : Type 0} (facts : S → StoreFacts) where
   unsure commands.Abandon old new reply asks = cc asks
   unsure c old new reply asks = tt
 
+  -- nor any other command of which it is said what is in memory afterwards
+  untold : (c : Command) (s : SessionState S) → is_look_up c ≡ true → LeavesInMemory (Some c) s
+  untold (commands.Edit e) s asks = cc asks
+  untold commands.Undo s asks = cc asks
+  untold commands.Redo s asks = cc asks
+  untold (commands.Lock b) s asks = cc asks
+  untold c s asks = tt
+
   -- what was told of a look-up
   pub replied_told : {T E : Type 0} (put : Result T E) (old new : SessionState S) (target former : Option S) (c : Command) (before after : List ℕ)
       → is_look_up c ≡ true → (asks_no_body c ≡ true → new ≡ old) → Told put facts old c new before after
@@ -122,6 +135,7 @@ module _ {S : Type 0} (facts : S → StoreFacts) where
           keeps = λ refusal. keeps_with facts target former old new t.keeps;
           file = λ is. failed_in facts old new target former (t.file is);
           frames = kept_frames facts old new t.keeps;
+          in_memory = λ accepted. untold c new asks;
           serves = serves_passing facts old new target former c t.reply (kept_passes facts old new t.keeps) t.step (leaves c first last t.reply asks stays) (unsure c old new t.reply asks);
         };
         text = t.text;
@@ -184,8 +198,10 @@ module _ {S T E A : Type 0} (facts : S → StoreFacts) (put : Result T E) (c : C
   pub replied_mapped : (old new : SessionState S) (target former : Option S) → ((x : A) → is_refusal (f x) ≡ false) → OnErr r (KeepsHolding facts (holding old target former) (holding new target former))
       → IfErr r (IsFailure facts old.disk.store new.disk.store) → new.frames ≡ old.frames
       → (AreExact facts (holding old target former) → ServesRequest facts (holding old target former) (Some c) (reply_by f r) (holding new target former))
+      → (is_ok r ≡ true → LeavesInMemory (Some c) new)
       → Replied put facts (holding old target former) c (holding new target former) before after
-  replied_mapped old new target former other keeps file frames serves = replied_left facts old new target former put f r c before after other keeps file frames serves put_so
+  replied_mapped old new target former other keeps file frames serves in_memory =
+      replied_left facts old new target former put f r c before after other keeps file frames serves in_memory put_so
 
 -- a look-up that is never refused and calls no store, whose answer is made a reply, and that put
 pub told_given_at_rest : {S T E : Type 0} (facts : S → StoreFacts) (put : Result T E) (c : Command) (reply : Reply) (made : GivenReply → Type 0) (m : Result GivenReply Fault)
@@ -222,5 +238,5 @@ responds_bad facts old before mid after text feed =
     let step : Step (failed_since_in facts old old) (machine old) None (Refused faults.BadCommand) (machine old) = search rules in
     let serves : AreExact facts old → ServesRequest facts old None (Refused faults.BadCommand) old = λ exact.
     record { exact = exact; step = step; files = record { disk = refl; target = refl; former = refl }; sure = tt } in
-    let answers : AnswersRequest facts old None (Refused faults.BadCommand) old = record { keeps = λ refusal. keeps_all facts old; file = λ is. cc is; frames = refl; serves = serves } in
+    let answers : AnswersRequest facts old None (Refused faults.BadCommand) old = record { keeps = λ refusal. keeps_all facts old; file = λ is. cc is; frames = refl; in_memory = λ accepted. tt; serves = serves } in
     (Refused faults.BadCommand, answers, feed ∙ ap (λ l. l ++ 10 ∷ []) text ∙ append_assoc before (reply_text (Refused faults.BadCommand)) (10 ∷ []))

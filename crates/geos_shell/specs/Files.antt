@@ -1,9 +1,8 @@
 -- Which files a run of the program opens.
 use Rattle.std.specs.Prelude.{◌≡◌, ◌⊎◌, true, Option, Some, None, Ok, Err}
-use Rattle.clap.specs.Words.{Text}
 use Rattle.vm_store.specs.declared.fault.StoreFault.{StoreFault}
 use Rattle.vm_store.specs.Files.{Opener}
-use Rattle.geos_shell.specs.Options.{CommandLine}
+use Rattle.command_lines.specs.Options.{CommandLine, Text}
 
 -- FILE is opened, after the streams are guarded; it is made only where that is asked for
 pub record OpensFile {F S : Type 0} (calls : Opener F S) (line : CommandLine) (old : F) (store : S) (new : F)

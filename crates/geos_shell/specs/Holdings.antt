@@ -1,15 +1,20 @@
 -- What the caller of a session holds, and what a request that is served makes of it.
-use Rattle.std.specs.Prelude.{◌≡◌, ◌⊎◌, ◌≤◌, ◌||◌, Bool, false, IsTrue, List, [], ◌∷◌, Option, Some, None, is_some, IfSome, Result, Ok, Err, IfErr}
-use Rattle.geos_model.specs.Machine.{Machine, Request, Call, Step}
+use Rattle.std.specs.Prelude.{◌≡◌, ◌⊎◌, ◌≤◌, ◌||◌, Bool, true, false, IsTrue, List, [], ◌∷◌, Option, Some, None, is_some, IfSome, Result, Ok, Err, IfErr}
+use Rattle.geos_model.specs.Machine.{Machine, Request, Call, Step, kind_of}
 use Rattle.geos_model.specs.Reply.{Reply, Accepted, Refused}
 use Rattle.geos_model.specs.declared.fault.Fault.{Fault}
 use Rattle.geos_model.specs.declared.fault.Fault.TheVariants.{File}
 use Rattle.geos_model.specs.declared.command.Command.TheVariants as commands
+use Rattle.geos_model.specs.declared.command.Kind.{Kind}
+use Rattle.geos_model.specs.declared.command.Kind.TheVariants.{In}
+use Rattle.geos_model.specs.declared.handle.VmHandle.{VmHandle}
 use Rattle.vm_store.specs.Facts.{StoreFacts, FailedSince}
 use Rattle.vm_file.specs.Disk.{Disk, MayCommit, IsCrashConsistent, HasSequence, KeepsCommitted, SameUnlessCorrupt}
 use Rattle.vm_file.specs.Documents.{Documents}
-use Rattle.undo_log.specs.Sessions.{SessionState, IsExact, locks_in, machine_of, failed_since}
-use Rattle.undo_log.specs.Logging.{open_changes}
+use Rattle.vm_blocks.specs.Keeping.{is_loaded}
+use Rattle.undo_log.specs.Sessions.{SessionState, IsExact, cache_of, locks_in, machine_of, failed_since}
+use Rattle.undo_log.specs.Logging.{kind_of_entry, open_changes}
+use Rattle.undo_log.specs.declared.entry.LogEntry.{LogEntry}
 use Rattle.undo_log.specs.Turning.{IsSure, IsSureGroup, abandon_fault, busy_fault}
 use Rattle.chunk_edits.specs.declared.direction.Direction.TheVariants.{Forwards, Backwards}
 use Rattle.geos_shell.specs.Manners.{is_refusal}
@@ -166,13 +171,33 @@ pub record KeepsHolding {S : Type 0} (facts : S → StoreFacts) (old new : Holdi
   pub target : is_some new.target ≡ is_some old.target
   pub former : new.former ≡ old.former
 
+-- The block of a step within one is in memory.
+abbrev pub HasBlockInMemory : {S : Type 0} → Kind → SessionState S → Type 0
+HasBlockInMemory kind s = (b : VmHandle) → kind ≡ In b → is_loaded (cache_of s) b.0 ≡ true
+
+-- so is that of the next entry of a list of the log
+abbrev pub HasNextInMemory : {S : Type 0} → List LogEntry → SessionState S → Type 0
+HasNextInMemory [] s = Unit {0}
+HasNextInMemory (e ∷ es) s = HasBlockInMemory (kind_of_entry e) s
+
+-- What is in memory behind an accepted request: the block of an edit within one, and that of the step that an undo or a
+-- redo took, so that to take it the other way is sure; and a block that is locked.
+abbrev pub LeavesInMemory : {S : Type 0} → Request → SessionState S → Type 0
+LeavesInMemory (Some (commands.Edit edit)) s = HasBlockInMemory (kind_of edit) s
+LeavesInMemory (Some commands.Undo) s = HasNextInMemory s.log.redo s
+LeavesInMemory (Some commands.Redo) s = HasNextInMemory s.log.undo s
+LeavesInMemory (Some (commands.Lock b)) s = is_loaded (cache_of s) b.0 ≡ true
+LeavesInMemory request s = Unit {0}
+
 -- The request is answered so over any store: a refusal leaves all, a file fault is answered only where a store failed in
--- this very call, and there are as many frames as before. Where all is exact the request is served.
+-- this very call, there are as many frames as before, and what an accepted request works on is in memory. Where all is
+-- exact the request is served.
 pub record AnswersRequest {S : Type 0} (facts : S → StoreFacts) (old : Holding S) (request : Request) (reply : Reply)
     (new : Holding S) : Type 0 where
   pub keeps : IsTrue (is_refusal reply) → KeepsHolding facts old new
   pub file : reply ≡ Refused File → IsTrue (failed_since_in facts old new)
   pub frames : new.session.frames ≡ old.session.frames
+  pub in_memory : is_refusal reply ≡ false → LeavesInMemory request new.session
   pub serves : AreExact facts old → ServesRequest facts old request reply new
 
 -- Nothing is done, or the request is answered by a reply that isn't told.

@@ -1,7 +1,6 @@
 pub mod Files
 pub mod Holdings
 pub mod Manners
-pub mod Options
 pub mod Outcome
 pub mod Program
 pub mod Progress

@@ -5,6 +5,8 @@ use Rattle.geos_model.specs.Script.{line_feed}
 use Rattle.geos_model.specs.Refusal.{number_of_fault, name_of_fault}
 use Rattle.geos_model.specs.declared.fault.Fault.{Fault}
 use Rattle.geos_model.specs.declared.fault.Fault.TheVariants.{File}
+use Rattle.command_lines.specs.declared.asked.NoOptions.{NoOptions}
+use Rattle.command_lines.specs.declared.asked.NoOptions.TheVariants as no_options
 use Rattle.geos_shell.specs.declared.runner.RunFault.{RunFault}
 use Rattle.geos_shell.specs.declared.runner.RunFault.TheVariants as faults
 use Rattle.geos_shell.specs.declared.streams.WriteFault.{WriteFault}
@@ -12,6 +14,14 @@ use Rattle.geos_shell.specs.RunFaults.{HasCause, run_fault_text}
 use Rattle.geos_shell.specs.Streams.{Writes}
 use Rattle.geos_shell.specs.declared.outcome.Outcome.{Outcome}
 use Rattle.geos_shell.specs.declared.outcome.Outcome.TheVariants as outcomes
+
+-- what a run comes to whose words give no options
+abbrev pub without_options : NoOptions → Outcome
+without_options (no_options.Usage text) = outcomes.Usage text
+without_options (no_options.Help text) = outcomes.Help text
+without_options (no_options.Version text) = outcomes.Version text
+without_options no_options.SameFile = outcomes.SameFile
+without_options no_options.Memory = outcomes.Run faults.Memory
 
 -- the exit status
 abbrev pub status_of : Outcome → ℕ

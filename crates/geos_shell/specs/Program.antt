@@ -1,6 +1,5 @@
 -- What a run of the program comes to, and what becomes of the files that its words name.
 use Rattle.std.specs.Prelude.{◌≡◌, ◌≢◌, ◌⊎◌, ℕ, ◌≤◌, List, [], Bool, true, false, Option, Some, None, IsTrue, Ok, Err}
-use Rattle.clap.specs.Words.{Text}
 use Rattle.geos_model.specs.File.{stands}
 use Rattle.geos_model.specs.Machine.{empty_machine, opened_machine}
 use Rattle.geos_model.specs.declared.fault.Fault.{Fault}
@@ -11,9 +10,11 @@ use Rattle.vm_file.specs.Disk.{IsCrashConsistent, HasSequence}
 use Rattle.vm_file.specs.Documents.{sequence_in}
 use Rattle.undo_log.specs.Sessions.{SessionState, IsExact, machine_of}
 use Rattle.vm_store.specs.Files.{Opener}
+use Rattle.command_lines.specs.Options.{CommandLine, IsUsable, RefusesWords, Text, command_line}
+use Rattle.command_lines.specs.declared.asked.NoOptions.{NoOptions}
 use Rattle.geos_shell.specs.Files.{OpensFile, FileFails, OpensTarget, TargetFails, ClosesAny}
-use Rattle.geos_shell.specs.Options.{CommandLine, IsUsable, RefusesWords, command_line}
 use Rattle.geos_shell.specs.Holdings.{Holding, holding}
+use Rattle.geos_shell.specs.Outcome.{without_options}
 use Rattle.geos_shell.specs.Runs.{AnswersAll, EndsBy}
 use Rattle.geos_shell.specs.declared.outcome.Outcome.{Outcome}
 use Rattle.geos_shell.specs.declared.outcome.Outcome.TheVariants as outcomes
@@ -133,6 +134,10 @@ pub record RunsOn {F S : Type 0} (calls : Opener F S) (Ends : Holding S → Type
   pub ends : Ends left
   pub closes : Closes calls left old new
 
+-- the manner that a command line asks for
+abbrev pub manner_of : CommandLine → Manner
+manner_of line = record { bails = line.bails; echoes = line.echoes }
+
 -- ---- outcomes
 
 -- FILE can't be opened, which is told by what was to be done with it
@@ -173,7 +178,7 @@ pub record ServesFiles {F S : Type 0} (calls : Opener F S) (facts : S → StoreF
   pub target : Option S
   pub begins : FromFile calls line old
       (λ store opened. BeginsSession calls facts line store opened session target begun)
-  pub answers : IsScriptAnswered calls facts line.manner
+  pub answers : IsScriptAnswered calls facts (manner_of line)
       (holding session target None) begun new from to before after outcome
 
 -- Words that are no usable command line end in what says so, or in lack of memory, and no file is opened. Of a usable
@@ -182,7 +187,8 @@ pub record ServesFiles {F S : Type 0} (calls : Opener F S) (facts : S → StoreF
 abbrev pub ComesTo : {F S : Type 0} → Opener F S → (S → StoreFacts) → List Text → F → F → Option (List ℕ)
     → Option (List ℕ) → Option (List ℕ) → Option (List ℕ) → Outcome → Type 0
 ComesTo calls facts words old new from to before after outcome =
-    (RefusesWords words outcome × (new ≡ old) × (to ≡ from) × (after ≡ before))
+    ((none : NoOptions) × RefusesWords words none × (outcome ≡ without_options none)
+    × (new ≡ old) × (to ≡ from) × (after ≡ before))
     ⊎ ((line : CommandLine) × (command_line words ≡ Some line) × IsUsable line × (
     (IsNotBegun calls facts line old new outcome × (to ≡ from) × (after ≡ before)) ⊎
     ServesFiles calls facts line old new from to before after outcome))

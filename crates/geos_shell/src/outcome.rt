@@ -6,6 +6,7 @@ ghost use Rattle.geos_shell.specs.Outcome.{IsTold, TellsOn, TellsText, fault_lin
 use crate::runner::RunFault;
 use crate::streams::Sink;
 use arrayvec::ArrayVec;
+use command_lines::NoOptions;
 use geos_model::{Bytes, Fault};
 use std::io::{self, Write};
 
@@ -33,6 +34,23 @@ pub enum Outcome {
     Run(RunFault),
     /// The script was run to its end.
     Done,
+}
+
+impl From<NoOptions> for Outcome {
+    ghost use Rattle.std.specs.Prelude.{◌≡◌};
+    ghost use Rattle.geos_shell.specs.Outcome.{without_options};
+
+    ghost from_gives = { λ none outcome. outcome ≡ without_options none };
+
+    fn from(none: NoOptions) -> Outcome {
+        match none {
+            NoOptions::Usage(text) => Outcome::Usage(text),
+            NoOptions::Help(text) => Outcome::Help(text),
+            NoOptions::Version(text) => Outcome::Version(text),
+            NoOptions::SameFile => Outcome::SameFile,
+            NoOptions::Memory => Outcome::Run(RunFault::Memory),
+        }
+    }
 }
 
 impl Outcome {

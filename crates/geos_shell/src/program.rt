@@ -1,37 +1,22 @@
 //! The program: a document file, a script and its replies.
 ghost use Rattle.std.specs.Prelude.{◌≡◌, ◌≤◌, ◌^◌, true, false, None, OnErr, IfOk, IfErr, MatchResult, map};
+ghost use Rattle.command_lines.specs.Options.{told_by};
 ghost use Rattle.geos_shell.specs.Files.{OpensFile, FileFails, OpensTarget, TargetFails, ClosesAny};
-ghost use Rattle.geos_shell.specs.Options.{told_by};
 ghost use Rattle.geos_shell.specs.Outcome.{HasRunCause, IsTold, IsUnread};
 ghost use Rattle.geos_shell.specs.Program.{FromFile, BeginsSession, ComesTo, IsScriptAnswered, IsGivenUp, IsNotBegun};
 ghost use Rattle.geos_shell.specs.Streams.{StopsReading, StopsWriting};
 ghost use Rattle.geos_shell.specs.Holdings.{holding};
 
-use crate::command_line::options;
 use crate::outcome::Outcome;
 use crate::runner::{Manner, READS, RunFault, run_in_manner};
 use crate::streams::{Sink, Source};
+use command_lines::{Options, options};
 use geos_model::{Bytes, Fault};
 use std::alloc::Global;
 use std::convert::AsStr;
 use std::io::{self, ErrorKind};
 use undo_log::Session;
 use vm_store::{Files, StoreFault};
-
-/// What the words of a command line ask for. The names are as they were given.
-#[derive(Clone, Copy, Debug, PartialEq, Eq)]
-pub struct Options<'a> {
-    /// The file is made, or made anew; else it must be there.
-    pub new: bool,
-    /// How many frames the cache has, 1 to 64.
-    pub cache: u8,
-    /// The file that a save-as writes, if there is one.
-    pub target: Option<&'a str>,
-    /// The file of the document.
-    pub file: &'a str,
-    /// How the script is run.
-    pub manner: Manner,
-}
 
 /// Runs the program on the words of a command line, of which the first is its name: it opens the files that they name,
 /// answers the script that the reader gives, closes the files, and tells what that came to.
@@ -54,10 +39,16 @@ pub fn serve<'a, F: Files, T: AsStr, R: Source, W: Sink>(
 {
     match options(alloc, words) {
         Ok(options) => match begin(alloc, files, options) {
-            Ok(begun) => answer(alloc, options.manner, files, begun, reader, writer),
+            Ok(begun) => {
+                let manner = Manner {
+                    bails: options.bail,
+                    echoes: options.echo,
+                };
+                answer(alloc, manner, files, begun, reader, writer)
+            }
             Err(outcome) => outcome,
         },
-        Err(outcome) => outcome,
+        Err(none) => Outcome::from(none),
     }
 }
 

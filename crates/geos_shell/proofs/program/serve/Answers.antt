@@ -1,5 +1,5 @@
 use Rattle.std.proofs.Common.{inr}
-use Rattle.geos_shell.specs.Options.{told_by}
+use Rattle.command_lines.specs.Options.{told_by}
 use Rattle.geos_shell.proofs.program.serve.Goals as goal
 
 -- The files are opened, and the script is answered.

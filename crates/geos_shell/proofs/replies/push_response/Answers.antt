@@ -3,9 +3,10 @@ use Rattle.std.proofs.lemmas.Result.{on_err_weaker}
 use Rattle.geos_model.specs.Reply.{Accepted, reply_of_done}
 use Rattle.geos_model.specs.declared.fault.Fault.TheVariants as faults
 use Rattle.geos_shell.specs.Replies.{is_look_up}
-use Rattle.geos_shell.proofs.Calls.{on_err_always}
+use Rattle.geos_shell.proofs.Calls.{on_err_always, was_ok}
 use Rattle.geos_shell.proofs.FileFaults.{file_abandon, file_commit, file_edit, file_lock, file_turn, file_unlock, file_wrong}
 use Rattle.geos_shell.proofs.Frames.{frames_abandon, frames_edit, frames_lock, frames_log, frames_same, frames_turn}
+use Rattle.geos_shell.proofs.InMemory.{lock_in_memory, turn_in_memory}
 use Rattle.geos_shell.proofs.Refusals.{keeps_commit, keeps_if_same, keeps_same, keeps_with, on_err_of}
 use Rattle.geos_shell.proofs.Replying.{done_is_other, extends_told, replied, replied_accepted, replied_mapped, replied_told}
 use Rattle.geos_shell.proofs.Serving.{disk_kept, lock_passes, serves_at_rest, serves_commit, serves_passing, serves_staying, told_as_accepted}
@@ -23,7 +24,8 @@ returns-in-Edit-clause-replied g c =
     (on_err_weaker c.edit.result (keeps_with facts _ _ old new) done.err)
     (file_edit facts _ old new c.edit.result done.refusals)
     (frames_edit facts old new _ c.edit.result done.ok done.err)
-    (serves_passing facts _ _ _ _ _ _ done.passes done.step (λ nothing. nothing) tt))
+    (serves_passing facts _ _ _ _ _ _ done.passes done.step (λ nothing. nothing) tt)
+    (λ well. was_ok c.edit.result well done.in_memory))
 
 pub returns-in-Undo-clause-replied : goal.returns-in-Undo-clause-replied
 returns-in-Undo-clause-replied g c =
@@ -35,7 +37,8 @@ returns-in-Undo-clause-replied g c =
     (on_err_weaker c.undo.result (keeps_with facts _ _ old new) done.err)
     (file_turn facts faults.NothingToUndo _ old new (λ is. cc is) c.undo.result done.refusals)
     (frames_turn facts old new _ _ _ _ _ c.undo.result done.ok done.err)
-    (serves_passing facts _ _ _ _ _ _ done.passes done.step (λ nothing. nothing) (λ free is. let taken = done.sure free is in (told_as_accepted _ taken.0, taken.1))) c.push_accepted.ensures.ok)
+    (serves_passing facts _ _ _ _ _ _ done.passes done.step (λ nothing. nothing) (λ free is. let taken = done.sure free is in (told_as_accepted _ taken.0, taken.1)))
+    (turn_in_memory facts _ old new _ _ _ _ c.undo.result done.ok) c.push_accepted.ensures.ok)
 
 pub returns-in-Redo-clause-replied : goal.returns-in-Redo-clause-replied
 returns-in-Redo-clause-replied g c =
@@ -47,7 +50,8 @@ returns-in-Redo-clause-replied g c =
     (on_err_weaker c.redo.result (keeps_with facts _ _ old new) done.err)
     (file_turn facts faults.NothingToRedo _ old new (λ is. cc is) c.redo.result done.refusals)
     (frames_turn facts old new _ _ _ _ _ c.redo.result done.ok done.err)
-    (serves_passing facts _ _ _ _ _ _ done.passes done.step (λ nothing. nothing) (λ free is. let taken = done.sure free is in (told_as_accepted _ taken.0, taken.1))) c.push_accepted-in-Redo.ensures.ok)
+    (serves_passing facts _ _ _ _ _ _ done.passes done.step (λ nothing. nothing) (λ free is. let taken = done.sure free is in (told_as_accepted _ taken.0, taken.1)))
+    (turn_in_memory facts _ old new _ _ _ _ c.redo.result done.ok) c.push_accepted-in-Redo.ensures.ok)
 
 -- To begin a group or to end one calls no store; to abandon one commits nothing.
 
@@ -62,7 +66,8 @@ returns-in-Begin-clause-replied g c =
     (keeps_if_same facts _ _ old new _ _ c.begin.result done.err)
     (file_wrong facts _ _ old.disk.store new.disk.store faults.GroupOpen (λ is. cc is) c.begin.result done.err)
     (frames_log facts old new _ _ _ _ c.begin.result done.ok done.err)
-    (serves_staying facts _ _ _ _ _ _ same done.exact done.step (λ stays. stays) tt) c.push_accepted-in-Begin.ensures.ok)
+    (serves_staying facts _ _ _ _ _ _ same done.exact done.step (λ stays. stays) tt)
+    (λ well. tt) c.push_accepted-in-Begin.ensures.ok)
 
 pub returns-in-End-clause-replied : goal.returns-in-End-clause-replied
 returns-in-End-clause-replied g c =
@@ -75,7 +80,8 @@ returns-in-End-clause-replied g c =
     (keeps_if_same facts _ _ old new _ _ c.end.result done.err)
     (file_wrong facts _ _ old.disk.store new.disk.store faults.NoGroup (λ is. cc is) c.end.result done.err)
     (frames_log facts old new _ _ _ _ c.end.result done.ok done.err)
-    (serves_staying facts _ _ _ _ _ _ same done.exact done.step (λ stays. stays) tt) c.push_accepted-in-End.ensures.ok)
+    (serves_staying facts _ _ _ _ _ _ same done.exact done.step (λ stays. stays) tt)
+    (λ well. tt) c.push_accepted-in-End.ensures.ok)
 
 pub returns-in-Abandon-clause-replied : goal.returns-in-Abandon-clause-replied
 returns-in-Abandon-clause-replied g c =
@@ -87,7 +93,8 @@ returns-in-Abandon-clause-replied g c =
     (on_err_weaker c.abandon.result (keeps_with facts _ _ old new) done.err)
     (file_abandon facts old new c.abandon.result done.refusals)
     (frames_abandon facts old new c.abandon.result done.ok done.err)
-    (serves_passing facts _ _ _ _ _ _ done.passes done.step (λ nothing. nothing) (λ free sure. let taken = done.sure free sure in (told_as_accepted _ taken.0, taken.1))) c.push_accepted-in-Abandon.ensures.ok)
+    (serves_passing facts _ _ _ _ _ _ done.passes done.step (λ nothing. nothing) (λ free sure. let taken = done.sure free sure in (told_as_accepted _ taken.0, taken.1)))
+    (λ well. tt) c.push_accepted-in-Abandon.ensures.ok)
 
 -- Commits.
 
@@ -101,7 +108,8 @@ returns-in-Update-clause-replied g c =
     (keeps_commit facts _ _ old new _ _ c.update.result done.commit (on_err_always c.update.result done.lists.0) done.lists.1 (on_err_always c.update.result done.resident))
     (file_commit facts old new c.update.result done.fails.file)
     done.lists.1
-    (serves_commit facts _ _ _ _ _ _ _ done.commit.commits done.commit.passes done.fails.file done.step (λ settles. settles) tt) c.push_accepted-in-Update.ensures.ok)
+    (serves_commit facts _ _ _ _ _ _ _ done.commit.commits done.commit.passes done.fails.file done.step (λ settles. settles) tt)
+    (λ well. tt) c.push_accepted-in-Update.ensures.ok)
 
 pub returns-in-Save-clause-replied : goal.returns-in-Save-clause-replied
 returns-in-Save-clause-replied g c =
@@ -113,7 +121,8 @@ returns-in-Save-clause-replied g c =
     (keeps_commit facts _ _ old new _ _ c.save.result done.commit (on_err_always c.save.result done.lists.0) done.lists.1 (on_err_always c.save.result done.resident))
     (file_commit facts old new c.save.result done.fails.file)
     done.lists.1
-    (serves_commit facts _ _ _ _ _ _ _ done.commit.commits done.commit.passes done.fails.file done.step (λ settles. settles) tt) c.push_accepted-in-Save.ensures.ok)
+    (serves_commit facts _ _ _ _ _ _ _ done.commit.commits done.commit.passes done.fails.file done.step (λ settles. settles) tt)
+    (λ well. tt) c.push_accepted-in-Save.ensures.ok)
 
 pub returns-in-Revert-clause-replied : goal.returns-in-Revert-clause-replied
 returns-in-Revert-clause-replied g c =
@@ -125,12 +134,13 @@ returns-in-Revert-clause-replied g c =
     (keeps_commit facts _ _ old new _ _ c.revert.result done.commit (on_err_of _ _ c.revert.result done.lists.0) done.lists.1 (on_err_of _ _ c.revert.result done.resident))
     (file_commit facts old new c.revert.result done.fails.file)
     done.lists.1
-    (serves_commit facts _ _ _ _ _ _ _ done.commit.commits done.commit.passes done.fails.file done.step (λ settles. settles) tt) c.push_accepted-in-Revert.ensures.ok)
+    (serves_commit facts _ _ _ _ _ _ _ done.commit.commits done.commit.passes done.fails.file done.step (λ settles. settles) tt)
+    (λ well. tt) c.push_accepted-in-Revert.ensures.ok)
 
 pub returns-in-SaveAs-clause-replied : goal.returns-in-SaveAs-clause-replied
 returns-in-SaveAs-clause-replied g c =
     let done = c.save_as.ensures in
-    rw c.in-SaveAs.is (replied g.S.Store.facts c.push_accepted-in-SaveAs.result (λ _. Accepted) c.save_as.result _ _ _ _ _ (λ x. refl) done.stays done.file done.frames done.serves c.push_accepted-in-SaveAs.ensures.ok)
+    rw c.in-SaveAs.is (replied g.S.Store.facts c.push_accepted-in-SaveAs.result (λ _. Accepted) c.save_as.result _ _ _ _ _ (λ x. refl) done.stays done.file done.frames done.serves (λ well. tt) c.push_accepted-in-SaveAs.ensures.ok)
 
 -- A lock may bring the block into memory; to take one away, or to use one, calls no store.
 
@@ -144,7 +154,8 @@ returns-in-Lock-clause-replied g c =
     (on_err_weaker c.lock.result (keeps_with facts _ _ old new) done.err)
     (file_lock facts _ old new c.lock.result done.refusals)
     (frames_lock facts old new _ c.lock.result done.ok done.err)
-    (serves_passing facts _ _ _ _ _ _ (lock_passes facts _ _ _ c.lock.result done.ok done.err) done.step (λ nothing. nothing) tt) c.push_accepted-in-Lock.ensures.ok)
+    (serves_passing facts _ _ _ _ _ _ (lock_passes facts _ _ _ c.lock.result done.ok done.err) done.step (λ nothing. nothing) tt)
+    (lock_in_memory facts _ _ _ c.lock.result done.ok) c.push_accepted-in-Lock.ensures.ok)
 
 pub returns-in-Unlock-clause-replied : goal.returns-in-Unlock-clause-replied
 returns-in-Unlock-clause-replied g c =
@@ -156,7 +167,8 @@ returns-in-Unlock-clause-replied g c =
     (on_err_weaker c.unlock.result (keeps_same facts _ _ old new) done.err)
     (file_unlock facts _ old new c.unlock.result done.refusals)
     (frames_same old new done.same)
-    (serves_at_rest facts _ _ _ _ _ _ done.same done.step (λ stays. stays) tt) c.push_accepted-in-Unlock.ensures.ok)
+    (serves_at_rest facts _ _ _ _ _ _ done.same done.step (λ stays. stays) tt)
+    (λ well. tt) c.push_accepted-in-Unlock.ensures.ok)
 
 pub returns-in-Dirty-clause-replied : goal.returns-in-Dirty-clause-replied
 returns-in-Dirty-clause-replied g c =
@@ -168,7 +180,8 @@ returns-in-Dirty-clause-replied g c =
     (on_err_always c.dirty.result (keeps_same facts _ _ old new done.same))
     (file_unlock facts _ old new c.dirty.result done.refusals)
     (frames_same old new (rw done.same refl))
-    (serves_at_rest facts _ _ _ _ _ _ (rw done.same refl) done.step (λ stays. stays) tt) c.push_accepted-in-Dirty.ensures.ok)
+    (serves_at_rest facts _ _ _ _ _ _ (rw done.same refl) done.step (λ stays. stays) tt)
+    (λ well. tt) c.push_accepted-in-Dirty.ensures.ok)
 
 -- Look-ups commit nothing.
 
