@@ -1,5 +1,5 @@
 -- A restore: a script makes the document of a file that wasn't there.
-use Rattle.std.specs.Prelude.{◌≡◌, ◌⊎◌, ℕ, List, [], ◌++◌, codes, true, false, IsTrue, Option, None, Result, Ok, Err, IfErr, ⊤}
+use Rattle.std.specs.Prelude.{◌≡◌, ◌≢◌, ◌⊎◌, ℕ, List, [], ◌++◌, codes, true, false, IsTrue, Option, None, Result, Ok, Err, IfErr, ⊤}
 use Rattle.vm_store.specs.Facts.{StoreFacts}
 use Rattle.vm_store.specs.Files.{Opener}
 use Rattle.vm_store.specs.declared.fault.StoreFault.{StoreFault}
@@ -93,10 +93,11 @@ pub record RunsScript {F S : Type 0} (calls : Opener F S) (facts : S → StoreFa
   pub closes : calls.closes old left.session.disk.store new
   pub ends : EndsRun file result ending
 
--- no document could be made in the file
+-- No document could be made in the file: lack of memory is told as such, all else as a file that can't be made.
 abbrev pub EndsUncreated : List ℕ → Fault → Ending → Type 0
 EndsUncreated file fault ending =
-    (fault ≡ Memory × ending ≡ endings.Memory) ⊎ IsRefusedFor file (Unmade Failed) ending
+    ((fault ≡ Memory) × (ending ≡ endings.Memory))
+    ⊎ ((fault ≢ Memory) × IsRefusedFor file (Unmade Failed) ending)
 
 -- A document is made in the empty file, and the script is run on it; or there is none, and the file is closed.
 abbrev pub RestoresIn : {F S : Type 0} → Opener F S → (S → StoreFacts) → List ℕ → S → F → Option (List ℕ)
