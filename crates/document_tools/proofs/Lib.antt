@@ -2,3 +2,4 @@ pub mod Checked
 pub mod Joined
 pub mod Looked
 pub mod PageLemmas
+pub mod Restored

@@ -12,10 +12,7 @@ use Rattle.geos_model.specs.declared.fault.Fault.{Fault}
 use Rattle.geos_model.specs.declared.fault.Fault.TheVariants as faults
 use Rattle.vm_store.specs.Facts.{StoreFacts, FailedSince}
 use Rattle.vm_file.specs.Calls.{IsResourceFault}
-use Rattle.geos_shell.specs.RunFaults.{HasCause}
 use Rattle.geos_shell.specs.Streams.{Writes}
-use Rattle.geos_shell.specs.declared.runner.RunFault.{RunFault}
-use Rattle.geos_shell.specs.declared.runner.RunFault.TheVariants as run_faults
 use Rattle.vm_file.specs.Disk.{FileState}
 use Rattle.vm_file.specs.Opened.{OnlyReadsStore}
 use Rattle.vm_file.proofs.LooksLemmas.{raised_later, still}
@@ -136,11 +133,3 @@ dumped_store facts contents name which store from to writer (Err endings.WriteFa
 pub first_contents : {W A : Type 0} (contents : W → Option (List ℕ)) (writer : W) (b : BufWriter W A) → writer_inner b ≡ writer → writer_buffer b ≡ [] → writer_contents contents b ≡ contents writer
 first_contents contents writer b inner none =
     ap (λ w. append_known (contents w) (writer_buffer b)) inner ∙ ap (λ (l : List ℕ). append_known (contents writer) l) none ∙ known_empty (contents writer)
-
--- all replies are taken, so that no write is a cause
-pub caused : (reading writing : Type 0) (result : Result (Unit {0}) RunFault) → IfErr result (λ fault. HasCause fault reading writing) → IfErr result (λ fault. HasCause fault reading ⊤)
-caused reading writing (Ok v) cause = cause
-caused reading writing (Err run_faults.Read) cause = cause
-caused reading writing (Err run_faults.Write) cause = tt
-caused reading writing (Err run_faults.Memory) cause = cause
-caused reading writing (Err run_faults.Refused) cause = cause

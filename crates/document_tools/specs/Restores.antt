@@ -82,14 +82,15 @@ EndsRun file (Err run_faults.Memory) ending = ending ≡ endings.Memory
 EndsRun file (Err run_faults.Write) ending = TellsRefusal file ending
 EndsRun file (Err run_faults.Refused) ending = TellsRefusal file ending
 
--- The script is run on a session, up to the first line that is refused, and then the file is closed.
+-- The script is run on a session, up to the first line that is refused, and then the file is closed. All replies are
+-- taken, so that the run ends by no write fault.
 pub record RunsScript {F S : Type 0} (calls : Opener F S) (facts : S → StoreFacts) (file : List ℕ)
     (session : SessionState S) (old : F) (from to : Option (List ℕ)) (reading : Type 0) (ending : Ending) (new : F)
     : Type 0 where
   pub result : Result (Unit {0}) RunFault
   pub left : Holding S
   pub runs : RunsTo result facts manner (holding session None None) from to None None left
-  pub cause : IfErr result (λ fault. HasCause fault reading ⊤)
+  pub cause : IfErr result (λ fault. HasCause fault reading ⊥)
   pub closes : calls.closes old left.session.disk.store new
   pub ends : EndsRun file result ending
 
