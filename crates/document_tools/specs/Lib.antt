@@ -4,6 +4,7 @@ pub mod Endings
 pub mod Looks
 pub mod Maps
 pub mod Obstacles
+pub mod OtherSlots
 pub mod Pages
 pub mod Reports
 pub mod Requests

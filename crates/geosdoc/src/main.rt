@@ -3,7 +3,6 @@
 
 mod command_line;
 mod new_files;
-mod other_slot;
 mod read_only;
 mod run;
 

@@ -1,10 +1,11 @@
 //! Carries out what was asked for.
 use crate::command_line::{Asked, Dumped, Form, Picture, Request};
 use crate::new_files::HostMaker;
-use crate::other_slot::dump_other;
 use crate::read_only::read_only_files;
 use document_dump::Which;
-use document_tools::{Ending, Viewer, check_file, dump_file, map_file, restore, stat_file};
+use document_tools::{
+    Ending, Viewer, check_file, dump_file, dump_other, map_file, restore, stat_file,
+};
 use std::io;
 use vm_store::machine_files;
 
@@ -28,29 +29,28 @@ pub fn run(rt: &HostRuntime, request: Request<'_>) -> Ending {
 fn look<V: Viewer>(rt: &HostRuntime, files: &mut V, asked: Asked, file: &str) -> Ending {
     match asked {
         Asked::Stat(form) => stat_file(rt.alloc(), files, file, form_of(form), &mut io::writer(rt)),
-        Asked::Map(picture) => ended(map_file(
-            rt.alloc(),
-            files,
-            file,
-            picture_of(picture),
-            io::writer(rt),
-        )),
+        Asked::Map(picture) => {
+            let (_, ending) = map_file(
+                rt.alloc(),
+                files,
+                file,
+                picture_of(picture),
+                io::writer(rt),
+            );
+            ending
+        }
         Asked::Dump(Dumped::Both) => dump(rt, files, file, Which::Both),
         Asked::Dump(Dumped::Saved) => dump(rt, files, file, Which::Saved),
-        Asked::Dump(Dumped::Other) => dump_other(rt, files, file),
+        Asked::Dump(Dumped::Other) => {
+            let (_, ending) = dump_other(rt.alloc(), files, file, io::writer(rt));
+            ending
+        }
     }
 }
 
 fn dump<V: Viewer>(rt: &HostRuntime, files: &mut V, file: &str, which: Which) -> Ending {
-    ended(dump_file(rt.alloc(), files, file, which, io::writer(rt)))
-}
-
-// All was written where the writer came back.
-fn ended<W: Drop>(written: Result<W, Ending>) -> Ending {
-    match written {
-        Ok(_) => Ending::Done,
-        Err(ending) => ending,
-    }
+    let (_, ending) = dump_file(rt.alloc(), files, file, which, io::writer(rt));
+    ending
 }
 
 fn form_of(form: Form) -> document_tools::Form {
