@@ -9,5 +9,6 @@ pub mod Pages
 pub mod Reports
 pub mod Requests
 pub mod Restores
+pub mod Runs
 pub mod Stats
 pub mod Views
