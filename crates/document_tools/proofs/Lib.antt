@@ -1,4 +1,6 @@
 pub mod Checked
 pub mod Joined
 pub mod Looked
+pub mod OtherLemmas
 pub mod PageLemmas
+pub mod Restored

@@ -1,60 +1,75 @@
 -- What is told of a file as a script that makes documents of it again.
-use Rattle.std.specs.Prelude.{◌≡◌, ◌⊎◌, ℕ, List, IsTrue, Option, None, Some, Result, Ok, Err, ⊤}
+use Rattle.std.specs.Prelude.{◌≡◌, ◌⊎◌, ℕ, List, Bool, true, false, IsTrue, Option, Result, Ok, Err, ⊤}
 use Rattle.std.specs.Io.KnownBytes.{Appends}
 use Rattle.geos_model.specs.Document.{Document}
 use Rattle.geos_model.specs.File.{stands}
-use Rattle.geos_model.specs.declared.fault.Fault.TheVariants as faults
 use Rattle.vm_store.specs.Facts.{StoreFacts, FailedSince}
 use Rattle.vm_file.specs.Disk.{FileState}
 use Rattle.vm_file.specs.Opened.{OnlyReadsStore}
+use Rattle.geos_shell.specs.Streams.{StopsWriting, Writes}
 use Rattle.document_dump.specs.Dumps.{dump_text}
 use Rattle.document_dump.specs.declared.dumping.Which.{Which}
 use Rattle.document_dump.specs.declared.fault.DumpFault.{DumpFault}
 use Rattle.document_dump.specs.declared.fault.DumpFault.TheVariants as dump_faults
 use Rattle.document_tools.specs.Endings.{IsRefusedFor}
-use Rattle.document_tools.specs.Looks.{FailsView, IsUnlookedAt}
+use Rattle.document_tools.specs.Looks.{IsUnlookedAt}
 use Rattle.document_tools.specs.Obstacles.{refusal_line}
 use Rattle.document_tools.specs.Views.{LooksAt, Views}
 use Rattle.document_tools.specs.declared.ending.Ending.{Ending}
 use Rattle.document_tools.specs.declared.ending.Ending.TheVariants as endings
-use Rattle.document_tools.specs.declared.obstacle.Obstacle.TheVariants.{Unopened, Unread}
+use Rattle.document_tools.specs.declared.obstacle.Obstacle.{Obstacle}
+use Rattle.document_tools.specs.declared.obstacle.Obstacle.TheVariants.{Unread, Unviewed}
 
--- how a dump ends that isn't written, or not whole
-abbrev pub EndsUndumped : List ℕ → DumpFault → Ending → Type 0
-EndsUndumped file dump_faults.Memory ending = ending ≡ endings.Memory
-EndsUndumped file dump_faults.File ending = IsRefusedFor file Unread ending
-EndsUndumped file dump_faults.Damaged ending = IsRefusedFor file (Unopened faults.Damaged) ending
-EndsUndumped file dump_faults.Write ending = ending ≡ endings.WriteFault
+-- How a dump ends whose pieces were gathered, by how the dump itself did and whether the last write failed: well only
+-- where both went well, as a write fault only where that write failed, and by no other fault than the dump's.
+abbrev pub IsDumpEnd : Result (Unit {0}) DumpFault → Bool → Result (Unit {0}) DumpFault → Type 0
+IsDumpEnd dumped failed (Ok v) = (dumped ≡ Ok tt) × (failed ≡ false)
+IsDumpEnd dumped failed (Err dump_faults.Memory) = ⊤
+IsDumpEnd dumped failed (Err dump_faults.Write) = failed ≡ true
+IsDumpEnd dumped failed (Err fault) = dumped ≡ Err fault
+
+-- the cause of a dump's fault: of a write's this, of others any
+abbrev pub HasDumpCause : DumpFault → Type 0 → Type 0
+HasDumpCause dump_faults.Write writing = writing
+HasDumpCause fault writing = ⊤
+
+-- What comes of a dump: it is written, or it isn't, or not whole. What is damaged is told as this obstacle.
+abbrev pub EndsDump : List ℕ → Obstacle → Result (Unit {0}) DumpFault → Ending → Type 0
+EndsDump file damaged (Ok v) ending = ending ≡ endings.Done
+EndsDump file damaged (Err dump_faults.Memory) ending = ending ≡ endings.Memory
+EndsDump file damaged (Err dump_faults.File) ending = IsRefusedFor file Unread ending
+EndsDump file damaged (Err dump_faults.Damaged) ending = IsRefusedFor file damaged ending
+EndsDump file damaged (Err dump_faults.Write) ending = ending ≡ endings.WriteFault
 
 -- What comes of the dump of a store: the script of the documents that it stands for is written, or it isn't, or not
--- whole.
-abbrev pub DumpsStore : {W : Type 0} → (W → Option (List ℕ)) → List ℕ → Which → StoreFacts → StoreFacts → W
-    → Result W Ending → Type 0
-DumpsStore contents file which from to old (Ok new) =
+-- whole. A write fault is told only where the last write failed.
+abbrev pub DumpsStore : {W : Type 0} → (W → Option (List ℕ)) → Writes W → List ℕ → Which → StoreFacts → StoreFacts → W
+    → W → Ending → Type 0
+DumpsStore contents writes file which from to old new endings.Done =
     IsTrue from.honest → (updated : Document) × (saved : Document) × (stands from.content ≡ Ok (updated, saved))
     × Appends (contents old) (contents new) (dump_text which updated saved)
-DumpsStore contents file which from to old (Err (endings.Refused line)) = IsUnlookedAt file from to line
-DumpsStore contents file which from to old (Err endings.Memory) = ⊤
-DumpsStore contents file which from to old (Err endings.WriteFault) = ⊤
-DumpsStore contents file which from to old (Err ending) = ⊥
+DumpsStore contents writes file which from to old new (endings.Refused line) = IsUnlookedAt file from to line
+DumpsStore contents writes file which from to old new endings.Memory = ⊤
+DumpsStore contents writes file which from to old new endings.WriteFault = ∥ StopsWriting writes new ∥₁
+DumpsStore contents writes file which from to old new ending = ⊥
 
--- the same of a file that is open
-abbrev pub DumpsOpen : {S W : Type 0} → (S → StoreFacts) → (W → Option (List ℕ)) → List ℕ → Which → FileState S
-    → FileState S → W → Result W Ending → Type 0
-DumpsOpen facts contents name which from to old (Ok new) =
+-- The same of a file that is open. It is told as damaged only where the store isn't honest.
+abbrev pub DumpsOpen : {S W : Type 0} → (S → StoreFacts) → (W → Option (List ℕ)) → Writes W → List ℕ → Which
+    → Obstacle → FileState S → FileState S → W → W → Ending → Type 0
+DumpsOpen facts contents writes name which damaged from to old new endings.Done =
     IsTrue (facts from.disk.store).honest
     → Appends (contents old) (contents new) (dump_text which from.document from.disk.saved)
-DumpsOpen facts contents name which from to old (Err (endings.Refused line)) =
+DumpsOpen facts contents writes name which damaged from to old new (endings.Refused line) =
     ((line ≡ refusal_line name Unread) × FailedSince (facts from.disk.store) (facts to.disk.store))
-    ⊎ ((line ≡ refusal_line name (Unopened faults.Damaged)) × (IsTrue (facts from.disk.store).honest → ⊥))
-DumpsOpen facts contents name which from to old (Err endings.Memory) = ⊤
-DumpsOpen facts contents name which from to old (Err endings.WriteFault) = ⊤
-DumpsOpen facts contents name which from to old (Err ending) = ⊥
+    ⊎ ((line ≡ refusal_line name damaged) × (IsTrue (facts from.disk.store).honest → ⊥))
+DumpsOpen facts contents writes name which damaged from to old new endings.Memory = ⊤
+DumpsOpen facts contents writes name which damaged from to old new endings.WriteFault = ∥ StopsWriting writes new ∥₁
+DumpsOpen facts contents writes name which damaged from to old new ending = ⊥
 
 -- What comes of it for the file of a name: it is opened to be read alone, and dumped, and nothing is written to it.
-abbrev pub DumpsFile : {V S W : Type 0} → Views V S → (S → StoreFacts) → (W → Option (List ℕ)) → List ℕ → Which → V
-    → V → W → Result W Ending → Type 0
-DumpsFile {V} {S} views facts contents file which old new from result =
-    LooksAt views file old new (λ cause. FailsView file cause result)
+abbrev pub DumpsFile : {V S W : Type 0} → Views V S → (S → StoreFacts) → (W → Option (List ℕ)) → Writes W → List ℕ
+    → Which → V → V → W → W → Ending → Type 0
+DumpsFile {V} {S} views facts contents writes file which old new from to ending =
+    LooksAt views file old new (λ cause. IsRefusedFor file (Unviewed cause) ending × (to ≡ from))
     (λ store. (left : S) × OnlyReadsStore (facts store) (facts left)
-    × DumpsStore contents file which (facts store) (facts left) from result)
+    × DumpsStore contents writes file which (facts store) (facts left) from to ending)

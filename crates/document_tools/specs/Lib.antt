@@ -4,9 +4,11 @@ pub mod Endings
 pub mod Looks
 pub mod Maps
 pub mod Obstacles
+pub mod OtherSlots
 pub mod Pages
 pub mod Reports
 pub mod Requests
 pub mod Restores
+pub mod Runs
 pub mod Stats
 pub mod Views

@@ -10,16 +10,16 @@ use Rattle.document_tools.specs.Endings.{IsRefusedFor}
 use Rattle.document_tools.specs.Obstacles.{refusal_line}
 use Rattle.document_tools.specs.declared.ending.Ending.{Ending}
 use Rattle.document_tools.specs.declared.ending.Ending.TheVariants as endings
-use Rattle.document_tools.specs.declared.obstacle.Cause.{Cause}
-use Rattle.document_tools.specs.declared.obstacle.Obstacle.TheVariants.{Unopened, Unread, Unviewed}
+use Rattle.document_tools.specs.declared.obstacle.Obstacle.{Obstacle}
+use Rattle.document_tools.specs.declared.obstacle.Obstacle.TheVariants.{Unopened, Unread}
 
 -- What comes of a file that isn't opened: lack of memory and a file that can't be read are told as such, all else as
--- what an opening answers.
-abbrev pub EndsUnopened : List ℕ → Fault → Ending → Type 0
-EndsUnopened file fault ending =
+-- this obstacle.
+abbrev pub EndsUnopened : List ℕ → Fault → Obstacle → Ending → Type 0
+EndsUnopened file fault obstacle ending =
     ((fault ≡ Memory) × (ending ≡ endings.Memory))
     ⊎ (((fault ≡ File) × IsRefusedFor file Unread ending)
-    ⊎ ((fault ≢ Memory) × (fault ≢ File) × IsRefusedFor file (Unopened fault) ending))
+    ⊎ ((fault ≢ Memory) × (fault ≢ File) × IsRefusedFor file obstacle ending))
 
 -- the line says that the file can't be read, and the store failed in this very call, or it says for what the file
 -- doesn't open
@@ -34,8 +34,3 @@ abbrev pub SendsText : {W : Type 0} → Writes W → List ℕ → W → W → En
 SendsText writes text old new endings.Done = writes old text (Ok tt) new
 SendsText writes text old new endings.WriteFault = (fault : WriteFault) × writes old text (Err fault) new
 SendsText writes text old new ending = ⊥
-
--- the file couldn't be opened to be read, and that is told
-abbrev pub FailsView : {W : Type 0} → List ℕ → Cause → Result W Ending → Type 0
-FailsView file cause (Ok writer) = ⊥
-FailsView file cause (Err ending) = IsRefusedFor file (Unviewed cause) ending

@@ -1,45 +1,61 @@
 -- What is told of a file as a picture.
-use Rattle.std.specs.Prelude.{◌≡◌, ℕ, List, IsTrue, Option, Result, Ok, Err, ⊤}
+use Rattle.std.specs.Prelude.{◌≡◌, ℕ, List, Bool, true, false, IsTrue, Option, Result, Ok, Err, ⊤}
 use Rattle.vm_store.specs.Facts.{StoreFacts}
 use Rattle.vm_file.specs.Opened.{OnlyReadsStore}
+use Rattle.geos_shell.specs.Streams.{StopsWriting, Writes}
 use Rattle.file_map.specs.Drawn.{IsDrawn, svg_of, text_of}
 use Rattle.file_map.specs.declared.fault.MapFault.{MapFault}
 use Rattle.file_map.specs.declared.fault.MapFault.TheVariants as map_faults
 use Rattle.file_map.specs.declared.part.Part.{Part}
 use Rattle.document_tools.specs.Endings.{IsRefusedFor}
-use Rattle.document_tools.specs.Looks.{FailsView, IsUnlookedAt}
+use Rattle.document_tools.specs.Looks.{IsUnlookedAt}
 use Rattle.document_tools.specs.Views.{LooksAt, Views}
 use Rattle.document_tools.specs.declared.ending.Ending.{Ending}
 use Rattle.document_tools.specs.declared.ending.Ending.TheVariants as endings
 use Rattle.document_tools.specs.declared.mapping.Picture.{Picture}
 use Rattle.document_tools.specs.declared.mapping.Picture.TheVariants.{Text, Svg}
-use Rattle.document_tools.specs.declared.obstacle.Obstacle.TheVariants.{Unopened, Unread}
+use Rattle.document_tools.specs.declared.obstacle.Obstacle.TheVariants.{Unopened, Unread, Unviewed}
 
 abbrev pub picture_of : Picture → List ℕ → List Part → ℕ → List ℕ
 picture_of Text = text_of
 picture_of Svg = svg_of
 
--- how a map ends that isn't drawn, or not whole
-abbrev pub EndsUndrawn : List ℕ → MapFault → Ending → Type 0
-EndsUndrawn file map_faults.Memory ending = ending ≡ endings.Memory
-EndsUndrawn file map_faults.File ending = IsRefusedFor file Unread ending
-EndsUndrawn file (map_faults.Unopened fault) ending = IsRefusedFor file (Unopened fault) ending
-EndsUndrawn file map_faults.Write ending = ending ≡ endings.WriteFault
+-- How a drawing ends whose pieces were gathered, by how the drawing itself did and whether the last write failed: well
+-- only where both went well, as a write fault only where that write failed, and by no other fault than the drawing's.
+abbrev pub IsMapEnd : Result (Unit {0}) MapFault → Bool → Result (Unit {0}) MapFault → Type 0
+IsMapEnd drawn failed (Ok v) = (drawn ≡ Ok tt) × (failed ≡ false)
+IsMapEnd drawn failed (Err map_faults.Memory) = ⊤
+IsMapEnd drawn failed (Err map_faults.Write) = failed ≡ true
+IsMapEnd drawn failed (Err fault) = drawn ≡ Err fault
 
--- What comes of the drawing of a store: the picture is written, or it isn't, or not whole.
-abbrev pub MapsStore : {W : Type 0} → (W → Option (List ℕ)) → List ℕ → Picture → StoreFacts → StoreFacts → W
-    → Result W Ending → Type 0
-MapsStore contents file picture from to old (Ok new) =
+-- the cause of a drawing's fault: of a write's this, of others any
+abbrev pub HasMapCause : MapFault → Type 0 → Type 0
+HasMapCause map_faults.Write writing = writing
+HasMapCause fault writing = ⊤
+
+-- what comes of a drawing: it is written, or it isn't, or not whole
+abbrev pub EndsMap : List ℕ → Result (Unit {0}) MapFault → Ending → Type 0
+EndsMap file (Ok v) ending = ending ≡ endings.Done
+EndsMap file (Err map_faults.Memory) ending = ending ≡ endings.Memory
+EndsMap file (Err map_faults.File) ending = IsRefusedFor file Unread ending
+EndsMap file (Err (map_faults.Unopened fault)) ending = IsRefusedFor file (Unopened fault) ending
+EndsMap file (Err map_faults.Write) ending = ending ≡ endings.WriteFault
+
+-- What comes of the drawing of a store: the picture is written, or it isn't, or not whole. A write fault is told only
+-- where the last write failed.
+abbrev pub MapsStore : {W : Type 0} → (W → Option (List ℕ)) → Writes W → List ℕ → Picture → StoreFacts → StoreFacts → W
+    → W → Ending → Type 0
+MapsStore contents writes file picture from to old new endings.Done =
     IsTrue from.honest → IsDrawn (picture_of picture) from.content (contents old) (contents new)
-MapsStore contents file picture from to old (Err (endings.Refused line)) = IsUnlookedAt file from to line
-MapsStore contents file picture from to old (Err endings.Memory) = ⊤
-MapsStore contents file picture from to old (Err endings.WriteFault) = ⊤
-MapsStore contents file picture from to old (Err ending) = ⊥
+MapsStore contents writes file picture from to old new (endings.Refused line) = IsUnlookedAt file from to line
+MapsStore contents writes file picture from to old new endings.Memory = ⊤
+MapsStore contents writes file picture from to old new endings.WriteFault = ∥ StopsWriting writes new ∥₁
+MapsStore contents writes file picture from to old new ending = ⊥
 
 -- What comes of it for the file of a name: it is opened to be read alone, and drawn, and nothing is written to it.
-abbrev pub MapsFile : {V S W : Type 0} → Views V S → (S → StoreFacts) → (W → Option (List ℕ)) → List ℕ → Picture → V
-    → V → W → Result W Ending → Type 0
-MapsFile {V} {S} views facts contents file picture old new from result =
-    LooksAt views file old new (λ cause. FailsView file cause result)
+abbrev pub MapsFile : {V S W : Type 0} → Views V S → (S → StoreFacts) → (W → Option (List ℕ)) → Writes W → List ℕ
+    → Picture → V → V → W → W → Ending → Type 0
+MapsFile {V} {S} views facts contents writes file picture old new from to ending =
+    LooksAt views file old new (λ cause. IsRefusedFor file (Unviewed cause) ending × (to ≡ from))
     (λ store. (left : S) × OnlyReadsStore (facts store) (facts left)
-    × MapsStore contents file picture (facts store) (facts left) from result)
+    × MapsStore contents writes file picture (facts store) (facts left) from to ending)

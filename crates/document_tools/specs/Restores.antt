@@ -1,5 +1,5 @@
 -- A restore: a script makes the document of a file that wasn't there.
-use Rattle.std.specs.Prelude.{◌≡◌, ◌⊎◌, ℕ, List, [], ◌++◌, codes, true, false, IsTrue, Option, None, Result, Ok, Err, IfErr, ⊤}
+use Rattle.std.specs.Prelude.{◌≡◌, ◌≢◌, ◌⊎◌, ℕ, List, [], ◌++◌, codes, true, false, IsTrue, Option, None, Result, Ok, Err, IfErr, ⊤}
 use Rattle.vm_store.specs.Facts.{StoreFacts}
 use Rattle.vm_store.specs.Files.{Opener}
 use Rattle.vm_store.specs.declared.fault.StoreFault.{StoreFault}
@@ -82,21 +82,23 @@ EndsRun file (Err run_faults.Memory) ending = ending ≡ endings.Memory
 EndsRun file (Err run_faults.Write) ending = TellsRefusal file ending
 EndsRun file (Err run_faults.Refused) ending = TellsRefusal file ending
 
--- The script is run on a session, up to the first line that is refused, and then the file is closed.
+-- The script is run on a session, up to the first line that is refused, and then the file is closed. All replies are
+-- taken, so that the run ends by no write fault.
 pub record RunsScript {F S : Type 0} (calls : Opener F S) (facts : S → StoreFacts) (file : List ℕ)
     (session : SessionState S) (old : F) (from to : Option (List ℕ)) (reading : Type 0) (ending : Ending) (new : F)
     : Type 0 where
   pub result : Result (Unit {0}) RunFault
   pub left : Holding S
   pub runs : RunsTo result facts manner (holding session None None) from to None None left
-  pub cause : IfErr result (λ fault. HasCause fault reading ⊤)
+  pub cause : IfErr result (λ fault. HasCause fault reading ⊥)
   pub closes : calls.closes old left.session.disk.store new
   pub ends : EndsRun file result ending
 
--- no document could be made in the file
+-- No document could be made in the file: lack of memory is told as such, all else as a file that can't be made.
 abbrev pub EndsUncreated : List ℕ → Fault → Ending → Type 0
 EndsUncreated file fault ending =
-    (fault ≡ Memory × ending ≡ endings.Memory) ⊎ IsRefusedFor file (Unmade Failed) ending
+    ((fault ≡ Memory) × (ending ≡ endings.Memory))
+    ⊎ ((fault ≢ Memory) × IsRefusedFor file (Unmade Failed) ending)
 
 -- A document is made in the empty file, and the script is run on it; or there is none, and the file is closed.
 abbrev pub RestoresIn : {F S : Type 0} → Opener F S → (S → StoreFacts) → List ℕ → S → F → Option (List ℕ)

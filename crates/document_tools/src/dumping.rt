@@ -1,105 +1,128 @@
 //! A dump: a script that makes documents of a file again.
-ghost use Rattle.std.specs.Prelude.{◌≡◌, IfErr, IfOk, IsTrue, OnOk};
+ghost use Rattle.std.specs.Prelude.{◌≡◌, IfErr, IsTrue, OnOk};
 ghost use Rattle.std.specs.Io.KnownBytes.{Appends};
 ghost use Rattle.vm_file.specs.Effects.{OnlyReads};
 ghost use Rattle.vm_file.specs.Opened.{OnlyReadsStore};
+ghost use Rattle.geos_shell.specs.Streams.{StopsWriting};
 ghost use Rattle.document_dump.specs.Dumps.{dump_text};
 ghost use Rattle.document_dump.specs.Faults.{IsDumpRefusal};
-ghost use Rattle.document_tools.specs.DumpedFiles.{DumpsFile, DumpsOpen, DumpsStore, EndsUndumped};
+ghost use Rattle.document_tools.specs.DumpedFiles.{DumpsFile, DumpsOpen, DumpsStore, EndsDump, HasDumpCause, IsDumpEnd};
 
-use crate::buffered::unbuffered;
 use crate::ending::{Ending, refused};
 use crate::looking::unopened;
 use crate::obstacle::Obstacle;
+use crate::pieces::{Pieces, Watched};
 use crate::viewer::Viewer;
 use document_dump::{DumpFault, Which, dump};
 use geos_model::Fault;
+use geos_shell::Sink;
 use std::alloc::Global;
-use std::io::{BufWriter, Write};
 use vm_file::VmFile;
 use vm_store::Store;
 
-/// Writes the script that makes documents of a file again that is open. The writer comes back once all is written.
-pub fn write_dump<S: Store, W: Write + Drop>(
+// How a dump ended whose pieces were gathered, by whether the last write of them failed. A piece that couldn't be
+// written though none failed found no memory.
+fn dump_end(dumped: Result<(), DumpFault>, failed: bool) -> Result<(), DumpFault>
+    ensures { IsDumpEnd dumped failed result }
+{
+    match dumped {
+        Ok(()) if failed => Err(DumpFault::Write),
+        Err(DumpFault::Write) if !failed => Err(DumpFault::Memory),
+        _ => dumped,
+    }
+}
+
+// Writes the script of a file that is open, and gives the writer back.
+fn write_dump<S: Store, W: Sink + Drop>(
     alloc: Global,
     file: &mut VmFile<S>,
     which: Which,
     writer: W,
-) -> Result<W, DumpFault>
+) -> (W, Result<(), DumpFault>)
     ensures reads { OnlyReads S.facts file.old file.new }
-    ensures fails { IfErr result (IsDumpRefusal (S.facts file.old.disk.store) (S.facts file.new.disk.store)) }
-    ensures ok { IfOk result (λ left. IsTrue (S.facts file.old.disk.store).honest
-        → Appends (W.contents writer) (W.contents left) (dump_text which file.old.document file.old.disk.saved)) }
+    ensures fails { IfErr result.1 (IsDumpRefusal (S.facts file.old.disk.store) (S.facts file.new.disk.store)) }
+    ensures cause { IfErr result.1 (λ fault. HasDumpCause fault (∥ StopsWriting W.writes result.0 ∥₁)) }
+    ensures ok { OnOk result.1 (IsTrue (S.facts file.old.disk.store).honest
+        → Appends (W.contents writer) (W.contents result.0) (dump_text which file.old.document file.old.disk.saved)) }
 {
-    match BufWriter::new(alloc, writer) {
-        Ok(mut buffered) => {
-            dump(alloc, file, which, &mut buffered)?;
-            match unbuffered(buffered) {
-                Some(writer) => Ok(writer),
-                None => Err(DumpFault::Write),
-            }
-        }
-        Err(_) => Err(DumpFault::Memory),
+    let mut pieces = Pieces::new(alloc, writer);
+    let dumped = dump(alloc, file, which, &mut pieces);
+    let Watched { sink, failed } = pieces.finish();
+    (sink, dump_end(dumped, failed))
+}
+
+// What comes of a dump, by how it ended; `damaged` is told where a store gave back other bytes than it had.
+fn dump_ending(
+    alloc: Global,
+    name: &str,
+    damaged: Obstacle,
+    dumped: Result<(), DumpFault>,
+) -> Ending
+    ensures { EndsDump name.now damaged dumped result }
+{
+    match dumped {
+        Ok(()) => Ending::Done,
+        Err(DumpFault::Memory) => Ending::Memory,
+        Err(DumpFault::File) => refused(alloc, name, Obstacle::Unread),
+        Err(DumpFault::Damaged) => refused(alloc, name, damaged),
+        Err(DumpFault::Write) => Ending::WriteFault,
     }
 }
 
-// What comes of a dump that isn't written, or not whole.
-fn undumped(alloc: Global, name: &str, fault: DumpFault) -> Ending
-    ensures { EndsUndumped name.now fault result }
-{
-    match fault {
-        DumpFault::Memory => Ending::Memory,
-        DumpFault::File => refused(alloc, name, Obstacle::Unread),
-        DumpFault::Damaged => refused(alloc, name, Obstacle::Unopened(Fault::Damaged)),
-        DumpFault::Write => Ending::WriteFault,
-    }
-}
-
-fn dump_open<S: Store, W: Write + Drop>(
+/// Writes the script that makes documents of a file again that is open, and gives the writer back. `damaged` is told
+/// where the store gave back other bytes than it had.
+pub(crate) fn dump_open<S: Store, W: Sink + Drop>(
     alloc: Global,
     file: &mut VmFile<S>,
     name: &str,
     which: Which,
+    damaged: Obstacle,
     writer: W,
-) -> Result<W, Ending>
+) -> (W, Ending)
     ensures reads { OnlyReads S.facts file.old file.new }
-    ensures told { DumpsOpen S.facts W.contents name.now which file.old file.new writer result }
+    ensures told { DumpsOpen S.facts W.contents W.writes name.now which damaged file.old file.new writer
+        result.0 result.1 }
 {
-    match write_dump(alloc, file, which, writer) {
-        Ok(writer) => Ok(writer),
-        Err(fault) => Err(undumped(alloc, name, fault)),
-    }
+    let (left, dumped) = write_dump(alloc, file, which, writer);
+    (left, dump_ending(alloc, name, damaged, dumped))
 }
 
-fn dump_store<S: Store, W: Write + Drop>(
+fn dump_store<S: Store, W: Sink + Drop>(
     alloc: Global,
     store: S,
     name: &str,
     which: Which,
     writer: W,
-) -> Result<W, Ending>
+) -> (W, Ending)
     ensures { (left : S) × OnlyReadsStore (S.facts store) (S.facts left)
-        × DumpsStore W.contents name.now which (S.facts store) (S.facts left) writer result }
+        × DumpsStore W.contents W.writes name.now which (S.facts store) (S.facts left) writer result.0 result.1 }
 {
     match VmFile::open(alloc, store) {
-        Ok(mut file) => dump_open(alloc, &mut file, name, which, writer),
-        Err(refused) => Err(unopened(alloc, name, refused.fault)),
+        Ok(mut file) => {
+            let damaged = Obstacle::Unopened(Fault::Damaged);
+            dump_open(alloc, &mut file, name, which, damaged, writer)
+        }
+        Err(refused) => {
+            let obstacle = Obstacle::Unopened(refused.fault);
+            (writer, unopened(alloc, name, refused.fault, obstacle))
+        }
     }
 }
 
-/// Opens the file of a name to be read alone, and writes the script that makes documents of it again. The writer comes
-/// back once all is written.
-pub fn dump_file<V: Viewer, W: Write + Drop>(
+/// Opens the file of a name to be read alone, writes the script that makes documents of it again, and gives the writer
+/// back. It gets the script in parts.
+pub fn dump_file<V: Viewer, W: Sink + Drop>(
     alloc: Global,
     viewer: &mut V,
     file: &str,
     which: Which,
     writer: W,
-) -> Result<W, Ending>
-    ensures { DumpsFile V.views V.Opened.facts W.contents file.now which viewer.old viewer.new writer result }
+) -> (W, Ending)
+    ensures { DumpsFile V.views V.Opened.facts W.contents W.writes file.now which viewer.old viewer.new writer
+        result.0 result.1 }
 {
     match viewer.view(file) {
         Ok(store) => dump_store(alloc, store, file, which, writer),
-        Err(cause) => Err(refused(alloc, file, Obstacle::Unviewed(cause))),
+        Err(cause) => (writer, refused(alloc, file, Obstacle::Unviewed(cause))),
     }
 }

@@ -1,7 +1,6 @@
 //! What the program that looks at document files does: what it tells of a file, and how it ends.
 #![tactic(auto)]
 
-mod buffered;
 mod checking;
 mod dumping;
 mod ending;
@@ -9,22 +8,26 @@ mod lines;
 mod looking;
 mod mapping;
 mod obstacle;
+mod other_slot;
 mod pages_text;
+mod pieces;
 mod report_text;
 mod request;
 mod restoring;
+mod running;
 mod stating;
 mod system_viewer;
 mod viewer;
 
 pub use checking::check_file;
-pub use dumping::{dump_file, write_dump};
-pub use ending::{Ending, refused};
-pub use looking::unopened;
+pub use dumping::dump_file;
+pub use ending::Ending;
 pub use mapping::{Picture, map_file};
 pub use obstacle::{Cause, MakeFault, Obstacle};
+pub use other_slot::dump_other;
 pub use request::NoRequest;
 pub use restoring::{MakesNew, restore};
+pub use running::{Dumped, Machine, Request, run};
 pub use stating::{Form, stat_file};
 pub use system_viewer::{SystemViewer, TellsCause};
 pub use viewer::Viewer;

@@ -7,14 +7,14 @@ use geos_model::Fault;
 use geos_shell::Sink;
 use std::alloc::Global;
 
-/// What comes of an opening that is refused.
-pub fn unopened(alloc: Global, file: &str, fault: Fault) -> Ending
-    ensures { EndsUnopened file.now fault result }
+/// What comes of an opening that is refused: the obstacle is told where there was memory and the file could be read.
+pub fn unopened(alloc: Global, file: &str, fault: Fault, obstacle: Obstacle) -> Ending
+    ensures { EndsUnopened file.now fault obstacle result }
 {
     match fault {
         Fault::Memory => Ending::Memory,
         Fault::File => refused(alloc, file, Obstacle::Unread),
-        _ => refused(alloc, file, Obstacle::Unopened(fault)),
+        _ => refused(alloc, file, obstacle),
     }
 }
 

@@ -1,5 +1,5 @@
 //! A restore: a script makes the document of a file that wasn't there.
-ghost use Rattle.std.specs.Prelude.{◌≡◌, ◌++◌, ◌^◌, [], true, IfErr, IfOk, IsTrue, OnErr, OnOk};
+ghost use Rattle.std.specs.Prelude.{◌≡◌, ◌++◌, ◌^◌, [], true, IfErr, IfOk, IsTrue, None, Ok, OnErr, OnOk};
 ghost use Rattle.vm_file.specs.Opened.{OnlyReadsStore};
 ghost use Rattle.geos_shell.specs.Streams.{StopsReading};
 ghost use Rattle.document_tools.specs.Restores.{EndsRun, EndsUncreated, IsUnusable, MakesFile, MakesNone, Restores, RestoresIn, RunsScript, TellsRefusal, refused_line};
@@ -8,9 +8,8 @@ use crate::ending::{Ending, refused};
 use crate::obstacle::{MakeFault, Obstacle};
 use arrayvec::ArrayVec;
 use geos_model::{Bytes, Fault};
-use geos_shell::{Manner, RunFault, Source, run_in_manner};
+use geos_shell::{Manner, RunFault, Sink, Source, WriteFault, run_in_manner};
 use std::alloc::{AllocError, Global};
-use std::io::{self, Write};
 use undo_log::Session;
 use vm_store::{Files, Store};
 
@@ -41,24 +40,26 @@ pub trait MakesNew {
         ensures { makes self.old name.now result self.new };
 }
 
-/// A writer that keeps the front of the last line alone. A run writes the replies to several lines together, the
-/// refused one last.
+/// Takes all replies, and keeps the front of the last line alone. A run writes the replies to several lines together,
+/// the refused one last.
 #[derive(Drop)]
 struct LastReply {
     line: ArrayVec<u8, LONGEST_REFUSAL>,
 }
 
-impl Write for LastReply {
-    fn write(&mut self, buf: &[u8]) -> io::Result<usize> {
-        let line = last_line(buf);
+impl Sink for LastReply {
+    // What it keeps doesn't tell all that was written.
+    ghost contents = { λ _. None };
+
+    // No write fails.
+    ghost writes = { λ old bytes result new. result ≡ Ok tt };
+
+    fn write_out(&mut self, bytes: &[u8]) -> Result<(), WriteFault> {
+        let line = last_line(bytes);
         self.line.clear();
         let _ = self
             .line
             .try_extend_from_slice(&line[..line.len().min(LONGEST_REFUSAL)]);
-        Ok(buf.len())
-    }
-
-    fn flush(&mut self) -> io::Result<()> {
         Ok(())
     }
 }
@@ -142,8 +143,7 @@ fn refused_by(alloc: Global, file: &str, reply: &[u8]) -> Ending
     }
 }
 
-// How a restore ends, by what its script came to. All replies are taken, so that what ends a run otherwise is a
-// refusal.
+// How a restore ends, by what its script came to. All replies are taken, so that no run ends for a write's sake.
 fn end_of_run(alloc: Global, file: &str, ended: Result<(), RunFault>, reply: &[u8]) -> Ending
     ensures { EndsRun file.now ended result }
 {

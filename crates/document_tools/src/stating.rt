@@ -60,7 +60,7 @@ fn stat_store<S: Store, W: Sink>(
 {
     match stat(alloc, store) {
         Ok(stat) => tell_stat(alloc, &stat, form, writer),
-        Err(fault) => unopened(alloc, file, fault),
+        Err(fault) => unopened(alloc, file, fault, Obstacle::Unopened(fault)),
     }
 }
 

@@ -3,7 +3,6 @@
 
 mod command_line;
 mod new_files;
-mod other_slot;
 mod read_only;
 mod run;
 
@@ -29,7 +28,7 @@ fn main(rt: HostRuntime) -> ExitCode {
         Err(_) => Err(NoRequest::Unread),
     };
     let status = match asked {
-        Ok(request) => run(&rt, request).tell(&mut rt.stderr()),
+        Ok(request) => run(&rt, request),
         Err(none) => none.tell(&mut io::writer(&rt), &mut rt.stderr()),
     };
     ExitCode::from(status)

@@ -1,68 +1,46 @@
-//! Carries out what was asked for.
-use crate::command_line::{Asked, Dumped, Form, Picture, Request};
+//! Hands what was asked for to its tool, with the files and streams of the machine.
+use crate::command_line::{self, Asked};
 use crate::new_files::HostMaker;
-use crate::other_slot::dump_other;
 use crate::read_only::read_only_files;
-use document_dump::Which;
-use document_tools::{Ending, Viewer, check_file, dump_file, map_file, restore, stat_file};
+use document_tools::{Dumped, Form, Machine, Picture, Request};
 use std::io;
 use vm_store::machine_files;
 
-/// Carries out what was asked for.
-pub fn run(rt: &HostRuntime, request: Request<'_>) -> Ending {
-    let mut files = read_only_files(rt);
-    match request {
-        Request::Check(file) => check_file(rt.alloc(), &mut files, file, &mut io::writer(rt)),
-        Request::Look(asked, file) => look(rt, &mut files, asked, file),
-        Request::Restore(file) => restore(
-            rt.alloc(),
-            &mut machine_files(rt),
-            &mut HostMaker::new(*rt),
-            file,
-            &mut rt.reader(),
-        ),
-    }
+/// Carries out what was asked for, and gives the exit status.
+pub fn run(rt: &HostRuntime, asked: command_line::Request<'_>) -> u8 {
+    let (request, file) = request_of(asked);
+    let mut machine = Machine {
+        viewer: read_only_files(rt),
+        files: machine_files(rt),
+        maker: HostMaker::new(*rt),
+        reader: rt.reader(),
+    };
+    document_tools::run(
+        rt.alloc(),
+        request,
+        file,
+        &mut machine,
+        io::writer(rt),
+        &mut rt.stderr(),
+    )
 }
 
-// Tells what was asked of a file.
-fn look<V: Viewer>(rt: &HostRuntime, files: &mut V, asked: Asked, file: &str) -> Ending {
+fn request_of(asked: command_line::Request<'_>) -> (Request, &str) {
     match asked {
-        Asked::Stat(form) => stat_file(rt.alloc(), files, file, form_of(form), &mut io::writer(rt)),
-        Asked::Map(picture) => ended(map_file(
-            rt.alloc(),
-            files,
-            file,
-            picture_of(picture),
-            io::writer(rt),
-        )),
-        Asked::Dump(Dumped::Both) => dump(rt, files, file, Which::Both),
-        Asked::Dump(Dumped::Saved) => dump(rt, files, file, Which::Saved),
-        Asked::Dump(Dumped::Other) => dump_other(rt, files, file),
+        command_line::Request::Check(file) => (Request::Check, file),
+        command_line::Request::Look(asked, file) => (look_of(asked), file),
+        command_line::Request::Restore(file) => (Request::Restore, file),
     }
 }
 
-fn dump<V: Viewer>(rt: &HostRuntime, files: &mut V, file: &str, which: Which) -> Ending {
-    ended(dump_file(rt.alloc(), files, file, which, io::writer(rt)))
-}
-
-// All was written where the writer came back.
-fn ended<W: Drop>(written: Result<W, Ending>) -> Ending {
-    match written {
-        Ok(_) => Ending::Done,
-        Err(ending) => ending,
-    }
-}
-
-fn form_of(form: Form) -> document_tools::Form {
-    match form {
-        Form::Text => document_tools::Form::Columns,
-        Form::Json => document_tools::Form::Json,
-    }
-}
-
-fn picture_of(picture: Picture) -> document_tools::Picture {
-    match picture {
-        Picture::Text => document_tools::Picture::Text,
-        Picture::Svg => document_tools::Picture::Svg,
+fn look_of(asked: Asked) -> Request {
+    match asked {
+        Asked::Dump(command_line::Dumped::Both) => Request::Dump(Dumped::Both),
+        Asked::Dump(command_line::Dumped::Saved) => Request::Dump(Dumped::Saved),
+        Asked::Dump(command_line::Dumped::Other) => Request::Dump(Dumped::Other),
+        Asked::Stat(command_line::Form::Text) => Request::Stat(Form::Columns),
+        Asked::Stat(command_line::Form::Json) => Request::Stat(Form::Json),
+        Asked::Map(command_line::Picture::Text) => Request::Map(Picture::Text),
+        Asked::Map(command_line::Picture::Svg) => Request::Map(Picture::Svg),
     }
 }

@@ -1,7 +1,8 @@
-use Rattle.document_tools.proofs.Looked.{undumped_open}
+use Rattle.document_tools.proofs.Looked.{dumped_open}
 use Rattle.document_tools.proofs.dumping.dump_open.Goals as goal
 
-pub returns-in-Err-clause-told : goal.returns-in-Err-clause-told
-returns-in-Err-clause-told g c =
-    undumped_open g.S.Store.facts g.W.Write.contents c.args.name.now c.args.which c.args.file.now c.write_dump.new.file c.args.writer c.in-Err.fault c.undumped.result
-    c.in-Err.ensures.fails c.undumped.ensures
+pub returns-clause-told : goal.returns-clause-told
+returns-clause-told g c =
+    let wrote = c.write_dump-left in
+    dumped_open g.S.Store.facts g.W.Sink.contents g.W.Sink.writes c.args.name.now c.args.which c.args.damaged c.args.file.now wrote.new.file c.args.writer wrote.result.0 wrote.result.1 c.dump_ending.result
+    wrote.ensures.ok wrote.ensures.fails wrote.ensures.cause c.dump_ending.ensures

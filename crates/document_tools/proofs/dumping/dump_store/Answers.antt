@@ -1,7 +1,8 @@
-use Rattle.std.proofs.Common.{Err}
+use Rattle.std.proofs.Common.{inl, inr}
 use Rattle.vm_file.specs.Opened.{OnlyReadsStore}
 use Rattle.vm_file.proofs.LooksLemmas.{OnlyReadsStore-trans}
 use Rattle.document_tools.specs.DumpedFiles.{DumpsStore}
+use Rattle.document_tools.specs.declared.obstacle.Obstacle.TheVariants.{Unopened}
 use Rattle.document_tools.proofs.Looked.{dumped_store, unlooked_at}
 use Rattle.document_tools.proofs.dumping.dump_store.Goals as goal
 
@@ -14,7 +15,7 @@ returns-in-Ok g c =
     let read : OnlyReadsStore (facts from.disk.store) (facts to.disk.store) = record { honest = reads.passes.honest; failures = reads.passes.failures; unchanged = reads.unchanged } in (
       to.disk.store,
       OnlyReadsStore-trans (facts store) (facts from.disk.store) (facts to.disk.store) (λ so. g.met.S.Store.timely store so) opened read,
-      dumped_store facts g.W.Write.contents c.args.name.now c.args.which store from to c.args.writer c.dump_open.result opened made.stands made.document.0 c.dump_open.ensures.told,
+      dumped_store facts g.W.Sink.contents g.W.Sink.writes c.args.name.now c.args.which store from to c.args.writer c.dump_open.result.0 c.dump_open.result.1 opened made.stands made.document.0 c.dump_open.ensures.told,
     )
 
 pub returns-in-Err : goal.returns-in-Err
@@ -22,6 +23,6 @@ returns-in-Err g c =
     let facts = g.S.Store.facts in let store = c.args.store in let refused = c.in-Err.refused in let none = c.in-Err.ensures in (
       refused.store,
       record { honest = none.store.honest; failures = none.store.failures; unchanged = none.unchanged },
-      unlooked_at (λ e. DumpsStore g.W.Write.contents c.args.name.now c.args.which (facts store) (facts refused.store) c.args.writer (Err e)) c.args.name.now (facts store) (facts refused.store) refused.fault c.unopened.result
-          (λ line is. is) tt none.file none.refused c.unopened.ensures,
+      unlooked_at (DumpsStore g.W.Sink.contents g.W.Sink.writes c.args.name.now c.args.which (facts store) (facts refused.store) c.args.writer c.args.writer) c.args.name.now (facts store) (facts refused.store) refused.fault
+          (Unopened refused.fault) c.unopened.result (λ line is failed. inl (is, failed)) (λ line is so. inr (refused.fault, is, so)) tt none.file none.refused c.unopened.ensures,
     )

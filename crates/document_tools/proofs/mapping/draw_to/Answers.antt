@@ -1,15 +1,22 @@
-use Rattle.std.proofs.Common.{Option, List, ℕ, subst}
-use Rattle.std.specs.Io.Buffered.{writer_contents}
+use Rattle.std.specs.Io.KnownBytes.{append_known}
+use Rattle.std.proofs.Common.{◌≡◌, ◌∙◌, IsTrue, ap}
+use Rattle.geos_shell.specs.Streams.{StopsWriting}
 use Rattle.file_map.specs.Drawn.{IsDrawn}
 use Rattle.document_tools.specs.Maps.{picture_of}
-use Rattle.document_tools.proofs.Looked.{drawn_through, first_contents}
+use Rattle.document_tools.proofs.Looked.{all_drawn, drawn_through, known_empty, map_caused, on_ok}
 use Rattle.document_tools.proofs.mapping.draw_to.Goals as goal
 
--- What was drawn into the buffer reached the writer.
-pub returns-in-Some-clause-text : goal.returns-in-Some-clause-text
-returns-in-Some-clause-text g c = λ so.
-    let contents = g.W.Write.contents in let picture = picture_of c.args.picture in let file = (g.S.Store.facts c.args.store.now).content in
-    let mid = writer_contents contents c.draw.new.writer in
-    drawn_through picture file (contents c.args.writer) mid (contents c.in-Some.writer) c.in-Some.ensures
-    (subst (λ (known : Option (List ℕ)). IsDrawn picture file known mid) (first_contents contents c.args.writer c.in-Ok.buffered c.in-Ok.ensures.inner c.in-Ok.ensures.empty)
-    (c.in_ok-draw-in-Ok.ensures.text so))
+-- What was drawn in pieces reached the writer.
+pub returns-clause-text : goal.returns-clause-text
+returns-clause-text g c =
+    let contents = g.W.Sink.contents in let picture = picture_of c.args.picture in let store = g.S.Store.facts c.args.store.now in
+    let first = c.new-pieces.result in let last = c.draw-drawn.new.writer in let end = c.finish-sink.result in
+    let start = append_known (contents first.watched.sink) first.gathered.items in let mid = append_known (contents last.watched.sink) last.gathered.items in
+    let begun : start ≡ contents c.args.writer =
+    known_empty (contents first.watched.sink) first.gathered.items c.new-pieces.ensures.gathered ∙ ap contents c.new-pieces.ensures.sink in
+    all_drawn (IsTrue store.honest → IsDrawn picture store.content (contents c.args.writer) (contents end.sink)) c.draw-drawn.result c.map_end.result end.failed c.map_end.ensures
+    (on_ok _ _ c.draw-drawn.result (λ text well so. drawn_through picture store.content (contents c.args.writer) start mid (contents end.sink) begun (c.finish-sink.ensures well) (text so)) c.draw-drawn.ensures.text)
+
+pub returns-clause-cause : goal.returns-clause-cause
+returns-clause-cause g c =
+    map_caused (StopsWriting g.W.Sink.writes c.finish-sink.result.sink) c.draw-drawn.result c.map_end.result c.finish-sink.result.failed c.finish-sink.result.cause c.map_end.ensures

@@ -1,4 +1,4 @@
-use Rattle.std.proofs.Common.{inl, inr}
+use Rattle.std.proofs.Common.{inl, inr, refl}
 use Rattle.document_tools.proofs.mapping.map_file.Goals as goal
 
 -- The file was opened and drawn, or it couldn't be opened.
@@ -7,4 +7,4 @@ pub returns-in-Ok : goal.returns-in-Ok
 returns-in-Ok g c = inr (c.in-Ok.store, c.in-Ok.ensures, (c.map_store.new.store, c.map_store.ensures.looks, c.map_store.ensures.told))
 
 pub returns-in-Err : goal.returns-in-Err
-returns-in-Err g c = inl (c.in-Err.cause, c.in-Err.ensures, c.refused.ensures)
+returns-in-Err g c = inl (c.in-Err.cause, c.in-Err.ensures, (c.refused.ensures, refl))

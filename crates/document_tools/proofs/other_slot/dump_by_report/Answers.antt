@@ -1,0 +1,25 @@
+use Rattle.std.proofs.Common.{inl, inr, refl}
+use Rattle.vm_file.proofs.LooksLemmas.{OnlyReadsStore-refl}
+use Rattle.file_map.specs.declared.fault.MapFault.TheVariants as map_faults
+use Rattle.file_map.proofs.MapLemmas.{uncounted}
+use Rattle.document_tools.specs.OtherSlots.{FailsLook}
+use Rattle.document_tools.specs.declared.obstacle.Obstacle.TheVariants.{Unopened}
+use Rattle.document_tools.proofs.Looked.{refused_or_memory}
+use Rattle.document_tools.proofs.other_slot.dump_by_report.Goals as goal
+
+-- A slot counts, or none does, and then the file doesn't open.
+
+pub returns-in-Ok-clause-told : goal.returns-in-Ok-clause-told
+returns-in-Ok-clause-told g c = inr (c.args.report.now, c.in-Ok.slot, c.requires, c.in-Ok.ensures, c.dump_without.ensures.told)
+
+pub returns-in-Err-clause-looks : goal.returns-in-Err-clause-looks
+returns-in-Err-clause-looks g c = OnlyReadsStore-refl (g.S.Store.facts c.args.store.now)
+
+pub returns-in-Err-clause-told : goal.returns-in-Err-clause-told
+returns-in-Err-clause-told g c =
+    let facts = g.S.Store.facts c.args.store.now in let fault = c.in-Err.fault in
+    inl (
+      refused_or_memory (FailsLook c.args.name.now facts facts) c.args.name.now (Unopened fault)
+          (λ line is. inr (fault, is, uncounted facts c.args.report.now (map_faults.Unopened fault) c.requires c.in-Err.ensures)) tt c.refused.result c.refused.ensures,
+      refl,
+    )

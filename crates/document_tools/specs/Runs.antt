@@ -1,0 +1,53 @@
+-- Which tool is called for what is asked.
+use Rattle.std.specs.Prelude.{◌≡◌, ◌^◌, ℕ, List, Option}
+use Rattle.vm_store.specs.Facts.{StoreFacts}
+use Rattle.vm_store.specs.Files.{Opener}
+use Rattle.geos_shell.specs.Streams.{Reads, StopsReading, Writes}
+use Rattle.document_dump.specs.declared.dumping.Which.TheVariants as which
+use Rattle.document_tools.specs.Checks.{ChecksFile}
+use Rattle.document_tools.specs.DumpedFiles.{DumpsFile}
+use Rattle.document_tools.specs.Maps.{MapsFile}
+use Rattle.document_tools.specs.OtherSlots.{DumpsOtherFile}
+use Rattle.document_tools.specs.Restores.{Makes, Restores}
+use Rattle.document_tools.specs.Stats.{StatsFile}
+use Rattle.document_tools.specs.Views.{Views}
+use Rattle.document_tools.specs.declared.ending.Ending.{Ending}
+use Rattle.document_tools.specs.declared.running.Dumped.{Dumped}
+use Rattle.document_tools.specs.declared.running.Dumped.TheVariants as documents
+use Rattle.document_tools.specs.declared.running.Machine.{Machine}
+use Rattle.document_tools.specs.declared.running.Request.{Request}
+use Rattle.document_tools.specs.declared.running.Request.TheVariants as requests
+
+-- the dump that is asked for
+abbrev pub DumpsAsked : {V S W : Type 0} → Views V S → (S → StoreFacts) → (W → Option (List ℕ)) → Writes W → Dumped
+    → List ℕ → V → V → W → W → Ending → Type 0
+DumpsAsked views facts contents writes documents.Both file old new from to ending =
+    DumpsFile views facts contents writes file which.Both old new from to ending
+DumpsAsked views facts contents writes documents.Saved file old new from to ending =
+    DumpsFile views facts contents writes file which.Saved old new from to ending
+DumpsAsked views facts contents writes documents.Other file old new from to ending =
+    DumpsOtherFile views facts contents writes file old new from to ending
+
+-- no file is opened but to be read alone, none is made, and no script is read
+abbrev pub OnlyLooks : {V F M R : Type 0} → Machine V F M R → Machine V F M R → Type 0
+OnlyLooks old new = (new.files ≡ old.files) × (new.maker ≡ old.maker) × (new.reader ≡ old.reader)
+
+-- what a request comes to: what its tool does with the file of the name, and nothing else
+abbrev pub CarriesOut : {V S F T M R W : Type 0} → Views V S → (S → StoreFacts) → Opener F T → (T → StoreFacts)
+    → Makes M → (R → Option (List ℕ)) → Reads R → (W → Option (List ℕ)) → Writes W → Request → List ℕ
+    → Machine V F M R → Machine V F M R → W → W → Ending → Type 0
+CarriesOut views viewed calls facts makes remaining reads contents writes requests.Check file old new from to ending =
+    ChecksFile views viewed writes file old.viewer new.viewer from to ending × OnlyLooks old new
+CarriesOut views viewed calls facts makes remaining reads contents writes (requests.Dump asked) file old new from to
+    ending =
+    DumpsAsked views viewed contents writes asked file old.viewer new.viewer from to ending × OnlyLooks old new
+CarriesOut views viewed calls facts makes remaining reads contents writes (requests.Stat form) file old new from to
+    ending =
+    StatsFile views viewed writes file form old.viewer new.viewer from to ending × OnlyLooks old new
+CarriesOut views viewed calls facts makes remaining reads contents writes (requests.Map picture) file old new from to
+    ending =
+    MapsFile views viewed contents writes file picture old.viewer new.viewer from to ending × OnlyLooks old new
+CarriesOut views viewed calls facts makes remaining reads contents writes requests.Restore file old new from to ending =
+    Restores calls facts makes file old.files old.maker new.files new.maker (remaining old.reader)
+    (remaining new.reader) (StopsReading reads (2 ^ 24) old.reader new.reader) ending
+    × (new.viewer ≡ old.viewer) × (to ≡ from)

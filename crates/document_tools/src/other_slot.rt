@@ -1,0 +1,127 @@
+//! A dump of what the slot leads to that doesn't count.
+ghost use Rattle.std.specs.Prelude.{◌≡◌, IsTrue, MatchResult, Some};
+ghost use Rattle.vm_file.specs.Opened.{OnlyReadsStore};
+ghost use Rattle.file_report.specs.Checked.{IsReport, counting_number};
+ghost use Rattle.file_map.specs.Faults.{IsUncounted};
+ghost use Rattle.file_map.specs.declared.fault.MapFault.TheVariants.{Unopened};
+ghost use Rattle.document_tools.specs.OtherSlots.{DumpsCopy, DumpsOther, DumpsOtherFile, DumpsWithout};
+
+use crate::dumping::dump_open;
+use crate::ending::{Ending, refused};
+use crate::looking::unopened;
+use crate::obstacle::Obstacle;
+use crate::viewer::Viewer;
+use document_dump::{Which, copy_with_gate_closed};
+use file_report::{Report, check};
+use geos_model::Fault;
+use geos_shell::Sink;
+use std::alloc::Global;
+use vm_file::VmFile;
+use vm_store::{MemStore, Store};
+
+// The slot that counts. Where none does it is told why: the file opens in no such case.
+fn counting_slot(report: &Report) -> Result<u8, Fault>
+    ensures { MatchResult result
+        (λ slot. counting_number report.now.first report.now.second ≡ Some slot)
+        (λ fault. IsUncounted report.now (Unopened fault)) }
+{
+    if let Some(slot) = report.counting_slot() {
+        return Ok(slot);
+    }
+    match report.verdict {
+        Ok(()) => Err(Fault::NotDocument),
+        Err(fault) => Err(fault),
+    }
+}
+
+fn dump_copy<W: Sink + Drop>(alloc: Global, copy: MemStore, name: &str, writer: W) -> (W, Ending)
+    ensures { DumpsCopy W.contents W.writes name.now copy writer result.0 result.1 }
+{
+    match VmFile::open(alloc, copy) {
+        Ok(mut file) => {
+            let damaged = Obstacle::NoOther(Fault::Damaged);
+            dump_open(alloc, &mut file, name, Which::Both, damaged, writer)
+        }
+        Err(refused) => {
+            let obstacle = Obstacle::NoOther(refused.fault);
+            (writer, unopened(alloc, name, refused.fault, obstacle))
+        }
+    }
+}
+
+// Dumps what the file has without a slot, of a copy in memory.
+fn dump_without<S: Store, W: Sink + Drop>(
+    alloc: Global,
+    store: &mut S,
+    slot: u8,
+    name: &str,
+    writer: W,
+) -> (W, Ending)
+    ensures looks { OnlyReadsStore (S.facts store.old) (S.facts store.new) }
+    ensures told { DumpsWithout W.contents W.writes name.now slot (S.facts store.old) (S.facts store.new) writer
+        result.0 result.1 }
+{
+    match copy_with_gate_closed(alloc, store, slot) {
+        Ok(copy) => dump_copy(alloc, copy, name, writer),
+        Err(fault) => {
+            let obstacle = Obstacle::Unopened(fault);
+            (writer, unopened(alloc, name, fault, obstacle))
+        }
+    }
+}
+
+// Dumps what the slot leads to that doesn't count, by what was found of the file.
+fn dump_by_report<S: Store, W: Sink + Drop>(
+    alloc: Global,
+    store: &mut S,
+    report: &Report,
+    name: &str,
+    writer: W,
+) -> (W, Ending)
+    requires { IsTrue (S.facts store.old).honest → IsReport (S.facts store.old).content report.now }
+    ensures looks { OnlyReadsStore (S.facts store.old) (S.facts store.new) }
+    ensures told { DumpsOther W.contents W.writes name.now (S.facts store.old) (S.facts store.new) writer
+        result.0 result.1 }
+{
+    match counting_slot(report) {
+        Ok(slot) => dump_without(alloc, store, slot, name, writer),
+        Err(fault) => (writer, refused(alloc, name, Obstacle::Unopened(fault))),
+    }
+}
+
+fn dump_other_of<S: Store, W: Sink + Drop>(
+    alloc: Global,
+    store: &mut S,
+    name: &str,
+    writer: W,
+) -> (W, Ending)
+    ensures looks { OnlyReadsStore (S.facts store.old) (S.facts store.new) }
+    ensures told { DumpsOther W.contents W.writes name.now (S.facts store.old) (S.facts store.new) writer
+        result.0 result.1 }
+{
+    match check(alloc, store) {
+        Ok(report) => dump_by_report(alloc, store, &report, name, writer),
+        Err(fault) => {
+            let obstacle = Obstacle::Unopened(fault);
+            (writer, unopened(alloc, name, fault, obstacle))
+        }
+    }
+}
+
+/// Opens the file of a name to be read alone, writes the script that makes the documents again to which the slot leads
+/// that doesn't count, and gives the writer back. It gets the script in parts. A copy of the file is made in memory,
+/// for twice its bytes.
+pub fn dump_other<V: Viewer, W: Sink + Drop>(
+    alloc: Global,
+    viewer: &mut V,
+    file: &str,
+    writer: W,
+) -> (W, Ending)
+    ensures { DumpsOtherFile V.views V.Opened.facts W.contents W.writes file.now viewer.old viewer.new writer
+        result.0 result.1 }
+{
+    match viewer.view(file) {
+        Ok(mut store) => dump_other_of(alloc, &mut store, file, writer),
+        Err(cause) => (writer, refused(alloc, file, Obstacle::Unviewed(cause))),
+    }
+}
