@@ -7,7 +7,7 @@ use Rattle.vm_file.specs.Opened.{OnlyReadsStore}
 use Rattle.geos_model.specs.declared.fault.Fault.{Fault}
 use Rattle.geos_model.specs.declared.fault.Fault.TheVariants.{Memory}
 use Rattle.undo_log.specs.Sessions.{SessionState}
-use Rattle.geos_shell.specs.Holdings.{Holding, holding}
+use Rattle.geos_replies.specs.Holdings.{Holding, holding}
 use Rattle.geos_shell.specs.Program.{IsCreated, IsNotCreated}
 use Rattle.geos_shell.specs.RunFaults.{HasCause}
 use Rattle.geos_shell.specs.Runs.{RunsTo}

@@ -3,8 +3,8 @@ use Rattle.std.specs.Prelude.{◌≡◌, ◌⊎◌, ℕ, ℤ, List, [], Option, 
 use Rattle.geos_model.specs.Script.{command}
 use Rattle.vm_store.specs.Facts.{StoreFacts}
 use Rattle.undo_log.specs.Sessions.{SessionState}
-use Rattle.geos_shell.specs.Holdings.{MayServe, holding}
-use Rattle.geos_shell.specs.Replies.{Responds}
+use Rattle.geos_replies.specs.Holdings.{MayServe, holding}
+use Rattle.geos_replies.specs.Replies.{Responds}
 use Rattle.c_sessions.specs.Codes.{HandsOut, untold}
 
 -- The line is answered, without a target for a save-as, over any store, and its reply line is handed out.

@@ -2,7 +2,7 @@
 ghost use Rattle.geos_c.specs.Lines.{AnswersLine};
 
 use c_sessions::{UNTOLD, hand_out};
-use geos_shell::answer_line;
+use geos_replies::answer_line;
 use std::alloc::Global;
 use undo_log::Session;
 use vm_store::Store;

@@ -1,6 +1,6 @@
 -- What a call that is served shows of the stores: how often they failed, and which pairs of a failed commit may be read.
 use Rattle.std.proofs.Common.{◌≡◌, ◌⊎◌, ℕ, ◌+◌, ◌≤◌, min, Bool, true, false, cond, nat_le, [], Option, Some, None, IsTrue, Result, Ok, Err, refl, sym, subst, ◌∙◌, inl, inr, arith}
-use Rattle.std.proofs.lemmas.Bool.{leb-true, or_left}
+use Rattle.std.proofs.lemmas.Bool.{leb-true}
 use Rattle.geos_model.specs.Reply.{Reply, Refused}
 use Rattle.geos_model.specs.Machine.{Request}
 use Rattle.geos_model.specs.declared.fault.Fault.{Fault}
@@ -11,7 +11,8 @@ use Rattle.vm_file.specs.Documents.{Documents}
 use Rattle.vm_file.proofs.PassingLemmas.{KeepsCommitted-refl}
 use Rattle.undo_log.specs.Sessions.{failed_since}
 use Rattle.undo_log.proofs.Keeping.{failed_true}
-use Rattle.geos_shell.specs.Holdings.{AreExact, CommitsAsTold, CommitsNothing, Holding, LeavesFiles, SavesAs, ServesRequest, SameFiles, CommitsOrKeeps, failed_with, failed_since_in}
+use Rattle.geos_replies.specs.Holdings.{AreExact, CommitsAsTold, CommitsNothing, Holding, LeavesFiles, SavesAs, ServesRequest, SameFiles, CommitsOrKeeps, failed_with, failed_since_in}
+use Rattle.geos_replies.proofs.FileFaults.{failed_so}
 use Rattle.geos_shell.specs.Runs.{AfterFailures, CountsFailures}
 
 -- where a count rose, by one at least or to the last value
@@ -27,12 +28,6 @@ not_failed true none so = omega (arith, none)
 not_failed false none so = cc so
 
 module _ {S : Type 0} (facts : S → StoreFacts) where
-  -- where the session's store failed and no target was used up
-  pub failed_so : (failed : Bool) (old new : Option S) → (new ≡ None → old ≡ None) → failed ≡ true → failed_with failed facts old new ≡ true
-  failed_so failed None new left so = so
-  failed_so failed (Some t) (Some back) left so = or_left failed (failed_since (facts t) (facts back)) so
-  failed_so failed (Some t) None left so = let none : Some t ≡ None = left refl in cc none
-
   counts : (old new : Holding S) → (old.target ≡ None → new.target ≡ None) → (facts old.session.disk.store).failures ≤ (facts new.session.disk.store).failures
       → CountsFailures facts old (cond (failed_since_in facts old new) 1 0) new
   counts old new used least none =
@@ -59,7 +54,7 @@ module _ {S : Type 0} (facts : S → StoreFacts) where
       record {
         counted = counts old new used tries.commits.failures;
         adds = λ none. adds_none pair old.session.disk new.session.disk result tries so
-            (λ raised. not_failed (failed_since_in facts old new) none (failed_so _ old.target new.target left (failed_true (facts old.session.disk.store) (facts new.session.disk.store) raised)));
+            (λ raised. not_failed (failed_since_in facts old new) none (failed_so facts _ old.target new.target left (failed_true (facts old.session.disk.store) (facts new.session.disk.store) raised)));
       }
 
   after_settles : (old new : Holding S) (pair : Documents) (reply : Reply) → CommitsAsTold facts pair old reply new → IsTrue (facts old.session.disk.store).honest

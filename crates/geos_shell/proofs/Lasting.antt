@@ -3,7 +3,7 @@ use Rattle.std.proofs.Common.{◌≡◌, ℕ, ◌<◌, List, [], ◌∷◌, ◌+
 use Rattle.std.proofs.lemmas.List.{nil_from_length}
 use Rattle.geos_model.specs.Script.{lines}
 use Rattle.vm_store.specs.Facts.{StoreFacts}
-use Rattle.geos_shell.specs.Holdings.{Holding}
+use Rattle.geos_replies.specs.Holdings.{Holding}
 use Rattle.geos_shell.specs.Runs.{AnswersLines, StopsBy}
 use Rattle.geos_shell.specs.Progress.{HasNoFeed, IsAnswered, IsStopped, Progress, StandsFor}
 use Rattle.geos_shell.specs.declared.runner.RunFault.{RunFault}

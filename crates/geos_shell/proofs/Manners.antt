@@ -13,10 +13,11 @@ use Rattle.geos_model.specs.Reply.{Reply, Accepted, Refused, BlockIs, ChunkIs, T
 use Rattle.geos_model.specs.Script.{command, gets_reply, output, reply_line, reply_text, requests}
 use Rattle.geos_model.specs.declared.command.Command.TheVariants as commands
 use Rattle.vm_store.specs.Facts.{StoreFacts}
-use Rattle.geos_shell.specs.Holdings.{AnswersCalls, AnswersRequest, AreExact, Holding, failed_since_in}
-use Rattle.geos_shell.specs.Manners.{begins_with_no, echoed, is_refusal, lead, longest_kept, plain, written_of}
+use Rattle.geos_replies.specs.Holdings.{AnswersCalls, AnswersRequest, AreExact, Holding, failed_since_in}
+use Rattle.geos_shell.specs.Manners.{begins_with_no, echoed, lead, longest_kept, plain, written_of}
+use Rattle.geos_replies.specs.Holdings.{is_refusal}
 use Rattle.geos_shell.specs.Progress.{IsAnswered, StandsFor}
-use Rattle.geos_shell.specs.Replies.{Responds}
+use Rattle.geos_replies.specs.Replies.{Responds}
 use Rattle.geos_shell.specs.Runs.{AnswersLines, AnswersOf, EndsBy, RefusesRequest, replies_of}
 use Rattle.geos_shell.specs.declared.runner.RunFault.TheVariants as faults
 use Rattle.geos_shell.specs.declared.runner.Manner.{Manner}

@@ -8,7 +8,7 @@ use Rattle.geos_model.specs.Script.{lines}
 use Rattle.vm_store.specs.Facts.{StoreFacts}
 use Rattle.undo_log.specs.Sessions.{IsExact}
 use Rattle.geos_shell.specs.declared.answering.Answering.{Answering}
-use Rattle.geos_shell.specs.Holdings.{AreExact, Holding}
+use Rattle.geos_replies.specs.Holdings.{AreExact, Holding}
 use Rattle.geos_shell.specs.Progress.{AnswersPiece, AnswersRest, Ends, GoesOver, Moment, PieceFails, ProgressOf, StopsAtEnd, StopsIn, StopsPiece, StopsRest, Unsent, moment}
 use Rattle.geos_shell.specs.RunFaults.{HasCause}
 use Rattle.geos_shell.specs.Runs.{AnswersAll, AnswersFinished, AnswersSome, AnswersUnsent, EndsBy, RunsTo, StoppedWith, StopsBy}

@@ -3,7 +3,7 @@ use Rattle.std.proofs.Common.{◌≡◌, ℕ, ◌<◌, List, [], ◌∷◌, ◌+
 use Rattle.std.proofs.lemmas.List.{append_assoc, append-nil}
 use Rattle.geos_model.specs.Script.{lines, finished_lines, command}
 use Rattle.vm_store.specs.Facts.{StoreFacts}
-use Rattle.geos_shell.specs.Holdings.{Holding, MayServe}
+use Rattle.geos_replies.specs.Holdings.{Holding, MayServe}
 use Rattle.geos_shell.specs.Runs.{AnswersLines, MayServeNext, RefusesRequest, StoppedByRefusal, StoppedWith, StopsBy}
 use Rattle.geos_shell.specs.Progress.{HasNoFeed, StandsFor, Progress, GoesOver, Moment, StopsIn}
 use Rattle.geos_shell.specs.declared.runner.RunFault.{RunFault}

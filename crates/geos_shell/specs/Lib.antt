@@ -1,10 +1,8 @@
 pub mod Files
-pub mod Holdings
 pub mod Manners
 pub mod Outcome
 pub mod Program
 pub mod Progress
-pub mod Replies
 pub mod RunFaults
 pub mod Runs
 pub mod Streams

@@ -33,10 +33,6 @@ abbrev pub written_of : Bool → List (List ℕ) → List Reply → List ℕ
 written_of false lines replies = output replies
 written_of true lines replies = echoed lines replies
 
-abbrev pub is_refusal : Reply → Bool
-is_refusal (Refused fault) = true
-is_refusal reply = false
-
 -- by which the line of a refusal is told from those of other replies
 abbrev pub begins_with_no : List ℕ → Bool
 begins_with_no line = starts_with nat_eq line (codes "no ")

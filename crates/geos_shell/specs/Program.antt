@@ -13,7 +13,7 @@ use Rattle.vm_store.specs.Files.{Opener}
 use Rattle.command_lines.specs.Options.{CommandLine, IsUsable, RefusesWords, Text, command_line}
 use Rattle.command_lines.specs.declared.asked.NoOptions.{NoOptions}
 use Rattle.geos_shell.specs.Files.{OpensFile, FileFails, OpensTarget, TargetFails, ClosesAny}
-use Rattle.geos_shell.specs.Holdings.{Holding, holding}
+use Rattle.geos_replies.specs.Holdings.{Holding, holding}
 use Rattle.geos_shell.specs.Outcome.{without_options}
 use Rattle.geos_shell.specs.Runs.{AnswersAll, EndsBy}
 use Rattle.geos_shell.specs.declared.outcome.Outcome.{Outcome}

@@ -3,7 +3,7 @@ use Rattle.std.specs.Prelude.{◌≡◌, ◌⊎◌, ℕ, ◌<◌, List, [], ◌�
 use Rattle.std.specs.Io.KnownBytes.{Appends}
 use Rattle.geos_model.specs.Script.{command, line_feed, lines, finished_lines}
 use Rattle.vm_store.specs.Facts.{StoreFacts}
-use Rattle.geos_shell.specs.Holdings.{Holding, MayServe}
+use Rattle.geos_replies.specs.Holdings.{Holding, MayServe}
 use Rattle.geos_shell.specs.Manners.{longest_kept}
 use Rattle.geos_shell.specs.Runs.{AnswersLines, RefusesRequest, StoppedWith, StopsBy}
 use Rattle.geos_shell.specs.declared.answering.Answering.{Answering}

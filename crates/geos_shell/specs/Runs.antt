@@ -8,8 +8,9 @@ use Rattle.geos_model.specs.Reply.{Reply, Refused}
 use Rattle.geos_model.specs.Script.{command, gets_reply, lines, finished_lines, reply_line, requests, Answered}
 use Rattle.geos_model.specs.declared.fault.Fault.{Fault}
 use Rattle.vm_store.specs.Facts.{StoreFacts, last_count}
-use Rattle.geos_shell.specs.Holdings.{AnswersCalls, AnswersRequest, Holding, AreExact, MayServe, Serving, machine}
-use Rattle.geos_shell.specs.Manners.{is_refusal, lead, written_of}
+use Rattle.geos_replies.specs.Holdings.{AnswersCalls, AnswersRequest, Holding, AreExact, MayServe, Serving, machine}
+use Rattle.geos_shell.specs.Manners.{lead, written_of}
+use Rattle.geos_replies.specs.Holdings.{is_refusal}
 use Rattle.geos_shell.specs.declared.runner.Manner.{Manner}
 use Rattle.geos_shell.specs.declared.runner.RunFault.{RunFault}
 use Rattle.geos_shell.specs.declared.runner.RunFault.TheVariants as faults

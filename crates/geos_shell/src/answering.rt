@@ -1,15 +1,15 @@
 //! The lines of a script and their replies, as the script comes piece by piece.
 ghost use Rattle.std.specs.Prelude.{◌≡◌, ◌++◌, ◌∷◌, [], ◌≤◌, ◌<◌, ℕ, List, drop, take, length, IfOk, IfErr, OnOk, OnErr};
 ghost use Rattle.geos_model.specs.Script.{command, line_feed};
-ghost use Rattle.geos_shell.specs.Holdings.{MayServe, holding};
+ghost use Rattle.geos_replies.specs.Holdings.{MayServe, holding};
 ghost use Rattle.geos_shell.specs.Manners.{begins_with_no, lead};
 ghost use Rattle.geos_shell.specs.Progress.{Ends, GoesOver, HasNoFeed, IsAnswered, IsStopped, StandsFor, StopsAtEnd, StopsIn, moment};
-ghost use Rattle.geos_shell.specs.Replies.{Extends, Responds};
+ghost use Rattle.geos_replies.specs.Replies.{Extends, Responds};
 ghost use Rattle.geos_shell.specs.RunFaults.{HasCause};
 
-use crate::replies::answer_line;
 use crate::runner::{Manner, RunFault};
 use bstr::ByteSlice;
+use geos_replies::answer_line;
 use std::alloc::{AllocError, Global};
 use undo_log::Session;
 use vm_store::Store;

@@ -4,12 +4,10 @@
 mod answering;
 mod outcome;
 mod program;
-mod replies;
 mod runner;
 mod streams;
 
 pub use outcome::Outcome;
 pub use program::{run_program, serve};
-pub use replies::answer_line;
 pub use runner::{Ended, Manner, RunFault, run, run_in, run_in_manner};
 pub use streams::{ReadFault, Sink, Source, WriteFault};

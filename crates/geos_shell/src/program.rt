@@ -5,7 +5,7 @@ ghost use Rattle.geos_shell.specs.Files.{OpensFile, FileFails, OpensTarget, Targ
 ghost use Rattle.geos_shell.specs.Outcome.{HasRunCause, IsTold, IsUnread};
 ghost use Rattle.geos_shell.specs.Program.{FromFile, BeginsSession, ComesTo, IsScriptAnswered, IsGivenUp, IsNotBegun};
 ghost use Rattle.geos_shell.specs.Streams.{StopsReading, StopsWriting};
-ghost use Rattle.geos_shell.specs.Holdings.{holding};
+ghost use Rattle.geos_replies.specs.Holdings.{holding};
 
 use crate::outcome::Outcome;
 use crate::runner::{Manner, READS, RunFault, run_in_manner};

@@ -2,7 +2,7 @@
 ghost use Rattle.std.specs.Prelude.{◌≡◌, ◌^◌, [], IfErr, OnOk, Ok, None};
 ghost use Rattle.std.specs.Io.KnownBytes.{Appends};
 ghost use Rattle.undo_log.specs.Sessions.{IsExact};
-ghost use Rattle.geos_shell.specs.Holdings.{AreExact, holding};
+ghost use Rattle.geos_replies.specs.Holdings.{AreExact, holding};
 ghost use Rattle.geos_shell.specs.Manners.{plain};
 ghost use Rattle.geos_shell.specs.Progress.{AnswersPiece, AnswersRest, PieceFails, RestFails, moment};
 ghost use Rattle.geos_shell.specs.RunFaults.{HasCause};

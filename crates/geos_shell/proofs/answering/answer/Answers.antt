@@ -1,5 +1,5 @@
 use Rattle.std.proofs.Common.{◌&&◌, ◌∙◌, ap, length, drop, ◌++◌, sym}
-use Rattle.geos_shell.specs.Holdings.{holding}
+use Rattle.geos_replies.specs.Holdings.{holding}
 use Rattle.geos_shell.specs.Manners.{begins_with_no, lead}
 use Rattle.geos_shell.proofs.Manners.{answered, none_so, refused}
 use Rattle.geos_shell.proofs.answering.answer.Goals as goal

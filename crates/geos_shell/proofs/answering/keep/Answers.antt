@@ -1,7 +1,7 @@
 use Rattle.std.proofs.Common.{◌+◌, ◌<◌, length, arith}
 use Rattle.std.proofs.lemmas.Result.{on_ok_weaker}
 use Rattle.geos_shell.proofs.Lines.{StandsFor-front}
-use Rattle.geos_shell.proofs.Calls.{on_ok_if}
+use Rattle.geos_replies.proofs.Calls.{on_ok_if}
 use Rattle.geos_shell.proofs.answering.keep.Goals as goal
 
 -- The front that is kept makes the line too long where it is not the whole.

@@ -1,7 +1,7 @@
 use Rattle.std.proofs.Common.{◌≡◌, ◌∙◌, ◌++◌, [], List, ap, drop, inl, inr, refl, sym, take}
 use Rattle.std.proofs.lemmas.List.{append_assoc, take-append-drop, take_rest}
 use Rattle.std.proofs.lemmas.Result.{err_from_is_err_and}
-use Rattle.geos_shell.specs.Holdings.{holding}
+use Rattle.geos_replies.specs.Holdings.{holding}
 use Rattle.geos_shell.specs.Progress.{moment}
 use Rattle.geos_shell.proofs.Runs.{AnswersPiece-none, AnswersPiece-trans, PieceFails-trans, Unsent-fed, piece_sent}
 use Rattle.geos_shell.proofs.runner.answer_piece.Goals as goal

@@ -1,6 +1,6 @@
 -- The bytes before what is left of the piece are answered, and the replies are sent.
 use Rattle.std.proofs.Common.{◌≡◌, ◌++◌, [], ℕ, List, length}
-use Rattle.geos_shell.specs.Holdings.{holding}
+use Rattle.geos_replies.specs.Holdings.{holding}
 use Rattle.geos_shell.specs.Progress.{AnswersPiece, moment}
 use Rattle.geos_shell.proofs.runner.answer_piece.Given as goal
 

@@ -1,6 +1,6 @@
 use Rattle.std.proofs.lemmas.Result.{IfErr-weaker, err_from_is_err_and, on_ok_weaker}
 use Rattle.std.proofs.Common.{inl, inr}
-use Rattle.geos_shell.specs.Holdings.{holding}
+use Rattle.geos_replies.specs.Holdings.{holding}
 use Rattle.geos_shell.specs.Progress.{moment}
 use Rattle.geos_shell.proofs.Runs.{Unsent-end}
 use Rattle.geos_shell.proofs.runner.answer_rest.Goals as goal

@@ -1,4 +1,4 @@
-use Rattle.geos_shell.specs.Holdings.{holding}
+use Rattle.geos_replies.specs.Holdings.{holding}
 use Rattle.geos_shell.specs.Manners.{plain}
 use Rattle.geos_shell.proofs.Runs.{exact_after}
 use Rattle.geos_shell.proofs.runner.run.Goals as goal

@@ -3,7 +3,7 @@ use Rattle.std.proofs.lemmas.Bool.Decides.{nat_tests}
 use Rattle.std.specs.Io.KnownBytes.{Consumes, IsAtEnd, ReadConsumes}
 use Rattle.std.proofs.KnownBytes.{Keeps-refl}
 use Rattle.std.proofs.lemmas.Result.{IfErr-weaker, MatchResult-from_both, err_from_is_err_and, on_ok_weaker}
-use Rattle.geos_shell.specs.Holdings.{holding}
+use Rattle.geos_replies.specs.Holdings.{holding}
 use Rattle.geos_shell.proofs.ReadsMade.{ReadsOften-none, ReadsOften-one}
 use Rattle.geos_shell.proofs.Runs.{Ran-none, Ran-kept, Ran-piece, AnswersFinished-now, AnswersSome-piece, AnswersSome-rest, AnswersUnsent-behind, AnswersAll-end, EndsBy-or}
 use Rattle.geos_shell.proofs.runner.run_in_manner.Goals as goal

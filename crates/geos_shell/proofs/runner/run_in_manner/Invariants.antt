@@ -1,6 +1,6 @@
 -- What was read is answered, in as many reads as turns, and the replies are sent.
 use Rattle.std.proofs.Common.{◌≡◌, []}
-use Rattle.geos_shell.specs.Holdings.{holding}
+use Rattle.geos_replies.specs.Holdings.{holding}
 use Rattle.geos_shell.specs.Progress.{moment}
 use Rattle.geos_shell.specs.Streams.{ReadsOften}
 use Rattle.geos_shell.proofs.Runs.{Ran}

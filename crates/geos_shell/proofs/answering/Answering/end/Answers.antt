@@ -1,7 +1,7 @@
 use Rattle.std.proofs.Common.{◌≡◌, ◌<◌, length, arith}
 use Rattle.std.proofs.lemmas.Result.{IfErr-weaker, on_ok_weaker}
 use Rattle.std.proofs.lemmas.Bool.Decides.{nat_tests}
-use Rattle.geos_shell.specs.Holdings.{holding}
+use Rattle.geos_replies.specs.Holdings.{holding}
 use Rattle.geos_shell.proofs.Lasting.{last_answered, last_stopped}
 use Rattle.geos_shell.proofs.Steps.{Answered-all}
 use Rattle.geos_shell.proofs.answering.Answering.end.Goals as goal

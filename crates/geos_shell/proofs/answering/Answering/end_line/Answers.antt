@@ -1,7 +1,7 @@
 use Rattle.std.proofs.Common.{◌≡◌, length, refl, arith}
 use Rattle.std.proofs.lemmas.Result.{IfErr-weaker, err_from_is_err_and, on_ok_weaker}
 use Rattle.std.proofs.lemmas.Bool.Decides.{nat_tests}
-use Rattle.geos_shell.specs.Holdings.{holding}
+use Rattle.geos_replies.specs.Holdings.{holding}
 use Rattle.geos_shell.specs.Progress.{moment}
 use Rattle.geos_shell.proofs.Lasting.{line_answered, line_stopped}
 use Rattle.geos_shell.proofs.Lines.{StandsFor-whole}

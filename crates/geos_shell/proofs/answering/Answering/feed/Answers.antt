@@ -1,7 +1,7 @@
 use Rattle.std.proofs.Common.{◌≡◌, ◌++◌, ◌∷◌, [], ◌+◌, ◌<◌, length, take, drop, arith, sym, ap, ◌∙◌, refl}
 use Rattle.std.proofs.lemmas.List.{append_assoc, take_all, take_rest}
 use Rattle.std.proofs.lemmas.Result.{err_from_is_err_and}
-use Rattle.geos_shell.specs.Holdings.{holding}
+use Rattle.geos_replies.specs.Holdings.{holding}
 use Rattle.geos_shell.specs.Progress.{StopsIn, moment}
 use Rattle.geos_shell.proofs.Lines.{HasNoFeed-before, HasNoFeed-from_reads, cut_at_feed, front_of, rest_at_feed}
 use Rattle.geos_shell.proofs.Steps.{GoesOver-trans, StopsIn-trans, StopsIn-same, Progress-part}

@@ -1,6 +1,6 @@
 -- The lines before what is left of the piece are answered.
 use Rattle.std.proofs.Common.{◌≡◌, ◌++◌, ℕ, List, length}
-use Rattle.geos_shell.specs.Holdings.{holding}
+use Rattle.geos_replies.specs.Holdings.{holding}
 use Rattle.geos_shell.specs.Progress.{GoesOver, moment}
 use Rattle.geos_shell.proofs.answering.Answering.feed.Given as goal
 

@@ -12,7 +12,7 @@ use Rattle.undo_log.specs.Sessions.{SessionState, KeepsSession, locks_in}
 use Rattle.undo_log.specs.Turning.{busy_fault}
 use Rattle.undo_log.proofs.Keeping.{kept_drifts, kept_frames, kept_locked, kept_passes}
 use Rattle.undo_log.proofs.Locks.{kept_locks}
-use Rattle.geos_shell.specs.Holdings.{Holding, KeepsHolding, holding}
+use Rattle.geos_replies.specs.Holdings.{Holding, KeepsHolding, holding}
 
 -- what a call that was refused did, of one that always tells
 pub on_err_of : {A E : Type 0} (P Q : Type 0) (r : Result A E) → MatchResult r (λ _. P) (λ _. Q) → OnErr r Q

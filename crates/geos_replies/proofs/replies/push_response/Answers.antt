@@ -2,15 +2,15 @@ use Rattle.std.proofs.Common.{◌≡◌, true, refl, rules}
 use Rattle.std.proofs.lemmas.Result.{on_err_weaker}
 use Rattle.geos_model.specs.Reply.{Accepted, reply_of_done}
 use Rattle.geos_model.specs.declared.fault.Fault.TheVariants as faults
-use Rattle.geos_shell.specs.Replies.{is_look_up}
-use Rattle.geos_shell.proofs.Calls.{on_err_always, was_ok}
-use Rattle.geos_shell.proofs.FileFaults.{file_abandon, file_commit, file_edit, file_lock, file_turn, file_unlock, file_wrong}
-use Rattle.geos_shell.proofs.Frames.{frames_abandon, frames_edit, frames_lock, frames_log, frames_same, frames_turn}
-use Rattle.geos_shell.proofs.InMemory.{lock_in_memory, turn_in_memory}
-use Rattle.geos_shell.proofs.Refusals.{keeps_commit, keeps_if_same, keeps_same, keeps_with, on_err_of}
-use Rattle.geos_shell.proofs.Replying.{done_is_other, extends_told, replied, replied_accepted, replied_mapped, replied_told}
-use Rattle.geos_shell.proofs.Serving.{disk_kept, lock_passes, serves_at_rest, serves_commit, serves_passing, serves_staying, told_as_accepted}
-use Rattle.geos_shell.proofs.replies.push_response.Goals as goal
+use Rattle.geos_replies.specs.Replies.{is_look_up}
+use Rattle.geos_replies.proofs.Calls.{on_err_always, was_ok}
+use Rattle.geos_replies.proofs.FileFaults.{file_abandon, file_commit, file_edit, file_lock, file_turn, file_unlock, file_wrong}
+use Rattle.geos_replies.proofs.Frames.{frames_abandon, frames_edit, frames_lock, frames_log, frames_same, frames_turn}
+use Rattle.geos_replies.proofs.InMemory.{lock_in_memory, turn_in_memory}
+use Rattle.geos_replies.proofs.Refusals.{keeps_commit, keeps_if_same, keeps_same, keeps_with, on_err_of}
+use Rattle.geos_replies.proofs.Replying.{done_is_other, extends_told, replied, replied_accepted, replied_mapped, replied_told}
+use Rattle.geos_replies.proofs.Serving.{disk_kept, lock_passes, serves_at_rest, serves_commit, serves_passing, serves_staying, told_as_accepted}
+use Rattle.geos_replies.proofs.replies.push_response.Goals as goal
 
 -- Edits, and undo and redo, commit nothing.
 

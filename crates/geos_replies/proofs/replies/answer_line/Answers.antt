@@ -1,10 +1,10 @@
 use Rattle.std.proofs.Common.{◌≡◌, None, false, inl, is_err, is_ok, refl, rules, true}
 use Rattle.geos_model.specs.Script.{command}
 use Rattle.geos_model.specs.declared.command.Command.TheVariants as commands
-use Rattle.geos_shell.proofs.Calls.{on_ok_if, was_ok}
-use Rattle.geos_shell.proofs.Replying.{may_serve_by, responds_bad, responds_by}
-use Rattle.geos_shell.proofs.replies.answer_line.Goals as goal
-use Rattle.geos_shell.proofs.replies.answer_line.Goals.{in-Ok-2, in-Err-BadCommand, in-Err}
+use Rattle.geos_replies.proofs.Calls.{on_ok_if, was_ok}
+use Rattle.geos_replies.proofs.Replying.{may_serve_by, responds_bad, responds_by}
+use Rattle.geos_replies.proofs.replies.answer_line.Goals as goal
+use Rattle.geos_replies.proofs.replies.answer_line.Goals.{in-Ok-2, in-Err-BadCommand, in-Err}
 
 -- Memory ran out: for the line, or for its reply.
 pub returns-then-is_err-clause-may : goal.returns-then-is_err-clause-may

@@ -1,8 +1,8 @@
 use Rattle.std.proofs.Common.{◌∙◌, sym}
-use Rattle.geos_shell.proofs.FileFaults.{file_save_as}
-use Rattle.geos_shell.proofs.Refusals.{keeps_target}
-use Rattle.geos_shell.proofs.Serving.{serves_accepted, serves_refused}
-use Rattle.geos_shell.proofs.replies.save_as.Goals as goal
+use Rattle.geos_replies.proofs.FileFaults.{file_save_as}
+use Rattle.geos_replies.proofs.Refusals.{keeps_target}
+use Rattle.geos_replies.proofs.Serving.{serves_accepted, serves_refused}
+use Rattle.geos_replies.proofs.replies.save_as.Goals as goal
 
 -- The old store is put aside.
 pub returns-in-Ok-clause-serves : goal.returns-in-Ok-clause-serves

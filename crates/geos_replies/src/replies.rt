@@ -3,8 +3,8 @@ ghost use Rattle.std.specs.Prelude.{◌≡◌, ◌≢◌, ◌++◌, true, IfErr,
 ghost use Rattle.geos_model.specs.Reply.{Accepted, reply_by};
 ghost use Rattle.geos_model.specs.Script.{command, reply_text};
 ghost use Rattle.geos_model.specs.declared.command.Command.TheVariants as commands;
-ghost use Rattle.geos_shell.specs.Holdings.{AreExact, KeepsHolding, MayServe, ServesRequest, failed_since_in, holding};
-ghost use Rattle.geos_shell.specs.Replies.{Extends, Puts, Replied, Responds, Told, asks_no_body, is_look_up};
+ghost use Rattle.geos_replies.specs.Holdings.{AreExact, KeepsHolding, MayServe, ServesRequest, failed_since_in, holding};
+ghost use Rattle.geos_replies.specs.Replies.{Extends, Puts, Replied, Responds, Told, asks_no_body, is_look_up};
 
 use geos_model::{Command, Fault, Reply, VmHandle};
 use geos_script::{push_reply, read_command};

@@ -17,7 +17,6 @@ use Rattle.undo_log.specs.Logging.{kind_of_entry, open_changes}
 use Rattle.undo_log.specs.declared.entry.LogEntry.{LogEntry}
 use Rattle.undo_log.specs.Turning.{IsSure, IsSureGroup, abandon_fault, busy_fault}
 use Rattle.chunk_edits.specs.declared.direction.Direction.TheVariants.{Forwards, Backwards}
-use Rattle.geos_shell.specs.Manners.{is_refusal}
 
 -- a session, the target of a save-as while one is left, and the store that a save-as went away from, where it was put
 -- aside
@@ -158,6 +157,10 @@ pub record ServesRequest {S : Type 0} (facts : S → StoreFacts) (old : Holding 
   pub step : Step (failed_since_in facts old new) (machine old) request reply (machine new)
   pub files : LeavesFiles facts old request reply new
   pub sure : IsTakenIfSure facts old.session request reply new.session
+
+abbrev pub is_refusal : Reply → Bool
+is_refusal (Refused fault) = true
+is_refusal reply = false
 
 -- What a refusal leaves over any store: the document, as far as the store gives back what it has, the log with its
 -- group, the locks, the frames and the number of the last commit. A target is left where one was, and what was put aside

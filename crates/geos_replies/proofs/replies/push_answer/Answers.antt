@@ -1,5 +1,5 @@
 use Rattle.std.proofs.Common.{Ok, Err, refl}
-use Rattle.geos_shell.proofs.replies.push_answer.Goals as goal
+use Rattle.geos_replies.proofs.replies.push_answer.Goals as goal
 
 pub returns-in-Ok-clause-puts : goal.returns-in-Ok-clause-puts
 returns-in-Ok-clause-puts g c = (Ok c.make.result, rw c.in-Ok.is c.make.ensures, c.push_reply.ensures.ok)

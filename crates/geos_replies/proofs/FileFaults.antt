@@ -36,8 +36,13 @@ use Rattle.undo_log.specs.Sessions.{SessionState, cache_of, failed_since, has_lo
 use Rattle.undo_log.specs.Turning.{CantApplyLog, IsNotAbandoned, IsRefusedUndoOrRedo, busy_fault}
 use Rattle.undo_log.specs.declared.entry.LogEntry.{LogEntry}
 use Rattle.undo_log.proofs.Keeping.{failed_true}
-use Rattle.geos_shell.specs.Holdings.{failed_since_in, holding}
-use Rattle.geos_shell.proofs.Failures.{failed_so}
+use Rattle.geos_replies.specs.Holdings.{failed_since_in, failed_with, holding}
+
+-- where the session's store failed and no target was used up
+pub failed_so : {S : Type 0} (facts : S → StoreFacts) (failed : Bool) (old new : Option S) → (new ≡ None → old ≡ None) → failed ≡ true → failed_with failed facts old new ≡ true
+failed_so facts failed None new left so = so
+failed_so facts failed (Some t) (Some back) left so = or_left failed (failed_since (facts t) (facts back)) so
+failed_so facts failed (Some t) None left so = let none : Some t ≡ None = left refl in cc none
 
 -- ---- what is no file fault
 

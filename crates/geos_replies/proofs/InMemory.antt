@@ -19,7 +19,7 @@ use Rattle.undo_log.specs.Sessions.{SessionState, cache_of}
 use Rattle.undo_log.specs.Turning.{IsEntryApplied, MovesEntry}
 use Rattle.undo_log.specs.declared.entry.LogEntry.{LogEntry}
 use Rattle.undo_log.specs.declared.entry.LogEntry.TheVariants as entries
-use Rattle.geos_shell.specs.Holdings.{HasNextInMemory}
+use Rattle.geos_replies.specs.Holdings.{HasNextInMemory}
 
 module _ {S : Type 0} where
   -- the block of a change within one, whichever way it is made

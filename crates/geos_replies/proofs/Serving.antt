@@ -16,7 +16,7 @@ use Rattle.vm_blocks.specs.Locking.{GainsLock}
 use Rattle.undo_log.specs.Logging.{Log}
 use Rattle.undo_log.specs.Sessions.{SessionState, IsExact, IsStep, KeepsSession, cache_of, machine_of, failed_since}
 use Rattle.undo_log.proofs.Keeping.{kept_passes}
-use Rattle.geos_shell.specs.Holdings.{AreExact, CommitsAsTold, CommitsNothing, IsTakenIfSure, LeavesFiles, ServesRequest, SameFiles, CommitsOrKeeps, failed_with, holding, result_told}
+use Rattle.geos_replies.specs.Holdings.{AreExact, CommitsAsTold, CommitsNothing, IsTakenIfSure, LeavesFiles, ServesRequest, SameFiles, CommitsOrKeeps, failed_with, holding, result_told}
 
 -- Where more stores may have failed, no less may be given up.
 

@@ -11,7 +11,7 @@ use Rattle.geos_model.specs.declared.reply.Reply.{Reply as GivenReply}
 use Rattle.vm_store.specs.Facts.{StoreFacts, FailedSince}
 use Rattle.undo_log.specs.Sessions.{SessionState, IsStep, KeepsSession}
 pub use Rattle.geos_script.specs.Texts.{Extends}
-use Rattle.geos_shell.specs.Holdings.{AnswersRequest, Holding}
+use Rattle.geos_replies.specs.Holdings.{AnswersRequest, Holding}
 
 -- An answer is made a reply, and where there was memory for the reply's text, that was put behind what was there.
 abbrev pub Puts : {T A E : Type 0} → (A → GivenReply → Type 0) → Result A Fault → Result T E → List ℕ → List ℕ → Type 0

@@ -15,12 +15,12 @@ use Rattle.geos_model.specs.declared.command.Done.TheVariants as done
 use Rattle.vm_store.specs.Facts.{StoreFacts, FailedSince}
 use Rattle.undo_log.specs.Sessions.{SessionState, AnswersAlongChain, AnswersLookUp, IsStep, KeepsSession, failed_since, machine_of}
 use Rattle.undo_log.proofs.Keeping.{kept_frames, kept_passes, keeps_refl}
-use Rattle.geos_shell.specs.Holdings.{AnswersRequest, AreExact, CommitsNothing, Holding, IsTakenIfSure, KeepsHolding, LeavesFiles, LeavesInMemory, MayServe, ServesRequest, SameFiles, failed_since_in, holding, machine}
-use Rattle.geos_shell.specs.Manners.{is_refusal}
-use Rattle.geos_shell.specs.Replies.{Extends, Replied, Responds, Told, asks_no_body, is_look_up}
-use Rattle.geos_shell.proofs.FileFaults.{IsFailure, failed_in, file_along, file_at_rest, file_seen}
-use Rattle.geos_shell.proofs.Refusals.{keeps_all, keeps_with}
-use Rattle.geos_shell.proofs.Serving.{serves_passing, step_any}
+use Rattle.geos_replies.specs.Holdings.{AnswersRequest, AreExact, CommitsNothing, Holding, IsTakenIfSure, KeepsHolding, LeavesFiles, LeavesInMemory, MayServe, ServesRequest, SameFiles, failed_since_in, holding, machine}
+use Rattle.geos_replies.specs.Holdings.{is_refusal}
+use Rattle.geos_replies.specs.Replies.{Extends, Replied, Responds, Told, asks_no_body, is_look_up}
+use Rattle.geos_replies.proofs.FileFaults.{IsFailure, failed_in, file_along, file_at_rest, file_seen}
+use Rattle.geos_replies.proofs.Refusals.{keeps_all, keeps_with}
+use Rattle.geos_replies.proofs.Serving.{serves_passing, step_any}
 
 extends_by : (old more new : List ℕ) → new ≡ old ++ more → Extends old new
 extends_by old more new e = rw e (take_at old more (length old) refl)

@@ -1,9 +1,9 @@
 use Rattle.std.proofs.Common.{ap, rules}
 use Rattle.geos_model.specs.Reply.{AreEqual, BlockIs, BytesAre, NumberIs, TokenIs, blocks_are, chunks_are, info_is, reply_of}
 use Rattle.undo_log.specs.Sessions.{machine_of}
-use Rattle.geos_shell.proofs.LookUps.{find_step, map_block_step, undos_step, redos_step}
-use Rattle.geos_shell.proofs.Replying.{told_along, told_given_at_rest, told_mapped_at_rest, told_seen}
-use Rattle.geos_shell.proofs.replies.push_look_up.Goals as goal
+use Rattle.geos_replies.proofs.LookUps.{find_step, map_block_step, undos_step, redos_step}
+use Rattle.geos_replies.proofs.Replying.{told_along, told_given_at_rest, told_mapped_at_rest, told_seen}
+use Rattle.geos_replies.proofs.replies.push_look_up.Goals as goal
 
 pub returns-in-Info-clause-told : goal.returns-in-Info-clause-told
 returns-in-Info-clause-told g c = rw c.in-Info.is (told_seen g.S.Store.facts c.push_answer.result _ info_is _ c.info.result c.push_answer.ensures.puts.0 _ _ c.push_answer.ensures.puts.1 (λ x y h. search rules) c.push_answer.ensures.puts.2 c.args.session.now c.info.new.self c.info.ensures)

@@ -1,0 +1,8 @@
+pub mod Calls
+pub mod FileFaults
+pub mod Frames
+pub mod LookUps
+pub mod Refusals
+pub mod Replying
+pub mod Serving
+pub mod InMemory
