@@ -130,12 +130,28 @@ if [ "$named" ]; then
     done
 fi
 
+# The library for C is proved and built once more, which takes longest of all. So that begins, beside `rt ci` and behind it in line, as soon
+# as all below it are proved: in a copy, since `rt ci` is at work here.
+begin_early() {
+    copy=$folder/copy
+    until [ "$(grep -c '^rt: \(geos_replies\|c_sessions\) \(proved\|is kept\)' "$folder/ci" 2>/dev/null)" = 2 ]; do
+        [ -e "$folder/ended" ] && return
+        sleep 2
+    done
+    mkdir "$copy" && cp -al crates embedding crates.txt HANDLES "$copy" && mkdir "$copy/.git" || return
+    (cd "$copy" && cp "$root/test.sh" . && nice -n 5 sh test.sh --one embedding "$folder") >"$folder/early" 2>&1
+    mkdir -p embedding/out && cp "$copy/embedding/out/libgeosvm.a" embedding/out/
+}
+
 folder=$(mktemp -d)
 trap 'rm -rf "$folder"' EXIT
 passed=0
 failed=0
 if [ "$proves" ]; then
+    begin_early &
+    early=$!
     RT_JOBS=${RT_JOBS:-$(jobs_at_once)} rt ci 2>&1 | tee "$folder/ci"
+    touch "$folder/ended"
     counts=$(sed -n 's/^.*\<\([0-9][0-9]*\) passed, \([0-9][0-9]*\) failed.*$/\1 \2/p' "$folder/ci" | tail -n 1)
     if [ "$counts" ]; then
         passed=${counts% *}
@@ -146,11 +162,19 @@ if [ "$proves" ]; then
     fi
 fi
 
-# Each is a process of its own, four at a time.
-for group in "$first" "$second"; do
+# Each is a process of its own, four at a time. What began early is waited for before the one that needs it.
+run_each() {
     # shellcheck disable=SC2086
-    printf '%s\n' $group | xargs -r -P 4 -I NAME sh test.sh --one NAME "$folder"
-done
+    printf '%s\n' $1 | xargs -r -P 4 -I NAME sh test.sh --one NAME "$folder"
+}
+if [ -e "$folder/copy" ]; then
+    run_each "${first#embedding }"
+    wait "$early"
+    cat "$folder/early"
+else
+    run_each "$first"
+fi
+run_each "$second"
 for name in $first $second; do
     if [ "$(cat "$folder/$name.status" 2>&1)" = passed ]; then
         passed=$((passed + 1))
