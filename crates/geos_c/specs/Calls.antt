@@ -13,7 +13,7 @@ use Rattle.geos_model.specs.declared.fault.Fault.TheVariants.{NothingToUndo, Not
 use Rattle.chunk_edits.specs.declared.direction.Direction.TheVariants.{Forwards, Backwards}
 use Rattle.vm_store.specs.Facts.{StoreFacts}
 use Rattle.vm_file.specs.Effects.{Fails, IsWorn}
-use Rattle.vm_blocks.specs.Committing.{IsSavedAs}
+use Rattle.vm_blocks.specs.SavingAs.{IsSavedAs}
 use Rattle.vm_blocks.specs.Locking.{GainsLock, LosesLock}
 use Rattle.undo_log.specs.Committing.{IsBusy, IsSaveAsRefused, IsSessionCommit}
 use Rattle.undo_log.specs.Logging.{empty_log, with_group_closed}
