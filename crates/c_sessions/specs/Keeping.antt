@@ -5,7 +5,7 @@ use Rattle.geos_model.specs.Reply.{Accepted, Refused}
 use Rattle.geos_model.specs.declared.command.Command.TheVariants as commands
 use Rattle.geos_model.specs.declared.fault.Fault.{Fault}
 use Rattle.vm_store.specs.Facts.{StoreFacts}
-use Rattle.vm_blocks.specs.Committing.{IsSavedAs}
+use Rattle.vm_blocks.specs.SavingAs.{IsSavedAs}
 use Rattle.vm_blocks.specs.Opening.{IsOpenedFrom, IsNotOpened, IsMadeIn, IsNotMade}
 use Rattle.undo_log.specs.Committing.{IsBusy, IsSaveAsRefused}
 use Rattle.undo_log.specs.Logging.{empty_log}

@@ -19,7 +19,7 @@ use Rattle.geos_model.proofs.ChainEdits.{blocks_of-handles, copies_of-handles}
 use Rattle.geos_model.proofs.FirstRefusals.{passed}
 use Rattle.geos_model.proofs.Refusals.{none_applies, or_none}
 use Rattle.vm_store.specs.Facts.{StoreFacts}
-use Rattle.block_cache.specs.State.{CacheState}
+use Rattle.vm_blocks.specs.State.{CacheState}
 use Rattle.vm_blocks.specs.Changes.{CanApply}
 use Rattle.vm_blocks.specs.Keeping.{KeepsBlocks, IsEnvironmentFault, IsHonest, is_full}
 use Rattle.vm_blocks.proofs.KeepingLaws.{keeps-refl}

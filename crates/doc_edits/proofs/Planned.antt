@@ -12,7 +12,7 @@ use Rattle.geos_model.specs.declared.fault.Fault.{Fault}
 use Rattle.geos_model.specs.declared.handle.VmHandle.{VmHandle}
 use Rattle.geos_model.specs.declared.scope.Scope.{Scope}
 use Rattle.geos_model.specs.declared.scope.Scope.TheVariants as scopes
-use Rattle.block_cache.specs.State.{CacheState}
+use Rattle.vm_blocks.specs.State.{CacheState}
 use Rattle.vm_blocks.specs.Keeping.{is_loaded}
 use Rattle.vm_blocks.specs.Preparing.{IsInMemory, CanCarryOut}
 use Rattle.vm_blocks.specs.declared.change.Change.{Change}

@@ -9,7 +9,7 @@ use Rattle.geos_model.specs.declared.fault.Fault.{Fault}
 use Rattle.geos_model.specs.declared.fault.Fault.TheVariants.{CacheFull}
 use Rattle.geos_model.specs.declared.scope.Scope.{Scope}
 use Rattle.geos_model.specs.declared.scope.Scope.TheVariants.{Plain, New, Block, Raw, Heap, Chunk, Chain}
-use Rattle.block_cache.specs.State.{CacheState}
+use Rattle.vm_blocks.specs.State.{CacheState}
 use Rattle.vm_blocks.specs.Keeping.{is_loaded}
 use Rattle.doc_edits.specs.Planning.{RefusesEdit}
 use Rattle.doc_edits.specs.Room.{has_no_room, ReadsNothing}

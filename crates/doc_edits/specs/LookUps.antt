@@ -13,7 +13,7 @@ use Rattle.geos_model.specs.declared.command.Command.TheVariants as commands
 use Rattle.geos_model.specs.declared.handle.ChunkHandle.{ChunkHandle}
 use Rattle.geos_model.specs.declared.handle.VmHandle.{VmHandle}
 use Rattle.vm_store.specs.Facts.{StoreFacts}
-use Rattle.block_cache.specs.State.{CacheState}
+use Rattle.vm_blocks.specs.State.{CacheState}
 use Rattle.vm_blocks.specs.Keeping.{KeepsBlocks, IsEnvironmentFault, IsHonest, is_full, is_shut_out}
 use Rattle.vm_blocks.specs.Kinds.{IsWrongBlock}
 use Rattle.vm_chains.specs.Answers.{IsWrongRoot}

@@ -6,7 +6,7 @@ use Rattle.geos_model.specs.Refusal.{first_refusal}
 use Rattle.geos_model.specs.declared.command.Edit.{Edit}
 use Rattle.geos_model.specs.declared.command.Edit.TheVariants as edits
 use Rattle.lmem_heap.specs.declared.known.ArrayKind.TheVariants.{Chunk, Element, Name}
-use Rattle.block_cache.specs.State.{CacheState}
+use Rattle.vm_blocks.specs.State.{CacheState}
 use Rattle.vm_blocks.specs.Keeping.{is_loaded}
 use Rattle.doc_edits.specs.declared.marking.ArrayPlace.{ArrayPlace}
 

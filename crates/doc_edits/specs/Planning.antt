@@ -14,7 +14,7 @@ use Rattle.geos_model.specs.declared.command.Kind.{Kind}
 use Rattle.geos_model.specs.declared.command.Kind.TheVariants.{Plain, In, Made, Freed}
 use Rattle.chunk_edits.specs.Patching.{total_given, total_taken}
 use Rattle.vm_store.specs.Facts.{StoreFacts}
-use Rattle.block_cache.specs.State.{CacheState}
+use Rattle.vm_blocks.specs.State.{CacheState}
 use Rattle.vm_file.specs.Members.{imaged_blocks}
 use Rattle.vm_blocks.specs.Changes.{after_change, content_bytes, CanApply}
 use Rattle.vm_blocks.specs.declared.change.Change.{Change}

@@ -4,7 +4,7 @@ use Rattle.geos_model.specs.Machine.{Needs, NoBody, OneBody, ManyBodies, lacks_r
 use Rattle.geos_model.specs.Refusal.{Conditions, first_refusal}
 use Rattle.geos_model.specs.declared.fault.Fault.{Fault}
 use Rattle.geos_model.specs.declared.fault.Fault.TheVariants.{CacheFull, NoBlock, WrongKind}
-use Rattle.block_cache.specs.State.{CacheState}
+use Rattle.vm_blocks.specs.State.{CacheState}
 use Rattle.vm_blocks.specs.Keeping.{is_full, is_loaded, is_shut_out}
 use Rattle.vm_chains.specs.Answers.{IsWalkRefusal}
 

@@ -26,7 +26,7 @@ use Rattle.vm_blocks.specs.Kinds.{IsWrongBlock}
 use Rattle.vm_blocks.specs.Locking.{CantLock, HasNoLock}
 use Rattle.vm_blocks.proofs.KeepingLaws.{lacks-cases}
 use Rattle.vm_chains.specs.Answers.{IsWrongRoot}
-use Rattle.block_cache.specs.State.{CacheState}
+use Rattle.vm_blocks.specs.State.{CacheState}
 use Rattle.doc_edits.specs.LookUps.{IsWrongRootOf, Sees, SeesAlongChain, answer_of}
 use Rattle.doc_edits.specs.Planning.{IsChainEditFault, RefusesEdit}
 use Rattle.doc_edits.specs.Room.{has_no_room}

@@ -5,7 +5,7 @@ use Rattle.geos_model.specs.declared.command.Edit.{Edit}
 use Rattle.geos_model.specs.declared.fault.Fault.{Fault}
 use Rattle.chunk_edits.specs.declared.direction.Direction.{Direction}
 use Rattle.vm_store.specs.Facts.{StoreFacts}
-use Rattle.block_cache.specs.State.{CacheState}
+use Rattle.vm_blocks.specs.State.{CacheState}
 use Rattle.vm_blocks.specs.Locking.{GainsLock}
 use Rattle.undo_log.specs.Logging.{Log}
 use Rattle.undo_log.specs.Sessions.{SessionState, KeepsSession, PushesEdit, cache_of}

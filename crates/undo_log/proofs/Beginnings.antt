@@ -9,7 +9,7 @@ use Rattle.vm_store.specs.Facts.{StoreFacts, IsTimely}
 use Rattle.chunk_edits.specs.declared.direction.Direction.TheVariants.{Backwards, Forwards}
 use Rattle.vm_file.specs.Documents.{Documents, sequence_in}
 use Rattle.vm_file.specs.Disk.{FileState}
-use Rattle.vm_blocks.specs.Committing.{IsSavedAs}
+use Rattle.vm_blocks.specs.SavingAs.{IsSavedAs}
 use Rattle.vm_file.proofs.ContentLemmas.{committed_content}
 use Rattle.undo_log.specs.Logging.{Log, before, empty_log, group_of, steps, to_redo, to_undo}
 use Rattle.undo_log.specs.Sessions.{SessionState, file_of, locks_in, machine_of, AreSteps, IsExact}

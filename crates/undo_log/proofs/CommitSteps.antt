@@ -18,7 +18,7 @@ use Rattle.vm_file.specs.Disk.{MayCommit, SameUnlessCorrupt, IsCrashConsistent}
 use Rattle.vm_file.proofs.PassingLemmas.{MayCommit-refused, KeepsCommitted-refl}
 use Rattle.vm_file.specs.Effects.{IsCommit, Fails, IsWorn}
 use Rattle.vm_file.specs.Documents.{Documents}
-use Rattle.block_cache.specs.State.{CacheState, as_file}
+use Rattle.vm_blocks.specs.State.{CacheState, as_file}
 use Rattle.chunk_edits.specs.declared.direction.Direction.TheVariants.{Backwards}
 use Rattle.undo_log.specs.Committing.{IsBusy, IsSessionCommit}
 use Rattle.undo_log.specs.Logging.{Log, empty_log, group_of, to_redo, to_undo}

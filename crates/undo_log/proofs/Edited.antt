@@ -25,7 +25,7 @@ use Rattle.vm_store.specs.Facts.{StoreFacts}
 use Rattle.vm_file.specs.Disk.{SameUnlessCorrupt}
 use Rattle.vm_file.proofs.PassingLemmas.{KeepsCommitted-trans, SameUnlessCorrupt-trans}
 use Rattle.geos_model.proofs.FirstRefusals.{edit-judged, edit-locked, edit-passed}
-use Rattle.block_cache.specs.State.{CacheState, ResidentBlock, KeepsLocks, locks_of}
+use Rattle.vm_blocks.specs.State.{CacheState, ResidentBlock, KeepsLocks, locks_of}
 use Rattle.vm_blocks.specs.Changes.{after_change, incoming_blocks}
 use Rattle.vm_blocks.specs.Keeping.{IsHonest, KeepsBlocks, IsEnvironmentFault, is_loaded}
 use Rattle.vm_blocks.specs.Preparing.{AreUnlocked, AllowsChange, IsInMemory, IsShutOut, CanCarryOut, CantPrepare, IsApplied}

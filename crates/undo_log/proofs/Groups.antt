@@ -8,7 +8,7 @@ use Rattle.geos_model.specs.Reply.{Accepted}
 use Rattle.geos_model.specs.declared.command.Command.TheVariants as commands
 use Rattle.vm_store.specs.Facts.{StoreFacts}
 use Rattle.vm_file.specs.Disk.{IsFileDocument}
-use Rattle.block_cache.specs.State.{CacheState}
+use Rattle.vm_blocks.specs.State.{CacheState}
 use Rattle.vm_blocks.specs.Changes.{directed}
 use Rattle.vm_blocks.specs.Preparing.{CanApplyAllByHandle, AreApplied}
 use Rattle.vm_blocks.specs.declared.change.Change.{Change}

@@ -18,8 +18,8 @@ use Rattle.geos_model.specs.declared.fault.Fault.TheVariants.{NoBlock, LockLimit
 use Rattle.geos_model.specs.declared.handle.VmHandle.{VmHandle}
 use Rattle.geos_model.proofs.HeapEdits.{get-put_same, get-put_other, get-taken_same, get-taken_other}
 use Rattle.vm_store.specs.Facts.{StoreFacts}
-use Rattle.block_cache.specs.State.{CacheState, is_resident, locks_of}
-use Rattle.block_cache.proofs.OrderOfUse.{fewer_locked, locked_there}
+use Rattle.vm_blocks.specs.State.{CacheState, is_resident, locks_of}
+use Rattle.vm_blocks.proofs.OrderOfUse.{fewer_locked, locked_there}
 use Rattle.vm_blocks.specs.Keeping.{KeepsBlocks, IsEnvironmentFault, is_shut_out}
 use Rattle.vm_blocks.specs.Locking.{CantLock, GainsLock, HasNoLock, LosesLock}
 use Rattle.vm_blocks.proofs.KeepingLaws.{shut-unlocked}

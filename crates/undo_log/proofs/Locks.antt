@@ -13,8 +13,8 @@ use Rattle.geos_model.specs.Machine.{Needs, NoBody, OneBody, ManyBodies, is_barr
 use Rattle.geos_model.specs.declared.command.Edit.{Edit}
 use Rattle.geos_model.specs.declared.command.Edit.TheVariants as edits
 use Rattle.geos_model.proofs.HeapEdits.{get-put_same, get-put_other, get-taken_same, get-taken_other}
-use Rattle.block_cache.specs.State.{ResidentBlock, is_locked, locks_of, locked_count, KeepsLocks}
-use Rattle.block_cache.proofs.Locks.{none_locked}
+use Rattle.vm_blocks.specs.State.{ResidentBlock, is_locked, locks_of, locked_count, KeepsLocks}
+use Rattle.vm_blocks.proofs.Locks.{none_locked}
 use Rattle.vm_blocks.specs.Keeping.{is_full, is_shut_out}
 use Rattle.vm_blocks.proofs.KeepingLaws.{full-is, shut-is}
 use Rattle.doc_edits.specs.Room.{has_no_room}

@@ -16,8 +16,8 @@ use Rattle.vm_file.specs.Calls.{IsCommitRefusal, last_sequence}
 use Rattle.vm_file.specs.Disk.{MayCommit, IsCrashConsistent}
 use Rattle.vm_file.proofs.PassingLemmas.{MayCommit-refused, KeepsCommitted-refl}
 use Rattle.vm_file.specs.Documents.{Documents}
-use Rattle.vm_blocks.specs.Committing.{IsSavedAs, IsNotSavedAs}
-use Rattle.block_cache.specs.State.{CacheState, as_file}
+use Rattle.vm_blocks.specs.SavingAs.{IsSavedAs, IsNotSavedAs}
+use Rattle.vm_blocks.specs.State.{CacheState, as_file}
 use Rattle.undo_log.specs.Committing.{IsBusy, IsSaveAsRefused}
 use Rattle.undo_log.specs.Logging.{Log, group_of}
 use Rattle.undo_log.specs.Sessions.{SessionState, file_of, has_locks, locks_in, machine_of, failed_since, IsExact}

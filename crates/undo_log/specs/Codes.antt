@@ -1,7 +1,7 @@
 -- The code of a session's value, by which a proof tells two apart.
 use Rattle.std.specs.Prelude.{List, Bool, Option, refl}
 use Rattle.std.specs.Coded.{Coded, code_by, coded×, coded_list, coded_option, coded_bool}
-use Rattle.block_cache.specs.State.{CacheState, cache_state_code}
+use Rattle.vm_blocks.specs.State.{CacheState, cache_state_code}
 use Rattle.vm_blocks.specs.declared.change.Change.{Change}
 use Rattle.vm_blocks.specs.contracts.change.Change as change_type
 use Rattle.undo_log.specs.Logging.{Log, LogState}

@@ -5,7 +5,7 @@ use Rattle.geos_model.specs.declared.command.Edit.{Edit}
 use Rattle.geos_model.specs.declared.command.Edit.TheVariants as edits
 use Rattle.geos_model.specs.declared.fault.Fault.{Fault}
 use Rattle.geos_model.specs.declared.fault.Fault.TheVariants.{Locked}
-use Rattle.block_cache.specs.State.{ResidentBlock, locks_of, locked_count}
+use Rattle.vm_blocks.specs.State.{ResidentBlock, locks_of, locked_count}
 use Rattle.undo_log.specs.Sessions.{SessionState, machine_of}
 
 -- whether an edit frees a block that is locked of these in memory, or copies or frees a chain while any is

@@ -8,7 +8,7 @@ use Rattle.geos_model.specs.declared.command.Edit.{Edit}
 use Rattle.geos_model.specs.declared.command.Kind.TheVariants.{Made}
 use Rattle.vm_store.specs.Facts.{StoreFacts}
 use Rattle.vm_file.specs.Disk.{SameUnlessCorrupt}
-use Rattle.block_cache.specs.State.{CacheState}
+use Rattle.vm_blocks.specs.State.{CacheState}
 use Rattle.vm_blocks.specs.Preparing.{CanApplyByHandle, IsApplied}
 use Rattle.vm_blocks.specs.declared.change.Change.{Change}
 use Rattle.doc_edits.specs.Building.{is_of_chain}

@@ -12,7 +12,7 @@ use Rattle.geos_model.specs.declared.command.Done.{Done}
 use Rattle.geos_model.specs.declared.command.Edit.{Edit}
 use Rattle.vm_store.specs.Facts.{StoreFacts, raised}
 use Rattle.vm_file.specs.Disk.{Disk, FileState}
-use Rattle.block_cache.specs.State.{CacheState, ResidentBlock, is_locked, as_file}
+use Rattle.vm_blocks.specs.State.{CacheState, ResidentBlock, is_locked, as_file}
 use Rattle.vm_blocks.specs.Changes.{after_directed, directed, CanApply}
 use Rattle.vm_blocks.specs.Keeping.{KeepsBlocks}
 use Rattle.vm_blocks.specs.Preparing.{CanApplyAllByHandle}

@@ -8,7 +8,7 @@ use Rattle.geos_model.specs.declared.command.Kind.TheVariants.{Plain, In, Made, 
 use Rattle.geos_model.specs.declared.fault.Fault.{Fault}
 use Rattle.geos_model.specs.declared.fault.Fault.TheVariants.{Damaged, GroupOpen, Locked, NoGroup, NothingToRedo, NothingToUndo}
 use Rattle.vm_store.specs.Facts.{StoreFacts}
-use Rattle.block_cache.specs.State.{CacheState}
+use Rattle.vm_blocks.specs.State.{CacheState}
 use Rattle.vm_blocks.specs.Changes.{directed, incoming_blocks}
 use Rattle.vm_blocks.specs.Keeping.{IsHonest, IsEnvironmentFault, is_loaded}
 use Rattle.vm_blocks.specs.Preparing.{CantPrepareAll, AllowsChange, AreInMemory, IsInMemory, IsApplied, AreApplied, NoneComesIn}

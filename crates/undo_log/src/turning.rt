@@ -1,6 +1,6 @@
 //! Entries that are made in a direction, and changes that are taken back.
 ghost use Rattle.std.specs.Prelude.{◌≡◌, [], true, false, None, map, nat_lt, IsOk, IfErr, OnOk, OnErr, reverse};
-ghost use Rattle.block_cache.specs.State.{locked_count};
+ghost use Rattle.vm_blocks.specs.State.{locked_count};
 ghost use Rattle.vm_blocks.specs.Changes.{directed};
 ghost use Rattle.vm_blocks.specs.Keeping.{KeepsBlocks};
 ghost use Rattle.vm_blocks.specs.Preparing.{AreInMemory, CanApplyAllByHandle, CantPrepareAll, AreApplied, NoneComesIn};

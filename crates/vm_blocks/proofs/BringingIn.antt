@@ -14,8 +14,8 @@ use Rattle.chunk_edits.specs.declared.direction.Direction.TheVariants.{Forwards,
 use Rattle.vm_file.specs.Disk.{Disk, IsFileDocument, KeepsCommitted, SameUnlessCorrupt}
 use Rattle.vm_file.specs.Members.{imaged_blocks}
 use Rattle.vm_file.proofs.PassingLemmas.{KeepsCommitted-refl, KeepsCommitted-trans, SameUnlessCorrupt-refl, SameUnlessCorrupt-trans}
-use Rattle.block_cache.specs.State.{CacheState, KeepsLocks, ResidentBlock, is_resident, locked_count}
-use Rattle.block_cache.proofs.Locks.{keeps_refl}
+use Rattle.vm_blocks.specs.State.{CacheState, KeepsLocks, ResidentBlock, is_resident, locked_count}
+use Rattle.vm_blocks.proofs.Locks.{keeps_refl}
 use Rattle.vm_blocks.specs.Changes.{AreFree, IsFreeHandle, after_change, directed, directed_all, incoming_blocks}
 use Rattle.vm_blocks.specs.Incoming.{AreBroughtIn, CanAllComeIn, CanGoAgain, IsBroughtIn, IsObstacle, LeadsBack, brought, others, with_incoming, without_again}
 use Rattle.vm_blocks.specs.InMemory.{StaysInMemory}

@@ -4,7 +4,7 @@ use Rattle.std.proofs.lemmas.List.{take_all}
 use Rattle.geos_model.specs.Document.{Document}
 use Rattle.chunk_edits.specs.Directions.{opposite}
 use Rattle.chunk_edits.specs.declared.direction.Direction.{Direction}
-use Rattle.block_cache.specs.State.{CacheState}
+use Rattle.vm_blocks.specs.State.{CacheState}
 use Rattle.vm_blocks.specs.Changes.{directed, directed_all}
 use Rattle.vm_blocks.specs.InMemory.{AllFit, AreListed, CanTakeBack, FitsInPlace, IsListed, IsReversible, all_in_place, carried, in_place, taken_back}
 use Rattle.vm_blocks.specs.Preparing.{AreInMemory, IsInMemory}

@@ -16,8 +16,8 @@ use Rattle.vm_file.specs.Effects.{Fails, IsDamage, LeavesDocument, NoFault}
 use Rattle.vm_file.specs.Members.{imaged_blocks}
 use Rattle.vm_file.specs.declared.member.Member.{Member}
 use Rattle.vm_file.proofs.PassingLemmas.{KeepsCommitted-refl, SameUnlessCorrupt-refl}
-use Rattle.block_cache.specs.State.{CacheState, ResidentBlock, is_resident, after_load, as_file, KeepsLocks, KeepsDocument}
-use Rattle.block_cache.proofs.Locks.{keeps_refl}
+use Rattle.vm_blocks.specs.State.{CacheState, ResidentBlock, is_resident, after_load, as_file, KeepsLocks, KeepsDocument}
+use Rattle.vm_blocks.proofs.Locks.{keeps_refl}
 use Rattle.vm_blocks.proofs.ManyBlocks.{in_handles}
 use Rattle.vm_blocks.specs.Changes.{AreFree, after_change, after_part}
 use Rattle.vm_blocks.specs.Keeping.{KeepsBlocks, IsEnvironmentFault, is_loaded}

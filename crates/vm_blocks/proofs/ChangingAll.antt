@@ -1,17 +1,17 @@
 -- Changes that are carried out one after another.
 use Rattle.std.proofs.Common.{◌≡◌, ◌≤◌, ◌<◌, ◌+◌, nat_lt, ℕ, Bool, List, [], ◌∷◌, map, length, reverse, get_or, drop, Option, None, Some, inl, inr, refl, sym, ap, subst, ◌∙◌}
-use Rattle.std.specs.Prelude.{Result, Ok, Err, IfErr, OnOk, OnErr}
+use Rattle.std.specs.Prelude.{Result, Ok, Err, IfErr, IfSome, IsTrue, OnOk, OnErr}
 use Rattle.std.proofs.lemmas.List.{drop_more, at_drop_all}
 use Rattle.vm_store.specs.Facts.{StoreFacts}
-use Rattle.geos_model.specs.Document.{Document, handles_of}
+use Rattle.geos_model.specs.Document.{Document, IsValid, handles_of}
 use Rattle.geos_model.specs.declared.fault.Fault.{Fault}
 use Rattle.vm_file.specs.Disk.{Disk, SameUnlessCorrupt, MarkSameUnlessCorrupt, KeepsCommitted, unmarked}
 use Rattle.vm_file.specs.Effects.{Fails, NoFault}
 use Rattle.vm_file.specs.Members.{imaged_blocks}
 use Rattle.vm_file.proofs.PassingLemmas.{KeepsCommitted-refl, KeepsCommitted-trans, SameUnlessCorrupt-refl, SameUnlessCorrupt-trans}
-use Rattle.block_cache.specs.State.{CacheState, ResidentBlock, locks_of, locked_count, KeepsLocks, Marks}
-use Rattle.block_cache.proofs.Locks.{keeps_refl, none_locked}
-use Rattle.block_cache.proofs.Marking.{none_marked}
+use Rattle.vm_blocks.specs.State.{CacheState, ResidentBlock, locks_of, locked_count, KeepsLocks, Marks}
+use Rattle.vm_blocks.proofs.Locks.{keeps_refl, none_locked}
+use Rattle.vm_blocks.proofs.Marking.{none_marked}
 use Rattle.vm_blocks.specs.Changes.{after_change, directed}
 use Rattle.vm_blocks.specs.Keeping.{KeepsBlocks, IsHonest, IsEnvironmentFault}
 use Rattle.vm_blocks.specs.Preparing.{AreUnlocked, IsShutOut, CantPrepare, IsApplied, after_changes, CanApplyAllByHandle, AllowAll, AreApplied, CantPrepareAll}
@@ -163,6 +163,13 @@ module _ {S : Type 0} (facts : S → StoreFacts) where
         | inl lacks ↦ inl (subst (λ (d : Disk S). IsEnvironmentFault facts old.disk.store d.store fault) (sym disk) (lacks-since facts old.disk.store mid.disk.store last.disk.store fault marks.passes.honest marks.passes.failures lacks))
         | inr damaged ↦ inr (damaged.0, λ steady takes. damaged.1 (steady-on facts old.disk.store mid.disk.store marks.passes.honest steady) (subst (AllowAll all) (sym (marks.document.same (steady-honest facts old.disk.store steady))) takes))
       ]
+
+      -- the marked document is valid
+      pub valid_marked : KeepsCommitted facts mid.disk last.disk → (IsTrue (facts old.disk.store).honest → IsValid old.document) → IfSome last.disk.marked (λ d. IsTrue (facts last.disk.store).honest → IsValid d)
+      valid_marked p valid =
+          let m = marked_last p in
+          subst (λ (o : Option Document). IfSome o (λ d. IsTrue (facts last.disk.store).honest → IsValid d)) (sym m.1)
+          (λ so. let before : IsTrue (facts old.disk.store).honest = subst IsTrue (passes_through p).honest so in subst IsValid (sym (m.2.same before ∙ marks.marked.2.same before)) (valid before))
 
       -- and the marked document was brought back
       module _ (new : CacheState S) (back : Some new.document ≡ last.disk.marked) (p : KeepsCommitted facts mid.disk last.disk) where

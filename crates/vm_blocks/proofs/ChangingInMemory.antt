@@ -5,7 +5,7 @@ use Rattle.geos_model.specs.declared.fault.Fault.{Fault}
 use Rattle.vm_store.specs.Facts.{StoreFacts}
 use Rattle.vm_file.specs.Disk.{Disk, SameUnlessCorrupt, KeepsCommitted}
 use Rattle.vm_file.proofs.PassingLemmas.{KeepsCommitted-trans, SameUnlessCorrupt-trans}
-use Rattle.block_cache.specs.State.{CacheState, KeepsLocks}
+use Rattle.vm_blocks.specs.State.{CacheState, KeepsLocks}
 use Rattle.vm_blocks.specs.InMemory.{all_in_place, all_outgoing}
 use Rattle.vm_blocks.specs.Keeping.{KeepsBlocks}
 use Rattle.vm_blocks.specs.Preparing.{after_changes, AllowAll, AreApplied, CanApplyAllByHandle, CantPrepareAll, NoneComesIn}

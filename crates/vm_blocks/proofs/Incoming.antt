@@ -11,7 +11,7 @@ use Rattle.geos_model.proofs.BlockLists.{distinct-first, distinct-rest}
 use Rattle.geos_model.proofs.HeapEdits.{get-put_same, get-put_other}
 use Rattle.vm_file.specs.Disk.{SameUnlessCorrupt}
 use Rattle.vm_file.specs.Members.{imaged_blocks}
-use Rattle.block_cache.specs.State.{CacheState}
+use Rattle.vm_blocks.specs.State.{CacheState}
 use Rattle.vm_blocks.specs.Changes.{after_change, after_part, attributes_for_kind, incoming_blocks, AreFree, IsFreeHandle}
 use Rattle.vm_blocks.specs.Incoming.{CanComeIn, CanAllComeIn, others, with_incoming, with_other}
 use Rattle.vm_blocks.specs.InMemory.{AllFit, AreListed, CanTakeOut, all_in_place, all_outgoing, in_place, outgoing}

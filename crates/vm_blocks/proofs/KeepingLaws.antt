@@ -10,9 +10,9 @@ use Rattle.geos_model.specs.declared.fault.Fault.TheVariants.{Damaged, File, Mem
 use Rattle.vm_file.specs.Disk.{KeepsCommitted, SameUnlessCorrupt}
 use Rattle.vm_file.specs.Effects.{IsDamage}
 use Rattle.vm_file.proofs.PassingLemmas.{KeepsCommitted-refl, KeepsCommitted-trans, SameUnlessCorrupt-refl, SameUnlessCorrupt-trans}
-use Rattle.block_cache.specs.State.{CacheState, is_resident, locks_of, locked_count, all_locked, KeepsLocks, KeepsDocument}
-use Rattle.block_cache.proofs.Locks.{keeps_refl, each_locked}
-use Rattle.block_cache.proofs.OrderOfUse.{locked_there, some_free}
+use Rattle.vm_blocks.specs.State.{CacheState, is_resident, locks_of, locked_count, all_locked, KeepsLocks, KeepsDocument}
+use Rattle.vm_blocks.proofs.Locks.{keeps_refl, each_locked}
+use Rattle.vm_blocks.proofs.OrderOfUse.{locked_there, some_free}
 use Rattle.vm_blocks.specs.Keeping.{KeepsBlocks, IsHonest, IsEnvironmentFault, IsCacheFull, is_loaded, is_full, is_shut_out}
 use Rattle.vm_blocks.proofs.Residents.{both}
 

@@ -9,8 +9,8 @@ use Rattle.vm_store.specs.Facts.{StoreFacts}
 use Rattle.geos_model.specs.Document.{is_live}
 use Rattle.geos_model.specs.declared.fault.Fault.{Fault}
 use Rattle.geos_model.specs.declared.fault.Fault.TheVariants.{LockLimit}
-use Rattle.block_cache.specs.State.{CacheState, ResidentBlock, all_locked, is_resident, locks_of}
-use Rattle.block_cache.proofs.OrderOfUse.{locked_there}
+use Rattle.vm_blocks.specs.State.{CacheState, ResidentBlock, all_locked, is_resident, locks_of}
+use Rattle.vm_blocks.proofs.OrderOfUse.{locked_there}
 use Rattle.vm_blocks.specs.Keeping.{KeepsBlocks, is_full, is_loaded, is_shut_out}
 use Rattle.vm_blocks.specs.Locking.{GainsLock, LosesLock, CantLock}
 use Rattle.vm_blocks.proofs.KeepingLaws.{full-is, keeps-locks, keeps-stays, loaded-by, loaded-live, loaded-resident, shut-is, shut-unlocked}
@@ -19,14 +19,6 @@ pub some_locks : (n : ℕ) → (n == 0) ≡ false → 0 < n
 some_locks n some = elim (cases_eq n 0) as (λ _. 0 < n) [
   | inl none ↦ let wrong : true ≡ false = sym (eq-eqb n 0 none) ∙ some in absurd (cc wrong)
   | inr other ↦ omega (arith, other)
-]
-
--- a block that isn't shut out can be loaded
-pub room_by : {S : Type 0} (state : CacheState S) (h : ℕ) → is_shut_out state h ≡ false → (is_resident state.resident h ≡ true) ⊎ (all_locked state.frames state.resident ≡ false)
-room_by state h out = elim (cases_Bool (is_full state)) as (λ _. (is_resident state.resident h ≡ true) ⊎ (all_locked state.frames state.resident ≡ false)) [
-  | inl full ↦ let some : (locks_of state.resident h == 0) ≡ false = sym (ap (λ t. t && (locks_of state.resident h == 0)) full) ∙ sym (shut-is state h) ∙ out in
-      inl (locked_there h state.resident (some_locks (locks_of state.resident h) some))
-  | inr free ↦ inr (sym (full-is state) ∙ free)
 ]
 
 -- it is refused for one of these, so for one of more

@@ -12,7 +12,7 @@ use Rattle.geos_model.proofs.HeapEdits.{get-taken_same}
 use Rattle.geos_model.proofs.Validity.{without_block-valid}
 use Rattle.vm_blocks.proofs.MapLemmas.{put_taken, taken_put, put_past_taken}
 use Rattle.vm_file.specs.Members.{imaged_block, imaged_blocks}
-use Rattle.block_cache.specs.State.{ResidentBlock, locks_of}
+use Rattle.vm_blocks.specs.State.{ResidentBlock, locks_of}
 use Rattle.vm_blocks.specs.Changes.{AreFree, CanRemoveAll, IsFreeHandle}
 use Rattle.vm_blocks.specs.Preparing.{CanRemoveByHandle}
 use Rattle.vm_file.specs.declared.member.Member.{Member}

@@ -3,7 +3,7 @@ use Rattle.std.proofs.Common.{◌≡◌, ℕ, Bool, true, false, cond, nat_eq, L
 use Rattle.std.specs.Prelude.{nat_lt, length, ◌&&◌}
 use Rattle.std.specs.Map.{lookup, lookup_entry, remove_entry}
 use Rattle.std.specs.Option.{option_map_or}
-use Rattle.block_cache.specs.State.{ResidentBlock, is_resident, evicted, after_load}
+use Rattle.vm_blocks.specs.State.{ResidentBlock, is_resident, evicted, after_load}
 
 -- both of two tests
 pub both : (a b : Bool) → a ≡ true → b ≡ true → a && b ≡ true

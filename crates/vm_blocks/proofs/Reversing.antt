@@ -11,7 +11,7 @@ use Rattle.geos_model.specs.declared.command.Body.{Body}
 use Rattle.geos_model.specs.declared.handle.VmHandle.{VmHandle}
 use Rattle.chunk_edits.specs.declared.direction.Direction.{Direction}
 use Rattle.chunk_edits.specs.declared.direction.Direction.TheVariants.{Forwards, Backwards}
-use Rattle.block_cache.specs.State.{CacheState}
+use Rattle.vm_blocks.specs.State.{CacheState}
 use Rattle.vm_blocks.specs.Changes.{after_part, attributes_for_kind, directed, directed_all, directed_part, reversed_part}
 use Rattle.vm_blocks.specs.Exactness.{IsExactPart}
 use Rattle.vm_blocks.specs.InMemory.{carried, IsListed, IsReversible, IsReversiblePart, StaysInMemory}

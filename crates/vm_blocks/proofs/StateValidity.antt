@@ -1,5 +1,5 @@
 -- What always holds of the blocks of a file stays so.
-use Rattle.std.proofs.Common.{◌≡◌, ◌≢◌, ◌≤◌, ℕ, IsTrue, true, [], Some, sym, ap, subst, ◌∙◌, arith}
+use Rattle.std.proofs.Common.{◌≡◌, ◌≢◌, ◌≤◌, ℕ, Bool, List, IsTrue, true, false, [], Some, sym, ap, subst, ◌∙◌, arith}
 use Rattle.std.specs.Prelude.{Result, Ok, Err, IfOk, MatchResult, nat_eq}
 use Rattle.std.specs.Option.{option_map}
 use Rattle.std.specs.Map.{remove_entry}
@@ -10,18 +10,49 @@ use Rattle.geos_model.specs.declared.fault.Fault.{Fault}
 use Rattle.geos_model.proofs.Validity.{attributes-typed, empty_document-valid, with_body-valid, with_attributes-valid, without_block-valid}
 use Rattle.geos_model.specs.declared.block.Attributes.{Attributes}
 use Rattle.vm_store.specs.Facts.{StoreFacts}
-use Rattle.vm_file.specs.Disk.{SameUnlessCorrupt}
-use Rattle.vm_file.specs.Effects.{LeavesDocument}
-use Rattle.block_cache.specs.SavingAs.{IsSavedAs, IsNotSavedAs}
-use Rattle.block_cache.specs.State.{CacheState, as_file}
+use Rattle.vm_file.specs.Disk.{FileState, IsFileDocument, SameUnlessCorrupt}
+use Rattle.vm_file.specs.Documents.{Documents}
+use Rattle.vm_file.specs.Effects.{IsCommit, LeavesDocument}
+use Rattle.vm_blocks.specs.Frames.{frame_of, residents, overlay, shown, with_frames, AreFramesOf, KeepsOverlay}
+use Rattle.vm_blocks.specs.SavingAs.{IsSavedAs, IsNotSavedAs}
+use Rattle.vm_blocks.specs.State.{CacheState, as_file, is_resident}
 use Rattle.vm_blocks.specs.Parts.{AllowsPart, body_after_part}
-use Rattle.vm_blocks.specs.Sound.{IsValidState}
+use Rattle.vm_blocks.specs.Sound.{IsValidState, AreBlocksOf}
+use Rattle.vm_blocks.specs.declared.frame.Frame.{Frame}
 use Rattle.vm_blocks.specs.declared.change.PartChange.{PartChange}
+use Rattle.vm_blocks.proofs.DocumentUnderFrames.{bare_kept, overlay_live}
+use Rattle.vm_blocks.proofs.OrderOfUse.{frame_by, resident_is}
 use Rattle.vm_blocks.proofs.KindLemmas.{kind_there}
 use Rattle.vm_blocks.proofs.PartLemmas.{part_kind, part_valid}
 use Rattle.vm_blocks.proofs.Preparing.{body_of_option, live_there, takes_body}
 
+-- a block in memory is live
+pub seen_live : (honest : Bool) (es : List (ℕ × Frame)) (d : Document) → AreFramesOf honest d es → (h : ℕ) → is_resident (residents es) h ≡ true → is_live (overlay es d) h ≡ true
+seen_live honest es d kept h there =
+    let f = frame_by (frame_of es h) (sym (resident_is h es) ∙ there) in
+    overlay_live honest es d h kept ∙ (kept.each h f.0 f.1).live
+
+-- a document of a file that is valid
+pub listed_valid : (honest : Bool) (d : Document) → IsFileDocument false d → (IsTrue honest → IsValid d) → IsFileDocument honest d
+listed_valid honest d listed valid = record {
+  handles = listed.handles;
+  map_block = listed.map_block;
+  typed = listed.typed;
+  bodies = λ so h live. ((valid so).blocks h (block_at d h) (live_there d h live)).body;
+}
+
 module _ {S : Type 0} (facts : S → StoreFacts) where
+  -- no frame is taken
+  pub blocks_bare : (a : FileState S) (cap : ℕ) → 1 ≤ cap → (IsTrue (facts a.disk.store).honest → IsValid a.document) → AreBlocksOf facts a [] cap
+  blocks_bare a cap some valid = record { kept = bare_kept (facts a.disk.store).honest a.document; state = record { valid = valid; room = some } }
+
+  -- other frames, under which callers see the same document
+  pub blocks_shown : (a : FileState S) (es : List (ℕ × Frame)) (cap : ℕ) (fs : List (ℕ × Frame)) (cap' : ℕ) → AreBlocksOf facts a es cap → AreFramesOf (facts a.disk.store).honest a.document fs → overlay fs a.document ≡ overlay es a.document → cap' ≡ cap → AreBlocksOf facts a fs cap'
+  blocks_shown a es cap fs cap' sound kept same frames = record {
+    kept = kept;
+    state = record { valid = λ so. subst IsValid (sym same) (sound.state.valid so); room = subst (λ n. 1 ≤ n) (sym frames) sound.state.room };
+  }
+
   pub sound_made : (frames : ℕ) (state : CacheState S) → 1 ≤ frames → state.document ≡ empty_document → (state.resident ≡ []) × (state.frames ≡ frames) → IsValidState facts state
   sound_made frames state some document empty = record {
     valid = λ so. subst IsValid (sym document) empty_document-valid;
@@ -37,7 +68,23 @@ module _ {S : Type 0} (facts : S → StoreFacts) where
       room = let some = sound.room in omega (arith, some, frames);
     }
 
-  -- other documents of the same cache
+  -- frames over a file that drift at most
+  pub blocks_drift : (a : FileState S) (es : List (ℕ × Frame)) (cap : ℕ) (b : FileState S) (fs : List (ℕ × Frame)) (cap' : ℕ) → AreBlocksOf facts a es cap → KeepsOverlay facts a es b fs → cap' ≡ cap → AreBlocksOf facts b fs cap'
+  blocks_drift a es cap b fs cap' sound moves same = record { kept = moves.kept; state = sound_drifts (shown a es cap) (shown b fs cap') sound.state moves.passes.honest moves.unless_corrupt same }
+
+  -- a document was committed, or not
+  pub sound_commit : (old new : CacheState S) (pair : Documents) (d : Document) (r : Result (Unit {0}) Fault) → IsValidState facts old → (IsTrue (facts old.disk.store).honest → IsValid d) → IsCommit facts pair d (as_file old) (as_file new) r → new.frames ≡ old.frames → IsValidState facts new
+  sound_commit old new pair d (Ok done) sound valid commit same = record {
+    valid = λ so. let before : IsTrue (facts old.disk.store).honest = subst IsTrue commit.commits.honest so in subst IsValid (sym (commit.document.same before)) (valid before);
+    room = let some = sound.room in omega (arith, some, same);
+  }
+  sound_commit old new pair d (Err fault) sound valid commit same = sound_drifts old new sound commit.commits.honest commit.document same
+
+  pub blocks_commit : (a : FileState S) (es : List (ℕ × Frame)) (cap : ℕ) (b : FileState S) (fs : List (ℕ × Frame)) (cap' : ℕ) (pair : Documents) (d : Document) (r : Result (Unit {0}) Fault) → AreBlocksOf facts a es cap → AreFramesOf (facts b.disk.store).honest b.document fs
+      → (IsTrue (facts a.disk.store).honest → IsValid d) → IsCommit facts pair d (with_frames a es) (with_frames b fs) r → cap' ≡ cap → AreBlocksOf facts b fs cap'
+  blocks_commit a es cap b fs cap' pair d r sound kept valid commit same = record { kept = kept; state = sound_commit (shown a es cap) (shown b fs cap') pair d r sound.state valid commit same }
+
+  -- other documents of the same blocks
   module _ (state : CacheState S) where
     sound_with : (d : Document) → (IsValid state.document → IsValid d) → IsValidState facts state → IsValidState facts (record state { document = d })
     sound_with d valid sound = record { valid = λ so. valid (sound.valid so); room = sound.room }

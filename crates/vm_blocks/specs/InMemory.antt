@@ -5,7 +5,7 @@ use Rattle.geos_model.specs.Document.{Document, attributes_of, block_at, handles
 use Rattle.chunk_edits.specs.Directions.{opposite}
 use Rattle.chunk_edits.specs.declared.direction.Direction.{Direction}
 use Rattle.vm_file.specs.Members.{imaged_blocks}
-use Rattle.block_cache.specs.State.{CacheState}
+use Rattle.vm_blocks.specs.State.{CacheState}
 use Rattle.vm_blocks.specs.Changes.{after_part, attributes_for_kind, directed, reversed_part}
 use Rattle.vm_blocks.specs.Exactness.{IsExactPart}
 use Rattle.vm_blocks.specs.Keeping.{is_loaded}

@@ -6,7 +6,7 @@ use Rattle.vm_store.specs.Facts.{StoreFacts}
 use Rattle.chunk_edits.specs.Directions.{opposite}
 use Rattle.chunk_edits.specs.declared.direction.Direction.{Direction}
 use Rattle.vm_file.specs.Disk.{SameUnlessCorrupt, KeepsCommitted}
-use Rattle.block_cache.specs.State.{CacheState, KeepsLocks}
+use Rattle.vm_blocks.specs.State.{CacheState, KeepsLocks}
 use Rattle.vm_blocks.specs.Changes.{directed, directed_all, incoming_blocks, AreFree}
 use Rattle.vm_blocks.specs.InMemory.{outgoing}
 use Rattle.vm_blocks.specs.Keeping.{IsEnvironmentFault}

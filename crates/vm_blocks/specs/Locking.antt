@@ -5,7 +5,7 @@ use Rattle.vm_store.specs.Facts.{StoreFacts}
 use Rattle.geos_model.specs.Document.{is_live}
 use Rattle.geos_model.specs.declared.fault.Fault.{Fault}
 use Rattle.geos_model.specs.declared.fault.Fault.TheVariants.{NoBlock, NotLocked, LockLimit}
-use Rattle.block_cache.specs.State.{CacheState, locks_of, KeepsDocument}
+use Rattle.vm_blocks.specs.State.{CacheState, locks_of, KeepsDocument}
 use Rattle.vm_blocks.specs.Keeping.{is_loaded, IsCacheFull}
 
 -- A block is in memory and locked once more, and every other one as often as before. Otherwise it is as after a load.

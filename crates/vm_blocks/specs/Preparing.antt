@@ -9,7 +9,7 @@ use Rattle.geos_model.specs.declared.fault.Fault.{Fault}
 use Rattle.geos_model.specs.declared.fault.Fault.TheVariants.{Damaged, CacheFull}
 use Rattle.vm_store.specs.Facts.{StoreFacts}
 use Rattle.vm_file.specs.Disk.{SameUnlessCorrupt, KeepsCommitted}
-use Rattle.block_cache.specs.State.{CacheState, ResidentBlock, locks_of, KeepsLocks}
+use Rattle.vm_blocks.specs.State.{CacheState, ResidentBlock, locks_of, KeepsLocks}
 use Rattle.vm_blocks.specs.Changes.{after_change, incoming_blocks, CanApply, AreFree, HasMap}
 use Rattle.vm_blocks.specs.Keeping.{KeepsBlocks, IsHonest, IsEnvironmentFault, is_loaded, is_shut_out}
 use Rattle.vm_file.specs.Members.{imaged_blocks}

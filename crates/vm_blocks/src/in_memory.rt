@@ -2,7 +2,7 @@
 ghost use Rattle.std.specs.Prelude.{◌≡◌, true, false, IfErr, IsOk, OnErr, OnOk};
 ghost use Rattle.chunk_edits.specs.Directions.{opposite};
 ghost use Rattle.geos_model.specs.Document.{block_at, without_blocks};
-ghost use Rattle.block_cache.specs.State.{KeepsLocks, locked_count};
+ghost use Rattle.vm_blocks.specs.State.{KeepsLocks, locked_count};
 ghost use Rattle.vm_blocks.specs.Changes.{directed, directed_all, directed_part};
 ghost use Rattle.vm_blocks.specs.Exactness.{IsExactPart};
 ghost use Rattle.vm_blocks.specs.Incoming.{IsObstacle, others};

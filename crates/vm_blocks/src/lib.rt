@@ -1,16 +1,19 @@
 //! The blocks of a document file: looked up, and changed in either direction, with so many of them in memory.
 #![tactic(auto)]
 
+mod body;
 mod bringing_in;
 mod change;
 mod file_blocks;
+mod frame;
 mod in_memory;
 mod law;
 mod member;
 mod part;
 mod saved;
+mod transfers;
 
-pub use block_cache::BlockBody;
+pub use body::BlockBody;
 pub use change::{Change, Content, PartChange};
 pub use chunk_edits::Direction;
 pub use file_blocks::FileBlocks;

@@ -6,7 +6,7 @@ ghost use Rattle.geos_model.specs.Heap.{chunk_bytes, fits_with, is_chunk_handle,
 ghost use Rattle.geos_model.specs.declared.command.Body.TheVariants as bodies;
 ghost use Rattle.chunk_edits.specs.Patching.{directed_pieces};
 ghost use Rattle.chunk_edits.specs.Splicing.{OccursAt};
-ghost use Rattle.block_cache.specs.Bodies.{body_value};
+ghost use Rattle.vm_blocks.specs.Bodies.{body_value};
 ghost use Rattle.vm_blocks.specs.Allowing.{AllowsRaw, AllowsChunk, AllowsPatch, AllowsNewChunk};
 ghost use Rattle.vm_blocks.specs.Changes.{content_bytes, directed_part};
 ghost use Rattle.vm_blocks.specs.Exactness.{HeapHolds, HoldsPart, IsExactPart, RawHolds};

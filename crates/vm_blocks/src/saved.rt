@@ -1,6 +1,6 @@
 //! A block with its body, as it is now.
 ghost use Rattle.std.specs.Prelude.{◌≡◌, IfOk};
-ghost use Rattle.block_cache.specs.Bodies.{body_value};
+ghost use Rattle.vm_blocks.specs.Bodies.{body_value};
 ghost use Rattle.geos_model.specs.Document.{IsTyped, is_heap_body};
 ghost use Rattle.vm_file.specs.Members.{imaged_block};
 

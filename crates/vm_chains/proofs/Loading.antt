@@ -11,7 +11,7 @@ use Rattle.geos_model.specs.Document.{Block, Document, block_at, bytes_of_body, 
 use Rattle.geos_model.specs.declared.fault.Fault.{Fault}
 use Rattle.geos_model.specs.declared.fault.Fault.TheVariants.{Damaged, NoBlock}
 use Rattle.geos_model.specs.declared.block.Attributes.{Attributes}
-use Rattle.block_cache.specs.State.{CacheState}
+use Rattle.vm_blocks.specs.State.{CacheState}
 use Rattle.vm_blocks.specs.Keeping.{KeepsBlocks, IsHonest, IsEnvironmentFault, IsCacheFull, is_full}
 use Rattle.vm_blocks.proofs.KeepingLaws.{keeps-unless_corrupt, keeps-full, keeps-same, keeps-was_steady, lacks-damaged, open-shut}
 

@@ -5,7 +5,7 @@ use Rattle.std.proofs.lemmas.List.{append_assoc, append-nil}
 use Rattle.std.specs.Option.{option_map}
 use lib.Pointwise.{pointwise}
 use Rattle.vm_store.specs.Facts.{StoreFacts}
-use Rattle.block_cache.specs.State.{CacheState}
+use Rattle.vm_blocks.specs.State.{CacheState}
 use Rattle.geos_model.specs.Bytes.{same_bytes}
 use Rattle.geos_model.specs.Chain.{blocks_from, chain, chain_blocks, on_chains, relinked, same_shape}
 use Rattle.geos_model.specs.Document.{Document, IsValid, is_raw, raw_bytes_of}

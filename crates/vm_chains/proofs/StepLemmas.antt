@@ -2,7 +2,7 @@
 use Rattle.std.proofs.Common.{◌≡◌, ◌⊎◌, ◌==◌, ◌<◌, ◌≤◌, ◌-◌, ℕ, suc, List, [], ◌∷◌, Option, Some, None, MatchOption, true, false, length, get_or, refl, sym, ap, subst, ◌∙◌, inl, inr, arith}
 use Rattle.std.specs.List.{list_any}
 use Rattle.vm_store.specs.Facts.{StoreFacts}
-use Rattle.block_cache.specs.State.{CacheState}
+use Rattle.vm_blocks.specs.State.{CacheState}
 use Rattle.geos_model.specs.Chain.{chain, is_member}
 use Rattle.geos_model.specs.Document.{Document, is_live, is_vm_handle}
 use Rattle.geos_model.specs.declared.fault.Fault.{Fault}

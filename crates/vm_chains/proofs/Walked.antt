@@ -7,7 +7,7 @@ use Rattle.geos_model.specs.Document.{Document}
 use Rattle.geos_model.specs.Refusal.{Conditions, first_refusal}
 use Rattle.geos_model.specs.declared.fault.Fault.{Fault}
 use Rattle.geos_model.specs.declared.handle.VmHandle.{VmHandle}
-use Rattle.block_cache.specs.State.{CacheState}
+use Rattle.vm_blocks.specs.State.{CacheState}
 use Rattle.vm_blocks.specs.Keeping.{KeepsBlocks, IsHonest, IsEnvironmentFault}
 use Rattle.vm_blocks.proofs.KeepingLaws.{keeps-same, keeps-steady, keeps-was_steady, lacks-later}
 use Rattle.vm_chains.specs.Answers.{AnswersChain}

@@ -1,5 +1,5 @@
 use Rattle.std.proofs.Common.{◌≡◌, ◌==◌, ◌∷◌, [], true, false, ap, ◌∙◌, sym, inr}
-use Rattle.block_cache.specs.Bodies.{body_value}
+use Rattle.vm_blocks.specs.Bodies.{body_value}
 use Rattle.geos_model.specs.Document.{Block, handles_of}
 use Rattle.vm_blocks.proofs.KeepingLaws.{loaded-live}
 use Rattle.vm_blocks.proofs.KindLemmas.{typed_there}

@@ -7,9 +7,9 @@ use Rattle.geos_model.specs.declared.command.Body.{Body}
 use Rattle.geos_model.specs.declared.command.Command.TheVariants as commands
 use Rattle.geos_model.specs.declared.handle.VmHandle.{VmHandle}
 use Rattle.geos_model.specs.declared.block.Attributes.{Attributes}
-use Rattle.block_cache.specs.Bodies.{body_value}
-use Rattle.block_cache.specs.declared.body.BlockBody.{BlockBody}
-use Rattle.block_cache.specs.declared.body.BlockBody.TheVariants as block_bodies
+use Rattle.vm_blocks.specs.Bodies.{body_value}
+use Rattle.vm_blocks.specs.declared.body.BlockBody.{BlockBody}
+use Rattle.vm_blocks.specs.declared.body.BlockBody.TheVariants as block_bodies
 use Rattle.vm_blocks.specs.Keeping.{IsEnvironmentFault}
 use Rattle.vm_blocks.proofs.KeepingLaws.{loaded-live}
 use Rattle.doc_edits.proofs.LookUps.{answered_with_room, load_missed, load_seen}

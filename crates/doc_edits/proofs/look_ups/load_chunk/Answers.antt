@@ -5,7 +5,7 @@ use Rattle.geos_model.specs.Refusal.{first_refusal}
 use Rattle.geos_model.specs.declared.fault.Fault.{Fault}
 use Rattle.geos_model.specs.Reply.{look_up_conditions}
 use Rattle.geos_model.specs.declared.command.Command.TheVariants as commands
-use Rattle.block_cache.specs.State.{CacheState}
+use Rattle.vm_blocks.specs.State.{CacheState}
 use Rattle.vm_blocks.specs.Keeping.{IsEnvironmentFault, is_shut_out}
 use Rattle.doc_edits.specs.LookUps.{FindsChunk, FindsInMemory, RefusesChunk}
 use Rattle.doc_edits.proofs.LookUps.{chunk_looks, chunk_or_refusal, first_of_chunk, load_refuses}

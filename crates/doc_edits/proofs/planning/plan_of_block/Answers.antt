@@ -3,7 +3,7 @@ use Rattle.std.proofs.lemmas.Bool.{true≢false}
 use Rattle.geos_model.specs.Document.{Document}
 use Rattle.geos_model.specs.Machine.{edit_needs}
 use Rattle.geos_model.specs.Scope.{scope_of}
-use Rattle.block_cache.specs.State.{CacheState}
+use Rattle.vm_blocks.specs.State.{CacheState}
 use Rattle.vm_blocks.specs.Keeping.{KeepsBlocks, IsEnvironmentFault}
 use Rattle.vm_blocks.proofs.KeepingLaws.{lacks-memory}
 use Rattle.doc_edits.specs.Loading.{IsThere}

@@ -5,7 +5,7 @@ use Rattle.std.proofs.lemmas.Bool.{true≢false}
 use Rattle.std.proofs.lemmas.Result.{err_from_is_err_and}
 use Rattle.geos_model.specs.Document.{Block, handles_of, is_live, with_blocks}
 use Rattle.vm_file.specs.Members.{imaged_blocks}
-use Rattle.block_cache.proofs.Marking.{on_err_always}
+use Rattle.vm_blocks.proofs.Marking.{on_err_always}
 use Rattle.vm_blocks.specs.Incoming.{IsObstacle}
 use Rattle.vm_blocks.specs.declared.in_memory.Obstacle.{Obstacle}
 use Rattle.vm_blocks.proofs.BringingIn.{brought_by, free_names, lacks_put, none_live, stays_by}

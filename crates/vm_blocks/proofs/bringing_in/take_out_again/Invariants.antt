@@ -1,5 +1,5 @@
 use Rattle.std.proofs.Common.{◌≡◌, drop}
-use Rattle.block_cache.specs.State.{KeepsLocks}
+use Rattle.vm_blocks.specs.State.{KeepsLocks}
 use Rattle.vm_blocks.specs.Incoming.{CanGoAgain, without_again}
 use Rattle.vm_blocks.proofs.bringing_in.take_out_again.Given as goal
 

@@ -1,7 +1,7 @@
 use Rattle.std.proofs.Common.{Err, refl, sym, ap, subst, ◌∙◌}
 use Rattle.std.specs.Prelude.{Result, IfErr}
 use Rattle.std.proofs.lemmas.Result.{err_from_is_err_and}
-use Rattle.block_cache.proofs.Marking.{on_err_always}
+use Rattle.vm_blocks.proofs.Marking.{on_err_always}
 use Rattle.vm_blocks.specs.Changes.{directed_all}
 use Rattle.vm_blocks.specs.Incoming.{IsObstacle, others}
 use Rattle.vm_blocks.specs.Preparing.{CanApplyAll, after_changes}

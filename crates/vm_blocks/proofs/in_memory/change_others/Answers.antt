@@ -2,8 +2,8 @@ use Rattle.std.proofs.Common.{Err, refl, sym, ap, subst, ◌∙◌}
 use Rattle.std.specs.Prelude.{Result, IfErr}
 use Rattle.std.proofs.lemmas.Result.{err_from_is_err_and}
 use Rattle.geos_model.specs.Document.{without_blocks}
-use Rattle.block_cache.specs.State.{CacheState, KeepsLocks, locked_count}
-use Rattle.block_cache.proofs.Marking.{on_err_always}
+use Rattle.vm_blocks.specs.State.{CacheState, KeepsLocks, locked_count}
+use Rattle.vm_blocks.proofs.Marking.{on_err_always}
 use Rattle.vm_blocks.specs.Changes.{directed_all}
 use Rattle.vm_blocks.specs.Incoming.{IsObstacle, others}
 use Rattle.vm_blocks.specs.InMemory.{CanTakeOut, all_in_place, all_outgoing}

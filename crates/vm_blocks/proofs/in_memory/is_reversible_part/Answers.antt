@@ -1,4 +1,4 @@
-use Rattle.block_cache.specs.Bodies.{body_value}
+use Rattle.vm_blocks.specs.Bodies.{body_value}
 use Rattle.std.proofs.Common.{sym, ◌∙◌}
 use Rattle.vm_blocks.specs.Changes.{directed_part}
 use Rattle.vm_blocks.proofs.Reversing.{reversible_part}

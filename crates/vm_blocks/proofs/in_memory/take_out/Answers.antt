@@ -1,4 +1,4 @@
-use Rattle.block_cache.proofs.Locks.{none_locked}
+use Rattle.vm_blocks.proofs.Locks.{none_locked}
 use Rattle.vm_blocks.proofs.in_memory.take_out.Goals as goal
 
 pub take_all-requires-clause-unlocked : goal.take_all-requires-clause-unlocked

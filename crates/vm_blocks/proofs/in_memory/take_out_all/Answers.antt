@@ -3,7 +3,7 @@ use Rattle.std.proofs.lemmas.List.{length_push}
 use Rattle.std.proofs.lemmas.Iterator.Adapters.{YieldsList-from_rev_slice}
 use Rattle.std.proofs.lemmas.Iterator.Consumers.{YieldsList-turn, YieldsList-end}
 use Rattle.geos_model.specs.Document.{Document, without_blocks}
-use Rattle.block_cache.proofs.Locks.{keeps_refl}
+use Rattle.vm_blocks.proofs.Locks.{keeps_refl}
 use Rattle.vm_blocks.specs.Changes.{directed, directed_all}
 use Rattle.vm_blocks.specs.InMemory.{CanTakeOut, all_outgoing, outgoing}
 use Rattle.vm_blocks.specs.declared.change.Change.{Change}

@@ -1,6 +1,6 @@
 use Rattle.std.proofs.Common.{◌≡◌, length}
 use Rattle.geos_model.specs.Document.{without_blocks}
-use Rattle.block_cache.specs.State.{KeepsLocks}
+use Rattle.vm_blocks.specs.State.{KeepsLocks}
 use Rattle.vm_blocks.specs.Changes.{directed_all}
 use Rattle.vm_blocks.specs.InMemory.{CanTakeOut, all_outgoing}
 use Rattle.vm_blocks.proofs.ChangingAll.{left}

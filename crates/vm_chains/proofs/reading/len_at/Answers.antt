@@ -1,7 +1,7 @@
 use Rattle.std.proofs.Common.{ap}
 use Rattle.geos_model.specs.Document.{is_heap_body, is_raw}
 use Rattle.std.specs.FinMap.{get}
-use Rattle.block_cache.specs.Bodies.{body_value}
+use Rattle.vm_blocks.specs.Bodies.{body_value}
 use Rattle.vm_chains.proofs.Loading.{carried, heap_there, load_lacks, other_now}
 use Rattle.vm_chains.proofs.reading.len_at.Goals as goal
 

@@ -3,7 +3,7 @@ use Rattle.std.specs.FinMap.{get}
 use Rattle.geos_model.specs.Chain.{is_linked}
 use Rattle.geos_model.specs.Document.{bytes_of_body, is_heap_body, raw_bytes_of}
 use Rattle.geos_model.specs.declared.fault.Fault.TheVariants.{Memory}
-use Rattle.block_cache.specs.Bodies.{body_value}
+use Rattle.vm_blocks.specs.Bodies.{body_value}
 use Rattle.vm_blocks.proofs.KindLemmas.{kind_there}
 use Rattle.vm_chains.proofs.Loading.{carried, heap_there, unlinked_there}
 use Rattle.vm_chains.proofs.reading.relinked_here.Goals as goal

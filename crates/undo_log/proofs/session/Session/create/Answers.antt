@@ -1,6 +1,6 @@
 use Rattle.std.proofs.Common.{IsTrue, ap, subst, sym, ◌∙◌}
 use Rattle.geos_model.specs.Document.{empty_document}
-use Rattle.block_cache.specs.State.{CacheState, as_file}
+use Rattle.vm_blocks.specs.State.{CacheState, as_file}
 use Rattle.vm_blocks.specs.Opening.{IsMadeIn}
 use Rattle.undo_log.proofs.Beginnings.{begun}
 use Rattle.undo_log.proofs.session.Session.create.Goals as goal

@@ -2,7 +2,7 @@ use Rattle.std.proofs.Common.{Some, false, sym, subst}
 use Rattle.geos_model.specs.Machine.{Step}
 use Rattle.geos_model.specs.Reply.{Accepted, reply_by}
 use Rattle.geos_model.specs.declared.command.Command.TheVariants as commands
-use Rattle.block_cache.specs.State.{CacheState}
+use Rattle.vm_blocks.specs.State.{CacheState}
 use Rattle.undo_log.specs.Sessions.{SessionState, machine_of}
 use Rattle.undo_log.proofs.Locking.{dirty_is}
 use Rattle.undo_log.proofs.LookUps.{session_with}

@@ -1,5 +1,5 @@
 use Rattle.std.proofs.Common.{◌<◌, subst}
-use Rattle.block_cache.specs.State.{locks_of}
+use Rattle.vm_blocks.specs.State.{locks_of}
 use Rattle.vm_blocks.proofs.KeepingLaws.{locked-loaded}
 use Rattle.undo_log.proofs.session.Session.locked_body.Goals as goal
 

@@ -1,7 +1,7 @@
 use Rattle.std.proofs.Common.{Some, refl, ap, ◌∙◌}
 use Rattle.geos_model.specs.declared.command.Body.TheVariants.{Heap, Raw}
-use Rattle.block_cache.specs.Bodies.{body_value}
-use Rattle.block_cache.specs.declared.body.BlockBody.{BlockBody}
+use Rattle.vm_blocks.specs.Bodies.{body_value}
+use Rattle.vm_blocks.specs.declared.body.BlockBody.{BlockBody}
 use Rattle.undo_log.proofs.Locking.{chunk_of, no_chunk_of, none_of_chunk}
 use Rattle.undo_log.proofs.session.Session.locked_chunk.Goals as goal
 

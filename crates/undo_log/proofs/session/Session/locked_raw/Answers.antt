@@ -1,7 +1,7 @@
 use Rattle.std.proofs.Common.{Some, ap, ◌∙◌}
 use Rattle.geos_model.specs.declared.command.Body.TheVariants.{Raw}
-use Rattle.block_cache.specs.Bodies.{body_value}
-use Rattle.block_cache.specs.declared.body.BlockBody.{BlockBody}
+use Rattle.vm_blocks.specs.Bodies.{body_value}
+use Rattle.vm_blocks.specs.declared.body.BlockBody.{BlockBody}
 use Rattle.undo_log.proofs.Locking.{raw_of, none_of_raw}
 use Rattle.undo_log.proofs.session.Session.locked_raw.Goals as goal
 

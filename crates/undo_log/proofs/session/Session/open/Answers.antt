@@ -1,5 +1,5 @@
 use Rattle.std.proofs.Common.{IsTrue, ap, sym, subst, ◌∙◌}
-use Rattle.block_cache.specs.State.{CacheState, as_file}
+use Rattle.vm_blocks.specs.State.{CacheState, as_file}
 use Rattle.vm_blocks.specs.Opening.{IsOpenedFrom}
 use Rattle.undo_log.proofs.Beginnings.{opened}
 use Rattle.undo_log.proofs.session.Session.open.Goals as goal

@@ -7,8 +7,8 @@ use Rattle.geos_model.specs.Reply.{Accepted, Refused}
 use Rattle.geos_model.specs.declared.command.Command.TheVariants as commands
 use Rattle.geos_model.specs.declared.fault.Fault.TheVariants.{Worn}
 use Rattle.vm_file.specs.Calls.{last_sequence}
-use Rattle.block_cache.specs.State.{as_file}
-use Rattle.vm_blocks.specs.Committing.{IsSavedAs}
+use Rattle.vm_blocks.specs.State.{as_file}
+use Rattle.vm_blocks.specs.SavingAs.{IsSavedAs}
 use Rattle.undo_log.specs.Committing.{IsSaveAsRefused}
 use Rattle.undo_log.specs.Sessions.{SessionState, file_of, machine_of, failed_since, IsExact}
 use Rattle.undo_log.specs.Turning.{busy_fault}

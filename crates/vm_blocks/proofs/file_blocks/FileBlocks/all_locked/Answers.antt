@@ -1,5 +1,5 @@
 use Rattle.std.proofs.Common.{ap, sym, ◌∙◌}
-use Rattle.block_cache.specs.State.{CacheState, all_locked}
+use Rattle.vm_blocks.specs.State.{CacheState, all_locked}
 use Rattle.vm_blocks.proofs.KeepingLaws.{full-is}
 use Rattle.vm_blocks.proofs.file_blocks.FileBlocks.all_locked.Goals as goal
 

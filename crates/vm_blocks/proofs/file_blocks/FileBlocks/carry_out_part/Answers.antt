@@ -1,78 +1,75 @@
-use Rattle.std.proofs.Common.{true, ◌≡◌, sym, ap, subst, ◌∙◌}
-use Rattle.std.proofs.lemmas.Bool.{and_parts}
-use Rattle.geos_model.specs.Document.{Document, block_at, is_live, with_body}
-use Rattle.geos_model.specs.declared.command.Body.TheVariants.{Raw, Heap}
-use Rattle.block_cache.specs.State.{CacheState, is_resident}
-use Rattle.vm_blocks.specs.Changes.{after_part, directed_part}
-use Rattle.vm_blocks.specs.Keeping.{is_loaded}
+use Rattle.std.proofs.Common.{◌≡◌, Some, true, is_some, refl, sym, ap, subst, ◌∙◌}
+use Rattle.std.specs.FinMap.{get}
+use Rattle.std.specs.Option.{option_copied_mut, option_map}
+use Rattle.geos_model.specs.Document.{Block, Document, block_at, is_heap_body, is_live, with_body}
+use Rattle.vm_blocks.specs.Bodies.{body_value}
+use Rattle.vm_blocks.specs.Changes.{directed_part}
+use Rattle.vm_blocks.specs.Frames.{frame_of, overlay, shown}
 use Rattle.vm_blocks.specs.Parts.{AllowsPart}
-use Rattle.vm_blocks.proofs.KeepingLaws.{loaded-live}
+use Rattle.vm_blocks.specs.Sound.{IsValidState}
+use Rattle.vm_blocks.specs.State.{CacheState, is_resident}
+use Rattle.vm_blocks.specs.declared.frame.Frame.{Frame}
+use Rattle.vm_blocks.proofs.ChangeOutcomes.{part_as_body}
+use Rattle.vm_blocks.proofs.KeepingLaws.{loaded-live, loaded-resident}
+use Rattle.vm_blocks.proofs.ChangedBodies.{is_lent, state_lent, kept_lent}
+use Rattle.vm_blocks.proofs.OrderOfUse.{resident_is}
+use Rattle.vm_blocks.proofs.PartLemmas.{part_kind}
 use Rattle.vm_blocks.proofs.Preparing.{takes_body}
 use Rattle.vm_blocks.proofs.StateValidity.{sound_part}
-use Rattle.vm_blocks.proofs.ChangeOutcomes.{part_as_body}
+use Rattle.vm_blocks.proofs.Tables.{body_under}
 use Rattle.vm_blocks.proofs.file_blocks.FileBlocks.carry_out_part.Goals as goal
 
-pub is_heap-requires : goal.is_heap-requires
-is_heap-requires g c = loaded-live c.args.self.now c.args.handle.0 c.requires.loaded
-
--- of a heap
-
-pub heap_mut-requires-clause-resident : goal.heap_mut-requires-clause-resident
-unfolding is_loaded
-heap_mut-requires-clause-resident g c =
+pub unwrap-frame-requires : goal.unwrap-frame-requires
+unwrap-frame-requires g c =
+    let es = c.self.inside.frames.entries in
     let h = c.args.handle.0 in
-    let loaded = (and_parts (is_resident c.args.self.now.resident h) (is_live c.args.self.now.document h) c.requires.loaded).0 in
-    subst (λ (s : CacheState g.row.S.Denot). is_resident s.resident h ≡ true) (sym c.self.view_is) loaded
+    is_lent c.peek_mut.result (ap is_some c.peek_mut.ensures.value ∙ sym (resident_is h es) ∙ ap (λ s. is_resident s.resident h) c.self.view_is ∙ loaded-resident c.args.self.now h c.requires.loaded)
 
-pub carry_out_heap-requires : goal.carry_out_heap-requires
-carry_out_heap-requires g c =
+pub carry_out-requires : goal.carry_out-requires
+carry_out-requires g c =
+    let es = c.self.inside.frames.entries in
+    let d = c.self.inside.file.document in
+    let h = c.args.handle.0 in
     let p = directed_part c.args.direction c.args.part.now in
-    let takes = subst (λ (s : CacheState g.row.S.Denot). AllowsPart p (block_at s.document c.args.handle.0).body) (sym c.self.view_is) c.requires.takes in
-    takes_body c.self.inside.cache.document c.args.handle.0 p (Heap c.heap_mut.result.now.chunks) c.heap_mut.ensures.value takes
+    let f = c.unwrap-frame.result.now in
+    let here : frame_of es h ≡ Some f = sym c.peek_mut.ensures.value ∙ ap option_copied_mut c.unwrap-frame.ensures in
+    let there = body_under es d h f.body (ap (option_map (λ (x : Frame). x.body)) here) in
+    let takes = subst (λ (s : CacheState g.row.S.Denot). AllowsPart p (block_at s.document h).body) (sym c.self.view_is) c.requires.takes in
+    takes_body (overlay es d) h p (body_value f.body) there takes
 
 pub invariant_of-self : goal.invariant_of-self
 invariant_of-self g c =
+    let facts = g.S.Store.facts in
+    let file = c.self.inside.file in
+    let es = c.self.inside.frames.entries in
+    let cap = c.self.inside.frames.cap in
+    let d = file.document in
     let h = c.args.handle.0 in
     let p = directed_part c.args.direction c.args.part.now in
+    let f = c.unwrap-frame.result.now in
+    let new = c.carry_out.new.self in
+    let here : frame_of es h ≡ Some f = sym c.peek_mut.ensures.value ∙ ap option_copied_mut c.unwrap-frame.ensures in
+    let there = body_under es d h f.body (ap (option_map (λ (x : Frame). x.body)) here) in
     let takes = subst (λ (s : CacheState g.row.S.Denot). AllowsPart p (block_at s.document h).body) (sym c.self.view_is) c.requires.takes in
     let live = ap (λ (s : CacheState g.row.S.Denot). is_live s.document h) c.self.view_is ∙ loaded-live c.args.self.now h c.requires.loaded in
-    sound_part g.S.Store.facts c.self.inside.cache h p (Heap c.heap_mut.result.now.chunks) (Heap c.carry_out_heap.new.heap.chunks) c.heap_mut.ensures.value takes c.carry_out_heap.ensures live c.self.invariant
+    let kind : is_heap_body (body_value new.body) ≡ is_heap_body (body_value f.body) = ap is_heap_body c.carry_out.ensures.body ∙ part_kind p (body_value f.body) (takes_body (overlay es d) h p (body_value f.body) there takes) in
+    record {
+      kept = kept_lent es h f here d new (facts file.disk.store).honest c.carry_out.ensures.marks.1 c.carry_out.ensures.marks.0 kind c.self.invariant.kept;
+      state = subst (IsValidState facts) (sym (state_lent es h f here d new file.disk cap (shown file es cap) c.carry_out.ensures.marks.1 refl))
+          (sound_part facts (shown file es cap) h p (body_value f.body) (body_value new.body) there takes c.carry_out.ensures.body live c.self.invariant.state);
+    }
 
-pub returns-then-is_heap : goal.returns-then-is_heap
-returns-then-is_heap g c =
+pub returns : goal.returns
+returns g c =
+    let file = c.self.inside.file in
+    let es = c.self.inside.frames.entries in
     let h = c.args.handle.0 in
+    let old = c.args.self.now in
     let p = directed_part c.args.direction c.args.part.now in
-    let d = c.self.inside.cache.document in
-    let document = ap (with_body d h) c.carry_out_heap.ensures ∙ sym (part_as_body h p d (Heap c.heap_mut.result.now.chunks) c.heap_mut.ensures.value) in
-    ap (λ (x : Document). record c.self.inside.cache { document = x }) document ∙ ap (λ (s : CacheState g.row.S.Denot). record s { document = after_part h p s.document }) c.self.view_is
-
--- of a raw body
-
-pub raw_mut-requires-clause-resident : goal.raw_mut-requires-clause-resident
-unfolding is_loaded
-raw_mut-requires-clause-resident g c =
-    let h = c.args.handle.0 in
-    let loaded = (and_parts (is_resident c.args.self.now.resident h) (is_live c.args.self.now.document h) c.requires.loaded).0 in
-    subst (λ (s : CacheState g.row.S.Denot). is_resident s.resident h ≡ true) (sym c.self.view_is) loaded
-
-pub carry_out_raw-requires : goal.carry_out_raw-requires
-carry_out_raw-requires g c =
-    let p = directed_part c.args.direction c.args.part.now in
-    let takes = subst (λ (s : CacheState g.row.S.Denot). AllowsPart p (block_at s.document c.args.handle.0).body) (sym c.self.view_is) c.requires.takes in
-    takes_body c.self.inside.cache.document c.args.handle.0 p (Raw c.raw_mut.result.now) c.raw_mut.ensures.value takes
-
-pub invariant_of-self-else-is_heap : goal.invariant_of-self-else-is_heap
-invariant_of-self-else-is_heap g c =
-    let h = c.args.handle.0 in
-    let p = directed_part c.args.direction c.args.part.now in
-    let takes = subst (λ (s : CacheState g.row.S.Denot). AllowsPart p (block_at s.document h).body) (sym c.self.view_is) c.requires.takes in
-    let live = ap (λ (s : CacheState g.row.S.Denot). is_live s.document h) c.self.view_is ∙ loaded-live c.args.self.now h c.requires.loaded in
-    sound_part g.S.Store.facts c.self.inside.cache h p (Raw c.raw_mut.result.now) (Raw c.carry_out_raw.new.body) c.raw_mut.ensures.value takes c.carry_out_raw.ensures live c.self.invariant
-
-pub returns-else-is_heap : goal.returns-else-is_heap
-returns-else-is_heap g c =
-    let h = c.args.handle.0 in
-    let p = directed_part c.args.direction c.args.part.now in
-    let d = c.self.inside.cache.document in
-    let document = ap (with_body d h) c.carry_out_raw.ensures ∙ sym (part_as_body h p d (Raw c.raw_mut.result.now) c.raw_mut.ensures.value) in
-    ap (λ (x : Document). record c.self.inside.cache { document = x }) document ∙ ap (λ (s : CacheState g.row.S.Denot). record s { document = after_part h p s.document }) c.self.view_is
+    let f = c.unwrap-frame.result.now in
+    let new = c.carry_out.new.self in
+    let here : frame_of es h ≡ Some f = sym c.peek_mut.ensures.value ∙ ap option_copied_mut c.unwrap-frame.ensures in
+    let there : option_map (λ (b : Block). b.body) (get old.document.blocks h) ≡ Some (body_value f.body) =
+    ap (λ (s : CacheState g.row.S.Denot). option_map (λ (b : Block). b.body) (get s.document.blocks h)) (sym c.self.view_is) ∙ body_under es file.document h f.body (ap (option_map (λ (x : Frame). x.body)) here) in
+    state_lent es h f here file.document new file.disk c.self.inside.frames.cap old c.carry_out.ensures.marks.1 c.self.view_is
+    ∙ ap (λ (x : Document). record old { document = x }) (ap (with_body old.document h) c.carry_out.ensures.body ∙ sym (part_as_body h p old.document (body_value f.body) there))

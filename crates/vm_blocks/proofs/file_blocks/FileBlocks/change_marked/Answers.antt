@@ -3,12 +3,12 @@ use Rattle.std.specs.Prelude.{Result, Err, IfErr}
 use Rattle.std.proofs.lemmas.Result.{err_from_is_err_and}
 use Rattle.geos_model.specs.declared.fault.Fault.{Fault}
 use Rattle.vm_file.specs.Disk.{unmarked}
-use Rattle.block_cache.specs.State.{CacheState, Marks}
-use Rattle.block_cache.proofs.Marking.{on_err_always}
+use Rattle.vm_blocks.specs.State.{CacheState}
+use Rattle.vm_blocks.proofs.Marking.{on_err_always}
 use Rattle.vm_blocks.specs.Changes.{directed_all}
 use Rattle.vm_blocks.specs.Keeping.{KeepsBlocks}
 use Rattle.vm_blocks.specs.Preparing.{AreApplied, CantPrepareAll}
-use Rattle.vm_blocks.proofs.ChangingAll.{not_marked, listed_marked, made_through, unready_through, keeps_back}
+use Rattle.vm_blocks.proofs.ChangingAll.{not_marked, listed_marked, made_through, unready_through, valid_marked, keeps_back}
 use Rattle.vm_blocks.proofs.KeepingLaws.{keeps-by}
 use Rattle.vm_blocks.proofs.ChangeOutcomes.{same_locks}
 use Rattle.vm_blocks.proofs.file_blocks.FileBlocks.change_marked.Goals as goal
@@ -18,11 +18,9 @@ use Rattle.vm_blocks.proofs.file_blocks.FileBlocks.change_marked.Goals as goal
 pub returns-in_err-mark-clause-err : goal.returns-in_err-mark-clause-err
 returns-in_err-mark-clause-err g c =
     let facts = g.S.Store.facts in
-    let was = c.self.inside.cache in
+    let was = c.args.self.now in
     let mid = c.mark.new.self in
-    on_err_always c.from_residual.result
-    (subst (λ (s : CacheState g.row.S.Denot). KeepsBlocks facts s mid) c.self.view_is
-    (keeps-by facts was mid c.in_err-mark.ensures.err (same_locks was.resident mid.resident c.in_err-mark.ensures.resident)))
+    on_err_always c.from_residual.result (keeps-by facts was mid c.in_err-mark.ensures.err (same_locks was.resident mid.resident c.in_err-mark.ensures.resident))
 
 pub returns-in_err-mark-clause-refusals : goal.returns-in_err-mark-clause-refusals
 returns-in_err-mark-clause-refusals g c =
@@ -32,7 +30,7 @@ returns-in_err-mark-clause-refusals g c =
     let fault = c.in_err-mark.field-0.0 in
     let e = err_from_is_err_and c.from_residual.result c.from_residual.ensures.1 in
     subst (λ (r : Result (Unit {0}) Fault). IfErr r (CantPrepareAll facts all c.args.self.now mid)) (sym (e.1 ∙ ap Err e.2))
-    (subst (λ (s : CacheState g.row.S.Denot). CantPrepareAll facts all s mid fault) c.self.view_is (not_marked facts all (Err fault) c.self.inside.cache mid c.in_err-mark.ensures.fails))
+    (not_marked facts all (Err fault) c.args.self.now mid c.in_err-mark.ensures.fails)
 
 -- It was.
 
@@ -40,8 +38,8 @@ pub turn_all-requires-clause-listed : goal.turn_all-requires-clause-listed
 turn_all-requires-clause-listed g c =
     let facts = g.S.Store.facts in
     let mid = c.mark.new.self in
-    let marks = subst (λ (s : CacheState g.row.S.Denot). Marks facts s mid) c.self.view_is c.in_ok-mark.ensures.ok in
-    let same = c.mark.ensures.resident ∙ ap (λ (s : CacheState g.row.S.Denot). s.resident) c.self.view_is in
+    let marks = c.in_ok-mark.ensures.ok in
+    let same = c.mark.ensures.resident in
     listed_marked facts (directed_all c.args.direction c.args.changes.now) c.args.self.now mid marks same c.requires.listed
 
 -- All were made.
@@ -51,12 +49,16 @@ returns-in-Ok-clause-ok g c =
     let all = directed_all c.args.direction c.args.changes.now in
     let mid = c.mark.new.self in
     let last = c.turn_all.new.self in
-    let marks = subst (λ (s : CacheState g.row.S.Denot). Marks facts s mid) c.self.view_is c.in_ok-mark.ensures.ok in
-    let same = c.mark.ensures.resident ∙ ap (λ (s : CacheState g.row.S.Denot). s.resident) c.self.view_is in
-    let is : c.release.new.self ≡ record last { disk = unmarked last.disk } = c.release.ensures ∙ ap (λ (s : CacheState g.row.S.Denot). record s { disk = unmarked s.disk }) c.self-2.view_is in
+    let marks = c.in_ok-mark.ensures.ok in
+    let same = c.mark.ensures.resident in
+    let is : c.release.new.self ≡ record last { disk = unmarked last.disk } = c.release.ensures in
     subst (λ (s : CacheState g.row.S.Denot). AreApplied facts all c.args.self.now s) (sym is) (made_through facts all c.args.self.now mid marks same last c.in-Ok.ensures.ok)
 
 -- One was refused.
+
+pub roll_back-requires-clause-valid : goal.roll_back-requires-clause-valid
+roll_back-requires-clause-valid g c =
+    valid_marked g.S.Store.facts (directed_all c.args.direction c.args.changes.now) c.args.self.now c.mark.new.self c.in_ok-mark.ensures.ok c.mark.ensures.resident c.turn_all.new.self c.in-Err.ensures.passes c.validity.ensures.document
 
 pub returns-in-Err-clause-err : goal.returns-in-Err-clause-err
 returns-in-Err-clause-err g c =
@@ -64,11 +66,11 @@ returns-in-Err-clause-err g c =
     let mid = c.mark.new.self in
     let last = c.turn_all.new.self in
     let new = c.roll_back.new.self in
-    let marks = subst (λ (s : CacheState g.row.S.Denot). Marks facts s mid) c.self.view_is c.in_ok-mark.ensures.ok in
-    let same = c.mark.ensures.resident ∙ ap (λ (s : CacheState g.row.S.Denot). s.resident) c.self.view_is in
-    let back : Some new.document ≡ last.disk.marked = c.roll_back.ensures.document ∙ ap (λ (s : CacheState g.row.S.Denot). s.disk.marked) c.self-2.view_is in
-    let disk : new.disk ≡ unmarked last.disk = c.roll_back.ensures.disk ∙ ap (λ (s : CacheState g.row.S.Denot). unmarked s.disk) c.self-2.view_is in
-    let empty : (new.resident ≡ []) × (new.frames ≡ last.frames) = (c.roll_back.ensures.empty.0, c.roll_back.ensures.empty.1 ∙ ap (λ (s : CacheState g.row.S.Denot). s.frames) c.self-2.view_is) in
+    let marks = c.in_ok-mark.ensures.ok in
+    let same = c.mark.ensures.resident in
+    let back : Some new.document ≡ last.disk.marked = c.roll_back.ensures.document in
+    let disk : new.disk ≡ unmarked last.disk = c.roll_back.ensures.disk in
+    let empty : (new.resident ≡ []) × (new.frames ≡ last.frames) = c.roll_back.ensures.empty in
     keeps_back facts (directed_all c.args.direction c.args.changes.now) c.args.self.now mid marks same last new back c.in-Err.ensures.passes disk empty c.in-Err.ensures.frames c.requires.unlocked
 
 pub returns-in-Err-clause-refusals : goal.returns-in-Err-clause-refusals
@@ -77,7 +79,7 @@ returns-in-Err-clause-refusals g c =
     let mid = c.mark.new.self in
     let last = c.turn_all.new.self in
     let new = c.roll_back.new.self in
-    let marks = subst (λ (s : CacheState g.row.S.Denot). Marks facts s mid) c.self.view_is c.in_ok-mark.ensures.ok in
-    let same = c.mark.ensures.resident ∙ ap (λ (s : CacheState g.row.S.Denot). s.resident) c.self.view_is in
-    let disk : new.disk ≡ unmarked last.disk = c.roll_back.ensures.disk ∙ ap (λ (s : CacheState g.row.S.Denot). unmarked s.disk) c.self-2.view_is in
+    let marks = c.in_ok-mark.ensures.ok in
+    let same = c.mark.ensures.resident in
+    let disk : new.disk ≡ unmarked last.disk = c.roll_back.ensures.disk in
     unready_through facts (directed_all c.args.direction c.args.changes.now) c.args.self.now mid marks same last new c.in-Err.fault disk c.in-Err.ensures.refusals

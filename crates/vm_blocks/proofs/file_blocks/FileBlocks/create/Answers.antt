@@ -1,5 +1,22 @@
-use Rattle.vm_blocks.proofs.StateValidity.{sound_made}
+use Rattle.std.proofs.Common.{ℕ, sym, subst}
+use Rattle.geos_model.specs.Document.{IsValid}
+use Rattle.geos_model.proofs.Validity.{empty_document-valid}
+use Rattle.lru.specs.LruCache.{LruCache}
+use Rattle.vm_blocks.specs.Frames.{with_frames}
+use Rattle.vm_blocks.specs.Sound.{AreBlocksOf}
+use Rattle.vm_blocks.specs.Opening.{IsMadeIn}
+use Rattle.vm_blocks.specs.declared.frame.Frame.{Frame}
+use Rattle.vm_blocks.proofs.StateValidity.{blocks_bare}
 use Rattle.vm_blocks.proofs.file_blocks.FileBlocks.create.Goals as goal
 
+pub returns-clause-made : goal.returns-clause-made
+returns-clause-made g c =
+    let made = c.in_ok-file.ensures in
+    subst (λ (x : LruCache ℕ Frame). IsMadeIn g.S.Store.facts c.args.store (with_frames c.in_ok-file.file x.entries)) (sym c.in-Ok.ensures)
+    (record { follows = made.store; document = made.made.0; new_file = made.made.1; bytes = made.bytes; size = made.size })
+
 pub invariant_of-result : goal.invariant_of-result
-invariant_of-result g c = sound_made g.S.Store.facts c.args.frames c.in-Ok.cache c.requires c.in-Ok.ensures.made.document c.in-Ok.ensures.empty
+invariant_of-result g c =
+    let made = c.in_ok-file.ensures.made.0 in
+    subst (λ (x : LruCache ℕ Frame). AreBlocksOf g.S.Store.facts c.in_ok-file.file x.entries x.cap) (sym c.in-Ok.ensures)
+    (blocks_bare g.S.Store.facts c.in_ok-file.file c.args.frames c.requires (λ so. subst IsValid (sym made) empty_document-valid))

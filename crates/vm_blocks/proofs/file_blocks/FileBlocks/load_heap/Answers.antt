@@ -1,4 +1,4 @@
-use Rattle.std.proofs.Common.{◌≡◌, true, ap, sym, ◌∙◌}
+use Rattle.std.proofs.Common.{◌≡◌, true, sym, ◌∙◌}
 use Rattle.std.proofs.lemmas.Result.{on_ok_weaker}
 use Rattle.geos_model.specs.Document.{is_heap}
 use Rattle.vm_blocks.proofs.KeepingLaws.{keeps-refl, keeps-unless_corrupt}
@@ -15,5 +15,5 @@ returns-clause-ok g c =
     let h = c.args.handle.0 in
     let new = c.load_live.new.self.document in
     let unless_corrupt = keeps-unless_corrupt g.S.Store.facts c.args.self.now c.load_live.new.self c.load_live.ensures.keeps in
-    let kind : is_heap new h ≡ true = unless_corrupt.kinds h ∙ ap (λ s. is_heap s.document h) (sym c.self.view_is) ∙ sym c.is_heap.ensures ∙ c.if-not-is_heap.false in
+    let kind : is_heap new h ≡ true = unless_corrupt.kinds h ∙ sym c.is_heap.ensures ∙ c.if-not-is_heap.false in
     on_ok_weaker c.load_live.result (λ loaded. (loaded, kind)) c.load_live.ensures.ok

@@ -1,4 +1,4 @@
-use Rattle.std.proofs.Common.{◌≡◌, true, false, ap, sym, ◌∙◌}
+use Rattle.std.proofs.Common.{◌≡◌, true, false, sym, ◌∙◌}
 use Rattle.std.specs.FinMap.{get}
 use Rattle.std.proofs.lemmas.Result.{on_ok_weaker}
 use Rattle.geos_model.specs.Document.{is_heap, is_live}
@@ -16,6 +16,6 @@ returns-clause-ok g c =
     let h = c.args.handle.0 in
     let new = c.load_live.new.self.document in
     let unless_corrupt = keeps-unless_corrupt g.S.Store.facts c.args.self.now c.load_live.new.self c.load_live.ensures.keeps in
-    let live : is_live new h ≡ true = unless_corrupt.live h ∙ ap (λ s. is_live s.document h) (sym c.self.view_is) ∙ sym c.is_live.ensures ∙ c.if-not-is_live.false in
-    let kind : is_heap new h ≡ false = unless_corrupt.kinds h ∙ ap (λ s. is_heap s.document h) (sym c.self.view_is) ∙ sym c.is_heap.ensures ∙ c.if-is_heap.false in
+    let live : is_live new h ≡ true = unless_corrupt.live h ∙ sym c.is_live.ensures ∙ c.if-not-is_live.false in
+    let kind : is_heap new h ≡ false = unless_corrupt.kinds h ∙ sym c.is_heap.ensures ∙ c.if-is_heap.false in
     on_ok_weaker c.load_live.result (λ loaded. (loaded, raw_by (get new.blocks h) live kind)) c.load_live.ensures.ok

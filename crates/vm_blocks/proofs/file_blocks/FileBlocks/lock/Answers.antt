@@ -2,7 +2,7 @@ use Rattle.std.proofs.Common.{◌≡◌, ◌<◌, true, refl, ap, sym, subst, �
 use Rattle.std.specs.Prelude.{Err}
 use Rattle.std.proofs.lemmas.Bool.{true≢false}
 use Rattle.geos_model.specs.Document.{is_live}
-use Rattle.block_cache.specs.State.{CacheState, locks_of}
+use Rattle.vm_blocks.specs.State.{locks_of}
 use Rattle.vm_blocks.proofs.KeepingLaws.{keeps-locks, keeps-refl, loaded-live}
 use Rattle.vm_blocks.proofs.Locking.{gains, limit_alone}
 use Rattle.vm_blocks.proofs.file_blocks.FileBlocks.lock.Goals as goal
@@ -14,8 +14,7 @@ returns-then-not-is_live-clause-err g c = keeps-refl g.S.Store.facts c.args.self
 
 pub returns-then-not-is_live-clause-already : goal.returns-then-not-is_live-clause-already
 returns-then-not-is_live-clause-already g c = λ loaded few.
-    let live = ap (λ (s : CacheState g.row.S.Denot). is_live s.document c.args.handle.0) c.self.view_is in
-    absurd (true≢false (sym (loaded-live c.args.self.now c.args.handle.0 loaded) ∙ sym live ∙ sym c.is_live.ensures ∙ c.if-not-is_live.true))
+    absurd (true≢false (sym (loaded-live c.args.self.now c.args.handle.0 loaded) ∙ sym c.is_live.ensures ∙ c.if-not-is_live.true))
 
 -- One that is locked as often as it can be.
 
@@ -26,7 +25,7 @@ pub returns-then-locks-clause-early : goal.returns-then-locks-clause-early
 returns-then-locks-clause-early g c = λ fault cant.
     let state = c.args.self.now in
     let h = c.args.handle.0 in
-    let live : is_live state.document h ≡ true = sym (ap (λ (s : CacheState g.row.S.Denot). is_live s.document h) c.self.view_is) ∙ sym c.is_live.ensures ∙ c.if-not-is_live.false in
+    let live : is_live state.document h ≡ true = sym c.is_live.ensures ∙ c.if-not-is_live.false in
     let most : locks_of state.resident h ≡ 255 = sym c.locks.ensures ∙ c.if-locks.true in
     (ap Err (sym (limit_alone state h fault live most cant)), refl)
 

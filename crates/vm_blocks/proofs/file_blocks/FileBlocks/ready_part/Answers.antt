@@ -1,6 +1,6 @@
 use Rattle.std.proofs.Common.{refl, inl, inr, sym, ◌∙◌}
 use Rattle.std.proofs.lemmas.Bool.{true≢false}
-use Rattle.block_cache.specs.Bodies.{body_value}
+use Rattle.vm_blocks.specs.Bodies.{body_value}
 use Rattle.vm_blocks.specs.Changes.{directed_part}
 use Rattle.vm_blocks.proofs.Preparing.{fit, unfit}
 use Rattle.vm_blocks.proofs.file_blocks.FileBlocks.ready_part.Goals as goal

@@ -1,5 +1,5 @@
 use Rattle.std.proofs.Common.{ap}
-use Rattle.block_cache.specs.State.{CacheState}
+use Rattle.vm_blocks.specs.State.{CacheState}
 use Rattle.vm_blocks.specs.declared.change.Change.TheVariants as changes
 use Rattle.vm_blocks.proofs.ChangeOutcomes.{same_locks, turns_exact}
 use Rattle.vm_blocks.proofs.file_blocks.FileBlocks.set_map.Goals as goal

@@ -1,5 +1,5 @@
 use Rattle.std.proofs.Common.{◌≡◌, ◌∙◌, rules}
-use Rattle.block_cache.specs.State.{locks_of}
+use Rattle.vm_blocks.specs.State.{locks_of}
 use Rattle.vm_blocks.proofs.ManyBlocks.{leaving_others, leaving_unlocked}
 use Rattle.vm_blocks.proofs.file_blocks.FileBlocks.take_all.Goals as goal
 

@@ -1,7 +1,7 @@
 use Rattle.std.proofs.Common.{◌≡◌, drop}
 use Rattle.geos_model.specs.Document.{handles_of, without_blocks}
 use Rattle.vm_file.specs.Members.{imaged_blocks}
-use Rattle.block_cache.specs.State.{KeepsLocks}
+use Rattle.vm_blocks.specs.State.{KeepsLocks}
 use Rattle.vm_blocks.proofs.file_blocks.FileBlocks.take_all.Given as goal
 
 -- what is left to be taken out leaves what was to be left

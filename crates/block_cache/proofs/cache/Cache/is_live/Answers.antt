@@ -1,7 +1,0 @@
-use Rattle.std.proofs.Common.{sym, ap, ◌∙◌}
-use Rattle.geos_model.specs.Document.{is_live}
-use Rattle.block_cache.proofs.DocumentUnderFrames.{overlay_live}
-use Rattle.block_cache.proofs.cache.Cache.is_live.Goals as goal
-
-pub returns : goal.returns
-returns g c = c.is_some.ensures ∙ c.entry.ensures.live ∙ sym (overlay_live _ c.self.inside.frames.entries c.self.inside.file.document c.args.block.0 c.self.invariant) ∙ ap (λ s. is_live s.document c.args.block.0) c.self.view_is

@@ -1,6 +1,0 @@
-use Rattle.std.proofs.Common.{sym, ap, ◌∙◌}
-use Rattle.block_cache.proofs.DocumentUnderFrames.{overlay_map}
-use Rattle.block_cache.proofs.cache.Cache.map_block.Goals as goal
-
-pub returns : goal.returns
-returns g c = c.map_block.ensures ∙ sym (overlay_map c.self.inside.frames.entries c.self.inside.file.document) ∙ ap (λ s. s.document.map_block) c.self.view_is

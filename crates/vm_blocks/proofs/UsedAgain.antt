@@ -1,0 +1,49 @@
+-- A block in memory that is made the one that was used last.
+use Rattle.std.proofs.Common.{◌≡◌, ℕ, List, ◌∷◌, true, cond, length, nat_eq, nat_lt, unwrap_or, ap, sym, subst, ◌∙◌}
+use Rattle.std.specs.List.{IsDistinct}
+use Rattle.std.specs.Map.{keys_of}
+use Rattle.std.specs.Option.{option_map}
+use Rattle.lru.specs.LruCache.{LruCache, lru_cache, promoted}
+use Rattle.vm_store.specs.Facts.{StoreFacts}
+use Rattle.vm_file.specs.Disk.{FileState, SameUnlessCorrupt}
+use Rattle.vm_file.proofs.PassingLemmas.{SameUnlessCorrupt-refl}
+use Rattle.vm_blocks.specs.Frames.{frame_of, residents, overlay, shown}
+use Rattle.vm_blocks.specs.Keeping.{KeepsBlocks}
+use Rattle.vm_blocks.specs.Sound.{AreBlocksOf}
+use Rattle.vm_blocks.specs.State.{after_load, evicted, is_resident, locked_count}
+use Rattle.vm_blocks.specs.declared.frame.Frame.{Frame}
+use Rattle.vm_blocks.proofs.CallAfterCall.{moves_frames, stays_by}
+use Rattle.vm_blocks.proofs.DocumentUnderFrames.{overlay_same, kept_same}
+use Rattle.vm_blocks.proofs.KeepingLaws.{keeps-by}
+use Rattle.vm_blocks.proofs.Locks.{count_promoted}
+use Rattle.vm_blocks.proofs.OrderOfUse.{lookup-residents, residents-promoted, held-promoted}
+use Rattle.vm_blocks.proofs.StateValidity.{blocks_shown}
+
+module _ {S : Type 0} (facts : S → StoreFacts) (a : FileState S) (es : List (ℕ × Frame)) (cap h : ℕ) (fs : LruCache ℕ Frame) (is : fs ≡ lru_cache (promoted (nat_eq h) es) cap) (distinct : IsDistinct nat_eq (keys_of es)) (sound : AreBlocksOf facts a es cap) where
+  now : (q : ℕ) → frame_of fs.entries q ≡ frame_of es q
+  now q = ap (λ (x : LruCache ℕ Frame). frame_of x.entries q) is ∙ held-promoted h q es distinct
+
+  pub used_document : overlay fs.entries a.document ≡ overlay es a.document
+  used_document = overlay_same es fs.entries a.document now
+
+  used_order : residents fs.entries ≡ promoted (nat_eq h) (residents es)
+  used_order = ap (λ (x : LruCache ℕ Frame). residents x.entries) is ∙ residents-promoted h es
+
+  pub used_after : is_resident (residents es) h ≡ true → residents fs.entries ≡ after_load cap h (residents es)
+  used_after there = used_order ∙ sym (ap (λ b. cond b (promoted (nat_eq h) (residents es)) ((h, 0) ∷ cond (nat_lt (length (residents es)) cap) (residents es) (evicted (residents es)))) there)
+
+  used_cap : fs.cap ≡ cap
+  used_cap = ap (λ (x : LruCache ℕ Frame). x.cap) is
+
+  pub used_blocks : AreBlocksOf facts a fs.entries fs.cap
+  used_blocks = blocks_shown facts a es cap fs.entries fs.cap sound (kept_same (facts a.disk.store).honest es fs.entries a.document now sound.kept) used_document used_cap
+
+  pub used_keeps : KeepsBlocks facts (shown a es cap) (shown a fs.entries fs.cap)
+  used_keeps =
+      let honest = (facts a.disk.store).honest in
+      let same : SameUnlessCorrupt honest (overlay es a.document) (overlay fs.entries a.document) = subst (SameUnlessCorrupt honest (overlay es a.document)) (sym used_document) (SameUnlessCorrupt-refl honest (overlay es a.document)) in
+      keeps-by facts (shown a es cap) (shown a fs.entries fs.cap) (stays_by facts a es cap a fs.entries fs.cap (moves_frames facts a es fs.entries used_blocks.kept same) used_cap)
+      (record {
+        each = λ q. ap (λ o. unwrap_or o 0) (lookup-residents q fs.entries ∙ ap (option_map (λ (f : Frame). f.locks)) (now q) ∙ sym (lookup-residents q es));
+        count = ap locked_count used_order ∙ count_promoted h (residents es);
+      })

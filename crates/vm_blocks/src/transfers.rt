@@ -1,0 +1,177 @@
+//! Bodies that go from memory into the file, and come from there.
+ghost use Rattle.std.specs.Prelude.{◌≡◌, ◌≢◌, ◌⊎◌, ◌<◌, ℕ, false, true, cond, nat_lt, List, [], ◌∷◌, length, IsTrue, is_some, None, Some, IfOk, OnOk, OnErr, MatchOption};
+ghost use Rattle.geos_model.specs.Document.{Document, block_at, is_heap, is_heap_body, is_live, with_body};
+ghost use Rattle.vm_file.specs.Calls.{IsPut, put_all, last_sequence};
+ghost use Rattle.vm_file.specs.Documents.{Documents};
+ghost use Rattle.vm_file.specs.Effects.{IsCommit, OnlyReads, Fails, NoFault, IsDamage, IsWorn};
+ghost use Rattle.vm_blocks.specs.Bodies.{body_value};
+ghost use Rattle.vm_blocks.specs.Frames.{frame_of, residents, overlay, with_frames, changed_in, is_changed_in, AreClean, IsChangedBody, AreFramesOf, KeepsOverlay};
+
+use crate::body::{BlockBody, read_image};
+use crate::frame::{Frame, mark};
+use geos_model::{Fault, VmHandle};
+use lru::LruCache;
+use raw_region::Region;
+use std::alloc::{AllocError, Global};
+use vm_file::{BlockImage, Member, VmFile};
+use vm_store::Store;
+
+// A block in memory, of the kind that it has in the file, as it is put there.
+fn put_of<S: Store>(
+    alloc: Global,
+    file: &VmFile<S>,
+    block: VmHandle,
+    body: &BlockBody,
+) -> Result<Member, AllocError>
+    requires live { is_live file.now.document block.0 ≡ true }
+    requires kind { is_heap_body (body_value body.now) ≡ is_heap file.now.document block.0 }
+    ensures put { IfOk result IsPut }
+    ensures is { IfOk result
+        (λ put. put_all (put ∷ []) file.now.document ≡ with_body file.now.document block.0 (body_value body.now)) }
+{
+    file.validity();
+    let place = file.entry(block).unwrap();
+    Ok(Member {
+        handle: block,
+        block: BlockImage::new(place.attributes, body.image(alloc)?),
+    })
+}
+
+// The body of a block in memory, if it is changed.
+fn changed_body(frames: &LruCache<u16, Frame>, block: u16) -> Option<&BlockBody>
+    ensures { MatchOption result
+        (is_changed_in frames.now.entries block ≡ false)
+        (λ body. IsChangedBody frames.now.entries block body.now) }
+{
+    match frames.peek(&block) {
+        Some(frame) => {
+            if frame.changed {
+                Some(&frame.body)
+            } else {
+                None
+            }
+        }
+        None => None,
+    }
+}
+
+/// Puts a block in memory into the file, if it is changed. Memory, File.
+pub fn write_back<S: Store>(
+    alloc: Global,
+    file: &mut VmFile<S>,
+    frames: &mut LruCache<u16, Frame>,
+    block: VmHandle,
+) -> Result<(), Fault>
+    // Asked of the caller.
+    requires kept { AreFramesOf (S.facts file.old.disk.store).honest file.old.document frames.old.entries }
+    // What stays.
+    ensures moves { KeepsOverlay S.facts file.old frames.old.entries file.new frames.new.entries }
+    ensures residents { residents frames.new.entries ≡ residents frames.old.entries }
+    ensures cap { frames.new.cap ≡ frames.old.cap }
+    // What is done.
+    ensures clean { OnOk result (is_changed_in frames.new.entries block.0 ≡ false) }
+    ensures others { OnOk result ((h : ℕ) → h ≢ block.0
+        → is_changed_in frames.new.entries h ≡ is_changed_in frames.old.entries h) }
+    // Refusals.
+    ensures fails { Fails S.facts NoFault file.old.disk.store file.new.disk.store result }
+{
+    match changed_body(frames, block.0) {
+        None => Ok(()),
+        Some(body) => {
+            let puts = [put_of(alloc, file, block, body)?];
+            file.put_blocks(&puts, &[])?;
+            mark(frames, block.0, false);
+            Ok(())
+        }
+    }
+}
+
+/// The body of a block as the file has it, in this region. Damaged where what is read is no image of the block's kind,
+/// which an honest store never gives; Memory, File.
+pub fn read_body<S: Store>(
+    file: &mut VmFile<S>,
+    block: VmHandle,
+    region: Region,
+) -> Result<BlockBody, Fault>
+    requires live { is_live file.old.document block.0 ≡ true }
+    ensures reads { OnlyReads S.facts file.old file.new }
+    ensures kind { IfOk result (λ body. is_heap_body (body_value body) ≡ is_heap file.old.document block.0) }
+    ensures same { IfOk result (λ body. IsTrue (S.facts file.old.disk.store).honest
+        → (block_at file.old.document block.0).body ≡ body_value body) }
+    ensures fails { Fails S.facts
+        (IsDamage (S.facts file.old.disk.store).honest) file.old.disk.store file.new.disk.store result }
+{
+    file.validity();
+    let is_heap = file.entry(block).unwrap().is_heap;
+    let image = file.read_block(block)?;
+    match read_image(region, &image) {
+        Some(body) => {
+            if body.is_heap() == is_heap {
+                Ok(body)
+            } else {
+                Err(Fault::Damaged)
+            }
+        }
+        None => Err(Fault::Damaged),
+    }
+}
+
+// The blocks in memory that are changed. Where there are none this takes no memory.
+fn changed_blocks(alloc: Global, frames: &LruCache<u16, Frame>) -> Result<Vec<u16>, AllocError>
+    ensures { IfOk result (λ blocks. blocks.items ≡ changed_in frames.now.entries) }
+{
+    frames
+        .iter()
+        .filter(|(_, frame)| frame.changed)
+        .map(|(block, _)| *block)
+        .collect(alloc)
+}
+
+/// Puts all blocks in memory that are changed into the file; they stay in memory. Where that is refused, some are in
+/// the file, and the others are still changed. Memory, File.
+pub fn flush<S: Store>(
+    alloc: Global,
+    file: &mut VmFile<S>,
+    frames: &mut LruCache<u16, Frame>,
+) -> Result<(), Fault>
+    requires kept { AreFramesOf (S.facts file.old.disk.store).honest file.old.document frames.old.entries }
+    ensures moves { KeepsOverlay S.facts file.old frames.old.entries file.new frames.new.entries }
+    ensures residents { residents frames.new.entries ≡ residents frames.old.entries }
+    ensures cap { frames.new.cap ≡ frames.old.cap }
+    ensures clean { OnOk result (AreClean frames.new.entries) }
+    ensures fails { Fails S.facts NoFault file.old.disk.store file.new.disk.store result }
+{
+    // Found in one walk, since a walk for each of them would take the square of their number.
+    let blocks = changed_blocks(alloc, frames)?;
+    for block in &blocks {
+        write_back(alloc, file, frames, VmHandle(*block))?;
+    }
+    Ok(())
+}
+
+/// Puts what is changed in memory into the file, which a commit follows. Refused as any commit is, whatever it was to
+/// commit.
+pub fn begin_commit<S: Store>(
+    alloc: Global,
+    file: &mut VmFile<S>,
+    frames: &mut LruCache<u16, Frame>,
+) -> Result<(), Fault>
+    requires kept { AreFramesOf (S.facts file.old.disk.store).honest file.old.document frames.old.entries }
+    // The file, and what a commit may be made of.
+    ensures moves { KeepsOverlay S.facts file.old frames.old.entries file.new frames.new.entries }
+    ensures ok { OnOk result ((file.old.disk.sequence ≢ last_sequence) × AreClean frames.new.entries) }
+    ensures err { OnErr result ((pair : Documents) (behind : Document) → IsCommit S.facts pair behind
+        (with_frames file.old frames.old.entries) (with_frames file.new frames.new.entries) result) }
+    // What is in memory stays there.
+    ensures residents { residents frames.new.entries ≡ residents frames.old.entries }
+    ensures cap { frames.new.cap ≡ frames.old.cap }
+    // Refusals.
+    ensures fails { Fails S.facts IsWorn file.old.disk.store file.new.disk.store result }
+{
+    file.validity();
+    if file.is_worn() {
+        return Err(Fault::Worn);
+    }
+    flush(alloc, file, frames)?;
+    Ok(())
+}
