@@ -18,7 +18,7 @@ use Rattle.geos_shell.specs.declared.runner.RunFault.{RunFault}
 use Rattle.geos_shell.specs.declared.runner.RunFault.TheVariants as run_faults
 use Rattle.vm_file.specs.Disk.{FileState}
 use Rattle.vm_file.specs.Opened.{OnlyReadsStore}
-use Rattle.vm_file.proofs.LooksLemmas.{raised_later, still}
+use Rattle.vm_format.proofs.LooksLemmas.{raised_later, still}
 use Rattle.document_dump.specs.Dumps.{dump_text}
 use Rattle.document_dump.specs.Faults.{IsDumpRefusal}
 use Rattle.document_dump.specs.declared.dumping.Which.{Which}

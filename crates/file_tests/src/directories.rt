@@ -1,7 +1,7 @@
 //! A directory's bytes, as files have them.
 use geos_model::{Attributes, Entry, Extent, Fault, VmHandle};
 use std::test::Fail;
-use vm_space::{MOST_ENTRIES, begin_directory, push_entry, read_dir, write_dir};
+use vm_format::{MOST_ENTRIES, begin_directory, push_entry, read_dir, write_dir};
 
 // One block, handle 1, user ID 7, type 4660, whose image of three bytes is at page 4; it is the map block.
 const TEXT: &[u8; 32] =

@@ -1,7 +1,7 @@
 //! Which extents can lie in a file.
 use geos_model::Extent;
 use std::test::Fail;
-use vm_space::is_in_file;
+use vm_format::is_in_file;
 
 // The page and the length of an extent, the version and the length of the file, and whether it can lie there.
 type Case = (u32, u32, u8, u64, bool);

@@ -1,7 +1,7 @@
 //! A slot's bytes, as files have them.
 use geos_model::{Extent, Slot};
 use std::test::Fail;
-use vm_space::{read_slot, write_slot};
+use vm_format::{read_slot, write_slot};
 
 const TEXT: &[u8; 32] =
     b"GVMF\x01\x01\0\0\x05\0\0\0\0\0\0\0\x02\0\0\0\x20\0\0\0\x03\0\0\0\x10\0\0\0";
