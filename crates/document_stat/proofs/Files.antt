@@ -11,9 +11,8 @@ use Rattle.geos_model.specs.declared.fault.Fault.{Fault}
 use Rattle.geos_model.specs.declared.fault.Fault.TheVariants.{NotDocument, Damaged}
 use Rattle.geos_model.specs.declared.file.Extent.{Extent}
 use Rattle.geos_model.specs.declared.file.Slot.{Slot}
-use Rattle.vm_file.specs.Calls.{IsResourceFault}
-use Rattle.vm_file.specs.Opened.{IsReadRefusal}
-use Rattle.file_report.specs.Checked.{chosen_by, header_verdict}
+use Rattle.vm_format.specs.Reading.{IsReadRefusal, IsResourceFault}
+use Rattle.vm_format.specs.Slots.{chosen_by, header_verdict}
 use Rattle.file_report.specs.Pages.{file_usages, slot_usages}
 use Rattle.file_report.proofs.SlotLemmas.{pair_right, pair_wrong}
 use Rattle.document_stat.specs.Counted.{Blocks}
@@ -68,27 +67,6 @@ pub document_none : (file : List ℕ) (d : Directory) → blocks_of_entries file
 document_none file d is = ap (option_map (made_of d.map_block)) is
 
 -- What is told of them.
-
-abbrev pub numbered : Slot → ℕ × Slot
-numbered s = (s.sequence, s)
-
-abbrev pub slot_in : Result (ℕ × Slot) Fault → Result Slot Fault
-slot_in choice = result_map_both (λ p. p.1) (λ fault. fault) choice
-
-two_chosen : (same less : Bool) (a b : Slot) → slot_in (if same then Err Damaged else if less then Ok (1, b) else Ok (0, a)) ≡ (if same then Err Damaged else if less then Ok b else Ok a)
-two_chosen true less a b = refl
-two_chosen false true a b = refl
-two_chosen false false a b = refl
-
--- the slot of those that were chosen by their numbers
-pub chosen_slot : (a b : Option Slot) → slot_in (chosen_by (option_map numbered a) (option_map numbered b)) ≡ counting_slot a b
-chosen_slot None None = refl
-chosen_slot (Some a) None = refl
-chosen_slot None (Some b) = refl
-chosen_slot (Some a) (Some b) = two_chosen (a.sequence == b.sequence) (nat_lt a.sequence b.sequence) a b
-
-pub chosen_from : (file : List ℕ) (first second : Option Slot) (result : Result Slot Fault) → first ≡ open_slot file 0 → second ≡ open_slot file 1 → result ≡ counting_slot first second → counting_slot (open_slot file 0) (open_slot file 1) ≡ result
-chosen_from file first second result one two is = sym (is ∙ ap₂ counting_slot one two)
 
 -- the saved document, told of or the updated one
 pub saved_there : (file : List ℕ) (s : Slot) (updated : Document) (stat : Option DocumentStat) → document_at s.version file s.working ≡ Some updated → IsSavedStat file s stat

@@ -6,9 +6,9 @@ use Rattle.geos_model.specs.Document.{Document}
 use Rattle.geos_model.specs.File.{counting_slot, directory_of, document_at, open_slot, pages_of, stands}
 use Rattle.geos_model.specs.declared.fault.Fault.{Fault}
 use Rattle.geos_model.specs.declared.file.Slot.{Slot}
-use Rattle.vm_space.specs.Listed.{shown}
-use Rattle.vm_file.specs.Calls.{IsResourceFault}
-use Rattle.file_report.specs.Checked.{header_verdict}
+use Rattle.vm_format.specs.Listed.{shown}
+use Rattle.vm_format.specs.Reading.{IsResourceFault}
+use Rattle.vm_format.specs.Slots.{header_verdict}
 use Rattle.file_report.specs.Pages.{AreFreePages, file_usages, slot_usages}
 use Rattle.file_report.specs.declared.pages.Usage.{Usage}
 use Rattle.document_stat.specs.Counted.{IsBlockStat}

@@ -2,7 +2,7 @@
 ghost use Rattle.std.specs.Prelude.{◌≡◌, IsTrue, IfOk, IfErr, IsErrOf, Some, None};
 ghost use Rattle.geos_model.specs.File.{block_of, blocks_of_entries};
 ghost use Rattle.vm_store.specs.Facts.{FailedSince};
-ghost use Rattle.vm_file.specs.Opened.{IsReadRefusal, OnlyReadsStore};
+ghost use Rattle.vm_format.specs.Reading.{IsReadRefusal, OnlyReadsStore};
 ghost use Rattle.file_report.specs.Reading.{block_with};
 ghost use Rattle.document_stat.specs.Counted.{Blocks, IsCount};
 

@@ -2,19 +2,19 @@
 ghost use Rattle.std.specs.Prelude.{◌≡◌, ℕ, true, IsTrue, IfOk, IfErr, IsErrOf, Some, None};
 ghost use Rattle.geos_model.specs.Document.{Document};
 ghost use Rattle.geos_model.specs.File.{document_of, is_directory};
-ghost use Rattle.vm_space.specs.Listed.{shown};
+ghost use Rattle.vm_format.specs.Listed.{shown};
 ghost use Rattle.vm_store.specs.Facts.{FailedSince};
-ghost use Rattle.vm_file.specs.Opened.{IsReadRefusal, OnlyReadsStore};
+ghost use Rattle.vm_format.specs.Reading.{IsReadRefusal, OnlyReadsStore};
 ghost use Rattle.document_stat.specs.Files.{IsCountingSlot, IsDocumentStat, IsFileStat, IsRefusal, IsSavedStat};
 
 use crate::blocks::BlockStat;
 use crate::counting::{CountingSlot, read_counting_slot};
 use crate::documents::count_blocks;
 use crate::pages::count_pages;
-use file_report::{FreePages, page_count, read_length};
+use file_report::FreePages;
 use geos_model::{Fault, VmHandle};
 use std::alloc::Global;
-use vm_space::Directory;
+use vm_format::{Directory, page_count, read_length};
 use vm_store::Store;
 
 /// What a document has.

@@ -5,8 +5,9 @@ ghost use Rattle.file_report.specs.Pages.{AreFreePages};
 ghost use Rattle.document_stat.specs.Files.{counting_usages};
 
 use crate::counting::CountingSlot;
-use file_report::{FreePages, free_pages, page_count, slot_usages};
+use file_report::{FreePages, free_pages, slot_usages};
 use std::alloc::{AllocError, Global};
+use vm_format::page_count;
 
 /// Of a file of so many bytes the pages on which nothing lies that the slot that counts leads to.
 pub fn count_pages(

@@ -14,7 +14,7 @@ use Rattle.vm_file.specs.Calls.{IsResourceFault}
 use Rattle.geos_shell.specs.Streams.{StopsWriting, Writes}
 use Rattle.vm_file.specs.Disk.{FileState}
 use Rattle.vm_file.specs.Opened.{OnlyReadsStore}
-use Rattle.vm_file.proofs.LooksLemmas.{raised_later, still}
+use Rattle.vm_format.proofs.LooksLemmas.{raised_later, still}
 use Rattle.document_dump.specs.Dumps.{dump_text}
 use Rattle.document_dump.specs.Faults.{IsDumpRefusal}
 use Rattle.document_dump.specs.declared.dumping.Which.{Which}

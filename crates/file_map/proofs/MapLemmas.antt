@@ -15,7 +15,8 @@ use Rattle.geos_model.specs.declared.fault.Fault.TheVariants.{Damaged, NotDocume
 use Rattle.geos_model.specs.declared.file.Slot.{Slot}
 use Rattle.file_report.proofs.SlotLemmas.{pair_wrong}
 use Rattle.file_report.proofs.StandsLemmas.{state_opened, file_verdict}
-use Rattle.file_report.specs.Checked.{IsReport, IsSlotReport, IsState, chosen, counting_between, header_verdict, opened, verdict_by, verdict_of}
+use Rattle.vm_format.specs.Slots.{header_verdict}
+use Rattle.file_report.specs.Checked.{IsReport, IsSlotReport, IsState, chosen, counting_between, opened, verdict_by, verdict_of}
 use Rattle.file_report.specs.Pages.{file_usages, slot_usages, slots_usage, usages_of}
 use Rattle.file_report.specs.declared.checking.Report.{Report}
 use Rattle.file_report.specs.declared.checking.SlotReport.{SlotReport}
@@ -23,8 +24,8 @@ use Rattle.file_report.specs.declared.checking.SlotState.{SlotState}
 use Rattle.file_report.specs.declared.checking.SlotState.TheVariants.{Short, NoMark, Closed, Open}
 use Rattle.file_report.specs.declared.pages.Usage.{Usage}
 use Rattle.vm_store.specs.Facts.{StoreFacts}
-use Rattle.vm_file.specs.Opened.{OnlyReadsStore}
-use Rattle.vm_file.proofs.LooksLemmas.{held_before}
+use Rattle.vm_format.specs.Reading.{OnlyReadsStore}
+use Rattle.vm_format.proofs.LooksLemmas.{held_before}
 use Rattle.std.specs.Io.KnownBytes.{Appends}
 use Rattle.file_map.specs.Drawn.{IsDrawn, IsFileMap}
 use Rattle.file_map.specs.Faults.{IsLack, IsMapRefusal, IsUncounted}

@@ -5,7 +5,7 @@ ghost use Rattle.std.specs.Io.KnownBytes.{Appends};
 ghost use Rattle.geos_model.specs.File.{bytes_in};
 ghost use Rattle.geos_model.specs.Heap.{most_chunks};
 ghost use Rattle.vm_store.specs.Facts.{FailedSince};
-ghost use Rattle.vm_file.specs.Opened.{OnlyReadsStore};
+ghost use Rattle.vm_format.specs.Reading.{OnlyReadsStore};
 ghost use Rattle.file_map.specs.Drawn.{IsDrawn, svg_of, text_of};
 ghost use Rattle.file_map.specs.Faults.{IsLack, IsMapRefusal, IsWriteLack};
 ghost use Rattle.file_map.specs.Heaps.{heap_lines, line_of, sizes};

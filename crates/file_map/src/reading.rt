@@ -2,7 +2,7 @@
 ghost use Rattle.std.specs.Prelude.{◌≡◌, ◌≤◌, ◌<◌, ◌^◌, IsTrue, IfOk, IfErr, IsErrOf, IsOk, IsPermutation, OnOk, Some, map, length};
 ghost use Rattle.file_report.specs.Checked.{IsReport, counting_between};
 ghost use Rattle.std.specs.List.Sorted.{IsNonDecreasingBy};
-ghost use Rattle.vm_file.specs.Opened.{OnlyReadsStore};
+ghost use Rattle.vm_format.specs.Reading.{OnlyReadsStore};
 ghost use Rattle.vm_store.specs.Facts.{FailedSince, byte};
 ghost use Rattle.file_map.specs.Drawn.{IsFileMap};
 ghost use Rattle.file_map.specs.Faults.{IsMapRefusal, IsReadLack, IsUncounted};
@@ -10,9 +10,10 @@ ghost use Rattle.file_map.specs.Parts.{is_heap_at, kind_at, part_of};
 
 use crate::fault::MapFault;
 use crate::part::{Kind, Part, Users, users_of};
-use file_report::{Content, Report, SlotReport, Usage, check, page_count, usages};
-use geos_model::{Extent, Fault, PAGE, VmHandle};
+use file_report::{Content, Report, SlotReport, Usage, check, usages};
+use geos_model::{Extent, Fault, VmHandle};
 use std::alloc::{AllocError, Global};
+use vm_format::{page_count, start_of};
 use vm_store::Store;
 
 /// The first byte of the image of a heap.
@@ -36,7 +37,7 @@ fn is_heap_at<S: Store>(store: &mut S, extent: Extent) -> Result<bool, MapFault>
     ensures refusals { IfErr result (λ fault. fault ≡ MapFault.File) }
 {
     let mut kind = [0; 1];
-    match store.read_at(u64::from(PAGE) * u64::from(extent.page), &mut kind) {
+    match store.read_at(start_of(extent), &mut kind) {
         Ok(()) => Ok(kind[0] == HEAP),
         Err(_) => Err(MapFault::File),
     }

@@ -3,15 +3,15 @@ ghost use Rattle.std.specs.Prelude.{◌≡◌, ◌≤◌, IsTrue, IfOk, IfErr, I
 ghost use Rattle.geos_model.specs.File.{bytes_in};
 ghost use Rattle.geos_model.specs.Heap.{most_chunks};
 ghost use Rattle.vm_store.specs.Facts.{FailedSince};
-ghost use Rattle.vm_file.specs.Opened.{OnlyReadsStore};
+ghost use Rattle.vm_format.specs.Reading.{OnlyReadsStore};
 ghost use Rattle.file_map.specs.Faults.{IsReadLack};
 ghost use Rattle.file_map.specs.Heaps.{sizes};
 
 use crate::fault::MapFault;
 use crate::heaps::read_sizes;
-use file_report::read_extent;
 use geos_model::Extent;
 use std::alloc::Global;
+use vm_format::read_extent;
 use vm_store::Store;
 
 /// The table of the heap in an extent. Memory, File.

@@ -6,7 +6,7 @@ ghost use Rattle.file_map.specs.Walks.{IsPast, IsWalk, begins_by, ends_behind};
 
 use crate::pages::{Content, make_content, users};
 use crate::part::Part;
-use file_report::page_behind;
+use vm_format::page_behind;
 
 /// Behind which page the parts of a kind end that have begun, and those of a document.
 #[derive(Clone, Copy)]

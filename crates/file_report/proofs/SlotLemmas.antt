@@ -6,7 +6,8 @@ use Rattle.geos_model.specs.File.{both, pair_of, document_at}
 use Rattle.geos_model.specs.declared.fault.Fault.{Fault}
 use Rattle.geos_model.specs.declared.fault.Fault.TheVariants.{NotDocument, Damaged}
 use Rattle.geos_model.specs.declared.file.Slot.{Slot}
-use Rattle.file_report.specs.Checked.{header_verdict, verdict_of}
+use Rattle.vm_format.specs.Slots.{header_verdict}
+use Rattle.file_report.specs.Checked.{verdict_of}
 
 pub no_version : (v : ℕ) → (v == 1 || v == 2) ≡ false → (v ≢ 1) × (v ≢ 2)
 no_version v none = (

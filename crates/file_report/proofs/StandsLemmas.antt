@@ -7,7 +7,8 @@ use Rattle.std.proofs.lemmas.Bool.{cond-true, cond-false, le-ltb}
 use Rattle.geos_model.specs.File.{counting_slot, if_open, open_slot, pair_of, pair_of_counting, stands}
 use Rattle.geos_model.specs.declared.fault.Fault.{Fault}
 use Rattle.geos_model.specs.declared.fault.Fault.TheVariants.{Damaged}
-use Rattle.file_report.specs.Checked.{IsState, chosen, chosen_between, chosen_by, opened, verdict_by, verdict_of}
+use Rattle.vm_format.specs.Slots.{chosen_by}
+use Rattle.file_report.specs.Checked.{IsState, chosen, chosen_between, opened, verdict_by, verdict_of}
 use Rattle.file_report.specs.declared.checking.SlotReport.{SlotReport}
 use Rattle.file_report.specs.declared.checking.SlotState.{SlotState}
 use Rattle.file_report.specs.declared.checking.SlotState.TheVariants.{Short, NoMark, Closed, Open}

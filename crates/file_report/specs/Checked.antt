@@ -1,14 +1,14 @@
 -- What a check tells of a file.
-use Rattle.std.specs.Prelude.{◌≡◌, ◌≢◌, ℕ, ◌*◌, ◌<◌, ◌==◌, ◌||◌, not, nat_lt, if◌then◌else◌, IsErr, IsOk, All, List, Option, None, Some, Result, Ok, Err, length, is_some, take, drop}
+use Rattle.std.specs.Prelude.{◌≡◌, ◌≢◌, ℕ, ◌*◌, ◌<◌, IsErr, IsOk, All, List, Option, None, Some, Result, Ok, Err, length, is_some, take, drop}
 use Rattle.std.specs.Option.{option_map}
 use Rattle.std.specs.Result.{result_ok}
 use Rattle.geos_model.specs.Document.{Document}
 use Rattle.geos_model.specs.File.{directory_of, document_at, slot_of, pair_of, stands}
 use Rattle.geos_model.specs.declared.fault.Fault.{Fault}
-use Rattle.geos_model.specs.declared.fault.Fault.TheVariants.{NotDocument, Damaged}
 use Rattle.geos_model.specs.declared.file.Extent.{Extent}
 use Rattle.geos_model.specs.declared.file.Slot.{Slot}
-use Rattle.vm_space.specs.Listed.{shown}
+use Rattle.vm_format.specs.Listed.{shown}
+use Rattle.vm_format.specs.Slots.{chosen_by, header_verdict}
 use Rattle.file_report.specs.declared.document.CheckedDocument.{CheckedDocument}
 use Rattle.file_report.specs.Findings.{IsSo}
 use Rattle.file_report.specs.declared.checking.SlotReport.{SlotReport}
@@ -25,12 +25,6 @@ verdict_of (Err fault) = Err fault
 pub record IsChecked (file : List ℕ) (version : ℕ) (e : Extent) (d : CheckedDocument) : Type 0 where
   pub directory : option_map shown d.directory ≡ directory_of version file e
   pub stands : d.stands ≡ is_some (document_at version file e)
-
--- whether a slot can lead to documents
-abbrev pub header_verdict : Slot → Result (Unit {0}) Fault
-header_verdict s =
-    if not (s.version == 1 || s.version == 2) then Err NotDocument
-    else if not (s.reserved == 0) || s.sequence == 0 then Err Damaged else Ok tt
 
 -- whether a slot's documents stand, and what is wrong where they don't; and the directories that it leads to, where it
 -- isn't wrong itself
@@ -56,14 +50,6 @@ opened (Open r) = Some r
 opened Short = None
 opened NoMark = None
 opened (Closed s) = None
-
--- The slot that counts, 0 or 1, and what there is of it: of two open ones, each with its sequence number, that of the
--- greater one. Else what the file is for want of one.
-abbrev pub chosen_by : {T : Type 0} → Option (ℕ × T) → Option (ℕ × T) → Result (ℕ × T) Fault
-chosen_by None None = Err NotDocument
-chosen_by (Some a) None = Ok (0, a.1)
-chosen_by None (Some b) = Ok (1, b.1)
-chosen_by (Some a) (Some b) = if a.0 == b.0 then Err Damaged else if nat_lt a.0 b.0 then Ok (1, b.1) else Ok (0, a.1)
 
 abbrev pub numbered : SlotReport → ℕ × SlotReport
 numbered r = (r.slot.sequence, r)

@@ -7,7 +7,7 @@ use Rattle.geos_model.specs.declared.file.Extent.{Extent}
 use Rattle.geos_model.specs.declared.file.Entry.{Entry}
 use Rattle.geos_model.specs.declared.file.Slot.{Slot}
 use Rattle.vm_space.specs.Space.{is_on}
-use Rattle.vm_space.specs.Listed.{shown}
+use Rattle.vm_format.specs.Listed.{shown}
 use Rattle.file_report.specs.declared.finding.Named.{Named}
 use Rattle.file_report.specs.declared.finding.Named.TheVariants.{Updated, Saved}
 use Rattle.file_report.specs.declared.checking.SlotReport.{SlotReport}

@@ -1,24 +1,16 @@
 -- A directory that was read, and what is found by it.
-use Rattle.std.specs.Prelude.{◌≡◌, ℕ, IsTrue, All, List, None, Some, length}
+use Rattle.std.specs.Prelude.{◌≡◌, ℕ, IsTrue, All, List, length}
 use Rattle.vm_store.specs.Facts.{StoreFacts}
 use Rattle.geos_model.specs.Document.{Block}
-use Rattle.geos_model.specs.File.{bytes_in, directory_of}
 use Rattle.geos_model.specs.declared.command.Body.{Body}
 use Rattle.geos_model.specs.declared.file.Entry.{Entry}
 use Rattle.geos_model.specs.declared.file.Slot.{Slot}
-use Rattle.geos_model.specs.declared.file.Extent.{Extent}
-use Rattle.vm_space.specs.Listed.{shown}
+use Rattle.vm_format.specs.Reading.{IsRead}
 use Rattle.file_report.specs.Findings.{IsListed, IsSo, directory_extent}
 use Rattle.file_report.specs.declared.finding.Finding.{Finding}
 use Rattle.file_report.specs.declared.finding.Named.{Named}
-use Rattle.file_report.specs.declared.reading.ReadDirectory.{ReadDirectory}
-use Rattle.file_report.specs.declared.reading.ReadDirectory.TheVariants.{Misplaced, Wrong, Right}
-
--- a directory of a file of a version was read from an extent
-abbrev pub IsRead : ℕ → Extent → ReadDirectory → List ℕ → Type 0
-IsRead version e Misplaced file = directory_of version file e ≡ None
-IsRead version e (Wrong bytes) file = (bytes.items ≡ bytes_in file e) × (directory_of version file e ≡ None)
-IsRead version e (Right directory) file = directory_of version file e ≡ Some (shown directory)
+use Rattle.vm_format.specs.declared.stored_directory.ReadDirectory.{ReadDirectory}
+use Rattle.vm_format.specs.declared.stored_directory.ReadDirectory.TheVariants.{Misplaced, Wrong, Right}
 
 -- the block that an entry lists, with its body
 abbrev pub block_with : Entry → Body → ℕ × Block

@@ -3,18 +3,19 @@ ghost use Rattle.std.specs.Prelude.{◌≡◌, ◌≤◌, ◌<◌, ◌&&◌, if�
 ghost use Rattle.std.specs.Option.{option_map};
 ghost use Rattle.std.specs.Result.{result_map_both};
 ghost use Rattle.vm_store.specs.Facts.{FailedSince};
-ghost use Rattle.vm_file.specs.Calls.{IsResourceFault};
-ghost use Rattle.vm_file.specs.Opened.{OnlyReadsStore};
+ghost use Rattle.vm_format.specs.Reading.{IsResourceFault, OnlyReadsStore};
 ghost use Rattle.file_report.specs.Findings.{FindsMore};
 ghost use Rattle.file_report.specs.Reading.{IsSoOfSlot};
-ghost use Rattle.file_report.specs.Checked.{IsReport, IsSlotReport, IsState, chosen_between, chosen_by, counting_between, counting_number, header_verdict, numbered, opened, verdict_by};
+ghost use Rattle.vm_format.specs.Slots.{chosen_by, header_verdict};
+ghost use Rattle.file_report.specs.Checked.{IsReport, IsSlotReport, IsState, chosen_between, counting_between, counting_number, numbered, opened, verdict_by};
 
 use crate::document::check_document;
 use crate::finding::{Finding, Named, note_unless};
-use crate::reading::{read_length, read_slot_at};
 use geos_model::{Fault, PAGE, Slot};
 use std::alloc::{AllocError, Global};
-use vm_space::Directory;
+use vm_format::{
+    Directory, check_slot as check_header, choose, is_version, read_length, read_raw_slot,
+};
 use vm_store::Store;
 
 /// What was found of an open slot, as if it counted.
@@ -72,32 +73,11 @@ fn slot_findings(alloc: Global, slot: &Slot) -> Result<Vec<Finding>, AllocError>
     Ok(findings)
 }
 
-// Whether it is a version of the format.
-fn is_version(version: u8) -> bool
-    ensures { result ≡ (version == 1 || version == 2) }
-{
-    version == 1 || version == 2
-}
-
 // Whether a slot can have the sequence number.
 fn is_sequence(sequence: u64) -> bool
     ensures { result ≡ not (sequence == 0) }
 {
     sequence != 0
-}
-
-/// Whether a slot can lead to documents: Ok, or `NotDocument` where its version is none of the format, or `Damaged`
-/// where its zeros or its sequence number are wrong.
-pub fn header_verdict(slot: &Slot) -> Result<(), Fault>
-    ensures { result ≡ header_verdict slot.now }
-{
-    if !is_version(slot.version) {
-        Err(Fault::NotDocument)
-    } else if slot.reserved != 0 || slot.sequence == 0 {
-        Err(Fault::Damaged)
-    } else {
-        Ok(())
-    }
 }
 
 // Whether two documents stand.
@@ -127,7 +107,7 @@ fn check_slot<S: Store>(
     ensures refusals { IfErr result IsResourceFault }
 {
     let mut findings = slot_findings(alloc, &slot)?;
-    if let Err(fault) = header_verdict(&slot) {
+    if let Err(fault) = check_header(&slot) {
         return Ok(SlotReport {
             slot,
             verdict: Err(fault),
@@ -175,7 +155,7 @@ fn check_page<S: Store>(
     ensures file { IsErrOf result Fault.File → FailedSince (S.facts store.old) (S.facts store.new) }
     ensures refusals { IfErr result IsResourceFault }
 {
-    match read_slot_at(alloc, store, page)? {
+    match read_raw_slot(store, page)?.slot {
         None => Ok(SlotState::NoMark),
         Some(slot) if slot.gate != 1 => Ok(SlotState::Closed(slot)),
         Some(slot) => Ok(SlotState::Open(check_slot(alloc, store, file_length, slot)?)),
@@ -212,27 +192,6 @@ impl Report {
         match chosen(&self.first, &self.second) {
             Ok((slot, _)) => Some(slot),
             Err(_) => None,
-        }
-    }
-}
-
-/// Which of two slots counts, 0 or 1, and what there is of it: of two open ones that of the greater sequence number.
-/// Each open one is given with its number. NotDocument where none is open, Damaged where both have one number.
-pub fn choose<T: Copy>(first: Option<(u64, T)>, second: Option<(u64, T)>) -> Result<(u8, T), Fault>
-    ensures { result ≡ chosen_by first second }
-{
-    match (first, second) {
-        (None, None) => Err(Fault::NotDocument),
-        (Some(one), None) => Ok((0, one.1)),
-        (None, Some(other)) => Ok((1, other.1)),
-        (Some(one), Some(other)) => {
-            if one.0 == other.0 {
-                Err(Fault::Damaged)
-            } else if one.0 < other.0 {
-                Ok((1, other.1))
-            } else {
-                Ok((0, one.1))
-            }
         }
     }
 }

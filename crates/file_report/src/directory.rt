@@ -4,15 +4,14 @@ ghost use Rattle.file_report.specs.Findings.{FindsMore, IsSeen, directory_extent
 ghost use Rattle.file_report.specs.Reading.{IsSoOf, IsSoOfRead, IsWrong};
 
 use crate::entry::{
-    HEADER_LENGTH, count_of, handle_before, has_entry_zeros, has_header_zeros, has_mark, is_above,
-    is_directory_length, is_handle, is_image_length, is_known, is_map_block, is_whole,
-    map_block_of, read_entry, text_at, version_of, whole_entries,
+    count_of, handle_before, has_entry_zeros, has_header_zeros, has_mark, is_above,
+    is_directory_length, is_handle, is_image_length, is_map_block, is_whole, map_block_of, text_at,
+    version_of, whole_entries,
 };
 use crate::finding::{EntryFault, Finding, HeaderFault, Named, note_unless};
-use crate::reading::ReadDirectory;
 use geos_model::{Extent, Slot, VmHandle};
 use std::alloc::AllocError;
-use vm_space::is_in_file;
+use vm_format::{HEADER_LENGTH, ReadDirectory, is_in_file, is_known, read_entry};
 
 /// Where the directory of one of a slot's documents lies.
 pub fn directory_extent(slot: &Slot, name: Named) -> Extent

@@ -3,19 +3,17 @@ ghost use Rattle.std.specs.Prelude.{◌≡◌, ◌<◌, IsTrue, OnOk, IfOk, IfEr
 ghost use Rattle.std.specs.Option.{option_map};
 ghost use Rattle.geos_model.specs.File.{block_of, blocks_of_entries};
 ghost use Rattle.vm_store.specs.Facts.{FailedSince};
-ghost use Rattle.vm_file.specs.Calls.{IsResourceFault};
-ghost use Rattle.vm_file.specs.Opened.{OnlyReadsStore};
+ghost use Rattle.vm_format.specs.Reading.{IsResourceFault, OnlyReadsStore};
 ghost use Rattle.file_report.specs.Findings.{FindsMore, directory_extent};
 ghost use Rattle.file_report.specs.Reading.{IsSoIn, IsSoOfEntries, block_with};
 ghost use Rattle.file_report.specs.Checked.{IsChecked};
 
 use crate::directory::{directory_extent, note_directory};
 use crate::finding::{Finding, Named, note_unless};
-use crate::reading::{ReadDirectory, read_directory, read_extent};
 use geos_model::{Bytes, Entry, Fault, Slot};
 use std::alloc::Global;
 use vm_file::Image;
-use vm_space::Directory;
+use vm_format::{Directory, ReadDirectory, look_for_directory, read_extent};
 use vm_store::Store;
 
 /// One of a slot's documents, as it was found.
@@ -112,7 +110,7 @@ pub fn check_document<S: Store>(
     ensures refusals { IfErr result IsResourceFault }
 {
     let extent = directory_extent(slot, name);
-    let read = read_directory(alloc, store, file_length, slot.version, extent)?;
+    let read = look_for_directory(alloc, store, slot.version, file_length, extent)?;
     note_directory(&read, file_length, slot, name, findings)?;
     match read {
         ReadDirectory::Right(directory) => {

@@ -1,18 +1,11 @@
 //! The entries of a directory that may be wrong, by their bytes.
 ghost use Rattle.std.specs.Prelude.{◌≡◌, ◌+◌, ◌*◌, ◌<◌, ◌≤◌, ◌≢◌, ◌⊎◌, ◌-◌, ℕ, false, length, take, drop};
 ghost use Rattle.geos_model.specs.Words.{word_at};
-ghost use Rattle.geos_model.specs.File.{directory_mark, entry_read, greatest_handle, is_version_in, longest_directory, longest_image};
+ghost use Rattle.geos_model.specs.File.{directory_mark, greatest_handle, longest_directory, longest_image};
 ghost use Rattle.file_report.specs.Findings.{are_zeros, handle_before, text_at, zeros_of};
 
 use byteorder::{ByteOrder, LittleEndian};
-use geos_model::{Attributes, Entry, Extent, MOST_BLOCKS, MOST_BLOCKS_OF_VERSION_1, VmHandle};
-use vm_space::{LONGEST_DIRECTORY, LONGEST_IMAGE};
-
-/// How many bytes stand before the entries of a directory.
-pub const HEADER_LENGTH: usize = 16;
-
-// How many bytes an entry has.
-const ENTRY_LENGTH: usize = 16;
+use vm_format::{ENTRY_LENGTH, HEADER_LENGTH, LONGEST_DIRECTORY, LONGEST_IMAGE, most_handles};
 
 /// The text of an entry.
 pub fn text_at(bytes: &[u8], i: usize) -> &[u8]
@@ -29,13 +22,6 @@ pub fn has_mark(bytes: &[u8]) -> bool
     ensures { result ≡ false → take 4 bytes.now ≢ directory_mark }
 {
     bytes.starts_with(b"GDIR")
-}
-
-/// Whether a directory of this version can be in a file of that one.
-pub fn is_known(version: u16, file_version: u8) -> bool
-    ensures { result ≡ is_version_in file_version version }
-{
-    version == 1 || (version == 2 && file_version == 2)
 }
 
 /// How many entries the header of a directory counts.
@@ -127,36 +113,6 @@ pub fn handle_before(bytes: &[u8], i: usize) -> u16
     ensures { result ≡ handle_before bytes.now i }
 {
     if i == 0 { 0 } else { handle_at(bytes, i - 1) }
-}
-
-/// The entry of this text in a directory of this version.
-pub fn read_entry(version: u16, text: &[u8]) -> Entry
-    requires { length text.now ≡ ENTRY_LENGTH }
-    ensures { result ≡ entry_read version text.now }
-{
-    let heap_type = LittleEndian::read_u16(&text[12..]);
-    Entry {
-        handle: VmHandle(LittleEndian::read_u16(text)),
-        attributes: Attributes {
-            user_id: LittleEndian::read_u16(&text[2..]),
-            heap_type: if version == 1 { 0 } else { heap_type },
-        },
-        extent: Extent {
-            page: LittleEndian::read_u32(&text[4..]),
-            length: LittleEndian::read_u32(&text[8..]),
-        },
-    }
-}
-
-// The greatest handle in a directory of this version.
-fn most_handles(version: u16) -> u16
-    ensures { result ≡ greatest_handle version }
-{
-    if version == 1 {
-        MOST_BLOCKS_OF_VERSION_1
-    } else {
-        MOST_BLOCKS
-    }
 }
 
 // How many zeros an entry ends in, in a directory of this version.

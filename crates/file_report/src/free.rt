@@ -4,8 +4,9 @@ ghost use Rattle.std.specs.List.Sorted.{IsNonDecreasingBy};
 ghost use Rattle.vm_space.specs.Space.{is_on};
 ghost use Rattle.file_report.specs.Pages.{AreFreePages, IsWalk, PassesFree};
 
-use crate::pages::{Usage, page_behind};
+use crate::pages::Usage;
 use geos_model::Extent;
+use vm_format::page_behind;
 
 /// The pages of a file on which nothing lies.
 #[derive(Clone, Copy, Debug, PartialEq, Eq)]

@@ -9,12 +9,10 @@ mod finding;
 mod free;
 mod heaps;
 mod pages;
-mod reading;
 
-pub use checking::{Report, SlotReport, SlotState, check, choose, header_verdict};
+pub use checking::{Report, SlotReport, SlotState, check};
 pub use document::read_image;
 pub use finding::{EntryFault, Finding, HeaderFault, Named};
 pub use free::{FreePages, free_pages};
 pub use heaps::read_heap;
-pub use pages::{Content, Usage, overlaps, page_behind, page_count, slot_usages, usages};
-pub use reading::{ReadDirectory, read_directory, read_extent, read_length, read_slot_at};
+pub use pages::{Content, Usage, overlaps, slot_usages, usages};

@@ -3,8 +3,8 @@ ghost use Rattle.std.specs.Prelude.{◌≡◌, ◌⊎◌, ◌↔◌, ◌≤◌, 
 ghost use Rattle.std.specs.List.{Contains};
 ghost use Rattle.std.specs.List.Sorted.{IsNonDecreasingBy};
 ghost use Rattle.std.specs.Option.{option_copied, option_map};
-ghost use Rattle.geos_model.specs.File.{end_page, pages_of};
-ghost use Rattle.vm_space.specs.Listed.{shown};
+ghost use Rattle.geos_model.specs.File.{end_page};
+ghost use Rattle.vm_format.specs.Listed.{shown};
 ghost use Rattle.file_report.specs.Pages.{AreTold, DoOverlap, IsShared, IsTold, image_usage, part_of, slot_usages, usages_in, usages_of};
 ghost use Rattle.file_report.specs.declared.pages.Usage.{Usage};
 
@@ -12,7 +12,7 @@ use crate::checking::SlotReport;
 use crate::finding::Named;
 use geos_model::{Extent, PAGE, Slot, VmHandle};
 use std::alloc::{AllocError, Global};
-use vm_space::Directory;
+use vm_format::{Directory, page_behind};
 
 /// What an extent holds.
 #[derive(Clone, Copy)]
@@ -39,20 +39,6 @@ const SLOTS: Usage = Usage {
     },
     content: Content::Slots,
 };
-
-/// How many pages so many bytes take.
-pub fn page_count(length: u64) -> u64
-    ensures { result ≡ pages_of length }
-{
-    length.div_ceil(u64::from(PAGE))
-}
-
-/// The page behind the last one of an extent.
-pub fn page_behind(extent: Extent) -> u64
-    ensures { result ≡ end_page extent }
-{
-    u64::from(extent.page) + page_count(u64::from(extent.length))
-}
 
 fn push_document(
     usages: &mut Vec<Usage>,

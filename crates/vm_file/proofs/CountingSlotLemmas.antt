@@ -18,29 +18,13 @@ use Rattle.geos_model.proofs.Files.{some_if, get_or_same}
 use Rattle.geos_model.proofs.Numbers.{number_law}
 use Rattle.vm_file.specs.Ranges.{end_of}
 use Rattle.vm_file.specs.Slots.{gate_text, pair_extents, LeadsTo, IsUnmarked, IsOlder, IsBeside}
-use Rattle.vm_file.specs.Opened.{IsRawSlot, IsActiveSlot, Beaten}
-use Rattle.vm_file.specs.declared.slot.RawSlot.{RawSlot}
+use Rattle.vm_format.specs.Slots.{IsRawSlot, IsFoundSlot, Beaten}
+use Rattle.vm_format.specs.declared.stored_slot.RawSlot.{RawSlot}
+use Rattle.vm_format.specs.declared.stored_slot.FoundSlot.{FoundSlot}
+use Rattle.vm_file.specs.Opened.{IsActiveSlot}
 use Rattle.vm_file.specs.declared.table.Pair.{Pair}
 use Rattle.vm_file.specs.declared.slot.SpareSlot.{SpareSlot}
 use Rattle.vm_file.specs.declared.slot.SpareSlot.TheVariants.{Shut, Stale}
-
--- the bytes of a slot that are read are those of the file
-pub raw_slot_read : (file bytes : List ℕ) (page at : ℕ) (raw : RawSlot) → at ≡ 512 * page → length bytes ≡ 32 → ((i : ℕ) → slice_index bytes i < 256) → Holds file at bytes → raw.gate ≡ slice_index bytes 4 → raw.slot ≡ slot_of bytes
-    → IsRawSlot file page raw
-raw_slot_read file bytes page at raw place size small held gate slot =
-    let n : ℕ = 512 * page in
-    let each : (i : ℕ) → i < 32 → byte file (n + i) ≡ byte bytes i = λ i low. ap (λ m. byte file (m + i)) (sym place) ∙ held.each i (omega (arith, low, size)) in
-    let within : n + 32 ≤ length file = omega (arith, held.within, size, place) in
-    let long : length (take 32 (drop n file)) ≡ 32 = omega (arith, length-take 32 (drop n file), length-drop n file, within) in
-    let is : take 32 (drop n file) ≡ bytes = same_number_lists (take 32 (drop n file)) bytes (long ∙ sym size) (λ k inside.
-    let low : k < 32 = omega (arith, inside, long) in
-    get_or-take 32 (drop n file) k 0 low ∙ get_or-drop n file k 0 ∙ each k low) in
-    record {
-      within = within;
-      bytes = λ i low. let one = small i in let same = each i low in omega (arith, one, same);
-      gate = gate ∙ sym (each 4 (omega arith));
-      slot = slot ∙ sym (ap slot_of is);
-    }
 
 -- The slot that counts.
 
@@ -205,26 +189,13 @@ beside_one file page n raw is beaten = elim (cases_Bool (raw.gate == 1)) as (λ 
 
 -- What was found.
 
-pub no_slot : (file : List ℕ) (fault : Fault) → 1024 ≤ length file → counting_slot (open_slot file 0) (open_slot file 1) ≡ Err fault → stands file ≡ Err fault
-no_slot file fault long none = cond-false _ _ _ (le-ltb (length file) 1024 long) ∙ ap (pair_of_counting file) none
-
-pub raw_slot_opened : (file : List ℕ) (page : ℕ) (raw : RawSlot) (o : Option Slot) → IsRawSlot file page raw → o ≡ option_and_then if_open raw.slot → o ≡ open_slot file page
-raw_slot_opened file page raw o is e = e ∙ ap (option_and_then if_open) is.slot
-
-pub active_slot_is : (file : List ℕ) (first last : RawSlot) (second : Bool) (s : Slot) (a b : Option Slot) (spare : SpareSlot) → 1024 ≤ length file → IsRawSlot file 0 first → IsRawSlot file 1 last → a ≡ open_slot file 0 → b ≡ open_slot file 1
-    → counting_slot a b ≡ Ok s → (if second then b else a) ≡ Some s → Beaten (if second then a else b) s.sequence → spare ≡ (if (if second then first.gate else last.gate) == 1 then Stale else Shut)
-    → IsActiveSlot file (record { second = second; slot = s; spare = spare })
-active_slot_is file first last true s a b spare long zeroth one is_a is_b counts was beaten is = record {
-  long = long;
-  bytes = one.bytes;
-  counts = sym (ap₂ counting_slot is_a is_b) ∙ counts;
-  opened = sym is_b ∙ was;
-  beside = subst (λ o. IsBeside o 0 s.sequence file file) (sym is) (beside_one file 0 s.sequence first zeroth (subst (λ o. Beaten o s.sequence) is_a beaten));
-}
-active_slot_is file first last false s a b spare long zeroth one is_a is_b counts was beaten is = record {
-  long = long;
-  bytes = zeroth.bytes;
-  counts = sym (ap₂ counting_slot is_a is_b) ∙ counts;
-  opened = sym is_a ∙ was;
-  beside = subst (λ o. IsBeside o 1 s.sequence file file) (sym is) (beside_one file 1 s.sequence last one (subst (λ o. Beaten o s.sequence) is_b beaten));
-}
+pub active_slot_is : (file : List ℕ) (found : FoundSlot) (spare : SpareSlot) → IsFoundSlot file found → spare ≡ (if found.other.gate == 1 then Stale else Shut) → IsActiveSlot file (record { second = found.second; slot = found.slot; spare = spare })
+active_slot_is file found spare is e =
+    let page : ℕ = if found.second then 0 else 1 in
+    record {
+      long = is.long;
+      bytes = is.bytes;
+      counts = is.counts;
+      opened = is.opened;
+      beside = subst (λ o. IsBeside o page found.slot.sequence file file) (sym e) (beside_one file page found.slot.sequence found.other is.other is.beaten);
+    }

@@ -9,12 +9,12 @@ use Rattle.geos_model.specs.declared.fault.Fault.{Fault}
 use Rattle.geos_model.specs.declared.fault.Fault.TheVariants.{Memory, File, Worn}
 use Rattle.geos_model.proofs.FileDocuments.{document_at-valid}
 use Rattle.vm_store.specs.Facts.{StoreFacts, IsTimely, IsUnchanged}
-use Rattle.vm_file.specs.Calls.{IsResourceFault, last_sequence}
+use Rattle.vm_format.specs.Reading.{IsResourceFault, OnlyReadsStore}
+use Rattle.vm_file.specs.Calls.{last_sequence}
 use Rattle.vm_file.specs.Documents.{Documents, blocks_in, document_in, IsStored}
 use Rattle.vm_file.specs.Disk.{Disk, FileState, IsCrashConsistent, HasSequence, SameUnlessCorrupt, KeepsCommitted, MayCommit}
 use Rattle.vm_file.specs.Effects.{IsFile, IsNewFile, OnlyReads, IsCommit, Fails, NoFault, IsDamage}
 use Rattle.vm_file.specs.Making.{IsOne}
-use Rattle.vm_file.specs.Opened.{OnlyReadsStore}
 use Rattle.vm_file.specs.Ranges.{KeepsAll}
 use Rattle.vm_file.specs.Slots.{marked_extents}
 use Rattle.vm_file.specs.Sound.{IsBlockTable, IsSound, disk_of}
@@ -25,7 +25,7 @@ use Rattle.vm_file.proofs.WritingLemmas.{call_passes}
 use Rattle.vm_file.proofs.ContentLemmas.{settled_content, committed_content}
 use Rattle.vm_file.proofs.RangesLemmas.{keeps_itself}
 use Rattle.vm_file.proofs.TableLemmas.{listed, places_drift}
-use Rattle.vm_file.proofs.LooksLemmas.{IsUnchanged-refl, IsUnchanged-trans}
+use Rattle.vm_format.proofs.LooksLemmas.{IsUnchanged-refl, IsUnchanged-trans}
 use Rattle.vm_file.proofs.PassingLemmas.{KeepsCommitted-refl, KeepsCommitted-trans, KeepsCommitted-crash_consistent, KeepsCommitted-fails, KeepsCommitted-MayCommit, SameUnlessCorrupt-refl, SameUnlessCorrupt-trans, MayCommit-refused}
 use Rattle.vm_file.proofs.StandsLemmas.{stored_document, sound_settled, sound_numbered}
 use Rattle.vm_file.proofs.SlotsLemmas.{rests_leaves, rests_outlives}

@@ -69,10 +69,6 @@ image_length body valid = (image_some body, length_image_body_le body valid)
 
 -- Which bytes are the image of a body.
 
-pub none_if : {A : Type 0} (o : Option A) → ((a : A) → o ≡ Some a → ⊥) → o ≡ None
-none_if None refuted = refl
-none_if (Some a) refuted = absurd (refuted a refl)
-
 -- no bytes are the image of no body
 pub empty_none : (bytes : List ℕ) → length bytes ≡ 0 → body_of bytes ≡ None
 unfolding body_of body_read image

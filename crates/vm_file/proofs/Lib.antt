@@ -12,7 +12,6 @@ pub mod GateAwayLemmas
 pub mod ImageLemmas
 pub mod LaidOutLemmas
 pub mod ListingLemmas
-pub mod LooksLemmas
 pub mod MakingLemmas
 pub mod OpenedDirectoryLemmas
 pub mod OpenedLemmas

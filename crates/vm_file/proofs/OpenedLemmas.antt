@@ -13,7 +13,8 @@ use Rattle.vm_file.specs.Ranges.{IsPlaced, end_of}
 use Rattle.vm_file.specs.Slots.{block_extents, stored_extents, pair_extents, prepared_extents, Outcome}
 use Rattle.vm_file.specs.Documents.{AreImaged, AreStored, IsPreparedStored, document_in, sequence_of}
 use Rattle.vm_file.specs.Sound.{ArePlaces, IsBlockTable, IsPreparedFormed, IsSound}
-use Rattle.vm_file.specs.Opened.{OnlyReadsStore, AreReadDocuments, IsActiveSlot, IsReadSlots, IsReadWhole}
+use Rattle.vm_format.specs.Reading.{OnlyReadsStore}
+use Rattle.vm_file.specs.Opened.{AreReadDocuments, IsActiveSlot, IsReadSlots, IsReadWhole}
 use Rattle.vm_file.specs.declared.slot.ActiveSlot.{ActiveSlot}
 use Rattle.vm_file.specs.declared.table.BlockTable.{BlockTable}
 use Rattle.vm_file.specs.declared.table.Pair.{Pair}
@@ -23,7 +24,7 @@ use Rattle.vm_file.specs.declared.slot.SpareSlot.TheVariants.{Shut, Stale}
 use Rattle.vm_file.proofs.StandsLemmas.{stored_document}
 use Rattle.vm_file.proofs.RangesLemmas.{all_left}
 use Rattle.vm_file.proofs.SoundLemmas.{kept_all, nothing_kept, nothing_marked}
-use Rattle.vm_file.proofs.LooksLemmas.{still_holds}
+use Rattle.vm_format.proofs.LooksLemmas.{still_holds}
 use Rattle.vm_file.proofs.CountingSlotLemmas.{slot_leads}
 
 -- From any store.

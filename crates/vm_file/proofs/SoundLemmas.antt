@@ -17,7 +17,7 @@ use Rattle.geos_model.specs.Document.{IsTyped}
 use Rattle.geos_model.proofs.Tables.{slot_at}
 use Rattle.geos_model.specs.declared.block.Attributes.{Attributes}
 use Rattle.vm_file.specs.Sound.{IsPlace, ArePlaces, IsBlockTable, IsSound, IsSoundFile}
-use Rattle.vm_file.specs.Opened.{OnlyReadsStore}
+use Rattle.vm_format.specs.Reading.{OnlyReadsStore}
 use Rattle.vm_file.specs.declared.listing.Bounds.{Bounds}
 use Rattle.vm_space.specs.Space.{Space}
 use Rattle.vm_file.specs.declared.table.Place.{Place}

@@ -25,7 +25,7 @@ use Rattle.vm_file.specs.Ranges.{IsPlaced, KeepsExtent, KeepsAll}
 use Rattle.vm_file.specs.Slots.{gate_text, behind_gate, LeadsTo, IsBeside, IsUnmarked, IsOlder, Outcome, block_extents, stored_extents, pair_extents, prepared_extents, switched, AreExtentsPlaced}
 use Rattle.vm_file.specs.Documents.{blocks_in, document_in, documents_in, attempted_in, entries_of, directory_of_table, IsImaged, AreImaged, IsStored, AreStored, IsPreparedStored, sequence_of, sequence_in, version_of, version_in}
 use Rattle.vm_file.specs.Disk.{StandsForOne, IsCrashConsistent, HasSequence}
-use Rattle.vm_file.specs.Opened.{Beaten}
+use Rattle.vm_format.specs.Slots.{Beaten}
 use Rattle.vm_file.proofs.ImageLemmas.{of_kind-same}
 use Rattle.vm_file.specs.Sound.{IsPlace, ArePlaces, IsBlockTable, AreTables, IsFormed, IsPreparedFormed, IsWhole, IsSound, disk_of}
 use Rattle.vm_file.specs.declared.table.Place.{Place}

@@ -2,8 +2,9 @@
 use Rattle.std.specs.Prelude.{◌≡◌, ◌⊎◌, ◌≤◌, ℕ, true, List, [], ◌∷◌}
 use Rattle.geos_model.specs.Document.{Document, is_vm_handle, with_blocks, without_block}
 pub use Rattle.geos_model.specs.Machine.{last_sequence}
+pub use Rattle.vm_format.specs.Reading.{IsOpenRefusal, IsResourceFault}
 use Rattle.geos_model.specs.declared.fault.Fault.{Fault}
-use Rattle.geos_model.specs.declared.fault.Fault.TheVariants.{Memory, File, Damaged, NotDocument, Worn}
+use Rattle.geos_model.specs.declared.fault.Fault.TheVariants.{Worn}
 use Rattle.geos_model.specs.declared.handle.VmHandle.{VmHandle}
 use Rattle.geos_model.specs.File.{longest_image}
 use Rattle.vm_file.specs.Members.{imaged_blocks}
@@ -27,12 +28,5 @@ IsImageLength n = (1 ≤ n) × (n ≤ longest_image)
 
 -- Refusals that no rule of the document decides.
 
--- lack of memory, or a store that failed
-abbrev pub IsResourceFault : Fault → Type 0
-IsResourceFault fault = (fault ≡ Memory) ⊎ (fault ≡ File)
-
 abbrev pub IsCommitRefusal : Fault → Type 0
 IsCommitRefusal fault = IsResourceFault fault ⊎ (fault ≡ Worn)
-
-abbrev pub IsOpenRefusal : Fault → Type 0
-IsOpenRefusal fault = IsResourceFault fault ⊎ ((fault ≡ Damaged) ⊎ (fault ≡ NotDocument))

@@ -5,7 +5,8 @@ use Rattle.vm_store.specs.Facts.{StoreFacts, FailedSince, IsUnchanged}
 use Rattle.geos_model.specs.Document.{Document, IsValid}
 use Rattle.geos_model.specs.declared.fault.Fault.{Fault}
 use Rattle.geos_model.specs.declared.fault.Fault.TheVariants.{File, Damaged, Worn}
-use Rattle.vm_file.specs.Calls.{IsResourceFault, last_sequence}
+use Rattle.vm_format.specs.Reading.{IsResourceFault}
+use Rattle.vm_file.specs.Calls.{last_sequence}
 use Rattle.vm_file.specs.Disk.{Disk, FileState, SameUnlessCorrupt, IsFileDocument, KeepsCommitted, MayCommit, IsCrashConsistent, HasSequence, ContentStands}
 use Rattle.vm_file.specs.Documents.{Documents}
 

@@ -1,45 +1,24 @@
 -- What the reading of a file finds in it.
-use Rattle.std.specs.Prelude.{◌≡◌, ◌⊎◌, ℕ, ◌+◌, ◌*◌, ◌<◌, ◌≤◌, ◌^◌, Bool, true, IsTrue, List, All, Option, None, Some, Ok, length, take, drop, if◌then◌else◌}
-use Rattle.vm_store.specs.Facts.{StoreFacts, byte, IsUnchanged}
+use Rattle.std.specs.Prelude.{◌≡◌, ◌⊎◌, ℕ, ◌+◌, ◌*◌, ◌<◌, ◌≤◌, ◌^◌, Bool, List, All, Some, Ok, length, if◌then◌else◌}
+use Rattle.vm_store.specs.Facts.{byte}
 use Rattle.geos_model.specs.Document.{is_heap_body}
 use Rattle.geos_model.specs.Image.{body_of, body_read}
-use Rattle.geos_model.specs.File.{slot_of, open_slot, counting_slot, stands, longest_directory, is_in_file}
-use Rattle.geos_model.specs.declared.fault.Fault.{Fault}
-use Rattle.geos_model.specs.declared.fault.Fault.TheVariants.{Damaged}
-use Rattle.geos_model.specs.declared.file.Extent.{Extent}
-use Rattle.geos_model.specs.declared.file.Slot.{Slot}
+use Rattle.geos_model.specs.File.{open_slot, counting_slot, stands}
 use Rattle.vm_file.specs.Ranges.{IsPlaced, end_of}
 use Rattle.vm_file.specs.Slots.{stored_extents, pair_extents, IsBeside, Outcome}
 use Rattle.vm_file.specs.Documents.{AreStored, documents_in, sequence_in}
 use Rattle.vm_file.specs.Sound.{IsBlockTable, AreTables}
-use Rattle.vm_file.specs.Calls.{IsResourceFault}
+pub use Rattle.vm_format.specs.Reading.{OnlyReadsStore}
 use Rattle.vm_file.specs.declared.table.DocumentRef.{DocumentRef}
 use Rattle.vm_file.specs.declared.table.Pair.{Pair}
 use Rattle.vm_file.specs.declared.slot.SpareSlot.TheVariants.{Shut, Stale}
 use Rattle.vm_file.specs.declared.slot.Slots.{Slots}
-use Rattle.vm_file.specs.declared.slot.RawSlot.{RawSlot}
 use Rattle.vm_file.specs.declared.slot.ActiveSlot.{ActiveSlot}
-
--- calls that only read
-pub record OnlyReadsStore (old new : StoreFacts) : Type 0 where
-  pub honest : new.honest ≡ old.honest
-  pub failures : old.failures ≤ new.failures
-  pub unchanged : IsTrue old.honest → IsUnchanged old new
-
--- lack of memory, a store that failed, or a file that is wrong
-abbrev pub IsReadRefusal : Fault → Type 0
-IsReadRefusal fault = IsResourceFault fault ⊎ (fault ≡ Damaged)
 
 -- the bytes are the image of a body of this kind
 pub record IsImageOf (is_heap : Bool) (bytes : List ℕ) : Type 0 where
   pub image : body_of bytes ≡ Some (body_read bytes)
   pub kind : is_heap ≡ is_heap_body (body_read bytes)
-
--- a directory can lie there, in a file of a version and of n bytes
-pub record IsDirectoryPlace (version n : ℕ) (e : Extent) : Type 0 where
-  pub in_file : is_in_file version n e ≡ true
-  pub some : 16 ≤ e.length
-  pub short : e.length ≤ longest_directory
 
 -- a document that was read from a file of n bytes
 pub record IsReadDocument (n : ℕ) (s : DocumentRef) : Type 0 where
@@ -51,13 +30,6 @@ pub record AreReadDocuments (n : ℕ) (pair : Pair) : Type 0 where
   pub updated : IsReadDocument n pair.updated
   pub saved : IsReadDocument n pair.saved
 
--- the slot at a page, with its gate
-pub record IsRawSlot (file : List ℕ) (page : ℕ) (raw : RawSlot) : Type 0 where
-  pub within : 512 * page + 32 ≤ length file
-  pub bytes : (i : ℕ) → i < 32 → byte file (512 * page + i) < 256
-  pub gate : raw.gate ≡ byte file (512 * page + 4)
-  pub slot : raw.slot ≡ slot_of (take 32 (drop (512 * page) file))
-
 -- the slot that counts, and what is known of the other one
 pub record IsActiveSlot (file : List ℕ) (active : ActiveSlot) : Type 0 where
   pub long : 1024 ≤ length file
@@ -65,10 +37,6 @@ pub record IsActiveSlot (file : List ℕ) (active : ActiveSlot) : Type 0 where
   pub counts : counting_slot (open_slot file 0) (open_slot file 1) ≡ Ok active.slot
   pub opened : open_slot file (if active.second then 1 else 0) ≡ Some active.slot
   pub beside : IsBeside active.spare (if active.second then 0 else 1) active.slot.sequence file file
-
--- the slot isn't open, or has a lower number
-abbrev pub Beaten : Option Slot → ℕ → Type 0
-Beaten slot n = (slot ≡ None) ⊎ ((t : Slot) × (slot ≡ Some t) × (t.sequence < n))
 
 -- slots that were read, from any store
 pub record IsReadSlots (slots : Slots) : Type 0 where

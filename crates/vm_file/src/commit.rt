@@ -17,7 +17,7 @@ use crate::slot::{Slots, SpareSlot, behind_gate_bytes, is_shut, spare_gate, spar
 use crate::table::{BlockTable, DocumentRef, Pair, share};
 use geos_model::{Fault, VERSION};
 use std::alloc::AllocError;
-use vm_space::SLOT_MARK;
+use vm_format::SLOT_MARK;
 use vm_store::{Store, StoreFault};
 
 // Writes these bytes, and syncs.

@@ -7,16 +7,17 @@ ghost use Rattle.vm_file.specs.Ranges.{IsPlaced, start_of};
 ghost use Rattle.vm_file.specs.Slots.{block_extents};
 ghost use Rattle.vm_file.specs.Documents.{blocks_in, IsImaged, AreImaged};
 ghost use Rattle.vm_file.specs.Sound.{IsBlockTable, IsSound};
-ghost use Rattle.vm_file.specs.Opened.{OnlyReadsStore, IsReadRefusal, IsImageOf};
+ghost use Rattle.vm_format.specs.Reading.{OnlyReadsStore, IsReadRefusal};
+ghost use Rattle.vm_file.specs.Opened.{IsImageOf};
 ghost use Rattle.vm_file.specs.Making.{moved_to, pages_taken, laid_out, page_behind, IsBlockCopied, AreCopied, IsNewSlots, IsFounding, IsOne};
 
 use crate::directory::directory_text_of;
-use crate::extent::read_extent;
 use crate::kind::image_kind;
 use crate::making::{NewFile, empty, first_slots, initialize};
 use crate::table::{BlockTable, Place};
 use geos_model::{Extent, Fault, PAGE};
 use std::alloc::{AllocError, Global};
+use vm_format::read_extent;
 use vm_store::Store;
 
 // The first page behind the slots.

@@ -1,69 +1,24 @@
-//! Directories: read, made of the live table, and written where nothing lies that stays.
-ghost use Rattle.std.specs.Prelude.{◌≡◌, ◌↔◌, ◌<◌, ◌≤◌, All, IsTrue, OnOk, IfOk, IfErr, IsErrOf, Some, None, Ok, Err, is_some, length, true, ◌++◌, ◌∷◌};
+//! Directories: made of the live table, and written where nothing lies that stays.
+ghost use Rattle.std.specs.Prelude.{◌≡◌, ◌≤◌, All, IsTrue, OnOk, IfOk, IfErr, IsErrOf, is_some, length, ◌++◌, ◌∷◌};
 ghost use Rattle.std.specs.List.{count_by};
 ghost use Rattle.vm_store.specs.Facts.{FailedSince};
 ghost use Rattle.geos_model.specs.Document.{FitAttributes, most_blocks};
-ghost use Rattle.geos_model.specs.File.{directory_of, directory_text, is_directory};
-ghost use Rattle.vm_space.specs.Listed.{shown};
+ghost use Rattle.geos_model.specs.File.{directory_text};
 ghost use Rattle.vm_space.specs.Space.{AreTaken};
 ghost use Rattle.vm_file.specs.Sound.{IsSound, IsFormed, disk_of};
 ghost use Rattle.vm_file.specs.Documents.{entries_of, directory_of_table, IsStored, document_in};
-ghost use Rattle.vm_file.specs.Opened.{OnlyReadsStore, IsReadRefusal, IsDirectoryPlace};
 ghost use Rattle.vm_file.specs.Slots.{block_extents, referenced_extents};
 ghost use Rattle.vm_file.specs.Disk.{KeepsCommitted};
 ghost use Rattle.vm_file.specs.PendingDirectories.{IsPendingDirectory};
 
-use crate::extent::{read_extent, write_extent};
+use crate::extent::write_extent;
 use crate::slot::Slots;
 use crate::table::{BlockTable, DocumentRef, Place, shared_copy};
 use geos_model::{Attributes, Entry, Extent, Fault, VmHandle};
 use std::alloc::{AllocError, Global};
-use vm_space::{
-    Directory, FreeSpace, LONGEST_DIRECTORY, begin_directory, is_in_file, push_entry, read_dir,
-};
+use vm_format::{begin_directory, push_entry};
+use vm_space::FreeSpace;
 use vm_store::{Store, StoreFault};
-
-// The directory of no block.
-const SHORTEST_DIRECTORY: u32 = 16;
-
-/// Whether a directory can lie there, in a file of this version and of so many bytes.
-fn can_have_directory(extent: Extent, version: u8, file_length: u64) -> bool
-    ensures { IsTrue result ↔ IsDirectoryPlace version file_length extent }
-{
-    extent.length >= SHORTEST_DIRECTORY
-        && extent.length as usize <= LONGEST_DIRECTORY
-        && is_in_file(extent, file_length, version)
-}
-
-/// Reads a directory. Damaged, Memory, File.
-pub fn read_directory<S: Store>(
-    alloc: Global,
-    store: &mut S,
-    version: u8,
-    file_length: u64,
-    extent: Extent,
-) -> Result<Directory, Fault>
-    // Asked of the caller.
-    requires { IsTrue (S.facts store.old).honest → file_length ≡ length (S.facts store.old).content }
-    // The store.
-    ensures looks { OnlyReadsStore (S.facts store.old) (S.facts store.new) }
-    // The directory.
-    ensures formed { IfOk result (λ d. is_directory version file_length (shown d) ≡ true) }
-    ensures place { IfOk result (λ d. IsDirectoryPlace version file_length extent) }
-    ensures read { IfOk result (λ d. IsTrue (S.facts store.old).honest
-        → directory_of version (S.facts store.old).content extent ≡ Some (shown d)) }
-    // Refusals.
-    ensures damaged { IsErrOf result Fault.Damaged → IsTrue (S.facts store.old).honest
-        → directory_of version (S.facts store.old).content extent ≡ None }
-    ensures file { IsErrOf result Fault.File → FailedSince (S.facts store.old) (S.facts store.new) }
-    ensures refusals { IfErr result IsReadRefusal }
-{
-    if !can_have_directory(extent, version, file_length) {
-        return Err(Fault::Damaged);
-    }
-    let bytes = read_extent(alloc, store, extent)?;
-    read_dir(alloc, &bytes, file_length, version)
-}
 
 fn entry_of(handle: u16, attributes: Attributes, extent: Extent) -> Entry
     ensures entry { result ≡ record { handle = record { 0 = handle }; attributes = attributes; extent = extent } }

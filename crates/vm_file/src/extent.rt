@@ -1,42 +1,13 @@
-//! Reading and writing the bytes of an extent.
-ghost use Rattle.std.specs.Prelude.{◌≡◌, ◌<◌, ◌≤◌, ℕ, List, IsTrue, OnOk, IfOk, IfErr, IsErrOf, Ok, Err, length, ◌*◌};
-ghost use Rattle.vm_store.specs.Facts.{Holds, FailedSince, IsUnchanged, Torn, Counts};
+//! Writing the bytes of an extent.
+ghost use Rattle.std.specs.Prelude.{◌≡◌, ◌≤◌, ℕ, List, IsTrue, OnOk, length};
+ghost use Rattle.vm_store.specs.Facts.{Holds, Torn, Counts};
 ghost use Rattle.vm_file.specs.Ranges.{start_of, IsClear};
-ghost use Rattle.vm_file.specs.Calls.{IsResourceFault};
 ghost use Rattle.vm_file.specs.Slots.{referenced_extents, AreExtentsPlaced, CrashLeavesSlots, Outlives};
 
 use crate::slot::Slots;
-use geos_model::{Extent, Fault, PAGE};
-use std::alloc::Global;
+use geos_model::Extent;
+use vm_format::start_of;
 use vm_store::{Store, StoreFault};
-
-/// Where an extent begins.
-pub fn start_of(extent: Extent) -> u64
-    ensures { result ≡ start_of extent }
-{
-    u64::from(PAGE) * u64::from(extent.page)
-}
-
-/// The bytes of an extent. Memory, File.
-pub fn read_extent<S: Store>(alloc: Global, store: &mut S, extent: Extent) -> Result<Vec<u8>, Fault>
-    // The store.
-    ensures honest { (S.facts store.new).honest ≡ (S.facts store.old).honest }
-    ensures failures { (S.facts store.old).failures ≤ (S.facts store.new).failures }
-    ensures unchanged { IsTrue (S.facts store.old).honest → IsUnchanged (S.facts store.old) (S.facts store.new) }
-    // The bytes.
-    ensures size { IfOk result (λ bytes. length bytes.items ≡ extent.length) }
-    ensures bytes { IfOk result (λ bytes. IsTrue (S.facts store.old).honest
-        → Holds (S.facts store.old).content (start_of extent) bytes.items) }
-    // Refusals.
-    ensures file { IsErrOf result Fault.File → FailedSince (S.facts store.old) (S.facts store.new) }
-    ensures refusals { IfErr result IsResourceFault }
-{
-    let mut bytes = vec![in alloc; 0; extent.length as usize]?;
-    match store.read_at(start_of(extent), &mut bytes) {
-        Ok(()) => Ok(bytes),
-        Err(_) => Err(Fault::File),
-    }
-}
 
 /// Writes an image or a directory where nothing lies that the slots stand on. Doesn't sync: until something does, a
 /// crash may leave any bytes there.

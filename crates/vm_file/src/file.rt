@@ -11,7 +11,8 @@ ghost use Rattle.vm_file.specs.Disk.{FileState, ContentStands, SameUnlessCorrupt
 ghost use Rattle.vm_file.specs.Effects.{IsFile, IsNewFile, SameStore, OnlyReads, LeavesDocument, IsCommit, Fails, NoFault, IsWorn};
 ghost use Rattle.vm_file.specs.Documents.{sequence_in, version_in};
 ghost use Rattle.vm_file.specs.Making.{first_directory, first_file, first_open, no_blocks};
-ghost use Rattle.vm_file.specs.Calls.{IsPut, put_all, remove_all, IsImageLength, IsResourceFault, IsOpenRefusal, last_sequence};
+ghost use Rattle.vm_format.specs.Reading.{IsResourceFault, IsOpenRefusal};
+ghost use Rattle.vm_file.specs.Calls.{IsPut, put_all, remove_all, IsImageLength, last_sequence};
 
 use crate::commit::{commit_pair, commit_pending, saved_beside};
 use crate::copying::copy_document;
@@ -30,7 +31,8 @@ use crate::writing::write_puts;
 use geos_model::{Attributes, Fault, VmHandle};
 use std::alloc::{AllocError, Global};
 use std::marker::Model;
-use vm_space::{FreeSpace, MOST_ENTRIES};
+use vm_format::MOST_ENTRIES;
+use vm_space::FreeSpace;
 use vm_store::Store;
 
 /// A document file over a store. What was committed stays where it lies until another commit is acknowledged, so that a

@@ -4,14 +4,14 @@ ghost use Rattle.vm_store.specs.Facts.{FailedSince};
 ghost use Rattle.geos_model.specs.Image.{body_of};
 ghost use Rattle.geos_model.specs.File.{bytes_in};
 ghost use Rattle.vm_file.specs.Documents.{AreImaged};
-ghost use Rattle.vm_file.specs.Opened.{OnlyReadsStore, IsReadRefusal, IsImageOf};
+ghost use Rattle.vm_format.specs.Reading.{OnlyReadsStore, IsReadRefusal};
+ghost use Rattle.vm_file.specs.Opened.{IsImageOf};
 
-use crate::extent::read_extent;
 use crate::table::Place;
 use geos_model::{Extent, Fault};
 use lmem_heap::Heap;
 use std::alloc::Global;
-use vm_space::LONGEST_IMAGE;
+use vm_format::{LONGEST_IMAGE, read_extent};
 use vm_store::Store;
 
 /// The first byte of an image of a raw body.

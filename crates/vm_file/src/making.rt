@@ -2,16 +2,15 @@
 ghost use Rattle.std.specs.Prelude.{◌≡◌, ◌≢◌, ◌≤◌, ℕ, List, [], ◌∷◌, IsTrue, OnOk, IfOk, IfErr, IsErrOf, length};
 ghost use Rattle.geos_model.specs.File.{slot_mark};
 ghost use Rattle.vm_store.specs.Facts.{IsDurable, Puts, Counts, FailedSince};
-ghost use Rattle.vm_file.specs.Calls.{IsResourceFault};
+ghost use Rattle.vm_format.specs.Reading.{IsResourceFault};
 ghost use Rattle.vm_file.specs.Making.{first_directory, first_slot, first_file, IsLaid, IsNewSlots};
 ghost use Rattle.vm_file.specs.Sound.{IsSound};
 
-use crate::extent::start_of;
 use crate::slot::{Slots, SpareSlot, slot_bytes};
 use crate::table::{BlockTable, DocumentRef, both_of, shared_copy};
 use geos_model::{Extent, Fault, PAGE, VERSION, VmHandle};
 use std::alloc::{AllocError, Global};
-use vm_space::{SLOT_MARK, write_dir};
+use vm_format::{SLOT_MARK, start_of, write_dir};
 use vm_store::{Store, StoreFault};
 
 /// What is known in memory of a file that was made.

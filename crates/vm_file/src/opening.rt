@@ -4,18 +4,17 @@ ghost use Rattle.vm_store.specs.Facts.{IsDurable, FailedSince};
 ghost use Rattle.geos_model.specs.Document.{IsTyped};
 ghost use Rattle.geos_model.specs.File.{is_rising, block_of, blocks_of_entries, document_at, both, stands, longest_image};
 ghost use Rattle.vm_file.specs.Sound.{ArePlaces, IsSound};
-ghost use Rattle.vm_file.specs.Calls.{IsResourceFault, IsOpenRefusal};
+ghost use Rattle.vm_format.specs.Reading.{IsOpenRefusal, IsReadRefusal, IsResourceFault, OnlyReadsStore};
 ghost use Rattle.vm_file.specs.Documents.{documents_in, sequence_in, entries_of, IsImaged, AreImaged, IsStored, AreStored};
-ghost use Rattle.vm_file.specs.Opened.{OnlyReadsStore, IsReadRefusal, IsReadDocument, AreReadDocuments, IsReadSlots, IsReadWhole};
+ghost use Rattle.vm_file.specs.Opened.{IsReadDocument, AreReadDocuments, IsReadSlots, IsReadWhole};
 
-use crate::directory::read_directory;
 use crate::kind::{known_kind, read_kind};
-use crate::slot::{Slots, SpareSlot, check_slot, find_slot};
+use crate::slot::{Slots, SpareSlot, find_active};
 use crate::table::{BlockTable, DocumentRef, Pair, Place, copy_table, share};
 use geos_model::{Entry, Extent, Fault, Slot};
 use std::alloc::{AllocError, Global};
 use std::rc::Rc;
-use vm_space::MOST_ENTRIES;
+use vm_format::{MOST_ENTRIES, check_slot, read_directory, read_length};
 use vm_store::Store;
 
 /// The place of an entry: only a heap has a type. An image that lies where a known one of the same handle does isn't
@@ -221,19 +220,6 @@ fn read_pair<S: Store>(
     Ok(Pair { updated, saved })
 }
 
-/// How many bytes there are. File.
-fn read_length<S: Store>(store: &mut S) -> Result<u64, Fault>
-    ensures looks { OnlyReadsStore (S.facts store.old) (S.facts store.new) }
-    ensures length { IfOk result (λ n. IsTrue (S.facts store.old).honest → n ≡ length (S.facts store.old).content) }
-    ensures file { IsErrOf result Fault.File → FailedSince (S.facts store.old) (S.facts store.new) }
-    ensures refusals { IfErr result (λ fault. fault ≡ Fault.File) }
-{
-    match store.len() {
-        Ok(n) => Ok(n),
-        Err(_) => Err(Fault::File),
-    }
-}
-
 /// Reads what the store has. NotDocument, Damaged, Memory, File.
 fn read_slots<S: Store>(alloc: Global, store: &mut S) -> Result<Slots, Fault>
     ensures looks { OnlyReadsStore (S.facts store.old) (S.facts store.new) }
@@ -246,9 +232,9 @@ fn read_slots<S: Store>(alloc: Global, store: &mut S) -> Result<Slots, Fault>
     ensures refusals { IfErr result IsOpenRefusal }
 {
     let file_length = read_length(store)?;
-    let active = find_slot(store, file_length)?;
+    let active = find_active(store, file_length)?;
     let slot = active.slot;
-    check_slot(slot.version, slot.reserved, slot.sequence)?;
+    check_slot(&slot)?;
     let committed = read_pair(alloc, store, file_length, slot)?;
     Ok(Slots {
         second: active.second,

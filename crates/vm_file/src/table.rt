@@ -6,9 +6,9 @@ ghost use Rattle.geos_model.specs.Image.{image};
 ghost use Rattle.vm_file.specs.Ranges.{IsPlaced};
 ghost use Rattle.vm_file.specs.Documents.{document_in, AreImaged};
 ghost use Rattle.vm_file.specs.Sound.{ArePlaces};
-ghost use Rattle.vm_file.specs.Opened.{OnlyReadsStore};
+ghost use Rattle.vm_format.specs.Reading.{IsResourceFault, OnlyReadsStore};
 ghost use Rattle.vm_file.specs.Listing.{IsPlaceOf};
-ghost use Rattle.vm_file.specs.Calls.{IsPut, IsImageLength, IsResourceFault};
+ghost use Rattle.vm_file.specs.Calls.{IsPut, IsImageLength};
 ghost use Rattle.vm_file.specs.Slots.{block_extents, referenced_extents};
 ghost use Rattle.vm_file.specs.FreeSpace.{AreAmongTaken, IsSpaceOf};
 ghost use Rattle.vm_file.specs.Copies.{IsCopy, IsSameStored};
@@ -17,12 +17,12 @@ ghost use Rattle.geos_model.specs.declared.file.Extent.{Extent};
 ghost use Rattle.vm_space.specs.Space.{AreTaken};
 ghost use Rattle.vm_file.specs.Writing.{IsGrown, placed_at, with_places, without_place, without_places};
 
-use crate::extent::read_extent;
 use crate::member::Member;
 use crate::slot::Slots;
 use geos_model::{Attributes, Extent, Fault, VmHandle};
 use std::alloc::{AllocError, Global};
 use std::rc::Rc;
+use vm_format::read_extent;
 use vm_space::FreeSpace;
 use vm_store::Store;
 

@@ -3,7 +3,7 @@ ghost use Rattle.std.specs.Prelude.{◌≡◌, ◌≢◌, ◌++◌, ◌+◌, ◌
 ghost use Rattle.vm_store.specs.Facts.{FailedSince};
 ghost use Rattle.vm_file.specs.Ranges.{IsPlaced};
 ghost use Rattle.vm_file.specs.Slots.{block_extents, referenced_extents, marked_extents, AreExtentsPlaced};
-ghost use Rattle.vm_file.specs.Calls.{IsResourceFault};
+ghost use Rattle.vm_format.specs.Reading.{IsResourceFault};
 ghost use Rattle.vm_file.specs.FreeSpace.{IsSpaceOf};
 ghost use Rattle.vm_file.specs.Writing.{AreFor, Fills, AreWritten, IsSpared};
 

@@ -1,3 +1,2 @@
 pub mod PlacingLemmas
-pub mod DirectoryLemmas
 pub mod SpaceLemmas

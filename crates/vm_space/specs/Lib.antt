@@ -1,3 +1,2 @@
 pub mod Placing
 pub mod Space
-pub mod Listed

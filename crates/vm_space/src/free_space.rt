@@ -6,10 +6,10 @@ ghost use Rattle.vm_space.specs.Placing.{IsFirstFit, IsLength};
 ghost use Rattle.vm_space.specs.Space.{AreRaised, AreTaken, IsFirstRun, IsLargestHint, IsTaken};
 
 use crate::MOST_EXTENTS;
-use crate::pages::{FIRST_PAGE, page_behind, page_count};
 use geos_model::Extent;
 use std::alloc::{AllocError, Global};
 use std::marker::Model;
+use vm_format::{FIRST_PAGE, page_behind, page_count};
 
 // How many pages an extent takes at most.
 const MOST_PAGES: u32 = 257;
@@ -79,7 +79,7 @@ impl FreeSpace {
         ensures count { OnOk result (self.new.count ≡ self.old.count + 1) }
         ensures refused { OnErr result (self.new ≡ self.old) }
     {
-        let pages = page_count(len) as usize;
+        let pages = page_count(u64::from(len)) as usize;
         let from = largest_hint(&self.hints, pages) as usize;
         let page = first_run(&self.counts, from, pages) as u32;
         let extent = Extent { page, length: len };

@@ -2,8 +2,8 @@
 ghost use Rattle.std.specs.Prelude.{◌≤◌, length};
 ghost use Rattle.vm_space.specs.Placing.{AreExtents, AreInOrder, IsFirstFit, IsLength};
 
-use crate::pages::{FIRST_PAGE, page_behind, page_count};
 use geos_model::{Extent, MOST_BLOCKS};
+use vm_format::{FIRST_PAGE, page_behind, page_count};
 
 /// How many extents may be taken: those of the blocks of seven documents, and four directories. Whichever they are, the
 /// first fit lies below `LAST_PAGE`.
@@ -18,7 +18,7 @@ pub fn place(taken: &[Extent], len: u32) -> Extent
     requires in_range { IsLength len }
     ensures { IsFirstFit taken.now len result }
 {
-    let pages = page_count(len);
+    let pages = page_count(u64::from(len)) as u32;
     let mut page = FIRST_PAGE;
     for extent in taken {
         if page + pages <= extent.page {

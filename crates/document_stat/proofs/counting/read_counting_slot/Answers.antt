@@ -1,8 +1,8 @@
 use Rattle.std.proofs.Common.{◌≡◌, Err, None, Some, ap}
 use Rattle.std.proofs.lemmas.Result.{err_from_is_err_and}
-use Rattle.vm_file.proofs.LooksLemmas.{OnlyReadsStore-trans, held_before}
+use Rattle.vm_format.proofs.LooksLemmas.{OnlyReadsStore-trans, held_before}
 use Rattle.geos_model.specs.File.{directory_of}
-use Rattle.vm_space.specs.Listed.{shown}
+use Rattle.vm_format.specs.Listed.{shown}
 use Rattle.document_stat.proofs.Files.{directory_none, refused_by, refused_saved, refused_updated}
 use Rattle.document_stat.proofs.counting.read_counting_slot.Goals as goal
 

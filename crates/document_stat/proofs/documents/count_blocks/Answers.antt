@@ -5,7 +5,7 @@ use Rattle.geos_model.specs.Document.{Block}
 use Rattle.geos_model.specs.File.{block_of, blocks_of_entries}
 use Rattle.geos_model.specs.declared.fault.Fault.TheVariants.{Damaged}
 use Rattle.geos_model.proofs.Files.{no_entry}
-use Rattle.vm_file.proofs.LooksLemmas.{OnlyReadsStore-refl, OnlyReadsStore-trans, held_before}
+use Rattle.vm_format.proofs.LooksLemmas.{OnlyReadsStore-refl, OnlyReadsStore-trans, held_before}
 use Rattle.vm_file.proofs.OpenedDirectoryLemmas.{no_blocks}
 use Rattle.document_stat.proofs.Adding.{adds_no_block, counted_more}
 use Rattle.document_stat.proofs.ValidBlocks.{blocks_more}

@@ -1,8 +1,8 @@
 use Rattle.std.proofs.Common.{Some, length}
 use Rattle.geos_model.specs.File.{bytes_in}
 use Rattle.geos_model.proofs.FileDocuments.{directory_of-some}
-use Rattle.vm_space.specs.Listed.{shown}
-use Rattle.vm_file.proofs.OpenedDirectoryLemmas.{directory_formed}
+use Rattle.vm_format.specs.Listed.{shown}
+use Rattle.vm_format.proofs.StoredDirectoryLemmas.{directory_formed}
 use Rattle.document_stat.proofs.Files.{document_there}
 use Rattle.document_stat.proofs.file_stat.count_saved.Goals as goal
 

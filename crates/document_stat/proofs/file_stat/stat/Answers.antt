@@ -1,12 +1,12 @@
 use Rattle.std.proofs.Common.{◌≡◌, ℕ, List, Err, None, Some, ap, ap₂, ◌⊎◌, length, subst, ◌∙◌}
 use Rattle.std.proofs.lemmas.Result.{err_from_is_err_and}
-use Rattle.vm_file.proofs.LooksLemmas.{OnlyReadsStore-trans, held_before}
-use Rattle.vm_file.specs.Calls.{IsResourceFault}
-use Rattle.vm_file.proofs.OpenedDirectoryLemmas.{directory_formed}
+use Rattle.vm_format.proofs.LooksLemmas.{OnlyReadsStore-trans, held_before}
+use Rattle.vm_format.specs.Reading.{IsResourceFault}
+use Rattle.vm_format.proofs.StoredDirectoryLemmas.{directory_formed}
 use Rattle.geos_model.specs.Document.{Document}
 use Rattle.geos_model.specs.File.{both, bytes_in, document_of, pages_of, stands}
 use Rattle.geos_model.proofs.FileDocuments.{directory_of-some}
-use Rattle.vm_space.specs.Listed.{shown}
+use Rattle.vm_format.specs.Listed.{shown}
 use Rattle.document_stat.specs.Files.{IsCountingSlot, IsDocumentStat, IsSavedStat, counting_usages}
 use Rattle.file_report.specs.Pages.{AreFreePages}
 use Rattle.file_report.specs.declared.pages.Usage.{Usage}

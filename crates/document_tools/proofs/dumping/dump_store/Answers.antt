@@ -1,6 +1,6 @@
 use Rattle.std.proofs.Common.{inl, inr}
 use Rattle.vm_file.specs.Opened.{OnlyReadsStore}
-use Rattle.vm_file.proofs.LooksLemmas.{OnlyReadsStore-trans}
+use Rattle.vm_format.proofs.LooksLemmas.{OnlyReadsStore-trans}
 use Rattle.document_tools.specs.DumpedFiles.{DumpsStore}
 use Rattle.document_tools.specs.declared.obstacle.Obstacle.TheVariants.{Unopened}
 use Rattle.document_tools.proofs.Looked.{dumped_store, unlooked_at}

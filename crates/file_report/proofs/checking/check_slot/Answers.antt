@@ -1,8 +1,9 @@
 use Rattle.std.proofs.Common.{rules, ◌≡◌, ◌&&◌, [], Err, arith, inl, inr, refl, sym, subst, ap₂, ◌∙◌}
 use Rattle.std.specs.Prelude.{if◌then◌else◌, IsErr}
 use Rattle.geos_model.specs.declared.fault.Fault.TheVariants.{Damaged}
-use Rattle.vm_file.proofs.LooksLemmas.{OnlyReadsStore-trans, held_before}
-use Rattle.file_report.specs.Checked.{IsChecked, header_verdict}
+use Rattle.vm_format.proofs.LooksLemmas.{OnlyReadsStore-trans, held_before}
+use Rattle.vm_format.specs.Slots.{header_verdict}
+use Rattle.file_report.specs.Checked.{IsChecked}
 use Rattle.file_report.specs.Findings.{IsSo, directory_extent}
 use Rattle.file_report.specs.Reading.{IsSoIn, IsSoOfSlot}
 use Rattle.file_report.specs.declared.finding.Named.TheVariants.{Saved}

@@ -1,8 +1,9 @@
 use Rattle.std.proofs.Common.{rules, ◌≡◌, ◌++◌, ◌∷◌, [], None, refl, sym, subst, ◌∙◌}
 use Rattle.geos_model.specs.File.{directory_of}
 use Rattle.file_report.specs.Findings.{IsSeen, directory_extent}
-use Rattle.file_report.specs.Reading.{IsRead, IsSoOf, IsSoOfRead}
-use Rattle.file_report.specs.declared.reading.ReadDirectory.TheVariants.{Misplaced, Wrong}
+use Rattle.vm_format.specs.Reading.{IsRead}
+use Rattle.file_report.specs.Reading.{IsSoOf, IsSoOfRead}
+use Rattle.vm_format.specs.declared.stored_directory.ReadDirectory.TheVariants.{Misplaced, Wrong}
 use Rattle.file_report.specs.declared.finding.Finding.TheVariants as finding
 use Rattle.file_report.proofs.FindingsLemmas.{finds_both, finds_one, finds_as}
 use Rattle.file_report.proofs.directory.note_directory.Goals as goal

@@ -2,19 +2,20 @@ use Rattle.std.proofs.Common.{rules, ◌≡◌, Some, get_or, subst}
 use Rattle.std.specs.List.{Contains}
 use Rattle.std.proofs.lemmas.List.Elements.{Contains-get_or}
 use Rattle.geos_model.specs.File.{directory_of}
-use Rattle.vm_space.specs.Listed.{shown}
-use Rattle.vm_file.proofs.LooksLemmas.{OnlyReadsStore-trans, held_before, still_holds}
+use Rattle.vm_format.specs.Listed.{shown}
+use Rattle.vm_format.proofs.LooksLemmas.{OnlyReadsStore-trans, held_before, still_holds}
 use Rattle.file_report.specs.Findings.{IsSo, directory_extent}
-use Rattle.file_report.specs.Reading.{IsRead, IsSoIn, IsSoOfEntries, IsSoOfRead}
-use Rattle.file_report.specs.declared.reading.ReadDirectory.TheVariants.{Right}
+use Rattle.vm_format.specs.Reading.{IsRead}
+use Rattle.file_report.specs.Reading.{IsSoIn, IsSoOfEntries, IsSoOfRead}
+use Rattle.vm_format.specs.declared.stored_directory.ReadDirectory.TheVariants.{Right}
 use Rattle.file_report.proofs.FindingsLemmas.{finds_both, finds_as}
 use Rattle.file_report.proofs.document.check_document.Goals as goal
 
 pub returns-in_err-stands-in-Right-clause-looks : goal.returns-in_err-stands-in-Right-clause-looks
-returns-in_err-stands-in-Right-clause-looks g c = OnlyReadsStore-trans _ _ _ (λ so. g.met.S.Store.timely c.args.store.now so) c.read_directory.ensures.looks c.check_images.ensures.looks
+returns-in_err-stands-in-Right-clause-looks g c = OnlyReadsStore-trans _ _ _ (λ so. g.met.S.Store.timely c.args.store.now so) c.look_for_directory.ensures.looks c.check_images.ensures.looks
 
 pub returns-in_ok-stands-in-Right-clause-looks : goal.returns-in_ok-stands-in-Right-clause-looks
-returns-in_ok-stands-in-Right-clause-looks g c = OnlyReadsStore-trans _ _ _ (λ so. g.met.S.Store.timely c.args.store.now so) c.read_directory.ensures.looks c.check_images.ensures.looks
+returns-in_ok-stands-in-Right-clause-looks g c = OnlyReadsStore-trans _ _ _ (λ so. g.met.S.Store.timely c.args.store.now so) c.look_for_directory.ensures.looks c.check_images.ensures.looks
 
 pub returns-in_ok-stands-in-Right-clause-found : goal.returns-in_ok-stands-in-Right-clause-found
 returns-in_ok-stands-in-Right-clause-found g c =
@@ -25,13 +26,13 @@ returns-in_ok-stands-in-Right-clause-found g c =
     let so = IsSoIn facts s in
     let d = c.in-Right.directory in
     let is : c.in_ok-read.read ≡ Right d = search rules in
-    let looks = c.read_directory.ensures.looks in
+    let looks = c.look_for_directory.ensures.looks in
     let listed = c.deref.result.now in
     finds_both so _ _ _
     (finds_as (IsSoOfRead c.args.file_length s name c.in_ok-read.read) so _ _
     (λ f true_of honest. true_of file (c.requires honest) (subst (λ x. IsRead s.version x c.in_ok-read.read file) c.directory_extent-extent.ensures (c.in_ok-read.ensures.read honest)))
     c.in_ok-note_directory.ensures.found)
-    (finds_as (IsSoOfEntries (g.S.Store.facts c.read_directory.new.store) name listed) so _ _
+    (finds_as (IsSoOfEntries (g.S.Store.facts c.look_for_directory.new.store) name listed) so _ _
     (λ f true_of honest. held_before (λ bytes. IsSo bytes s f) _ _ looks
     (λ honest_then. true_of s honest_then (λ k e within. record {
       directory = shown d;

@@ -2,7 +2,7 @@ use Rattle.std.proofs.Common.{◌≡◌, ◌<◌, ◌&&◌, length, get_or, take
 use Rattle.std.proofs.lemmas.List.{take_more}
 use Rattle.geos_model.specs.File.{block_of, blocks_of_entries}
 use Rattle.geos_model.proofs.Files.{no_entry}
-use Rattle.vm_file.proofs.LooksLemmas.{OnlyReadsStore-refl, OnlyReadsStore-trans, held_before}
+use Rattle.vm_format.proofs.LooksLemmas.{OnlyReadsStore-refl, OnlyReadsStore-trans, held_before}
 use Rattle.file_report.specs.Findings.{FindsMore}
 use Rattle.file_report.specs.Reading.{IsSoOfEntries}
 use Rattle.file_report.proofs.FindingsLemmas.{finds_nothing, finds_both, finds_length, noted}

@@ -2,7 +2,7 @@ use Rattle.std.proofs.Common.{None, get_or, take, length, ◌<◌, IsTrue, sym, 
 use Rattle.std.proofs.lemmas.List.{take_more}
 use Rattle.vm_file.specs.Making.{AreCopied, IsBlockCopied}
 use Rattle.vm_file.proofs.LaidOutLemmas.{behind_more, one_placed, pages_few, copied_more, copied_as}
-use Rattle.vm_file.proofs.LooksLemmas.{OnlyReadsStore-trans, still, same_bytes_then}
+use Rattle.vm_format.proofs.LooksLemmas.{OnlyReadsStore-trans, still, same_bytes_then}
 use Rattle.vm_file.proofs.copying.copy_images.Goals as goal
 
 pub overflow_add-page : goal.overflow_add-page

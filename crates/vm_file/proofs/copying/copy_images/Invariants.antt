@@ -1,6 +1,6 @@
 use Rattle.std.proofs.Common.{◌≡◌, ◌≤◌, take, IsTrue}
 use Rattle.vm_file.specs.Making.{AreCopied}
-use Rattle.vm_file.specs.Opened.{OnlyReadsStore}
+use Rattle.vm_format.specs.Reading.{OnlyReadsStore}
 use Rattle.vm_file.proofs.LaidOutLemmas.{IsBehind}
 use Rattle.vm_file.proofs.copying.copy_images.Given as goal
 

@@ -1,6 +1,6 @@
 use Rattle.std.proofs.Common.{subst}
 use Rattle.vm_file.specs.Copies.{IsCopy}
-use Rattle.vm_file.proofs.LooksLemmas.{OnlyReadsStore-trans}
+use Rattle.vm_format.proofs.LooksLemmas.{OnlyReadsStore-trans}
 use Rattle.vm_file.proofs.OpenedLemmas.{opened_sound}
 use Rattle.vm_file.proofs.opening.open_slots.Goals as goal
 

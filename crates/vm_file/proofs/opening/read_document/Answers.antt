@@ -2,10 +2,10 @@ use Rattle.std.proofs.Common.{◌≤◌, Some, All, length, ap, sym, subst, ◌�
 use Rattle.geos_model.specs.Document.{most_blocks}
 use Rattle.geos_model.specs.File.{longest_image}
 use Rattle.geos_model.proofs.Files.{directory-low}
-use Rattle.vm_space.specs.Listed.{shown}
+use Rattle.vm_format.specs.Listed.{shown}
 use Rattle.vm_file.specs.Documents.{entries_of, AreImaged}
 use Rattle.vm_file.specs.Sound.{ArePlaces}
-use Rattle.vm_file.proofs.LooksLemmas.{OnlyReadsStore-trans, held_before}
+use Rattle.vm_format.proofs.LooksLemmas.{OnlyReadsStore-trans, held_before}
 use Rattle.vm_file.proofs.OpenedDirectoryLemmas.{images_short, read_formed, read_directory}
 use Rattle.vm_file.specs.declared.table.BlockTable.{BlockTable}
 use Rattle.vm_file.specs.declared.table.DocumentRef.{DocumentRef}

@@ -2,7 +2,7 @@ use Rattle.std.proofs.Common.{◌≡◌, Err, None, ap}
 use Rattle.std.proofs.lemmas.Result.{err_from_is_err_and}
 use Rattle.geos_model.specs.File.{document_at}
 use Rattle.geos_model.specs.declared.fault.Fault.TheVariants.{Damaged}
-use Rattle.vm_file.proofs.LooksLemmas.{OnlyReadsStore-trans, held_before}
+use Rattle.vm_format.proofs.LooksLemmas.{OnlyReadsStore-trans, held_before}
 use Rattle.vm_file.proofs.OpenedDirectoryLemmas.{no_saved}
 use Rattle.vm_file.proofs.opening.read_pair.Goals as goal
 

@@ -5,7 +5,7 @@ use Rattle.geos_model.specs.declared.fault.Fault.TheVariants.{Damaged}
 use Rattle.geos_model.proofs.Files.{no_entry, get_or_same}
 use Rattle.vm_file.specs.Documents.{IsImaged}
 use Rattle.vm_file.specs.Sound.{IsPlace}
-use Rattle.vm_file.proofs.LooksLemmas.{OnlyReadsStore-refl, OnlyReadsStore-trans, held_before}
+use Rattle.vm_format.proofs.LooksLemmas.{OnlyReadsStore-refl, OnlyReadsStore-trans, held_before}
 use Rattle.vm_file.proofs.OpenedDirectoryLemmas.{IsPartRead, part_start, imaged_start, part_more, imaged_more, rising_above, no_blocks}
 use Rattle.vm_file.proofs.opening.read_places.Goals as goal
 

@@ -1,6 +1,6 @@
 use Rattle.std.proofs.Common.{IsTrue}
 use Rattle.vm_file.specs.Documents.{AreImaged}
-use Rattle.vm_file.specs.Opened.{OnlyReadsStore}
+use Rattle.vm_format.specs.Reading.{OnlyReadsStore}
 use Rattle.vm_file.proofs.OpenedDirectoryLemmas.{IsPartRead}
 use Rattle.vm_file.proofs.opening.read_places.Given as goal
 

@@ -1,16 +1,16 @@
-use Rattle.std.proofs.Common.{◌≡◌, ◌⊎◌, Err, refl, sym, ap, ◌∙◌, inl, inr}
+use Rattle.std.proofs.Common.{◌≡◌, ◌⊎◌, Err, sym, ap, ◌∙◌, inl, inr}
 use Rattle.std.proofs.lemmas.Result.{err_from_is_err_and}
 use Rattle.geos_model.specs.File.{stands, both, document_at}
 use Rattle.geos_model.specs.declared.fault.Fault.TheVariants.{Damaged}
-use Rattle.vm_file.specs.Calls.{IsResourceFault}
+use Rattle.vm_format.specs.Reading.{IsResourceFault}
 use Rattle.vm_file.specs.Documents.{AreStored}
 use Rattle.vm_file.specs.Opened.{IsActiveSlot}
-use Rattle.vm_file.proofs.LooksLemmas.{OnlyReadsStore-trans, held_before}
+use Rattle.vm_format.proofs.LooksLemmas.{OnlyReadsStore-trans, held_before}
 use Rattle.vm_file.proofs.OpenedLemmas.{slots_formed, slots_whole, slot_refused, pair_refused}
 use Rattle.vm_file.proofs.opening.read_slots.Goals as goal
 
 pub returns-in_err-active-clause-looks : goal.returns-in_err-active-clause-looks
-returns-in_err-active-clause-looks g c = OnlyReadsStore-trans _ _ _ (λ so. g.met.S.Store.timely c.args.store.now so) c.read_length.ensures.looks c.find_slot.ensures.looks
+returns-in_err-active-clause-looks g c = OnlyReadsStore-trans _ _ _ (λ so. g.met.S.Store.timely c.args.store.now so) c.read_length.ensures.looks c.find_active.ensures.looks
 
 pub returns-in_err-active-clause-refused : goal.returns-in_err-active-clause-refused
 returns-in_err-active-clause-refused g c =
@@ -18,7 +18,7 @@ returns-in_err-active-clause-refused g c =
     rw (p.1, p.2) (λ so. held_before (λ f. IsResourceFault c.in_err-active.field-0.0 ⊎ (stands f ≡ Err c.in_err-active.field-0.0)) _ _ c.read_length.ensures.looks c.in_err-active.ensures.refused so)
 
 pub returns-in_err-check_slot-clause-looks : goal.returns-in_err-check_slot-clause-looks
-returns-in_err-check_slot-clause-looks g c = OnlyReadsStore-trans _ _ _ (λ so. g.met.S.Store.timely c.args.store.now so) c.read_length.ensures.looks c.find_slot.ensures.looks
+returns-in_err-check_slot-clause-looks g c = OnlyReadsStore-trans _ _ _ (λ so. g.met.S.Store.timely c.args.store.now so) c.read_length.ensures.looks c.find_active.ensures.looks
 
 pub returns-in_err-check_slot-clause-refused : goal.returns-in_err-check_slot-clause-refused
 returns-in_err-check_slot-clause-refused g c =
@@ -26,16 +26,16 @@ returns-in_err-check_slot-clause-refused g c =
     rw (p.1, p.2) (λ so.
     let file = (g.S.Store.facts c.args.store.now).content in
     let active = held_before (λ f. IsActiveSlot f c.in_ok-active.active) _ _ c.read_length.ensures.looks c.in_ok-active.ensures.active so in
-    inr (slot_refused file c.in_ok-active.active _ active (c.in_err-check_slot.ensures.refused file c.in_ok-active.active.slot refl refl refl)))
+    inr (slot_refused file c.in_ok-active.active _ active (c.in_err-check_slot.ensures.refused file)))
 
 pub returns-in_err-committed-clause-looks : goal.returns-in_err-committed-clause-looks
 returns-in_err-committed-clause-looks g c =
-    OnlyReadsStore-trans _ _ _ (λ so. g.met.S.Store.timely c.args.store.now so) (OnlyReadsStore-trans _ _ _ (λ so. g.met.S.Store.timely c.args.store.now so) c.read_length.ensures.looks c.find_slot.ensures.looks) c.read_pair.ensures.looks
+    OnlyReadsStore-trans _ _ _ (λ so. g.met.S.Store.timely c.args.store.now so) (OnlyReadsStore-trans _ _ _ (λ so. g.met.S.Store.timely c.args.store.now so) c.read_length.ensures.looks c.find_active.ensures.looks) c.read_pair.ensures.looks
 
 pub returns-in_err-committed-clause-refused : goal.returns-in_err-committed-clause-refused
 returns-in_err-committed-clause-refused g c =
     let p = err_from_is_err_and c.from_residual-in_err-committed.result c.from_residual-in_err-committed.ensures.1 in
-    let two = OnlyReadsStore-trans _ _ _ (λ so. g.met.S.Store.timely c.args.store.now so) c.read_length.ensures.looks c.find_slot.ensures.looks in
+    let two = OnlyReadsStore-trans _ _ _ (λ so. g.met.S.Store.timely c.args.store.now so) c.read_length.ensures.looks c.find_active.ensures.looks in
     let x = c.in_err-committed.field-0.0 in
     rw (p.1, p.2) (λ so.
     let file = (g.S.Store.facts c.args.store.now).content in
@@ -51,7 +51,7 @@ returns-in_err-committed-clause-refused g c =
 
 pub returns-clause-looks : goal.returns-clause-looks
 returns-clause-looks g c =
-    OnlyReadsStore-trans _ _ _ (λ so. g.met.S.Store.timely c.args.store.now so) (OnlyReadsStore-trans _ _ _ (λ so. g.met.S.Store.timely c.args.store.now so) c.read_length.ensures.looks c.find_slot.ensures.looks) c.read_pair.ensures.looks
+    OnlyReadsStore-trans _ _ _ (λ so. g.met.S.Store.timely c.args.store.now so) (OnlyReadsStore-trans _ _ _ (λ so. g.met.S.Store.timely c.args.store.now so) c.read_length.ensures.looks c.find_active.ensures.looks) c.read_pair.ensures.looks
 
 pub returns-clause-formed : goal.returns-clause-formed
 returns-clause-formed g c =
@@ -62,7 +62,7 @@ returns-clause-formed g c =
 pub returns-clause-whole : goal.returns-clause-whole
 returns-clause-whole g c so =
     let file = (g.S.Store.facts c.args.store.now).content in
-    let two = OnlyReadsStore-trans _ _ _ (λ so. g.met.S.Store.timely c.args.store.now so) c.read_length.ensures.looks c.find_slot.ensures.looks in
+    let two = OnlyReadsStore-trans _ _ _ (λ so. g.met.S.Store.timely c.args.store.now so) c.read_length.ensures.looks c.find_active.ensures.looks in
     let good = c.in_ok-check_slot.ensures.ok in
     let active = held_before (λ f. IsActiveSlot f c.in_ok-active.active) _ _ c.read_length.ensures.looks c.in_ok-active.ensures.active so in
     let stored = held_before (λ f. AreStored c.in_ok-active.active.slot.version f c.in_ok-committed.committed) _ _ two c.in_ok-committed.ensures.stored so in

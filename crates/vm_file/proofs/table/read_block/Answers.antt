@@ -23,7 +23,7 @@ returns-clause-image g c =
     let a = g.S.Store.facts c.args.store.now in
     let at = entry_lies t.places.items h place (subst (λ o. IsPlaceOf t.places.items h o) c.in-Some.is c.place_in.ensures) in
     if_ok_both (λ bytes. length bytes.items ≡ place.extent.length) (λ bytes. IsTrue a.honest → Holds a.content (start_of place.extent) bytes.items) _ c.read_extent.result
-    (λ bytes size holds so. read_image a.content bytes.items t.places.items t.map_block h place at.0 at.1 (c.requires.images so) size (holds so)) c.read_extent.ensures.size c.read_extent.ensures.bytes
+    (λ bytes size holds so. read_image a.content bytes.items t.places.items t.map_block h place at.0 at.1 (c.requires.images so) size (holds so)) c.read_extent.ensures.size c.read_extent.ensures.held
 
 pub returns-clause-size : goal.returns-clause-size
 returns-clause-size g c =

@@ -1,0 +1,4 @@
+pub mod DirectoryLemmas
+pub mod LooksLemmas
+pub mod StoredDirectoryLemmas
+pub mod StoredSlotLemmas

@@ -1,0 +1,22 @@
+//! The format of a document file: the texts of its slots and directories, and their reading from a store.
+#![tactic(auto)]
+
+mod directory;
+mod extent;
+mod pages;
+mod reading;
+mod slot;
+mod stored_directory;
+mod stored_slot;
+
+pub use directory::{
+    Directory, ENTRY_LENGTH, HEADER_LENGTH, LONGEST_DIRECTORY, LONGEST_IMAGE, MOST_ENTRIES,
+    begin_directory, is_known, most_handles, push_entry, read_dir, read_entry, write_dir,
+};
+pub use pages::{FIRST_PAGE, is_in_file, page_behind, page_count, start_of};
+pub use reading::{read_extent, read_length};
+pub use slot::{SLOT_LENGTH, SLOT_MARK, read_slot, write_slot};
+pub use stored_directory::{ReadDirectory, look_for_directory, read_directory};
+pub use stored_slot::{
+    FoundSlot, RawSlot, check_slot, choose, find_slot, is_version, read_raw_slot,
+};

@@ -1,0 +1,92 @@
+//! Reading a directory where a slot says that it lies.
+ghost use Rattle.std.specs.Prelude.{◌≡◌, ◌↔◌, IsTrue, IfOk, IfErr, IsErrOf, Some, None, length, true};
+ghost use Rattle.geos_model.specs.File.{directory_of, is_directory};
+ghost use Rattle.vm_store.specs.Facts.{FailedSince};
+ghost use Rattle.vm_format.specs.Listed.{shown};
+ghost use Rattle.vm_format.specs.Reading.{IsDirectoryPlace, IsFormedRead, IsRead, IsReadRefusal, IsResourceFault, OnlyReadsStore};
+
+use crate::directory::{Directory, HEADER_LENGTH, LONGEST_DIRECTORY, read_dir};
+use crate::pages::is_in_file;
+use crate::reading::read_extent;
+use geos_model::{Extent, Fault};
+use std::alloc::Global;
+use vm_store::Store;
+
+/// What is read where a directory should lie.
+#[derive(Drop)]
+pub enum ReadDirectory {
+    /// None can lie in the extent.
+    Misplaced,
+    /// Its bytes are no directory.
+    Wrong(Vec<u8>),
+    Right(Directory),
+}
+
+// Whether a directory can lie there, in a file of this version and of so many bytes.
+fn can_have_directory(extent: Extent, version: u8, file_length: u64) -> bool
+    ensures { IsTrue result ↔ IsDirectoryPlace version file_length extent }
+{
+    extent.length as usize >= HEADER_LENGTH
+        && extent.length as usize <= LONGEST_DIRECTORY
+        && is_in_file(extent, file_length, version)
+}
+
+/// Reads what lies in the extent of a directory, in a file of this version and of so many bytes. Memory, File.
+pub fn look_for_directory<S: Store>(
+    alloc: Global,
+    store: &mut S,
+    version: u8,
+    file_length: u64,
+    extent: Extent,
+) -> Result<ReadDirectory, Fault>
+    // Asked of the caller.
+    requires { IsTrue (S.facts store.old).honest → file_length ≡ length (S.facts store.old).content }
+    // The store.
+    ensures looks { OnlyReadsStore (S.facts store.old) (S.facts store.new) }
+    // What is read.
+    ensures formed { IfOk result (IsFormedRead version file_length extent) }
+    ensures read { IfOk result (λ read. IsTrue (S.facts store.old).honest
+        → IsRead version extent read (S.facts store.old).content) }
+    // Refusals.
+    ensures file { IsErrOf result Fault.File → FailedSince (S.facts store.old) (S.facts store.new) }
+    ensures refusals { IfErr result IsResourceFault }
+{
+    if !can_have_directory(extent, version, file_length) {
+        return Ok(ReadDirectory::Misplaced);
+    }
+    let bytes = read_extent(alloc, store, extent)?;
+    match read_dir(alloc, &bytes, file_length, version) {
+        Ok(directory) => Ok(ReadDirectory::Right(directory)),
+        Err(Fault::Damaged) => Ok(ReadDirectory::Wrong(bytes)),
+        Err(_) => Err(Fault::Memory),
+    }
+}
+
+/// Reads a directory, in a file of this version and of so many bytes. Damaged, Memory, File.
+pub fn read_directory<S: Store>(
+    alloc: Global,
+    store: &mut S,
+    version: u8,
+    file_length: u64,
+    extent: Extent,
+) -> Result<Directory, Fault>
+    // Asked of the caller.
+    requires { IsTrue (S.facts store.old).honest → file_length ≡ length (S.facts store.old).content }
+    // The store.
+    ensures looks { OnlyReadsStore (S.facts store.old) (S.facts store.new) }
+    // The directory.
+    ensures formed { IfOk result (λ d. is_directory version file_length (shown d) ≡ true) }
+    ensures place { IfOk result (λ d. IsDirectoryPlace version file_length extent) }
+    ensures read { IfOk result (λ d. IsTrue (S.facts store.old).honest
+        → directory_of version (S.facts store.old).content extent ≡ Some (shown d)) }
+    // Refusals.
+    ensures damaged { IsErrOf result Fault.Damaged → IsTrue (S.facts store.old).honest
+        → directory_of version (S.facts store.old).content extent ≡ None }
+    ensures file { IsErrOf result Fault.File → FailedSince (S.facts store.old) (S.facts store.new) }
+    ensures refusals { IfErr result IsReadRefusal }
+{
+    match look_for_directory(alloc, store, version, file_length, extent)? {
+        ReadDirectory::Right(directory) => Ok(directory),
+        ReadDirectory::Misplaced | ReadDirectory::Wrong(_) => Err(Fault::Damaged),
+    }
+}
