@@ -11,6 +11,7 @@ mod law;
 mod limit;
 mod reply;
 mod scope;
+mod target;
 
 pub use block::Attributes;
 pub use bytes::{Bytes, Chunks};
@@ -29,3 +30,7 @@ pub use limit::{
 };
 pub use reply::Reply;
 pub use scope::Scope;
+pub use target::{
+    ArrayEdit, BlockEdit, ByteEdit, ChainEdit, ChunkArrayEdit, ChunkEdit, ElementArrayEdit,
+    NameArrayEdit, NewBlock, NewChunk, RawEdit, Setting, Target,
+};
