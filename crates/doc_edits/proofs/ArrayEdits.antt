@@ -1,5 +1,5 @@
 -- What the edits of arrays are as edits of a chunk's bytes.
-use Rattle.std.proofs.Common.{◌≡◌, ℕ, List, refl, subst}
+use Rattle.std.proofs.Common.{ℕ, List, refl}
 use Rattle.geos_model.specs.ArrayEdits.{element_inserted, element_set, element_resized, elements_deleted, array_zeroed, on_array, insert_conditions, set_conditions, resize_conditions, delete_conditions}
 use Rattle.geos_model.specs.Document.{Document}
 use Rattle.geos_model.specs.declared.command.Done.TheVariants as done
@@ -9,16 +9,11 @@ use Rattle.geos_model.specs.declared.handle.VmHandle.{VmHandle}
 use Rattle.doc_edits.proofs.ChunkParts.{EditsChunk}
 
 module _ (d : Document) (b : VmHandle) (c : ChunkHandle) where
-  -- the element by the slice that code reads
-  pub inserted : (i : ℕ) (element slice : List ℕ) → slice ≡ element → EditsChunk (edits.InsertElement b c i element) d b c (λ old. insert_conditions old i slice) (λ old. element_inserted old i slice) done.Nothing
-  inserted i element slice is =
-      subst (λ (x : List ℕ). EditsChunk (edits.InsertElement b c i x) d b c (λ old. insert_conditions old i slice) (λ old. element_inserted old i slice) done.Nothing) is
-      (record { are_own = λ old. refl; refusals = refl; does = refl; kind = refl; cost = λ after. refl })
+  pub inserted : (i : ℕ) (element : List ℕ) → EditsChunk (edits.InsertElement b c i element) d b c (λ old. insert_conditions old i element) (λ old. element_inserted old i element) done.Nothing
+  inserted i element = record { are_own = λ old. refl; refusals = refl; does = refl; kind = refl; cost = λ after. refl }
 
-  pub given : (i : ℕ) (element slice : List ℕ) → slice ≡ element → EditsChunk (edits.SetElement b c i element) d b c (λ old. set_conditions old i slice) (λ old. element_set old i slice) done.Nothing
-  given i element slice is =
-      subst (λ (x : List ℕ). EditsChunk (edits.SetElement b c i x) d b c (λ old. set_conditions old i slice) (λ old. element_set old i slice) done.Nothing) is
-      (record { are_own = λ old. refl; refusals = refl; does = refl; kind = refl; cost = λ after. refl })
+  pub given : (i : ℕ) (element : List ℕ) → EditsChunk (edits.SetElement b c i element) d b c (λ old. set_conditions old i element) (λ old. element_set old i element) done.Nothing
+  given i element = record { are_own = λ old. refl; refusals = refl; does = refl; kind = refl; cost = λ after. refl }
 
   pub sized : (i n : ℕ) → EditsChunk (edits.ResizeElement b c i n) d b c (λ old. resize_conditions old i) (λ old. element_resized old i n) done.Nothing
   sized i n = record { are_own = λ old. refl; refusals = refl; does = refl; kind = refl; cost = λ after. refl }

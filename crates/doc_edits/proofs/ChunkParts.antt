@@ -1,5 +1,5 @@
 -- What is built for an edit of a chunk's bytes: of an array a patch, and else a splice.
-use Rattle.std.proofs.Common.{◌≡◌, ◌≤◌, ◌+◌, ◌-◌, ◌*◌, ◌/◌, ℕ, List, ◌++◌, Bool, true, false, not, cond, Option, Some, None, MatchOption, Result, Ok, Err, MatchResult, length, max, nat_lt, refl, sym, ap, subst, ◌∙◌, inl, inr, arith}
+use Rattle.std.proofs.Common.{◌≡◌, ◌≤◌, ◌+◌, ◌-◌, ◌*◌, ◌/◌, ℕ, List, ◌++◌, Bool, true, false, not, cond, Option, Some, None, Result, Ok, Err, MatchResult, length, max, nat_lt, refl, sym, ap, subst, ◌∙◌, inl, inr, arith}
 use Rattle.std.proofs.lemmas.Bool.{leb-true, le-ltb, lt-ltb, cases_lt, cases_Bool}
 use Rattle.std.specs.Result.{IfOk}
 use Rattle.std.specs.FinMap.{empty, insert, contains_key}
@@ -11,6 +11,7 @@ use Rattle.geos_model.specs.Heap.{ChunkMap, chunk_bytes, fits, fits_with, is_hea
 use Rattle.geos_model.specs.Machine.{kind_of}
 use Rattle.geos_model.specs.Meaning.{conditions, effect, chunk_at, with_chunk, on_chunk, on_new_bytes, no_room}
 use Rattle.geos_model.specs.Refusal.{Conditions, first_refusal}
+use Rattle.geos_model.specs.Targets.{byte_edit}
 use Rattle.geos_model.proofs.Table.{table_map}
 use Rattle.geos_model.specs.declared.command.Body.TheVariants.{Heap}
 use Rattle.geos_model.specs.declared.command.Done.{Done}
@@ -21,6 +22,7 @@ use Rattle.geos_model.specs.declared.fault.Fault.{Fault}
 use Rattle.geos_model.specs.declared.fault.Fault.TheVariants.{Full}
 use Rattle.geos_model.specs.declared.handle.ChunkHandle.{ChunkHandle}
 use Rattle.geos_model.specs.declared.handle.VmHandle.{VmHandle}
+use Rattle.geos_model.specs.declared.target.ByteEdit.{ByteEdit}
 use Rattle.geos_model.proofs.HeapTables.{heap_map-table, live_handle, is_chunk_handle-parts, trimmed-put, chunk_length_le}
 use Rattle.geos_model.proofs.HeapEdits.{get-put_same}
 use Rattle.geos_model.proofs.Tables.{put_at, slot_at-put_same, table_map-put}
@@ -29,8 +31,8 @@ use Rattle.chunk_edits.specs.Splicing.{Splice, Builds, RefusesToBuild, forwards}
 use Rattle.chunk_edits.proofs.PatchingLemmas.{patched_length, pieces_length}
 use Rattle.vm_blocks.proofs.RoomLemmas.{bytes-put}
 use Rattle.vm_blocks.specs.declared.change.PartChange.TheVariants as parts
-use Rattle.doc_edits.specs.Found.{AreOwn, IsHeapAt, IsChunkAt}
-use Rattle.doc_edits.specs.Building.{place_of, IsAt, MakesAt, MakesPart}
+use Rattle.doc_edits.specs.Found.{AreOwn, IsHeapAt, IsChunkAt, IsChunkLive}
+use Rattle.doc_edits.specs.Building.{silently, MakesPart, MakesSplice}
 use Rattle.doc_edits.specs.Planning.{RefusesInMemory}
 use Rattle.doc_edits.proofs.Order.{more_refused, more_accepted, has_room}
 use Rattle.doc_edits.proofs.Refusals.{past_chunk}
@@ -148,55 +150,49 @@ module _ (edit : Edit) (d : Document) (b : VmHandle) (c : ChunkHandle) (rest : C
   plain_past : first_refusal (conditions edit d) ≡ first_refusal rest
   plain_past = ap first_refusal refusals ∙ past_chunk d b.0 c.0 (chunks_of d b.0) rest heap live
 
-  plain_made : (h : ChunkHandle) → h.0 ≡ c.0 → (s : Splice) → Builds rest s (chunk_at d b.0 c.0) to held → fits_with (chunks_of d b.0) c.0 to ≡ true → MakesPart edit d b c (parts.Chunk h s) done.Nothing
-  plain_made h here s builds fit =
+  plain_made : (s : Splice) → Builds rest s (chunk_at d b.0 c.0) to held → fits_with (chunks_of d b.0) c.0 to ≡ true → MakesSplice edit d b c s
+  plain_made s builds fit =
       let fits_then : fits_with (chunks_of d b.0) c.0 (forwards s (chunk_at d b.0 c.0)) ≡ true = ap (fits_with (chunks_of d b.0) c.0) builds.leads.gives ∙ fit in
       record {
-        chunk = here;
-        built = record { stands = builds.leads.stands; short = fits_short (chunks_of d b.0) c.0 _ valid live fits_then };
-        refusal = plain_past ∙ builds.accepted ∙ ap (λ (t : Bool). cond t None (Some Full)) (sym fits_then);
-        document = ap (with_chunk d b.0 c.0) builds.leads.gives ∙ ap (λ p. p.0) (sym does);
-        answer = ap (λ p. p.1) (sym does);
-        kind = kind;
-        cost = builds.leads.holds ∙ costs;
+        part = record {
+          chunk = refl;
+          built = record { stands = builds.leads.stands; short = fits_short (chunks_of d b.0) c.0 _ valid live fits_then };
+          refusal = plain_past ∙ builds.accepted ∙ ap (λ (t : Bool). cond t None (Some Full)) (sym fits_then);
+          document = ap (with_chunk d b.0 c.0) builds.leads.gives ∙ ap (λ p. p.0) (sym does);
+          answer = ap (λ p. p.1) (sym does);
+          kind = kind;
+          cost = builds.leads.holds ∙ costs;
+        };
+        fits = fits_then;
       }
 
   plain_refuses : (fault : Fault) → RefusesToBuild rest fault → RefusesInMemory edit d fault
   plain_refuses fault (inl memory) = inl memory
   plain_refuses fault (inr first) = inr (plain_past ∙ first)
 
-  pub plain_built : (h : ChunkHandle) → h.0 ≡ c.0 → (r : Result Splice Fault) → MatchResult r (λ s. Builds rest s (chunk_at d b.0 c.0) to held) (RefusesToBuild rest) → IfOk r (λ s. fits_with (chunks_of d b.0) c.0 to ≡ true)
-      → MatchResult r (λ s. MakesPart edit d b c (parts.Chunk h s) done.Nothing) (RefusesInMemory edit d)
-  plain_built h here (Ok s) builds fit = plain_made h here s builds fit
-  plain_built h here (Err fault) refuses fit = plain_refuses fault refuses
+  pub plain_built : (r : Result Splice Fault) → MatchResult r (λ s. Builds rest s (chunk_at d b.0 c.0) to held) (RefusesToBuild rest) → IfOk r (λ s. fits_with (chunks_of d b.0) c.0 to ≡ true)
+      → MatchResult r (λ s. MakesSplice edit d b c s) (RefusesInMemory edit d)
+  plain_built (Ok s) builds fit = plain_made s builds fit
+  plain_built (Err fault) refuses fit = plain_refuses fault refuses
 
--- What a builder answers, of the place that an edit names: of the bytes of a chunk as such,
+-- What a builder answers: of the bytes of a chunk as such,
 
-abbrev pub SplicesOf : ChunkMap → ChunkHandle → Result Splice Fault → Edit → Type 0
-SplicesOf m h r edit = (d : Document) (bytes : List ℕ) → IsAt edit d m h.0 bytes → MatchResult r (λ s. MakesAt edit d done.Nothing (parts.Chunk h s)) (RefusesInMemory edit d)
+abbrev pub SplicesOf : ChunkMap → ChunkHandle → Result Splice Fault → ByteEdit → Type 0
+SplicesOf m c r edit = (d : Document) (b : VmHandle) → IsHeapAt d b.0 m → IsChunkLive d b.0 c.0 → MatchResult r (λ s. MakesSplice (byte_edit b c edit) d b c s) (RefusesInMemory (byte_edit b c edit) d)
 
 -- and of an array, whichever chunk it is.
 
-abbrev pub BuildsOf : List ℕ → Done → Result (List Piece) Fault → Edit → Type 0
-BuildsOf bytes done r edit = (d : Document) (m : ChunkMap) (h : ChunkHandle) → IsAt edit d m h.0 bytes → MatchResult r (λ ps. MakesAt edit d done (parts.Patch h ps)) (RefusesInMemory edit d)
+abbrev pub PatchesOf : List ℕ → Done → Result (List Piece) Fault → (VmHandle → ChunkHandle → Edit) → Type 0
+PatchesOf bytes done r edit = (d : Document) (b : VmHandle) (c : ChunkHandle) → IsChunkAt d b.0 c.0 bytes → MatchResult r (λ ps. MakesPart (edit b c) d b c (parts.Patch c ps) done) (RefusesInMemory (edit b c) d)
 
-abbrev pub PatchesOf : List ℕ → Done → List Piece → Edit → Type 0
-PatchesOf bytes done ps edit = (d : Document) (m : ChunkMap) (h : ChunkHandle) → IsAt edit d m h.0 bytes → MakesAt edit d done (parts.Patch h ps)
+abbrev pub AnswersOf : List ℕ → Result (List Piece × Done) Fault → (VmHandle → ChunkHandle → Edit) → Type 0
+AnswersOf bytes r edit = (d : Document) (b : VmHandle) (c : ChunkHandle) → IsChunkAt d b.0 c.0 bytes → MatchResult r (λ built. MakesPart (edit b c) d b c (parts.Patch c built.0) built.1) (RefusesInMemory (edit b c) d)
 
-abbrev pub RefusesOf : List ℕ → Fault → Edit → Type 0
-RefusesOf bytes fault edit = (d : Document) (m : ChunkMap) (k : ℕ) → IsAt edit d m k bytes → RefusesInMemory edit d fault
+module _ (bytes : List ℕ) (edit : VmHandle → ChunkHandle → Edit) where
+  pub array_built : (own : List ℕ → Conditions) (to : List ℕ → List ℕ) (done : Done) → ((d : Document) (b : VmHandle) (c : ChunkHandle) → EditsChunk (edit b c) d b c own to done) → (r : Result (List Piece) Fault)
+      → MatchResult r (λ ps. BuildsFor ps bytes own to) (RefusesToBuild (own bytes ++ too_long (to bytes))) → PatchesOf bytes done r edit
+  array_built own to done means r builds = λ d b c at. built (edit b c) d b c own to done (means d b c) bytes at c refl r builds
 
--- An edit of an array, built so at the place that it names.
-module _ (now edit : Edit) (b : VmHandle) (c : ChunkHandle) (is : now ≡ edit) (named : place_of edit ≡ Some (b, c)) (bytes : List ℕ) where
-  place_is : place_of now ≡ Some (b, c)
-  place_is = ap place_of is ∙ named
-
-  at_place : (d : Document) (m : ChunkMap) (k : ℕ) → IsAt now d m k bytes → IsHeapAt d b.0 m × (k ≡ c.0) × IsChunkAt d b.0 c.0 bytes
-  at_place d m k at = subst (λ (o : Option (VmHandle × ChunkHandle)). MatchOption o ⊥ (λ p. IsHeapAt d p.0.0 m × (k ≡ p.1.0) × IsChunkAt d p.0.0 p.1.0 bytes)) place_is at
-
-  pub array_built : (own : List ℕ → Conditions) (to : List ℕ → List ℕ) (done : Done) → ((d : Document) → EditsChunk edit d b c own to done) → (r : Result (List Piece) Fault)
-      → MatchResult r (λ ps. BuildsFor ps bytes own to) (RefusesToBuild (own bytes ++ too_long (to bytes))) → BuildsOf bytes done r now
-  array_built own to done means r builds = λ d m h at.
-      let place = at_place d m h.0 at in
-      subst (λ (o : Option (VmHandle × ChunkHandle)). MatchResult r (λ ps. MatchOption o ⊥ (λ p. MakesPart now d p.0 p.1 (parts.Patch h ps) done)) (RefusesInMemory now d)) (sym place_is)
-      (built now d b c own to done (subst (λ (e : Edit). EditsChunk e d b c own to done) (sym is) (means d)) bytes place.2 h place.1 r builds)
+  pub silent_built : (r : Result (List Piece) Fault) → PatchesOf bytes done.Nothing r edit → AnswersOf bytes (silently r) edit
+  silent_built (Ok ps) builds = builds
+  silent_built (Err fault) builds = builds

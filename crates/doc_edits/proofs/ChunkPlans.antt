@@ -1,5 +1,5 @@
 -- Plans of edits of a chunk, from what was built for them.
-use Rattle.std.proofs.Common.{◌≡◌, ◌≤◌, ℕ, List, [], ◌∷◌, ◌++◌, Bool, true, false, not, cond, Option, Some, None, MatchOption, unwrap_or, length, max, replicate, refl, sym, ap, subst, ◌∙◌, inl, inr, arith}
+use Rattle.std.proofs.Common.{◌≡◌, ◌≤◌, ℕ, List, [], ◌∷◌, ◌++◌, Bool, true, false, not, cond, Option, Some, None, unwrap_or, length, max, replicate, refl, sym, ap, subst, ◌∙◌, inl, inr, arith}
 use Rattle.std.proofs.lemmas.Bool.{cases_Bool, cases_lt}
 use Rattle.std.proofs.lemmas.List.{length-replicate}
 use Rattle.std.specs.FinMap.{contains_key}
@@ -7,19 +7,16 @@ use Rattle.geos_model.specs.Document.{Document, chunks_of, is_heap}
 use Rattle.geos_model.specs.Heap.{ChunkMap, chunk_bytes, fits_with, fits_new, is_heap_map, next_chunk}
 use Rattle.geos_model.specs.Meaning.{chunk_at, conditions, with_chunk, new_chunk, no_place, on_chunk}
 use Rattle.geos_model.specs.Refusal.{Conditions, first_refusal}
-use Rattle.geos_model.specs.Scope.{scope_of}
+use Rattle.geos_model.specs.Scope.{Chunk, scope_of}
 use Rattle.geos_model.specs.declared.command.Done.{Done}
-use Rattle.geos_model.specs.declared.command.Done.TheVariants.{Chunk}
+use Rattle.geos_model.specs.declared.command.Done.TheVariants as done
 use Rattle.geos_model.specs.declared.command.Edit.{Edit}
-use Rattle.geos_model.specs.declared.command.Edit.TheVariants as edits
 use Rattle.geos_model.specs.declared.fault.Fault.{Fault}
 use Rattle.geos_model.specs.declared.fault.Fault.TheVariants.{Full}
 use Rattle.geos_model.specs.declared.handle.ChunkHandle.{ChunkHandle}
 use Rattle.geos_model.specs.declared.handle.VmHandle.{VmHandle}
-use Rattle.geos_model.specs.declared.scope.Scope.{Scope}
-use Rattle.geos_model.specs.declared.scope.Scope.TheVariants as scopes
 use Rattle.chunk_edits.specs.Patching.{patched, peak}
-use Rattle.chunk_edits.specs.Splicing.{forwards}
+use Rattle.chunk_edits.specs.Splicing.{Splice, forwards}
 use Rattle.geos_model.proofs.HeapTables.{fits_with-fewer, fits_with-same}
 use Rattle.lmem_heap.proofs.PlacedLemmas.{fits_new-some, fits_new-none}
 use Rattle.vm_blocks.proofs.RoomLemmas.{fits_as, fits_few}
@@ -29,21 +26,11 @@ use Rattle.vm_blocks.specs.declared.change.Change.TheVariants as changes
 use Rattle.vm_blocks.specs.declared.change.Content.{Content}
 use Rattle.vm_blocks.specs.declared.change.PartChange.{PartChange}
 use Rattle.vm_blocks.specs.declared.change.PartChange.TheVariants as parts
-use Rattle.doc_edits.specs.Found.{IsHeapAt, IsChunkAt, AreLate}
-use Rattle.doc_edits.specs.Building.{chunk_after, chunk_in, place_of, new_in, IsAt, IsHeapFor, IsOfChunk, StandsIn, IsBuilt, MakesAt, MakesPart, CreatesAt, Creates}
+use Rattle.doc_edits.specs.Found.{IsHeapAt, IsChunkAt, IsChunkLive, AreLate}
+use Rattle.doc_edits.specs.Building.{chunk_after, IsOfChunk, StandsIn, IsBuilt, MakesPart, MakesSplice, Creates}
 use Rattle.doc_edits.specs.Planning.{Plans}
-use Rattle.doc_edits.proofs.Documents.{chunks_are, heap_there, heap_here}
+use Rattle.doc_edits.proofs.Documents.{chunks_are, heap_there}
 use Rattle.doc_edits.proofs.FirstConditions.{FirstOfScope, scope_first}
-
--- the edit is of the chunk that it names
-
-chunk_scope : (scope : Scope) (b : VmHandle) (c : ChunkHandle) → chunk_in scope ≡ Some (b, c) → scope ≡ scopes.Chunk b c
-chunk_scope (scopes.Chunk x y) b c is = let pair : (x, y) ≡ (b, c) = cc is in ap (λ (p : VmHandle × ChunkHandle). scopes.Chunk p.0 p.1) pair
-chunk_scope _ b c is = absurd (cc is)
-
-place_scope : (edit : Edit) (b : VmHandle) (c : ChunkHandle) → place_of edit ≡ Some (b, c) → scope_of edit ≡ scopes.Chunk b c
-place_scope (edits.Free x y) b c is = absurd (cc is)
-place_scope edit b c is = chunk_scope (scope_of edit) b c is
 
 -- there is room for as many bytes as there are before or after, where what is there then fits
 room_between : (m : ChunkMap) (c : ℕ) (after : List ℕ) (n : ℕ) → is_heap_map m ≡ true → contains_key m c ≡ true → n ≡ max (length (chunk_bytes m c)) (length after)
@@ -73,36 +60,30 @@ module _ (d : Document) (b c : ℕ) where
   part_makes (parts.ChunkOut h content) here = absurd here
 
 -- An edit of a chunk's bytes.
-module _ (edit : Edit) (d : Document) (b : VmHandle) (c : ChunkHandle) (is : place_of edit ≡ Some (b, c)) where
-  pub chunk_refused : (fault : Fault) → ((rest : Conditions) → AreLate rest → first_refusal (on_chunk d b.0 c.0 ++ rest) ≡ Some fault) → first_refusal (conditions edit d) ≡ Some fault
-  chunk_refused fault refused =
-      let first = subst (FirstOfScope edit) (place_scope edit b c is) (scope_first edit) d in
+module _ (edit : Edit) (d : Document) (b : VmHandle) (c : ChunkHandle) where
+  pub chunk_refused : scope_of edit ≡ Chunk b c → (fault : Fault) → ((rest : Conditions) → AreLate rest → first_refusal (on_chunk d b.0 c.0 ++ rest) ≡ Some fault) → first_refusal (conditions edit d) ≡ Some fault
+  chunk_refused is fault refused =
+      let first = subst (FirstOfScope edit) is (scope_first edit) d in
       ap first_refusal first.2 ∙ refused first.0 first.1
 
   module _ (m : ChunkMap) (live : IsHeapAt d b.0 m) (bytes : List ℕ) (there : IsChunkAt d b.0 c.0 bytes) where
     same : chunks_of d b.0 ≡ m
     same = chunks_are d b.0 m live
 
-    pub is_at : IsAt edit d m c.0 bytes
-    is_at = subst (λ (o : Option (VmHandle × ChunkHandle)). MatchOption o ⊥ (λ p. IsHeapAt d p.0.0 m × (c.0 ≡ p.1.0) × IsChunkAt d p.0.0 p.1.0 bytes)) (sym is) (live, refl, there)
+    module _ (part : PartChange) (done : Done) (makes : MakesPart edit d b c part done) where
+      pub is_built : IsBuilt part (chunk_bytes m c.0)
+      is_built = subst (λ (x : ChunkMap). IsBuilt part (chunk_bytes x c.0)) same makes.built
 
-    module _ (part : PartChange) (done : Done) (made : MakesAt edit d done part) where
-      makes : MakesPart edit d b c part done
-      makes = subst (λ (o : Option (VmHandle × ChunkHandle)). MatchOption o ⊥ (λ p. MakesPart edit d p.0 p.1 part done)) is made
+      fits_same : fits_with (chunks_of d b.0) c.0 (chunk_after part (chunk_at d b.0 c.0)) ≡ fits_with m c.0 (chunk_after part (chunk_bytes m c.0))
+      fits_same = ap (λ (x : ChunkMap). fits_with x c.0 (chunk_after part (chunk_bytes x c.0))) same
 
-      pub is_built : IsBuilt part bytes
-      is_built = subst (IsBuilt part) (sym there.value) makes.built
-
-      fits_same : fits_with (chunks_of d b.0) c.0 (chunk_after part (chunk_at d b.0 c.0)) ≡ fits_with m c.0 (chunk_after part bytes)
-      fits_same = ap (λ (x : ChunkMap). fits_with x c.0 (chunk_after part (chunk_at d b.0 c.0))) same ∙ ap (λ (x : List ℕ). fits_with m c.0 (chunk_after part x)) (sym there.value)
-
-      by_room : (fit : Bool) → fit ≡ fits_with m c.0 (chunk_after part bytes) → first_refusal (conditions edit d) ≡ cond fit None (Some Full)
+      by_room : (fit : Bool) → fit ≡ fits_with m c.0 (chunk_after part (chunk_bytes m c.0)) → first_refusal (conditions edit d) ≡ cond fit None (Some Full)
       by_room fit e = makes.refusal ∙ ap (λ (t : Bool). cond t None (Some Full)) (fits_same ∙ sym e)
 
-      pub full : false ≡ fits_with m c.0 (chunk_after part bytes) → first_refusal (conditions edit d) ≡ Some Full
+      pub full : false ≡ fits_with m c.0 (chunk_after part (chunk_bytes m c.0)) → first_refusal (conditions edit d) ≡ Some Full
       full e = by_room false e
 
-      pub planned : true ≡ fits_with m c.0 (chunk_after part bytes) → Plans edit d (changes.Part b part) done
+      pub planned : true ≡ fits_with m c.0 (chunk_after part (chunk_bytes m c.0)) → Plans edit d (changes.Part b part) done
       planned e = record {
         accepted = by_room true e;
         applies = part_applies d b.0 c.0 (heap_there d b.0 m live) there.live there.valid part makes.chunk makes.built.stands (fits_same ∙ sym e);
@@ -111,6 +92,13 @@ module _ (edit : Edit) (d : Document) (b : VmHandle) (c : ChunkHandle) (is : pla
         kind = sym makes.kind;
         cost = makes.cost;
       }
+
+    -- a splice finds room
+    pub spliced : (s : Splice) → MakesSplice edit d b c s → Plans edit d (changes.Part b (parts.Chunk c s)) done.Nothing
+    spliced s makes = planned (parts.Chunk c s) done.Nothing makes.part (sym makes.fits ∙ fits_same (parts.Chunk c s) done.Nothing makes.part)
+
+    pub is_live : IsChunkLive d b.0 c.0
+    is_live = record { heap = there.heap; live = there.live; valid = there.valid; value = refl }
 
 -- Whether a new chunk finds a place.
 module _ (m : ChunkMap) (bytes : List ℕ) where
@@ -134,15 +122,9 @@ module _ (m : ChunkMap) (bytes : List ℕ) where
     place_fits n is fit = as_zeros n is ∙ sym fit
 
 -- An edit that makes a chunk.
-module _ (edit : Edit) (d : Document) (b : VmHandle) (is : new_in edit ≡ Some b) where
+module _ (edit : Edit) (d : Document) (b : VmHandle) where
   module _ (m : ChunkMap) (live : IsHeapAt d b.0 m) where
-    pub is_heap_for : IsHeapFor edit d
-    is_heap_for = subst (λ (o : Option VmHandle). MatchOption o ⊥ (λ b. IsHeapAt d b.0 (chunks_of d b.0))) (sym is) (heap_here d b.0 m live)
-
-    module _ (content : Content) (built : CreatesAt edit d (content_bytes content)) where
-      creates : Creates edit d b (content_bytes content)
-      creates = subst (λ (o : Option VmHandle). MatchOption o ⊥ (λ b. Creates edit d b (content_bytes content))) is built
-
+    module _ (content : Content) (creates : Creates edit d b (content_bytes content)) where
       by_place : (fit : Bool) → fits_new m (content_bytes content) ≡ fit → first_refusal (conditions edit d) ≡ cond fit None (Some Full)
       by_place fit e =
           creates.refusal ∙ ap (λ (x : ChunkMap). first_refusal (no_place x (content_bytes content))) (chunks_are d b.0 m live) ∙ ap (λ (t : Bool). first_refusal ((Full, not t) ∷ [])) e
@@ -159,7 +141,7 @@ module _ (edit : Edit) (d : Document) (b : VmHandle) (is : new_in edit ≡ Some 
         handle_is : new_chunk d b.0 ≡ c.0
         handle_is = ap (λ (x : ChunkMap). unwrap_or (next_chunk x) 0) (chunks_are d b.0 m live) ∙ ap (λ (o : Option ℕ). unwrap_or o 0) next
 
-        pub new_planned : Plans edit d (changes.Part b (parts.ChunkIn c content)) (Chunk c)
+        pub new_planned : Plans edit d (changes.Part b (parts.ChunkIn c content)) (done.Chunk c)
         new_planned = record {
           accepted = by_place true (fits_new-some m c.0 (content_bytes content) next ∙ allows.fits);
           applies = record {
@@ -169,7 +151,7 @@ module _ (edit : Edit) (d : Document) (b : VmHandle) (is : new_in edit ≡ Some 
             fits = rw (chunks_are d b.0 m live) allows.fits;
           };
           document = ap (λ (k : ℕ). with_chunk d b.0 k (content_bytes content)) (sym handle_is) ∙ ap (λ p. p.0) (sym creates.does);
-          answer = ap (λ (k : ℕ). Chunk (record { 0 = k })) (sym handle_is) ∙ ap (λ p. p.1) (sym creates.does);
+          answer = ap (λ (k : ℕ). done.Chunk (record { 0 = k })) (sym handle_is) ∙ ap (λ p. p.1) (sym creates.does);
           kind = sym creates.kind;
           cost = sym creates.cost;
         }

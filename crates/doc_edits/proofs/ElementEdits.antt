@@ -11,13 +11,12 @@ use Rattle.geos_model.specs.declared.handle.VmHandle.{VmHandle}
 use Rattle.doc_edits.proofs.ChunkParts.{EditsChunk}
 
 module _ (d : Document) (b : VmHandle) (c : ChunkHandle) where
-  -- the element by the slice that code reads, and its token
-  pub element_added : (element slice : List ℕ) → slice ≡ element → (token : Token) → token.0 ≡ token_added (chunk_at d b.0 c.0) slice
-      → EditsChunk (edits.AddElement b c element) d b c (λ old. add_conditions old slice) (λ old. bytes_added old slice) (done.Token token)
-  element_added element slice is token t =
-      subst (λ (x : List ℕ). EditsChunk (edits.AddElement b c x) d b c (λ old. add_conditions old slice) (λ old. bytes_added old slice) (done.Token token)) is
-      (subst (λ (n : ℕ). EditsChunk (edits.AddElement b c slice) d b c (λ old. add_conditions old slice) (λ old. bytes_added old slice) (done.Token (record { 0 = n }))) (sym t)
-      (record { are_own = λ old. refl; refusals = refl; does = refl; kind = refl; cost = λ after. refl }))
+  -- with its token
+  pub element_added : (element : List ℕ) (token : Token) → token.0 ≡ token_added (chunk_at d b.0 c.0) element
+      → EditsChunk (edits.AddElement b c element) d b c (λ old. add_conditions old element) (λ old. bytes_added old element) (done.Token token)
+  element_added element token t =
+      subst (λ (n : ℕ). EditsChunk (edits.AddElement b c element) d b c (λ old. add_conditions old element) (λ old. bytes_added old element) (done.Token (record { 0 = n }))) (sym t)
+      (record { are_own = λ old. refl; refusals = refl; does = refl; kind = refl; cost = λ after. refl })
 
   pub referenced : (token : Token) → EditsChunk (edits.AddReference b c token) d b c (λ old. add_reference_conditions old token.0) (λ old. reference_added old token.0) done.Nothing
   referenced token = record { are_own = λ old. refl; refusals = refl; does = refl; kind = refl; cost = λ after. refl }
@@ -28,8 +27,6 @@ module _ (d : Document) (b : VmHandle) (c : ChunkHandle) where
   pub freed : (token : Token) → EditsChunk (edits.DeleteElement b c token) d b c (λ old. on_token old token.0) (λ old. element_deleted old token.0) done.Nothing
   freed token = record { are_own = λ old. refl; refusals = refl; does = refl; kind = refl; cost = λ after. refl }
 
-  pub element_changed : (token : Token) (element slice : List ℕ) → slice ≡ element
-      → EditsChunk (edits.ChangeElement b c token element) d b c (λ old. change_conditions old token.0 slice) (λ old. bytes_changed old token.0 slice) done.Nothing
-  element_changed token element slice is =
-      subst (λ (x : List ℕ). EditsChunk (edits.ChangeElement b c token x) d b c (λ old. change_conditions old token.0 slice) (λ old. bytes_changed old token.0 slice) done.Nothing) is
-      (record { are_own = λ old. refl; refusals = refl; does = refl; kind = refl; cost = λ after. refl })
+  pub element_changed : (token : Token) (element : List ℕ)
+      → EditsChunk (edits.ChangeElement b c token element) d b c (λ old. change_conditions old token.0 element) (λ old. bytes_changed old token.0 element) done.Nothing
+  element_changed token element = record { are_own = λ old. refl; refusals = refl; does = refl; kind = refl; cost = λ after. refl }

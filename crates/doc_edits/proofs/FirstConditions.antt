@@ -4,12 +4,10 @@ use Rattle.std.specs.FinMap.{contains_key}
 use Rattle.geos_model.specs.Document.{Document, chunks_of}
 use Rattle.geos_model.specs.Meaning.{conditions, on_block, on_raw, on_heap, on_chunk}
 use Rattle.geos_model.specs.Refusal.{Conditions}
-use Rattle.geos_model.specs.Scope.{scope_of}
+use Rattle.geos_model.specs.Scope.{Scope, Plain, New, Block, Raw, Heap, Chunk, Chain, scope_of}
 use Rattle.geos_model.specs.declared.command.Edit.{Edit}
 use Rattle.geos_model.specs.declared.command.Edit.TheVariants as edits
 use Rattle.geos_model.specs.declared.fault.Fault.TheVariants.{NoChunk}
-use Rattle.geos_model.specs.declared.scope.Scope.{Scope}
-use Rattle.geos_model.specs.declared.scope.Scope.TheVariants.{Plain, New, Block, Raw, Heap, Chunk, Chain}
 use Rattle.doc_edits.proofs.RoomLemmas.{Begins}
 
 -- the block of which an edit is, its kind and the chunk are looked for first

@@ -7,6 +7,7 @@ pub mod ArrayEdits
 pub mod ElementEdits
 pub mod NameEdits
 pub mod RoomLemmas
+pub mod Targets
 pub mod FirstConditions
 pub mod Loading
 pub mod ChunkPlans

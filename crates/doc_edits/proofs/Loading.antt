@@ -1,24 +1,31 @@
 -- What comes of bringing into memory what an edit looks into.
-use Rattle.std.proofs.Common.{◌≡◌, ◌⊎◌, ℕ, Bool, true, false, Result, Err, IsOk, IfOk, IfErr, refl, sym, ap, subst, ◌∙◌, inl, inr}
+use Rattle.std.proofs.Common.{◌≡◌, ◌⊎◌, ◌∷◌, ℕ, Bool, true, false, Some, Result, Err, IsOk, IfOk, IfErr, refl, sym, ap, subst, ◌∙◌}
 use Rattle.geos_model.specs.Document.{Document, is_heap, is_live, is_raw}
 use Rattle.geos_model.specs.Machine.{Needs, OneBody, edit_needs, needs_of_scope}
 use Rattle.geos_model.specs.Meaning.{conditions}
-use Rattle.geos_model.specs.Scope.{scope_of}
+use Rattle.geos_model.specs.Scope.{Scope, Block, Raw, Heap, Chunk, scope_of}
+use Rattle.geos_model.specs.Refusal.{first_refusal}
 use Rattle.geos_model.specs.declared.command.Edit.{Edit}
 use Rattle.geos_model.specs.declared.fault.Fault.{Fault}
 use Rattle.geos_model.specs.declared.fault.Fault.TheVariants.{CacheFull, NoBlock}
 use Rattle.geos_model.specs.declared.handle.ChunkHandle.{ChunkHandle}
 use Rattle.geos_model.specs.declared.handle.VmHandle.{VmHandle}
-use Rattle.geos_model.specs.declared.scope.Scope.{Scope}
-use Rattle.geos_model.specs.declared.scope.Scope.TheVariants.{Block, Raw, Heap, Chunk}
 use Rattle.vm_blocks.specs.State.{CacheState}
 use Rattle.vm_blocks.specs.Keeping.{IsCacheFull, is_loaded, is_shut_out}
 use Rattle.vm_blocks.specs.Kinds.{IsWrongBlock}
 use Rattle.doc_edits.specs.Planning.{RefusesEdit}
-use Rattle.doc_edits.specs.Loading.{IsBrought}
 use Rattle.doc_edits.specs.Room.{has_no_room, ReadsNothing}
 use Rattle.doc_edits.proofs.FirstConditions.{FirstOfScope, heap_begins, scope_first}
 use Rattle.doc_edits.proofs.RoomLemmas.{LooksFor, early_dead, err_dead, err_of, looks_for_any, looks_for_heap, looks_for_raw, unchanged, room_of, shut_of}
+
+-- With the room it has, the block was brought in, or the edit is refused first of all.
+pub record IsBrought {S : Type 0} (lacks : Fault → Type 0) (edit : Edit) (a b : CacheState S) (result : Result (Unit {0}) Fault) : Type 0 where
+  pub room : IfOk result (λ _. has_no_room a (edit_needs edit) ≡ false)
+  pub shut : has_no_room a (edit_needs edit) ≡ true → (b ≡ a) × IfErr result (λ fault. first_refusal ((CacheFull, true) ∷ conditions edit a.document) ≡ Some fault)
+  pub err : IfErr result (RefusesEdit lacks (has_no_room a (edit_needs edit)) edit b.document)
+  pub already : ReadsNothing a (edit_needs edit) (conditions edit a.document)
+      → (b.disk ≡ a.disk) × (b.document ≡ a.document)
+      × IfErr result (λ fault. first_refusal (conditions edit a.document) ≡ Some fault)
 
 module _ {S : Type 0} (lacks : Fault → Type 0) (edit : Edit) (a b : CacheState S) (h : VmHandle) (result : Result (Unit {0}) Fault) where
   module _ (is_kind : Document → ℕ → Bool) (scope : Scope) (is : scope_of edit ≡ scope) (body : needs_of_scope scope ≡ OneBody h.0) (looks : LooksFor is_kind h.0 (conditions edit))
@@ -51,12 +58,14 @@ module _ {S : Type 0} (lacks : Fault → Type 0) (edit : Edit) (a b : CacheState
   raw_brought is early shut err already = brought is_raw (Raw h) is refl (looks_for_raw h.0 (conditions edit) (subst (FirstOfScope edit) is (scope_first edit))) early shut err already
 
   -- a heap, for a new chunk or one of its own
-  pub heap_brought : (scope : Scope) → scope ≡ scope_of edit → (scope ≡ Heap h) ⊎ ((c : ChunkHandle) × (scope ≡ Chunk h c)) → ((fault : Fault) → IsWrongBlock is_heap a.document h.0 fault → (result ≡ Err fault) × (b ≡ a)) → (is_heap a.document h.0 ≡ true → is_shut_out a h.0 ≡ true → (result ≡ Err CacheFull) × (b ≡ a))
+
+  pub heap_brought : scope_of edit ≡ Heap h → ((fault : Fault) → IsWrongBlock is_heap a.document h.0 fault → (result ≡ Err fault) × (b ≡ a)) → (is_heap a.document h.0 ≡ true → is_shut_out a h.0 ≡ true → (result ≡ Err CacheFull) × (b ≡ a))
       → IfErr result (λ fault. lacks fault ⊎ (IsWrongBlock is_heap b.document h.0 fault ⊎ IsCacheFull a h.0 fault))
       → (is_loaded a h.0 ≡ true → is_heap a.document h.0 ≡ true → IsOk result × (b.disk ≡ a.disk) × (b.document ≡ a.document)) → IsBrought lacks edit a b result
-  heap_brought scope same (inl new) early shut err already =
-      let is : scope_of edit ≡ Heap h = sym same ∙ new in
-      brought is_heap (Heap h) is refl (looks_for_heap h.0 (conditions edit) (subst (FirstOfScope edit) is (scope_first edit))) early shut err already
-  heap_brought scope same (inr own) early shut err already =
-      let is : scope_of edit ≡ Chunk h own.0 = sym same ∙ own.1 in
-      brought is_heap (Chunk h own.0) is refl (looks_for_heap h.0 (conditions edit) (heap_begins h.0 own.0.0 (conditions edit) (subst (FirstOfScope edit) is (scope_first edit)))) early shut err already
+  heap_brought is early shut err already = brought is_heap (Heap h) is refl (looks_for_heap h.0 (conditions edit) (subst (FirstOfScope edit) is (scope_first edit))) early shut err already
+
+  pub chunk_brought : (c : ChunkHandle) → scope_of edit ≡ Chunk h c → ((fault : Fault) → IsWrongBlock is_heap a.document h.0 fault → (result ≡ Err fault) × (b ≡ a)) → (is_heap a.document h.0 ≡ true → is_shut_out a h.0 ≡ true → (result ≡ Err CacheFull) × (b ≡ a))
+      → IfErr result (λ fault. lacks fault ⊎ (IsWrongBlock is_heap b.document h.0 fault ⊎ IsCacheFull a h.0 fault))
+      → (is_loaded a h.0 ≡ true → is_heap a.document h.0 ≡ true → IsOk result × (b.disk ≡ a.disk) × (b.document ≡ a.document)) → IsBrought lacks edit a b result
+  chunk_brought c is early shut err already =
+      brought is_heap (Chunk h c) is refl (looks_for_heap h.0 (conditions edit) (heap_begins h.0 c.0 (conditions edit) (subst (FirstOfScope edit) is (scope_first edit)))) early shut err already

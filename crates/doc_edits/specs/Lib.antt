@@ -1,7 +1,6 @@
 pub mod Planning
 pub mod Found
 pub mod Room
-pub mod Loading
 pub mod Building
 pub mod LookUps
 pub mod Marking

@@ -4,12 +4,14 @@ use Rattle.geos_model.specs.Refusal.{first_refusal}
 use Rattle.geos_model.specs.Document.{Document, handles_of, is_raw}
 use Rattle.geos_model.specs.Meaning.{conditions, effect}
 use Rattle.geos_model.specs.Cost.{cost, images_length}
-use Rattle.geos_model.specs.Machine.{kind_of}
+use Rattle.geos_model.specs.Machine.{edit_needs, kind_of}
+use Rattle.geos_model.specs.Scope.{Scope, Chain, scope_of}
 use Rattle.geos_model.specs.declared.fault.Fault.{Fault}
 use Rattle.geos_model.specs.declared.fault.Fault.TheVariants.{Memory, CacheFull, NoHandles, IsMap}
 use Rattle.geos_model.specs.declared.command.Done.{Done}
 use Rattle.geos_model.specs.declared.command.Edit.{Edit}
 use Rattle.geos_model.specs.declared.command.Edit.TheVariants as edits
+use Rattle.geos_model.specs.declared.handle.VmHandle.{VmHandle}
 use Rattle.geos_model.specs.declared.command.Kind.{Kind}
 use Rattle.geos_model.specs.declared.command.Kind.TheVariants.{Plain, In, Made, Freed}
 use Rattle.chunk_edits.specs.Patching.{total_given, total_taken}
@@ -25,6 +27,7 @@ use Rattle.vm_blocks.specs.Keeping.{KeepsBlocks, IsEnvironmentFault, IsHonest, i
 use Rattle.vm_blocks.specs.Kinds.{IsWrongBlock}
 use Rattle.vm_blocks.specs.Preparing.{CanCarryOut}
 use Rattle.vm_chains.specs.Answers.{IsChainFault}
+use Rattle.doc_edits.specs.Room.{has_no_room, ReadsNothing}
 
 -- what kind of step a change is
 abbrev pub kind_of_change : Change → Kind
@@ -81,6 +84,15 @@ IsChainEditFault (edits.CopyChain b) d fault = IsChainFault (IsWrongBlock is_raw
 IsChainEditFault (edits.FreeChain b) d fault = IsChainFault (IsWrongBlock is_raw d b.0) fault ⊎ (fault ≡ IsMap)
 IsChainEditFault edit d fault = ⊥
 
+-- whether it is an edit of a chain
+
+abbrev pub is_chain : Scope → Bool
+is_chain (Chain b) = true
+is_chain scope = false
+
+abbrev pub is_of_chain : Edit → Bool
+is_of_chain edit = is_chain (scope_of edit)
+
 -- a fault of what the call may lack, or the first refusal of an edit for which there may be no room
 abbrev pub RefusesEdit : (Fault → Type 0) → Bool → Edit → Document → Fault → Type 0
 RefusesEdit lacks no_room edit d fault =
@@ -106,3 +118,27 @@ pub record PlansAlongChain {S : Type 0} (facts : S → StoreFacts) (old new : Ca
   pub refusals : IfErr result (λ fault.
       RefusesEdit (IsEnvironmentFault facts old.disk.store new.disk.store) (is_full old) edit new.document fault
       ⊎ IsChainEditFault edit old.document fault)
+
+-- What planning any edit comes to. Over any store, but for one of a chain: it is planned in the document as it is held
+-- from then on, or refused there. Where there is no room for what it needs, nothing changes. Where it needs no body, or
+-- one that is in memory, or is refused for its block, no store is called and none lacked.
+pub record PlansEdit {S : Type 0} (facts : S → StoreFacts) (old new : CacheState S) (edit : Edit)
+    (result : Result (Change × Done) Fault) : Type 0 where
+  pub keeps : KeepsBlocks facts old new
+  pub planned : (is_of_chain edit ≡ true → IsHonest facts old.disk.store)
+      → MatchResult result (λ p. Plans edit new.document p.0 p.1)
+      (RefusesEdit (IsEnvironmentFault facts old.disk.store new.disk.store) (has_no_room old (edit_needs edit)) edit
+      new.document)
+  pub ready : IfOk result (λ p. CanCarryOut p.0 new)
+  pub room : IfOk result (λ _. has_no_room old (edit_needs edit) ≡ false)
+  pub shut : has_no_room old (edit_needs edit) ≡ true → (new ≡ old)
+      × IfErr result (λ fault. first_refusal ((CacheFull, true) ∷ conditions edit old.document) ≡ Some fault)
+  pub kind : IfOk result (λ p. kind_of_change p.0 ≡ kind_of edit)
+  pub alone : (b : VmHandle) → edit ≡ edits.FreeBlock b → IfOk result (λ p. freed_by p.0 ≡ b.0 ∷ [])
+  pub refusals : IfErr result (λ fault.
+      RefusesEdit (IsEnvironmentFault facts old.disk.store new.disk.store) (has_no_room old (edit_needs edit)) edit
+      new.document fault
+      ⊎ IsChainEditFault edit old.document fault)
+  pub plain : kind_of edit ≡ Plain → (new ≡ old) × IfErr result (RefusesInMemory edit new.document)
+  pub already : ReadsNothing old (edit_needs edit) (conditions edit old.document)
+      → (new.disk ≡ old.disk) × (new.document ≡ old.document) × IfErr result (RefusesInMemory edit old.document)

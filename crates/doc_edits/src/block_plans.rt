@@ -1,18 +1,66 @@
 //! Plans of edits of whole blocks: made, copied and freed, and their attributes.
 ghost use Rattle.std.specs.Prelude.{◌≡◌, [], ◌∷◌, true, IfOk, MatchResult};
+ghost use Rattle.geos_model.specs.Targets.{block_edit, new_block, setting};
 ghost use Rattle.geos_model.specs.declared.command.Edit.TheVariants as edits;
+ghost use Rattle.geos_model.specs.declared.handle.VmHandle.{VmHandle};
 ghost use Rattle.vm_blocks.specs.Keeping.{is_loaded};
 ghost use Rattle.doc_edits.specs.Planning.{freed_by, Plans, RefusesInMemory};
 
-use geos_model::{Attributes, Done, Fault, VmHandle};
+use geos_model::{Attributes, BlockEdit, Done, Fault, NewBlock, Setting, VmHandle};
 use raw_region::SIZE;
 use std::alloc::Global;
 use vm_blocks::{BlockImage, Change, FileBlocks, Members, imaged_block};
 use vm_store::Store;
 
+/// Of an edit that sets what needs no body.
+pub fn plan_setting<S: Store>(blocks: &FileBlocks<S>, set: Setting) -> Result<(Change, Done), Fault>
+    ensures { MatchResult result (λ p. Plans (setting set) blocks.now.document p.0 p.1)
+        (RefusesInMemory (setting set) blocks.now.document) }
+{
+    match set {
+        Setting::UserId(handle, user_id) => plan_set_user_id(blocks, handle, user_id),
+        Setting::Type(handle, heap_type) => plan_set_type(blocks, handle, heap_type),
+        Setting::MapBlock(handle) => plan_set_map(blocks, handle),
+    }
+}
+
+/// Of an edit that makes a block.
+pub fn plan_new_block<S: Store>(
+    alloc: Global,
+    blocks: &FileBlocks<S>,
+    new: NewBlock,
+) -> Result<(Change, Done), Fault>
+    ensures { MatchResult result (λ p. Plans (new_block new) blocks.now.document p.0 p.1)
+        (RefusesInMemory (new_block new) blocks.now.document) }
+{
+    match new {
+        NewBlock::Raw(user_id, size) => plan_new_raw(alloc, blocks, user_id, size),
+        NewBlock::Heap(user_id) => plan_new_heap(alloc, blocks, user_id),
+    }
+}
+
+/// Of an edit of a block as a whole, which is in memory.
+pub fn plan_block<S: Store>(
+    alloc: Global,
+    blocks: &FileBlocks<S>,
+    handle: VmHandle,
+    edit: BlockEdit,
+) -> Result<(Change, Done), Fault>
+    requires { is_loaded blocks.now handle.0 ≡ true }
+    ensures planned { MatchResult result (λ p. Plans (block_edit handle edit) blocks.now.document p.0 p.1)
+        (RefusesInMemory (block_edit handle edit) blocks.now.document) }
+    ensures alone { (b : VmHandle) → block_edit handle edit ≡ edits.FreeBlock b
+        → IfOk result (λ p. freed_by p.0 ≡ b.0 ∷ []) }
+{
+    match edit {
+        BlockEdit::Free => plan_free_block(alloc, blocks, handle),
+        BlockEdit::Copy => plan_copy_block(alloc, blocks, handle),
+    }
+}
+
 /// Of the edit that makes a raw block of zeros.
 #[tactic(auto, using(crate::proofs::BlockPlans::block_made))]
-pub fn plan_new_raw<S: Store>(
+fn plan_new_raw<S: Store>(
     alloc: Global,
     blocks: &FileBlocks<S>,
     user_id: u16,
@@ -39,7 +87,7 @@ pub fn plan_new_raw<S: Store>(
 
 /// Of the edit that makes a block with an empty heap.
 #[tactic(auto, using(crate::proofs::BlockPlans::block_made))]
-pub fn plan_new_heap<S: Store>(
+fn plan_new_heap<S: Store>(
     alloc: Global,
     blocks: &FileBlocks<S>,
     user_id: u16,
@@ -61,7 +109,7 @@ pub fn plan_new_heap<S: Store>(
 }
 
 /// Of the edit that frees a block, which is in memory.
-pub fn plan_free_block<S: Store>(
+fn plan_free_block<S: Store>(
     alloc: Global,
     blocks: &FileBlocks<S>,
     handle: VmHandle,
@@ -80,7 +128,7 @@ pub fn plan_free_block<S: Store>(
 }
 
 /// Of the edit that makes a block with the body and the attributes of another, which is in memory.
-pub fn plan_copy_block<S: Store>(
+fn plan_copy_block<S: Store>(
     alloc: Global,
     blocks: &FileBlocks<S>,
     from: VmHandle,
@@ -99,7 +147,7 @@ pub fn plan_copy_block<S: Store>(
 }
 
 /// Of the edit that sets the user ID of a block.
-pub fn plan_set_user_id<S: Store>(
+fn plan_set_user_id<S: Store>(
     blocks: &FileBlocks<S>,
     handle: VmHandle,
     user_id: u16,
@@ -120,7 +168,7 @@ pub fn plan_set_user_id<S: Store>(
 }
 
 /// Of the edit that sets the type of a heap.
-pub fn plan_set_type<S: Store>(
+fn plan_set_type<S: Store>(
     blocks: &FileBlocks<S>,
     handle: VmHandle,
     heap_type: u16,
@@ -144,10 +192,7 @@ pub fn plan_set_type<S: Store>(
 }
 
 /// Of the edit that sets the map block, or with 0 that there is none.
-pub fn plan_set_map<S: Store>(
-    blocks: &FileBlocks<S>,
-    handle: VmHandle,
-) -> Result<(Change, Done), Fault>
+fn plan_set_map<S: Store>(blocks: &FileBlocks<S>, handle: VmHandle) -> Result<(Change, Done), Fault>
     ensures { MatchResult result (λ p. Plans (edits.SetMap handle) blocks.now.document p.0 p.1)
         (RefusesInMemory (edits.SetMap handle) blocks.now.document) }
 {

@@ -1,16 +1,32 @@
 //! Plans of edits of chains: copied and freed whole.
+ghost use Rattle.geos_model.specs.Targets.{chain_edit};
 ghost use Rattle.geos_model.specs.declared.command.Edit.TheVariants as edits;
 ghost use Rattle.doc_edits.specs.Planning.{PlansAlongChain};
 
 use crate::room::test_chain;
-use geos_model::{Done, Fault, VmHandle};
+use geos_model::{ChainEdit, Done, Fault, VmHandle};
 use std::alloc::Global;
 use vm_blocks::{Change, FileBlocks};
 use vm_chains::{copy_plan, free_plan};
 use vm_store::Store;
 
+/// Of an edit of a chain.
+pub fn plan_chain<S: Store>(
+    alloc: Global,
+    blocks: &mut FileBlocks<S>,
+    root: VmHandle,
+    edit: ChainEdit,
+) -> Result<(Change, Done), Fault>
+    ensures { PlansAlongChain S.facts blocks.old blocks.new (chain_edit root edit) result }
+{
+    match edit {
+        ChainEdit::Copy => plan_copy_chain(alloc, blocks, root),
+        ChainEdit::Free => plan_free_chain(alloc, blocks, root),
+    }
+}
+
 /// Of the edit that copies a chain. CacheFull, after a refusal of the root, where each frame has a locked block.
-pub fn plan_copy_chain<S: Store>(
+fn plan_copy_chain<S: Store>(
     alloc: Global,
     blocks: &mut FileBlocks<S>,
     root: VmHandle,
@@ -25,7 +41,7 @@ pub fn plan_copy_chain<S: Store>(
 }
 
 /// Of the edit that frees a chain. CacheFull as there.
-pub fn plan_free_chain<S: Store>(
+fn plan_free_chain<S: Store>(
     alloc: Global,
     blocks: &mut FileBlocks<S>,
     root: VmHandle,

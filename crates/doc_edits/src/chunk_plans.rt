@@ -2,69 +2,77 @@
 ghost use Rattle.std.specs.Prelude.{◌≡◌, ◌<◌, ◌≤◌, true, false, IsTrue, MatchOption, MatchResult, None, Some, length};
 ghost use Rattle.std.specs.FinMap.{contains_key, get};
 ghost use Rattle.geos_model.specs.Document.{is_heap};
-ghost use Rattle.geos_model.specs.Heap.{fits_with, fits_new, is_chunk_handle, next_chunk};
+ghost use Rattle.geos_model.specs.Heap.{chunk_bytes, fits_with, fits_new, is_chunk_handle, next_chunk};
+ghost use Rattle.geos_model.specs.Targets.{array_edit, byte_edit, new_chunk};
 ghost use Rattle.geos_model.specs.declared.command.Edit.TheVariants as edits;
+ghost use Rattle.chunk_edits.specs.Patching.{patched};
 ghost use Rattle.vm_blocks.specs.Keeping.{is_loaded};
 ghost use Rattle.vm_blocks.specs.Allowing.{AllowsNewChunk};
 ghost use Rattle.vm_blocks.specs.Changes.{content_bytes};
-ghost use Rattle.doc_edits.specs.Building.{chunk_after, place_of, new_in, IsBuilt};
+ghost use Rattle.vm_blocks.specs.declared.change.PartChange.TheVariants as parts;
+ghost use Rattle.doc_edits.specs.Building.{IsBuilt};
 ghost use Rattle.doc_edits.specs.Planning.{Plans, RefusesInMemory};
 
-use crate::building::{build, build_chunk};
+use crate::building::{build_chunk, build_patch, build_splice};
 use crate::found::{bytes_in, heap_at, known_in};
-use chunk_edits::{Direction, copied};
-use geos_model::{ChunkHandle, Done, Edit, Fault, VmHandle};
-use lmem_heap::{Heap, KnownBytes};
+use chunk_edits::{Direction, Patch, copied};
+use geos_model::{ArrayEdit, ByteEdit, ChunkHandle, Done, Fault, NewChunk, VmHandle};
+use lmem_heap::Heap;
 use std::alloc::Global;
 use vm_blocks::{Change, Content, FileBlocks, PartChange};
 use vm_store::Store;
 
-/// Of an edit of a chunk's bytes: Full where the heap has no room for them.
-pub fn plan_in_chunk<S: Store>(
+/// Of an edit of a chunk's bytes as such: Full where the heap has no room for them.
+pub fn plan_bytes<S: Store>(
     alloc: Global,
     blocks: &FileBlocks<S>,
     handle: VmHandle,
     chunk: ChunkHandle,
-    edit: &Edit,
+    edit: ByteEdit<'_>,
 ) -> Result<(Change, Done), Fault>
     requires loaded { is_loaded blocks.now handle.0 ≡ true }
     requires heap { is_heap blocks.now.document handle.0 ≡ true }
-    requires place { place_of edit.now ≡ Some (handle, chunk) }
-    ensures { MatchResult result (λ p. Plans edit.now blocks.now.document p.0 p.1)
-        (RefusesInMemory edit.now blocks.now.document) }
+    ensures { MatchResult result (λ p. Plans (byte_edit handle chunk edit.entry) blocks.now.document p.0 p.1)
+        (RefusesInMemory (byte_edit handle chunk edit.entry) blocks.now.document) }
+{
+    let heap = heap_at(blocks, handle);
+    bytes_in(heap, chunk)?;
+    let splice = build_splice(alloc, heap, chunk, edit)?;
+    Ok((
+        Change::Part(handle, PartChange::Chunk(chunk, splice)),
+        Done::Nothing,
+    ))
+}
+
+/// Of an edit of the array in a chunk: Full where the heap has no room for what it makes.
+pub fn plan_array<S: Store>(
+    alloc: Global,
+    blocks: &FileBlocks<S>,
+    handle: VmHandle,
+    chunk: ChunkHandle,
+    edit: ArrayEdit<'_>,
+) -> Result<(Change, Done), Fault>
+    requires loaded { is_loaded blocks.now handle.0 ≡ true }
+    requires heap { is_heap blocks.now.document handle.0 ≡ true }
+    ensures { MatchResult result (λ p. Plans (array_edit handle chunk edit.entry) blocks.now.document p.0 p.1)
+        (RefusesInMemory (array_edit handle chunk edit.entry) blocks.now.document) }
 {
     let heap = heap_at(blocks, handle);
     let bytes = known_in(heap, chunk)?;
-    let (part, done) = build(alloc, heap, chunk, &bytes, edit)?;
-    if !has_room(heap, chunk, &bytes, &part) {
+    let (patch, done) = build_patch(alloc, &bytes, edit)?;
+    if !has_room(heap, chunk, &patch) {
         return Err(Fault::Full);
     }
-    Ok((Change::Part(handle, part), done))
+    Ok((Change::Part(handle, PartChange::Patch(chunk, patch)), done))
 }
 
-/// Whether the heap has room for what a change of a part makes of the bytes of a chunk.
-fn has_room(heap: &Heap, chunk: ChunkHandle, bytes: &KnownBytes<'_>, part: &PartChange) -> bool
+/// Whether the heap has room for what a patch makes of the bytes of a chunk.
+fn has_room(heap: &Heap, chunk: ChunkHandle, patch: &Patch) -> bool
     requires live { IsTrue (contains_key heap.now.chunks chunk.0) }
-    requires built { IsBuilt part.now bytes.now }
-    ensures { result ≡ fits_with heap.now.chunks chunk.0 (chunk_after part.now bytes.now) }
+    requires built { IsBuilt (parts.Patch chunk patch.now) (chunk_bytes heap.now.chunks chunk.0) }
+    ensures { result ≡ fits_with heap.now.chunks chunk.0 (patched patch.now (chunk_bytes heap.now.chunks chunk.0)) }
 {
-    heap.fits_resize(chunk, size_after(bytes, part) as u32)
-}
-
-/// How many bytes a change of a part leaves of those of its chunk.
-fn size_after(bytes: &KnownBytes<'_>, part: &PartChange) -> usize
-    requires { IsBuilt part.now bytes.now }
-    ensures { result ≡ length (chunk_after part.now bytes.now) }
-{
-    match part {
-        PartChange::Chunk(_, splice) => {
-            bytes.bytes().len() - splice.old().len() + splice.new().len()
-        }
-        PartChange::Patch(_, patch) => patch.size_before(Direction::Backwards),
-        PartChange::Raw(_) | PartChange::ChunkIn(_, _) | PartChange::ChunkOut(_, _) => {
-            unreachable!()
-        }
-    }
+    heap.fits_resize(chunk, patch.size_before(Direction::Backwards) as u32)
 }
 
 /// Of an edit that makes a chunk: Full where the heap has no handle or no room for it.
@@ -72,16 +80,15 @@ pub fn plan_new_chunk<S: Store>(
     alloc: Global,
     blocks: &FileBlocks<S>,
     handle: VmHandle,
-    edit: &Edit,
+    new: NewChunk,
 ) -> Result<(Change, Done), Fault>
     requires loaded { is_loaded blocks.now handle.0 ≡ true }
     requires heap { is_heap blocks.now.document handle.0 ≡ true }
-    requires new { new_in edit.now ≡ Some handle }
-    ensures { MatchResult result (λ p. Plans edit.now blocks.now.document p.0 p.1)
-        (RefusesInMemory edit.now blocks.now.document) }
+    ensures { MatchResult result (λ p. Plans (new_chunk handle new) blocks.now.document p.0 p.1)
+        (RefusesInMemory (new_chunk handle new) blocks.now.document) }
 {
     let heap = heap_at(blocks, handle);
-    let content = build_chunk(alloc, edit)?;
+    let content = build_chunk(alloc, new)?;
     match free_place(heap, &content) {
         Some(chunk) => Ok((
             Change::Part(handle, PartChange::ChunkIn(chunk, content)),

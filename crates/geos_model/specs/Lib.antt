@@ -17,6 +17,7 @@ pub mod FileLaws
 pub mod Cost
 pub mod Reply
 pub mod Scope
+pub mod Targets
 pub mod Machine
 pub mod Laws
 pub mod EditLaws

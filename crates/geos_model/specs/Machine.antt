@@ -7,7 +7,8 @@ use Rattle.geos_model.specs.Refusal.{Conditions, first_refusal}
 use Rattle.geos_model.specs.Document.{Document, empty_document, IsValid, is_live, is_raw, chunks_of, raw_bytes_of}
 use Rattle.geos_model.specs.Meaning.{conditions, effect, on_block}
 use Rattle.geos_model.specs.Cost.{cost}
-use Rattle.geos_model.specs.Scope.{scope_of}
+use Rattle.geos_model.specs.Scope.{Scope, scope_of}
+use Rattle.geos_model.specs.Scope as scopes
 use Rattle.geos_model.specs.Reply.{Reply, Accepted, Refused, NumberIs, reply_of_done, look_up_conditions, look_up}
 use Rattle.geos_model.specs.declared.fault.Fault.{Fault}
 use Rattle.geos_model.specs.declared.fault.Fault.TheVariants.{Memory, File, BadCommand, Locked, NotLocked, LockLimit, CacheFull, NothingToUndo, NothingToRedo, NoTarget, Worn, GroupOpen, NoGroup}
@@ -17,8 +18,6 @@ use Rattle.geos_model.specs.declared.command.Edit.{Edit}
 use Rattle.geos_model.specs.declared.command.Edit.TheVariants as edits
 use Rattle.geos_model.specs.declared.command.Command.{Command}
 use Rattle.geos_model.specs.declared.command.Command.TheVariants as commands
-use Rattle.geos_model.specs.declared.scope.Scope.{Scope}
-use Rattle.geos_model.specs.declared.scope.Scope.TheVariants as scopes
 
 -- a document that undo or redo gives back, with what kind of step lies between, and what that is charged
 pub record UndoStep : Type 0 where

@@ -1,8 +1,19 @@
 -- Which part of a document an edit is of: the block and the chunk that it names, or that it makes one.
 use Rattle.geos_model.specs.declared.command.Edit.{Edit}
 use Rattle.geos_model.specs.declared.command.Edit.TheVariants as edits
-use Rattle.geos_model.specs.declared.scope.Scope.{Scope}
-use Rattle.geos_model.specs.declared.scope.Scope.TheVariants.{Plain, New, Block, Raw, Heap, Chunk, Chain}
+use Rattle.geos_model.specs.declared.handle.ChunkHandle.{ChunkHandle}
+use Rattle.geos_model.specs.declared.handle.VmHandle.{VmHandle}
+
+-- No body: a user ID, a type or the map block. A new block. A block as a whole, of either kind. The bytes of a raw
+-- block. A heap, in which a chunk is made. A chunk of a heap. The blocks of a chain, by its root.
+pub data Scope : Type 0 where
+  Plain : Scope
+  New : Scope
+  Block : (block : VmHandle) → Scope
+  Raw : (block : VmHandle) → Scope
+  Heap : (block : VmHandle) → Scope
+  Chunk : (block : VmHandle) (chunk : ChunkHandle) → Scope
+  Chain : (root : VmHandle) → Scope
 
 abbrev pub scope_of : Edit → Scope
 scope_of (edits.SetUserId b uid) = Plain

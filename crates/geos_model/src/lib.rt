@@ -10,7 +10,7 @@ mod handle;
 mod law;
 mod limit;
 mod reply;
-mod scope;
+mod target;
 
 pub use block::Attributes;
 pub use bytes::{Bytes, Chunks};
@@ -28,4 +28,7 @@ pub use limit::{
     PAGE_LIMIT_OF_VERSION_1,
 };
 pub use reply::Reply;
-pub use scope::Scope;
+pub use target::{
+    ArrayEdit, BlockEdit, ByteEdit, ChainEdit, ChunkArrayEdit, ChunkEdit, ElementArrayEdit,
+    NameArrayEdit, NewBlock, NewChunk, RawEdit, Setting, Target,
+};

@@ -1,7 +1,7 @@
 -- An edit that was made, or refused, is a step of the machine.
 use Rattle.std.proofs.Common.{◌≡◌, ◌⊎◌, ◌≤◌, Result, Ok, Err, IsOk, ℕ, Bool, true, false, IsTrue, All, List, [], ◌∷◌, ◌++◌, map, length, Option, Some, None, inl, inr, refl, sym, ap, subst, ◌∙◌, arith, ltb-false}
 use Rattle.geos_model.specs.Document.{Document}
-use Rattle.std.specs.Option.{option_map_or, IfSome}
+use Rattle.std.specs.Option.{option_map_or}
 use Rattle.std.specs.Prelude.{◌≢◌}
 use Rattle.std.specs.Result.{IsErrAnd}
 use Rattle.std.proofs.lemmas.Bool.{true≢false}
@@ -12,6 +12,7 @@ use Rattle.geos_model.specs.Machine.{Machine, Step, Answers, Needs, NoBody, edit
 use Rattle.geos_model.specs.Meaning.{conditions, effect}
 use Rattle.geos_model.specs.Refusal.{Conditions, first_refusal}
 use Rattle.geos_model.specs.Reply.{Refused, reply_of_done}
+use Rattle.geos_model.specs.Targets.{array_edit}
 use Rattle.geos_model.specs.declared.command.Command.TheVariants as commands
 use Rattle.geos_model.specs.declared.command.Done.{Done}
 use Rattle.geos_model.specs.declared.command.Edit.{Edit}
@@ -20,7 +21,9 @@ use Rattle.geos_model.specs.declared.command.Kind.{Kind}
 use Rattle.geos_model.specs.declared.command.Kind.TheVariants.{Plain, In, Made, Freed, Group}
 use Rattle.geos_model.specs.declared.fault.Fault.{Fault}
 use Rattle.geos_model.specs.declared.fault.Fault.TheVariants.{CacheFull, Locked, Memory}
+use Rattle.geos_model.specs.declared.handle.ChunkHandle.{ChunkHandle}
 use Rattle.geos_model.specs.declared.handle.VmHandle.{VmHandle}
+use Rattle.geos_model.specs.declared.target.ArrayEdit.{ArrayEdit}
 use Rattle.vm_store.specs.Facts.{StoreFacts}
 use Rattle.vm_file.specs.Disk.{SameUnlessCorrupt}
 use Rattle.vm_file.proofs.PassingLemmas.{KeepsCommitted-trans, SameUnlessCorrupt-trans}
@@ -34,12 +37,10 @@ use Rattle.vm_blocks.specs.declared.change.Change.TheVariants as changes
 use Rattle.chunk_edits.specs.declared.direction.Direction.TheVariants.{Backwards}
 use Rattle.vm_blocks.proofs.KeepingLaws.{honest-steady, keeps-passes, keeps-unless_corrupt, keeps-frames, keeps-locks, lacks-damaged, lacks-later, loaded-resident, resident-open}
 use Rattle.vm_blocks.proofs.Preparing.{made_on}
-use Rattle.doc_edits.specs.Building.{is_chain, is_of_chain}
-use Rattle.doc_edits.specs.Marking.{array_place, IsJustEdited}
-use Rattle.doc_edits.specs.declared.marking.ArrayPlace.{ArrayPlace}
-use Rattle.doc_edits.proofs.EditedArrays.{place_scope}
-use Rattle.doc_edits.specs.Planning.{freed_by, kind_of_change, Plans, RefusesEdit, RefusesInMemory}
+use Rattle.doc_edits.specs.Marking.{IsJustEdited}
+use Rattle.doc_edits.specs.Planning.{freed_by, is_chain, is_of_chain, kind_of_change, Plans, RefusesEdit, RefusesInMemory}
 use Rattle.doc_edits.specs.Room.{has_no_room, ReadsNothing}
+use Rattle.doc_edits.proofs.Targets.{array_scope}
 use Rattle.undo_log.specs.Locking.{IsBarred, bars}
 use Rattle.undo_log.specs.Editing.{EditsInMemory}
 use Rattle.undo_log.specs.Making.{IsEditApplied}
@@ -309,16 +310,14 @@ carried_fault (Ok x) P fault is holds = absurd is
 carried_fault (Err e) P fault is holds = subst P (sym is) holds
 
 -- An edit of an array that was made leaves one: the document is what it makes of another.
-pub leaves_array : {S : Type 0} (facts : S → StoreFacts) (edit : Edit) (old new : CacheState S) (c : Change) (done : Done) → IsEditApplied facts edit old new c done → IfSome (array_place edit) (IsJustEdited edit new)
-leaves_array facts edit old new c done applied = by_place (array_place edit) refl
-  where
-    by_place : (o : Option ArrayPlace) → array_place edit ≡ o → IfSome o (IsJustEdited edit new)
-    by_place None is = tt
-    by_place (Some p) is =
-        let of = place_scope edit p is in
-        let no_chain : is_of_chain edit ≡ false = ap is_chain of.0 in
-        let meant = applied.meant (λ chain. absurd (true≢false (sym chain ∙ no_chain))) in
-        record {
-          loaded = made_at_hand facts c (kind_of edit) new applied.kind applied.makes.in_memory p.block of.1;
-          made = record { before = meant.loaded; accepted = meant.plans.accepted; document = meant.document (λ made. let no : In p.block ≡ Made = sym of.1 ∙ made in absurd (cc no)) };
-        }
+pub leaves_array : {S : Type 0} (facts : S → StoreFacts) (edit : Edit) (old new : CacheState S) (c : Change) (done : Done) → IsEditApplied facts edit old new c done
+    → (b : VmHandle) (k : ChunkHandle) (array : ArrayEdit) → edit ≡ array_edit b k array → IsJustEdited edit b new
+leaves_array facts edit old new c done applied b k array is =
+    let of = array_scope b k array in
+    let inside : kind_of edit ≡ In b = ap kind_of is ∙ of.1 in
+    let no_chain : is_of_chain edit ≡ false = ap is_of_chain is ∙ ap is_chain of.0 in
+    let meant = applied.meant (λ chain. absurd (true≢false (sym chain ∙ no_chain))) in
+    record {
+      loaded = made_at_hand facts c (kind_of edit) new applied.kind applied.makes.in_memory b inside;
+      made = record { before = meant.loaded; accepted = meant.plans.accepted; document = meant.document (λ made. let no : In b ≡ Made = sym inside ∙ made in absurd (cc no)) };
+    }

@@ -11,8 +11,7 @@ use Rattle.vm_file.specs.Disk.{SameUnlessCorrupt}
 use Rattle.vm_blocks.specs.State.{CacheState}
 use Rattle.vm_blocks.specs.Preparing.{CanApplyByHandle, IsApplied}
 use Rattle.vm_blocks.specs.declared.change.Change.{Change}
-use Rattle.doc_edits.specs.Building.{is_of_chain}
-use Rattle.doc_edits.specs.Planning.{kind_of_change, Plans}
+use Rattle.doc_edits.specs.Planning.{is_of_chain, kind_of_change, Plans}
 use Rattle.doc_edits.specs.Room.{has_no_room}
 
 -- What a change means that was made, over any store: the edit, of the document as it was held once its block was

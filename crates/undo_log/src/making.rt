@@ -13,7 +13,7 @@ ghost use Rattle.undo_log.specs.Locking.{bars};
 ghost use Rattle.undo_log.specs.Making.{IsEditApplied};
 
 use doc_edits::{mark_edited, plan};
-use geos_model::{Done, Edit, Fault};
+use geos_model::{BlockEdit, Done, Edit, Fault, Target};
 use std::alloc::Global;
 use vm_blocks::{Change, Direction, FileBlocks};
 use vm_store::Store;
@@ -23,9 +23,9 @@ use vm_store::Store;
 pub fn is_barred<S: Store>(blocks: &FileBlocks<S>, edit: &Edit) -> bool
     ensures { result ≡ bars blocks.now.resident edit.now }
 {
-    match edit {
-        Edit::FreeBlock(block) => blocks.locks(*block) > 0,
-        Edit::CopyChain(_) | Edit::FreeChain(_) => blocks.has_locks(),
+    match edit.target() {
+        Target::Block(block, BlockEdit::Free) => blocks.locks(block) > 0,
+        Target::Chain(_, _) => blocks.has_locks(),
         _ => false,
     }
 }
