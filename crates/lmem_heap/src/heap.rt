@@ -1,5 +1,5 @@
 //! A heap of chunks in a region, seen as finite maps from chunk handles to bytes and to where they lie.
-ghost use Rattle.std.specs.Prelude.{◌≡◌, ◌⊎◌, ◌↔◌, ◌+◌, ◌*◌, ◌≤◌, ◌<◌, ℕ, true, Some, None, IsTrue, IfOk, IfErr, MatchOption, is_some, nat_lt, length, map, drop, replicate};
+ghost use Rattle.std.specs.Prelude.{◌≡◌, ◌⊎◌, ◌+◌, ◌*◌, ◌≤◌, ◌<◌, ℕ, true, Some, None, IsTrue, IfOk, IfErr, MatchOption, is_some, nat_lt, length, map, drop, replicate};
 ghost use Rattle.std.specs.Borrow.{sem};
 ghost use Rattle.std.specs.List.{splice};
 ghost use Rattle.std.specs.Option.{option_map, option_copied, IfSome};
@@ -9,7 +9,7 @@ ghost use Rattle.geos_model.specs.Bytes.{resized};
 ghost use Rattle.geos_model.specs.Image.{image};
 ghost use Rattle.geos_model.specs.declared.command.Body.TheVariants as bodies;
 ghost use Rattle.geos_model.proofs.Table.{first_gap};
-ghost use Rattle.heap_images.specs.HeapImage.{IsHeapImage, HasHeapTable};
+ghost use Rattle.heap_images.specs.HeapImage.{HasHeapTable};
 ghost use Rattle.lmem_heap.specs.Known.{is_array_of};
 
 use crate::image::{image_len, push_chunks, push_sizes, unpack};
@@ -326,13 +326,6 @@ impl Heap {
         push_sizes(&self.table, &mut image)?;
         push_chunks(&self.table, &mut image)?;
         Ok(image)
-    }
-
-    /// Whether the bytes are the image of a heap that fits, which `from_image` would make.
-    pub fn is_image(bytes: &[u8]) -> bool
-        ensures { IsTrue result ↔ IsHeapImage bytes.now }
-    {
-        heap_slots(bytes).is_some()
     }
 
     /// The heap of which the bytes are the image. Damaged where they are the image of no heap that fits.

@@ -9,7 +9,6 @@ ghost use Rattle.vm_file.specs.Opened.{IsImageOf};
 
 use crate::table::Place;
 use geos_model::{Extent, Fault};
-use lmem_heap::Heap;
 use std::alloc::Global;
 use vm_format::{LONGEST_IMAGE, read_extent};
 use vm_store::Store;
@@ -26,7 +25,7 @@ pub fn image_kind(bytes: &[u8]) -> Option<bool>
     }
     let is_heap = bytes[0] != RAW;
     let is_image = if is_heap {
-        Heap::is_image(bytes)
+        heap_images::is_image(bytes)
     } else {
         bytes.len() <= LONGEST_IMAGE
     };
