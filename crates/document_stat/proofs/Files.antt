@@ -1,20 +1,18 @@
 -- The documents of the slot that counts, and why a file has none.
-use Rattle.std.proofs.Common.{◌≡◌, ◌<◌, ◌≤◌, ◌==◌, ℕ, Bool, true, false, List, Option, Some, None, Result, Ok, Err, length, refl, sym, ap, ap₂, ◌∙◌, inl, inr}
-use Rattle.std.specs.Prelude.{if◌then◌else◌, nat_lt, MatchOption, ◌⊎◌}
+use Rattle.std.proofs.Common.{◌≡◌, ◌<◌, ◌≤◌, ℕ, List, Option, Some, None, Result, Ok, Err, length, refl, sym, ap, ap₂, ◌∙◌, inl, inr}
+use Rattle.std.specs.Prelude.{MatchOption, ◌⊎◌}
 use Rattle.std.specs.Option.{option_and_then, option_map}
-use Rattle.std.specs.Result.{result_map_both}
 use Rattle.std.specs.FinMap.{from_entries}
 use Rattle.std.proofs.lemmas.Bool.{cond-true, cond-false, le-ltb, lt-ltb}
 use Rattle.geos_model.specs.Document.{Document}
-use Rattle.geos_model.specs.File.{Directory, blocks_of_entries, both, counting_slot, directory_of, document_at, document_of, open_slot, pair_of_counting, stands}
+use Rattle.geos_model.specs.File.{Directory, blocks_of_entries, both, counting_slot, directory_of, document_at, document_of, open_slot, pair_of, pair_of_counting, stands}
 use Rattle.geos_model.specs.declared.fault.Fault.{Fault}
 use Rattle.geos_model.specs.declared.fault.Fault.TheVariants.{NotDocument, Damaged}
 use Rattle.geos_model.specs.declared.file.Extent.{Extent}
 use Rattle.geos_model.specs.declared.file.Slot.{Slot}
 use Rattle.vm_format.specs.Reading.{IsReadRefusal, IsResourceFault}
-use Rattle.vm_format.specs.Slots.{chosen_by, header_verdict}
 use Rattle.file_report.specs.Pages.{file_usages, slot_usages}
-use Rattle.file_report.proofs.SlotLemmas.{pair_right, pair_wrong}
+use Rattle.file_report.proofs.SlotLemmas.{pair_right}
 use Rattle.document_stat.specs.Counted.{Blocks}
 use Rattle.document_stat.specs.Files.{IsChosen, IsCountingSlot, IsDocumentStat, IsSavedStat, counting_usages}
 use Rattle.document_stat.specs.declared.counting.CountingSlot.{CountingSlot}
@@ -37,8 +35,8 @@ refused_short file short = cond-true _ _ _ (lt-ltb (length file) 1024 short)
 pub refused_slots : (file : List ℕ) (fault : Fault) → 1024 ≤ length file → counting_slot (open_slot file 0) (open_slot file 1) ≡ Err fault → stands file ≡ Err fault
 refused_slots file fault long is = stands_counting file (Err fault) long is
 
-pub refused_header : (file : List ℕ) (s : Slot) (fault : Fault) → 1024 ≤ length file → counting_slot (open_slot file 0) (open_slot file 1) ≡ Ok s → header_verdict s ≡ Err fault → stands file ≡ Err fault
-refused_header file s fault long is wrong = stands_counting file (Ok s) long is ∙ pair_wrong file s fault wrong
+pub refused_header : (file : List ℕ) (s : Slot) (fault : Fault) → 1024 ≤ length file → counting_slot (open_slot file 0) (open_slot file 1) ≡ Ok s → pair_of file s ≡ Err fault → stands file ≡ Err fault
+refused_header file s fault long is wrong = stands_counting file (Ok s) long is ∙ wrong
 
 first_none : (first second : Option Document) → first ≡ None → both first second ≡ Err Damaged
 first_none first second none = ap (λ (d : Option Document). both d second) none
