@@ -12,6 +12,7 @@ use Rattle.geos_model.proofs.HeapTables.{image-table, trimmed-nil}
 use Rattle.geos_model.proofs.Images.{body_read-body, length_image_body_le}
 use Rattle.geos_model.proofs.Tables.{table_map-nil}
 use Rattle.geos_model.specs.File.{longest_image}
+use Rattle.vm_format.proofs.StoredDirectoryLemmas.{none_if}
 use Rattle.vm_file.specs.Images.{IsImage}
 use Rattle.geos_model.specs.Bytes.{same_bytes}
 use Rattle.std.proofs.lemmas.Bool.{cond-true}
