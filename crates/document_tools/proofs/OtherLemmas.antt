@@ -13,7 +13,7 @@ use Rattle.vm_store.specs.History.{History, facts_of}
 use Rattle.vm_file.specs.Calls.{IsResourceFault}
 use Rattle.vm_file.specs.Disk.{FileState}
 use Rattle.vm_file.specs.Opened.{OnlyReadsStore}
-use Rattle.vm_file.proofs.LooksLemmas.{held_before, raised_later}
+use Rattle.vm_format.proofs.LooksLemmas.{held_before, raised_later}
 use Rattle.geos_shell.specs.Streams.{Writes}
 use Rattle.file_report.specs.Checked.{IsReport, counting_between, counting_number}
 use Rattle.file_report.specs.declared.checking.Report.{Report}

@@ -1,5 +1,5 @@
 use Rattle.std.proofs.Common.{Err, ap, inl, inr, refl}
-use Rattle.vm_file.proofs.LooksLemmas.{OnlyReadsStore-trans}
+use Rattle.vm_format.proofs.LooksLemmas.{OnlyReadsStore-trans}
 use Rattle.document_tools.specs.OtherSlots.{FailsLook}
 use Rattle.document_tools.specs.declared.obstacle.Obstacle.TheVariants.{Unopened}
 use Rattle.document_tools.proofs.Looked.{unlooked_at}
