@@ -80,11 +80,11 @@ exclusive old new x name is adds =
     tied true true c e = cc e
 
 -- a flag, as it is read
-pub set_told : (f : Found) (name : Text) (o : Option Bool) → (one_text f name ≡ None → o ≡ None) → ((t : Text) → one_text f name ≡ Some t → ReadsOne ParsesBool t o)
+pub set_told : (E : Type 0) (f : Found) (name : Text) (o : Option Bool) → (one_text f name ≡ None → o ≡ None) → ((t : Text) → one_text f name ≡ Some t → ReadsOne {T = Bool} {E = E} ParsesBool t o)
     → unwrap_or o false ≡ has_flag name (rows_of f)
-set_told f name o none some = by (one_text f name) refl ∙ ap (λ (t : Option Text). option_map_or (λ t. bytes_eq t (codes "true")) t false) (one_text-rows f name)
+set_told E f name o none some = by (one_text f name) refl ∙ ap (λ (t : Option Text). option_map_or (λ t. bytes_eq t (codes "true")) t false) (one_text-rows f name)
   where
-    read : {E : Type 0} (t : Text) (o : Option Bool) → ReadsOne {T = Bool} {E = E} ParsesBool t o → unwrap_or o false ≡ bytes_eq t (codes "true")
+    read : (t : Text) (o : Option Bool) → ReadsOne {T = Bool} {E = E} ParsesBool t o → unwrap_or o false ≡ bytes_eq t (codes "true")
     read t (Some true) is = sym ((bytes_eq-Decides t (codes "true")).1 is)
     read t (Some false) is = rw is refl
     read t None is = other (bytes_eq t (codes "true")) refl
