@@ -1,13 +1,12 @@
 //! The program that looks at document files: what it is asked for, on standard output. It also makes one by its script.
 #![tactic(auto)]
 
-mod command_line;
 mod new_files;
 mod read_only;
 mod run;
 
-use crate::command_line::read_command_line;
 use crate::run::run;
+use document_commands::{NoRequest as NoCommand, request};
 use document_tools::NoRequest;
 use std::process::ExitCode;
 use std::{env, io};
@@ -21,10 +20,19 @@ fn words(rt: &HostRuntime) -> io::Result<Vec<String>> {
     Ok(words)
 }
 
+/// Why the words ask for nothing, as it is told.
+fn told(none: NoCommand) -> NoRequest {
+    match none {
+        NoCommand::Told(text) => NoRequest::Told(text),
+        NoCommand::Usage(text) => NoRequest::Usage(text),
+        NoCommand::Memory => NoRequest::Memory,
+    }
+}
+
 fn main(rt: HostRuntime) -> ExitCode {
     let words = words(&rt);
     let asked = match &words {
-        Ok(words) => read_command_line(rt.alloc(), words),
+        Ok(words) => request(rt.alloc(), words).map_err(told),
         Err(_) => Err(NoRequest::Unread),
     };
     let status = match asked {

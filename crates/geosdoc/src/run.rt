@@ -1,13 +1,13 @@
 //! Hands what was asked for to its tool, with the files and streams of the machine.
-use crate::command_line::{self, Asked};
 use crate::new_files::HostMaker;
 use crate::read_only::read_only_files;
+use document_commands::{self as commands, Asked};
 use document_tools::{Dumped, Form, Machine, Picture, Request};
 use std::io;
 use vm_store::machine_files;
 
 /// Carries out what was asked for, and gives the exit status.
-pub fn run(rt: &HostRuntime, asked: command_line::Request<'_>) -> u8 {
+pub fn run(rt: &HostRuntime, asked: commands::Request<'_>) -> u8 {
     let (request, file) = request_of(asked);
     let mut machine = Machine {
         viewer: read_only_files(rt),
@@ -25,22 +25,22 @@ pub fn run(rt: &HostRuntime, asked: command_line::Request<'_>) -> u8 {
     )
 }
 
-fn request_of(asked: command_line::Request<'_>) -> (Request, &str) {
+fn request_of(asked: commands::Request<'_>) -> (Request, &str) {
     match asked {
-        command_line::Request::Check(file) => (Request::Check, file),
-        command_line::Request::Look(asked, file) => (look_of(asked), file),
-        command_line::Request::Restore(file) => (Request::Restore, file),
+        commands::Request::Check(file) => (Request::Check, file),
+        commands::Request::Look(asked, file) => (look_of(asked), file),
+        commands::Request::Restore(file) => (Request::Restore, file),
     }
 }
 
 fn look_of(asked: Asked) -> Request {
     match asked {
-        Asked::Dump(command_line::Dumped::Both) => Request::Dump(Dumped::Both),
-        Asked::Dump(command_line::Dumped::Saved) => Request::Dump(Dumped::Saved),
-        Asked::Dump(command_line::Dumped::Other) => Request::Dump(Dumped::Other),
-        Asked::Stat(command_line::Form::Text) => Request::Stat(Form::Columns),
-        Asked::Stat(command_line::Form::Json) => Request::Stat(Form::Json),
-        Asked::Map(command_line::Picture::Text) => Request::Map(Picture::Text),
-        Asked::Map(command_line::Picture::Svg) => Request::Map(Picture::Svg),
+        Asked::Dump(commands::Dumped::Both) => Request::Dump(Dumped::Both),
+        Asked::Dump(commands::Dumped::Saved) => Request::Dump(Dumped::Saved),
+        Asked::Dump(commands::Dumped::Other) => Request::Dump(Dumped::Other),
+        Asked::Stat(commands::Form::Text) => Request::Stat(Form::Columns),
+        Asked::Stat(commands::Form::Json) => Request::Stat(Form::Json),
+        Asked::Map(commands::Picture::Text) => Request::Map(Picture::Text),
+        Asked::Map(commands::Picture::Svg) => Request::Map(Picture::Svg),
     }
 }

@@ -1,0 +1,30 @@
+-- What both programs take, and how a match has it.
+use Rattle.std.specs.Prelude.{Bool, false, true, List, Some, codes}
+use Rattle.std.specs.Option.{option_map_or}
+use Rattle.std.specs.Str.{bytes_eq}
+use Rattle.clap.specs.Simple.{on_top}
+use Rattle.clap.specs.Words.{App, Row, Rule, Text, new_rule, one_of}
+use Rattle.clap.specs.declared.builder.action.ArgAction.TheVariants.{Set, SetTrue}
+use Rattle.clap.specs.declared.builder.value_parser.ValueParser.TheVariants as parsers
+
+abbrev pub flag : Text → Rule
+flag name = record (new_rule name) {
+  long = Some name;
+  action = Some SetTrue;
+  parser = Some parsers.Bool;
+}
+
+abbrev pub file_operand : Rule
+file_operand = record (new_rule (codes "file")) {
+  action = Some Set;
+  value_names = 1;
+  required = true;
+}
+
+-- a command that tells its version
+abbrev pub with_version : App → App
+with_version = on_top (λ s. record s { has_version = true })
+
+-- whether the words have this flag
+abbrev pub has_flag : Text → List Row → Bool
+has_flag name rows = option_map_or (λ t. bytes_eq t (codes "true")) (one_of name rows) false

@@ -1,0 +1,81 @@
+-- The commands of `geosdoc`.
+use Rattle.std.specs.Prelude.{◌≡◌, true, false, List, [], Option, Some, None, codes, if◌then◌else◌}
+use Rattle.clap.specs.Simple.{on_top}
+use Rattle.clap.specs.Words.{App, Row, Rule, Text, first_of, new_app, with_rule, with_subcommand}
+use Rattle.document_commands.specs.Arguments.{file_operand, flag, has_flag, with_version}
+use Rattle.document_commands.specs.declared.requested.Asked.TheVariants as asked
+use Rattle.document_commands.specs.declared.requested.Dumped.{Dumped}
+use Rattle.document_commands.specs.declared.requested.Dumped.TheVariants.{Both, Other, Saved}
+use Rattle.document_commands.specs.declared.requested.Form.{Form}
+use Rattle.document_commands.specs.declared.requested.Form.TheVariants as forms
+use Rattle.document_commands.specs.declared.requested.Picture.{Picture}
+use Rattle.document_commands.specs.declared.requested.Picture.TheVariants as pictures
+use Rattle.document_commands.specs.declared.requested.Request.{Request}
+use Rattle.document_commands.specs.declared.requested.Request.TheVariants as requests
+
+-- ---- what the program takes
+
+-- check FILE
+abbrev pub check_command : App
+check_command = with_rule (new_app (codes "check")) file_operand
+
+-- a flag that stands in no command line with another one
+abbrev pub exclusive_flag : Text → Rule
+exclusive_flag name = record (flag name) { is_free = false }
+
+-- dump [--saved | --other] FILE
+abbrev pub dump_command : App
+dump_command = with_rule
+    (with_rule (with_rule (new_app (codes "dump")) (flag (codes "saved"))) (exclusive_flag (codes "other")))
+    file_operand
+
+-- stat [--json] FILE
+abbrev pub stat_command : App
+stat_command = with_rule (with_rule (new_app (codes "stat")) (flag (codes "json"))) file_operand
+
+-- map [--svg] FILE
+abbrev pub map_command : App
+map_command = with_rule (with_rule (new_app (codes "map")) (flag (codes "svg"))) file_operand
+
+-- restore FILE
+abbrev pub restore_command : App
+restore_command = with_rule (new_app (codes "restore")) file_operand
+
+-- a command that does nothing without another one behind it, and tells its help where nothing is behind it
+abbrev pub with_commands_alone : App → App
+with_commands_alone = on_top (λ s. record s { subcommand_required = true; arg_required_else_help = true })
+
+abbrev pub geosdoc : App
+geosdoc =
+    let start = with_commands_alone (with_version (new_app (codes "geosdoc"))) in
+    let looks = with_subcommand
+    (with_subcommand (with_subcommand (with_subcommand start check_command.top) dump_command.top) stat_command.top)
+    map_command.top in
+    with_subcommand looks restore_command.top
+
+-- ---- what a command asks for
+
+abbrev pub dumped_by : List Row → Dumped
+dumped_by rows = if has_flag (codes "saved") rows then Saved else if has_flag (codes "other") rows then Other else Both
+
+abbrev pub form_by : List Row → Form
+form_by rows = if has_flag (codes "json") rows then forms.Json else forms.Text
+
+abbrev pub picture_by : List Row → Picture
+picture_by rows = if has_flag (codes "svg") rows then pictures.Svg else pictures.Text
+
+-- The request is that of the command of this name, with these matches, and of the file that they name.
+abbrev pub IsAsked : Text → List Row → Request → Type 0
+IsAsked name rows (requests.Check file) = (name ≡ codes "check") × (first_of (codes "file") rows ≡ Some file.now)
+IsAsked name rows (requests.Look (asked.Dump dumped) file) =
+    (name ≡ codes "dump") × (dumped ≡ dumped_by rows) × (first_of (codes "file") rows ≡ Some file.now)
+IsAsked name rows (requests.Look (asked.Stat form) file) =
+    (name ≡ codes "stat") × (form ≡ form_by rows) × (first_of (codes "file") rows ≡ Some file.now)
+IsAsked name rows (requests.Look (asked.Map picture) file) =
+    (name ≡ codes "map") × (picture ≡ picture_by rows) × (first_of (codes "file") rows ≡ Some file.now)
+IsAsked name rows (requests.Restore file) = (name ≡ codes "restore") × (first_of (codes "file") rows ≡ Some file.now)
+
+-- a command was named, and the request is its
+abbrev pub IsAskedBy : Option (Text × List Row) → Request → Type 0
+IsAskedBy None request = ⊥
+IsAskedBy (Some named) request = IsAsked named.0 named.1 request

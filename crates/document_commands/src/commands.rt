@@ -1,0 +1,168 @@
+//! The words of `geosdoc COMMAND [FLAG] FILE`.
+ghost use Rattle.std.specs.Prelude.{◌≡◌, IfErr, IfOk, IfSome, map, true};
+ghost use Rattle.clap.specs.Words.{app_of, found_of, kind_of, rows_of, subcommand_of, subcommand_rows_of, takes};
+ghost use Rattle.clap.specs.declared.error.kind.ErrorKind.TheVariants.{OutOfMemory};
+ghost use Rattle.document_commands.specs.Arguments.{has_flag};
+ghost use Rattle.document_commands.specs.Requests.{IsAskedBy, check_command, dump_command, dumped_by, form_by, geosdoc, map_command, picture_by, restore_command, stat_command};
+
+use crate::arguments::{file_operand, flag};
+use crate::requested::{Asked, Dumped, Form, NoRequest, Picture, Request};
+use clap::error::ErrorKind;
+use clap::{ArgMatches, Command, Error};
+use geos_model::Bytes;
+use std::alloc::{AllocError, Global};
+use std::convert::AsStr;
+
+/// Reads a command line of `geosdoc`, whose first word is the name of the program.
+pub fn request<'a, S: AsStr>(alloc: Global, words: &'a [S]) -> Result<Request<'a>, NoRequest>
+    ensures ok { IfOk result (IsAskedBy (subcommand_of geosdoc (map S.text words.entry.now))) }
+    ensures err { IfErr result (λ none. takes geosdoc (map S.text words.entry.now) ≡ true → none ≡ NoRequest.Memory) }
+{
+    match parse(alloc, words) {
+        Ok(matches) => request_of(&matches).ok_or(NoRequest::Memory),
+        Err(error) => Err(no_request(alloc, &error)),
+    }
+}
+
+/// Matches the words with the commands that the program takes.
+fn parse<'a, S: AsStr>(alloc: Global, words: &'a [S]) -> Result<ArgMatches<'a>, Error>
+    ensures rows { IfOk result (λ m. subcommand_rows_of m ≡ subcommand_of geosdoc (map S.text words.entry.now)) }
+    ensures passes { IfErr result (λ e. takes geosdoc (map S.text words.entry.now) ≡ true → kind_of e ≡ OutOfMemory) }
+{
+    command(alloc)?.try_get_matches_from(words)
+}
+
+/// The commands that the program takes.
+fn command<'a>(alloc: Global) -> Result<Command<'a>, AllocError>
+    ensures { IfOk result (λ c. app_of c ≡ geosdoc) }
+{
+    Command::new(alloc, "geosdoc")
+        .version("0.1.0, for files of version 1 and 2")
+        .about("Tells what is in a document file, and writes none but one that restore makes")
+        .subcommand_required(true)
+        .arg_required_else_help(true)
+        .subcommand(check_command(alloc)?)?
+        .subcommand(dump_command(alloc)?)?
+        .subcommand(stat_command(alloc)?)?
+        .subcommand(map_command(alloc)?)?
+        .subcommand(restore_command(alloc)?)
+}
+
+fn check_command<'a>(alloc: Global) -> Result<Command<'a>, AllocError>
+    ensures { IfOk result (λ c. app_of c ≡ check_command) }
+{
+    Command::new(alloc, "check")
+        .about("Tells whether the file opens, and what is wrong with it")
+        .arg(file_operand(alloc))
+}
+
+fn dump_command<'a>(alloc: Global) -> Result<Command<'a>, AllocError>
+    ensures { IfOk result (λ c. app_of c ≡ dump_command) }
+{
+    Command::new(alloc, "dump")
+        .about("Writes a script that makes the document again: geosdoc restore FILE2 < SCRIPT")
+        .arg(flag(alloc, "saved", "The saved document alone"))?
+        .arg(flag(
+            alloc,
+            "other",
+            "What the other slot leads to: the commit before",
+        )
+        .conflicts_with("saved")?)?
+        .arg(file_operand(alloc))
+}
+
+fn stat_command<'a>(alloc: Global) -> Result<Command<'a>, AllocError>
+    ensures { IfOk result (λ c. app_of c ≡ stat_command) }
+{
+    Command::new(alloc, "stat")
+        .about("Counts the file's pages, and the document's blocks, chunks and arrays")
+        .arg(flag(alloc, "json", "As one JSON object"))?
+        .arg(file_operand(alloc))
+}
+
+fn map_command<'a>(alloc: Global) -> Result<Command<'a>, AllocError>
+    ensures { IfOk result (λ c. app_of c ≡ map_command) }
+{
+    Command::new(alloc, "map")
+        .about("Draws what lies on the pages of the file, and its heaps")
+        .arg(flag(alloc, "svg", "As SVG, for a browser"))?
+        .arg(file_operand(alloc))
+}
+
+fn restore_command<'a>(alloc: Global) -> Result<Command<'a>, AllocError>
+    ensures { IfOk result (λ c. app_of c ≡ restore_command) }
+{
+    Command::new(alloc, "restore")
+        .about("Makes a document, in a file that isn't there yet, by a script from standard input")
+        .arg(file_operand(alloc))
+}
+
+/// What the command that was matched asks for.
+fn request_of<'a>(matches: &ArgMatches<'a>) -> Option<Request<'a>>
+    ensures { IfSome result (IsAskedBy (subcommand_rows_of matches.now)) }
+{
+    let (name, matches) = matches.subcommand()?;
+    let file = matches.get_str("file")?;
+    match name {
+        "check" => Some(Request::Check(file)),
+        "dump" => Some(Request::Look(Asked::Dump(dumped(matches)), file)),
+        "stat" => Some(Request::Look(Asked::Stat(form(matches)), file)),
+        "map" => Some(Request::Look(Asked::Map(picture(matches)), file)),
+        "restore" => Some(Request::Restore(file)),
+        _ => None,
+    }
+}
+
+fn dumped(matches: &ArgMatches<'_>) -> Dumped
+    ensures { result ≡ dumped_by (rows_of (found_of matches.now)) }
+{
+    if is_set(matches, "saved") {
+        Dumped::Saved
+    } else if is_set(matches, "other") {
+        Dumped::Other
+    } else {
+        Dumped::Both
+    }
+}
+
+fn form(matches: &ArgMatches<'_>) -> Form
+    ensures { result ≡ form_by (rows_of (found_of matches.now)) }
+{
+    if is_set(matches, "json") {
+        Form::Json
+    } else {
+        Form::Text
+    }
+}
+
+fn picture(matches: &ArgMatches<'_>) -> Picture
+    ensures { result ≡ picture_by (rows_of (found_of matches.now)) }
+{
+    if is_set(matches, "svg") {
+        Picture::Svg
+    } else {
+        Picture::Text
+    }
+}
+
+// As `get_flag`, of whose contract too little is known where a flag isn't known to read as a truth value.
+fn is_set(matches: &ArgMatches<'_>, name: &str) -> bool
+    ensures { result ≡ has_flag name.now (rows_of (found_of matches.now)) }
+{
+    matches.get_one::<bool>(name).unwrap_or(false)
+}
+
+/// What an error comes to.
+fn no_request(alloc: Global, error: &Error) -> NoRequest
+    ensures { kind_of error.now ≡ OutOfMemory → result ≡ NoRequest.Memory }
+{
+    let Ok(text) = error.to_string(alloc) else {
+        return NoRequest::Memory;
+    };
+    let text = Bytes::from_vec(text.into_bytes());
+    match error.kind() {
+        ErrorKind::OutOfMemory => NoRequest::Memory,
+        ErrorKind::DisplayHelp | ErrorKind::DisplayVersion => NoRequest::Told(text),
+        _ => NoRequest::Usage(text),
+    }
+}

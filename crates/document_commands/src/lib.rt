@@ -1,0 +1,9 @@
+//! What the words of `geosdoc` ask for.
+#![tactic(auto)]
+
+mod arguments;
+mod commands;
+mod requested;
+
+pub use commands::request;
+pub use requested::{Asked, Dumped, Form, NoRequest, Picture, Request};

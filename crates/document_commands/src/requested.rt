@@ -1,0 +1,60 @@
+//! What the words of `geosdoc` ask for, or why they ask for nothing.
+use geos_model::Bytes;
+
+/// What is asked of a file but for a check.
+#[derive(Clone, Copy)]
+pub enum Asked {
+    /// A script that makes documents of the file again.
+    Dump(Dumped),
+    /// What the file has, counted.
+    Stat(Form),
+    /// A picture of what lies in the file.
+    Map(Picture),
+}
+
+/// How numbers are told.
+#[derive(Clone, Copy)]
+pub enum Form {
+    Text,
+    Json,
+}
+
+/// How a picture is given.
+#[derive(Clone, Copy)]
+pub enum Picture {
+    Text,
+    Svg,
+}
+
+/// Which documents of a file a dump has.
+#[derive(Clone, Copy)]
+pub enum Dumped {
+    /// The saved one and the updated one.
+    Both,
+    /// The saved one.
+    Saved,
+    /// Both of the commit before the last one.
+    Other,
+}
+
+/// What a command line asks for.
+#[derive(Clone, Copy)]
+pub enum Request<'a> {
+    /// Whether a file opens, and what is wrong with it.
+    Check(&'a str),
+    /// This is to be told of a file.
+    Look(Asked, &'a str),
+    /// A file is to be made by a script.
+    Restore(&'a str),
+}
+
+/// Why words ask for nothing.
+#[derive(Drop)]
+pub enum NoRequest {
+    /// They ask for help, or for the version, and the text tells that.
+    Told(Bytes),
+    /// They are no command line. The text says why.
+    Usage(Bytes),
+    /// There was no memory.
+    Memory,
+}
