@@ -1,7 +1,8 @@
-use Rattle.std.proofs.Common.{rules, ◌≡◌, Some, get_or, subst}
+use Rattle.std.proofs.Common.{rules, ◌≡◌, ◌∙◌, Option, Some, None, ap, get_or, is_some, refl, subst, sym}
+use Rattle.std.specs.Option.{option_and_then, option_map}
 use Rattle.std.specs.List.{Contains}
 use Rattle.std.proofs.lemmas.List.Elements.{Contains-get_or}
-use Rattle.geos_model.specs.File.{directory_of}
+use Rattle.geos_model.specs.File.{blocks_of_entries, directory_of, document_of}
 use Rattle.vm_format.specs.Listed.{shown}
 use Rattle.vm_format.proofs.LooksLemmas.{OnlyReadsStore-trans, held_before, still_holds}
 use Rattle.file_report.specs.Findings.{IsSo, directory_extent}
@@ -41,3 +42,26 @@ returns-in_ok-stands-in-Right-clause-found g c =
           (subst (λ r. IsRead s.version c.directory_extent-extent.result r file) is (c.in_ok-read.ensures.read honest_now))) honest_then;
       listed = subst (λ es. Contains es (get_or listed k e)) c.deref.ensures.value (Contains-get_or listed k e within);
     })) honest) c.in_ok-stands-in-Right.ensures.found)
+
+some_map : {A B : Type 0} (f : A → B) (o : Option A) → is_some (option_map f o) ≡ is_some o
+some_map f None = refl
+some_map f (Some x) = refl
+
+pub returns-in_ok-stands-in-Right-clause-document : goal.returns-in_ok-stands-in-Right-clause-document
+returns-in_ok-stands-in-Right-clause-document g c honest =
+    let s = c.args.slot.now in
+    let facts = g.S.Store.facts c.args.store.now in
+    let file = facts.content in
+    let d = c.in-Right.directory in
+    let is : c.in_ok-read.read ≡ Right d = search rules in
+    let found : directory_of s.version file (directory_extent s c.args.name) ≡ Some (shown d) =
+    subst (λ x. directory_of s.version file x ≡ Some (shown d)) c.directory_extent-extent.ensures
+    (subst (λ r. IsRead s.version c.directory_extent-extent.result r file) is (c.in_ok-read.ensures.read honest)) in
+    let have = c.in_ok-stands-in-Right.stands in
+    let listed : have ≡ is_some (blocks_of_entries file c.deref.result.now) =
+    held_before (λ bytes. have ≡ is_some (blocks_of_entries bytes c.deref.result.now)) facts (g.S.Store.facts c.look_for_directory.new.store) c.look_for_directory.ensures.looks c.in_ok-stands-in-Right.ensures.images honest in
+    let there : have ≡ is_some (blocks_of_entries file (shown d).entries) = subst (λ es. have ≡ is_some (blocks_of_entries file es)) c.deref.ensures.value listed in
+    record {
+      directory = sym found;
+      stands = there ∙ sym (some_map _ (blocks_of_entries file (shown d).entries)) ∙ ap (λ o. is_some (option_and_then (document_of file) o)) (sym found);
+    }
