@@ -138,7 +138,15 @@ begin_early() {
         [ -e "$folder/ended" ] && return
         sleep 2
     done
-    mkdir "$copy" && cp -al crates embedding crates.txt HANDLES "$copy" && mkdir "$copy/.git" || return
+    # Nothing that `rt ci` reads gets a second name, which it would take for a change: libraries alone do.
+    mkdir "$copy" "$copy/.git" && cp -r embedding crates.txt HANDLES "$copy" || return
+    for crate in crates/*/; do
+        mkdir -p "$copy/$crate/out"
+        for part in src specs proofs c; do
+            [ ! -d "$crate$part" ] || cp -r "$crate$part" "$copy/$crate"
+        done
+        [ ! -d "${crate}out/rlib" ] || cp -al "${crate}out/rlib" "$copy/${crate}out/"
+    done
     (cd "$copy" && cp "$root/test.sh" . && nice -n 5 sh test.sh --one embedding "$folder") >"$folder/early" 2>&1
     mkdir -p embedding/out && cp "$copy/embedding/out/libgeosvm.a" embedding/out/
 }
