@@ -5,7 +5,7 @@ ghost use Rattle.geos_model.specs.Document.{is_heap};
 ghost use Rattle.geos_model.specs.Heap.{is_heap_map};
 ghost use Rattle.geos_model.specs.Meaning.{on_chunk};
 ghost use Rattle.geos_model.specs.Refusal.{Conditions, first_refusal};
-ghost use Rattle.geos_model.specs.Targets.{array_edit};
+ghost use Rattle.geos_model.specs.Targets.{array_edit, edit_of};
 ghost use Rattle.geos_model.specs.declared.handle.ChunkHandle.{ChunkHandle};
 ghost use Rattle.geos_model.specs.declared.handle.VmHandle.{VmHandle};
 ghost use Rattle.geos_model.specs.declared.target.ArrayEdit.{ArrayEdit};
@@ -16,7 +16,7 @@ ghost use Rattle.doc_edits.specs.Found.{AreLate, IsChunkLive};
 ghost use Rattle.doc_edits.specs.Marking.{array_kind, IsJustEdited};
 
 use crate::found::{heap_at, known_in};
-use geos_model::{ArrayEdit, ChunkEdit, ChunkHandle, Edit, Fault, Target, VmHandle};
+use geos_model::{ArrayEdit, ChunkEdit, ChunkHandle, Fault, Target, VmHandle};
 use lmem_heap::{ArrayKind, Heap, KnownBytes};
 use vm_blocks::FileBlocks;
 use vm_store::Store;
@@ -88,12 +88,12 @@ fn takes_walk(bytes: &[u8], kind: ArrayKind) -> bool
 
 /// Keeps in mind that an array is one still after an edit of it that was just made: no edit of an array leaves anything
 /// else. Nothing is read but the header of the array, and nothing that a caller sees changes.
-pub fn mark_edited<S: Store>(blocks: &mut FileBlocks<S>, edit: &Edit)
-    requires { (b : VmHandle) (c : ChunkHandle) (array : ArrayEdit) → edit.now ≡ array_edit b c array
-        → IsJustEdited edit.now b blocks.old }
+pub fn mark_edited<S: Store>(blocks: &mut FileBlocks<S>, target: Target<'_>)
+    requires { (b : VmHandle) (c : ChunkHandle) (array : ArrayEdit) → edit_of target.entry ≡ array_edit b c array
+        → IsJustEdited (edit_of target.entry) b blocks.old }
     ensures { blocks.new ≡ blocks.old }
 {
-    if let Target::Chunk(block, chunk, ChunkEdit::Array(edit)) = edit.target() {
+    if let Target::Chunk(block, chunk, ChunkEdit::Array(edit)) = target {
         let kind = array_kind(edit);
         if is_worth_a_mark(heap_at(blocks, block), chunk, kind) {
             blocks.mark_array(block, chunk, kind);

@@ -1,16 +1,6 @@
 //! The plan of an edit: its block is brought into memory, and then it is refused or is one change.
-ghost use Rattle.std.specs.Prelude.{◌≡◌, ◌⊎◌, [], ◌∷◌, true, false, IfErr, IfOk, MatchResult, Some};
-ghost use Rattle.geos_model.specs.Machine.{edit_needs, kind_of};
-ghost use Rattle.geos_model.specs.Meaning.{conditions};
-ghost use Rattle.geos_model.specs.Refusal.{first_refusal};
 ghost use Rattle.geos_model.specs.Targets.{block_edit, chunk_edit, edit_of, new_chunk, raw_edit};
-ghost use Rattle.geos_model.specs.declared.command.Edit.TheVariants as edits;
-ghost use Rattle.geos_model.specs.declared.command.Kind.TheVariants.{Plain};
-ghost use Rattle.geos_model.specs.declared.fault.Fault.TheVariants.{CacheFull};
-ghost use Rattle.vm_blocks.specs.Keeping.{KeepsBlocks, IsHonest, IsEnvironmentFault};
-ghost use Rattle.vm_blocks.specs.Preparing.{CanCarryOut};
-ghost use Rattle.doc_edits.specs.Planning.{freed_by, is_of_chain, kind_of_change, IsChainEditFault, Plans, PlansEdit, RefusesEdit, RefusesInMemory};
-ghost use Rattle.doc_edits.specs.Room.{has_no_room, ReadsNothing};
+ghost use Rattle.doc_edits.specs.Planning.{PlansEdit};
 
 use crate::block_plans::{plan_block, plan_new_block, plan_setting};
 use crate::chain_plans::plan_chain;
@@ -18,53 +8,18 @@ use crate::chunk_plans::{plan_array, plan_bytes, plan_free_chunk, plan_new_chunk
 use crate::marking::{array_kind, test_array};
 use crate::raw_plans::plan_raw;
 use geos_model::{
-    BlockEdit, ChunkEdit, ChunkHandle, Done, Edit, Fault, NewChunk, RawEdit, Target, VmHandle,
+    BlockEdit, ChunkEdit, ChunkHandle, Done, Fault, NewChunk, RawEdit, Target, VmHandle,
 };
 use std::alloc::Global;
 use vm_blocks::{Change, FileBlocks};
 use vm_store::Store;
 
-/// The change that an edit means in the document as it is after the call, and what it answers; or its first refusal
+/// The change that an edit of a target means in the document as it is after the call, and what it answers; or its first refusal
 /// there, or what the call lacked. Blocks may be brought into memory, and nothing else changes. NoBlock and WrongKind
 /// come first; then CacheFull, where there is no frame for the block into whose body the edit looks, or some frame has
 /// to be free of locks for a chain and none is: then nothing changes at all. No store is called, and none lacked, where
 /// no body has to be read: it is in memory, or the edit is refused for its block.
 pub fn plan<S: Store>(
-    alloc: Global,
-    blocks: &mut FileBlocks<S>,
-    edit: &Edit,
-) -> Result<(Change, Done), Fault>
-    // The plan, or its refusal.
-    ensures keeps { KeepsBlocks S.facts blocks.old blocks.new }
-    ensures planned { (is_of_chain edit.now ≡ true → IsHonest S.facts blocks.old.disk.store)
-        → MatchResult result (λ p. Plans edit.now blocks.new.document p.0 p.1)
-        (RefusesEdit (IsEnvironmentFault S.facts blocks.old.disk.store blocks.new.disk.store)
-        (has_no_room blocks.old (edit_needs edit.now)) edit.now blocks.new.document) }
-    ensures ready { IfOk result (λ p. CanCarryOut p.0 blocks.new) }
-    // Room in memory.
-    ensures room { IfOk result (λ _. has_no_room blocks.old (edit_needs edit.now) ≡ false) }
-    ensures shut { has_no_room blocks.old (edit_needs edit.now) ≡ true → (blocks.new ≡ blocks.old)
-        × IfErr result (λ fault. first_refusal
-        ((CacheFull, true) ∷ conditions edit.now blocks.old.document) ≡ Some fault) }
-    // What kind of step the change is.
-    ensures kind { IfOk result (λ p. kind_of_change p.0 ≡ kind_of edit.now) }
-    ensures alone { (b : VmHandle) → edit.now ≡ edits.FreeBlock b → IfOk result (λ p. freed_by p.0 ≡ b.0 ∷ []) }
-    // Refusals, and where no body has to be read.
-    ensures refusals { IfErr result
-        (λ fault. RefusesEdit (IsEnvironmentFault S.facts blocks.old.disk.store blocks.new.disk.store)
-        (has_no_room blocks.old (edit_needs edit.now)) edit.now blocks.new.document fault
-        ⊎ IsChainEditFault edit.now blocks.old.document fault) }
-    ensures plain { kind_of edit.now ≡ Plain → (blocks.new ≡ blocks.old)
-        × IfErr result (RefusesInMemory edit.now blocks.new.document) }
-    ensures already { ReadsNothing blocks.old (edit_needs edit.now) (conditions edit.now blocks.old.document)
-        → (blocks.new.disk ≡ blocks.old.disk) × (blocks.new.document ≡ blocks.old.document)
-        × IfErr result (RefusesInMemory edit.now blocks.old.document) }
-{
-    plan_target(alloc, blocks, edit.target())
-}
-
-/// The same of what an edit touches.
-fn plan_target<S: Store>(
     alloc: Global,
     blocks: &mut FileBlocks<S>,
     target: Target<'_>,

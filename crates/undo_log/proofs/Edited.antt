@@ -1,5 +1,5 @@
 -- An edit that was made, or refused, is a step of the machine.
-use Rattle.std.proofs.Common.{◌≡◌, ◌⊎◌, ◌≤◌, Result, Ok, Err, IsOk, ℕ, Bool, true, false, IsTrue, All, List, [], ◌∷◌, ◌++◌, map, length, Option, Some, None, inl, inr, refl, sym, ap, subst, ◌∙◌, arith, ltb-false}
+use Rattle.std.proofs.Common.{◌≡◌, ◌⊎◌, Result, Ok, Err, IsOk, ℕ, Bool, true, false, IsTrue, All, List, [], ◌∷◌, ◌++◌, map, Option, Some, None, inl, inr, refl, sym, ap, subst, ◌∙◌, arith, ltb-false}
 use Rattle.geos_model.specs.Document.{Document}
 use Rattle.std.specs.Option.{option_map_or}
 use Rattle.std.specs.Prelude.{◌≢◌}
@@ -31,11 +31,11 @@ use Rattle.geos_model.proofs.FirstRefusals.{edit-judged, edit-locked, edit-passe
 use Rattle.vm_blocks.specs.State.{CacheState, ResidentBlock, KeepsLocks, locks_of}
 use Rattle.vm_blocks.specs.Changes.{after_change, incoming_blocks}
 use Rattle.vm_blocks.specs.Keeping.{IsHonest, KeepsBlocks, IsEnvironmentFault, is_loaded}
-use Rattle.vm_blocks.specs.Preparing.{AreUnlocked, AllowsChange, IsInMemory, IsShutOut, CanCarryOut, CantPrepare, IsApplied}
+use Rattle.vm_blocks.specs.Preparing.{AreUnlocked, AllowsChange, IsInMemory, CanCarryOut, IsApplied}
 use Rattle.vm_blocks.specs.declared.change.Change.{Change}
 use Rattle.vm_blocks.specs.declared.change.Change.TheVariants as changes
 use Rattle.chunk_edits.specs.declared.direction.Direction.TheVariants.{Backwards}
-use Rattle.vm_blocks.proofs.KeepingLaws.{honest-steady, keeps-passes, keeps-unless_corrupt, keeps-frames, keeps-locks, lacks-damaged, lacks-later, loaded-resident, resident-open}
+use Rattle.vm_blocks.proofs.KeepingLaws.{honest-steady, keeps-passes, keeps-unless_corrupt, keeps-frames, keeps-locks}
 use Rattle.vm_blocks.proofs.Preparing.{made_on}
 use Rattle.doc_edits.specs.Marking.{IsJustEdited}
 use Rattle.doc_edits.specs.Planning.{freed_by, is_chain, is_of_chain, kind_of_change, Plans, RefusesEdit, RefusesInMemory}
@@ -43,7 +43,7 @@ use Rattle.doc_edits.specs.Room.{has_no_room, ReadsNothing}
 use Rattle.doc_edits.proofs.Targets.{array_scope}
 use Rattle.undo_log.specs.Locking.{IsBarred, bars}
 use Rattle.undo_log.specs.Editing.{EditsInMemory}
-use Rattle.undo_log.specs.Making.{IsEditApplied}
+use Rattle.undo_log.specs.Making.{IsEditApplied, MakesEdit}
 use Rattle.undo_log.specs.Logging.{Log, added_to, all_changes, open_changes, to_redo, to_undo, with_change}
 use Rattle.undo_log.specs.Sessions.{SessionState, cache_of, machine_of, failed_since, CanApplyBothByHandle, AreSteps, IsStep, KeepsSession}
 use Rattle.undo_log.proofs.Answers.{edit_answers}
@@ -51,14 +51,6 @@ use Rattle.undo_log.proofs.Keeping.{gives_up, kept_exact, kept_machine, kept_doc
 use Rattle.undo_log.proofs.Listing.{listed_before}
 use Rattle.undo_log.proofs.Locks.{has_no_room-is, is_barred-is, none_of_count}
 use Rattle.undo_log.proofs.Steps.{edited_steps}
-
--- a block in memory can be brought there
-in_reach : {S : Type 0} (c : Change) (state : CacheState S) → length state.resident ≤ state.frames → IsInMemory c state → IsShutOut c state → ⊥
-in_reach (changes.BlocksIn ms) state few in_memory out = out
-in_reach (changes.BlocksOut ms) state few in_memory out = out
-in_reach (changes.Part b part) state few in_memory out = true≢false (sym out ∙ resident-open state b.0 few (loaded-resident state b.0 in_memory))
-in_reach (changes.Attributes b old new) state few in_memory out = out
-in_reach (changes.Map old new) state few in_memory out = out
 
 -- The blocks that go by an edit that no lock bars aren't locked.
 
@@ -91,7 +83,7 @@ plain_needs (edits.SetMap b) kind = refl
 plain_needs _ kind = absurd (cc kind)
 
 -- blocks come in by no edit but one that makes some
-none_come_in : (c : Change) (k : Kind) → kind_of_change c ≡ k → k ≢ Made → incoming_blocks c ≡ []
+pub none_come_in : (c : Change) (k : Kind) → kind_of_change c ≡ k → k ≢ Made → incoming_blocks c ≡ []
 none_come_in (changes.BlocksIn ms) k kind other = absurd (other (sym kind))
 none_come_in (changes.BlocksOut ms) k kind other = refl
 none_come_in (changes.Part b part) k kind other = refl
@@ -104,15 +96,15 @@ reads_chain state (edits.CopyChain b) own nothing chain = nothing
 reads_chain state (edits.FreeChain b) own nothing chain = nothing
 reads_chain state _ own nothing chain = absurd (cc chain)
 
--- the change is made and no store called, if the body is there and takes it
+-- the change is made and no store called
 abbrev pub IsSurelyMade : {S : Type 0} → Change → CacheState S → CacheState S → Result (Unit {0}) Fault → Type 0
-IsSurelyMade c mid new result = incoming_blocks c ≡ [] → IsInMemory c mid → AllowsChange c mid.document → IsOk result × (new.disk ≡ mid.disk) × (new.document ≡ after_change c mid.document)
+IsSurelyMade c mid new result = incoming_blocks c ≡ [] → IsOk result × (new.disk ≡ mid.disk) × (new.document ≡ after_change c mid.document)
 
 -- so that it isn't refused
-pub never_refused : {S : Type 0} (edit : Edit) (c : Change) (mid new : CacheState S) (fault : Fault) (result : Result (Unit {0}) Fault) → result ≡ Err fault → kind_of_change c ≡ kind_of edit → kind_of edit ≢ Made → CanCarryOut c mid
+pub never_refused : {S : Type 0} (edit : Edit) (c : Change) (mid new : CacheState S) (fault : Fault) (result : Result (Unit {0}) Fault) → result ≡ Err fault → kind_of_change c ≡ kind_of edit → kind_of edit ≢ Made
     → IsSurelyMade c mid new result → ⊥
-never_refused edit c mid new fault result was kind other ready sure =
-    not_both result was (sure (none_come_in c (kind_of edit) kind other) ready.in_memory ready.takes).0
+never_refused edit c mid new fault result was kind other sure =
+    not_both result was (sure (none_come_in c (kind_of edit) kind other)).0
   where
     not_both : (r : Result (Unit {0}) Fault) → r ≡ Err fault → IsOk r → ⊥
     not_both (Ok u) is accepted = cc is
@@ -156,15 +148,6 @@ module _ {S : Type 0} (facts : S → StoreFacts) where
           locks = let first = keeps-locks facts old mid keeps in record { each = λ h. makes.locks.each h ∙ first.each h; count = makes.locks.count ∙ first.count };
         }
 
-    -- one that the body takes is refused for what the call may lack alone
-    pub unready_lacks : (c : Change) (new : CacheState S) (fault : Fault) → AllowsChange c mid.document → IsInMemory c mid → length mid.resident ≤ mid.frames → CantPrepare facts c mid new fault
-        → IsEnvironmentFault facts old.disk.store new.disk.store fault
-    unready_lacks c new fault takes in_memory few unready = lacks-later facts old mid new.disk.store fault keeps (elim unready as (λ _. IsEnvironmentFault facts mid.disk.store new.disk.store fault) [
-      | inl lacks ↦ lacks
-      | inr (inl damaged) ↦ subst (IsEnvironmentFault facts mid.disk.store new.disk.store) (sym damaged.0) (lacks-damaged facts mid.disk.store new.disk.store (λ steady. damaged.1 steady takes))
-      | inr (inr out) ↦ absurd (in_reach c mid few in_memory out.1)
-    ])
-
     -- what was planned for the document as it was held then
     pub made_of_plan : (edit : Edit) (c : Change) (done : Done) (new : CacheState S) (result : Result (Unit {0}) Fault) → CanCarryOut c mid → has_no_room old (edit_needs edit) ≡ false → kind_of_change c ≡ kind_of edit
         → ((is_of_chain edit ≡ true → IsHonest facts old.disk.store) → Plans edit mid.document c done) → IsSurelyMade c mid new result → IsApplied facts c mid new → IsEditApplied facts edit old new c done
@@ -179,16 +162,16 @@ module _ {S : Type 0} (facts : S → StoreFacts) where
             loaded = mid.document;
             unless_corrupt = keeps-unless_corrupt facts old mid keeps;
             plans = planned;
-            document = λ other. (sure (none_come_in c (kind_of edit) kind other) ready.in_memory ready.takes).2 ∙ planned.document;
+            document = λ other. (sure (none_come_in c (kind_of edit) kind other)).2 ∙ planned.document;
           };
     }
 
     -- where that is the document before, nothing else is
-    pub made_at_rest : (edit : Edit) (c : Change) (done : Done) (new : CacheState S) (result : Result (Unit {0}) Fault) → mid.disk ≡ old.disk → mid.document ≡ old.document → kind_of edit ≢ Made → CanCarryOut c mid
+    pub made_at_rest : (edit : Edit) (c : Change) (done : Done) (new : CacheState S) (result : Result (Unit {0}) Fault) → mid.disk ≡ old.disk → mid.document ≡ old.document → kind_of edit ≢ Made
         → Plans edit mid.document c done → IsSurelyMade c mid new result
         → (new.disk ≡ old.disk) × ((new.document ≡ (effect edit old.document).0) × (done ≡ (effect edit old.document).1))
-    made_at_rest edit c done new result disk document other ready plans sure =
-        let is = sure (none_come_in c (kind_of edit) plans.kind other) ready.in_memory ready.takes in
+    made_at_rest edit c done new result disk document other plans sure =
+        let is = sure (none_come_in c (kind_of edit) plans.kind other) in
         (is.1 ∙ disk, (is.2 ∙ plans.document ∙ ap (λ (d : Document). (effect edit d).0) document, plans.answer ∙ ap (λ (d : Document). (effect edit d).1) document))
 
   -- A user ID or the map block is changed without memory.
@@ -321,3 +304,7 @@ leaves_array facts edit old new c done applied b k array is =
       loaded = made_at_hand facts c (kind_of edit) new applied.kind applied.makes.in_memory b inside;
       made = record { before = meant.loaded; accepted = meant.plans.accepted; document = meant.document (λ made. let no : In b ≡ Made = sym inside ∙ made in absurd (cc no)) };
     }
+
+-- What making an edit comes to is so of the edit that its target is of.
+pub made_for : {S : Type 0} {facts : S → StoreFacts} {e edit : Edit} {old new : CacheState S} {result : Result (Change × Done) Fault} → e ≡ edit → MakesEdit facts e old new result → MakesEdit facts edit old new result
+made_for is made = subst (λ (x : Edit). MakesEdit _ x _ _ _) is made

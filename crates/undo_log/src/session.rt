@@ -275,11 +275,12 @@ impl<S: Store> Session<S> {
             → EditsInMemory edit.now self.old self.new result }
     {
         self.blocks.validity();
-        if is_barred(&self.blocks, edit) {
+        let target = edit.target();
+        if is_barred(&self.blocks, target) {
             return Err(Fault::Locked);
         }
         self.log.reserve()?;
-        let (change, done) = make(self.alloc, &mut self.blocks, edit)?;
+        let (change, done) = make(self.alloc, &mut self.blocks, target)?;
         self.log.add(change);
         Ok(done)
     }

@@ -1,5 +1,5 @@
 -- What a call leaves that makes a change.
-use Rattle.std.proofs.Common.{◌≡◌, ◌⊎◌, ℕ, Bool, true, false, get_or, is_some, List, [], ◌∷◌, Option, Some, None, inl, inr, refl, sym, ap, subst, ◌∙◌}
+use Rattle.std.proofs.Common.{◌≡◌, ◌⊎◌, ◌≤◌, length, ℕ, Bool, true, false, get_or, is_some, List, [], ◌∷◌, Option, Some, None, inl, inr, refl, sym, ap, subst, ◌∙◌}
 use Rattle.std.specs.Prelude.{Result, Ok, Err, MatchResult, IsOk, IfErr, OnOk}
 use Rattle.std.specs.Option.{option_map}
 use Rattle.std.specs.List.{All}
@@ -17,12 +17,13 @@ use Rattle.vm_file.specs.Members.{imaged_blocks}
 use Rattle.vm_file.specs.declared.member.Member.{Member}
 use Rattle.vm_file.proofs.PassingLemmas.{KeepsCommitted-refl, SameUnlessCorrupt-refl}
 use Rattle.vm_blocks.specs.State.{CacheState, ResidentBlock, is_resident, after_load, as_file, KeepsLocks, KeepsDocument}
+use Rattle.vm_blocks.proofs.KeepingLaws.{lacks-damaged, loaded-resident, resident-open}
 use Rattle.vm_blocks.proofs.Locks.{keeps_refl}
 use Rattle.vm_blocks.proofs.ManyBlocks.{in_handles}
 use Rattle.vm_blocks.specs.Changes.{AreFree, after_change, after_part}
 use Rattle.vm_blocks.specs.Keeping.{KeepsBlocks, IsEnvironmentFault, is_loaded}
 use Rattle.vm_blocks.specs.Parts.{body_after_part}
-use Rattle.vm_blocks.specs.Preparing.{AllowsChange, IsInMemory, IsShutOut, CantPrepare, Turns}
+use Rattle.vm_blocks.specs.Preparing.{AllowsChange, CanCarryOut, IsInMemory, IsShutOut, CantPrepare, Turns}
 use Rattle.vm_blocks.specs.declared.change.Change.{Change}
 use Rattle.vm_blocks.specs.declared.change.Change.TheVariants as changes
 use Rattle.vm_blocks.specs.declared.change.PartChange.{PartChange}
@@ -144,3 +145,22 @@ module _ {S : Type 0} (facts : S → StoreFacts) where
 
     pub turns_unready : (fault : Fault) → CantPrepare facts c old mid fault → (IsInMemory c old → AllowsChange c old.document → ⊥) → (IsShutOut c old → (fault ≡ CacheFull) × (mid ≡ old)) → Turns facts c old mid (Err fault)
     turns_unready fault unready sure shut = record { ok = tt; err = keeps; refusals = unready; sure = λ none here takes. absurd (sure here takes); shut = λ far. (ap Err (shut far).0, (shut far).1) }
+
+  -- A change that can be made as things are.
+
+  -- a block in memory can be brought there
+  in_reach : (c : Change) (state : CacheState S) → length state.resident ≤ state.frames → IsInMemory c state → IsShutOut c state → ⊥
+  in_reach (changes.BlocksIn ms) state few here out = out
+  in_reach (changes.BlocksOut ms) state few here out = out
+  in_reach (changes.Part b part) state few here out = true≢false (sym out ∙ resident-open state b.0 few (loaded-resident state b.0 here))
+  in_reach (changes.Attributes b old new) state few here out = out
+  in_reach (changes.Map old new) state few here out = out
+
+  -- it is refused for what the call may lack alone
+  pub carried_lacks : (c : Change) (old new : CacheState S) (r : Result (Unit {0}) Fault) → CanCarryOut c old → length old.resident ≤ old.frames → IfErr r (CantPrepare facts c old new) → IfErr r (IsEnvironmentFault facts old.disk.store new.disk.store)
+  carried_lacks c old new (Ok done) ready few unready = tt
+  carried_lacks c old new (Err fault) ready few unready = elim unready as (λ _. IsEnvironmentFault facts old.disk.store new.disk.store fault) [
+    | inl lacks ↦ lacks
+    | inr (inl damaged) ↦ subst (IsEnvironmentFault facts old.disk.store new.disk.store) (sym damaged.0) (lacks-damaged facts old.disk.store new.disk.store (λ steady. damaged.1 steady ready.takes))
+    | inr (inr out) ↦ absurd (in_reach c old few ready.in_memory out.1)
+  ]

@@ -7,9 +7,9 @@ ghost use Rattle.vm_file.specs.Effects.{Fails, NoFault};
 ghost use Rattle.vm_file.specs.Members.{imaged_blocks};
 ghost use Rattle.vm_blocks.specs.State.{locks_of, locked_count, KeepsDocument, KeepsLocks, Marks};
 ghost use Rattle.vm_blocks.specs.Changes.{attributes_for_kind, after_change, after_part, directed, directed_all, directed_part, incoming_blocks, AreFree};
-ghost use Rattle.vm_blocks.specs.Keeping.{KeepsBlocks, is_loaded, is_shut_out};
+ghost use Rattle.vm_blocks.specs.Keeping.{KeepsBlocks, IsEnvironmentFault, is_loaded, is_shut_out};
 ghost use Rattle.vm_blocks.specs.Parts.{AllowsPart};
-ghost use Rattle.vm_blocks.specs.Preparing.{after_changes, CanRemoveByHandle, CanApplyAll, CanApplyByHandle, CanApplyAllByHandle, AreInMemory, NoneComesIn, AreUnlocked, AllowsChange, IsInMemory, IsShutOut, CantPrepare, CantPrepareAll, IsApplied, AreApplied, Turns};
+ghost use Rattle.vm_blocks.specs.Preparing.{after_changes, CanRemoveByHandle, CanApplyAll, CanApplyByHandle, CanCarryOut, CanApplyAllByHandle, AreInMemory, NoneComesIn, AreUnlocked, AllowsChange, IsInMemory, IsShutOut, CantPrepare, CantPrepareAll, IsApplied, AreApplied, Turns};
 
 use super::FileBlocks;
 use crate::in_memory::{Obstacle, change_in_memory};
@@ -44,6 +44,29 @@ impl<S: Store> FileBlocks<S> {
             → (result ≡ Err Fault.CacheFull) × (self.new ≡ self.old) }
     {
         self.turn(change, direction)
+    }
+
+    /// Makes a change that can be made as things are, as the plan of an edit has just seen: the block whose body changes
+    /// is in memory, and takes it, so that neither is looked at again. It isn't refused but where blocks come in, which
+    /// are written to the file, all or none: Memory, File.
+    pub fn carry_out(&mut self, change: &Change) -> Result<(), Fault>
+        // Asked of the caller.
+        requires ready { CanCarryOut change.now self.old }
+        requires unlocked { AreUnlocked change.now self.old.resident }
+        // What is done.
+        ensures ok { OnOk result (IsApplied S.facts change.now self.old self.new) }
+        ensures err { OnErr result (KeepsBlocks S.facts self.old self.new) }
+        // Refusals.
+        ensures refusals { IfErr result (IsEnvironmentFault S.facts self.old.disk.store self.new.disk.store) }
+        // When the answer is known beforehand.
+        ensures sure { incoming_blocks change.now ≡ [] → IsOk result × (self.new.disk ≡ self.old.disk)
+            × (self.new.document ≡ after_change change.now self.old.document) }
+    {
+        self.validity();
+        match change {
+            Change::Part(handle, part) => self.carry_out_loaded(*handle, part),
+            _ => self.turn(change, Direction::Forwards),
+        }
     }
 
     /// Carries changes out in a direction one after another, the last one first: all of them or none. Blocks that come
@@ -234,6 +257,17 @@ impl<S: Store> FileBlocks<S> {
         let _count = self.frames.len();
         self.frames.pop(&handle.0);
         let _removed = self.file.put_blocks(&[], &[handle]);
+    }
+
+    // Changes the body of a block in memory, which takes the change. It isn't refused.
+    fn carry_out_loaded(&mut self, handle: VmHandle, part: &PartChange) -> Result<(), Fault>
+        requires loaded { is_loaded self.old handle.0 ≡ true }
+        requires takes { AllowsPart part.now (block_at self.old.document handle.0).body }
+        ensures { Turns S.facts (Change.Part handle part.now) self.old self.new result }
+    {
+        self.validity();
+        self.carry_out_part(handle, part, Direction::Forwards);
+        Ok(())
     }
 
     // Brings the block of a part into memory, and changes its body if that takes the change.

@@ -5,7 +5,7 @@ use Rattle.geos_model.specs.declared.target.Target.{Target}
 use Rattle.doc_edits.specs.Planning.{PlansEdit}
 use Rattle.doc_edits.proofs.Planned.{plans_along, plans_bare}
 use Rattle.doc_edits.proofs.Targets.{new_scope, setting_scope}
-use Rattle.doc_edits.proofs.planning.plan_target.Goals as goal
+use Rattle.doc_edits.proofs.planning.plan.Goals as goal
 
 pub returns-in-Setting : goal.returns-in-Setting
 returns-in-Setting g c =
