@@ -89,8 +89,8 @@ fn takes_walk(bytes: &[u8], kind: ArrayKind) -> bool
 /// Keeps in mind that an array is one still after an edit of it that was just made: no edit of an array leaves anything
 /// else. Nothing is read but the header of the array, and nothing that a caller sees changes.
 pub fn mark_edited<S: Store>(blocks: &mut FileBlocks<S>, target: Target<'_>)
-    requires { (b : VmHandle) (c : ChunkHandle) (array : ArrayEdit) → edit_of target.entry ≡ array_edit b c array
-        → IsJustEdited (edit_of target.entry) b blocks.old }
+    requires { (b : VmHandle) (c : ChunkHandle) (array : ArrayEdit) → edit_of target ≡ array_edit b c array
+        → IsJustEdited (edit_of target) b blocks.old }
     ensures { blocks.new ≡ blocks.old }
 {
     if let Target::Chunk(block, chunk, ChunkEdit::Array(edit)) = target {

@@ -28,7 +28,7 @@ pub fn make<S: Store>(
     blocks: &mut FileBlocks<S>,
     target: Target<'_>,
 ) -> Result<(Change, Done), Fault>
-    requires { bars blocks.old.resident (edit_of target.entry) ≡ false }
+    requires { bars blocks.old.resident (edit_of target) ≡ false }
     ensures { MakesEdit S.facts (edit_of target.entry) blocks.old blocks.new result }
 {
     let (change, done) = plan(alloc, blocks, target)?;
