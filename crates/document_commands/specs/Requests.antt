@@ -59,7 +59,7 @@ abbrev pub dumped_by : List Row → Dumped
 dumped_by rows = if has_flag (codes "saved") rows then Saved else if has_flag (codes "other") rows then Other else Both
 
 abbrev pub form_by : List Row → Form
-form_by rows = if has_flag (codes "json") rows then forms.Json else forms.Text
+form_by rows = if has_flag (codes "json") rows then forms.Json else forms.Columns
 
 abbrev pub picture_by : List Row → Picture
 picture_by rows = if has_flag (codes "svg") rows then pictures.Svg else pictures.Text

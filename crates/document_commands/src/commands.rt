@@ -131,7 +131,7 @@ fn form(matches: &ArgMatches<'_>) -> Form
     if is_set(matches, "json") {
         Form::Json
     } else {
-        Form::Text
+        Form::Columns
     }
 }
 

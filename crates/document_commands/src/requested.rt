@@ -15,7 +15,9 @@ pub enum Asked {
 /// How numbers are told.
 #[derive(Clone, Copy)]
 pub enum Form {
-    Text,
+    /// As text in columns.
+    Columns,
+    /// As one JSON object.
     Json,
 }
 
@@ -55,6 +57,8 @@ pub enum NoRequest {
     Told(Bytes),
     /// They are no command line. The text says why.
     Usage(Bytes),
+    /// They can't be had from the system.
+    Unread,
     /// There was no memory.
     Memory,
 }

@@ -35,10 +35,10 @@ use Rattle.document_tools.specs.Obstacles.{refusal_line}
 use Rattle.document_tools.specs.Stats.{StatsStore, TellsStat}
 use Rattle.document_tools.specs.declared.ending.Ending.{Ending}
 use Rattle.document_tools.specs.declared.ending.Ending.TheVariants as endings
-use Rattle.document_tools.specs.declared.mapping.Picture.{Picture}
+use Rattle.document_commands.specs.declared.requested.Picture.{Picture}
 use Rattle.document_tools.specs.declared.obstacle.Obstacle.{Obstacle}
 use Rattle.document_tools.specs.declared.obstacle.Obstacle.TheVariants.{Unopened, Unread}
-use Rattle.document_tools.specs.declared.stating.Form.{Form}
+use Rattle.document_commands.specs.declared.requested.Form.{Form}
 
 -- a refusal is told by its line, or there is no memory for it
 pub refused_or_memory : (P : Ending → Type 0) (file : List ℕ) (obstacle : Obstacle)

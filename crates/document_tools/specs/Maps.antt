@@ -12,8 +12,8 @@ use Rattle.document_tools.specs.Looks.{IsUnlookedAt}
 use Rattle.document_tools.specs.Views.{LooksAt, Views}
 use Rattle.document_tools.specs.declared.ending.Ending.{Ending}
 use Rattle.document_tools.specs.declared.ending.Ending.TheVariants as endings
-use Rattle.document_tools.specs.declared.mapping.Picture.{Picture}
-use Rattle.document_tools.specs.declared.mapping.Picture.TheVariants.{Text, Svg}
+use Rattle.document_commands.specs.declared.requested.Picture.{Picture}
+use Rattle.document_commands.specs.declared.requested.Picture.TheVariants.{Text, Svg}
 use Rattle.document_tools.specs.declared.obstacle.Obstacle.TheVariants.{Unopened, Unread, Unviewed}
 
 abbrev pub picture_of : Picture → List ℕ → List Part → ℕ → List ℕ

@@ -4,8 +4,8 @@ use Rattle.geos_shell.specs.Streams.{Writes}
 use Rattle.geos_shell.specs.declared.streams.WriteFault.{WriteFault}
 use Rattle.document_tools.specs.Endings.{TellsLine, told_line}
 use Rattle.document_tools.specs.declared.ending.Ending.TheVariants as endings
-use Rattle.document_tools.specs.declared.request.NoRequest.{NoRequest}
-use Rattle.document_tools.specs.declared.request.NoRequest.TheVariants as requests
+use Rattle.document_commands.specs.declared.requested.NoRequest.{NoRequest}
+use Rattle.document_commands.specs.declared.requested.NoRequest.TheVariants as requests
 
 -- a text was written to standard output, or that failed, which is told as a write fault
 abbrev pub TellsText : {W E : Type 0} → Writes W → Writes E → List ℕ → W → W → E → E → ℕ → Type 0

@@ -3,6 +3,12 @@ use Rattle.std.specs.Prelude.{◌≡◌, ◌^◌, ℕ, List, Option}
 use Rattle.vm_store.specs.Facts.{StoreFacts}
 use Rattle.vm_store.specs.Files.{Opener}
 use Rattle.geos_shell.specs.Streams.{Reads, StopsReading, Writes}
+use Rattle.document_commands.specs.declared.requested.Asked.{Asked}
+use Rattle.document_commands.specs.declared.requested.Asked.TheVariants as asked
+use Rattle.document_commands.specs.declared.requested.Dumped.{Dumped}
+use Rattle.document_commands.specs.declared.requested.Dumped.TheVariants as documents
+use Rattle.document_commands.specs.declared.requested.Request.{Request}
+use Rattle.document_commands.specs.declared.requested.Request.TheVariants as requests
 use Rattle.document_dump.specs.declared.dumping.Which.TheVariants as which
 use Rattle.document_tools.specs.Checks.{ChecksFile}
 use Rattle.document_tools.specs.DumpedFiles.{DumpsFile}
@@ -12,11 +18,7 @@ use Rattle.document_tools.specs.Restores.{Makes, Restores}
 use Rattle.document_tools.specs.Stats.{StatsFile}
 use Rattle.document_tools.specs.Views.{Views}
 use Rattle.document_tools.specs.declared.ending.Ending.{Ending}
-use Rattle.document_tools.specs.declared.running.Dumped.{Dumped}
-use Rattle.document_tools.specs.declared.running.Dumped.TheVariants as documents
 use Rattle.document_tools.specs.declared.running.Machine.{Machine}
-use Rattle.document_tools.specs.declared.running.Request.{Request}
-use Rattle.document_tools.specs.declared.running.Request.TheVariants as requests
 
 -- the dump that is asked for
 abbrev pub DumpsAsked : {V S W : Type 0} → Views V S → (S → StoreFacts) → (W → Option (List ℕ)) → Writes W → Dumped
@@ -28,26 +30,30 @@ DumpsAsked views facts contents writes documents.Saved file old new from to endi
 DumpsAsked views facts contents writes documents.Other file old new from to ending =
     DumpsOtherFile views facts contents writes file old new from to ending
 
+-- what is asked of a file but for a check
+abbrev pub LooksAt : {V S W : Type 0} → Views V S → (S → StoreFacts) → (W → Option (List ℕ)) → Writes W → Asked
+    → List ℕ → V → V → W → W → Ending → Type 0
+LooksAt views facts contents writes (asked.Dump dumped) file old new from to ending =
+    DumpsAsked views facts contents writes dumped file old new from to ending
+LooksAt views facts contents writes (asked.Stat form) file old new from to ending =
+    StatsFile views facts writes file form old new from to ending
+LooksAt views facts contents writes (asked.Map picture) file old new from to ending =
+    MapsFile views facts contents writes file picture old new from to ending
+
 -- no file is opened but to be read alone, none is made, and no script is read
 abbrev pub OnlyLooks : {V F M R : Type 0} → Machine V F M R → Machine V F M R → Type 0
 OnlyLooks old new = (new.files ≡ old.files) × (new.maker ≡ old.maker) × (new.reader ≡ old.reader)
 
--- what a request comes to: what its tool does with the file of the name, and nothing else
+-- what a request comes to: what its tool does with its file, and nothing else
 abbrev pub CarriesOut : {V S F T M R W : Type 0} → Views V S → (S → StoreFacts) → Opener F T → (T → StoreFacts)
-    → Makes M → (R → Option (List ℕ)) → Reads R → (W → Option (List ℕ)) → Writes W → Request → List ℕ
+    → Makes M → (R → Option (List ℕ)) → Reads R → (W → Option (List ℕ)) → Writes W → Request
     → Machine V F M R → Machine V F M R → W → W → Ending → Type 0
-CarriesOut views viewed calls facts makes remaining reads contents writes requests.Check file old new from to ending =
-    ChecksFile views viewed writes file old.viewer new.viewer from to ending × OnlyLooks old new
-CarriesOut views viewed calls facts makes remaining reads contents writes (requests.Dump asked) file old new from to
+CarriesOut views viewed calls facts makes remaining reads contents writes (requests.Check file) old new from to ending =
+    ChecksFile views viewed writes file.now old.viewer new.viewer from to ending × OnlyLooks old new
+CarriesOut views viewed calls facts makes remaining reads contents writes (requests.Look looked file) old new from to
     ending =
-    DumpsAsked views viewed contents writes asked file old.viewer new.viewer from to ending × OnlyLooks old new
-CarriesOut views viewed calls facts makes remaining reads contents writes (requests.Stat form) file old new from to
-    ending =
-    StatsFile views viewed writes file form old.viewer new.viewer from to ending × OnlyLooks old new
-CarriesOut views viewed calls facts makes remaining reads contents writes (requests.Map picture) file old new from to
-    ending =
-    MapsFile views viewed contents writes file picture old.viewer new.viewer from to ending × OnlyLooks old new
-CarriesOut views viewed calls facts makes remaining reads contents writes requests.Restore file old new from to ending =
-    Restores calls facts makes file old.files old.maker new.files new.maker (remaining old.reader)
+    LooksAt views viewed contents writes looked file.now old.viewer new.viewer from to ending × OnlyLooks old new
+CarriesOut views viewed calls facts makes remaining reads contents writes (requests.Restore file) old new from to ending =
+    Restores calls facts makes file.now old.files old.maker new.files new.maker (remaining old.reader)
     (remaining new.reader) (StopsReading reads (2 ^ 24) old.reader new.reader) ending
     × (new.viewer ≡ old.viewer) × (to ≡ from)

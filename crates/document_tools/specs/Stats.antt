@@ -13,8 +13,8 @@ use Rattle.document_tools.specs.Views.{LooksAt, Views}
 use Rattle.document_tools.specs.declared.ending.Ending.{Ending}
 use Rattle.document_tools.specs.declared.ending.Ending.TheVariants as endings
 use Rattle.document_tools.specs.declared.obstacle.Obstacle.TheVariants.{Unviewed}
-use Rattle.document_tools.specs.declared.stating.Form.{Form}
-use Rattle.document_tools.specs.declared.stating.Form.TheVariants.{Columns, Json}
+use Rattle.document_commands.specs.declared.requested.Form.{Form}
+use Rattle.document_commands.specs.declared.requested.Form.TheVariants.{Columns, Json}
 
 abbrev pub stat_text : Form → FileStat → List ℕ
 stat_text Columns s = columns s

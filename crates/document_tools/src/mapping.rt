@@ -11,18 +11,12 @@ use crate::ending::{Ending, refused};
 use crate::obstacle::Obstacle;
 use crate::pieces::{Pieces, Watched};
 use crate::viewer::Viewer;
+use document_commands::Picture;
 use file_map::{MapFault, draw_svg, draw_text};
 use geos_shell::Sink;
 use std::alloc::Global;
 use std::io::Write;
 use vm_store::Store;
-
-/// How a picture is given.
-#[derive(Clone, Copy)]
-pub enum Picture {
-    Text,
-    Svg,
-}
 
 fn draw<S: Store, W: Write>(
     alloc: Global,

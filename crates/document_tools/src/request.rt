@@ -3,40 +3,28 @@ ghost use Rattle.std.specs.Prelude.{◌≡◌};
 ghost use Rattle.document_tools.specs.Requests.{TellsNoRequest, TellsText};
 
 use crate::ending::{Ending, complain};
+use document_commands::NoRequest;
 use geos_model::Bytes;
 use geos_shell::Sink;
 
-/// Why a command line asks for nothing.
-#[derive(Drop)]
-pub enum NoRequest {
-    /// It asks for help, or for the version, and the text tells that.
-    Told(Bytes),
-    /// It is none. The text says why.
-    Usage(Bytes),
-    /// Its words can't be read.
-    Unread,
-    Memory,
-}
-
-impl NoRequest {
-    /// Tells it, help and the version on `out` and all else on `errors`, and gives the exit status.
-    pub fn tell<W: Sink, E: Sink>(&self, out: &mut W, errors: &mut E) -> u8
-        ensures { TellsNoRequest W.writes E.writes self.now out.old out.new errors.old errors.new result }
-    {
-        match self {
-            NoRequest::Told(text) => tell_text(text, out, errors),
-            NoRequest::Usage(text) => {
-                complain(errors, text.as_slice());
-                2
-            }
-            NoRequest::Unread => {
-                complain(errors, b"geosdoc: the command line can't be read\n");
-                2
-            }
-            NoRequest::Memory => {
-                complain(errors, b"geosdoc: memory\n");
-                1
-            }
+/// Tells why a command line asks for nothing, help and the version on `out` and all else on `errors`, and gives the exit
+/// status.
+pub fn tell_no_request<W: Sink, E: Sink>(none: &NoRequest, out: &mut W, errors: &mut E) -> u8
+    ensures { TellsNoRequest W.writes E.writes none.now out.old out.new errors.old errors.new result }
+{
+    match none {
+        NoRequest::Told(text) => tell_text(text, out, errors),
+        NoRequest::Usage(text) => {
+            complain(errors, text.as_slice());
+            2
+        }
+        NoRequest::Unread => {
+            complain(errors, b"geosdoc: the command line can't be read\n");
+            2
+        }
+        NoRequest::Memory => {
+            complain(errors, b"geosdoc: memory\n");
+            1
         }
     }
 }

@@ -3,47 +3,22 @@ ghost use Rattle.std.specs.Prelude.{◌≡◌};
 ghost use Rattle.document_tools.specs.Endings.{TellsLine, status_of, told_line};
 ghost use Rattle.document_tools.specs.Checks.{ChecksFile};
 ghost use Rattle.document_tools.specs.Stats.{StatsFile};
-ghost use Rattle.document_tools.specs.Runs.{CarriesOut, DumpsAsked};
+ghost use Rattle.document_tools.specs.Runs.{CarriesOut, DumpsAsked, LooksAt};
 ghost use Rattle.document_tools.specs.declared.ending.Ending.{Ending};
 
 use crate::checking::check_file;
 use crate::dumping::dump_file;
 use crate::ending::Ending;
-use crate::mapping::{Picture, map_file};
+use crate::mapping::map_file;
 use crate::other_slot::dump_other;
 use crate::restoring::{MakesNew, restore};
-use crate::stating::{Form, stat_file};
+use crate::stating::stat_file;
 use crate::viewer::Viewer;
+use document_commands::{Asked, Dumped, Form, Request};
 use document_dump::Which;
 use geos_shell::{Sink, Source};
 use std::alloc::Global;
 use vm_store::Files;
-
-/// Which documents of a file a dump has.
-#[derive(Clone, Copy)]
-pub enum Dumped {
-    /// The saved one and the updated one.
-    Both,
-    /// The saved one.
-    Saved,
-    /// Both of the commit before the last one.
-    Other,
-}
-
-/// What is asked of a file.
-#[derive(Clone, Copy)]
-pub enum Request {
-    /// Whether it opens, and what is wrong with it.
-    Check,
-    /// A script that makes documents of it again.
-    Dump(Dumped),
-    /// What it has, counted.
-    Stat(Form),
-    /// A picture of what lies in it.
-    Map(Picture),
-    /// It is to be made by a script.
-    Restore,
-}
 
 /// What the tools have of the machine.
 #[derive(Drop)]
@@ -100,22 +75,36 @@ fn dump_asked<V: Viewer, W: Sink + Drop>(
     }
 }
 
+fn look<V: Viewer, W: Sink + Drop>(
+    alloc: Global,
+    viewer: &mut V,
+    file: &str,
+    asked: Asked,
+    writer: W,
+) -> (W, Ending)
+    ensures { LooksAt V.views V.Opened.facts W.contents W.writes asked file.now viewer.old viewer.new writer
+        result.0 result.1 }
+{
+    match asked {
+        Asked::Dump(dumped) => dump_asked(alloc, viewer, file, dumped, writer),
+        Asked::Stat(form) => counted(alloc, viewer, file, form, writer),
+        Asked::Map(picture) => map_file(alloc, viewer, file, picture, writer),
+    }
+}
+
 fn carry_out<V: Viewer, F: Files, M: MakesNew, R: Source, W: Sink + Drop>(
     alloc: Global,
-    request: Request,
-    file: &str,
+    request: Request<'_>,
     machine: &mut Machine<V, F, M, R>,
     writer: W,
 ) -> (W, Ending)
     ensures { CarriesOut V.views V.Opened.facts F.calls F.Opened.facts M.makes R.remaining R.reads W.contents W.writes
-        request file.now machine.old machine.new writer result.0 result.1 }
+        request.entry machine.old machine.new writer result.0 result.1 }
 {
     match request {
-        Request::Check => checked(alloc, &mut machine.viewer, file, writer),
-        Request::Dump(asked) => dump_asked(alloc, &mut machine.viewer, file, asked, writer),
-        Request::Stat(form) => counted(alloc, &mut machine.viewer, file, form, writer),
-        Request::Map(picture) => map_file(alloc, &mut machine.viewer, file, picture, writer),
-        Request::Restore => {
+        Request::Check(file) => checked(alloc, &mut machine.viewer, file, writer),
+        Request::Look(asked, file) => look(alloc, &mut machine.viewer, file, asked, writer),
+        Request::Restore(file) => {
             let Machine {
                 files,
                 maker,
@@ -132,17 +121,16 @@ fn carry_out<V: Viewer, F: Files, M: MakesNew, R: Source, W: Sink + Drop>(
 /// status.
 pub fn run<V: Viewer, F: Files, M: MakesNew, R: Source, W: Sink + Drop, E: Sink>(
     alloc: Global,
-    request: Request,
-    file: &str,
+    request: Request<'_>,
     machine: &mut Machine<V, F, M, R>,
     writer: W,
     errors: &mut E,
 ) -> u8
     ensures { (ending : Ending) × (left : W)
         × CarriesOut V.views V.Opened.facts F.calls F.Opened.facts M.makes R.remaining R.reads W.contents W.writes
-        request file.now machine.old machine.new writer left ending
+        request.entry machine.old machine.new writer left ending
         × TellsLine E.writes (told_line ending) errors.old errors.new × (result ≡ status_of ending) }
 {
-    let (_left, ending) = carry_out(alloc, request, file, machine, writer);
+    let (_left, ending) = carry_out(alloc, request, machine, writer);
     ending.tell(errors)
 }

@@ -7,20 +7,12 @@ use crate::ending::{Ending, refused};
 use crate::looking::{send_text, unopened};
 use crate::obstacle::Obstacle;
 use crate::viewer::Viewer;
+use document_commands::Form;
 use document_stat::{FileStat, stat};
 use geos_shell::Sink;
 use stat_texts::{push_columns, push_json};
 use std::alloc::{AllocError, Global};
 use vm_store::Store;
-
-/// How numbers are told.
-#[derive(Clone, Copy)]
-pub enum Form {
-    /// As text in columns.
-    Columns,
-    /// As one JSON object.
-    Json,
-}
 
 fn push_stat(out: &mut Vec<u8>, stat: &FileStat, form: Form) -> Result<(), AllocError>
     ensures { OnOk result (out.new.items ≡ out.old.items ++ stat_text form stat.now) }

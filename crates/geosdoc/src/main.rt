@@ -6,8 +6,8 @@ mod read_only;
 mod run;
 
 use crate::run::run;
-use document_commands::{NoRequest as NoCommand, request};
-use document_tools::NoRequest;
+use document_commands::{NoRequest, request};
+use document_tools::tell_no_request;
 use std::process::ExitCode;
 use std::{env, io};
 
@@ -20,24 +20,15 @@ fn words(rt: &HostRuntime) -> io::Result<Vec<String>> {
     Ok(words)
 }
 
-/// Why the words ask for nothing, as it is told.
-fn told(none: NoCommand) -> NoRequest {
-    match none {
-        NoCommand::Told(text) => NoRequest::Told(text),
-        NoCommand::Usage(text) => NoRequest::Usage(text),
-        NoCommand::Memory => NoRequest::Memory,
-    }
-}
-
 fn main(rt: HostRuntime) -> ExitCode {
     let words = words(&rt);
     let asked = match &words {
-        Ok(words) => request(rt.alloc(), words).map_err(told),
+        Ok(words) => request(rt.alloc(), words),
         Err(_) => Err(NoRequest::Unread),
     };
     let status = match asked {
         Ok(request) => run(&rt, request),
-        Err(none) => none.tell(&mut io::writer(&rt), &mut rt.stderr()),
+        Err(none) => tell_no_request(&none, &mut io::writer(&rt), &mut rt.stderr()),
     };
     ExitCode::from(status)
 }

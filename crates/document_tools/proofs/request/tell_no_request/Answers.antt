@@ -1,6 +1,6 @@
 use Rattle.std.proofs.Common.{ℕ, List, Some, refl, subst}
 use Rattle.document_tools.specs.Endings.{TellsLine}
-use Rattle.document_tools.proofs.request.NoRequest.tell.Goals as goal
+use Rattle.document_tools.proofs.request.tell_no_request.Goals as goal
 
 -- What clap says is written as it is.
 pub returns-in-Usage : goal.returns-in-Usage
