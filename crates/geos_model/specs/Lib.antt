@@ -16,8 +16,10 @@ pub mod File
 pub mod FileLaws
 pub mod Cost
 pub mod Reply
+pub mod Forms
 pub mod Scope
 pub mod Targets
+pub mod LookUps
 pub mod Machine
 pub mod Laws
 pub mod EditLaws

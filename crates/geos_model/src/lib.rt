@@ -9,6 +9,7 @@ mod file;
 mod handle;
 mod law;
 mod limit;
+mod look_up;
 mod reply;
 mod target;
 
@@ -26,6 +27,10 @@ pub use law::{
 pub use limit::{
     CAPACITY, LONGEST_CHUNK, MOST_BLOCKS, MOST_BLOCKS_OF_VERSION_1, PAGE_LIMIT,
     PAGE_LIMIT_OF_VERSION_1,
+};
+pub use look_up::{
+    ArrayLookUp, BlockLookUp, ChainLookUp, ChunkArrayLookUp, ChunkLookUp, ElementArrayLookUp,
+    LookUp, NameArrayLookUp, PlainLookUp,
 };
 pub use reply::Reply;
 pub use target::{

@@ -3,8 +3,8 @@ ghost use Rattle.std.specs.Prelude.{◌≡◌};
 
 use crate::{ChunkHandle, Done, Info, Token, VmHandle};
 
-/// What an accepted command answers.
-#[derive(Drop)]
+/// What an accepted command answers. Bytes and lists are lent, so that a reply owns nothing.
+#[derive(Clone, Copy)]
 pub enum Reply<'a> {
     Accepted,
     Block(VmHandle),
@@ -12,8 +12,8 @@ pub enum Reply<'a> {
     Token(Token),
     Number(u64),
     Bytes(&'a [u8]),
-    Blocks(Vec<VmHandle>),
-    Chunks(Vec<ChunkHandle>),
+    Blocks(&'a [VmHandle]),
+    Chunks(&'a [ChunkHandle]),
     Info(Info),
     /// Whether two chains are the same.
     Equal(bool),

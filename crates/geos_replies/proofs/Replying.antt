@@ -2,6 +2,7 @@
 use Rattle.std.proofs.Common.{◌≡◌, List, ℕ, ◌++◌, Bool, true, false, length, refl, sym, ap, subst, Option, Result, Ok, OnOk, OnErr, IfErr, IsTrue, Err, Some, inr, ◌∷◌, [], ◌∙◌, is_err, is_ok, rules, None}
 use Rattle.std.specs.Prelude.{IsOkAnd, MatchResult}
 use Rattle.std.proofs.lemmas.List.{append_assoc, take_at}
+use Rattle.geos_model.specs.LookUps.{is_look_up}
 use Rattle.geos_model.specs.Reply.{Accepted, Refused, Reply, reply_by, reply_of, reply_of_done}
 use Rattle.geos_model.specs.declared.fault.Fault.{Fault}
 use Rattle.geos_model.specs.declared.fault.Fault.TheVariants as faults
@@ -17,7 +18,7 @@ use Rattle.undo_log.specs.Sessions.{SessionState, AnswersAlongChain, AnswersLook
 use Rattle.undo_log.proofs.Keeping.{kept_frames, kept_passes, keeps_refl}
 use Rattle.geos_replies.specs.Holdings.{AnswersRequest, AreExact, CommitsNothing, Holding, IsTakenIfSure, KeepsHolding, LeavesFiles, LeavesInMemory, MayServe, ServesRequest, SameFiles, failed_since_in, holding, machine}
 use Rattle.geos_replies.specs.Holdings.{is_refusal}
-use Rattle.geos_replies.specs.Replies.{Extends, Replied, Responds, Told, asks_no_body, is_look_up}
+use Rattle.geos_replies.specs.Replies.{Extends, Replied, Responds, Told, asks_no_body}
 use Rattle.geos_replies.proofs.FileFaults.{IsFailure, failed_in, file_along, file_at_rest, file_seen}
 use Rattle.geos_replies.proofs.Refusals.{keeps_all, keeps_with}
 use Rattle.geos_replies.proofs.Serving.{serves_passing, step_any}
@@ -158,6 +159,13 @@ module _ {S T E : Type 0} (facts : S → StoreFacts) (put : Result T E) (c : Com
         file = file_at_rest (machine_of false s) (machine_of false s) (Some c) reply (step false);
         text = said;
       }
+
+  -- one into one block, and one along chains, whose list is put
+  pub told_list : (old new : SessionState S) → AnswersLookUp facts old new c reply → OnOk put (after ≡ before ++ reply_text reply) → Told put facts old c new before after
+  told_list old new looks said = told old new looks.step looks.keeps (file_seen facts old new c reply looks.sees) said
+
+  pub told_list_along : (old new : SessionState S) → AnswersAlongChain facts old new c reply → OnOk put (after ≡ before ++ reply_text reply) → Told put facts old c new before after
+  told_list_along old new looks said = told old new looks.step looks.keeps (file_along facts old new c reply looks.sees) said
 
 -- the text of a look-up's reply, put behind what was there, leaves that
 pub extends_told : {S T E : Type 0} (put : Result T E) (facts : S → StoreFacts) (old new : SessionState S) (c : Command) (before after : List ℕ)

@@ -19,39 +19,6 @@ Puts makes answer result before after =
     (reply : Result GivenReply Fault) × MatchResult answer (λ x. IsOkAnd reply (makes x)) (λ fault. reply ≡ Err fault)
     × OnOk result (after ≡ before ++ reply_text (reply_by reply_of reply))
 
--- a command that asks of a chunk
-abbrev pub asks_chunk : Command → Bool
-asks_chunk (commands.Read b c) = true
-asks_chunk (commands.ArrayCount b c) = true
-asks_chunk (commands.ArrayElement b c i) = true
-asks_chunk (commands.ElementReferences b c t) = true
-asks_chunk (commands.ElementBytes b c t) = true
-asks_chunk (commands.ElementsUsed b c) = true
-asks_chunk (commands.TokenOfUsed b c k) = true
-asks_chunk (commands.UsedOfToken b c t) = true
-asks_chunk (commands.NameFind b c t) = true
-asks_chunk (commands.NameReferences b c t) = true
-asks_chunk (commands.NameText b c t) = true
-asks_chunk (commands.NamePart b c t) = true
-asks_chunk _ = false
-
--- a command that only asks
-abbrev pub is_look_up : Command → Bool
-is_look_up (commands.Info b) = true
-is_look_up (commands.HeapType b) = true
-is_look_up commands.List = true
-is_look_up (commands.Find uid start) = true
-is_look_up commands.MapBlock = true
-is_look_up (commands.ReadRaw b) = true
-is_look_up (commands.Chunks b) = true
-is_look_up (commands.Locks b) = true
-is_look_up (commands.Walk b) = true
-is_look_up (commands.ChainSize b) = true
-is_look_up (commands.ChainEqual b other) = true
-is_look_up commands.Undos = true
-is_look_up commands.Redos = true
-is_look_up command = asks_chunk command
-
 -- a command that asks of no block's body
 abbrev pub asks_no_body : Command → Bool
 asks_no_body (commands.HeapType b) = true

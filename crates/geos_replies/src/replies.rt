@@ -1,22 +1,25 @@
 //! A command is carried out by the session, and its reply line put behind those before it.
 ghost use Rattle.std.specs.Prelude.{◌≡◌, ◌≢◌, ◌++◌, true, IfErr, OnOk, OnErr, Some, IsTrue};
-ghost use Rattle.geos_model.specs.Reply.{Accepted, reply_by};
+ghost use Rattle.geos_model.specs.LookUps.{is_look_up};
+ghost use Rattle.geos_model.specs.Reply.{Accepted, blocks_are, chunks_are, reply_by};
 ghost use Rattle.geos_model.specs.Script.{command, reply_text};
 ghost use Rattle.geos_model.specs.declared.command.Command.TheVariants as commands;
 ghost use Rattle.geos_replies.specs.Holdings.{AreExact, KeepsHolding, MayServe, ServesRequest, failed_since_in, holding};
-ghost use Rattle.geos_replies.specs.Replies.{Extends, Puts, Replied, Responds, Told, asks_no_body, is_look_up};
+ghost use Rattle.geos_replies.specs.Replies.{Extends, Puts, Replied, Responds, Told, asks_no_body};
 
-use geos_model::{Command, Fault, Reply, VmHandle};
+use geos_model::{ChunkHandle, Command, Fault, Reply, VmHandle};
 use geos_script::{push_reply, read_command};
 use std::alloc::{AllocError, Global};
 use undo_log::Session;
 use vm_store::Store;
 
-// Puts the answer behind `out` of the row for what is asked, made a reply. Each row does so itself, since the session may
-// have lent it bytes.
+// Puts the answer behind `out` of the row for what is asked: a list by its own function, all else made a reply. Each row
+// does so itself, since the session may have lent it bytes.
 macro_rules! push_answer_to {
-    ($out:expr, $asked:expr; $($row:pat => $answer:expr, $make:expr;)*) => {
+    ($out:expr, $asked:expr; { $($asks_list:pat => $push:ident($list:expr);)* }
+    $($row:pat => $answer:expr, $make:expr;)*) => {
         match $asked {
+            $($asks_list => $push($out, $list),)*
             $($row => push_answer($out, $answer, $make),)*
             _ => unreachable!(),
         }
@@ -41,6 +44,36 @@ fn push_answer<'a, T, F: FnOnce(T) -> Reply<'a> + Drop>(
     }
 }
 
+// Puts a list of blocks behind `out`.
+fn push_blocks(
+    out: &mut Vec<u8>,
+    answer: Result<Vec<VmHandle>, Fault>,
+) -> Result<(), AllocError>
+    ensures ok { OnOk result (out.new.items ≡ out.old.items
+        ++ reply_text (reply_by (λ blocks. blocks_are blocks.items) answer)) }
+    ensures err { OnErr result (Extends out.old.items out.new.items) }
+{
+    match answer {
+        Ok(blocks) => push_reply(out, Ok(Reply::Blocks(&blocks))),
+        Err(fault) => push_reply(out, Err(fault)),
+    }
+}
+
+// Puts a list of chunks behind `out`.
+fn push_chunks(
+    out: &mut Vec<u8>,
+    answer: Result<Vec<ChunkHandle>, Fault>,
+) -> Result<(), AllocError>
+    ensures ok { OnOk result (out.new.items ≡ out.old.items
+        ++ reply_text (reply_by (λ chunks. chunks_are chunks.items) answer)) }
+    ensures err { OnErr result (Extends out.old.items out.new.items) }
+{
+    match answer {
+        Ok(chunks) => push_reply(out, Ok(Reply::Chunks(&chunks))),
+        Err(fault) => push_reply(out, Err(fault)),
+    }
+}
+
 // Puts the reply to a look-up behind `out`, without its line feed.
 fn push_look_up<S: Store>(
     session: &mut Session<S>,
@@ -53,14 +86,17 @@ fn push_look_up<S: Store>(
     ensures err { OnErr result (Extends out.old.items out.new.items) }
 {
     push_answer_to! { out, look_up;
+        {
+            Command::List => push_blocks(session.list());
+            Command::Chunks(block) => push_chunks(session.chunks(*block));
+            Command::Walk(root) => push_blocks(session.walk(*root));
+        }
         Command::Info(block) => session.info(*block), |info| Reply::Info(info);
         Command::HeapType(block) => session.heap_type(*block), |n| Reply::Number(u64::from(n));
-        Command::List => session.list(), |blocks| Reply::Blocks(blocks);
         Command::Find(user_id, start) =>
             Ok(session.find(*user_id, *start).unwrap_or(VmHandle(0))), |block| Reply::Block(block);
         Command::MapBlock => Ok(session.map_block()), |block| Reply::Block(block);
         Command::ReadRaw(block) => session.read_raw(*block), Reply::Bytes;
-        Command::Chunks(block) => session.chunks(*block), |chunks| Reply::Chunks(chunks);
         Command::Read(block, chunk) => session.read_chunk(*block, *chunk), Reply::Bytes;
         Command::ArrayCount(block, chunk) => session.array_count(*block, *chunk), |n| Reply::Number(n as u64);
         Command::ArrayElement(block, chunk, i) => session.array_element(*block, *chunk, *i), Reply::Bytes;
@@ -78,7 +114,6 @@ fn push_look_up<S: Store>(
         Command::NameText(block, chunk, token) => session.name_text(*block, *chunk, *token), Reply::Bytes;
         Command::NamePart(block, chunk, token) => session.name_part(*block, *chunk, *token), Reply::Bytes;
         Command::Locks(block) => session.locks(*block), |n| Reply::Number(u64::from(n));
-        Command::Walk(root) => session.walk(*root), |blocks| Reply::Blocks(blocks);
         Command::ChainSize(root) => session.chain_size(*root), |n| Reply::Number(u64::from(n));
         Command::ChainEqual(first, second) => session.chain_equal(*first, *second), |equal| Reply::Equal(equal);
         Command::Undos => Ok(session.undo_count()), |n| Reply::Number(n as u64);

@@ -1,8 +1,9 @@
 use Rattle.std.proofs.Common.{ap, rules}
-use Rattle.geos_model.specs.Reply.{AreEqual, BlockIs, BytesAre, NumberIs, TokenIs, blocks_are, chunks_are, info_is, reply_of}
+use Rattle.geos_model.specs.Reply.{AreEqual, BlockIs, BytesAre, NumberIs, TokenIs, blocks_are, chunks_are, info_is, reply_by, reply_of}
+use Rattle.geos_model.specs.declared.command.Command.TheVariants as commands
 use Rattle.undo_log.specs.Sessions.{machine_of}
 use Rattle.geos_replies.proofs.LookUps.{find_step, map_block_step, undos_step, redos_step}
-use Rattle.geos_replies.proofs.Replying.{told_along, told_given_at_rest, told_mapped_at_rest, told_seen}
+use Rattle.geos_replies.proofs.Replying.{told_along, told_at_rest, told_given_at_rest, told_list, told_list_along, told_mapped_at_rest, told_seen}
 use Rattle.geos_replies.proofs.replies.push_look_up.Goals as goal
 
 pub returns-in-Info-clause-told : goal.returns-in-Info-clause-told
@@ -12,7 +13,7 @@ pub returns-in-HeapType-clause-told : goal.returns-in-HeapType-clause-told
 returns-in-HeapType-clause-told g c = rw c.in-HeapType.is (told_mapped_at_rest g.S.Store.facts c.push_answer-in-HeapType.result _ NumberIs _ c.heap_type.result c.push_answer-in-HeapType.ensures.puts.0 _ _ c.push_answer-in-HeapType.ensures.puts.1 (λ x y h. search rules) c.push_answer-in-HeapType.ensures.puts.2 c.args.session.now c.heap_type.ensures)
 
 pub returns-in-List-clause-told : goal.returns-in-List-clause-told
-returns-in-List-clause-told g c = rw c.in-List.is (told_mapped_at_rest g.S.Store.facts c.push_answer-in-List.result _ (λ handles. blocks_are handles.items) _ c.list.result c.push_answer-in-List.ensures.puts.0 _ _ c.push_answer-in-List.ensures.puts.1 (λ x y h. search rules) c.push_answer-in-List.ensures.puts.2 c.args.session.now c.list.ensures)
+returns-in-List-clause-told g c = rw c.in-List.is (told_at_rest g.S.Store.facts c.push_blocks.result commands.List (reply_by (λ blocks. blocks_are blocks.items) c.list.result) _ _ c.args.session.now c.list.ensures c.push_blocks.ensures.ok)
 
 pub returns-in-Find-clause-told : goal.returns-in-Find-clause-told
 returns-in-Find-clause-told g c = rw c.in-Find.is (told_given_at_rest g.S.Store.facts c.push_answer-in-Find.result _ (BlockIs c.unwrap_or.result.0) _ c.push_answer-in-Find.ensures.puts.0 _ _ c.push_answer-in-Find.ensures.puts.1 (λ y h. search rules) c.push_answer-in-Find.ensures.puts.2 c.args.session.now (λ target. find_step (machine_of target c.args.session.now) _ _ _ _ c.find.ensures c.unwrap_or.ensures))
@@ -24,13 +25,13 @@ pub returns-in-ReadRaw-clause-told : goal.returns-in-ReadRaw-clause-told
 returns-in-ReadRaw-clause-told g c = rw c.in-ReadRaw.is (told_seen g.S.Store.facts c.push_answer-in-ReadRaw.result _ (λ bytes. BytesAre bytes.now) _ c.read_raw.result c.push_answer-in-ReadRaw.ensures.puts.0 _ _ c.push_answer-in-ReadRaw.ensures.puts.1 (λ x y h. ap reply_of h) c.push_answer-in-ReadRaw.ensures.puts.2 c.args.session.now c.read_raw.follows.lender-at-none c.read_raw.follows.holds-at-none)
 
 pub returns-in-Chunks-clause-told : goal.returns-in-Chunks-clause-told
-returns-in-Chunks-clause-told g c = rw c.in-Chunks.is (told_seen g.S.Store.facts c.push_answer-in-Chunks.result _ (λ handles. chunks_are handles.items) _ c.chunks.result c.push_answer-in-Chunks.ensures.puts.0 _ _ c.push_answer-in-Chunks.ensures.puts.1 (λ x y h. search rules) c.push_answer-in-Chunks.ensures.puts.2 c.args.session.now c.chunks.new.self c.chunks.ensures)
+returns-in-Chunks-clause-told g c = rw c.in-Chunks.is (told_list g.S.Store.facts c.push_chunks.result _ (reply_by (λ chunks. chunks_are chunks.items) c.chunks.result) _ _ c.args.session.now c.chunks.new.self c.chunks.ensures c.push_chunks.ensures.ok)
 
 pub returns-in-Locks-clause-told : goal.returns-in-Locks-clause-told
 returns-in-Locks-clause-told g c = rw c.in-Locks.is (told_mapped_at_rest g.S.Store.facts c.push_answer-in-Locks.result _ NumberIs _ c.locks.result c.push_answer-in-Locks.ensures.puts.0 _ _ c.push_answer-in-Locks.ensures.puts.1 (λ x y h. search rules) c.push_answer-in-Locks.ensures.puts.2 c.args.session.now c.locks.ensures)
 
 pub returns-in-Walk-clause-told : goal.returns-in-Walk-clause-told
-returns-in-Walk-clause-told g c = rw c.in-Walk.is (told_along g.S.Store.facts c.push_answer-in-Walk.result _ (λ handles. blocks_are handles.items) _ c.walk.result c.push_answer-in-Walk.ensures.puts.0 _ _ c.push_answer-in-Walk.ensures.puts.1 (λ x y h. search rules) c.push_answer-in-Walk.ensures.puts.2 c.args.session.now c.walk.new.self c.walk.ensures)
+returns-in-Walk-clause-told g c = rw c.in-Walk.is (told_list_along g.S.Store.facts c.push_blocks-in-Walk.result _ (reply_by (λ blocks. blocks_are blocks.items) c.walk.result) _ _ c.args.session.now c.walk.new.self c.walk.ensures c.push_blocks-in-Walk.ensures.ok)
 
 pub returns-in-ChainSize-clause-told : goal.returns-in-ChainSize-clause-told
 returns-in-ChainSize-clause-told g c = rw c.in-ChainSize.is (told_along g.S.Store.facts c.push_answer-in-ChainSize.result _ NumberIs _ c.chain_size.result c.push_answer-in-ChainSize.ensures.puts.0 _ _ c.push_answer-in-ChainSize.ensures.puts.1 (λ x y h. search rules) c.push_answer-in-ChainSize.ensures.puts.2 c.args.session.now c.chain_size.new.self c.chain_size.ensures)

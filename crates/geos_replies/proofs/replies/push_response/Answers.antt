@@ -1,8 +1,8 @@
 use Rattle.std.proofs.Common.{◌≡◌, true, refl, rules}
 use Rattle.std.proofs.lemmas.Result.{on_err_weaker}
+use Rattle.geos_model.specs.LookUps.{is_look_up}
 use Rattle.geos_model.specs.Reply.{Accepted, reply_of_done}
 use Rattle.geos_model.specs.declared.fault.Fault.TheVariants as faults
-use Rattle.geos_replies.specs.Replies.{is_look_up}
 use Rattle.geos_replies.proofs.Calls.{on_err_always, was_ok}
 use Rattle.geos_replies.proofs.FileFaults.{file_abandon, file_commit, file_edit, file_lock, file_turn, file_unlock, file_wrong}
 use Rattle.geos_replies.proofs.Frames.{frames_abandon, frames_edit, frames_lock, frames_log, frames_same, frames_turn}
