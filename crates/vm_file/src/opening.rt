@@ -190,7 +190,7 @@ fn read_saved<S: Store>(
 }
 
 /// Reads the two documents of a slot. Damaged, Memory, File.
-fn read_pair<S: Store>(
+pub fn read_pair<S: Store>(
     alloc: Global,
     store: &mut S,
     file_length: u64,
@@ -253,10 +253,8 @@ fn sync<S: Store>(store: &mut S) -> Result<(), Fault>
     ensures file { IsErrOf result Fault.File → FailedSince (S.facts store.old) (S.facts store.new) }
     ensures refusals { IfErr result (λ fault. fault ≡ Fault.File) }
 {
-    match store.sync() {
-        Ok(()) => Ok(()),
-        Err(_) => Err(Fault::File),
-    }
+    store.sync()?;
+    Ok(())
 }
 
 /// Reads what the store has, and syncs it: what was read is on the disk from then on. NotDocument, Damaged, Memory,
