@@ -31,13 +31,13 @@ DumpsAsked views facts contents writes documents.Other file old new from to endi
     DumpsOtherFile views facts contents writes file old new from to ending
 
 -- what is asked of a file but for a check
-abbrev pub LooksAt : {V S W : Type 0} → Views V S → (S → StoreFacts) → (W → Option (List ℕ)) → Writes W → Asked
+abbrev pub CarriesOutLook : {V S W : Type 0} → Views V S → (S → StoreFacts) → (W → Option (List ℕ)) → Writes W → Asked
     → List ℕ → V → V → W → W → Ending → Type 0
-LooksAt views facts contents writes (asked.Dump dumped) file old new from to ending =
+CarriesOutLook views facts contents writes (asked.Dump dumped) file old new from to ending =
     DumpsAsked views facts contents writes dumped file old new from to ending
-LooksAt views facts contents writes (asked.Stat form) file old new from to ending =
+CarriesOutLook views facts contents writes (asked.Stat form) file old new from to ending =
     StatsFile views facts writes file form old new from to ending
-LooksAt views facts contents writes (asked.Map picture) file old new from to ending =
+CarriesOutLook views facts contents writes (asked.Map picture) file old new from to ending =
     MapsFile views facts contents writes file picture old new from to ending
 
 -- no file is opened but to be read alone, none is made, and no script is read
@@ -52,7 +52,7 @@ CarriesOut views viewed calls facts makes remaining reads contents writes (reque
     ChecksFile views viewed writes file.now old.viewer new.viewer from to ending × OnlyLooks old new
 CarriesOut views viewed calls facts makes remaining reads contents writes (requests.Look looked file) old new from to
     ending =
-    LooksAt views viewed contents writes looked file.now old.viewer new.viewer from to ending × OnlyLooks old new
+    CarriesOutLook views viewed contents writes looked file.now old.viewer new.viewer from to ending × OnlyLooks old new
 CarriesOut views viewed calls facts makes remaining reads contents writes (requests.Restore file) old new from to ending =
     Restores calls facts makes file.now old.files old.maker new.files new.maker (remaining old.reader)
     (remaining new.reader) (StopsReading reads (2 ^ 24) old.reader new.reader) ending

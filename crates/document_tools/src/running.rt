@@ -3,7 +3,7 @@ ghost use Rattle.std.specs.Prelude.{◌≡◌};
 ghost use Rattle.document_tools.specs.Endings.{TellsLine, status_of, told_line};
 ghost use Rattle.document_tools.specs.Checks.{ChecksFile};
 ghost use Rattle.document_tools.specs.Stats.{StatsFile};
-ghost use Rattle.document_tools.specs.Runs.{CarriesOut, DumpsAsked, LooksAt};
+ghost use Rattle.document_tools.specs.Runs.{CarriesOut, DumpsAsked, CarriesOutLook};
 ghost use Rattle.document_tools.specs.declared.ending.Ending.{Ending};
 
 use crate::checking::check_file;
@@ -82,7 +82,7 @@ fn look<V: Viewer, W: Sink + Drop>(
     asked: Asked,
     writer: W,
 ) -> (W, Ending)
-    ensures { LooksAt V.views V.Opened.facts W.contents W.writes asked file.now viewer.old viewer.new writer
+    ensures { CarriesOutLook V.views V.Opened.facts W.contents W.writes asked file.now viewer.old viewer.new writer
         result.0 result.1 }
 {
     match asked {

@@ -7,8 +7,8 @@ abbrev pub byte_of : BodyKind → ℕ
 byte_of Raw = 0
 byte_of Heap = 1
 
-abbrev pub kind_of : ℕ → BodyKind
-kind_of byte = if byte == 0 then Raw else Heap
+abbrev pub body_kind_of : ℕ → BodyKind
+body_kind_of byte = if byte == 0 then Raw else Heap
 
 abbrev pub is_heap_kind : BodyKind → Bool
 is_heap_kind Raw = false

@@ -1,6 +1,6 @@
 //! Of which kind the body of an image is.
 ghost use Rattle.std.specs.Prelude.{◌≡◌};
-ghost use Rattle.vm_format.specs.Kinds.{byte_of, is_heap_kind, kind_of};
+ghost use Rattle.vm_format.specs.Kinds.{byte_of, is_heap_kind, body_kind_of};
 
 /// The kind of a body, which the first byte of its image tells.
 #[derive(Clone, Copy, Debug, PartialEq, Eq)]
@@ -23,7 +23,7 @@ impl BodyKind {
     /// Of which kind an image is that begins with this byte, if it is one: what begins with neither kind's is taken for
     /// a heap's, and is found to be none where its table is read.
     pub fn of_byte(byte: u8) -> BodyKind
-        ensures { result ≡ kind_of byte }
+        ensures { result ≡ body_kind_of byte }
     {
         if byte == 0 {
             BodyKind::Raw
