@@ -200,10 +200,8 @@ pub fn commit_pair<S: Store>(
     ensures refusals { IfErr result (λ fault. fault ≡ Fault.File) }
 {
     let _ = live;
-    match commit_slots(store, slots, pair) {
-        Ok(()) => Ok(()),
-        Err(StoreFault) => Err(Fault::File),
-    }
+    commit_slots(store, slots, pair)?;
+    Ok(())
 }
 
 /// The saved document beside a pending one: the pending one where the commit `saves`, else the one that was saved.

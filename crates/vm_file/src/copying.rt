@@ -125,10 +125,8 @@ fn copy_image<S: Store>(
         return Ok(());
     };
     let image = read_image(alloc, source, place)?;
-    match target.write_at(u64::from(PAGE) * u64::from(page), &image) {
-        Ok(()) => Ok(()),
-        Err(_) => Err(Fault::File),
-    }
+    target.write_at(u64::from(PAGE) * u64::from(page), &image)?;
+    Ok(())
 }
 
 /// Copies all images of a document, one behind the other. One at a time is in memory. Damaged, Memory, File.
@@ -233,8 +231,6 @@ pub fn copy_document<S: Store>(
     let plan = plan_copy(alloc, live)?;
     empty(target)?;
     copy_images(alloc, source, &live.places, target)?;
-    match initialize(target, plan.directory, &plan.text) {
-        Ok(()) => Ok(plan.made),
-        Err(_) => Err(Fault::File),
-    }
+    initialize(target, plan.directory, &plan.text)?;
+    Ok(plan.made)
 }

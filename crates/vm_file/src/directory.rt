@@ -18,7 +18,7 @@ use geos_model::{Attributes, Entry, Extent, Fault, VmHandle};
 use std::alloc::{AllocError, Global};
 use vm_format::{begin_directory, push_entry};
 use vm_space::FreeSpace;
-use vm_store::{Store, StoreFault};
+use vm_store::Store;
 
 fn entry_of(handle: u16, attributes: Attributes, extent: Extent) -> Entry
     ensures entry { result ≡ record { handle = record { 0 = handle }; attributes = attributes; extent = extent } }
@@ -111,8 +111,6 @@ pub fn write_pending<S: Store>(
     ensures refusals { IfErr result (λ fault. fault ≡ Fault.File) }
 {
     let _ = live;
-    match write_extent(store, slots, pending.document.directory, &pending.text) {
-        Ok(()) => Ok(()),
-        Err(StoreFault) => Err(Fault::File),
-    }
+    write_extent(store, slots, pending.document.directory, &pending.text)?;
+    Ok(())
 }

@@ -125,10 +125,8 @@ pub fn empty<S: Store>(store: &mut S) -> Result<(), Fault>
     ensures file { IsErrOf result Fault.File → FailedSince (S.facts store.old) (S.facts store.new) }
     ensures refusals { IfErr result (λ fault. fault ≡ Fault.File) }
 {
-    match store.set_len(0) {
-        Ok(()) => Ok(()),
-        Err(_) => Err(Fault::File),
-    }
+    store.set_len(0)?;
+    Ok(())
 }
 
 /// Makes the store a file of no block, of 1,040 bytes. All memory is taken before the store is called.
@@ -156,8 +154,6 @@ pub fn make_empty<S: Store>(alloc: Global, store: &mut S) -> Result<NewFile, Fau
     let made = first_slots(alloc, live, directory)?;
     let text = write_dir(alloc, VmHandle(0), &[])?;
     empty(store)?;
-    match initialize(store, directory, &text) {
-        Ok(()) => Ok(made),
-        Err(_) => Err(Fault::File),
-    }
+    initialize(store, directory, &text)?;
+    Ok(made)
 }

@@ -253,10 +253,8 @@ fn sync<S: Store>(store: &mut S) -> Result<(), Fault>
     ensures file { IsErrOf result Fault.File → FailedSince (S.facts store.old) (S.facts store.new) }
     ensures refusals { IfErr result (λ fault. fault ≡ Fault.File) }
 {
-    match store.sync() {
-        Ok(()) => Ok(()),
-        Err(_) => Err(Fault::File),
-    }
+    store.sync()?;
+    Ok(())
 }
 
 /// Reads what the store has, and syncs it: what was read is on the disk from then on. NotDocument, Damaged, Memory,

@@ -94,11 +94,9 @@ pub fn write_puts<S: Store>(
     }
     let mut space = known_space(alloc, live, slots, space)?;
     let extents = place_images(alloc, &mut space, puts)?;
-    match write_images(store, slots, &extents, puts) {
-        Ok(()) => Ok(Written {
-            extents,
-            space: Some(space),
-        }),
-        Err(_) => Err(Fault::File),
-    }
+    write_images(store, slots, &extents, puts)?;
+    Ok(Written {
+        extents,
+        space: Some(space),
+    })
 }

@@ -16,10 +16,7 @@ pub fn read_length<S: Store>(store: &mut S) -> Result<u64, Fault>
     ensures file { IsErrOf result Fault.File → FailedSince (S.facts store.old) (S.facts store.new) }
     ensures refusals { IfErr result (λ fault. fault ≡ Fault.File) }
 {
-    match store.len() {
-        Ok(n) => Ok(n),
-        Err(_) => Err(Fault::File),
-    }
+    Ok(store.len()?)
 }
 
 /// The bytes of an extent. Memory, File.
@@ -37,8 +34,6 @@ pub fn read_extent<S: Store>(alloc: Global, store: &mut S, extent: Extent) -> Re
     ensures refusals { IfErr result IsResourceFault }
 {
     let mut bytes = vec![in alloc; 0; extent.length as usize]?;
-    match store.read_at(start_of(extent), &mut bytes) {
-        Ok(()) => Ok(bytes),
-        Err(_) => Err(Fault::File),
-    }
+    store.read_at(start_of(extent), &mut bytes)?;
+    Ok(bytes)
 }

@@ -32,16 +32,12 @@ pub fn read_raw_slot<S: Store>(store: &mut S, page: u32) -> Result<RawSlot, Faul
     ensures refusals { IfErr result (λ fault. fault ≡ Fault.File) }
 {
     let mut bytes = [0; SLOT_LENGTH];
-    match store.read_at(u64::from(PAGE) * u64::from(page), &mut bytes) {
-        Ok(()) => {
-            are_bytes(&bytes);
-            Ok(RawSlot {
-                gate: bytes[4],
-                slot: read_slot(&bytes),
-            })
-        }
-        Err(_) => Err(Fault::File),
-    }
+    store.read_at(u64::from(PAGE) * u64::from(page), &mut bytes)?;
+    are_bytes(&bytes);
+    Ok(RawSlot {
+        gate: bytes[4],
+        slot: read_slot(&bytes),
+    })
 }
 
 /// Which of two slots counts, 0 or 1, and what there is of it: of two open ones that of the greater sequence number.

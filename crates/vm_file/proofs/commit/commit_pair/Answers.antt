@@ -1,4 +1,5 @@
 use Rattle.std.proofs.Common.{arith}
+use Rattle.std.proofs.lemmas.Result.{err_from_is_err_and}
 use Rattle.vm_file.proofs.CommitLemmas.{IsCommit, counts_rise, ok_commits, ok_sound, ok_live, err_commits, err_sound, err_live}
 use Rattle.geos_model.specs.declared.fault.Fault.TheVariants.{File}
 use Rattle.vm_file.proofs.commit.commit_pair.Given.{Over}
@@ -21,20 +22,22 @@ called g c = record {
   leaves = λ so was there. c.commit_slots.ensures.leaves (g.S.Store.facts c.args.store.now).content so was there;
 }
 
-pub returns-in-Ok-clause-commits : goal.returns-in-Ok-clause-commits
-returns-in-Ok-clause-commits g c = ok_commits g.S.Store.facts _ _ c.args.live.now c.args.slots.now c.commit_slots.new.slots c.args.pair (called g c.before) c.in-Ok.ensures.ok
+pub returns-clause-commits : goal.returns-clause-commits
+returns-clause-commits g c = ok_commits g.S.Store.facts _ _ c.args.live.now c.args.slots.now c.commit_slots.new.slots c.args.pair (called g (goal.at.returns-clause-commits g c).After-commit_slots) c.in_ok-commit_slots.ensures.ok
 
-pub returns-in-Ok-clause-sound : goal.returns-in-Ok-clause-sound
-returns-in-Ok-clause-sound g c = ok_sound g.S.Store.facts _ _ c.args.live.now c.args.slots.now c.commit_slots.new.slots c.args.pair (called g c.before) c.in-Ok.ensures.ok
+pub returns-clause-sound : goal.returns-clause-sound
+returns-clause-sound g c = ok_sound g.S.Store.facts _ _ c.args.live.now c.args.slots.now c.commit_slots.new.slots c.args.pair (called g (goal.at.returns-clause-sound g c).After-commit_slots) c.in_ok-commit_slots.ensures.ok
 
-pub returns-in-Ok-clause-live : goal.returns-in-Ok-clause-live
-returns-in-Ok-clause-live g c = ok_live g.S.Store.facts _ _ c.args.live.now c.args.slots.now c.commit_slots.new.slots c.args.pair (called g c.before) c.in-Ok.ensures.ok
+pub returns-clause-live : goal.returns-clause-live
+returns-clause-live g c = ok_live g.S.Store.facts _ _ c.args.live.now c.args.slots.now c.commit_slots.new.slots c.args.pair (called g (goal.at.returns-clause-live g c).After-commit_slots) c.in_ok-commit_slots.ensures.ok
 
-pub returns-in-Err-clause-commits : goal.returns-in-Err-clause-commits
-returns-in-Err-clause-commits g c = err_commits g.S.Store.facts _ _ c.args.live.now c.args.slots.now c.commit_slots.new.slots c.args.pair (called g c.before) c.in-Err.ensures.err c.in-Err.ensures.early File
+pub returns-in_err-commit_slots-clause-commits : goal.returns-in_err-commit_slots-clause-commits
+returns-in_err-commit_slots-clause-commits g c =
+    let p = err_from_is_err_and c.from_residual.result c.from_residual.ensures.1 in
+    rw (p.1, p.2) (err_commits g.S.Store.facts _ _ c.args.live.now c.args.slots.now c.commit_slots.new.slots c.args.pair (called g (goal.at.returns-in_err-commit_slots-clause-commits g c).After-commit_slots) c.in_err-commit_slots.ensures.err c.in_err-commit_slots.ensures.early File)
 
-pub returns-in-Err-clause-sound : goal.returns-in-Err-clause-sound
-returns-in-Err-clause-sound g c = err_sound g.S.Store.facts _ _ c.args.live.now c.args.slots.now c.commit_slots.new.slots c.args.pair (called g c.before) c.in-Err.ensures.err
+pub returns-in_err-commit_slots-clause-sound : goal.returns-in_err-commit_slots-clause-sound
+returns-in_err-commit_slots-clause-sound g c = err_sound g.S.Store.facts _ _ c.args.live.now c.args.slots.now c.commit_slots.new.slots c.args.pair (called g (goal.at.returns-in_err-commit_slots-clause-sound g c).After-commit_slots) c.in_err-commit_slots.ensures.err
 
-pub returns-in-Err-clause-live : goal.returns-in-Err-clause-live
-returns-in-Err-clause-live g c = err_live g.S.Store.facts _ _ c.args.live.now c.args.slots.now c.commit_slots.new.slots c.args.pair (called g c.before) c.in-Err.ensures.err
+pub returns-in_err-commit_slots-clause-live : goal.returns-in_err-commit_slots-clause-live
+returns-in_err-commit_slots-clause-live g c = err_live g.S.Store.facts _ _ c.args.live.now c.args.slots.now c.commit_slots.new.slots c.args.pair (called g (goal.at.returns-in_err-commit_slots-clause-live g c).After-commit_slots) c.in_err-commit_slots.ensures.err

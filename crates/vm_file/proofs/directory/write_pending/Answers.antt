@@ -25,24 +25,24 @@ called g c = record {
   leaves = λ so was. c.write_extent.ensures.leaves (g.S.Store.facts c.args.store.now).content so was;
 }
 
-pub returns-in-Ok-clause-passes : goal.returns-in-Ok-clause-passes
-returns-in-Ok-clause-passes g c = write_passes g.S.Store.facts _ _ c.args.live.now c.args.slots.now c.args.pending.now (called g c.before)
+pub returns-clause-passes : goal.returns-clause-passes
+returns-clause-passes g c = write_passes g.S.Store.facts _ _ c.args.live.now c.args.slots.now c.args.pending.now (called g (goal.at.returns-clause-passes g c).After-write_extent)
 
-pub returns-in-Ok-clause-sound : goal.returns-in-Ok-clause-sound
-returns-in-Ok-clause-sound g c = write_sound g.S.Store.facts _ _ c.args.live.now c.args.slots.now c.args.pending.now (called g c.before)
+pub returns-clause-sound : goal.returns-clause-sound
+returns-clause-sound g c = write_sound g.S.Store.facts _ _ c.args.live.now c.args.slots.now c.args.pending.now (called g (goal.at.returns-clause-sound g c).After-write_extent)
 
-pub returns-in-Ok-clause-same : goal.returns-in-Ok-clause-same
-returns-in-Ok-clause-same g c = write_same g.S.Store.facts _ _ c.args.live.now c.args.slots.now c.args.pending.now (called g c.before)
+pub returns-clause-same : goal.returns-clause-same
+returns-clause-same g c = write_same g.S.Store.facts _ _ c.args.live.now c.args.slots.now c.args.pending.now (called g (goal.at.returns-clause-same g c).After-write_extent)
 
-pub returns-in-Err-clause-passes : goal.returns-in-Err-clause-passes
-returns-in-Err-clause-passes g c = write_passes g.S.Store.facts _ _ c.args.live.now c.args.slots.now c.args.pending.now (called g c.before)
+pub returns-in_err-write_extent-clause-passes : goal.returns-in_err-write_extent-clause-passes
+returns-in_err-write_extent-clause-passes g c = write_passes g.S.Store.facts _ _ c.args.live.now c.args.slots.now c.args.pending.now (called g (goal.at.returns-in_err-write_extent-clause-passes g c).After-write_extent)
 
-pub returns-in-Err-clause-sound : goal.returns-in-Err-clause-sound
-returns-in-Err-clause-sound g c = write_sound g.S.Store.facts _ _ c.args.live.now c.args.slots.now c.args.pending.now (called g c.before)
+pub returns-in_err-write_extent-clause-sound : goal.returns-in_err-write_extent-clause-sound
+returns-in_err-write_extent-clause-sound g c = write_sound g.S.Store.facts _ _ c.args.live.now c.args.slots.now c.args.pending.now (called g (goal.at.returns-in_err-write_extent-clause-sound g c).After-write_extent)
 
-pub returns-in-Err-clause-same : goal.returns-in-Err-clause-same
-returns-in-Err-clause-same g c = write_same g.S.Store.facts _ _ c.args.live.now c.args.slots.now c.args.pending.now (called g c.before)
+pub returns-in_err-write_extent-clause-same : goal.returns-in_err-write_extent-clause-same
+returns-in_err-write_extent-clause-same g c = write_same g.S.Store.facts _ _ c.args.live.now c.args.slots.now c.args.pending.now (called g (goal.at.returns-in_err-write_extent-clause-same g c).After-write_extent)
 
-pub returns-in-Ok-clause-written : goal.returns-in-Ok-clause-written
-returns-in-Ok-clause-written g c so = write_stored g.S.Store.facts _ _ c.args.live.now c.args.slots.now c.args.pending.now (called g c.before) so
-    (subst (λ bytes. Holds (g.S.Store.facts c.write_extent.new.store).content (start_of c.args.pending.now.document.directory) bytes) c.deref.ensures.value (c.in-Ok.ensures.written so))
+pub returns-clause-written : goal.returns-clause-written
+returns-clause-written g c so = write_stored g.S.Store.facts _ _ c.args.live.now c.args.slots.now c.args.pending.now (called g (goal.at.returns-clause-written g c).After-write_extent) so
+    (subst (λ bytes. Holds (g.S.Store.facts c.write_extent.new.store).content (start_of c.args.pending.now.document.directory) bytes) c.deref.ensures.value (c.in_ok-write_extent.ensures.written so))

@@ -6,8 +6,8 @@ use Rattle.vm_file.proofs.FirstFileLemmas.{first_bytes}
 use Rattle.vm_file.proofs.MakingLemmas.{IsEmpty, first_sound, empty_founding, empty_lying}
 use Rattle.vm_file.proofs.making.make_empty.Goals as goal
 
-pub returns-in-Ok-clause-sound : goal.returns-in-Ok-clause-sound
-returns-in-Ok-clause-sound g c =
+pub returns-clause-sound : goal.returns-clause-sound
+returns-clause-sound g c =
     let live = c.empty_table-live.result in
     let slots = c.in_ok-made.made.slots in
     let store = g.S.Store.facts c.initialize.new.store in
@@ -18,11 +18,11 @@ returns-in-Ok-clause-sound g c =
     (λ so.
     let was = subst IsTrue c.initialize.ensures.honest so in
     let first = subst IsTrue c.empty.ensures.honest was in
-    (empty_lying live none, subst (λ t. IsLaid 1 first_directory t [] store.content) text (subst (λ f. IsLaid 1 first_directory c.deref.result.now f store.content) (c.in_ok-empty.ensures.empty first) (c.in-Ok.ensures.laid was)), c.in-Ok.ensures.durable was)))
+    (empty_lying live none, subst (λ t. IsLaid 1 first_directory t [] store.content) text (subst (λ f. IsLaid 1 first_directory c.deref.result.now f store.content) (c.in_ok-empty.ensures.empty first) (c.in_ok-initialize.ensures.laid was)), c.in_ok-initialize.ensures.durable was)))
 
-pub returns-in-Ok-clause-bytes : goal.returns-in-Ok-clause-bytes
-returns-in-Ok-clause-bytes g c so =
+pub returns-clause-bytes : goal.returns-clause-bytes
+returns-clause-bytes g c so =
     let content = (g.S.Store.facts c.initialize.new.store).content in
     let text : c.deref.result.now ≡ directory_text no_blocks = c.deref.ensures.value ∙ c.in_ok-text.ensures in
     let was = subst IsTrue (sym c.empty.ensures.honest) so in
-    first_bytes content (subst (λ t. IsLaid 1 first_directory t [] content) text (subst (λ f. IsLaid 1 first_directory c.deref.result.now f content) (c.in_ok-empty.ensures.empty so) (c.in-Ok.ensures.laid was)))
+    first_bytes content (subst (λ t. IsLaid 1 first_directory t [] content) text (subst (λ f. IsLaid 1 first_directory c.deref.result.now f content) (c.in_ok-empty.ensures.empty so) (c.in_ok-initialize.ensures.laid was)))

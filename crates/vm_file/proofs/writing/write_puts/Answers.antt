@@ -16,18 +16,18 @@ write_images-requires-clause-extents g c =
     subst (AreFor kept puts (length puts)) (sym c.deref.ensures.value)
     (for_fewer (live ++ kept) kept puts (length puts) c.in_ok-extents.extents.items (λ P all. all_right P live kept all) (c.in_ok-extents.ensures.found (live ++ kept) c.in_ok-space.ensures))
 
-pub returns-in-Ok-clause-spared : goal.returns-in-Ok-clause-spared
-returns-in-Ok-clause-spared g c = λ so.
+pub returns-clause-spared : goal.returns-clause-spared
+returns-clause-spared g c = λ so.
     spared_images c.args.slots.now (block_extents c.args.live.now) c.args.puts.now c.in_ok-extents.extents.items _ _ (c.in_ok-extents.ensures.found (block_extents c.args.live.now ++ referenced_extents c.args.slots.now) c.in_ok-space.ensures)
     (subst (λ es. Fills c.args.slots.now es (g.S.Store.facts c.args.store.now) (g.S.Store.facts c.write_images.new.store)) c.deref.ensures.value (c.write_images.ensures.fills so))
 
-pub returns-in-Ok-clause-found : goal.returns-in-Ok-clause-found
-returns-in-Ok-clause-found g c = c.in_ok-extents.ensures.found (block_extents c.args.live.now ++ referenced_extents c.args.slots.now) c.in_ok-space.ensures
+pub returns-clause-found : goal.returns-clause-found
+returns-clause-found g c = c.in_ok-extents.ensures.found (block_extents c.args.live.now ++ referenced_extents c.args.slots.now) c.in_ok-space.ensures
 
-pub returns-in-Ok-clause-known : goal.returns-in-Ok-clause-known
-returns-in-Ok-clause-known g c = c.in_ok-extents.ensures.taken (block_extents c.args.live.now ++ referenced_extents c.args.slots.now) c.in_ok-space.ensures
+pub returns-clause-known : goal.returns-clause-known
+returns-clause-known g c = c.in_ok-extents.ensures.taken (block_extents c.args.live.now ++ referenced_extents c.args.slots.now) c.in_ok-space.ensures
 
-pub returns-in-Err-clause-spared : goal.returns-in-Err-clause-spared
-returns-in-Err-clause-spared g c = λ so.
+pub returns-in_err-write_images-clause-spared : goal.returns-in_err-write_images-clause-spared
+returns-in_err-write_images-clause-spared g c = λ so.
     spared_images c.args.slots.now (block_extents c.args.live.now) c.args.puts.now c.in_ok-extents.extents.items _ _ (c.in_ok-extents.ensures.found (block_extents c.args.live.now ++ referenced_extents c.args.slots.now) c.in_ok-space.ensures)
     (subst (λ es. Fills c.args.slots.now es (g.S.Store.facts c.args.store.now) (g.S.Store.facts c.write_images.new.store)) c.deref.ensures.value (c.write_images.ensures.fills so))
