@@ -21,12 +21,10 @@ use file_report::read_heap;
 use geos_model::{Attributes, ChunkHandle, VmHandle};
 use lmem_heap::Heap;
 use std::alloc::{AllocError, Global};
+use vm_format::BodyKind;
 
 /// How many bytes a write has at most.
 const PIECE: usize = 32;
-
-/// The first byte of the image of a raw body.
-const RAW: u8 = 0;
 
 /// What bytes are written into.
 #[derive(Clone, Copy)]
@@ -229,7 +227,7 @@ pub fn push_block(
     if bytes.is_empty() {
         return Err(DumpFault::Damaged);
     }
-    if bytes[0] != RAW {
+    if BodyKind::of_byte(bytes[0]).is_heap() {
         return push_heap_image(alloc, out, block, attributes, bytes);
     }
     push_raw(out, block, attributes, &bytes[1..])?;

@@ -16,6 +16,9 @@ read_fault fault = File
 abbrev pub no_memory : MapFault
 no_memory = Memory
 
+abbrev pub unread : MapFault
+unread = File
+
 -- A file that doesn't open is refused for what an opening of it answers; of the others it is only said that there is
 -- lack of memory, or that the store or the writer failed.
 abbrev pub IsMapRefusal : StoreFacts → MapFault → Type 0

@@ -2,6 +2,7 @@
 use Rattle.std.specs.Prelude.{ℕ, ◌-◌, ◌*◌, ◌==◌, ◌&&◌, Bool, true, false, not, List, [], ◌∷◌, ◌++◌, fold, take, slice_get, Option, None, Some, length, if◌then◌else◌}
 use Rattle.geos_model.specs.declared.file.Extent.{Extent}
 use Rattle.vm_store.specs.Facts.{byte}
+use Rattle.vm_format.specs.Kinds.{is_heap_kind, kind_of}
 use Rattle.file_report.specs.declared.finding.Named.{Named}
 use Rattle.file_report.specs.declared.finding.Named.TheVariants as names
 use Rattle.file_report.specs.declared.pages.Content.{Content}
@@ -44,7 +45,7 @@ same_truth a b = if a then b else not b
 
 -- the image in an extent is that of a heap
 abbrev pub is_heap_at : List ℕ → Extent → Bool
-is_heap_at file e = byte file (512 * e.page) == 1
+is_heap_at file e = is_heap_kind (kind_of (byte file (512 * e.page)))
 
 abbrev pub kind_at : List ℕ → Extent → Kind
 kind_at file e = if is_heap_at file e then kinds.Heap else kinds.Raw

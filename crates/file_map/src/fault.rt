@@ -4,6 +4,7 @@ ghost use Rattle.std.specs.Prelude.{◌≡◌};
 use geos_model::Fault;
 use std::alloc::{AllocError, AllocFailed};
 use std::fmt;
+use vm_store::StoreFault;
 
 /// Why there is no picture of a file, or not the whole of it.
 #[derive(Clone, Copy, Debug, PartialEq, Eq)]
@@ -59,5 +60,15 @@ impl From<Fault> for MapFault {
             Fault::Memory => MapFault::Memory,
             _ => MapFault::File,
         }
+    }
+}
+
+impl From<StoreFault> for MapFault {
+    ghost use Rattle.file_map.specs.Faults.{unread};
+
+    ghost from_gives = { λ error fault. fault ≡ unread };
+
+    fn from(_: StoreFault) -> MapFault {
+        MapFault::File
     }
 }

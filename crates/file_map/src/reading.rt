@@ -13,11 +13,8 @@ use crate::part::{Kind, Part, Users, users_of};
 use file_report::{Content, Report, SlotReport, Usage, check, usages};
 use geos_model::{Extent, Fault, VmHandle};
 use std::alloc::{AllocError, Global};
-use vm_format::{page_count, start_of};
+use vm_format::{BodyKind, page_count, start_of};
 use vm_store::Store;
-
-/// The first byte of the image of a heap.
-const HEAP: u8 = 1;
 
 /// What lies in a file.
 #[derive(Drop)]
@@ -37,10 +34,8 @@ fn is_heap_at<S: Store>(store: &mut S, extent: Extent) -> Result<bool, MapFault>
     ensures refusals { IfErr result (λ fault. fault ≡ MapFault.File) }
 {
     let mut kind = [0; 1];
-    match store.read_at(start_of(extent), &mut kind) {
-        Ok(()) => Ok(kind[0] == HEAP),
-        Err(_) => Err(MapFault::File),
-    }
+    store.read_at(start_of(extent), &mut kind)?;
+    Ok(BodyKind::of_byte(kind[0]).is_heap())
 }
 
 // The part that a usage is. File.

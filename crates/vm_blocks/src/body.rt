@@ -12,9 +12,7 @@ use lmem_heap::{ArrayKind, Heap};
 use raw_region::{RawBody, Region, SIZE};
 use std::alloc::{AllocError, Global};
 use vm_file::Image;
-
-// The first byte of an image.
-const RAW: u8 = 0;
+use vm_format::BodyKind;
 
 /// What a block in memory holds, in a region of its own.
 #[derive(Drop)]
@@ -85,7 +83,7 @@ pub fn read_image(region: Region, bytes: &[u8]) -> Option<BlockBody>
     if bytes.is_empty() {
         return None;
     }
-    if bytes[0] != RAW {
+    if BodyKind::of_byte(bytes[0]).is_heap() {
         return match Heap::of_image(region, bytes) {
             Ok(heap) => Some(BlockBody::Heap(heap)),
             Err(_region) => None,

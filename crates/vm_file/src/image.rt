@@ -6,18 +6,19 @@ ghost use Rattle.geos_model.specs.Heap.{capacity};
 ghost use Rattle.geos_model.specs.Image.{image, body_of};
 ghost use Rattle.geos_model.specs.declared.command.Body.TheVariants as bodies;
 
-use crate::kind::{RAW, image_kind};
+use crate::kind::image_kind;
 use geos_model::Bytes;
 use lmem_heap::Heap;
 use std::alloc::{AllocError, Global};
 use std::marker::Model;
+use vm_format::BodyKind;
 
 #[tactic(auto, unfolding(geos_model::specs::Image::image))]
 fn raw_image(alloc: Global, bytes: &[u8]) -> Result<Vec<u8>, AllocError>
     ensures { IfOk result (λ v. v.items ≡ image (bodies.Raw bytes.now)) }
 {
     let mut image = Vec::with_capacity(alloc, bytes.len() + 1)?;
-    image.push(RAW)?;
+    image.push(BodyKind::Raw.byte())?;
     image.extend_from_slice(bytes)?;
     Ok(image)
 }
@@ -27,7 +28,7 @@ fn with_kind(bytes: Vec<u8>) -> Result<Vec<u8>, AllocError>
     ensures { IfOk result (λ v. v.items ≡ image (bodies.Raw bytes.items)) }
 {
     let mut image = bytes;
-    image.insert(0, RAW)?;
+    image.insert(0, BodyKind::Raw.byte())?;
     Ok(image)
 }
 
@@ -114,9 +115,9 @@ impl Image {
     pub fn empty_heap(alloc: Global) -> Result<Image, AllocError>
         ensures { IfOk result (λ i. i ≡ bodies.Heap empty) }
     {
-        // A heap, and a table of no entries.
+        // A table of no entries.
         Ok(Image {
-            bytes: Bytes::from_vec(vec![in alloc; 1, 0, 0]?),
+            bytes: Bytes::from_vec(vec![in alloc; BodyKind::Heap.byte(), 0, 0]?),
         })
     }
 
@@ -138,7 +139,7 @@ impl Image {
     pub fn is_heap(&self) -> bool
         ensures { result ≡ is_heap_body self.now }
     {
-        self.bytes.as_slice()[0] != RAW
+        BodyKind::of_byte(self.bytes.as_slice()[0]).is_heap()
     }
 
     /// It does nothing: its caller learns that the body is one that a document can have.

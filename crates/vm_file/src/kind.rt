@@ -10,11 +10,8 @@ ghost use Rattle.vm_file.specs.Opened.{IsImageOf};
 use crate::table::Place;
 use geos_model::{Extent, Fault};
 use std::alloc::Global;
-use vm_format::{LONGEST_IMAGE, read_extent};
+use vm_format::{BodyKind, LONGEST_IMAGE, read_extent};
 use vm_store::Store;
-
-/// The first byte of an image of a raw body.
-pub const RAW: u8 = 0;
 
 /// Whether bytes are the image of a heap, and not of a raw body. None where they are of neither.
 pub fn image_kind(bytes: &[u8]) -> Option<bool>
@@ -23,7 +20,7 @@ pub fn image_kind(bytes: &[u8]) -> Option<bool>
     if bytes.is_empty() {
         return None;
     }
-    let is_heap = bytes[0] != RAW;
+    let is_heap = BodyKind::of_byte(bytes[0]).is_heap();
     let is_image = if is_heap {
         heap_images::is_image(bytes)
     } else {

@@ -1,4 +1,5 @@
 pub mod DirectoryLemmas
+pub mod KindsLemmas
 pub mod LooksLemmas
 pub mod StoredDirectoryLemmas
 pub mod StoredSlotLemmas

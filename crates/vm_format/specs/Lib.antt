@@ -1,3 +1,4 @@
+pub mod Kinds
 pub mod Listed
 pub mod Reading
 pub mod Slots

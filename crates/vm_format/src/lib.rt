@@ -3,6 +3,7 @@
 
 mod directory;
 mod extent;
+mod kind;
 mod pages;
 mod reading;
 mod slot;
@@ -13,6 +14,7 @@ pub use directory::{
     Directory, ENTRY_LENGTH, HEADER_LENGTH, LONGEST_DIRECTORY, LONGEST_IMAGE, MOST_ENTRIES,
     begin_directory, is_known, most_handles, push_entry, read_dir, read_entry, write_dir,
 };
+pub use kind::BodyKind;
 pub use pages::{FIRST_PAGE, is_in_file, page_behind, page_count, start_of};
 pub use reading::{read_extent, read_length};
 pub use slot::{SLOT_LENGTH, SLOT_MARK, read_slot, write_slot};
