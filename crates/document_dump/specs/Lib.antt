@@ -4,4 +4,3 @@ pub mod Faults
 pub mod Lines
 pub mod Steps
 pub mod Versions
-pub mod Other

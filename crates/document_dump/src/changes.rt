@@ -5,7 +5,7 @@ ghost use Rattle.std.specs.Prelude.{◌≡◌, ◌++◌, ◌+◌, ◌≤◌, ◌
 ghost use Rattle.geos_model.specs.Bytes.{same_bytes};
 ghost use Rattle.geos_model.specs.Document.{Document, attributes_of, empty_document, is_live};
 ghost use Rattle.geos_model.specs.declared.command.Edit.TheVariants as edits;
-ghost use Rattle.vm_file.specs.Effects.{OnlyReads};
+ghost use Rattle.vm_file.specs.StoredDocuments.{OnlyReadsDocuments};
 ghost use Rattle.document_dump.specs.Faults.{IsDumpRefusal, IsRefusalOf, IsChangeOf};
 ghost use Rattle.document_dump.specs.Lines.{text};
 ghost use Rattle.document_dump.specs.Changes.{after_block, attributes_set, block_changed, block_name, filler, map_set, taken_out, user_id_set};
@@ -18,7 +18,7 @@ use crate::lines::{push_free_block, push_map, push_new_raw, push_user_id};
 use crate::versions::Stage;
 use geos_model::{Attributes, VmHandle};
 use std::alloc::{AllocError, Global};
-use vm_file::VmFile;
+use vm_file::StoredDocuments;
 use vm_store::Store;
 
 /// What is done of the block under a handle.
@@ -52,11 +52,14 @@ fn is_same(first: &[u8], second: &[u8]) -> bool
 }
 
 // Of a block of the saved document.
-fn first_change<S: Store>(file: &mut VmFile<S>, block: VmHandle) -> Result<Change, DumpFault>
-    ensures reads { OnlyReads S.facts file.old file.new }
-    ensures fails { IfErr result (IsDumpRefusal (S.facts file.old.disk.store) (S.facts file.new.disk.store)) }
-    ensures ok { IfOk result (λ change. IsTrue (S.facts file.old.disk.store).honest
-        → IsChange empty_document file.old.disk.saved block.0 change) }
+fn first_change<S: Store>(
+    file: &mut StoredDocuments<S>,
+    block: VmHandle,
+) -> Result<Change, DumpFault>
+    ensures reads { OnlyReadsDocuments S.facts file.old file.new }
+    ensures fails { IfErr result (IsDumpRefusal (S.facts file.old.store) (S.facts file.new.store)) }
+    ensures ok { IfOk result (λ change. IsTrue (S.facts file.old.store).honest
+        → IsChange empty_document file.old.saved block.0 change) }
 {
     file.validity();
     match file.saved_entry(block) {
@@ -70,21 +73,21 @@ fn first_change<S: Store>(file: &mut VmFile<S>, block: VmHandle) -> Result<Chang
 
 // Of a block that is live in both documents.
 fn both_change<S: Store>(
-    file: &mut VmFile<S>,
+    file: &mut StoredDocuments<S>,
     block: VmHandle,
     before: Attributes,
     after: Attributes,
 ) -> Result<Change, DumpFault>
     // The block, and its attributes in both.
-    requires was { is_live file.old.disk.saved block.0 ≡ true }
-    requires live { is_live file.old.document block.0 ≡ true }
-    requires before { before ≡ attributes_of file.old.disk.saved block.0 }
-    requires after { after ≡ attributes_of file.old.document block.0 }
+    requires was { is_live file.old.saved block.0 ≡ true }
+    requires live { is_live file.old.updated block.0 ≡ true }
+    requires before { before ≡ attributes_of file.old.saved block.0 }
+    requires after { after ≡ attributes_of file.old.updated block.0 }
     // What is read, and found.
-    ensures reads { OnlyReads S.facts file.old file.new }
-    ensures fails { IfErr result (IsDumpRefusal (S.facts file.old.disk.store) (S.facts file.new.disk.store)) }
-    ensures ok { IfOk result (λ change. IsTrue (S.facts file.old.disk.store).honest
-        → IsChange file.old.disk.saved file.old.document block.0 change) }
+    ensures reads { OnlyReadsDocuments S.facts file.old file.new }
+    ensures fails { IfErr result (IsDumpRefusal (S.facts file.old.store) (S.facts file.new.store)) }
+    ensures ok { IfOk result (λ change. IsTrue (S.facts file.old.store).honest
+        → IsChange file.old.saved file.old.updated block.0 change) }
 {
     file.validity();
     let former = file.read_saved(block)?;
@@ -97,12 +100,12 @@ fn both_change<S: Store>(
 }
 
 // Of a block that isn't live in the saved document.
-fn new_change<S: Store>(file: &mut VmFile<S>, block: VmHandle) -> Result<Change, DumpFault>
-    requires { is_live file.old.disk.saved block.0 ≡ false }
-    ensures reads { OnlyReads S.facts file.old file.new }
-    ensures fails { IfErr result (IsDumpRefusal (S.facts file.old.disk.store) (S.facts file.new.disk.store)) }
-    ensures ok { IfOk result (λ change. IsTrue (S.facts file.old.disk.store).honest
-        → IsChange file.old.disk.saved file.old.document block.0 change) }
+fn new_change<S: Store>(file: &mut StoredDocuments<S>, block: VmHandle) -> Result<Change, DumpFault>
+    requires { is_live file.old.saved block.0 ≡ false }
+    ensures reads { OnlyReadsDocuments S.facts file.old file.new }
+    ensures fails { IfErr result (IsDumpRefusal (S.facts file.old.store) (S.facts file.new.store)) }
+    ensures ok { IfOk result (λ change. IsTrue (S.facts file.old.store).honest
+        → IsChange file.old.saved file.old.updated block.0 change) }
 {
     file.validity();
     match file.entry(block) {
@@ -116,16 +119,16 @@ fn new_change<S: Store>(file: &mut VmFile<S>, block: VmHandle) -> Result<Change,
 
 // Of a block that is live there.
 fn old_change<S: Store>(
-    file: &mut VmFile<S>,
+    file: &mut StoredDocuments<S>,
     block: VmHandle,
     before: Attributes,
 ) -> Result<Change, DumpFault>
-    requires was { is_live file.old.disk.saved block.0 ≡ true }
-    requires before { before ≡ attributes_of file.old.disk.saved block.0 }
-    ensures reads { OnlyReads S.facts file.old file.new }
-    ensures fails { IfErr result (IsDumpRefusal (S.facts file.old.disk.store) (S.facts file.new.disk.store)) }
-    ensures ok { IfOk result (λ change. IsTrue (S.facts file.old.disk.store).honest
-        → IsChange file.old.disk.saved file.old.document block.0 change) }
+    requires was { is_live file.old.saved block.0 ≡ true }
+    requires before { before ≡ attributes_of file.old.saved block.0 }
+    ensures reads { OnlyReadsDocuments S.facts file.old file.new }
+    ensures fails { IfErr result (IsDumpRefusal (S.facts file.old.store) (S.facts file.new.store)) }
+    ensures ok { IfOk result (λ change. IsTrue (S.facts file.old.store).honest
+        → IsChange file.old.saved file.old.updated block.0 change) }
 {
     match file.entry(block) {
         None => Ok(Change::Goes),
@@ -133,12 +136,15 @@ fn old_change<S: Store>(
     }
 }
 
-// Of a block of the saved document or the one that is open.
-fn later_change<S: Store>(file: &mut VmFile<S>, block: VmHandle) -> Result<Change, DumpFault>
-    ensures reads { OnlyReads S.facts file.old file.new }
-    ensures fails { IfErr result (IsDumpRefusal (S.facts file.old.disk.store) (S.facts file.new.disk.store)) }
-    ensures ok { IfOk result (λ change. IsTrue (S.facts file.old.disk.store).honest
-        → IsChange file.old.disk.saved file.old.document block.0 change) }
+// Of a block of the saved document or the updated one.
+fn later_change<S: Store>(
+    file: &mut StoredDocuments<S>,
+    block: VmHandle,
+) -> Result<Change, DumpFault>
+    ensures reads { OnlyReadsDocuments S.facts file.old file.new }
+    ensures fails { IfErr result (IsDumpRefusal (S.facts file.old.store) (S.facts file.new.store)) }
+    ensures ok { IfOk result (λ change. IsTrue (S.facts file.old.store).honest
+        → IsChange file.old.saved file.old.updated block.0 change) }
 {
     match file.saved_entry(block) {
         None => new_change(file, block),
@@ -148,13 +154,13 @@ fn later_change<S: Store>(file: &mut VmFile<S>, block: VmHandle) -> Result<Chang
 
 /// What is done of the block under a handle. Memory, File.
 pub fn change_of<S: Store>(
-    file: &mut VmFile<S>,
+    file: &mut StoredDocuments<S>,
     stage: Stage,
     block: VmHandle,
 ) -> Result<Change, DumpFault>
-    ensures reads { OnlyReads S.facts file.old file.new }
-    ensures fails { IfErr result (IsDumpRefusal (S.facts file.old.disk.store) (S.facts file.new.disk.store)) }
-    ensures ok { IfOk result (λ change. IsTrue (S.facts file.old.disk.store).honest
+    ensures reads { OnlyReadsDocuments S.facts file.old file.new }
+    ensures fails { IfErr result (IsDumpRefusal (S.facts file.old.store) (S.facts file.new.store)) }
+    ensures ok { IfOk result (λ change. IsTrue (S.facts file.old.store).honest
         → IsChange (old_in stage file.old) (new_in stage file.old) block.0 change) }
 {
     match stage {

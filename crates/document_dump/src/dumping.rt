@@ -4,7 +4,7 @@
 ghost use Rattle.std.specs.Prelude.{◌≡◌, ◌++◌, ◌+◌, ◌≤◌, ◌<◌, ◌||◌, [], OnOk, IfErr, IfOk, IsTrue, codes};
 ghost use Rattle.std.specs.Io.KnownBytes.{Appends};
 ghost use Rattle.geos_model.specs.Document.{vm_handles};
-ghost use Rattle.vm_file.specs.Effects.{OnlyReads};
+ghost use Rattle.vm_file.specs.StoredDocuments.{OnlyReadsDocuments};
 ghost use Rattle.document_dump.specs.Faults.{IsDumpRefusal, IsWriteFault};
 ghost use Rattle.document_dump.specs.Lines.{text};
 ghost use Rattle.document_dump.specs.Changes.{after_block, block_changed, block_freed, blocks_changed, blocks_freed, changes, first_progress, progress_after};
@@ -18,13 +18,13 @@ use crate::versions::Stage;
 use geos_model::{MOST_BLOCKS, VmHandle};
 use std::alloc::{AllocError, Global};
 use std::io::Write;
-use vm_file::VmFile;
+use vm_file::StoredDocuments;
 use vm_store::Store;
 
 /// Which documents of a file are dumped.
 #[derive(Clone, Copy, Debug, PartialEq, Eq)]
 pub enum Which {
-    /// The saved one, and then the one that is open, where it is another.
+    /// The saved one, and then the updated one, where it is another.
     Both,
     /// The saved one alone.
     Saved,
@@ -59,17 +59,17 @@ fn either(first: bool, second: bool) -> bool
 // The edits of one block. Whether there are any, and how far the blocks are made then.
 fn write_block<S: Store, W: Write>(
     alloc: Global,
-    file: &mut VmFile<S>,
+    file: &mut StoredDocuments<S>,
     stage: Stage,
     block: VmHandle,
     progress: Progress,
     writer: &mut W,
 ) -> Result<Written, DumpFault>
     requires { progress.holes < 65535 }
-    ensures reads { OnlyReads S.facts file.old file.new }
-    ensures fails { IfErr result (IsDumpRefusal (S.facts file.old.disk.store) (S.facts file.new.disk.store)) }
+    ensures reads { OnlyReadsDocuments S.facts file.old file.new }
+    ensures fails { IfErr result (IsDumpRefusal (S.facts file.old.store) (S.facts file.new.store)) }
     ensures holes { IfOk result (λ after. after.progress.holes ≤ progress.holes + 1) }
-    ensures ok { IfOk result (λ after. IsTrue (S.facts file.old.disk.store).honest
+    ensures ok { IfOk result (λ after. IsTrue (S.facts file.old.store).honest
         → (after.some
         ≡ is_some_text (text (block_changed (old_in stage file.old) (new_in stage file.old) progress block.0)))
         × (after.progress ≡ after_block (old_in stage file.old) (new_in stage file.old) progress block.0)
@@ -89,15 +89,15 @@ fn write_block<S: Store, W: Write>(
 // The edits of all blocks that are made or stay.
 fn write_blocks<S: Store, W: Write>(
     alloc: Global,
-    file: &mut VmFile<S>,
+    file: &mut StoredDocuments<S>,
     stage: Stage,
     first: Progress,
     writer: &mut W,
 ) -> Result<Written, DumpFault>
     requires { first.holes ≡ 0 }
-    ensures reads { OnlyReads S.facts file.old file.new }
-    ensures fails { IfErr result (IsDumpRefusal (S.facts file.old.disk.store) (S.facts file.new.disk.store)) }
-    ensures ok { IfOk result (λ after. IsTrue (S.facts file.old.disk.store).honest
+    ensures reads { OnlyReadsDocuments S.facts file.old file.new }
+    ensures fails { IfErr result (IsDumpRefusal (S.facts file.old.store) (S.facts file.new.store)) }
+    ensures ok { IfOk result (λ after. IsTrue (S.facts file.old.store).honest
         → (after.some
         ≡ is_some_text (text (blocks_changed (old_in stage file.old) (new_in stage file.old) first vm_handles)))
         × (after.progress ≡ progress_after (old_in stage file.old) (new_in stage file.old) first vm_handles)
@@ -117,7 +117,7 @@ fn write_blocks<S: Store, W: Write>(
 
 fn push_freed<S: Store>(
     out: &mut Vec<u8>,
-    file: &VmFile<S>,
+    file: &StoredDocuments<S>,
     stage: Stage,
     last: u16,
     block: VmHandle,
@@ -137,7 +137,7 @@ fn push_freed<S: Store>(
 // The blocks that go.
 fn push_all_freed<S: Store>(
     out: &mut Vec<u8>,
-    file: &VmFile<S>,
+    file: &StoredDocuments<S>,
     stage: Stage,
     last: u16,
 ) -> Result<(), AllocError>
@@ -153,13 +153,13 @@ fn push_all_freed<S: Store>(
 // All edits of a stage. Whether there are any.
 fn write_changes<S: Store, W: Write>(
     alloc: Global,
-    file: &mut VmFile<S>,
+    file: &mut StoredDocuments<S>,
     stage: Stage,
     writer: &mut W,
 ) -> Result<bool, DumpFault>
-    ensures reads { OnlyReads S.facts file.old file.new }
-    ensures fails { IfErr result (IsDumpRefusal (S.facts file.old.disk.store) (S.facts file.new.disk.store)) }
-    ensures ok { IfOk result (λ some. IsTrue (S.facts file.old.disk.store).honest
+    ensures reads { OnlyReadsDocuments S.facts file.old file.new }
+    ensures fails { IfErr result (IsDumpRefusal (S.facts file.old.store) (S.facts file.new.store)) }
+    ensures ok { IfOk result (λ some. IsTrue (S.facts file.old.store).honest
         → (some ≡ is_some_text (text (changes (old_in stage file.old) (new_in stage file.old))))
         × Appends (W.contents writer.old) (W.contents writer.new)
         (text (changes (old_in stage file.old) (new_in stage file.old)))) }
@@ -180,30 +180,30 @@ fn write_changes<S: Store, W: Write>(
 // The saved document, made of none.
 fn dump_saved<S: Store, W: Write>(
     alloc: Global,
-    file: &mut VmFile<S>,
+    file: &mut StoredDocuments<S>,
     writer: &mut W,
 ) -> Result<(), DumpFault>
-    ensures reads { OnlyReads S.facts file.old file.new }
-    ensures fails { IfErr result (IsDumpRefusal (S.facts file.old.disk.store) (S.facts file.new.disk.store)) }
-    ensures ok { OnOk result (IsTrue (S.facts file.old.disk.store).honest
-        → Appends (W.contents writer.old) (W.contents writer.new) (saved_text file.old.disk.saved)) }
+    ensures reads { OnlyReadsDocuments S.facts file.old file.new }
+    ensures fails { IfErr result (IsDumpRefusal (S.facts file.old.store) (S.facts file.new.store)) }
+    ensures ok { OnOk result (IsTrue (S.facts file.old.store).honest
+        → Appends (W.contents writer.old) (W.contents writer.new) (saved_text file.old.saved)) }
 {
     write_changes(alloc, file, Stage::Saved, writer)?;
     send(b"save\n", writer)?;
     Ok(())
 }
 
-// The document that is open, made of the saved one.
+// The updated document, made of the saved one.
 fn dump_open<S: Store, W: Write>(
     alloc: Global,
-    file: &mut VmFile<S>,
+    file: &mut StoredDocuments<S>,
     writer: &mut W,
 ) -> Result<(), DumpFault>
-    ensures reads { OnlyReads S.facts file.old file.new }
-    ensures fails { IfErr result (IsDumpRefusal (S.facts file.old.disk.store) (S.facts file.new.disk.store)) }
-    ensures ok { OnOk result (IsTrue (S.facts file.old.disk.store).honest
+    ensures reads { OnlyReadsDocuments S.facts file.old file.new }
+    ensures fails { IfErr result (IsDumpRefusal (S.facts file.old.store) (S.facts file.new.store)) }
+    ensures ok { OnOk result (IsTrue (S.facts file.old.store).honest
         → Appends (W.contents writer.old) (W.contents writer.new)
-        (if_changed (text (changes file.old.disk.saved file.old.document)) (codes "update\n"))) }
+        (if_changed (text (changes file.old.saved file.old.updated)) (codes "update\n"))) }
 {
     let some = write_changes(alloc, file, Stage::Open, writer)?;
     if some {
@@ -213,20 +213,20 @@ fn dump_open<S: Store, W: Write>(
     Ok(())
 }
 
-/// Writes a script of commands that makes the documents of a file again where it is fed to `geosvm --new`: first the
-/// saved one, and then, unless that is all that is asked for, the one that is open, which is the updated one where the
-/// file was just opened. Nothing is written to the file. The writer gets many short pieces, so it should be buffered.
+/// Writes a script of commands that makes the documents of a slot again where it is fed to `geosvm --new`: first the
+/// saved one, and then, unless that is all that is asked for, the updated one. Nothing is written to the file. The
+/// writer gets many short pieces, so it should be buffered.
 pub fn dump<S: Store, W: Write>(
     alloc: Global,
-    file: &mut VmFile<S>,
+    file: &mut StoredDocuments<S>,
     which: Which,
     writer: &mut W,
 ) -> Result<(), DumpFault>
-    ensures reads { OnlyReads S.facts file.old file.new }
-    ensures fails { IfErr result (IsDumpRefusal (S.facts file.old.disk.store) (S.facts file.new.disk.store)) }
-    ensures ok { OnOk result (IsTrue (S.facts file.old.disk.store).honest
+    ensures reads { OnlyReadsDocuments S.facts file.old file.new }
+    ensures fails { IfErr result (IsDumpRefusal (S.facts file.old.store) (S.facts file.new.store)) }
+    ensures ok { OnOk result (IsTrue (S.facts file.old.store).honest
         → Appends (W.contents writer.old) (W.contents writer.new)
-        (dump_text which file.old.document file.old.disk.saved)) }
+        (dump_text which file.old.updated file.old.saved)) }
 {
     dump_saved(alloc, file, writer)?;
     match which {

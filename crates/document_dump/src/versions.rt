@@ -4,7 +4,7 @@ ghost use Rattle.geos_model.specs.Document.{attributes_of, is_live};
 ghost use Rattle.document_dump.specs.Versions.{new_in, old_in};
 
 use geos_model::VmHandle;
-use vm_file::VmFile;
+use vm_file::StoredDocuments;
 use vm_store::Store;
 
 /// A part of a dump.
@@ -12,13 +12,13 @@ use vm_store::Store;
 pub enum Stage {
     /// The saved document is made of none.
     Saved,
-    /// The document that is open is made of the saved one.
+    /// The updated document is made of the saved one.
     Open,
 }
 
 impl Stage {
     /// Whether a block is live in the document from which the edits lead.
-    pub fn was_live<S: Store>(self, file: &VmFile<S>, block: VmHandle) -> bool
+    pub fn was_live<S: Store>(self, file: &StoredDocuments<S>, block: VmHandle) -> bool
         ensures { result ≡ is_live (old_in self file.now) block.0 }
     {
         match self {
@@ -28,7 +28,7 @@ impl Stage {
     }
 
     /// Whether it is in the one to which they lead.
-    pub fn is_live<S: Store>(self, file: &VmFile<S>, block: VmHandle) -> bool
+    pub fn is_live<S: Store>(self, file: &StoredDocuments<S>, block: VmHandle) -> bool
         ensures { result ≡ is_live (new_in self file.now) block.0 }
     {
         match self {
@@ -38,7 +38,7 @@ impl Stage {
     }
 
     /// The map block from which they lead, 0 for none.
-    pub fn old_map<S: Store>(self, file: &VmFile<S>) -> VmHandle
+    pub fn old_map<S: Store>(self, file: &StoredDocuments<S>) -> VmHandle
         ensures { result.0 ≡ (old_in self file.now).map_block }
     {
         match self {
@@ -48,7 +48,7 @@ impl Stage {
     }
 
     /// The one to which they lead.
-    pub fn new_map<S: Store>(self, file: &VmFile<S>) -> VmHandle
+    pub fn new_map<S: Store>(self, file: &StoredDocuments<S>) -> VmHandle
         ensures { result.0 ≡ (new_in self file.now).map_block }
     {
         match self {

@@ -12,8 +12,8 @@ use Rattle.geos_model.specs.declared.fault.Fault.TheVariants as faults
 use Rattle.vm_store.specs.Facts.{StoreFacts, FailedSince}
 use Rattle.vm_file.specs.Calls.{IsResourceFault}
 use Rattle.geos_shell.specs.Streams.{StopsWriting, Writes}
-use Rattle.vm_file.specs.Disk.{FileState}
 use Rattle.vm_file.specs.Opened.{OnlyReadsStore}
+use Rattle.vm_file.specs.StoredDocuments.{StoredState}
 use Rattle.vm_format.proofs.LooksLemmas.{raised_later, still}
 use Rattle.document_dump.specs.Dumps.{dump_text}
 use Rattle.document_dump.specs.Faults.{IsDumpRefusal}
@@ -27,7 +27,7 @@ use Rattle.file_map.specs.Faults.{IsMapRefusal}
 use Rattle.file_map.specs.declared.fault.MapFault.{MapFault}
 use Rattle.file_map.specs.declared.fault.MapFault.TheVariants as map_faults
 use Rattle.file_map.specs.declared.part.Part.{Part}
-use Rattle.document_tools.specs.DumpedFiles.{DumpsOpen, DumpsStore, EndsDump, HasDumpCause, IsDumpEnd}
+use Rattle.document_tools.specs.DumpedFiles.{DumpsOpen, DumpsStood, EndsDump, HasDumpCause, IsDumpEnd}
 use Rattle.document_tools.specs.Endings.{IsRefusedFor}
 use Rattle.document_tools.specs.Looks.{EndsUnopened, IsUnlookedAt}
 use Rattle.document_tools.specs.Maps.{EndsMap, HasMapCause, IsMapEnd, MapsStore, picture_of}
@@ -50,23 +50,23 @@ refused_or_memory P file obstacle by_line memory endings.Memory is = memory
 refused_or_memory P file obstacle by_line memory endings.ReadFault is = absurd is
 refused_or_memory P file obstacle by_line memory endings.WriteFault is = absurd is
 
-opens_so : (old : StoreFacts) (fault : Fault) → (fault ≡ faults.Memory → ⊥) → (fault ≡ faults.File → ⊥) → IsResourceFault fault ⊎ (stands old.content ≡ Err fault)
-    → stands old.content ≡ Err fault
-opens_so old fault no_memory no_file (inl (inl e)) = absurd (no_memory e)
-opens_so old fault no_memory no_file (inl (inr e)) = absurd (no_file e)
-opens_so old fault no_memory no_file (inr e) = e
+opens_so : (stood : List ℕ → Result (Document × Document) Fault) (old : StoreFacts) (fault : Fault) → (fault ≡ faults.Memory → ⊥) → (fault ≡ faults.File → ⊥)
+    → IsResourceFault fault ⊎ (stood old.content ≡ Err fault) → stood old.content ≡ Err fault
+opens_so stood old fault no_memory no_file (inl (inl e)) = absurd (no_memory e)
+opens_so stood old fault no_memory no_file (inl (inr e)) = absurd (no_file e)
+opens_so stood old fault no_memory no_file (inr e) = e
 
--- of a file that isn't opened it is told why, or there is no memory
-pub unlooked_at : (P : Ending → Type 0) (file : List ℕ) (old new : StoreFacts) (fault : Fault) (obstacle : Obstacle) (ending : Ending)
+-- of what isn't opened it is told why, by what the bytes stand for, or there is no memory
+pub unlooked_at : (stood : List ℕ → Result (Document × Document) Fault) (P : Ending → Type 0) (file : List ℕ) (old new : StoreFacts) (fault : Fault) (obstacle : Obstacle) (ending : Ending)
     → ((line : List ℕ) → line ≡ refusal_line file Unread → FailedSince old new → P (endings.Refused line))
-    → ((line : List ℕ) → line ≡ refusal_line file obstacle → (IsTrue old.honest → stands old.content ≡ Err fault) → P (endings.Refused line)) → P endings.Memory
-    → (fault ≡ faults.File → FailedSince old new) → (IsTrue old.honest → IsResourceFault fault ⊎ (stands old.content ≡ Err fault))
+    → ((line : List ℕ) → line ≡ refusal_line file obstacle → (IsTrue old.honest → stood old.content ≡ Err fault) → P (endings.Refused line)) → P endings.Memory
+    → (fault ≡ faults.File → FailedSince old new) → (IsTrue old.honest → IsResourceFault fault ⊎ (stood old.content ≡ Err fault))
     → EndsUnopened file fault obstacle ending → P ending
-unlooked_at P file old new fault obstacle ending unread unopened memory failed so (inl ends) = rw ends.1 memory
-unlooked_at P file old new fault obstacle ending unread unopened memory failed so (inr (inl ends)) =
+unlooked_at stood P file old new fault obstacle ending unread unopened memory failed so (inl ends) = rw ends.1 memory
+unlooked_at stood P file old new fault obstacle ending unread unopened memory failed so (inr (inl ends)) =
     refused_or_memory P file Unread (λ line is. unread line is (failed ends.0)) memory ending ends.1
-unlooked_at P file old new fault obstacle ending unread unopened memory failed so (inr (inr ends)) =
-    refused_or_memory P file obstacle (λ line is. unopened line is (λ honest. opens_so old fault ends.0 ends.1 (so honest))) memory ending ends.2
+unlooked_at stood P file old new fault obstacle ending unread unopened memory failed so (inr (inr ends)) =
+    refused_or_memory P file obstacle (λ line is. unopened line is (λ honest. opens_so stood old fault ends.0 ends.1 (so honest))) memory ending ends.2
 
 -- what was counted is told, or there is no memory for it, or the write of it failed
 pub stated : {W : Type 0} (writes : Writes W) (file : List ℕ) (form : Form) (old new : StoreFacts) (s : FileStat) (from to : W) (ending : Ending)
@@ -129,11 +129,11 @@ dump_caused A dumped (Err dump_faults.File) failed cause ends = tt
 dump_caused A dumped (Err dump_faults.Damaged) failed cause ends = tt
 dump_caused A dumped (Err dump_faults.Write) failed cause ends = ∥∥₁_map cause (λ so. so ends)
 
--- a file that is open, and its dump, or why there is none
-pub dumped_open : {S W : Type 0} (facts : S → StoreFacts) (contents : W → Option (List ℕ)) (writes : Writes W) (name : List ℕ) (which : Which) (damaged : Obstacle) (from to : FileState S) (old new : W)
+-- documents that are open, and their dump, or why there is none
+pub dumped_open : {S W : Type 0} (facts : S → StoreFacts) (contents : W → Option (List ℕ)) (writes : Writes W) (name : List ℕ) (which : Which) (damaged : Obstacle) (from to : StoredState S) (old new : W)
     (dumped : Result (Unit {0}) DumpFault) (ending : Ending)
-    → OnOk dumped (IsTrue (facts from.disk.store).honest → Appends (contents old) (contents new) (dump_text which from.document from.disk.saved))
-    → IfErr dumped (IsDumpRefusal (facts from.disk.store) (facts to.disk.store)) → IfErr dumped (λ fault. HasDumpCause fault (∥ StopsWriting writes new ∥₁)) → EndsDump name damaged dumped ending
+    → OnOk dumped (IsTrue (facts from.store).honest → Appends (contents old) (contents new) (dump_text which from.updated from.saved))
+    → IfErr dumped (IsDumpRefusal (facts from.store) (facts to.store)) → IfErr dumped (λ fault. HasDumpCause fault (∥ StopsWriting writes new ∥₁)) → EndsDump name damaged dumped ending
     → DumpsOpen facts contents writes name which damaged from to old new ending
 dumped_open facts contents writes name which damaged from to old new (Ok v) ending text refusal cause ends = rw ends text
 dumped_open facts contents writes name which damaged from to old new (Err dump_faults.Memory) ending text refusal cause ends = rw ends tt
@@ -144,23 +144,22 @@ dumped_open facts contents writes name which damaged from to old new (Err dump_f
 dumped_open facts contents writes name which damaged from to old new (Err dump_faults.Write) ending text refusal cause ends = rw ends cause
 
 -- a store that was opened, and then dumped
-pub dumped_store : {S W : Type 0} (facts : S → StoreFacts) (contents : W → Option (List ℕ)) (writes : Writes W) (name : List ℕ) (which : Which) (store : S) (from to : FileState S) (old new : W)
-    (ending : Ending)
-    → OnlyReadsStore (facts store) (facts from.disk.store) → (IsTrue (facts store).honest → stands (facts store).content ≡ Ok (from.disk.updated, from.disk.saved))
-    → from.document ≡ from.disk.updated → DumpsOpen facts contents writes name which (Unopened faults.Damaged) from to old new ending
-    → DumpsStore contents writes name which (facts store) (facts to.disk.store) old new ending
-dumped_store facts contents writes name which store from to old new endings.Done opened so same told = λ honest. (
-  from.disk.updated,
-  from.disk.saved,
+pub dumped_stood : {S W : Type 0} (facts : S → StoreFacts) (contents : W → Option (List ℕ)) (writes : Writes W) (name : List ℕ) (which : Which) (stood : List ℕ → Result (Document × Document) Fault) (told : Fault → Obstacle)
+    (store : S) (from to : StoredState S) (old new : W) (ending : Ending)
+    → OnlyReadsStore (facts store) (facts from.store) → (IsTrue (facts store).honest → stood (facts store).content ≡ Ok (from.updated, from.saved))
+    → DumpsOpen facts contents writes name which (told faults.Damaged) from to old new ending
+    → DumpsStood contents writes name which stood told (facts store) (facts to.store) old new ending
+dumped_stood facts contents writes name which stood told store from to old new endings.Done opened so dumps = λ honest. (
+  from.updated,
+  from.saved,
   so honest,
-  subst (λ (d : Document). Appends (contents old) (contents new) (dump_text which d from.disk.saved)) same
-      (told (still (facts store) (facts from.disk.store) opened honest)),
+  dumps (still (facts store) (facts from.store) opened honest),
 )
-dumped_store facts contents writes name which store from to old new endings.Unsound opened so same told = absurd told
-dumped_store facts contents writes name which store from to old new (endings.Refused line) opened so same (inl told) =
-    inl (told.0, raised_later (facts store) (facts from.disk.store) (facts to.disk.store) opened told.1)
-dumped_store facts contents writes name which store from to old new (endings.Refused line) opened so same (inr told) =
-    inr (faults.Damaged, told.0, λ honest. absurd (told.1 (still (facts store) (facts from.disk.store) opened honest)))
-dumped_store facts contents writes name which store from to old new endings.Memory opened so same told = tt
-dumped_store facts contents writes name which store from to old new endings.ReadFault opened so same told = absurd told
-dumped_store facts contents writes name which store from to old new endings.WriteFault opened so same told = told
+dumped_stood facts contents writes name which stood told store from to old new endings.Unsound opened so dumps = absurd dumps
+dumped_stood facts contents writes name which stood told store from to old new (endings.Refused line) opened so (inl dumps) =
+    inl (dumps.0, raised_later (facts store) (facts from.store) (facts to.store) opened dumps.1)
+dumped_stood facts contents writes name which stood told store from to old new (endings.Refused line) opened so (inr dumps) =
+    inr (faults.Damaged, dumps.0, λ honest. absurd (dumps.1 (still (facts store) (facts from.store) opened honest)))
+dumped_stood facts contents writes name which stood told store from to old new endings.Memory opened so dumps = tt
+dumped_stood facts contents writes name which stood told store from to old new endings.ReadFault opened so dumps = absurd dumps
+dumped_stood facts contents writes name which stood told store from to old new endings.WriteFault opened so dumps = dumps

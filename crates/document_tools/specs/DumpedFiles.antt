@@ -3,22 +3,22 @@ use Rattle.std.specs.Prelude.{◌≡◌, ◌⊎◌, ℕ, List, Bool, true, false
 use Rattle.std.specs.Io.KnownBytes.{Appends}
 use Rattle.geos_model.specs.Document.{Document}
 use Rattle.geos_model.specs.File.{stands}
+use Rattle.geos_model.specs.declared.fault.Fault.{Fault}
 use Rattle.vm_store.specs.Facts.{StoreFacts, FailedSince}
-use Rattle.vm_file.specs.Disk.{FileState}
 use Rattle.vm_file.specs.Opened.{OnlyReadsStore}
+use Rattle.vm_file.specs.StoredDocuments.{StoredState}
 use Rattle.geos_shell.specs.Streams.{StopsWriting, Writes}
 use Rattle.document_dump.specs.Dumps.{dump_text}
 use Rattle.document_dump.specs.declared.dumping.Which.{Which}
 use Rattle.document_dump.specs.declared.fault.DumpFault.{DumpFault}
 use Rattle.document_dump.specs.declared.fault.DumpFault.TheVariants as dump_faults
 use Rattle.document_tools.specs.Endings.{IsRefusedFor}
-use Rattle.document_tools.specs.Looks.{IsUnlookedAt}
 use Rattle.document_tools.specs.Obstacles.{refusal_line}
 use Rattle.document_tools.specs.Views.{LooksAt, Views}
 use Rattle.document_tools.specs.declared.ending.Ending.{Ending}
 use Rattle.document_tools.specs.declared.ending.Ending.TheVariants as endings
 use Rattle.document_tools.specs.declared.obstacle.Obstacle.{Obstacle}
-use Rattle.document_tools.specs.declared.obstacle.Obstacle.TheVariants.{Unread, Unviewed}
+use Rattle.document_tools.specs.declared.obstacle.Obstacle.TheVariants.{Unopened, Unread, Unviewed}
 
 -- How a dump ends whose pieces were gathered, by how the dump itself did and whether the last write failed: well only
 -- where both went well, as a write fault only where that write failed, and by no other fault than the dump's.
@@ -41,27 +41,36 @@ EndsDump file damaged (Err dump_faults.File) ending = IsRefusedFor file Unread e
 EndsDump file damaged (Err dump_faults.Damaged) ending = IsRefusedFor file damaged ending
 EndsDump file damaged (Err dump_faults.Write) ending = ending ≡ endings.WriteFault
 
--- What comes of the dump of a store: the script of the documents that it stands for is written, or it isn't, or not
--- whole. A write fault is told only where the last write failed.
+-- What comes of the dump of a store, by what its bytes stand for and how a refusal of that is told: the script of these
+-- documents is written, or it isn't, or not whole. A write fault is told only where the last write failed.
+abbrev pub DumpsStood : {W : Type 0} → (W → Option (List ℕ)) → Writes W → List ℕ → Which
+    → (List ℕ → Result (Document × Document) Fault) → (Fault → Obstacle) → StoreFacts → StoreFacts → W → W → Ending
+    → Type 0
+DumpsStood contents writes file which stood told from to old new endings.Done =
+    IsTrue from.honest → (updated : Document) × (saved : Document) × (stood from.content ≡ Ok (updated, saved))
+    × Appends (contents old) (contents new) (dump_text which updated saved)
+DumpsStood contents writes file which stood told from to old new (endings.Refused line) =
+    ((line ≡ refusal_line file Unread) × FailedSince from to)
+    ⊎ ((fault : Fault) × (line ≡ refusal_line file (told fault)) × (IsTrue from.honest → stood from.content ≡ Err fault))
+DumpsStood contents writes file which stood told from to old new endings.Memory = ⊤
+DumpsStood contents writes file which stood told from to old new endings.WriteFault = ∥ StopsWriting writes new ∥₁
+DumpsStood contents writes file which stood told from to old new ending = ⊥
+
+-- of what the slot leads to that counts
 abbrev pub DumpsStore : {W : Type 0} → (W → Option (List ℕ)) → Writes W → List ℕ → Which → StoreFacts → StoreFacts → W
     → W → Ending → Type 0
-DumpsStore contents writes file which from to old new endings.Done =
-    IsTrue from.honest → (updated : Document) × (saved : Document) × (stands from.content ≡ Ok (updated, saved))
-    × Appends (contents old) (contents new) (dump_text which updated saved)
-DumpsStore contents writes file which from to old new (endings.Refused line) = IsUnlookedAt file from to line
-DumpsStore contents writes file which from to old new endings.Memory = ⊤
-DumpsStore contents writes file which from to old new endings.WriteFault = ∥ StopsWriting writes new ∥₁
-DumpsStore contents writes file which from to old new ending = ⊥
+DumpsStore contents writes file which from to old new ending =
+    DumpsStood contents writes file which stands Unopened from to old new ending
 
--- The same of a file that is open. It is told as damaged only where the store isn't honest.
+-- The same of documents that are open. They are told as damaged only where the store isn't honest.
 abbrev pub DumpsOpen : {S W : Type 0} → (S → StoreFacts) → (W → Option (List ℕ)) → Writes W → List ℕ → Which
-    → Obstacle → FileState S → FileState S → W → W → Ending → Type 0
+    → Obstacle → StoredState S → StoredState S → W → W → Ending → Type 0
 DumpsOpen facts contents writes name which damaged from to old new endings.Done =
-    IsTrue (facts from.disk.store).honest
-    → Appends (contents old) (contents new) (dump_text which from.document from.disk.saved)
+    IsTrue (facts from.store).honest
+    → Appends (contents old) (contents new) (dump_text which from.updated from.saved)
 DumpsOpen facts contents writes name which damaged from to old new (endings.Refused line) =
-    ((line ≡ refusal_line name Unread) × FailedSince (facts from.disk.store) (facts to.disk.store))
-    ⊎ ((line ≡ refusal_line name damaged) × (IsTrue (facts from.disk.store).honest → ⊥))
+    ((line ≡ refusal_line name Unread) × FailedSince (facts from.store) (facts to.store))
+    ⊎ ((line ≡ refusal_line name damaged) × (IsTrue (facts from.store).honest → ⊥))
 DumpsOpen facts contents writes name which damaged from to old new endings.Memory = ⊤
 DumpsOpen facts contents writes name which damaged from to old new endings.WriteFault = ∥ StopsWriting writes new ∥₁
 DumpsOpen facts contents writes name which damaged from to old new ending = ⊥

@@ -1,8 +1,8 @@
 //! A dump: a script that makes documents of a file again.
 ghost use Rattle.std.specs.Prelude.{◌≡◌, IfErr, IsTrue, OnOk};
 ghost use Rattle.std.specs.Io.KnownBytes.{Appends};
-ghost use Rattle.vm_file.specs.Effects.{OnlyReads};
 ghost use Rattle.vm_file.specs.Opened.{OnlyReadsStore};
+ghost use Rattle.vm_file.specs.StoredDocuments.{OnlyReadsDocuments};
 ghost use Rattle.geos_shell.specs.Streams.{StopsWriting};
 ghost use Rattle.document_dump.specs.Dumps.{dump_text};
 ghost use Rattle.document_dump.specs.Faults.{IsDumpRefusal};
@@ -17,7 +17,7 @@ use document_dump::{DumpFault, Which, dump};
 use geos_model::Fault;
 use geos_shell::Sink;
 use std::alloc::Global;
-use vm_file::VmFile;
+use vm_file::{StoredDocuments, VmFile};
 use vm_store::Store;
 
 // How a dump ended whose pieces were gathered, by whether the last write of them failed. A piece that couldn't be
@@ -32,18 +32,18 @@ fn dump_end(dumped: Result<(), DumpFault>, failed: bool) -> Result<(), DumpFault
     }
 }
 
-// Writes the script of a file that is open, and gives the writer back.
+// Writes the script of documents that are open, and gives the writer back.
 fn write_dump<S: Store, W: Sink + Drop>(
     alloc: Global,
-    file: &mut VmFile<S>,
+    file: &mut StoredDocuments<S>,
     which: Which,
     writer: W,
 ) -> (W, Result<(), DumpFault>)
-    ensures reads { OnlyReads S.facts file.old file.new }
-    ensures fails { IfErr result.1 (IsDumpRefusal (S.facts file.old.disk.store) (S.facts file.new.disk.store)) }
+    ensures reads { OnlyReadsDocuments S.facts file.old file.new }
+    ensures fails { IfErr result.1 (IsDumpRefusal (S.facts file.old.store) (S.facts file.new.store)) }
     ensures cause { IfErr result.1 (λ fault. HasDumpCause fault (∥ StopsWriting W.writes result.0 ∥₁)) }
-    ensures ok { OnOk result.1 (IsTrue (S.facts file.old.disk.store).honest
-        → Appends (W.contents writer) (W.contents result.0) (dump_text which file.old.document file.old.disk.saved)) }
+    ensures ok { OnOk result.1 (IsTrue (S.facts file.old.store).honest
+        → Appends (W.contents writer) (W.contents result.0) (dump_text which file.old.updated file.old.saved)) }
 {
     let mut pieces = Pieces::new(alloc, writer);
     let dumped = dump(alloc, file, which, &mut pieces);
@@ -69,17 +69,17 @@ fn dump_ending(
     }
 }
 
-/// Writes the script that makes documents of a file again that is open, and gives the writer back. `damaged` is told
+/// Writes the script that makes documents again that are open, and gives the writer back. `damaged` is told
 /// where the store gave back other bytes than it had.
 pub(crate) fn dump_open<S: Store, W: Sink + Drop>(
     alloc: Global,
-    file: &mut VmFile<S>,
+    file: &mut StoredDocuments<S>,
     name: &str,
     which: Which,
     damaged: Obstacle,
     writer: W,
 ) -> (W, Ending)
-    ensures reads { OnlyReads S.facts file.old file.new }
+    ensures reads { OnlyReadsDocuments S.facts file.old file.new }
     ensures told { DumpsOpen S.facts W.contents W.writes name.now which damaged file.old file.new writer
         result.0 result.1 }
 {
@@ -98,9 +98,10 @@ fn dump_store<S: Store, W: Sink + Drop>(
         × DumpsStore W.contents W.writes name.now which (S.facts store) (S.facts left) writer result.0 result.1 }
 {
     match VmFile::open(alloc, store) {
-        Ok(mut file) => {
+        Ok(file) => {
+            let mut documents = file.into_documents();
             let damaged = Obstacle::Unopened(Fault::Damaged);
-            dump_open(alloc, &mut file, name, which, damaged, writer)
+            dump_open(alloc, &mut documents, name, which, damaged, writer)
         }
         Err(refused) => {
             let obstacle = Obstacle::Unopened(refused.fault);

@@ -4,20 +4,21 @@ ghost use Rattle.vm_file.specs.Opened.{OnlyReadsStore};
 ghost use Rattle.file_report.specs.Checked.{IsReport, counting_number};
 ghost use Rattle.file_map.specs.Faults.{IsUncounted};
 ghost use Rattle.file_map.specs.declared.fault.MapFault.TheVariants.{Unopened};
-ghost use Rattle.document_tools.specs.OtherSlots.{DumpsCopy, DumpsOther, DumpsOtherFile, DumpsWithout};
+ghost use Rattle.document_tools.specs.OtherSlots.{DumpsOther, DumpsOtherFile, DumpsSlot};
+ghost use Rattle.vm_format.specs.Slots.{number_of};
 
 use crate::dumping::dump_open;
 use crate::ending::{Ending, refused};
 use crate::looking::unopened;
 use crate::obstacle::Obstacle;
 use crate::viewer::Viewer;
-use document_dump::{Which, copy_with_gate_closed};
+use document_dump::Which;
 use file_report::{Report, check};
 use geos_model::Fault;
 use geos_shell::Sink;
 use std::alloc::Global;
-use vm_file::VmFile;
-use vm_store::{MemStore, Store};
+use vm_file::StoredDocuments;
+use vm_store::Store;
 
 // The slot that counts. Where none does it is told why: the file opens in no such case.
 fn counting_slot(report: &Report) -> Result<u8, Fault>
@@ -34,13 +35,22 @@ fn counting_slot(report: &Report) -> Result<u8, Fault>
     }
 }
 
-fn dump_copy<W: Sink + Drop>(alloc: Global, copy: MemStore, name: &str, writer: W) -> (W, Ending)
-    ensures { DumpsCopy W.contents W.writes name.now copy writer result.0 result.1 }
+// Dumps what a slot leads to, the second one or the first.
+fn dump_slot<S: Store, W: Sink + Drop>(
+    alloc: Global,
+    store: S,
+    second: bool,
+    name: &str,
+    writer: W,
+) -> (W, Ending)
+    ensures { (left : S) × OnlyReadsStore (S.facts store) (S.facts left)
+        × DumpsSlot W.contents W.writes name.now (number_of second) (S.facts store) (S.facts left) writer
+        result.0 result.1 }
 {
-    match VmFile::open(alloc, copy) {
-        Ok(mut file) => {
+    match StoredDocuments::open_slot(alloc, store, second) {
+        Ok(mut documents) => {
             let damaged = Obstacle::NoOther(Fault::Damaged);
-            dump_open(alloc, &mut file, name, Which::Both, damaged, writer)
+            dump_open(alloc, &mut documents, name, Which::Both, damaged, writer)
         }
         Err(refused) => {
             let obstacle = Obstacle::NoOther(refused.fault);
@@ -49,57 +59,34 @@ fn dump_copy<W: Sink + Drop>(alloc: Global, copy: MemStore, name: &str, writer: 
     }
 }
 
-// Dumps what the file has without a slot, of a copy in memory.
-fn dump_without<S: Store, W: Sink + Drop>(
-    alloc: Global,
-    store: &mut S,
-    slot: u8,
-    name: &str,
-    writer: W,
-) -> (W, Ending)
-    ensures looks { OnlyReadsStore (S.facts store.old) (S.facts store.new) }
-    ensures told { DumpsWithout W.contents W.writes name.now slot (S.facts store.old) (S.facts store.new) writer
-        result.0 result.1 }
-{
-    match copy_with_gate_closed(alloc, store, slot) {
-        Ok(copy) => dump_copy(alloc, copy, name, writer),
-        Err(fault) => {
-            let obstacle = Obstacle::Unopened(fault);
-            (writer, unopened(alloc, name, fault, obstacle))
-        }
-    }
-}
-
 // Dumps what the slot leads to that doesn't count, by what was found of the file.
 fn dump_by_report<S: Store, W: Sink + Drop>(
     alloc: Global,
-    store: &mut S,
+    store: S,
     report: &Report,
     name: &str,
     writer: W,
 ) -> (W, Ending)
-    requires { IsTrue (S.facts store.old).honest → IsReport (S.facts store.old).content report.now }
-    ensures looks { OnlyReadsStore (S.facts store.old) (S.facts store.new) }
-    ensures told { DumpsOther W.contents W.writes name.now (S.facts store.old) (S.facts store.new) writer
-        result.0 result.1 }
+    requires { IsTrue (S.facts store).honest → IsReport (S.facts store).content report.now }
+    ensures { (left : S) × OnlyReadsStore (S.facts store) (S.facts left)
+        × DumpsOther W.contents W.writes name.now (S.facts store) (S.facts left) writer result.0 result.1 }
 {
     match counting_slot(report) {
-        Ok(slot) => dump_without(alloc, store, slot, name, writer),
+        Ok(slot) => dump_slot(alloc, store, slot == 0, name, writer),
         Err(fault) => (writer, refused(alloc, name, Obstacle::Unopened(fault))),
     }
 }
 
 fn dump_other_of<S: Store, W: Sink + Drop>(
     alloc: Global,
-    store: &mut S,
+    mut store: S,
     name: &str,
     writer: W,
 ) -> (W, Ending)
-    ensures looks { OnlyReadsStore (S.facts store.old) (S.facts store.new) }
-    ensures told { DumpsOther W.contents W.writes name.now (S.facts store.old) (S.facts store.new) writer
-        result.0 result.1 }
+    ensures { (left : S) × OnlyReadsStore (S.facts store) (S.facts left)
+        × DumpsOther W.contents W.writes name.now (S.facts store) (S.facts left) writer result.0 result.1 }
 {
-    match check(alloc, store) {
+    match check(alloc, &mut store) {
         Ok(report) => dump_by_report(alloc, store, &report, name, writer),
         Err(fault) => {
             let obstacle = Obstacle::Unopened(fault);
@@ -109,8 +96,7 @@ fn dump_other_of<S: Store, W: Sink + Drop>(
 }
 
 /// Opens the file of a name to be read alone, writes the script that makes the documents again to which the slot leads
-/// that doesn't count, and gives the writer back. It gets the script in parts. A copy of the file is made in memory,
-/// for twice its bytes.
+/// that doesn't count, and gives the writer back. It gets the script in parts.
 pub fn dump_other<V: Viewer, W: Sink + Drop>(
     alloc: Global,
     viewer: &mut V,
@@ -121,7 +107,7 @@ pub fn dump_other<V: Viewer, W: Sink + Drop>(
         result.0 result.1 }
 {
     match viewer.view(file) {
-        Ok(mut store) => dump_other_of(alloc, &mut store, file, writer),
+        Ok(store) => dump_other_of(alloc, store, file, writer),
         Err(cause) => (writer, refused(alloc, file, Obstacle::Unviewed(cause))),
     }
 }

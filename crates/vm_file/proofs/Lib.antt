@@ -25,6 +25,7 @@ pub mod ResultLemmas
 pub mod SlotsLemmas
 pub mod SoundLemmas
 pub mod StandsLemmas
+pub mod StoredDocumentsLemmas
 pub mod TableChangeLemmas
 pub mod TableDirectoryLemmas
 pub mod TableLemmas

@@ -89,8 +89,12 @@ versioned : (v : ℕ) → (v ≡ 1) ⊎ (v ≡ 2) → not (v == 1 || v == 2) ≡
 versioned v (inl one) = subst (λ k. not (k == 1 || k == 2) ≡ false) (sym one) refl
 versioned v (inr two) = subst (λ k. not (k == 1 || k == 2) ≡ false) (sym two) refl
 
+-- what a slot leads to whose fields are those of a document
+pub pair_stands : (file : List ℕ) (s : Slot) → IsChecked s → pair_of file s ≡ both (document_at s.version file s.working) (document_at s.version file s.saved)
+pair_stands file s good = cond-false _ _ _ (versioned s.version good.version) ∙ cond-false _ _ _ (tested s good.reserved good.some)
+
 pub pair_refused : (file : List ℕ) (s : Slot) → IsChecked s → both (document_at s.version file s.working) (document_at s.version file s.saved) ≡ Err Damaged → pair_of file s ≡ Err Damaged
-pair_refused file s good wrong = cond-false _ _ _ (versioned s.version good.version) ∙ cond-false _ _ _ (tested s good.reserved good.some) ∙ wrong
+pair_refused file s good wrong = pair_stands file s good ∙ wrong
 
 -- Once it is synced.
 

@@ -15,4 +15,5 @@ pub mod PendingDirectories
 pub mod Ranges
 pub mod Slots
 pub mod Sound
+pub mod StoredDocuments
 pub mod Writing

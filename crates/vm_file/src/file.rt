@@ -23,6 +23,7 @@ use crate::member::Member;
 use crate::opening::open_slots;
 use crate::placing::{follow_commit, known_space};
 use crate::slot::Slots;
+use crate::stored_documents::StoredDocuments;
 use crate::table::{
     BlockTable, Place, both_of, change_places, copy_table, make_room, place_in, read_block,
     set_attributes,
@@ -466,6 +467,16 @@ impl<S: Store> VmFile<S> {
         ensures { IsTrue result ↔ (self.now.disk.sequence ≡ last_sequence) }
     {
         self.slots.sequence == u64::MAX
+    }
+
+    /// The updated and the saved document, to be read from now on.
+    pub fn into_documents(self) -> StoredDocuments<S>
+        ensures store { result.store ≡ self.disk.store }
+        ensures updated { result.updated ≡ self.disk.updated }
+        ensures saved { result.saved ≡ self.disk.saved }
+    {
+        let slots = self.slots;
+        StoredDocuments::of(self.alloc, self.store, slots.committed)
     }
 
     /// Gives the store back. Nothing is written.

@@ -15,6 +15,7 @@ mod member;
 mod opening;
 mod placing;
 mod slot;
+mod stored_documents;
 mod table;
 mod writing;
 
@@ -22,4 +23,5 @@ pub use file::{Refused, VmFile};
 pub use image::Image;
 pub use law::{content_law, crash_law, first_file_law, passing_law};
 pub use member::{BlockImage, Member};
+pub use stored_documents::StoredDocuments;
 pub use table::Place;

@@ -190,7 +190,7 @@ fn read_saved<S: Store>(
 }
 
 /// Reads the two documents of a slot. Damaged, Memory, File.
-fn read_pair<S: Store>(
+pub fn read_pair<S: Store>(
     alloc: Global,
     store: &mut S,
     file_length: u64,

@@ -9,7 +9,7 @@ use Rattle.vm_store.specs.Facts.{byte, Holds}
 use Rattle.geos_model.specs.File.{slot_of, if_open, open_slot, counting_slot, pair_of_counting, stands}
 use Rattle.geos_model.specs.declared.fault.Fault.{Fault}
 use Rattle.geos_model.specs.declared.file.Slot.{Slot}
-use Rattle.vm_format.specs.Slots.{Beaten, IsFoundSlot, IsRawSlot}
+use Rattle.vm_format.specs.Slots.{Beaten, IsFoundSlot, IsRawSlot, pair_of_open, slot_stands}
 use Rattle.vm_format.specs.declared.stored_slot.RawSlot.{RawSlot}
 
 -- the bytes of a slot that are read are those of the file
@@ -58,3 +58,7 @@ found_slot_is file first last other false s a b long zeroth one is_a is_b counts
   other = subst (IsRawSlot file 1) (sym is) one;
   beaten = subst (λ o. Beaten o s.sequence) is_b beaten;
 }
+
+-- what a slot leads to, by what is read of it
+pub slot_stands-read : (file : List ℕ) (page : ℕ) (raw : RawSlot) (o : Option Slot) → 1024 ≤ length file → IsRawSlot file page raw → o ≡ option_and_then if_open raw.slot → slot_stands file page ≡ pair_of_open file o
+slot_stands-read file page raw o long is e = cond-false _ _ _ (le-ltb (length file) 1024 long) ∙ ap (pair_of_open file) (sym (raw_slot_opened file page raw o is e))

@@ -1,7 +1,8 @@
 -- The slots of a file as they are read, and which one counts.
-use Rattle.std.specs.Prelude.{◌≡◌, ◌⊎◌, ℕ, ◌+◌, ◌*◌, ◌<◌, ◌≤◌, ◌==◌, ◌||◌, not, nat_lt, List, Option, None, Some, Result, Ok, Err, length, take, drop, if◌then◌else◌}
+use Rattle.std.specs.Prelude.{◌≡◌, ◌⊎◌, ℕ, ◌+◌, ◌*◌, ◌<◌, ◌≤◌, ◌==◌, ◌||◌, not, nat_lt, Bool, List, Option, None, Some, Result, Ok, Err, length, take, drop, if◌then◌else◌}
 use Rattle.vm_store.specs.Facts.{byte}
-use Rattle.geos_model.specs.File.{slot_of, open_slot, counting_slot}
+use Rattle.geos_model.specs.Document.{Document}
+use Rattle.geos_model.specs.File.{slot_of, open_slot, counting_slot, pair_of}
 use Rattle.geos_model.specs.declared.fault.Fault.{Fault}
 use Rattle.geos_model.specs.declared.fault.Fault.TheVariants.{NotDocument, Damaged}
 use Rattle.geos_model.specs.declared.file.Slot.{Slot}
@@ -41,3 +42,17 @@ pub record IsFoundSlot (file : List ℕ) (found : FoundSlot) : Type 0 where
   pub opened : open_slot file (if found.second then 1 else 0) ≡ Some found.slot
   pub other : IsRawSlot file (if found.second then 0 else 1) found.other
   pub beaten : Beaten (open_slot file (if found.second then 0 else 1)) found.slot.sequence
+
+-- The documents of one slot, whether or not it counts.
+
+abbrev pub number_of : Bool → ℕ
+number_of second = if second then 1 else 0
+
+abbrev pub pair_of_open : List ℕ → Option Slot → Result (Document × Document) Fault
+pair_of_open file None = Err NotDocument
+pair_of_open file (Some s) = pair_of file s
+
+-- the updated and the saved document to which a slot leads, or why it leads to none
+abbrev pub slot_stands : List ℕ → ℕ → Result (Document × Document) Fault
+slot_stands file slot =
+    if nat_lt (length file) 1024 then Err NotDocument else pair_of_open file (open_slot file slot)

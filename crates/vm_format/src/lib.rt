@@ -20,5 +20,5 @@ pub use reading::{read_extent, read_length};
 pub use slot::{SLOT_LENGTH, SLOT_MARK, read_slot, write_slot};
 pub use stored_directory::{ReadDirectory, look_for_directory, read_directory};
 pub use stored_slot::{
-    FoundSlot, RawSlot, check_slot, choose, find_slot, is_version, read_raw_slot,
+    FoundSlot, RawSlot, check_slot, choose, find_slot, is_version, read_open_slot, read_raw_slot,
 };

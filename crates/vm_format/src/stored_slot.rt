@@ -4,7 +4,7 @@ ghost use Rattle.std.specs.Option.{option_and_then, option_map};
 ghost use Rattle.geos_model.specs.File.{counting_slot, if_open, pair_of, stands};
 ghost use Rattle.vm_store.specs.Facts.{FailedSince};
 ghost use Rattle.vm_format.specs.Reading.{IsOpenRefusal, IsResourceFault, OnlyReadsStore};
-ghost use Rattle.vm_format.specs.Slots.{Beaten, IsFoundSlot, IsRawSlot, chosen_by, header_verdict};
+ghost use Rattle.vm_format.specs.Slots.{Beaten, IsFoundSlot, IsRawSlot, chosen_by, header_verdict, number_of, slot_stands};
 
 use crate::slot::{SLOT_LENGTH, read_slot};
 use geos_model::{Fault, PAGE, Slot};
@@ -143,6 +143,42 @@ pub fn find_slot<S: Store>(store: &mut S, file_length: u64) -> Result<FoundSlot,
         slot: choice.slot,
         other: other_of(choice.second, first, second),
     })
+}
+
+// The page of the second slot, or of the first.
+fn page_of(second: bool) -> u32
+    ensures { result ≡ number_of second }
+{
+    if second { 1 } else { 0 }
+}
+
+/// Reads a slot that is open, the second one or the first, in a file of so many bytes. NotDocument, File.
+pub fn read_open_slot<S: Store>(
+    store: &mut S,
+    file_length: u64,
+    second: bool,
+) -> Result<Slot, Fault>
+    // Asked of the caller.
+    requires { IsTrue (S.facts store.old).honest → file_length ≡ length (S.facts store.old).content }
+    // The store.
+    ensures looks { OnlyReadsStore (S.facts store.old) (S.facts store.new) }
+    // The slot.
+    ensures slot { IfOk result (λ slot. IsTrue (S.facts store.old).honest
+        → slot_stands (S.facts store.old).content (number_of second) ≡ pair_of (S.facts store.old).content slot) }
+    // Refusals.
+    ensures refused { IfErr result (λ fault. IsTrue (S.facts store.old).honest
+        → IsResourceFault fault ⊎ (slot_stands (S.facts store.old).content (number_of second) ≡ Err fault)) }
+    ensures file { IsErrOf result Fault.File → FailedSince (S.facts store.old) (S.facts store.new) }
+    ensures refusals { IfErr result IsOpenRefusal }
+{
+    if file_length < 2 * u64::from(PAGE) {
+        return Err(Fault::NotDocument);
+    }
+    let raw = read_raw_slot(store, page_of(second))?;
+    match if_open(raw.slot) {
+        Some(slot) => Ok(slot),
+        None => Err(Fault::NotDocument),
+    }
 }
 
 /// Whether it is a version of the format.

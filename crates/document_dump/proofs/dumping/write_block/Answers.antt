@@ -25,5 +25,5 @@ returns-in_err-after-clause-fails g c =
     let new = new_in c.args.stage c.args.file.now in
     let p = err_from_is_err_and c.from_residual-in_err-after.result c.from_residual-in_err-after.ensures.1 in
     rw (p.1, p.2)
-    (refused-part (IsChangeOf c.args.block.0 c.in_ok-change.change) (g.S.Store.facts c.args.file.now.disk.store) (g.S.Store.facts c.change_of.new.file.disk.store) _ c.in_err-after.ensures.err
+    (refused-part (IsChangeOf c.args.block.0 c.in_ok-change.change) (g.S.Store.facts c.args.file.now.store) (g.S.Store.facts c.change_of.new.file.store) _ c.in_err-after.ensures.err
     (λ so. (old, new, c.in_ok-change.ensures.ok so)))

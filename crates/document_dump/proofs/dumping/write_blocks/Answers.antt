@@ -1,5 +1,5 @@
 use Rattle.std.proofs.Common.{◌≡◌, ℕ, subst, arith}
-use Rattle.vm_file.proofs.EffectsLemmas.{OnlyReads-refl, OnlyReads-trans}
+use Rattle.vm_file.proofs.StoredDocumentsLemmas.{OnlyReadsDocuments-refl, OnlyReadsDocuments-trans}
 use Rattle.document_dump.specs.Versions.{new_in, old_in}
 use Rattle.document_dump.proofs.Stages.{still_honest, old_same, new_same}
 use Rattle.document_dump.proofs.Went.{Went, went_none, went_next, went_all}
@@ -7,7 +7,7 @@ use Rattle.document_dump.proofs.dumping.write_blocks.Goals as goal
 
 pub loop-i-init : goal.loop-i-init
 loop-i-init g c = record {
-  reads = OnlyReads-refl g.S.Store.facts c.args.file.now;
+  reads = OnlyReadsDocuments-refl g.S.Store.facts c.args.file.now;
   holes = omega (arith, c.requires);
   went = λ so. went_none (old_in c.args.stage c.args.file.now) (new_in c.args.stage c.args.file.now) c.args.first (g.W.Write.contents c.args.writer.now);
 }
@@ -17,7 +17,7 @@ loop-i-preserved g c =
     let facts = g.S.Store.facts in
     let reads = c.loop-i.invariant.reads in
     record {
-      reads = OnlyReads-trans facts _ _ _ (g.met.S.Store.timely c.args.file.now.disk.store) reads c.write_block.ensures.reads;
+      reads = OnlyReadsDocuments-trans facts _ _ _ (g.met.S.Store.timely c.args.file.now.store) reads c.write_block.ensures.reads;
       holes = omega (arith, c.loop-i.invariant.holes, c.in_ok-step.ensures.holes);
       went = λ so.
           rw c.either-some.ensures (went_next (old_in c.args.stage c.args.file.now) (new_in c.args.stage c.args.file.now) (old_in c.args.stage c.loop-i.file) (new_in c.args.stage c.loop-i.file) c.args.first c.loop-i.progress
@@ -26,7 +26,7 @@ loop-i-preserved g c =
     }
 
 pub returns-in_err-step-clause-reads : goal.returns-in_err-step-clause-reads
-returns-in_err-step-clause-reads g c = OnlyReads-trans g.S.Store.facts _ _ _ (g.met.S.Store.timely c.args.file.now.disk.store) c.loop-i.invariant.reads c.write_block.ensures.reads
+returns-in_err-step-clause-reads g c = OnlyReadsDocuments-trans g.S.Store.facts _ _ _ (g.met.S.Store.timely c.args.file.now.store) c.loop-i.invariant.reads c.write_block.ensures.reads
 
 pub returns-clause-ok : goal.returns-clause-ok
 returns-clause-ok g c = λ so.

@@ -9,17 +9,19 @@ use Rattle.document_tools.proofs.other_slot.dump_by_report.Goals as goal
 
 -- A slot counts, or none does, and then the file doesn't open.
 
-pub returns-in-Ok-clause-told : goal.returns-in-Ok-clause-told
-returns-in-Ok-clause-told g c = inr (c.args.report.now, c.in-Ok.slot, c.requires, c.in-Ok.ensures, c.dump_without.ensures.told)
+pub returns-in-Ok : goal.returns-in-Ok
+returns-in-Ok g c =
+    let left = c.dump_slot.ensures in
+    (left.0, left.1, inr (c.args.report.now, c.in-Ok.slot, c.requires, c.in-Ok.ensures, left.2))
 
-pub returns-in-Err-clause-looks : goal.returns-in-Err-clause-looks
-returns-in-Err-clause-looks g c = OnlyReadsStore-refl (g.S.Store.facts c.args.store.now)
-
-pub returns-in-Err-clause-told : goal.returns-in-Err-clause-told
-returns-in-Err-clause-told g c =
-    let facts = g.S.Store.facts c.args.store.now in let fault = c.in-Err.fault in
-    inl (
-      refused_or_memory (FailsLook c.args.name.now facts facts) c.args.name.now (Unopened fault)
-          (λ line is. inr (fault, is, uncounted facts c.args.report.now (map_faults.Unopened fault) c.requires c.in-Err.ensures)) tt c.refused.result c.refused.ensures,
-      refl,
+pub returns-in-Err : goal.returns-in-Err
+returns-in-Err g c =
+    let facts = g.S.Store.facts c.args.store in let fault = c.in-Err.fault in (
+      c.args.store,
+      OnlyReadsStore-refl facts,
+      inl (
+        refused_or_memory (FailsLook c.args.name.now facts facts) c.args.name.now (Unopened fault)
+            (λ line is. inr (fault, is, uncounted facts c.args.report.now (map_faults.Unopened fault) c.requires c.in-Err.ensures)) tt c.refused.result c.refused.ensures,
+        refl,
+      ),
     )

@@ -4,7 +4,7 @@ use Rattle.document_tools.proofs.other_slot.dump_other.Goals as goal
 -- The file was opened and dumped, or it couldn't be opened.
 
 pub returns-in-Ok : goal.returns-in-Ok
-returns-in-Ok g c = inr (c.in-Ok.store, c.in-Ok.ensures, (c.dump_other_of.new.store, c.dump_other_of.ensures.looks, c.dump_other_of.ensures.told))
+returns-in-Ok g c = inr (c.in-Ok.store, c.in-Ok.ensures, c.dump_other_of.ensures)
 
 pub returns-in-Err : goal.returns-in-Err
 returns-in-Err g c = inl (c.in-Err.cause, c.in-Err.ensures, (c.refused.ensures, refl))

@@ -1,4 +1,5 @@
 use Rattle.std.proofs.Common.{Err, ap, refl, inl, inr}
+use Rattle.geos_model.specs.File.{stands}
 use Rattle.document_tools.specs.Stats.{StatsStore}
 use Rattle.document_tools.specs.declared.obstacle.Obstacle.TheVariants.{Unopened}
 use Rattle.document_tools.proofs.Looked.{stated, unlooked_at}
@@ -12,5 +13,5 @@ returns-in-Ok-clause-told g c =
 pub returns-in-Err-clause-told : goal.returns-in-Err-clause-told
 returns-in-Err-clause-told g c =
     let old = g.S.Store.facts c.args.store.now in let new = g.S.Store.facts c.stat.new.store in
-    unlooked_at (StatsStore g.W.Sink.writes c.args.file.now c.args.form old new c.args.writer.now c.args.writer.now) c.args.file.now old new c.in-Err.fault (Unopened c.in-Err.fault) c.unopened.result
+    unlooked_at stands (StatsStore g.W.Sink.writes c.args.file.now c.args.form old new c.args.writer.now c.args.writer.now) c.args.file.now old new c.in-Err.fault (Unopened c.in-Err.fault) c.unopened.result
     (λ line is failed. (inl (is, failed), refl)) (λ line is so. (inr (c.in-Err.fault, is, so), refl)) refl (λ e. c.in-Err.ensures.file (ap Err e)) c.in-Err.ensures.err c.unopened.ensures
