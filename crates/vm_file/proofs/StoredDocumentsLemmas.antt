@@ -1,15 +1,13 @@
 -- The documents of a slot, and calls that only read them.
-use Rattle.std.proofs.Common.{◌≡◌, ◌⊎◌, ◌≤◌, ℕ, IsTrue, List, All, Ok, Err, refl, sym, ap, ap₂, subst, ◌∙◌}
+use Rattle.std.proofs.Common.{◌≡◌, ℕ, IsTrue, List, Ok, sym, ap, ap₂, subst, ◌∙◌}
 use Rattle.vm_store.specs.Facts.{StoreFacts, IsTimely}
-use Rattle.geos_model.specs.Document.{Document}
 use Rattle.geos_model.specs.File.{both, document_at, pair_of}
 use Rattle.geos_model.specs.declared.file.Slot.{Slot}
 use Rattle.vm_format.specs.Reading.{OnlyReadsStore}
 use Rattle.vm_file.specs.Disk.{SameUnlessCorrupt}
-use Rattle.vm_file.specs.Documents.{AreImaged, AreStored, blocks_in, document_in, documents_in}
+use Rattle.vm_file.specs.Documents.{AreImaged, AreStored, blocks_in, documents_in}
 use Rattle.vm_file.specs.Opened.{AreReadDocuments}
 use Rattle.vm_file.specs.StoredDocuments.{AreFileDocuments, LieIn, OnlyReadsDocuments, StoredState, stored_state}
-use Rattle.vm_file.specs.declared.table.DocumentRef.{DocumentRef}
 use Rattle.vm_file.specs.declared.table.Pair.{Pair}
 use Rattle.vm_format.proofs.LooksLemmas.{OnlyReadsStore-refl, OnlyReadsStore-trans, still_holds}
 use Rattle.vm_file.proofs.OpenedLemmas.{IsChecked, pair_stands}
