@@ -12,6 +12,7 @@ pub mod FirstConditions
 pub mod Loading
 pub mod ChunkPlans
 pub mod LookUps
+pub mod Forms
 pub mod BlockPlans
 pub mod ChainPlans
 pub mod Planned

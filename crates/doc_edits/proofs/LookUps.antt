@@ -3,15 +3,16 @@ use Rattle.std.proofs.Common.{◌≡◌, ◌⊎◌, ℕ, List, [], ◌++◌, ◌
 use Rattle.std.proofs.lemmas.Bool.{true≢false}
 use Rattle.std.proofs.lemmas.Result.{MatchResult-weaker}
 use Rattle.std.specs.Option.{option_map, option_map_or}
-use Rattle.std.specs.Prelude.{IfErr, IsOk}
+use Rattle.std.specs.Prelude.{IfErr, IsOk, IsOkAnd}
 use Rattle.std.specs.Result.{IsErrAnd}
 use Rattle.std.specs.FinMap.{contains_key}
 use Rattle.geos_model.specs.Refusal.{Conditions, first_refusal}
 use Rattle.geos_model.specs.Document.{Document, chunks_of, is_heap}
 use Rattle.geos_model.specs.Machine.{Needs, OneBody, look_up_needs}
 use Rattle.geos_model.specs.Meaning.{on_chunk, chunk_at}
+use Rattle.geos_model.specs.LookUps.{array_look_up}
 use Rattle.geos_model.specs.NameEdits.{names_in, token_of_text, find_conditions}
-use Rattle.geos_model.specs.Reply.{Reply, Refused, BytesAre, TokenIs, reply_by, look_up_conditions, look_up}
+use Rattle.geos_model.specs.Reply.{Reply, Refused, BytesAre, TokenIs, reply_by, reply_of, look_up_conditions, look_up}
 use Rattle.geos_model.proofs.Refusals.{none_applies, or_none}
 use Rattle.geos_model.proofs.FirstRefusals.{passed}
 use Rattle.geos_model.specs.declared.fault.Fault.{Fault}
@@ -21,6 +22,12 @@ use Rattle.geos_model.specs.declared.command.Command.TheVariants as commands
 use Rattle.geos_model.specs.declared.handle.ChunkHandle.{ChunkHandle}
 use Rattle.geos_model.specs.declared.handle.Token.{Token}
 use Rattle.geos_model.specs.declared.handle.VmHandle.{VmHandle}
+use Rattle.geos_model.specs.declared.look_up.ArrayLookUp.{ArrayLookUp}
+use Rattle.geos_model.specs.declared.look_up.ArrayLookUp.TheVariants as array_look_ups
+use Rattle.geos_model.specs.declared.look_up.ChunkArrayLookUp.TheVariants as chunk_array_look_ups
+use Rattle.geos_model.specs.declared.look_up.ElementArrayLookUp.TheVariants as element_array_look_ups
+use Rattle.geos_model.specs.declared.look_up.NameArrayLookUp.TheVariants as name_array_look_ups
+use Rattle.geos_model.specs.declared.reply.Reply.{Reply as GivenReply}
 use Rattle.element_arrays.specs.Answering.{IsAnswered, IsRefused}
 use Rattle.vm_blocks.specs.State.{CacheState}
 use Rattle.vm_chains.specs.Answers.{AnswersChain, IsWalkRefusal}
@@ -29,8 +36,10 @@ use Rattle.vm_blocks.specs.Keeping.{KeepsBlocks, IsEnvironmentFault, IsHonest, I
 use Rattle.vm_blocks.proofs.KeepingLaws.{keeps-refl}
 use Rattle.vm_blocks.specs.Kinds.{IsWrongBlock}
 use Rattle.doc_edits.specs.Found.{AreLate, IsChunkAt}
-use Rattle.doc_edits.specs.LookUps.{answer_of, chunk_asked, makes_list, FindsInMemory, IsWrongRootOf, LooksUp, LooksUpInMemory, RefusesChunk, Sees, SeesAlongChain}
+use Rattle.doc_edits.specs.LookUps.{answer_of, chunk_asked, makes_list, AnswersInChunk, FindsInMemory, IsWrongRootOf, LooksUp, LooksUpInMemory, RefusesChunk, Sees, SeesAlongChain, ShowsOrRefuses}
 use Rattle.doc_edits.specs.Room.{has_no_room, IsChainRefusal, IsRefusedEarly, ReadsNothing}
+use Rattle.doc_edits.specs.declared.look_ups.Lists.{Lists}
+use Rattle.doc_edits.specs.declared.look_ups.Prepared.{Prepared}
 use Rattle.doc_edits.proofs.Refusals.{carried_so, past_chunk}
 use Rattle.doc_edits.proofs.RoomLemmas.{LooksFor, early_of_chain, looks_for_heap, refused_for, unchanged, room_at}
 
@@ -343,3 +352,66 @@ pub read_seen : {S X : Type 0} (facts : S → StoreFacts) (a e : CacheState S) (
 read_seen facts a e b c now (Err fault) keeps found in_memory = chunk_missed facts a e b c now (Err fault) keeps found in_memory (commands.Read b c) refl refl (λ x. BytesAre (now x)) (Err fault) fault refl refl
 read_seen facts a e b c now (Ok x) keeps found in_memory = chunk_seen facts a e b c now (Ok x) keeps found in_memory (commands.Read b c) refl refl x refl (BytesAre (now x))
     (λ lacks no_room room there. bytes_answered lacks no_room e.document b c now (Ok x) (room, there))
+
+-- what is answered where there is room
+pub with_room : (lacks : Fault → Type 0) (no_room : Bool) → no_room ≡ false → (command : Command) (d : Document) (reply : Reply) → answer_of false command d ≡ Some reply → LooksUp lacks no_room command d reply
+with_room lacks no_room room command d reply is = inr (subst (λ (b : Bool). answer_of b command d ≡ Some reply) (sym room) is)
+
+-- and where nothing is lacking
+pub sure : (command : Command) (d : Document) (reply : Reply) → LooksUp (λ (fault : Fault). ⊥) false command d reply → answer_of false command d ≡ Some reply
+sure command d reply (inl lack) = absurd lack.1
+sure command d reply (inr is) = is
+
+-- What is shown is what was answered,
+module _ {T : Type 0} (P : Reply → Type 0) (f : T → Reply) (s : Result T Fault) (looks : P (reply_by f s)) where
+  pub shown_ok : (x : T) → s ≡ Ok x → (reply : Reply) → reply ≡ f x → P reply
+  shown_ok x was reply is = subst P (ap (λ (r : Result T Fault). reply_by f r) was ∙ sym is) looks
+
+  -- and why it was refused.
+  pub shown_err : {S : Type 0} (e : CacheState S) (lists : Lists) (fault : Fault) → s ≡ Err fault → (r : Result Prepared Fault) → IsErrAnd r (λ x. x ≡ fault) → (reply : Reply) → ShowsOrRefuses r e lists reply → P reply
+  shown_err e lists fault was (Ok p) is reply shows = absurd is
+  shown_err e lists fault was (Err x) is reply shows = subst P (ap (λ (r : Result T Fault). reply_by f r) was ∙ ap Refused (sym is) ∙ sym shows) looks
+
+-- an answer that is made a reply
+pub mapped : {T : Type 0} (f : T → Reply) (made : T → GivenReply → Type 0) (r : Result T Fault) (m : Result GivenReply Fault)
+    → MatchResult r (λ x. IsOkAnd m (made x)) (λ e. m ≡ Err e) → ((x : T) (y : GivenReply) → made x y → reply_of y ≡ f x) → reply_by reply_of m ≡ reply_by f r
+mapped f made (Ok x) (Ok y) so same = same x y so
+mapped f made (Ok x) (Err e) so same = absurd so
+mapped f made (Err e) m so same = rw so refl
+
+-- What the bytes of a chunk answer by themselves is the answer wherever they stand.
+module _ (bytes : List ℕ) where
+  pub own_reply : (asks : VmHandle → ChunkHandle → Command) {V T : Type 0} (own : List ℕ → Conditions) (value : List ℕ → V) (g : V → Reply) (v : T → V) (s : Result T Fault) (reply : Reply)
+      → ((d : Document) (b : VmHandle) (c : ChunkHandle) → look_up_conditions (asks b c) d ≡ on_chunk d b.0 c.0 ++ own (chunk_at d b.0 c.0))
+      → ((d : Document) (b : VmHandle) (c : ChunkHandle) → look_up (asks b c) d ≡ Some (g (value (chunk_at d b.0 c.0))))
+      → MatchResult s (λ x. IsAnswered (own bytes) (value bytes) (v x)) (IsRefused (own bytes)) → reply ≡ reply_by (λ x. g (v x)) s → AnswersInChunk bytes asks reply
+  own_reply asks own value g v s reply conditions does answered is = λ d b c there.
+      sure (asks b c) d reply (subst (λ (r : Reply). LooksUp (λ (fault : Fault). ⊥) false (asks b c) d r) (sym is) (own_answered (λ (fault : Fault). ⊥) false refl d b c bytes there (asks b c) own value g s v (conditions d b c) (does d b c) answered))
+
+  -- so is the token of a name
+  pub find_reply : (name : List ℕ) (s : Result Token Fault) (reply : Reply)
+      → MatchResult s (λ token. IsAnswered (find_conditions bytes name) (unwrap_or (token_of_text (names_in bytes) name) 0) token.0) (IsRefused (find_conditions bytes name))
+      → reply ≡ reply_by (λ token. TokenIs token.0) s → AnswersInChunk bytes (λ b c. commands.NameFind b c name) reply
+  find_reply name s reply answered is = λ d b c there.
+      sure (commands.NameFind b c name) d reply (subst (λ (r : Reply). LooksUp (λ (fault : Fault). ⊥) false (commands.NameFind b c name) d r) (sym is) (name_answered (λ (fault : Fault). ⊥) false d b c (λ (_ : Unit {0}). bytes) (Ok tt) (refl, there) tt refl name name s refl answered))
+
+-- and so are the bytes themselves
+pub read_reply : (d : Document) (b : VmHandle) (c : ChunkHandle) {X : Type 0} (now : X → List ℕ) (r : Result X Fault) (reply : Reply)
+    → MatchResult r (λ x. IsChunkAt d b.0 c.0 (now x)) (λ fault. (rest : Conditions) → AreLate rest → first_refusal (on_chunk d b.0 c.0 ++ rest) ≡ Some fault)
+    → reply ≡ reply_by (λ x. BytesAre (now x)) r → answer_of false (commands.Read b c) d ≡ Some reply
+read_reply d b c now r reply found is =
+    sure (commands.Read b c) d reply (subst (λ (x : Reply). LooksUp (λ (fault : Fault). ⊥) false (commands.Read b c) d x) (sym is) (bytes_answered (λ (fault : Fault). ⊥) false d b c now r (chunk_or_refusal (λ (fault : Fault). ⊥) false d b c now r refl found)))
+
+-- a look-up into an array looks into this chunk of the block
+pub array_asks : (b : VmHandle) (c : ChunkHandle) (asked : ArrayLookUp) → (look_up_needs (array_look_up b c asked) ≡ OneBody b.0) × (chunk_asked (array_look_up b c asked) ≡ Some (b, c))
+array_asks b c (array_look_ups.Chunk chunk_array_look_ups.Count) = (refl, refl)
+array_asks b c (array_look_ups.Chunk (chunk_array_look_ups.Element i)) = (refl, refl)
+array_asks b c (array_look_ups.Element (element_array_look_ups.References t)) = (refl, refl)
+array_asks b c (array_look_ups.Element (element_array_look_ups.Bytes t)) = (refl, refl)
+array_asks b c (array_look_ups.Element element_array_look_ups.Used) = (refl, refl)
+array_asks b c (array_look_ups.Element (element_array_look_ups.TokenOfUsed k)) = (refl, refl)
+array_asks b c (array_look_ups.Element (element_array_look_ups.UsedOfToken t)) = (refl, refl)
+array_asks b c (array_look_ups.Name (name_array_look_ups.Find name)) = (refl, refl)
+array_asks b c (array_look_ups.Name (name_array_look_ups.References t)) = (refl, refl)
+array_asks b c (array_look_ups.Name (name_array_look_ups.Text t)) = (refl, refl)
+array_asks b c (array_look_ups.Name (name_array_look_ups.Part t)) = (refl, refl)

@@ -1,11 +1,12 @@
 -- What a look-up may answer of a document, and what it leaves of it.
-use Rattle.std.specs.Prelude.{◌≡◌, ◌⊎◌, ⊤, Bool, true, false, ◌∷◌, Option, None, Some, Result, IfErr, MatchResult}
+use Rattle.std.specs.Prelude.{◌≡◌, ◌⊎◌, ⊤, ℕ, List, Bool, true, false, ◌∷◌, Option, None, Some, Result, Ok, Err, IfErr, MatchResult}
 use Rattle.std.specs.Option.{option_map_or}
 use Rattle.std.specs.Borrow.{follows_so, Fml, RattleType, MutBor}
 use Rattle.geos_model.specs.Refusal.{first_refusal}
-use Rattle.geos_model.specs.Document.{Document, is_raw}
+use Rattle.geos_model.specs.Document.{Document, is_heap, is_raw}
+use Rattle.geos_model.specs.LookUps.{array_look_up}
 use Rattle.geos_model.specs.Machine.{OneBody, look_up_needs}
-use Rattle.geos_model.specs.Reply.{Reply, Refused, look_up_conditions, look_up}
+use Rattle.geos_model.specs.Reply.{Reply, AreEqual, NumberIs, Refused, blocks_are, chunks_are, info_is, look_up_conditions, look_up}
 use Rattle.geos_model.specs.declared.fault.Fault.{Fault}
 use Rattle.geos_model.specs.declared.fault.Fault.TheVariants.{CacheFull, Memory}
 use Rattle.geos_model.specs.declared.command.Command.{Command}
@@ -14,11 +15,14 @@ use Rattle.geos_model.specs.declared.handle.ChunkHandle.{ChunkHandle}
 use Rattle.geos_model.specs.declared.handle.VmHandle.{VmHandle}
 use Rattle.vm_store.specs.Facts.{StoreFacts}
 use Rattle.vm_blocks.specs.State.{CacheState}
-use Rattle.vm_blocks.specs.Keeping.{KeepsBlocks, IsEnvironmentFault, IsHonest, is_full, is_shut_out}
+use Rattle.vm_blocks.specs.Keeping.{KeepsBlocks, IsEnvironmentFault, IsHonest, is_full, is_loaded, is_shut_out}
 use Rattle.vm_blocks.specs.Kinds.{IsWrongBlock}
 use Rattle.vm_chains.specs.Answers.{IsWrongRoot}
-use Rattle.doc_edits.specs.Found.{IsChunkLive}
+use Rattle.doc_edits.specs.Found.{IsChunkAt, IsChunkLive}
 use Rattle.doc_edits.specs.Room.{has_no_room, IsChainRefusal, ReadsNothing}
+use Rattle.doc_edits.specs.declared.look_ups.Lists.{Lists}
+use Rattle.doc_edits.specs.declared.look_ups.Prepared.{Prepared}
+use Rattle.doc_edits.specs.declared.look_ups.Prepared.TheVariants as prepared
 use mathlib.Core.Option.{none}
 
 -- the first refusal of a look-up, for which there may be no room, or what it answers where nothing refuses it
@@ -117,3 +121,32 @@ pub record FindsChunk {S T : Type 0} (facts : S → StoreFacts) (old new : Cache
 -- that.
 abbrev pub AfterLoan : (R : RattleType) → MutBor R.Denot → (R.Denot → Type 0) → Fml
 AfterLoan R s P = follows_so R R s.ghost_name none (λ _ _. ⊤) P
+
+-- These bytes answer a look-up into a chunk so, wherever they stand.
+abbrev pub AnswersInChunk : List ℕ → (VmHandle → ChunkHandle → Command) → Reply → Type 0
+AnswersInChunk bytes asks reply =
+    (d : Document) (b : VmHandle) (c : ChunkHandle) → IsChunkAt d b.0 c.0 bytes
+    → answer_of false (asks b c) d ≡ Some reply
+
+-- the block in which the answer stands is in memory
+abbrev pub IsReady : {S : Type 0} → Prepared → CacheState S → Type 0
+IsReady (prepared.Raw b) s = (is_loaded s b.0 ≡ true) × (is_raw s.document b.0 ≡ true)
+IsReady (prepared.Chunk b c) s = (is_loaded s b.0 ≡ true) × (is_heap s.document b.0 ≡ true)
+IsReady (prepared.Array b c asked) s = (is_loaded s b.0 ≡ true) × IsChunkLive s.document b.0 c.0
+IsReady _ s = ⊤
+
+-- what is answered of what was prepared: it, a list, or what the document answers
+abbrev pub Shows : {S : Type 0} → Prepared → CacheState S → Lists → Reply → Type 0
+Shows (prepared.Info info) s lists reply = reply ≡ info_is info
+Shows (prepared.Number n) s lists reply = reply ≡ NumberIs n
+Shows (prepared.Equal equal) s lists reply = reply ≡ AreEqual equal
+Shows prepared.Blocks s lists reply = reply ≡ blocks_are lists.blocks.items
+Shows prepared.Chunks s lists reply = reply ≡ chunks_are lists.chunks.items
+Shows (prepared.Raw b) s lists reply = answer_of false (commands.ReadRaw b) s.document ≡ Some reply
+Shows (prepared.Chunk b c) s lists reply = answer_of false (commands.Read b c) s.document ≡ Some reply
+Shows (prepared.Array b c asked) s lists reply = answer_of false (array_look_up b c asked) s.document ≡ Some reply
+
+-- or why nothing was prepared
+abbrev pub ShowsOrRefuses : {S : Type 0} → Result Prepared Fault → CacheState S → Lists → Reply → Type 0
+ShowsOrRefuses (Ok prepared) s lists reply = Shows prepared s lists reply
+ShowsOrRefuses (Err fault) s lists reply = reply ≡ Refused fault

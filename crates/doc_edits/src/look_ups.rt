@@ -1,19 +1,25 @@
 //! What is looked up of a document.
-ghost use Rattle.std.specs.Prelude.{◌≡◌, [], true, false, MatchResult, OnOk, get_or, length};
+ghost use Rattle.std.specs.Prelude.{◌≡◌, [], true, false, IfOk, MatchResult, OnOk, get_or, length};
 ghost use Rattle.std.specs.Borrow.{sem};
 ghost use Rattle.geos_model.specs.ArrayEdits.{array_in, on_array, on_element};
-ghost use Rattle.geos_model.specs.Reply.{AreEqual, BytesAre, NumberIs, TokenIs, reply_by, info_is, blocks_are, chunks_are};
+ghost use Rattle.geos_model.specs.Forms.{form_asked, has_form};
+ghost use Rattle.geos_model.specs.LookUps.{array_look_up, block_look_up, chain_look_up, chunk_array_look_up, chunk_look_up, element_array_look_up, name_array_look_up};
+ghost use Rattle.geos_model.specs.Reply.{Reply as Answer, AreEqual, BytesAre, NumberIs, TokenIs, reply_by, reply_of, info_is, blocks_are, chunks_are};
 ghost use Rattle.geos_model.specs.declared.command.Command.TheVariants as commands;
 ghost use Rattle.vm_blocks.specs.contracts.file_blocks.FileBlocks.{the_row};
 ghost use Rattle.vm_blocks.specs.Keeping.{KeepsBlocks, IsEnvironmentFault, is_loaded, is_shut_out};
 ghost use Rattle.element_arrays.specs.Answering.{IsAnswered, IsRefused};
 ghost use Rattle.doc_edits.specs.Found.{IsChunkAt};
-ghost use Rattle.doc_edits.specs.LookUps.{FindsChunk, FindsInMemory, AfterLoan, RefusesChunk, Sees, SeesAlongChain};
+ghost use Rattle.doc_edits.specs.declared.look_ups.Lists.{Lists};
+ghost use Rattle.doc_edits.specs.LookUps.{AfterLoan, AnswersInChunk, FindsChunk, FindsInMemory, IsReady, RefusesChunk, Sees, SeesAlongChain, Shows, ShowsOrRefuses};
 
 use crate::found::{bytes_in, heap_at, known_at, raw_at};
 use crate::marking::test_array;
 use crate::room::{test_chain, test_chains};
-use geos_model::{Bytes, ChunkHandle, Fault, Info, Token, VmHandle};
+use geos_model::{
+    ArrayLookUp, BlockLookUp, Bytes, ChainLookUp, ChunkArrayLookUp, ChunkHandle, ChunkLookUp,
+    ElementArrayLookUp, Fault, Info, NameArrayLookUp, Reply, Token, VmHandle,
+};
 use lmem_heap::{ArrayKind, KnownBytes};
 use std::alloc::Global;
 use vm_blocks::{BlockBody, FileBlocks};
@@ -318,4 +324,215 @@ pub fn chain_equal<S: Store>(
 {
     test_chains(blocks, first, second)?;
     vm_chains::equal(alloc, blocks, first, second)
+}
+
+/// The lists that were asked for last, of which replies are lent.
+#[derive(Drop)]
+pub struct Lists {
+    pub blocks: Vec<VmHandle>,
+    pub chunks: Vec<ChunkHandle>,
+}
+
+impl Lists {
+    /// Lists of nothing, for which no memory is taken.
+    pub fn new(alloc: Global) -> Lists {
+        Lists {
+            blocks: Vec::new(alloc),
+            chunks: Vec::new(alloc),
+        }
+    }
+}
+
+/// What was prepared for a reply: a value, or where the answer stands.
+#[derive(Clone, Copy)]
+pub enum Prepared<'a> {
+    Info(Info),
+    Number(u64),
+    Equal(bool),
+    /// The list of blocks.
+    Blocks,
+    /// The list of chunks.
+    Chunks,
+    /// The bytes of a raw block in memory.
+    Raw(VmHandle),
+    /// The bytes of a chunk of a heap in memory, if it is live.
+    Chunk(VmHandle, ChunkHandle),
+    /// What is asked of the array in a live chunk of a heap in memory.
+    Array(VmHandle, ChunkHandle, ArrayLookUp<'a>),
+}
+
+/// Brings into memory what a look-up into one block looks into.
+pub fn prepare_in_block<'a, S: Store>(
+    blocks: &mut FileBlocks<S>,
+    lists: &mut Lists,
+    block: VmHandle,
+    asked: BlockLookUp<'a>,
+) -> Result<Prepared<'a>, Fault>
+    ensures ready { IfOk result (λ prepared. IsReady prepared blocks.new) }
+    ensures sees { (reply : Answer) → ShowsOrRefuses result blocks.new lists.new reply
+        → Sees S.facts blocks.old blocks.new (block_look_up block asked.entry) reply }
+{
+    match asked {
+        BlockLookUp::Info => Ok(Prepared::Info(info(blocks, block)?)),
+        BlockLookUp::ReadRaw => {
+            blocks.load_raw(block)?;
+            Ok(Prepared::Raw(block))
+        }
+        BlockLookUp::Chunks => {
+            lists.chunks = chunks(blocks, block)?;
+            Ok(Prepared::Chunks)
+        }
+        BlockLookUp::InChunk(chunk, asked) => prepare_in_chunk(blocks, block, chunk, asked),
+    }
+}
+
+/// Brings into memory the heap in whose chunk is looked.
+fn prepare_in_chunk<'a, S: Store>(
+    blocks: &mut FileBlocks<S>,
+    block: VmHandle,
+    chunk: ChunkHandle,
+    asked: ChunkLookUp<'a>,
+) -> Result<Prepared<'a>, Fault>
+    ensures ready { IfOk result (λ prepared. IsReady prepared blocks.new) }
+    ensures sees { (lists : Lists) (reply : Answer) → ShowsOrRefuses result blocks.new lists reply
+        → Sees S.facts blocks.old blocks.new (chunk_look_up block chunk asked.entry) reply }
+{
+    match asked {
+        ChunkLookUp::Read => {
+            blocks.load_heap(block)?;
+            Ok(Prepared::Chunk(block, chunk))
+        }
+        ChunkLookUp::Array(asked) => {
+            load_chunk(blocks, block, chunk, kind_asked(asked))?;
+            Ok(Prepared::Array(block, chunk, asked))
+        }
+    }
+}
+
+/// Of which kind the array is that is asked.
+fn kind_asked(asked: ArrayLookUp<'_>) -> ArrayKind {
+    match asked {
+        ArrayLookUp::Chunk(_) => ArrayKind::Chunk,
+        ArrayLookUp::Element(_) => ArrayKind::Element,
+        ArrayLookUp::Name(_) => ArrayKind::Name,
+    }
+}
+
+/// Looks up along chains, whose blocks are brought into memory one after another.
+pub fn prepare_along_chain<'a, S: Store>(
+    alloc: Global,
+    blocks: &mut FileBlocks<S>,
+    lists: &mut Lists,
+    asked: ChainLookUp,
+) -> Result<Prepared<'a>, Fault>
+    ensures ready { IfOk result (λ prepared. IsReady prepared blocks.new) }
+    ensures sees { (reply : Answer) → ShowsOrRefuses result blocks.new lists.new reply
+        → SeesAlongChain S.facts blocks.old blocks.new (chain_look_up asked) reply
+        × (has_form reply (form_asked (chain_look_up asked)) ≡ true) }
+{
+    match asked {
+        ChainLookUp::Walk(root) => {
+            lists.blocks = walk(alloc, blocks, root)?;
+            Ok(Prepared::Blocks)
+        }
+        ChainLookUp::Size(root) => {
+            let size = chain_size(alloc, blocks, root)?;
+            Ok(Prepared::Number(u64::from(size)))
+        }
+        ChainLookUp::Equal(first, second) => {
+            let equal = chain_equal(alloc, blocks, first, second)?;
+            Ok(Prepared::Equal(equal))
+        }
+    }
+}
+
+/// Answers what was prepared.
+pub fn answer<'a, S: Store>(
+    blocks: &'a FileBlocks<S>,
+    lists: &'a Lists,
+    prepared: Prepared<'_>,
+) -> Result<Reply<'a>, Fault>
+    requires { IsReady prepared blocks.now }
+    ensures { Shows prepared.entry blocks.now lists.now (reply_by reply_of result) }
+{
+    match prepared {
+        Prepared::Info(info) => Ok(Reply::Info(info)),
+        Prepared::Number(n) => Ok(Reply::Number(n)),
+        Prepared::Equal(equal) => Ok(Reply::Equal(equal)),
+        Prepared::Blocks => Ok(Reply::Blocks(&lists.blocks)),
+        Prepared::Chunks => Ok(Reply::Chunks(&lists.chunks)),
+        Prepared::Raw(block) => Ok(Reply::Bytes(raw_at(blocks, block).bytes())),
+        Prepared::Chunk(block, chunk) => {
+            bytes_in(heap_at(blocks, block), chunk).map(Reply::Bytes)
+        }
+        Prepared::Array(block, chunk, asked) => {
+            array_reply(&known_at(blocks, block, chunk), asked)
+        }
+    }
+}
+
+// What an array answers that has these bytes. NotArray, NoElement, NoName.
+fn array_reply<'a>(bytes: &KnownBytes<'a>, asked: ArrayLookUp<'_>) -> Result<Reply<'a>, Fault>
+    ensures { AnswersInChunk bytes.now (λ b c. array_look_up b c asked.entry) (reply_by reply_of result) }
+{
+    match asked {
+        ArrayLookUp::Chunk(asked) => chunk_array_reply(bytes, asked),
+        ArrayLookUp::Element(asked) => element_array_reply(bytes, asked),
+        ArrayLookUp::Name(asked) => name_array_reply(bytes, asked),
+    }
+}
+
+fn chunk_array_reply<'a>(
+    bytes: &KnownBytes<'a>,
+    asked: ChunkArrayLookUp,
+) -> Result<Reply<'a>, Fault>
+    ensures { AnswersInChunk bytes.now (λ b c. chunk_array_look_up b c asked) (reply_by reply_of result) }
+{
+    match asked {
+        ChunkArrayLookUp::Count => count_in(bytes).map(|n| Reply::Number(n as u64)),
+        ChunkArrayLookUp::Element(i) => element_in(bytes, i).map(Reply::Bytes),
+    }
+}
+
+fn element_array_reply<'a>(
+    bytes: &KnownBytes<'a>,
+    asked: ElementArrayLookUp,
+) -> Result<Reply<'a>, Fault>
+    ensures { AnswersInChunk bytes.now (λ b c. element_array_look_up b c asked) (reply_by reply_of result) }
+{
+    match asked {
+        ElementArrayLookUp::References(token) => {
+            element_arrays::count_of(bytes, token).map(|n| Reply::Number(u64::from(n)))
+        }
+        ElementArrayLookUp::Bytes(token) => {
+            element_arrays::data_of(bytes, token).map(Reply::Bytes)
+        }
+        ElementArrayLookUp::Used => {
+            element_arrays::used_count(bytes).map(|n| Reply::Number(n as u64))
+        }
+        ElementArrayLookUp::TokenOfUsed(k) => {
+            element_arrays::token_of_used(bytes, k).map(|token| Reply::Token(token))
+        }
+        ElementArrayLookUp::UsedOfToken(token) => {
+            element_arrays::used_of_token(bytes, token).map(|n| Reply::Number(n as u64))
+        }
+    }
+}
+
+fn name_array_reply<'a>(
+    bytes: &KnownBytes<'a>,
+    asked: NameArrayLookUp<'_>,
+) -> Result<Reply<'a>, Fault>
+    ensures { AnswersInChunk bytes.now (λ b c. name_array_look_up b c asked.entry) (reply_by reply_of result) }
+{
+    match asked {
+        NameArrayLookUp::Find(name) => {
+            name_arrays::find(bytes, name).map(|token| Reply::Token(token))
+        }
+        NameArrayLookUp::References(token) => {
+            name_arrays::count_of(bytes, token).map(|n| Reply::Number(u64::from(n)))
+        }
+        NameArrayLookUp::Text(token) => name_arrays::name_of(bytes, token).map(Reply::Bytes),
+        NameArrayLookUp::Part(token) => name_arrays::data_of(bytes, token).map(Reply::Bytes),
+    }
 }
