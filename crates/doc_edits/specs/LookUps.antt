@@ -129,11 +129,11 @@ AnswersInChunk bytes asks reply =
     → answer_of false (asks b c) d ≡ Some reply
 
 -- the block in which the answer stands is in memory
-abbrev pub IsReady : {S : Type 0} → Prepared → CacheState S → Type 0
-IsReady (prepared.Raw b) s = (is_loaded s b.0 ≡ true) × (is_raw s.document b.0 ≡ true)
-IsReady (prepared.Chunk b c) s = (is_loaded s b.0 ≡ true) × (is_heap s.document b.0 ≡ true)
-IsReady (prepared.Array b c asked) s = (is_loaded s b.0 ≡ true) × IsChunkLive s.document b.0 c.0
-IsReady _ s = ⊤
+abbrev pub IsPreparedLookUp : {S : Type 0} → Prepared → CacheState S → Type 0
+IsPreparedLookUp (prepared.Raw b) s = (is_loaded s b.0 ≡ true) × (is_raw s.document b.0 ≡ true)
+IsPreparedLookUp (prepared.Chunk b c) s = (is_loaded s b.0 ≡ true) × (is_heap s.document b.0 ≡ true)
+IsPreparedLookUp (prepared.Array b c asked) s = (is_loaded s b.0 ≡ true) × IsChunkLive s.document b.0 c.0
+IsPreparedLookUp _ s = ⊤
 
 -- what is answered of what was prepared: it, a list, or what the document answers
 abbrev pub Shows : {S : Type 0} → Prepared → CacheState S → Lists → Reply → Type 0

@@ -11,7 +11,7 @@ ghost use Rattle.vm_blocks.specs.Keeping.{KeepsBlocks, IsEnvironmentFault, is_lo
 ghost use Rattle.element_arrays.specs.Answering.{IsAnswered, IsRefused};
 ghost use Rattle.doc_edits.specs.Found.{IsChunkAt};
 ghost use Rattle.doc_edits.specs.declared.look_ups.Lists.{Lists};
-ghost use Rattle.doc_edits.specs.LookUps.{AfterLoan, AnswersInChunk, FindsChunk, FindsInMemory, IsReady, RefusesChunk, Sees, SeesAlongChain, Shows, ShowsOrRefuses};
+ghost use Rattle.doc_edits.specs.LookUps.{AfterLoan, AnswersInChunk, FindsChunk, FindsInMemory, IsPreparedLookUp, RefusesChunk, Sees, SeesAlongChain, Shows, ShowsOrRefuses};
 
 use crate::found::{bytes_in, heap_at, known_at, raw_at};
 use crate::marking::test_array;
@@ -368,7 +368,7 @@ pub fn prepare_in_block<'a, S: Store>(
     block: VmHandle,
     asked: BlockLookUp<'a>,
 ) -> Result<Prepared<'a>, Fault>
-    ensures ready { IfOk result (λ prepared. IsReady prepared blocks.new) }
+    ensures ready { IfOk result (λ prepared. IsPreparedLookUp prepared blocks.new) }
     ensures sees { (reply : Answer) → ShowsOrRefuses result blocks.new lists.new reply
         → Sees S.facts blocks.old blocks.new (block_look_up block asked.entry) reply }
 {
@@ -393,7 +393,7 @@ fn prepare_in_chunk<'a, S: Store>(
     chunk: ChunkHandle,
     asked: ChunkLookUp<'a>,
 ) -> Result<Prepared<'a>, Fault>
-    ensures ready { IfOk result (λ prepared. IsReady prepared blocks.new) }
+    ensures ready { IfOk result (λ prepared. IsPreparedLookUp prepared blocks.new) }
     ensures sees { (lists : Lists) (reply : Answer) → ShowsOrRefuses result blocks.new lists reply
         → Sees S.facts blocks.old blocks.new (chunk_look_up block chunk asked.entry) reply }
 {
@@ -425,7 +425,7 @@ pub fn prepare_along_chain<'a, S: Store>(
     lists: &mut Lists,
     asked: ChainLookUp,
 ) -> Result<Prepared<'a>, Fault>
-    ensures ready { IfOk result (λ prepared. IsReady prepared blocks.new) }
+    ensures ready { IfOk result (λ prepared. IsPreparedLookUp prepared blocks.new) }
     ensures sees { (reply : Answer) → ShowsOrRefuses result blocks.new lists.new reply
         → SeesAlongChain S.facts blocks.old blocks.new (chain_look_up asked) reply
         × (has_form reply (form_asked (chain_look_up asked)) ≡ true) }
@@ -452,7 +452,7 @@ pub fn answer<'a, S: Store>(
     lists: &'a Lists,
     prepared: Prepared<'_>,
 ) -> Result<Reply<'a>, Fault>
-    requires { IsReady prepared blocks.now }
+    requires { IsPreparedLookUp prepared blocks.now }
     ensures { Shows prepared.entry blocks.now lists.now (reply_by reply_of result) }
 {
     match prepared {

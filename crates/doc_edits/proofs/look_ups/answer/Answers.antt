@@ -3,7 +3,7 @@ use Rattle.geos_model.specs.Reply.{BytesAre, reply_of}
 use Rattle.geos_model.specs.declared.command.Command.TheVariants as commands
 use Rattle.geos_model.specs.declared.fault.Fault.{Fault}
 use Rattle.doc_edits.specs.Found.{IsChunkAt}
-use Rattle.doc_edits.specs.LookUps.{IsReady}
+use Rattle.doc_edits.specs.LookUps.{IsPreparedLookUp}
 use Rattle.doc_edits.specs.declared.look_ups.Prepared.{Prepared}
 use Rattle.doc_edits.proofs.LookUps.{answered_with_room, mapped, read_reply, sure}
 use Rattle.doc_edits.proofs.look_ups.answer.Goals as goal
@@ -22,4 +22,4 @@ returns-in-Chunk g c =
 pub returns-in-Array : goal.returns-in-Array
 returns-in-Array g c =
     let d = c.args.blocks.now.document in
-    rw c.in-Array.is (c.array_reply.ensures d c.in-Array.block c.in-Array.chunk (subst (λ (bytes : List ℕ). IsChunkAt d c.in-Array.block.0 c.in-Array.chunk.0 bytes) (sym c.known_at.ensures) (subst (λ (p : Prepared). IsReady p c.args.blocks.now) c.in-Array.is c.requires).1))
+    rw c.in-Array.is (c.array_reply.ensures d c.in-Array.block c.in-Array.chunk (subst (λ (bytes : List ℕ). IsChunkAt d c.in-Array.block.0 c.in-Array.chunk.0 bytes) (sym c.known_at.ensures) (subst (λ (p : Prepared). IsPreparedLookUp p c.args.blocks.now) c.in-Array.is c.requires).1))
