@@ -135,6 +135,12 @@ IsPreparedLookUp (prepared.Chunk b c) s = (is_loaded s b.0 ≡ true) × (is_heap
 IsPreparedLookUp (prepared.Array b c asked) s = (is_loaded s b.0 ≡ true) × IsChunkLive s.document b.0 c.0
 IsPreparedLookUp _ s = ⊤
 
+-- it is a list
+abbrev pub is_list : Prepared → Bool
+is_list prepared.Blocks = true
+is_list prepared.Chunks = true
+is_list _ = false
+
 -- what is answered of what was prepared: it, a list, or what the document answers
 abbrev pub Shows : {S : Type 0} → Prepared → CacheState S → Lists → Reply → Type 0
 Shows (prepared.Info info) s lists reply = reply ≡ info_is info
