@@ -11,11 +11,7 @@ ghost use Rattle.vm_blocks.specs.Keeping.{KeepsBlocks, IsEnvironmentFault, is_lo
 ghost use Rattle.element_arrays.specs.Answering.{IsAnswered, IsRefused};
 ghost use Rattle.doc_edits.specs.Found.{IsChunkAt};
 ghost use Rattle.doc_edits.specs.declared.look_ups.Lists.{Lists};
-<<<<<<< HEAD
-ghost use Rattle.doc_edits.specs.LookUps.{AfterLoan, AnswersInChunk, FindsChunk, FindsInMemory, IsPreparedLookUp, RefusesChunk, Sees, SeesAlongChain, Shows, ShowsOrRefuses};
-=======
 ghost use Rattle.doc_edits.specs.LookUps.{AfterLoan, AnswersInChunk, FindsChunk, FindsInMemory, IsPreparedLookUp, RefusesChunk, Sees, SeesAlongChain, Shows, ShowsOrRefuses, is_list};
->>>>>>> lookups/main
 
 use crate::found::{bytes_in, heap_at, known_at, raw_at};
 use crate::marking::test_array;
@@ -372,12 +368,8 @@ pub fn prepare_in_block<'a, S: Store>(
     block: VmHandle,
     asked: BlockLookUp<'a>,
 ) -> Result<Prepared<'a>, Fault>
-<<<<<<< HEAD
-    ensures ready { IfOk result (λ prepared. IsPreparedLookUp prepared blocks.new) }
-=======
     ensures keeps { KeepsBlocks S.facts blocks.old blocks.new }
     ensures ready { IfOk result (λ prepared. IsPreparedLookUp prepared blocks.new) }
->>>>>>> lookups/main
     ensures sees { (reply : Answer) → ShowsOrRefuses result blocks.new lists.new reply
         → Sees S.facts blocks.old blocks.new (block_look_up block asked.entry) reply }
 {
@@ -402,12 +394,8 @@ fn prepare_in_chunk<'a, S: Store>(
     chunk: ChunkHandle,
     asked: ChunkLookUp<'a>,
 ) -> Result<Prepared<'a>, Fault>
-<<<<<<< HEAD
-    ensures ready { IfOk result (λ prepared. IsPreparedLookUp prepared blocks.new) }
-=======
     ensures keeps { KeepsBlocks S.facts blocks.old blocks.new }
     ensures ready { IfOk result (λ prepared. IsPreparedLookUp prepared blocks.new) }
->>>>>>> lookups/main
     ensures sees { (lists : Lists) (reply : Answer) → ShowsOrRefuses result blocks.new lists reply
         → Sees S.facts blocks.old blocks.new (chunk_look_up block chunk asked.entry) reply }
 {
@@ -439,12 +427,8 @@ pub fn prepare_along_chain<'a, S: Store>(
     lists: &mut Lists,
     asked: ChainLookUp,
 ) -> Result<Prepared<'a>, Fault>
-<<<<<<< HEAD
-    ensures ready { IfOk result (λ prepared. IsPreparedLookUp prepared blocks.new) }
-=======
     ensures keeps { KeepsBlocks S.facts blocks.old blocks.new }
     ensures ready { IfOk result (λ prepared. IsPreparedLookUp prepared blocks.new) }
->>>>>>> lookups/main
     ensures sees { (reply : Answer) → ShowsOrRefuses result blocks.new lists.new reply
         → SeesAlongChain S.facts blocks.old blocks.new (chain_look_up asked) reply
         × (has_form reply (form_asked (chain_look_up asked)) ≡ true) }
@@ -470,14 +454,9 @@ pub fn answer<'a, S: Store>(
     blocks: &'a FileBlocks<S>,
     prepared: Prepared<'_>,
 ) -> Result<Reply<'a>, Fault>
-<<<<<<< HEAD
-    requires { IsPreparedLookUp prepared blocks.now }
-    ensures { Shows prepared.entry blocks.now lists.now (reply_by reply_of result) }
-=======
     requires ready { IsPreparedLookUp prepared blocks.now }
     requires other { is_list prepared ≡ false }
     ensures { (lists : Lists) → Shows prepared.entry blocks.now lists (reply_by reply_of result) }
->>>>>>> lookups/main
 {
     match prepared {
         Prepared::Info(info) => Ok(Reply::Info(info)),

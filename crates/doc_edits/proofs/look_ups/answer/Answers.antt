@@ -22,8 +22,4 @@ returns-in-Chunk g c =
 pub returns-in-Array : goal.returns-in-Array
 returns-in-Array g c =
     let d = c.args.blocks.now.document in
-<<<<<<< HEAD
-    rw c.in-Array.is (c.array_reply.ensures d c.in-Array.block c.in-Array.chunk (subst (λ (bytes : List ℕ). IsChunkAt d c.in-Array.block.0 c.in-Array.chunk.0 bytes) (sym c.known_at.ensures) (subst (λ (p : Prepared). IsPreparedLookUp p c.args.blocks.now) c.in-Array.is c.requires).1))
-=======
     rw c.in-Array.is (λ lists. c.array_reply.ensures d c.in-Array.block c.in-Array.chunk (subst (λ (bytes : List ℕ). IsChunkAt d c.in-Array.block.0 c.in-Array.chunk.0 bytes) (sym c.known_at.ensures) (subst (λ (p : Prepared). IsPreparedLookUp p c.args.blocks.now) c.in-Array.is c.requires.ready).1))
->>>>>>> lookups/main
