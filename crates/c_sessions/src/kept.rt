@@ -35,10 +35,8 @@ pub fn open<F: ProgramFiles>(
         × BeginsOn F.calls (IsOpening F.Opened.facts frames) number files.old kept.value.session files.new)
         (λ fault. IsNotBegun F.calls (IsOpening F.Opened.facts frames) number files.old fault files.new) }
 {
-    match files.open(number, None) {
-        Ok(store) => keep(alloc, files, number, opened(alloc, store, frames)),
-        Err(_) => Err(Fault::File),
-    }
+    let store = files.open(number, None)?;
+    keep(alloc, files, number, opened(alloc, store, frames))
 }
 
 /// Makes the file that has a number an empty document, likewise.
@@ -54,10 +52,8 @@ pub fn create<F: ProgramFiles>(
         × BeginsOn F.calls (IsCreation F.Opened.facts frames) number files.old kept.value.session files.new)
         (λ fault. IsNotBegun F.calls (IsCreation F.Opened.facts frames) number files.old fault files.new) }
 {
-    match files.open(number, None) {
-        Ok(store) => keep(alloc, files, number, created(alloc, store, frames)),
-        Err(_) => Err(Fault::File),
-    }
+    let store = files.open(number, None)?;
+    keep(alloc, files, number, created(alloc, store, frames))
 }
 
 // A session on the document that a store has.
@@ -121,9 +117,7 @@ fn move_to<F: ProgramFiles>(
         (λ _. IsMoved F.calls F.Opened.facts number kept.old kept.new files.old files.new)
         (λ fault. IsNotMoved F.calls F.Opened.facts number kept.old kept.new files.old fault files.new) }
 {
-    let Ok(target) = files.open(number, Some(kept.number)) else {
-        return Err(Fault::File);
-    };
+    let target = files.open(number, Some(kept.number))?;
     match kept.session.save_as(target) {
         Ok(former) => {
             files.close(former);
