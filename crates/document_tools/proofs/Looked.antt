@@ -1,12 +1,10 @@
 -- What a look at a file comes to, by what its parts do.
-use Rattle.std.specs.Prelude.{⊤}
 use Rattle.std.proofs.Common.{◌≡◌, ◌⊎◌, ℕ, List, [], ◌++◌, Bool, true, false, Option, None, Some, Result, Ok, Err, IfErr, OnOk, IsTrue, refl, ◌∙◌, subst, ap, inl, inr}
 use Rattle.std.proofs.Math.Logic.{∥∥₁_map}
 use Rattle.std.proofs.KnownBytes.{Appends-kept}
 use Rattle.std.proofs.lemmas.List.{append-nil}
 use Rattle.std.specs.Io.KnownBytes.{Appends, Keeps, append_known}
 use Rattle.geos_model.specs.Document.{Document}
-use Rattle.geos_model.specs.File.{stands}
 use Rattle.geos_model.specs.declared.fault.Fault.{Fault}
 use Rattle.geos_model.specs.declared.fault.Fault.TheVariants as faults
 use Rattle.vm_store.specs.Facts.{StoreFacts, FailedSince}
@@ -29,7 +27,7 @@ use Rattle.file_map.specs.declared.fault.MapFault.TheVariants as map_faults
 use Rattle.file_map.specs.declared.part.Part.{Part}
 use Rattle.document_tools.specs.DumpedFiles.{DumpsOpen, DumpsStood, EndsDump, HasDumpCause, IsDumpEnd}
 use Rattle.document_tools.specs.Endings.{IsRefusedFor}
-use Rattle.document_tools.specs.Looks.{EndsUnopened, IsUnlookedAt}
+use Rattle.document_tools.specs.Looks.{EndsUnopened}
 use Rattle.document_tools.specs.Maps.{EndsMap, HasMapCause, IsMapEnd, MapsStore, picture_of}
 use Rattle.document_tools.specs.Obstacles.{refusal_line}
 use Rattle.document_tools.specs.Stats.{StatsStore, TellsStat}

@@ -1,11 +1,10 @@
 -- What the dump of the other slot comes to, by what its parts do.
-use Rattle.std.specs.Prelude.{⊤}
 use Rattle.std.specs.Option.{option_map}
 use Rattle.std.specs.Result.{result_ok}
-use Rattle.std.proofs.Common.{◌≡◌, ◌⊎◌, ℕ, List, Option, None, Some, Result, Ok, Err, IsTrue, refl, subst, inl, inr}
+use Rattle.std.proofs.Common.{◌≡◌, ℕ, List, Option, None, Result, Ok, Err, refl, subst, inl, inr}
 use Rattle.geos_model.specs.File.{stands}
 use Rattle.geos_model.specs.declared.fault.Fault.{Fault}
-use Rattle.vm_store.specs.Facts.{StoreFacts, FailedSince}
+use Rattle.vm_store.specs.Facts.{StoreFacts}
 use Rattle.vm_file.specs.Opened.{OnlyReadsStore}
 use Rattle.vm_format.specs.Slots.{slot_stands}
 use Rattle.vm_format.proofs.LooksLemmas.{held_before, raised_later, same_bytes_then, still}
