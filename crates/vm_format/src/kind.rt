@@ -32,7 +32,6 @@ impl BodyKind {
         }
     }
 
-    /// Whether it is that of a heap.
     pub fn is_heap(self) -> bool
         ensures { result ≡ is_heap_kind self }
     {
