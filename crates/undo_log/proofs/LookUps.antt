@@ -1,23 +1,42 @@
 -- What is looked up of a session's document is a step of its machine.
-use Rattle.std.proofs.Common.{◌≡◌, true, IsTrue, Option, Some, None, ◌∷◌, map, refl, sym, ap, subst, inl, inr}
+use Rattle.std.proofs.Common.{◌≡◌, ◌∙◌, ℕ, Bool, true, false, length, IsTrue, Option, Some, None, Result, Ok, Err, ◌∷◌, map, refl, sym, ap, subst, inl, inr}
 use Rattle.std.specs.Option.{option_map, option_map_or}
+use Rattle.std.specs.Prelude.{unwrap_or}
+use Rattle.std.specs.Result.{IsErrAnd}
 use Rattle.geos_model.specs.Refusal.{first_refusal}
 use Rattle.geos_model.specs.ElementArray.{all_distinct}
+use Rattle.geos_model.specs.Forms.{form_asked, has_form}
+use Rattle.geos_model.specs.LookUps.{block_look_up, chain_look_up}
 use Rattle.geos_model.specs.Machine as machine
 use Rattle.geos_model.specs.Machine.{Machine, ManyBodies, Needs, Step, takes_memory, calls_store, command_conditions, done_by, look_up_needs}
-use Rattle.geos_model.specs.Reply.{Reply, Refused, look_up_conditions, look_up}
+use Rattle.geos_model.specs.Reply.{Reply, BlockIs, NumberIs, Refused, found, look_up_conditions, look_up, reply_by, reply_of}
 use Rattle.geos_model.specs.declared.fault.Fault.{Fault}
 use Rattle.geos_model.specs.declared.fault.Fault.TheVariants.{CacheFull}
 use Rattle.geos_model.specs.declared.command.Command.{Command}
+use Rattle.geos_model.specs.declared.command.Command.TheVariants as commands
+use Rattle.geos_model.specs.declared.handle.VmHandle.{VmHandle}
+use Rattle.geos_model.specs.declared.look_up.ArrayLookUp.TheVariants as array_look_ups
+use Rattle.geos_model.specs.declared.look_up.BlockLookUp.{BlockLookUp}
+use Rattle.geos_model.specs.declared.look_up.BlockLookUp.TheVariants as block_look_ups
+use Rattle.geos_model.specs.declared.look_up.ChainLookUp.{ChainLookUp}
+use Rattle.geos_model.specs.declared.look_up.ChainLookUp.TheVariants as chain_look_ups
+use Rattle.geos_model.specs.declared.look_up.ChunkArrayLookUp.TheVariants as chunk_array_look_ups
+use Rattle.geos_model.specs.declared.look_up.ChunkLookUp.TheVariants as chunk_look_ups
+use Rattle.geos_model.specs.declared.look_up.ElementArrayLookUp.TheVariants as element_array_look_ups
+use Rattle.geos_model.specs.declared.look_up.NameArrayLookUp.TheVariants as name_array_look_ups
+use Rattle.geos_model.specs.declared.reply.Reply.{Reply as GivenReply}
 use Rattle.geos_model.specs.Document.{Document}
 use Rattle.vm_store.specs.Facts.{StoreFacts}
 use Rattle.vm_blocks.specs.State.{CacheState}
 use Rattle.vm_blocks.specs.Keeping.{KeepsBlocks, IsEnvironmentFault}
 use Rattle.vm_blocks.proofs.KeepingLaws.{honest-steady}
-use Rattle.doc_edits.specs.LookUps.{LooksUp, Sees, SeesAlongChain}
+use Rattle.doc_edits.specs.LookUps.{LooksUp, Sees, SeesAlongChain, Shows, ShowsOrRefuses}
 use Rattle.doc_edits.specs.Room.{has_no_room}
+use Rattle.doc_edits.specs.declared.look_ups.Lists.{Lists}
+use Rattle.doc_edits.specs.declared.look_ups.Prepared.{Prepared}
+use Rattle.doc_edits.proofs.Forms.{looks_form}
 use Rattle.undo_log.specs.Logging.{Log}
-use Rattle.undo_log.specs.Sessions.{SessionState, cache_of, machine_of, failed_since, IsStep, KeepsSession, AnswersAlongChain, AnswersLookUp}
+use Rattle.undo_log.specs.Sessions.{SessionState, cache_of, machine_of, failed_since, IsStep, KeepsSession, AnswersAlongChain, AnswersAtRest, AnswersLookUp}
 use Rattle.undo_log.proofs.Keeping.{gives_up, kept_exact, kept_machine, kept_document}
 use Rattle.undo_log.proofs.Locks.{has_no_room-is}
 
@@ -77,6 +96,97 @@ module _ {S : Type 0} (facts : S → StoreFacts) (old new : CacheState S) (log :
     pub looked_along : look_up_needs c ≡ ManyBodies → SeesAlongChain facts old new c reply → AnswersAlongChain facts s (session_with new log) c reply
     looked_along many sees =
         subst (λ (x : SessionState S). AnswersAlongChain facts x (session_with new log) c reply) is (along facts (session_with old log) (session_with new log) (record { blocks = keeps; log = refl }) distinct c reply asks many sees)
+
+-- A step of the machine in which nothing changes, in the form that is asked for.
+abbrev pub StepsSo : {S : Type 0} → SessionState S → Command → Reply → Type 0
+StepsSo s command reply =
+    ((target : Bool) → Step false (machine_of target s) (Some command) reply (machine_of target s)) × (has_form reply (form_asked command) ≡ true)
+
+pub at_rest : {S : Type 0} (new old : SessionState S) (c : Command) (reply : Reply) → new ≡ old → ((target : Bool) → Step false (machine_of target new) (Some c) reply (machine_of target new)) → AnswersAtRest old new c reply
+at_rest {S} new old c reply same step = ((λ target. subst (λ (s : SessionState S). Step false (machine_of target s) (Some c) reply (machine_of target new)) same (step target)), same)
+
+-- the fault that `?` hands on is what was answered
+pub answered_err : {T : Type 0} (P : Reply → Type 0) (f : T → Reply) (s : Result T Fault) → P (reply_by f s) → (fault : Fault) → s ≡ Err fault → (m : Result GivenReply Fault) → IsErrAnd m (λ x. x ≡ fault) → P (reply_by reply_of m)
+answered_err P f s looks fault was (Ok y) is = absurd is
+answered_err {T} P f s looks fault was (Err x) is = subst P (ap (λ (r : Result T Fault). reply_by f r) was ∙ ap Refused (sym is)) looks
+
+-- What is answered by a value, without a look into any block.
+
+-- the block that was found, or 0
+pub find_step : (m : Machine) (user_id : ℕ) (start : VmHandle) (block : Option VmHandle) (found_or_0 : VmHandle)
+    → option_map (λ (h : VmHandle). h.0) block ≡ found m.document user_id start.0 → found_or_0 ≡ unwrap_or block (record { 0 = 0 })
+    → Step false m (Some (commands.Find user_id start)) (BlockIs found_or_0.0) m
+find_step m user_id start None found_or_0 e is = inl (rw (is, ← e) refl)
+find_step m user_id start (Some h) found_or_0 e is = inl (rw (is, ← e) refl)
+
+-- the map block
+pub map_block_step : (m : Machine) (block : VmHandle) → block.0 ≡ m.document.map_block
+    → Step false m (Some commands.MapBlock) (BlockIs block.0) m
+map_block_step m block e = inl (rw e refl)
+
+-- how many edits can be undone
+pub undos_step : (m : Machine) (count : ℕ) → count ≡ length m.past → Step false m (Some commands.Undos) (NumberIs count) m
+undos_step m count e = inl (rw e refl)
+
+-- how many edits can be redone
+pub redos_step : (m : Machine) (count : ℕ) → count ≡ length m.future → Step false m (Some commands.Redos) (NumberIs count) m
+redos_step m count e = inl (rw e refl)
+
+-- Each look-up into a body asks of the document alone.
+
+block_is : (b : VmHandle) (asked : BlockLookUp) → IsLookUp (block_look_up b asked)
+block_is b block_look_ups.Info = record { takes = λ _. refl; calls = λ _. refl; refuses = λ _. refl; answers = λ _. refl }
+block_is b block_look_ups.ReadRaw = record { takes = λ _. refl; calls = λ _. refl; refuses = λ _. refl; answers = λ _. refl }
+block_is b block_look_ups.Chunks = record { takes = λ _. refl; calls = λ _. refl; refuses = λ _. refl; answers = λ _. refl }
+block_is b (block_look_ups.InChunk c chunk_look_ups.Read) = record { takes = λ _. refl; calls = λ _. refl; refuses = λ _. refl; answers = λ _. refl }
+block_is b (block_look_ups.InChunk c (chunk_look_ups.Array (array_look_ups.Chunk chunk_array_look_ups.Count))) = record { takes = λ _. refl; calls = λ _. refl; refuses = λ _. refl; answers = λ _. refl }
+block_is b (block_look_ups.InChunk c (chunk_look_ups.Array (array_look_ups.Chunk (chunk_array_look_ups.Element i)))) = record { takes = λ _. refl; calls = λ _. refl; refuses = λ _. refl; answers = λ _. refl }
+block_is b (block_look_ups.InChunk c (chunk_look_ups.Array (array_look_ups.Element (element_array_look_ups.References t)))) = record { takes = λ _. refl; calls = λ _. refl; refuses = λ _. refl; answers = λ _. refl }
+block_is b (block_look_ups.InChunk c (chunk_look_ups.Array (array_look_ups.Element (element_array_look_ups.Bytes t)))) = record { takes = λ _. refl; calls = λ _. refl; refuses = λ _. refl; answers = λ _. refl }
+block_is b (block_look_ups.InChunk c (chunk_look_ups.Array (array_look_ups.Element element_array_look_ups.Used))) = record { takes = λ _. refl; calls = λ _. refl; refuses = λ _. refl; answers = λ _. refl }
+block_is b (block_look_ups.InChunk c (chunk_look_ups.Array (array_look_ups.Element (element_array_look_ups.TokenOfUsed k)))) = record { takes = λ _. refl; calls = λ _. refl; refuses = λ _. refl; answers = λ _. refl }
+block_is b (block_look_ups.InChunk c (chunk_look_ups.Array (array_look_ups.Element (element_array_look_ups.UsedOfToken t)))) = record { takes = λ _. refl; calls = λ _. refl; refuses = λ _. refl; answers = λ _. refl }
+block_is b (block_look_ups.InChunk c (chunk_look_ups.Array (array_look_ups.Name (name_array_look_ups.Find name)))) = record { takes = λ _. refl; calls = λ _. refl; refuses = λ _. refl; answers = λ _. refl }
+block_is b (block_look_ups.InChunk c (chunk_look_ups.Array (array_look_ups.Name (name_array_look_ups.References t)))) = record { takes = λ _. refl; calls = λ _. refl; refuses = λ _. refl; answers = λ _. refl }
+block_is b (block_look_ups.InChunk c (chunk_look_ups.Array (array_look_ups.Name (name_array_look_ups.Text t)))) = record { takes = λ _. refl; calls = λ _. refl; refuses = λ _. refl; answers = λ _. refl }
+block_is b (block_look_ups.InChunk c (chunk_look_ups.Array (array_look_ups.Name (name_array_look_ups.Part t)))) = record { takes = λ _. refl; calls = λ _. refl; refuses = λ _. refl; answers = λ _. refl }
+
+chain_is : (asked : ChainLookUp) → IsLookUp (chain_look_up asked) × (look_up_needs (chain_look_up asked) ≡ ManyBodies)
+chain_is (chain_look_ups.Walk b) = (record { takes = λ _. refl; calls = λ _. refl; refuses = λ _. refl; answers = λ _. refl }, refl)
+chain_is (chain_look_ups.Size b) = (record { takes = λ _. refl; calls = λ _. refl; refuses = λ _. refl; answers = λ _. refl }, refl)
+chain_is (chain_look_ups.Equal b other) = (record { takes = λ _. refl; calls = λ _. refl; refuses = λ _. refl; answers = λ _. refl }, refl)
+
+-- So it answers what was prepared.
+module _ {S : Type 0} (facts : S → StoreFacts) (old new : CacheState S) (log : Log) (s : SessionState S) (is : session_with old log ≡ s) (distinct : all_distinct (map (λ s. s.0) old.resident) ≡ true)
+    (lists : Lists) (r : Result Prepared Fault) (reply : Reply) (shows : ShowsOrRefuses r new lists reply) where
+  module _ (b : VmHandle) (asked : BlockLookUp) (sees : (reply : Reply) → ShowsOrRefuses r new lists reply → Sees facts old new (block_look_up b asked) reply) where
+    pub in_block_keeps : KeepsBlocks facts old new
+    in_block_keeps = (sees reply shows).keeps
+
+    pub in_block_form : has_form reply (form_asked (block_look_up b asked)) ≡ true
+    in_block_form = looks_form (IsEnvironmentFault facts old.disk.store new.disk.store) (has_no_room old (look_up_needs (block_look_up b asked))) (block_look_up b asked) new.document reply (sees reply shows).value
+
+    pub in_block_looked : AnswersLookUp facts s (session_with new log) (block_look_up b asked) reply
+    in_block_looked = looked_at facts old new log in_block_keeps s is distinct (block_look_up b asked) reply (block_is b asked) (sees reply shows)
+
+  module _ (asked : ChainLookUp) (sees : (reply : Reply) → ShowsOrRefuses r new lists reply → SeesAlongChain facts old new (chain_look_up asked) reply × (has_form reply (form_asked (chain_look_up asked)) ≡ true)) where
+    pub along_chain_keeps : KeepsBlocks facts old new
+    along_chain_keeps = (sees reply shows).0.keeps
+
+    pub along_chain_form : has_form reply (form_asked (chain_look_up asked)) ≡ true
+    along_chain_form = (sees reply shows).1
+
+    pub along_chain_looked : AnswersAlongChain facts s (session_with new log) (chain_look_up asked) reply
+    along_chain_looked = looked_along facts old new log along_chain_keeps s is distinct (chain_look_up asked) reply (chain_is asked).0 (chain_is asked).1 (sees reply shows).0
+
+-- what was prepared, or why nothing was
+module _ {S : Type 0} (e : CacheState S) (lists : Lists) (r : Result Prepared Fault) where
+  pub shows_ok : (p : Prepared) (reply : Reply) → r ≡ Ok p → Shows p e lists reply → ShowsOrRefuses r e lists reply
+  shows_ok p reply was shows = subst (λ (x : Result Prepared Fault). ShowsOrRefuses x e lists reply) (sym was) shows
+
+  pub shows_err : (fault : Fault) (m : Result GivenReply Fault) → r ≡ Err fault → IsErrAnd m (λ x. x ≡ fault) → ShowsOrRefuses r e lists (reply_by reply_of m)
+  shows_err fault (Ok y) was is = absurd is
+  shows_err fault (Err x) was is = subst (λ (y : Result Prepared Fault). ShowsOrRefuses y e lists (Refused x)) (sym was) (ap Refused is)
 
 -- sessions of the same parts are the same
 pub same_session : {S : Type 0} (old new : CacheState S) (log log' : Log) → new ≡ old → log' ≡ log → session_with new log' ≡ session_with old log

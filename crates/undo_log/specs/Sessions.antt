@@ -1,15 +1,19 @@
 -- A session: what it holds, the machine that it is, and that what it keeps of each step can be taken.
-use Rattle.std.specs.Prelude.{◌≡◌, ℕ, Bool, IsTrue, nat_le, nat_lt, if◌then◌else◌, List, [], ◌∷◌, map, Some}
+use Rattle.std.specs.Prelude.{◌≡◌, ℕ, Bool, false, IsTrue, nat_le, nat_lt, if◌then◌else◌, List, [], ◌∷◌, map, Some}
 use Rattle.std.specs.FinMap.{FinMap, empty, insert, remove, len}
 use Rattle.std.specs.List.{sum_by}
 use Rattle.std.specs.Option.{option_map}
 use Rattle.std.specs.Ordering.{nat_cmp}
 use Rattle.geos_model.specs.Document.{Document, IsValid}
+use Rattle.geos_model.specs.LookUps.{block_look_up, chain_look_up, plain_look_up}
 use Rattle.geos_model.specs.Machine.{Machine, UndoStep, Step}
 use Rattle.geos_model.specs.Reply.{Reply}
 use Rattle.geos_model.specs.declared.command.Command.{Command}
+use Rattle.geos_model.specs.declared.command.Command.TheVariants as commands
 use Rattle.geos_model.specs.declared.command.Done.{Done}
 use Rattle.geos_model.specs.declared.command.Edit.{Edit}
+use Rattle.geos_model.specs.declared.look_up.LookUp.{LookUp}
+use Rattle.geos_model.specs.declared.look_up.LookUp.TheVariants as look_ups
 use Rattle.vm_store.specs.Facts.{StoreFacts, raised}
 use Rattle.vm_file.specs.Disk.{Disk, FileState}
 use Rattle.vm_blocks.specs.State.{CacheState, ResidentBlock, is_locked, as_file}
@@ -123,6 +127,18 @@ pub record AnswersAlongChain {S : Type 0} (facts : S → StoreFacts) (old new : 
   pub keeps : KeepsSession facts old new
   pub step : IsStep facts old new command reply
   pub sees : SeesAlongChain facts (cache_of old) (cache_of new) command reply
+
+-- What one comes to that looks into no body: a step of the machine over any store, and nothing changes.
+abbrev pub AnswersAtRest : {S : Type 0} → SessionState S → SessionState S → Command → Reply → Type 0
+AnswersAtRest old new command reply =
+    ((target : Bool) → Step false (machine_of target old) (Some command) reply (machine_of target new)) × (new ≡ old)
+
+-- what a look-up comes to
+abbrev pub Answers : {S : Type 0} → (S → StoreFacts) → SessionState S → SessionState S → LookUp → Reply → Type 0
+Answers facts old new look_ups.List reply = AnswersAtRest old new commands.List reply
+Answers facts old new (look_ups.Plain asked) reply = AnswersAtRest old new (plain_look_up asked) reply
+Answers facts old new (look_ups.InBlock b asked) reply = AnswersLookUp facts old new (block_look_up b asked) reply
+Answers facts old new (look_ups.AlongChain asked) reply = AnswersAlongChain facts old new (chain_look_up asked) reply
 
 -- The edit's change is made, and is the newest of the log.
 pub record PushesEdit {S : Type 0} (facts : S → StoreFacts) (edit : Edit) (done : Done) (old new : SessionState S)

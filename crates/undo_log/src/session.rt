@@ -35,6 +35,7 @@ mod look_ups;
 use crate::log::UndoLog;
 use crate::making::{is_barred, make};
 use crate::turning::{make_entry, nothing_to_turn, take_back};
+use doc_edits::look_ups::Lists;
 use geos_model::{ChunkHandle, Done, Edit, Fault, VmHandle};
 use std::alloc::Global;
 use std::marker::Model;
@@ -49,6 +50,8 @@ pub struct Session<S: Store> {
     alloc: Global,
     blocks: FileBlocks<S>,
     log: UndoLog,
+    // From which the reply to a look-up is lent: no part of what a session is.
+    lists: Lists,
 }
 
 impl<S: Store> Model for Session<S> {
@@ -90,6 +93,7 @@ impl<S: Store> Session<S> {
             alloc,
             blocks,
             log: UndoLog::new(alloc),
+            lists: Lists::new(alloc),
         }
     }
 

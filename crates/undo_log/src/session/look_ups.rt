@@ -1,20 +1,90 @@
 //! What is looked up of a session: its blocks, and what is in them.
-ghost use Rattle.std.specs.Prelude.{◌≡◌, Bool, false, Some};
+ghost use Rattle.std.specs.Prelude.{◌≡◌, Bool, true, false, Some};
 ghost use Rattle.std.specs.Borrow.{sem};
 ghost use Rattle.std.specs.Option.{option_map};
-ghost use Rattle.geos_model.specs.Reply.{AreEqual, BytesAre, NumberIs, TokenIs, reply_by, info_is, blocks_are, chunks_are, found};
+ghost use Rattle.geos_model.specs.Forms.{form_asked, has_form};
+ghost use Rattle.geos_model.specs.LookUps.{command_of, plain_look_up};
+ghost use Rattle.geos_model.specs.Reply.{AreEqual, BytesAre, NumberIs, TokenIs, reply_by, reply_of, info_is, blocks_are, chunks_are, found};
 ghost use Rattle.geos_model.specs.Machine.{Step};
 ghost use Rattle.geos_model.specs.declared.command.Command.TheVariants as commands;
 ghost use Rattle.doc_edits.specs.LookUps.{AfterLoan};
-ghost use Rattle.undo_log.specs.Sessions.{machine_of, AnswersAlongChain, AnswersLookUp};
+ghost use Rattle.undo_log.specs.Sessions.{machine_of, Answers, AnswersAlongChain, AnswersLookUp};
 ghost use Rattle.undo_log.specs.contracts.session.Session.{the_row};
 
 use super::Session;
-use doc_edits::look_ups;
-use geos_model::{Bytes, ChunkHandle, Fault, Info, Token, VmHandle};
+use doc_edits::look_ups::{self, Prepared};
+use geos_model::{Bytes, ChunkHandle, Fault, Info, LookUp, PlainLookUp, Reply, Token, VmHandle};
 use vm_store::Store;
 
+// Lends what was prepared, each reply of the field in which it stands.
+macro_rules! lend {
+    ($session:expr, $prepared:expr) => {
+        match $prepared {
+            Prepared::Blocks => Ok(Reply::Blocks(&$session.lists.blocks)),
+            Prepared::Chunks => Ok(Reply::Chunks(&$session.lists.chunks)),
+            _ => look_ups::answer(&$session.blocks, $prepared),
+        }
+    };
+}
+
 impl<S: Store> Session<S> {
+    /// What a look-up answers; bytes and lists are lent. It is refused first as its rules say: NoBlock or WrongKind,
+    /// which are known without a block; then CacheFull; then what a body refuses. Memory, File or Damaged may come in
+    /// place of what follows CacheFull.
+    pub fn look_up(&mut self, look_up: LookUp<'_>) -> Result<Reply<'_>, Fault>
+        ensures* leaves { sem 𝓛 (AfterLoan (the_row S.row S.Store) self.entry (λ new.
+            Answers S.facts self.old new look_up.entry (reply_by reply_of result))) }
+        ensures form { has_form (reply_by reply_of result) (form_asked (command_of look_up.entry)) ≡ true }
+    {
+        match look_up {
+            LookUp::List => {
+                self.lists.blocks = self.list()?;
+                Ok(Reply::Blocks(&self.lists.blocks))
+            }
+            LookUp::Plain(asked) => self.plain(asked),
+            LookUp::InBlock(block, asked) => {
+                self.blocks.validity();
+                let prepared = look_ups::prepare_in_block(
+                    &mut self.blocks,
+                    &mut self.lists,
+                    block,
+                    asked,
+                )?;
+                lend!(self, prepared)
+            }
+            LookUp::AlongChain(asked) => {
+                self.blocks.validity();
+                let prepared = look_ups::prepare_along_chain(
+                    self.alloc,
+                    &mut self.blocks,
+                    &mut self.lists,
+                    asked,
+                )?;
+                lend!(self, prepared)
+            }
+        }
+    }
+
+    // What is answered by a value, without a look into any block.
+    fn plain(&self, asked: PlainLookUp) -> Result<Reply<'_>, Fault>
+        ensures { ((target : Bool) → Step false (machine_of target self.now) (Some (plain_look_up asked))
+            (reply_by reply_of result) (machine_of target self.now))
+            × (has_form (reply_by reply_of result) (form_asked (plain_look_up asked)) ≡ true) }
+    {
+        match asked {
+            PlainLookUp::HeapType(block) => {
+                self.heap_type(block).map(|n| Reply::Number(u64::from(n)))
+            }
+            PlainLookUp::Find(user_id, start) => {
+                Ok(Reply::Block(self.find(user_id, start).unwrap_or(VmHandle(0))))
+            }
+            PlainLookUp::MapBlock => Ok(Reply::Block(self.map_block())),
+            PlainLookUp::Locks(block) => self.locks(block).map(|n| Reply::Number(u64::from(n))),
+            PlainLookUp::Undos => Ok(Reply::Number(self.undo_count() as u64)),
+            PlainLookUp::Redos => Ok(Reply::Number(self.redo_count() as u64)),
+        }
+    }
+
     /// The live blocks, rising.
     pub fn list(&self) -> Result<Vec<VmHandle>, Fault>
         ensures { (target : Bool) → Step false (machine_of target self.now) (Some commands.List)
