@@ -36,7 +36,7 @@ use Rattle.doc_edits.specs.declared.look_ups.Lists.{Lists}
 use Rattle.doc_edits.specs.declared.look_ups.Prepared.{Prepared}
 use Rattle.doc_edits.proofs.Forms.{looks_form}
 use Rattle.undo_log.specs.Logging.{Log}
-use Rattle.undo_log.specs.Sessions.{SessionState, cache_of, machine_of, failed_since, IsStep, KeepsSession, AnswersAlongChain, AnswersAtRest, AnswersLookUp}
+use Rattle.undo_log.specs.Sessions.{SessionState, cache_of, machine_of, failed_since, IsStep, KeepsSession, AnswersAlongChain, AnswersWithoutBody, AnswersLookUp}
 use Rattle.undo_log.proofs.Keeping.{gives_up, kept_exact, kept_machine, kept_document}
 use Rattle.undo_log.proofs.Locks.{has_no_room-is}
 
@@ -102,7 +102,7 @@ abbrev pub StepsSo : {S : Type 0} → SessionState S → Command → Reply → T
 StepsSo s command reply =
     ((target : Bool) → Step false (machine_of target s) (Some command) reply (machine_of target s)) × (has_form reply (form_asked command) ≡ true)
 
-pub at_rest : {S : Type 0} (new old : SessionState S) (c : Command) (reply : Reply) → new ≡ old → ((target : Bool) → Step false (machine_of target new) (Some c) reply (machine_of target new)) → AnswersAtRest old new c reply
+pub at_rest : {S : Type 0} (new old : SessionState S) (c : Command) (reply : Reply) → new ≡ old → ((target : Bool) → Step false (machine_of target new) (Some c) reply (machine_of target new)) → AnswersWithoutBody old new c reply
 at_rest {S} new old c reply same step = ((λ target. subst (λ (s : SessionState S). Step false (machine_of target s) (Some c) reply (machine_of target new)) same (step target)), same)
 
 -- the fault that `?` hands on is what was answered

@@ -129,16 +129,16 @@ pub record AnswersAlongChain {S : Type 0} (facts : S → StoreFacts) (old new : 
   pub sees : SeesAlongChain facts (cache_of old) (cache_of new) command reply
 
 -- What one comes to that looks into no body: a step of the machine over any store, and nothing changes.
-abbrev pub AnswersAtRest : {S : Type 0} → SessionState S → SessionState S → Command → Reply → Type 0
-AnswersAtRest old new command reply =
+abbrev pub AnswersWithoutBody : {S : Type 0} → SessionState S → SessionState S → Command → Reply → Type 0
+AnswersWithoutBody old new command reply =
     ((target : Bool) → Step false (machine_of target old) (Some command) reply (machine_of target new)) × (new ≡ old)
 
 -- what a look-up comes to
-abbrev pub Answers : {S : Type 0} → (S → StoreFacts) → SessionState S → SessionState S → LookUp → Reply → Type 0
-Answers facts old new look_ups.List reply = AnswersAtRest old new commands.List reply
-Answers facts old new (look_ups.Plain asked) reply = AnswersAtRest old new (plain_look_up asked) reply
-Answers facts old new (look_ups.InBlock b asked) reply = AnswersLookUp facts old new (block_look_up b asked) reply
-Answers facts old new (look_ups.AlongChain asked) reply = AnswersAlongChain facts old new (chain_look_up asked) reply
+abbrev pub AnswersAsked : {S : Type 0} → (S → StoreFacts) → SessionState S → SessionState S → LookUp → Reply → Type 0
+AnswersAsked facts old new look_ups.List reply = AnswersWithoutBody old new commands.List reply
+AnswersAsked facts old new (look_ups.Plain asked) reply = AnswersWithoutBody old new (plain_look_up asked) reply
+AnswersAsked facts old new (look_ups.InBlock b asked) reply = AnswersLookUp facts old new (block_look_up b asked) reply
+AnswersAsked facts old new (look_ups.AlongChain asked) reply = AnswersAlongChain facts old new (chain_look_up asked) reply
 
 -- The edit's change is made, and is the newest of the log.
 pub record PushesEdit {S : Type 0} (facts : S → StoreFacts) (edit : Edit) (done : Done) (old new : SessionState S)

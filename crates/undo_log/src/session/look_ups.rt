@@ -8,7 +8,7 @@ ghost use Rattle.geos_model.specs.Reply.{AreEqual, BytesAre, NumberIs, TokenIs, 
 ghost use Rattle.geos_model.specs.Machine.{Step};
 ghost use Rattle.geos_model.specs.declared.command.Command.TheVariants as commands;
 ghost use Rattle.doc_edits.specs.LookUps.{AfterLoan};
-ghost use Rattle.undo_log.specs.Sessions.{machine_of, Answers, AnswersAlongChain, AnswersLookUp};
+ghost use Rattle.undo_log.specs.Sessions.{machine_of, AnswersAsked, AnswersAlongChain, AnswersLookUp};
 ghost use Rattle.undo_log.specs.contracts.session.Session.{the_row};
 
 use super::Session;
@@ -33,7 +33,7 @@ impl<S: Store> Session<S> {
     /// place of what follows CacheFull.
     pub fn look_up(&mut self, look_up: LookUp<'_>) -> Result<Reply<'_>, Fault>
         ensures* leaves { sem 𝓛 (AfterLoan (the_row S.row S.Store) self.entry (λ new.
-            Answers S.facts self.old new look_up.entry (reply_by reply_of result))) }
+            AnswersAsked S.facts self.old new look_up.entry (reply_by reply_of result))) }
         ensures form { has_form (reply_by reply_of result) (form_asked (command_of look_up.entry)) ≡ true }
     {
         match look_up {
