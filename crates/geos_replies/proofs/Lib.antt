@@ -1,7 +1,6 @@
 pub mod Calls
 pub mod FileFaults
 pub mod Frames
-pub mod LookUps
 pub mod Refusals
 pub mod Replying
 pub mod Serving

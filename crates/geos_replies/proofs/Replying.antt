@@ -1,8 +1,8 @@
 -- A reply's line is what is written for its request.
 use Rattle.std.proofs.Common.{◌≡◌, List, ℕ, ◌++◌, Bool, true, false, length, refl, sym, ap, subst, Option, Result, Ok, OnOk, OnErr, IfErr, IsTrue, Err, Some, inr, ◌∷◌, [], ◌∙◌, is_err, is_ok, rules, None}
-use Rattle.std.specs.Prelude.{IsOkAnd, MatchResult}
+use Rattle.std.specs.Prelude.{IsOkAnd, MatchOption, MatchResult}
 use Rattle.std.proofs.lemmas.List.{append_assoc, take_at}
-use Rattle.geos_model.specs.LookUps.{is_look_up}
+use Rattle.geos_model.specs.LookUps.{block_look_up, chain_look_up, command_of, is_look_up, plain_look_up}
 use Rattle.geos_model.specs.Reply.{Accepted, Refused, Reply, reply_by, reply_of, reply_of_done}
 use Rattle.geos_model.specs.declared.fault.Fault.{Fault}
 use Rattle.geos_model.specs.declared.fault.Fault.TheVariants as faults
@@ -13,8 +13,19 @@ use Rattle.geos_model.specs.declared.command.Command.{Command}
 use Rattle.geos_model.specs.declared.command.Command.TheVariants as commands
 use Rattle.geos_model.specs.declared.command.Done.{Done}
 use Rattle.geos_model.specs.declared.command.Done.TheVariants as done
+use Rattle.geos_model.specs.declared.handle.VmHandle.{VmHandle}
+use Rattle.geos_model.specs.declared.look_up.ArrayLookUp.TheVariants as array_look_ups
+use Rattle.geos_model.specs.declared.look_up.BlockLookUp.{BlockLookUp}
+use Rattle.geos_model.specs.declared.look_up.BlockLookUp.TheVariants as block_look_ups
+use Rattle.geos_model.specs.declared.look_up.ChainLookUp.TheVariants as chain_look_ups
+use Rattle.geos_model.specs.declared.look_up.ChunkArrayLookUp.TheVariants as chunk_array_look_ups
+use Rattle.geos_model.specs.declared.look_up.ChunkLookUp.TheVariants as chunk_look_ups
+use Rattle.geos_model.specs.declared.look_up.ElementArrayLookUp.TheVariants as element_array_look_ups
+use Rattle.geos_model.specs.declared.look_up.LookUp.{LookUp}
+use Rattle.geos_model.specs.declared.look_up.LookUp.TheVariants as look_ups
+use Rattle.geos_model.specs.declared.look_up.NameArrayLookUp.TheVariants as name_array_look_ups
 use Rattle.vm_store.specs.Facts.{StoreFacts, FailedSince}
-use Rattle.undo_log.specs.Sessions.{SessionState, AnswersAlongChain, AnswersLookUp, IsStep, KeepsSession, failed_since, machine_of}
+use Rattle.undo_log.specs.Sessions.{SessionState, Answers, AnswersAlongChain, AnswersAtRest, AnswersLookUp, IsStep, KeepsSession, failed_since, machine_of}
 use Rattle.undo_log.proofs.Keeping.{kept_frames, kept_passes, keeps_refl}
 use Rattle.geos_replies.specs.Holdings.{AnswersRequest, AreExact, CommitsNothing, Holding, IsTakenIfSure, KeepsHolding, LeavesFiles, LeavesInMemory, MayServe, ServesRequest, SameFiles, failed_since_in, holding, machine}
 use Rattle.geos_replies.specs.Holdings.{is_refusal}
@@ -160,12 +171,58 @@ module _ {S T E : Type 0} (facts : S → StoreFacts) (put : Result T E) (c : Com
         text = said;
       }
 
-  -- one into one block, and one along chains, whose list is put
-  pub told_list : (old new : SessionState S) → AnswersLookUp facts old new c reply → OnOk put (after ≡ before ++ reply_text reply) → Told put facts old c new before after
-  told_list old new looks said = told old new looks.step looks.keeps (file_seen facts old new c reply looks.sees) said
+  -- so of a look-up of no body
+  told_resting : (old new : SessionState S) → AnswersAtRest old new c reply → OnOk put (after ≡ before ++ reply_text reply) → Told put facts old c new before after
+  told_resting old new answers said = subst (λ (s : SessionState S). Told put facts old c s before after) (sym answers.1)
+      (told_at_rest old (λ target. subst (λ (s : SessionState S). Step false (machine_of target old) (Some c) reply (machine_of target s)) answers.1 (answers.0 target)) said)
 
-  pub told_list_along : (old new : SessionState S) → AnswersAlongChain facts old new c reply → OnOk put (after ≡ before ++ reply_text reply) → Told put facts old c new before after
-  told_list_along old new looks said = told old new looks.step looks.keeps (file_along facts old new c reply looks.sees) said
+  -- what a look-up comes to is told
+  told_seen : (old new : SessionState S) → AnswersLookUp facts old new c reply → OnOk put (after ≡ before ++ reply_text reply) → Told put facts old c new before after
+  told_seen old new looks said = told old new looks.step looks.keeps (file_seen facts old new c reply looks.sees) said
+
+  told_along : (old new : SessionState S) → AnswersAlongChain facts old new c reply → OnOk put (after ≡ before ++ reply_text reply) → Told put facts old c new before after
+  told_along old new looks said = told old new looks.step looks.keeps (file_along facts old new c reply looks.sees) said
+
+module _ {S T E : Type 0} (facts : S → StoreFacts) (put : Result T E) (old new : SessionState S) (reply : Reply) (before after : List ℕ) where
+  pub told_answer : (look_up : LookUp) → Answers facts old new look_up reply → OnOk put (after ≡ before ++ reply_text reply) → Told put facts old (command_of look_up) new before after
+  told_answer look_ups.List answers said = told_resting facts put commands.List reply before after old new answers said
+  told_answer (look_ups.Plain asked) answers said = told_resting facts put (plain_look_up asked) reply before after old new answers said
+  told_answer (look_ups.InBlock b asked) answers said = told_seen facts put (block_look_up b asked) reply before after old new answers said
+  told_answer (look_ups.AlongChain asked) answers said = told_along facts put (chain_look_up asked) reply before after old new answers said
+
+-- a look-up of a body asks of one
+block_asked : (b : VmHandle) (asked : BlockLookUp) → asks_no_body (block_look_up b asked) ≡ false
+block_asked b block_look_ups.Info = refl
+block_asked b block_look_ups.ReadRaw = refl
+block_asked b block_look_ups.Chunks = refl
+block_asked b (block_look_ups.InChunk c chunk_look_ups.Read) = refl
+block_asked b (block_look_ups.InChunk c (chunk_look_ups.Array (array_look_ups.Chunk chunk_array_look_ups.Count))) = refl
+block_asked b (block_look_ups.InChunk c (chunk_look_ups.Array (array_look_ups.Chunk (chunk_array_look_ups.Element i)))) = refl
+block_asked b (block_look_ups.InChunk c (chunk_look_ups.Array (array_look_ups.Element (element_array_look_ups.References t)))) = refl
+block_asked b (block_look_ups.InChunk c (chunk_look_ups.Array (array_look_ups.Element (element_array_look_ups.Bytes t)))) = refl
+block_asked b (block_look_ups.InChunk c (chunk_look_ups.Array (array_look_ups.Element element_array_look_ups.Used))) = refl
+block_asked b (block_look_ups.InChunk c (chunk_look_ups.Array (array_look_ups.Element (element_array_look_ups.TokenOfUsed k)))) = refl
+block_asked b (block_look_ups.InChunk c (chunk_look_ups.Array (array_look_ups.Element (element_array_look_ups.UsedOfToken t)))) = refl
+block_asked b (block_look_ups.InChunk c (chunk_look_ups.Array (array_look_ups.Name (name_array_look_ups.Find name)))) = refl
+block_asked b (block_look_ups.InChunk c (chunk_look_ups.Array (array_look_ups.Name (name_array_look_ups.References t)))) = refl
+block_asked b (block_look_ups.InChunk c (chunk_look_ups.Array (array_look_ups.Name (name_array_look_ups.Text t)))) = refl
+block_asked b (block_look_ups.InChunk c (chunk_look_ups.Array (array_look_ups.Name (name_array_look_ups.Part t)))) = refl
+
+-- one of none leaves the session
+pub answered_stays : {S : Type 0} (facts : S → StoreFacts) (old new : SessionState S) (reply : Reply) (look_up : LookUp) → Answers facts old new look_up reply → asks_no_body (command_of look_up) ≡ true → new ≡ old
+answered_stays facts old new reply look_ups.List answers none = answers.1
+answered_stays facts old new reply (look_ups.Plain asked) answers none = answers.1
+answered_stays facts old new reply (look_ups.InBlock b asked) answers none = let no : false ≡ true = sym (block_asked b asked) ∙ none in absurd (cc no)
+answered_stays facts old new reply (look_ups.AlongChain (chain_look_ups.Walk b)) answers none = cc none
+answered_stays facts old new reply (look_ups.AlongChain (chain_look_ups.Size b)) answers none = cc none
+answered_stays facts old new reply (look_ups.AlongChain (chain_look_ups.Equal b other)) answers none = cc none
+
+-- a command that is seen as a look-up
+pub seen_as : (c : Command) (o : Option LookUp) → MatchOption o (is_look_up c ≡ false) (λ look_up. command_of look_up ≡ c) → (look_up : LookUp) → o ≡ Some look_up → command_of look_up ≡ c
+seen_as c o seen look_up was = subst (λ (o : Option LookUp). MatchOption o (is_look_up c ≡ false) (λ look_up. command_of look_up ≡ c)) was seen
+
+pub told_of : {S T E : Type 0} (facts : S → StoreFacts) (put : Result T E) (old new : SessionState S) (before after : List ℕ) (a b : Command) → a ≡ b → Told put facts old a new before after → Told put facts old b new before after
+told_of facts put old new before after a b same told = subst (λ (c : Command). Told put facts old c new before after) same told
 
 -- the text of a look-up's reply, put behind what was there, leaves that
 pub extends_told : {S T E : Type 0} (put : Result T E) (facts : S → StoreFacts) (old new : SessionState S) (c : Command) (before after : List ℕ)
@@ -186,22 +243,6 @@ module _ {S T E A : Type 0} (facts : S → StoreFacts) (put : Result T E) (c : C
   put_so : OnOk put (after ≡ before ++ reply_text (reply_by f r))
   put_so = subst (λ (x : Reply). OnOk put (after ≡ before ++ reply_text x)) (mapped f made r m is same) said
 
-  -- a look-up whose answer is made a reply, and that put
-  told_mapped : (old new : SessionState S) → IsStep facts old new c (reply_by f r) → KeepsSession facts old new
-      → (reply_by f r ≡ Refused faults.File → FailedSince (facts old.disk.store) (facts new.disk.store)) → Told put facts old c new before after
-  told_mapped old new step keeps file = told facts put c (reply_by f r) before after old new step keeps file put_so
-
-  -- into one block, and along chains
-  pub told_seen : (old new : SessionState S) → AnswersLookUp facts old new c (reply_by f r) → Told put facts old c new before after
-  told_seen old new looks = told_mapped old new looks.step looks.keeps (file_seen facts old new c (reply_by f r) looks.sees)
-
-  pub told_along : (old new : SessionState S) → AnswersAlongChain facts old new c (reply_by f r) → Told put facts old c new before after
-  told_along old new looks = told_mapped old new looks.step looks.keeps (file_along facts old new c (reply_by f r) looks.sees)
-
-  -- and one that calls no store
-  pub told_mapped_at_rest : (s : SessionState S) → ((target : Bool) → Step false (machine_of target s) (Some c) (reply_by f r) (machine_of target s)) → Told put facts s c s before after
-  told_mapped_at_rest s step = told_at_rest facts put c (reply_by f r) before after s step put_so
-
   -- what a call answers that is made a reply, and that put
   pub replied_mapped : (old new : SessionState S) (target former : Option S) → ((x : A) → is_refusal (f x) ≡ false) → OnErr r (KeepsHolding facts (holding old target former) (holding new target former))
       → IfErr r (IsFailure facts old.disk.store new.disk.store) → new.frames ≡ old.frames
@@ -210,14 +251,6 @@ module _ {S T E A : Type 0} (facts : S → StoreFacts) (put : Result T E) (c : C
       → Replied put facts (holding old target former) c (holding new target former) before after
   replied_mapped old new target former other keeps file frames serves in_memory =
       replied_left facts old new target former put f r c before after other keeps file frames serves in_memory put_so
-
--- a look-up that is never refused and calls no store, whose answer is made a reply, and that put
-pub told_given_at_rest : {S T E : Type 0} (facts : S → StoreFacts) (put : Result T E) (c : Command) (reply : Reply) (made : GivenReply → Type 0) (m : Result GivenReply Fault)
-    (before after : List ℕ) → IsOkAnd m made → ((y : GivenReply) → made y → reply_of y ≡ reply) → OnOk put (after ≡ before ++ reply_text (reply_by reply_of m))
-    → (s : SessionState S) → ((target : Bool) → Step false (machine_of target s) (Some c) reply (machine_of target s)) → Told put facts s c s before after
-told_given_at_rest facts put c reply made (Ok y) before after is same said s step =
-    told_at_rest facts put c reply before after s step (subst (λ (x : Reply). OnOk put (after ≡ before ++ reply_text x)) (same y is) said)
-told_given_at_rest facts put c reply made (Err e) before after is same said s step = absurd is
 
 module _ {S : Type 0} (facts : S → StoreFacts) (old new : Holding S) where
   -- a command that gets a reply, whose reply line is put

@@ -13,12 +13,6 @@ use Rattle.undo_log.specs.Sessions.{SessionState, IsStep, KeepsSession}
 pub use Rattle.geos_script.specs.Texts.{Extends}
 use Rattle.geos_replies.specs.Holdings.{AnswersRequest, Holding}
 
--- An answer is made a reply, and where there was memory for the reply's text, that was put behind what was there.
-abbrev pub Puts : {T A E : Type 0} → (A → GivenReply → Type 0) → Result A Fault → Result T E → List ℕ → List ℕ → Type 0
-Puts makes answer result before after =
-    (reply : Result GivenReply Fault) × MatchResult answer (λ x. IsOkAnd reply (makes x)) (λ fault. reply ≡ Err fault)
-    × OnOk result (after ≡ before ++ reply_text (reply_by reply_of reply))
-
 -- a command that asks of no block's body
 abbrev pub asks_no_body : Command → Bool
 asks_no_body (commands.HeapType b) = true

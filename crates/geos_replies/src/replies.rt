@@ -1,124 +1,29 @@
 //! A command is carried out by the session, and its reply line put behind those before it.
 ghost use Rattle.std.specs.Prelude.{◌≡◌, ◌≢◌, ◌++◌, true, IfErr, OnOk, OnErr, Some, IsTrue};
-ghost use Rattle.geos_model.specs.LookUps.{is_look_up};
-ghost use Rattle.geos_model.specs.Reply.{Accepted, blocks_are, chunks_are, reply_by};
+ghost use Rattle.geos_model.specs.LookUps.{command_of};
+ghost use Rattle.geos_model.specs.Reply.{Accepted, reply_by};
 ghost use Rattle.geos_model.specs.Script.{command, reply_text};
 ghost use Rattle.geos_model.specs.declared.command.Command.TheVariants as commands;
 ghost use Rattle.geos_replies.specs.Holdings.{AreExact, KeepsHolding, MayServe, ServesRequest, failed_since_in, holding};
-ghost use Rattle.geos_replies.specs.Replies.{Extends, Puts, Replied, Responds, Told, asks_no_body};
+ghost use Rattle.geos_replies.specs.Replies.{Extends, Replied, Responds, Told, asks_no_body};
 
-use geos_model::{ChunkHandle, Command, Fault, Reply, VmHandle};
+use geos_model::{Command, Fault, LookUp, Reply};
 use geos_script::{push_reply, read_command};
 use std::alloc::{AllocError, Global};
 use undo_log::Session;
 use vm_store::Store;
 
-// Puts the answer behind `out` of the row for what is asked: a list by its own function, all else made a reply. Each row
-// does so itself, since the session may have lent it bytes.
-macro_rules! push_answer_to {
-    ($out:expr, $asked:expr; { $($asks_list:pat => $push:ident($list:expr);)* }
-    $($row:pat => $answer:expr, $make:expr;)*) => {
-        match $asked {
-            $($asks_list => $push($out, $list),)*
-            $($row => push_answer($out, $answer, $make),)*
-            _ => unreachable!(),
-        }
-    };
-}
-
-// Puts an answer behind `out`, made a reply. Never inlined: else each row of a table has a place for its reply, and all
-// are set to zero on the way to any of them.
-#[inline(never)]
-fn push_answer<'a, T, F: FnOnce(T) -> Reply<'a> + Drop>(
-    out: &mut Vec<u8>,
-    answer: Result<T, Fault>,
-    make: F,
-) -> Result<(), AllocError>
-    requires { F.IsAlwaysCallable make }
-    ensures puts { Puts (F.post make) answer result out.old.items out.new.items }
-    ensures err { OnErr result (Extends out.old.items out.new.items) }
-{
-    match answer {
-        Ok(given) => push_reply(out, Ok(make(given))),
-        Err(fault) => push_reply(out, Err(fault)),
-    }
-}
-
-// Puts a list of blocks behind `out`.
-fn push_blocks(
-    out: &mut Vec<u8>,
-    answer: Result<Vec<VmHandle>, Fault>,
-) -> Result<(), AllocError>
-    ensures ok { OnOk result (out.new.items ≡ out.old.items
-        ++ reply_text (reply_by (λ blocks. blocks_are blocks.items) answer)) }
-    ensures err { OnErr result (Extends out.old.items out.new.items) }
-{
-    match answer {
-        Ok(blocks) => push_reply(out, Ok(Reply::Blocks(&blocks))),
-        Err(fault) => push_reply(out, Err(fault)),
-    }
-}
-
-// Puts a list of chunks behind `out`.
-fn push_chunks(
-    out: &mut Vec<u8>,
-    answer: Result<Vec<ChunkHandle>, Fault>,
-) -> Result<(), AllocError>
-    ensures ok { OnOk result (out.new.items ≡ out.old.items
-        ++ reply_text (reply_by (λ chunks. chunks_are chunks.items) answer)) }
-    ensures err { OnErr result (Extends out.old.items out.new.items) }
-{
-    match answer {
-        Ok(chunks) => push_reply(out, Ok(Reply::Chunks(&chunks))),
-        Err(fault) => push_reply(out, Err(fault)),
-    }
-}
-
 // Puts the reply to a look-up behind `out`, without its line feed.
 fn push_look_up<S: Store>(
     session: &mut Session<S>,
-    look_up: &Command,
+    look_up: LookUp<'_>,
     out: &mut Vec<u8>,
 ) -> Result<(), AllocError>
-    requires { IsTrue (is_look_up look_up.now) }
-    ensures told { Told result S.facts session.old look_up.now session.new out.old.items out.new.items }
-    ensures stays { asks_no_body look_up.now ≡ true → session.new ≡ session.old }
+    ensures told { Told result S.facts session.old (command_of look_up.entry) session.new out.old.items out.new.items }
+    ensures stays { asks_no_body (command_of look_up.entry) ≡ true → session.new ≡ session.old }
     ensures err { OnErr result (Extends out.old.items out.new.items) }
 {
-    push_answer_to! { out, look_up;
-        {
-            Command::List => push_blocks(session.list());
-            Command::Chunks(block) => push_chunks(session.chunks(*block));
-            Command::Walk(root) => push_blocks(session.walk(*root));
-        }
-        Command::Info(block) => session.info(*block), |info| Reply::Info(info);
-        Command::HeapType(block) => session.heap_type(*block), |n| Reply::Number(u64::from(n));
-        Command::Find(user_id, start) =>
-            Ok(session.find(*user_id, *start).unwrap_or(VmHandle(0))), |block| Reply::Block(block);
-        Command::MapBlock => Ok(session.map_block()), |block| Reply::Block(block);
-        Command::ReadRaw(block) => session.read_raw(*block), Reply::Bytes;
-        Command::Read(block, chunk) => session.read_chunk(*block, *chunk), Reply::Bytes;
-        Command::ArrayCount(block, chunk) => session.array_count(*block, *chunk), |n| Reply::Number(n as u64);
-        Command::ArrayElement(block, chunk, i) => session.array_element(*block, *chunk, *i), Reply::Bytes;
-        Command::ElementReferences(block, chunk, token) =>
-            session.element_refs(*block, *chunk, *token), |n| Reply::Number(u64::from(n));
-        Command::ElementBytes(block, chunk, token) => session.element_bytes(*block, *chunk, *token), Reply::Bytes;
-        Command::ElementsUsed(block, chunk) => session.elements_used(*block, *chunk), |n| Reply::Number(n as u64);
-        Command::TokenOfUsed(block, chunk, k) =>
-            session.token_of_used(*block, *chunk, *k), |token| Reply::Token(token);
-        Command::UsedOfToken(block, chunk, token) =>
-            session.used_of_token(*block, *chunk, *token), |n| Reply::Number(n as u64);
-        Command::NameFind(block, chunk, name) => session.name_find(*block, *chunk, name), |token| Reply::Token(token);
-        Command::NameReferences(block, chunk, token) =>
-            session.name_refs(*block, *chunk, *token), |n| Reply::Number(u64::from(n));
-        Command::NameText(block, chunk, token) => session.name_text(*block, *chunk, *token), Reply::Bytes;
-        Command::NamePart(block, chunk, token) => session.name_part(*block, *chunk, *token), Reply::Bytes;
-        Command::Locks(block) => session.locks(*block), |n| Reply::Number(u64::from(n));
-        Command::ChainSize(root) => session.chain_size(*root), |n| Reply::Number(u64::from(n));
-        Command::ChainEqual(first, second) => session.chain_equal(*first, *second), |equal| Reply::Equal(equal);
-        Command::Undos => Ok(session.undo_count()), |n| Reply::Number(n as u64);
-        Command::Redos => Ok(session.redo_count()), |n| Reply::Number(n as u64);
-    }
+    push_reply(out, session.look_up(look_up))
 }
 
 // Saves to the target, which is used up where that goes well, and then the old store is put aside. Else the target goes
@@ -195,7 +100,10 @@ fn push_response<S: Store>(
         Command::Lock(block) => push_accepted(out, session.lock(*block)),
         Command::Unlock(block) => push_accepted(out, session.unlock(*block)),
         Command::Dirty(block) => push_accepted(out, session.dirty(*block)),
-        look_up => push_look_up(session, look_up, out),
+        asking => match asking.look_up() {
+            Some(look_up) => push_look_up(session, look_up, out),
+            None => unreachable!(),
+        },
     }
 }
 

@@ -1,7 +1,7 @@
 use Rattle.std.proofs.Common.{refl, rules}
 use Rattle.geos_model.specs.Reply.{NumberIs, reply_by}
 use Rattle.undo_log.specs.Sessions.{machine_of}
-use Rattle.geos_replies.proofs.LookUps.{undos_step, redos_step}
+use Rattle.undo_log.proofs.LookUps.{undos_step, redos_step}
 use Rattle.geos_c.proofs.look_ups.number.Goals as goal
 
 pub returns-in-ArrayCount : goal.returns-in-ArrayCount

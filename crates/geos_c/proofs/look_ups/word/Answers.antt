@@ -1,7 +1,7 @@
 use Rattle.std.proofs.Common.{refl, rules}
 use Rattle.geos_model.specs.Reply.{BlockIs, NumberIs, TokenIs, reply_by}
 use Rattle.undo_log.specs.Sessions.{machine_of}
-use Rattle.geos_replies.proofs.LookUps.{find_step, map_block_step}
+use Rattle.undo_log.proofs.LookUps.{find_step, map_block_step}
 use Rattle.geos_c.proofs.look_ups.word.Goals as goal
 
 pub returns-in-HeapType : goal.returns-in-HeapType

@@ -1,14 +1,16 @@
-use Rattle.std.proofs.Common.{◌≡◌, true, refl, rules}
+use Rattle.std.proofs.Common.{◌≡◌, true, refl, rules, subst}
 use Rattle.std.proofs.lemmas.Result.{on_err_weaker}
-use Rattle.geos_model.specs.LookUps.{is_look_up}
+use Rattle.geos_model.specs.LookUps.{command_of, is_look_up}
 use Rattle.geos_model.specs.Reply.{Accepted, reply_of_done}
+use Rattle.geos_model.specs.declared.command.Command.{Command}
 use Rattle.geos_model.specs.declared.fault.Fault.TheVariants as faults
+use Rattle.geos_replies.specs.Replies.{asks_no_body}
 use Rattle.geos_replies.proofs.Calls.{on_err_always, was_ok}
 use Rattle.geos_replies.proofs.FileFaults.{file_abandon, file_commit, file_edit, file_lock, file_turn, file_unlock, file_wrong}
 use Rattle.geos_replies.proofs.Frames.{frames_abandon, frames_edit, frames_lock, frames_log, frames_same, frames_turn}
 use Rattle.geos_replies.proofs.InMemory.{lock_in_memory, turn_in_memory}
 use Rattle.geos_replies.proofs.Refusals.{keeps_commit, keeps_if_same, keeps_same, keeps_with, on_err_of}
-use Rattle.geos_replies.proofs.Replying.{done_is_other, extends_told, replied, replied_accepted, replied_mapped, replied_told}
+use Rattle.geos_replies.proofs.Replying.{done_is_other, extends_told, replied, replied_accepted, replied_mapped, replied_told, seen_as, told_of}
 use Rattle.geos_replies.proofs.Serving.{disk_kept, lock_passes, serves_at_rest, serves_commit, serves_passing, serves_staying, told_as_accepted}
 use Rattle.geos_replies.proofs.replies.push_response.Goals as goal
 
@@ -185,12 +187,15 @@ returns-in-Dirty-clause-replied g c =
 
 -- Look-ups commit nothing.
 
-pub returns-in_default-clause-replied : goal.returns-in_default-clause-replied
-returns-in_default-clause-replied g c =
+pub returns-in-Some-clause-replied : goal.returns-in-Some-clause-replied
+returns-in-Some-clause-replied g c =
     let asked = c.push_look_up.ensures in
+    let seen : command_of c.in-Some.look_up ≡ c.args.command.now = seen_as c.args.command.now c.look_up.result c.look_up.ensures c.in-Some.look_up c.in-Some.is in
     let asks : is_look_up c.args.command.now ≡ true = search rules in
-    replied_told g.S.Store.facts c.push_look_up.result c.args.session.now c.push_look_up.new.session c.args.target.now c.args.former.now c.args.command.now _ _ asks asked.stays asked.told
+    replied_told g.S.Store.facts c.push_look_up.result c.args.session.now c.push_look_up.new.session c.args.target.now c.args.former.now c.args.command.now _ _ asks
+    (subst (λ (x : Command). asks_no_body x ≡ true → c.push_look_up.new.session ≡ c.args.session.now) seen asked.stays)
+    (told_of g.S.Store.facts c.push_look_up.result c.args.session.now c.push_look_up.new.session _ _ (command_of c.in-Some.look_up) c.args.command.now seen asked.told)
 
-pub returns-in_default-clause-ok : goal.returns-in_default-clause-ok
-returns-in_default-clause-ok g c =
-    extends_told c.push_look_up.result g.S.Store.facts c.args.session.now c.push_look_up.new.session c.args.command.now _ _ c.push_look_up.ensures.told
+pub returns-in-Some-clause-ok : goal.returns-in-Some-clause-ok
+returns-in-Some-clause-ok g c =
+    extends_told c.push_look_up.result g.S.Store.facts c.args.session.now c.push_look_up.new.session (command_of c.in-Some.look_up) _ _ c.push_look_up.ensures.told
