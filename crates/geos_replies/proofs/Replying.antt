@@ -25,7 +25,7 @@ use Rattle.geos_model.specs.declared.look_up.LookUp.{LookUp}
 use Rattle.geos_model.specs.declared.look_up.LookUp.TheVariants as look_ups
 use Rattle.geos_model.specs.declared.look_up.NameArrayLookUp.TheVariants as name_array_look_ups
 use Rattle.vm_store.specs.Facts.{StoreFacts, FailedSince}
-use Rattle.undo_log.specs.Sessions.{SessionState, Answers, AnswersAlongChain, AnswersAtRest, AnswersLookUp, IsStep, KeepsSession, failed_since, machine_of}
+use Rattle.undo_log.specs.Sessions.{SessionState, AnswersAsked, AnswersAlongChain, AnswersWithoutBody, AnswersLookUp, IsStep, KeepsSession, failed_since, machine_of}
 use Rattle.undo_log.proofs.Keeping.{kept_frames, kept_passes, keeps_refl}
 use Rattle.geos_replies.specs.Holdings.{AnswersRequest, AreExact, CommitsNothing, Holding, IsTakenIfSure, KeepsHolding, LeavesFiles, LeavesInMemory, MayServe, ServesRequest, SameFiles, failed_since_in, holding, machine}
 use Rattle.geos_replies.specs.Holdings.{is_refusal}
@@ -172,7 +172,7 @@ module _ {S T E : Type 0} (facts : S → StoreFacts) (put : Result T E) (c : Com
       }
 
   -- so of a look-up of no body
-  told_resting : (old new : SessionState S) → AnswersAtRest old new c reply → OnOk put (after ≡ before ++ reply_text reply) → Told put facts old c new before after
+  told_resting : (old new : SessionState S) → AnswersWithoutBody old new c reply → OnOk put (after ≡ before ++ reply_text reply) → Told put facts old c new before after
   told_resting old new answers said = subst (λ (s : SessionState S). Told put facts old c s before after) (sym answers.1)
       (told_at_rest old (λ target. subst (λ (s : SessionState S). Step false (machine_of target old) (Some c) reply (machine_of target s)) answers.1 (answers.0 target)) said)
 
@@ -184,7 +184,7 @@ module _ {S T E : Type 0} (facts : S → StoreFacts) (put : Result T E) (c : Com
   told_along old new looks said = told old new looks.step looks.keeps (file_along facts old new c reply looks.sees) said
 
 module _ {S T E : Type 0} (facts : S → StoreFacts) (put : Result T E) (old new : SessionState S) (reply : Reply) (before after : List ℕ) where
-  pub told_answer : (look_up : LookUp) → Answers facts old new look_up reply → OnOk put (after ≡ before ++ reply_text reply) → Told put facts old (command_of look_up) new before after
+  pub told_answer : (look_up : LookUp) → AnswersAsked facts old new look_up reply → OnOk put (after ≡ before ++ reply_text reply) → Told put facts old (command_of look_up) new before after
   told_answer look_ups.List answers said = told_resting facts put commands.List reply before after old new answers said
   told_answer (look_ups.Plain asked) answers said = told_resting facts put (plain_look_up asked) reply before after old new answers said
   told_answer (look_ups.InBlock b asked) answers said = told_seen facts put (block_look_up b asked) reply before after old new answers said
@@ -209,7 +209,7 @@ block_asked b (block_look_ups.InChunk c (chunk_look_ups.Array (array_look_ups.Na
 block_asked b (block_look_ups.InChunk c (chunk_look_ups.Array (array_look_ups.Name (name_array_look_ups.Part t)))) = refl
 
 -- one of none leaves the session
-pub answered_stays : {S : Type 0} (facts : S → StoreFacts) (old new : SessionState S) (reply : Reply) (look_up : LookUp) → Answers facts old new look_up reply → asks_no_body (command_of look_up) ≡ true → new ≡ old
+pub answered_stays : {S : Type 0} (facts : S → StoreFacts) (old new : SessionState S) (reply : Reply) (look_up : LookUp) → AnswersAsked facts old new look_up reply → asks_no_body (command_of look_up) ≡ true → new ≡ old
 answered_stays facts old new reply look_ups.List answers none = answers.1
 answered_stays facts old new reply (look_ups.Plain asked) answers none = answers.1
 answered_stays facts old new reply (look_ups.InBlock b asked) answers none = let no : false ≡ true = sym (block_asked b asked) ∙ none in absurd (cc no)
