@@ -32,8 +32,8 @@ code_of (Ok x) = pos 0
 code_of (Err fault) = pos (number_of_fault fault)
 
 -- the code tells an answer of which this is so
-abbrev pub Tells : {T : Type 0} → (Result T Fault → Type 0) → ℤ → Type 0
-Tells {T} holds code = (answer : Result T Fault) × (code ≡ code_of answer) × holds answer
+abbrev pub ReportsAnswer : {T : Type 0} → (Result T Fault → Type 0) → ℤ → Type 0
+ReportsAnswer {T} holds code = (answer : Result T Fault) × (code ≡ code_of answer) × holds answer
 
 -- As many of the bytes, or of the handles, as fit stand at the start of the buffer, the rest of which stays; how many
 -- there are is told, and the code whether all of them fit.

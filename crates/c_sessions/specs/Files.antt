@@ -37,7 +37,8 @@ fault_of (Ok session) = Memory
 fault_of (Err refused) = refused.fault
 
 -- The file was opened, and what was to begin a session closed its store as it was left.
-pub record GivesUp {F S : Type 0} (calls : FileCalls F S) (is : S → Begun S → Type 0) (number : FileNumber) (old : F)
+pub record FailsOnceOpened {F S : Type 0} (calls : FileCalls F S) (is : S → Begun S → Type 0) (number : FileNumber)
+    (old : F)
     (fault : Fault) (new : F) : Type 0 where
   pub store : S
   pub opened : F
@@ -56,4 +57,4 @@ pub record IsShut {F S : Type 0} (calls : FileCalls F S) (number : FileNumber) (
 
 abbrev pub IsNotBegun : {F S : Type 0} → FileCalls F S → (S → Begun S → Type 0) → FileNumber → F → Fault → F → Type 0
 IsNotBegun calls is number old fault new =
-    IsShut calls number None old fault new ⊎ GivesUp calls is number old fault new
+    IsShut calls number None old fault new ⊎ FailsOnceOpened calls is number old fault new

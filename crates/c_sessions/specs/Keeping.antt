@@ -10,7 +10,7 @@ use Rattle.vm_blocks.specs.Opening.{IsOpenedFrom, IsNotOpened, IsMadeIn, IsNotMa
 use Rattle.undo_log.specs.Committing.{IsBusy, IsSaveAsRefused}
 use Rattle.undo_log.specs.Logging.{empty_log}
 use Rattle.undo_log.specs.Sessions.{SessionState, IsExact, failed_since, file_of, machine_of}
-use Rattle.c_sessions.specs.Codes.{Tells, bad_argument}
+use Rattle.c_sessions.specs.Codes.{ReportsAnswer, bad_argument}
 use Rattle.c_sessions.specs.Files.{BeginsOn, Begun, FileCalls, IsNotBegun, IsShut}
 use Rattle.c_sessions.specs.declared.files.FileNumber.{FileNumber}
 use Rattle.c_sessions.specs.declared.kept.Kept.{Kept}
@@ -92,6 +92,6 @@ IsNotMoved calls facts number old new from fault to =
 pub record SavesInto {F S : Type 0} (calls : FileCalls F S) (facts : S → StoreFacts) (number : FileNumber)
     (old new : Kept S) (from to : F) (code : ℤ) : Type 0 where
   pub own : number ≡ old.number → (code ≡ bad_argument) × (new ≡ old) × (to ≡ from)
-  pub other : number ≢ old.number → Tells (λ (answer : Result (Unit {0}) Fault). MatchResult answer
+  pub other : number ≢ old.number → ReportsAnswer (λ (answer : Result (Unit {0}) Fault). MatchResult answer
       (λ _. IsMoved calls facts number old new from to)
       (λ fault. IsNotMoved calls facts number old new from fault to)) code

@@ -1,7 +1,7 @@
 //! The sessions and the program that cases are played on.
 use case_player::{Feeding, File, ProgramFiles, RunOptions, Sides, Subject, Taking};
 use geos_model::{Fault, VmHandle};
-use geos_shell::{Manner, RunFault, run_in, run_in_manner, serve};
+use geos_shell::{RunFault, ScriptOptions, run_in, run_in_manner, serve};
 use std::alloc::{AllocError, Global};
 use undo_log::Session;
 
@@ -76,7 +76,7 @@ impl Subject for Opened {
         reader: &mut Feeding<'_>,
         writer: &mut Taking<'_>,
     ) -> Result<String, AllocError> {
-        let manner = Manner {
+        let manner = ScriptOptions {
             bails: options.bails,
             echoes: options.echoes,
         };

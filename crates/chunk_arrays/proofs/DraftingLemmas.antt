@@ -3,13 +3,13 @@ use Rattle.std.proofs.Common.{◌≡◌, ℕ, ◌+◌, ◌/◌, ◌%◌, ◌<◌
 use Rattle.std.proofs.lemmas.Bool.{cases_Bool, cond-true, cond-false, eqb-true, eq-eqb}
 use Rattle.std.proofs.lemmas.List.{take_all, drop_all, take-append-drop, take-append-le, drop-append-le, get_or_default}
 use Rattle.std.proofs.lemmas.List.Sums.{sum_by-append}
-use Rattle.chunk_edits.specs.Patching.{Piece, Keep, Put, Rebase, taken, given, peak, piece_after, patched, IsPieceOf, ArePiecesOf, PatchLeads}
+use Rattle.chunk_edits.specs.Patching.{PatchPiece, Keep, Put, Rebase, taken, given, peak, piece_after, patched, IsPieceOf, ArePiecesOf, PatchLeads}
 use Rattle.chunk_edits.proofs.PatchingLemmas.{taken-cons, peak-cons, pieces_length, piece_after-length}
 use Rattle.chunk_arrays.specs.Drafting.{drawn, settled, Draws, Adds}
 use Rattle.chunk_arrays.specs.declared.draft.Draft.{Draft}
 
 -- Pieces of some bytes, and more pieces of the bytes behind them.
-module _ (p : Piece) (ps : List Piece) (x u : List ℕ) (are : ArePiecesOf (p ∷ ps) x) where
+module _ (p : PatchPiece) (ps : List PatchPiece) (x u : List ℕ) (are : ArePiecesOf (p ∷ ps) x) where
   first-within : taken p ≤ length x
   first-within = omega (arith, pieces_length (p ∷ ps) x are, taken-cons p ps)
 
@@ -19,14 +19,14 @@ module _ (p : Piece) (ps : List Piece) (x u : List ℕ) (are : ArePiecesOf (p �
   behind-same : drop (taken p) (x ++ u) ≡ drop (taken p) x ++ u
   behind-same = drop-append-le (taken p) x u first-within
 
-pieces-append : (ps qs : List Piece) (x u : List ℕ) → ArePiecesOf ps x → ArePiecesOf qs u → ArePiecesOf (ps ++ qs) (x ++ u)
+pieces-append : (ps qs : List PatchPiece) (x u : List ℕ) → ArePiecesOf ps x → ArePiecesOf qs u → ArePiecesOf (ps ++ qs) (x ++ u)
 pieces-append [] qs x u are more = subst (λ (l : List ℕ). ArePiecesOf qs (l ++ u)) (sym are) more
 pieces-append (p ∷ ps) qs x u are more = (
   subst (IsPieceOf p) (sym (first-same p ps x u are)) are.0,
   subst (ArePiecesOf (ps ++ qs)) (sym (behind-same p ps x u are)) (pieces-append ps qs (drop (taken p) x) u are.1 more),
 )
 
-patched-append : (ps qs : List Piece) (x u : List ℕ) → ArePiecesOf ps x → patched (ps ++ qs) (x ++ u) ≡ patched ps x ++ patched qs u
+patched-append : (ps qs : List PatchPiece) (x u : List ℕ) → ArePiecesOf ps x → patched (ps ++ qs) (x ++ u) ≡ patched ps x ++ patched qs u
 patched-append [] qs x u are = ap (λ (l : List ℕ). patched qs (l ++ u)) are ∙ ap (λ (l : List ℕ). l ++ patched qs u) (sym are)
 patched-append (p ∷ ps) qs x u are =
     ap₂ (λ (l m : List ℕ). piece_after p l ++ patched (ps ++ qs) m) (first-same p ps x u are) (behind-same p ps x u are)
@@ -38,7 +38,7 @@ keep_all : (n : ℕ) (bytes : List ℕ) → length bytes ≡ n → ArePiecesOf (
 keep_all n bytes is = (ap length (take_all n bytes (omega arith)) ∙ is, drop_all n bytes (omega arith))
 
 -- more bytes that stay behind some that do
-keep_more : (ps : List Piece) (k : ℕ) (x u : List ℕ) → ArePiecesOf (ps ++ Keep k ∷ []) x
+keep_more : (ps : List PatchPiece) (k : ℕ) (x u : List ℕ) → ArePiecesOf (ps ++ Keep k ∷ []) x
     → ArePiecesOf (ps ++ Keep (k + length u) ∷ []) (x ++ u) × (patched (ps ++ Keep (k + length u) ∷ []) (x ++ u) ≡ patched (ps ++ Keep k ∷ []) x ++ u)
 keep_more [] k x u are = (
   keep_all (k + length u) (x ++ u) (omega (arith, length-append x u, pieces_length (Keep k ∷ []) x are)),
@@ -55,17 +55,17 @@ keep_more (p ∷ ps) k x u are =
     )
 
 -- none that stay
-keep_none : (ps : List Piece) (x : List ℕ) → ArePiecesOf (ps ++ Keep 0 ∷ []) x → ArePiecesOf ps x × (patched (ps ++ Keep 0 ∷ []) x ≡ patched ps x)
+keep_none : (ps : List PatchPiece) (x : List ℕ) → ArePiecesOf (ps ++ Keep 0 ∷ []) x → ArePiecesOf ps x × (patched (ps ++ Keep 0 ∷ []) x ≡ patched ps x)
 keep_none [] x are = (are.1, refl)
 keep_none (p ∷ ps) x are =
     let rest = keep_none ps (drop (taken p) x) are.1 in
     ((are.0, rest.0), ap (λ (l : List ℕ). piece_after p (take (taken p) x) ++ l) rest.1)
 
 -- how many bytes there are at most in between
-peak-drawn : (ps : List Piece) (k : ℕ) → peak (ps ++ Keep k ∷ []) ≡ peak ps + k
+peak-drawn : (ps : List PatchPiece) (k : ℕ) → peak (ps ++ Keep k ∷ []) ≡ peak ps + k
 peak-drawn ps k = sum_by-append (λ q. max (taken q) (given q)) ps (Keep k ∷ []) ∙ (let one = peak-cons (Keep k) [] in omega (arith, one))
 
-peak-pushed : (ps : List Piece) (p : Piece) → peak (ps ++ p ∷ []) ≡ peak ps + max (taken p) (given p)
+peak-pushed : (ps : List PatchPiece) (p : PatchPiece) → peak (ps ++ p ∷ []) ≡ peak ps + max (taken p) (given p)
 peak-pushed ps p = sum_by-append (λ q. max (taken q) (given q)) ps (p ∷ []) ∙ (let one = peak-cons p [] in omega (arith, one))
 
 -- a draft without a piece of no bytes
@@ -79,14 +79,14 @@ module _ (d : Draft) where
         let is : d.kept ≡ 0 = eqb-true d.kept 0 none in
         let without = keep_none d.patch x (subst (λ (k : ℕ). ArePiecesOf (d.patch ++ Keep k ∷ []) x) is h.stands) in
         let same : settled d ≡ d.patch = settled-none is in (
-          subst (λ (ps : List Piece). ArePiecesOf ps x) (sym same) without.0,
-          ap (λ (ps : List Piece). patched ps x) same ∙ sym without.1
+          subst (λ (ps : List PatchPiece). ArePiecesOf ps x) (sym same) without.0,
+          ap (λ (ps : List PatchPiece). patched ps x) same ∙ sym without.1
               ∙ ap (λ (k : ℕ). patched (d.patch ++ Keep k ∷ []) x) (sym is) ∙ h.gives,
         ))
     | inr some ↦ (
         let same : settled d ≡ drawn d = cond-false (d.kept == 0) _ _ some in (
-          subst (λ (ps : List Piece). ArePiecesOf ps x) (sym same) h.stands,
-          ap (λ (ps : List Piece). patched ps x) same ∙ h.gives,
+          subst (λ (ps : List PatchPiece). ArePiecesOf ps x) (sym same) h.stands,
+          ap (λ (ps : List PatchPiece). patched ps x) same ∙ h.gives,
         ))
   ]
 
@@ -98,13 +98,13 @@ module _ (d : Draft) where
     | inr some ↦ ap peak (cond-false (d.kept == 0) _ _ some)
   ]
 
-piece-long : (p : Piece) (bytes : List ℕ) → IsPieceOf p bytes → length bytes ≡ taken p
+piece-long : (p : PatchPiece) (bytes : List ℕ) → IsPieceOf p bytes → length bytes ≡ taken p
 piece-long (Keep n) bytes is = is
 piece-long (Put old new) bytes is = ap length is
 piece-long (Rebase words from to) bytes is = is.0
 
 -- one piece of all these bytes, and none that stay behind it
-module _ (p : Piece) (u : List ℕ) (is : IsPieceOf p u) where
+module _ (p : PatchPiece) (u : List ℕ) (is : IsPieceOf p u) where
   one_whole : take (taken p) u ≡ u
   one_whole = take_all (taken p) u (omega (arith, piece-long p u is))
 
@@ -120,10 +120,10 @@ module _ (p : Piece) (u : List ℕ) (is : IsPieceOf p u) where
       ∙ append-nil (piece_after p u)
 
 -- a draft with one piece more
-module _ (d e : Draft) (p : Piece) (u : List ℕ) (pushed : e.patch ≡ settled d ++ p ∷ []) (none : e.kept ≡ 0) (is : IsPieceOf p u) where
+module _ (d e : Draft) (p : PatchPiece) (u : List ℕ) (pushed : e.patch ≡ settled d ++ p ∷ []) (none : e.kept ≡ 0) (is : IsPieceOf p u) where
   drawn_pushed : drawn e ≡ settled d ++ (p ∷ Keep 0 ∷ [])
   drawn_pushed =
-      ap₂ (λ (ps : List Piece) (k : ℕ). ps ++ Keep k ∷ []) pushed none
+      ap₂ (λ (ps : List PatchPiece) (k : ℕ). ps ++ Keep k ∷ []) pushed none
       ∙ append_assoc (settled d) (p ∷ []) (Keep 0 ∷ [])
 
   pub adds-piece : Adds d e u (piece_after p u)
@@ -131,9 +131,9 @@ module _ (d e : Draft) (p : Piece) (u : List ℕ) (pushed : e.patch ≡ settled 
     draws = λ x y h.
         let before = settled_draws d x y h in
         record {
-          stands = subst (λ (ps : List Piece). ArePiecesOf ps (x ++ u)) (sym drawn_pushed)
+          stands = subst (λ (ps : List PatchPiece). ArePiecesOf ps (x ++ u)) (sym drawn_pushed)
               (pieces-append (settled d) (p ∷ Keep 0 ∷ []) x u before.0 (one_piece p u is));
-          gives = ap (λ (ps : List Piece). patched ps (x ++ u)) drawn_pushed
+          gives = ap (λ (ps : List PatchPiece). patched ps (x ++ u)) drawn_pushed
               ∙ patched-append (settled d) (p ∷ Keep 0 ∷ []) x u before.0
               ∙ ap₂ (λ (l m : List ℕ). l ++ m) before.1 (one_patched p u is);
         };
@@ -149,13 +149,13 @@ module _ (d e : Draft) (p : Piece) (u : List ℕ) (pushed : e.patch ≡ settled 
 -- a draft with more bytes that stay
 pub adds-kept : (d e : Draft) (u : List ℕ) → e.patch ≡ d.patch → e.kept ≡ d.kept + length u → Adds d e u u
 adds-kept d e u same more =
-    let drawn_is : drawn e ≡ d.patch ++ Keep (d.kept + length u) ∷ [] = ap₂ (λ (ps : List Piece) (k : ℕ). ps ++ Keep k ∷ []) same more in
+    let drawn_is : drawn e ≡ d.patch ++ Keep (d.kept + length u) ∷ [] = ap₂ (λ (ps : List PatchPiece) (k : ℕ). ps ++ Keep k ∷ []) same more in
     record {
       draws = λ x y h.
           let both = keep_more d.patch d.kept x u h.stands in
           record {
-            stands = subst (λ (ps : List Piece). ArePiecesOf ps (x ++ u)) (sym drawn_is) both.0;
-            gives = ap (λ (ps : List Piece). patched ps (x ++ u)) drawn_is ∙ both.1 ∙ ap (λ (l : List ℕ). l ++ u) h.gives;
+            stands = subst (λ (ps : List PatchPiece). ArePiecesOf ps (x ++ u)) (sym drawn_is) both.0;
+            gives = ap (λ (ps : List PatchPiece). patched ps (x ++ u)) drawn_is ∙ both.1 ∙ ap (λ (l : List ℕ). l ++ u) h.gives;
           };
       peak =
           let before : peak (drawn d) ≡ peak d.patch + d.kept = peak-drawn d.patch d.kept in
@@ -201,10 +201,10 @@ adds-around d e f g x x′ u v y y′ front back one two three =
 -- the patch that was drawn up from nothing
 pub drawn_leads : (d e : Draft) (x y : List ℕ) → d.patch ≡ [] → d.kept ≡ 0 → Adds d e x y → PatchLeads (settled e) x y
 drawn_leads d e x y empty none adds =
-    let start : drawn d ≡ Keep 0 ∷ [] = ap₂ (λ (ps : List Piece) (k : ℕ). ps ++ Keep k ∷ []) empty none in
+    let start : drawn d ≡ Keep 0 ∷ [] = ap₂ (λ (ps : List PatchPiece) (k : ℕ). ps ++ Keep k ∷ []) empty none in
     let nothing : Draws d [] [] = record {
-      stands = subst (λ (ps : List Piece). ArePiecesOf ps []) (sym start) (refl, refl);
-      gives = ap (λ (ps : List Piece). patched ps []) start;
+      stands = subst (λ (ps : List PatchPiece). ArePiecesOf ps []) (sym start) (refl, refl);
+      gives = ap (λ (ps : List PatchPiece). patched ps []) start;
     } in
     let all = settled_draws e x y (adds.draws [] [] nothing) in
     let low : peak (drawn d) ≡ 0 = ap peak start ∙ (let one = peak-cons (Keep 0) [] in omega (arith, one)) in

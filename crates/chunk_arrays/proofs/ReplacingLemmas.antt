@@ -8,7 +8,7 @@ use Rattle.geos_model.specs.Array.{Array, array_of, array_bytes}
 use Rattle.geos_model.specs.ArrayEdits.{too_long, array_in, new_array, with_elements, array_zeroed, on_array, insert_conditions, set_conditions, resize_conditions, delete_conditions, is_missized}
 use Rattle.geos_model.specs.declared.fault.Fault.{Fault}
 use Rattle.geos_model.specs.declared.fault.Fault.TheVariants.{Full, NotArray, NoElement, Range}
-use Rattle.chunk_edits.specs.Patching.{Piece, PatchLeads, BuildsPatch}
+use Rattle.chunk_edits.specs.Patching.{PatchPiece, PatchLeads, BuildsPatch}
 use Rattle.chunk_edits.specs.Splicing.{RefusesToBuild}
 use Rattle.geos_model.proofs.Arrays.{array_bytes-of}
 
@@ -67,7 +67,7 @@ pub zero_decides : (bytes : List ℕ) (a : Array) (to : List ℕ) → array_of b
 zero_decides bytes a to is = ap (λ (x : Bool). first_refusal ((NotArray, x) ∷ too_long to)) (is_array bytes a is)
 
 -- what a rewritten array is answered by, where only its length decides
-pub handed_on : (r : Result (List Piece) Fault) (conditions : Conditions) (from from′ to to′ : List ℕ) → first_refusal conditions ≡ first_refusal (too_long to) → from′ ≡ from → to′ ≡ to
+pub handed_on : (r : Result (List PatchPiece) Fault) (conditions : Conditions) (from from′ to to′ : List ℕ) → first_refusal conditions ≡ first_refusal (too_long to) → from′ ≡ from → to′ ≡ to
     → MatchResult r (λ p. BuildsPatch (too_long to′) p from′ to′) (RefusesToBuild (too_long to′))
     → MatchResult r (λ p. BuildsPatch conditions p from to) (RefusesToBuild conditions)
 handed_on (Ok p) conditions from from′ to to′ decides from_is to_is built = record {
@@ -93,7 +93,7 @@ module _ (bytes : List ℕ) (a : Array) (from to : ℕ) (xs ys : List (List ℕ)
   abbrev rewritten : List ℕ
   rewritten = array_bytes (with_elements a from to xs)
 
-  pub elements_handed_on : (r : Result (List Piece) Fault) → first_refusal (own ++ too_long meant) ≡ first_refusal (too_long meant)
+  pub elements_handed_on : (r : Result (List PatchPiece) Fault) → first_refusal (own ++ too_long meant) ≡ first_refusal (too_long meant)
       → MatchResult r (λ p. BuildsPatch (too_long rewritten) p (array_bytes a) rewritten) (RefusesToBuild (too_long rewritten))
       → MatchResult r (λ p. BuildsPatch (own ++ too_long meant) p bytes meant) (RefusesToBuild (own ++ too_long meant))
   elements_handed_on r decides =

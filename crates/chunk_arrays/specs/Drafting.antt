@@ -1,14 +1,14 @@
 -- What a draft of a patch is of, and what becomes of it.
 use Rattle.std.specs.Prelude.{◌≡◌, ◌≤◌, ◌+◌, ◌++◌, ◌==◌, ℕ, List, [], ◌∷◌, length, max, if◌then◌else◌}
-use Rattle.chunk_edits.specs.Patching.{Piece, Keep, ArePiecesOf, patched, peak}
+use Rattle.chunk_edits.specs.Patching.{PatchPiece, Keep, ArePiecesOf, patched, peak}
 use Rattle.chunk_arrays.specs.declared.draft.Draft.{Draft}
 
 -- the pieces of a draft, with the bytes that stay behind the others as one
-abbrev pub drawn : Draft → List Piece
+abbrev pub drawn : Draft → List PatchPiece
 drawn d = d.patch ++ Keep d.kept ∷ []
 
 -- the same without a piece of no bytes
-abbrev pub settled : Draft → List Piece
+abbrev pub settled : Draft → List PatchPiece
 settled d = if d.kept == 0 then d.patch else drawn d
 
 -- the draft is of these bytes, and leads to those

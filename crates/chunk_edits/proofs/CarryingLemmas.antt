@@ -7,7 +7,7 @@ use Rattle.std.specs.FinMap.{get, insert, contains_key, same_map, nat_cmp-IsAnti
 use Rattle.geos_model.specs.Heap.{ChunkMap, chunk_bytes, fits, fits_with, is_heap_map}
 use Rattle.geos_model.proofs.HeapEdits.{get-put_same, get-put_other, heap-insert}
 use Rattle.geos_model.proofs.HeapTables.{fits_with-fewer, fits_with-many, live_handle}
-use Rattle.chunk_edits.specs.Patching.{Piece, Keep, taken, given, total_taken, peak, piece_after, patched, directed_piece, directed_pieces, with_piece}
+use Rattle.chunk_edits.specs.Patching.{PatchPiece, Keep, taken, given, total_taken, peak, piece_after, patched, directed_piece, directed_pieces, with_piece}
 use Rattle.chunk_edits.specs.declared.direction.Direction.{Direction}
 use Rattle.chunk_edits.specs.declared.direction.Direction.TheVariants.{Forwards, Backwards}
 use Rattle.chunk_edits.proofs.PatchingLemmas.{taken-cons, peak-cons, taken_le_peak, reversed_peak, piece_after-length}
@@ -15,16 +15,16 @@ use Rattle.chunk_edits.proofs.PatchingLemmas.{taken-cons, peak-cons, taken_le_pe
 -- The bytes.
 
 -- The pieces that are left make of the bytes from a place on what all pieces make of the old ones, and there is room.
-pub record IsUnderWay (all rest : List Piece) (old bytes : List ℕ) (at : ℕ) : Type 0 where
+pub record IsUnderWay (all rest : List PatchPiece) (old bytes : List ℕ) (at : ℕ) : Type 0 where
   pub size : length bytes ≡ at + total_taken rest
   pub room : at + peak rest ≤ peak all
   pub comes : take at bytes ++ patched rest (drop at bytes) ≡ patched all old
 
-pub begins : (all : List Piece) (old : List ℕ) → total_taken all ≡ length old → IsUnderWay all all old old 0
+pub begins : (all : List PatchPiece) (old : List ℕ) → total_taken all ≡ length old → IsUnderWay all all old old 0
 begins all old size = record { size = omega arith; room = omega arith; comes = refl }
 
 -- the next piece is carried out
-module _ (p : Piece) (all rest : List Piece) (old bytes : List ℕ) (at : ℕ) (way : IsUnderWay all (p ∷ rest) old bytes at) where
+module _ (p : PatchPiece) (all rest : List PatchPiece) (old bytes : List ℕ) (at : ℕ) (way : IsUnderWay all (p ∷ rest) old bytes at) where
   part : List ℕ
   part = piece_after p (take (taken p) (drop at bytes))
 
@@ -66,7 +66,7 @@ module _ (p : Piece) (all rest : List Piece) (old bytes : List ℕ) (at : ℕ) (
 
 -- The pieces in a direction.
 
-pub directed_peak : (d : Direction) (ps : List Piece) → peak (directed_pieces d ps) ≡ peak ps
+pub directed_peak : (d : Direction) (ps : List PatchPiece) → peak (directed_pieces d ps) ≡ peak ps
 directed_peak Forwards ps = refl
 directed_peak Backwards ps = reversed_peak ps
 

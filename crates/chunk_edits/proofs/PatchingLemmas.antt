@@ -4,7 +4,7 @@ use Rattle.std.proofs.Math.Nat.{div-one}
 use Rattle.std.proofs.lemmas.List.Sums.{sum_by-cons}
 use Rattle.byteorder.specs.Numbers.{little_from-bytes}
 use Rattle.geos_model.specs.Words.{word, word_at}
-use Rattle.chunk_edits.specs.Patching.{Piece, Keep, Put, Rebase, taken, given, held_by, total_taken, total_given, peak, held, rebased, piece_after, patched, IsPieceOf, ArePiecesOf, reversed_piece, reversed_pieces}
+use Rattle.chunk_edits.specs.Patching.{PatchPiece, Keep, Put, Rebase, taken, given, held_by, total_taken, total_given, peak, total_held, rebased, piece_after, patched, IsPieceOf, ArePiecesOf, reversed_piece, reversed_pieces}
 
 -- Words.
 
@@ -79,31 +79,32 @@ rebased_words (w ∷ ws) from to =
 
 -- How many bytes a patch takes, gives and holds.
 
-pub piece-length : (p : Piece) (bytes : List ℕ) → IsPieceOf p bytes → length bytes ≡ taken p
+pub piece-length : (p : PatchPiece) (bytes : List ℕ) → IsPieceOf p bytes → length bytes ≡ taken p
 piece-length (Keep n) bytes is = is
 piece-length (Put old new) bytes is = ap length is
 piece-length (Rebase words from to) bytes is = is.0
 
-pub piece_after-length : (p : Piece) (bytes : List ℕ) → length bytes ≡ taken p → length (piece_after p bytes) ≡ given p
+pub piece_after-length : (p : PatchPiece) (bytes : List ℕ) → length bytes ≡ taken p → length (piece_after p bytes)
+    ≡ given p
 piece_after-length (Keep n) bytes size = size
 piece_after-length (Put old new) bytes size = refl
 piece_after-length (Rebase words from to) bytes size = length-rebased words from to bytes
 
 -- sums, by the first piece
 
-pub taken-cons : (p : Piece) (ps : List Piece) → total_taken (p ∷ ps) ≡ taken p + total_taken ps
+pub taken-cons : (p : PatchPiece) (ps : List PatchPiece) → total_taken (p ∷ ps) ≡ taken p + total_taken ps
 taken-cons p ps = sum_by-cons taken p ps
 
-pub given-cons : (p : Piece) (ps : List Piece) → total_given (p ∷ ps) ≡ given p + total_given ps
+pub given-cons : (p : PatchPiece) (ps : List PatchPiece) → total_given (p ∷ ps) ≡ given p + total_given ps
 given-cons p ps = sum_by-cons given p ps
 
-pub peak-cons : (p : Piece) (ps : List Piece) → peak (p ∷ ps) ≡ max (taken p) (given p) + peak ps
+pub peak-cons : (p : PatchPiece) (ps : List PatchPiece) → peak (p ∷ ps) ≡ max (taken p) (given p) + peak ps
 peak-cons p ps = sum_by-cons (λ q. max (taken q) (given q)) p ps
 
-pub held-cons : (p : Piece) (ps : List Piece) → held (p ∷ ps) ≡ held_by p + held ps
+pub held-cons : (p : PatchPiece) (ps : List PatchPiece) → total_held (p ∷ ps) ≡ held_by p + total_held ps
 held-cons p ps = sum_by-cons held_by p ps
 
-pub pieces_length : (ps : List Piece) (bytes : List ℕ) → ArePiecesOf ps bytes → length bytes ≡ total_taken ps
+pub pieces_length : (ps : List PatchPiece) (bytes : List ℕ) → ArePiecesOf ps bytes → length bytes ≡ total_taken ps
 pieces_length [] bytes are = ap length are
 pieces_length (p ∷ ps) bytes are =
     let first = piece-length p (take (taken p) bytes) are.0 in
@@ -111,30 +112,30 @@ pieces_length (p ∷ ps) bytes are =
     let whole : length (take (taken p) bytes ++ drop (taken p) bytes) ≡ length bytes = ap length (take-append-drop (taken p) bytes) in
     omega (arith, first, rest, whole, length-append (take (taken p) bytes) (drop (taken p) bytes), taken-cons p ps)
 
-pub patched_length_of : (ps : List Piece) (bytes : List ℕ) → total_taken ps ≡ length bytes → length (patched ps bytes) ≡ total_given ps
+pub patched_length_of : (ps : List PatchPiece) (bytes : List ℕ) → total_taken ps ≡ length bytes → length (patched ps bytes) ≡ total_given ps
 patched_length_of [] bytes size = sym size
 patched_length_of (p ∷ ps) bytes size =
     let first = piece_after-length p (take (taken p) bytes) (omega (arith, taken-cons p ps, length-take-le (taken p) bytes)) in
     let rest = patched_length_of ps (drop (taken p) bytes) (omega (arith, taken-cons p ps, length-drop (taken p) bytes)) in
     omega (arith, first, rest, given-cons p ps, length-append (piece_after p (take (taken p) bytes)) (patched ps (drop (taken p) bytes)))
 
-pub patched_length : (ps : List Piece) (bytes : List ℕ) → ArePiecesOf ps bytes → length (patched ps bytes) ≡ total_given ps
+pub patched_length : (ps : List PatchPiece) (bytes : List ℕ) → ArePiecesOf ps bytes → length (patched ps bytes) ≡ total_given ps
 patched_length ps bytes are = patched_length_of ps bytes (sym (pieces_length ps bytes are))
 
-pub taken_le_peak : (ps : List Piece) → total_taken ps ≤ peak ps
+pub taken_le_peak : (ps : List PatchPiece) → total_taken ps ≤ peak ps
 taken_le_peak [] = omega arith
 taken_le_peak (p ∷ ps) = let rest = taken_le_peak ps in omega (arith, rest, taken-cons p ps, peak-cons p ps)
 
-pub given_le_peak : (ps : List Piece) → total_given ps ≤ peak ps
+pub given_le_peak : (ps : List PatchPiece) → total_given ps ≤ peak ps
 given_le_peak [] = omega arith
 given_le_peak (p ∷ ps) = let rest = given_le_peak ps in omega (arith, rest, given-cons p ps, peak-cons p ps)
 
-held_by-le : (p : Piece) → held_by p ≤ taken p + given p
+held_by-le : (p : PatchPiece) → held_by p ≤ taken p + given p
 held_by-le (Keep n) = omega arith
 held_by-le (Put old new) = omega arith
 held_by-le (Rebase words from to) = omega arith
 
-pub held_le : (ps : List Piece) → held ps ≤ total_taken ps + total_given ps
+pub held_le : (ps : List PatchPiece) → total_held ps ≤ total_taken ps + total_given ps
 held_le [] = omega arith
 held_le (p ∷ ps) =
     let first = held_by-le p in
@@ -143,44 +144,44 @@ held_le (p ∷ ps) =
 
 -- The pieces the other way round.
 
-pub taken-reversed : (p : Piece) → taken (reversed_piece p) ≡ given p
+pub taken-reversed : (p : PatchPiece) → taken (reversed_piece p) ≡ given p
 taken-reversed (Keep n) = refl
 taken-reversed (Put old new) = refl
 taken-reversed (Rebase words from to) = refl
 
-pub given-reversed : (p : Piece) → given (reversed_piece p) ≡ taken p
+pub given-reversed : (p : PatchPiece) → given (reversed_piece p) ≡ taken p
 given-reversed (Keep n) = refl
 given-reversed (Put old new) = refl
 given-reversed (Rebase words from to) = refl
 
-piece-twice : (p : Piece) → reversed_piece (reversed_piece p) ≡ p
+piece-twice : (p : PatchPiece) → reversed_piece (reversed_piece p) ≡ p
 piece-twice (Keep n) = refl
 piece-twice (Put old new) = refl
 piece-twice (Rebase words from to) = refl
 
-pub reversed_taken : (ps : List Piece) → total_taken (reversed_pieces ps) ≡ total_given ps
+pub reversed_taken : (ps : List PatchPiece) → total_taken (reversed_pieces ps) ≡ total_given ps
 reversed_taken [] = refl
 reversed_taken (p ∷ ps) =
     taken-cons (reversed_piece p) (reversed_pieces ps)
     ∙ (ap₂ (λ (x y : ℕ). x + y) (taken-reversed p) (reversed_taken ps) ∙ sym (given-cons p ps))
 
-pub reversed_given : (ps : List Piece) → total_given (reversed_pieces ps) ≡ total_taken ps
+pub reversed_given : (ps : List PatchPiece) → total_given (reversed_pieces ps) ≡ total_taken ps
 reversed_given [] = refl
 reversed_given (p ∷ ps) =
     given-cons (reversed_piece p) (reversed_pieces ps)
     ∙ (ap₂ (λ (x y : ℕ). x + y) (given-reversed p) (reversed_given ps) ∙ sym (taken-cons p ps))
 
-pub reversed_peak : (ps : List Piece) → peak (reversed_pieces ps) ≡ peak ps
+pub reversed_peak : (ps : List PatchPiece) → peak (reversed_pieces ps) ≡ peak ps
 reversed_peak [] = refl
 reversed_peak (p ∷ ps) =
     let rest = reversed_peak ps in
     omega (arith, taken-reversed p, given-reversed p, rest, peak-cons p ps, peak-cons (reversed_piece p) (reversed_pieces ps))
 
-pub reversed_twice : (ps : List Piece) → reversed_pieces (reversed_pieces ps) ≡ ps
+pub reversed_twice : (ps : List PatchPiece) → reversed_pieces (reversed_pieces ps) ≡ ps
 reversed_twice [] = refl
-reversed_twice (p ∷ ps) = ap₂ (λ (x : Piece) (y : List Piece). x ∷ y) (piece-twice p) (reversed_twice ps)
+reversed_twice (p ∷ ps) = ap₂ (λ (x : PatchPiece) (y : List PatchPiece). x ∷ y) (piece-twice p) (reversed_twice ps)
 
-piece_back : (p : Piece) (bytes : List ℕ) → IsPieceOf p bytes
+piece_back : (p : PatchPiece) (bytes : List ℕ) → IsPieceOf p bytes
     → IsPieceOf (reversed_piece p) (piece_after p bytes) × (piece_after (reversed_piece p) (piece_after p bytes) ≡ bytes)
 piece_back (Keep n) bytes is = (is, refl)
 piece_back (Put old new) bytes is = (refl, sym is)
@@ -188,14 +189,15 @@ piece_back (Rebase words from to) bytes is =
     ((length-rebased words from to bytes, bytes_of_rebased words from to bytes), rebased_back words from to bytes is.0 is.1)
 
 -- pieces that begin with one which becomes these bytes
-back_from : (p : Piece) (ps : List Piece) (a r : List ℕ) → length a ≡ taken p → IsPieceOf p a → ArePiecesOf ps r
+back_from : (p : PatchPiece) (ps : List PatchPiece) (a r : List ℕ) → length a ≡ taken p → IsPieceOf p a
+    → ArePiecesOf ps r
     → ArePiecesOf (p ∷ ps) (a ++ r) × (patched (p ∷ ps) (a ++ r) ≡ piece_after p a ++ patched ps r)
 back_from p ps a r size is are =
     let first = take_at a r (taken p) size in
     let rest = drop_at a r (taken p) size in
     ((rw first is, rw rest are), ap₂ (λ (x y : List ℕ). piece_after p x ++ patched ps y) first rest)
 
-pub patch_leads_back : (ps : List Piece) (bytes : List ℕ) → ArePiecesOf ps bytes
+pub patch_leads_back : (ps : List PatchPiece) (bytes : List ℕ) → ArePiecesOf ps bytes
     → ArePiecesOf (reversed_pieces ps) (patched ps bytes) × (patched (reversed_pieces ps) (patched ps bytes) ≡ bytes)
 patch_leads_back [] bytes are = (are, refl)
 patch_leads_back (p ∷ ps) bytes are =

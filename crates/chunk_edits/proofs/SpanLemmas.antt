@@ -4,7 +4,7 @@ use Rattle.std.proofs.lemmas.List.{take-append-le, drop-append-le, take_at, drop
 use Rattle.std.proofs.lemmas.List.Sums.{sum_by-cons}
 use Rattle.std.specs.Prelude.{◌↔◌}
 use Rattle.std.specs.List.{sum_by}
-use Rattle.chunk_edits.specs.Patching.{ArePiecesOf, IsPieceOf, Piece, Put, taken, given, held_by, total_taken, peak, held, directed_piece, directed_pieces}
+use Rattle.chunk_edits.specs.Patching.{ArePiecesOf, IsPieceOf, PatchPiece, Put, taken, given, held_by, total_taken, peak, total_held, directed_piece, directed_pieces}
 use Rattle.chunk_edits.specs.Spans.{own, total_own, extent, piece_of, pieces_of}
 use Rattle.chunk_edits.specs.declared.direction.Direction.{Direction}
 use Rattle.chunk_edits.specs.declared.direction.Direction.TheVariants.{Forwards, Backwards}
@@ -31,8 +31,8 @@ pieces_of-pushed [] s (b ∷ row) more whole = absurd (omega arith)
 pieces_of-pushed (t ∷ ss) s row more whole =
     let first : own t ≤ length row = omega (arith, whole, own-cons t ss) in
     let rest : total_own ss ≡ length (drop (own t) row) = omega (arith, whole, own-cons t ss, length-drop (own t) row) in
-    ap₂ (λ (p : Piece) (l : List ℕ). p ∷ pieces_of (ss ++ s ∷ []) l) (piece_of-append t row more first) (drop-append-le (own t) row more first)
-    ∙ ap (λ (ps : List Piece). piece_of t row ∷ ps) (pieces_of-pushed ss s (drop (own t) row) more rest)
+    ap₂ (λ (p : PatchPiece) (l : List ℕ). p ∷ pieces_of (ss ++ s ∷ []) l) (piece_of-append t row more first) (drop-append-le (own t) row more first)
+    ∙ ap (λ (ps : List PatchPiece). piece_of t row ∷ ps) (pieces_of-pushed ss s (drop (own t) row) more rest)
 
 pub piece_of-put : (old new : List ℕ) → piece_of (spans.Put (length old) (length new)) (old ++ new) ≡ Put old new
 piece_of-put old new =
@@ -57,14 +57,15 @@ piece-extent Backwards (spans.Put old new) row l = length-take-le new (drop old 
 piece-extent Forwards (spans.Rebase words from to) row l = refl
 piece-extent Backwards (spans.Rebase words from to) row l = refl
 
-pub pieces-held : (ss : List Span) (row : List ℕ) → total_own ss ≡ length row → held (pieces_of ss row) ≡ length row
+pub pieces-held : (ss : List Span) (row : List ℕ) → total_own ss ≡ length row → total_held (pieces_of ss row)
+    ≡ length row
 pieces-held [] row whole = whole
 pieces-held (s ∷ ss) row whole =
     let first = piece-held s row (omega (arith, whole, own-cons s ss)) in
     let rest = pieces-held ss (drop (own s) row) (omega (arith, whole, own-cons s ss, length-drop (own s) row)) in
     omega (arith, first, rest, whole, own-cons s ss, held-cons (piece_of s row) (pieces_of ss (drop (own s) row)), length-drop (own s) row)
 
-directed-cons : (d : Direction) (p : Piece) (ps : List Piece) → directed_pieces d (p ∷ ps) ≡ directed_piece d p ∷ directed_pieces d ps
+directed-cons : (d : Direction) (p : PatchPiece) (ps : List PatchPiece) → directed_pieces d (p ∷ ps) ≡ directed_piece d p ∷ directed_pieces d ps
 directed-cons Forwards p ps = refl
 directed-cons Backwards p ps = refl
 
@@ -109,14 +110,14 @@ module _ (ss : List Span) (i : ℕ) (less : i < length ss) where
 
   -- bytes are those of the pieces from here on where they begin with those of the first, and go on with those of the others
   module _ (d : Direction) (row rest : List ℕ) (room : own here ≤ length row) where
-    abbrev next : Piece
+    abbrev next : PatchPiece
     next = directed_piece d (piece_of here row)
 
-    abbrev behind : List Piece
+    abbrev behind : List PatchPiece
     behind = directed_pieces d (pieces_of (drop (i + 1) ss) (drop (own here) row))
 
     next_standing : ArePiecesOf (directed_pieces d (pieces_of (drop i ss) row)) rest ≡ (IsPieceOf next (take (taken next) rest) × ArePiecesOf behind (drop (taken next) rest))
-    next_standing = ap (λ (ps : List Piece). ArePiecesOf ps rest) (next_pieces d row)
+    next_standing = ap (λ (ps : List PatchPiece). ArePiecesOf ps rest) (next_pieces d row)
 
     pub begun_reach : IsPieceOf next (take (taken next) rest) → extent d here ≤ length rest
     begun_reach is =

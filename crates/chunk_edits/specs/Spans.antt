@@ -1,7 +1,7 @@
 -- How a patch keeps its pieces: a span for each, and the bytes that all of them hold in a row.
 use Rattle.std.specs.Prelude.{ℕ, ◌+◌, ◌*◌, List, [], ◌∷◌, take, drop}
 use Rattle.std.specs.List.{sum_by}
-use Rattle.chunk_edits.specs.Patching.{Piece, Keep, Put, Rebase}
+use Rattle.chunk_edits.specs.Patching.{PatchPiece, Keep, Put, Rebase}
 use Rattle.chunk_edits.specs.declared.direction.Direction.{Direction}
 use Rattle.chunk_edits.specs.declared.direction.Direction.TheVariants.{Forwards, Backwards}
 use Rattle.chunk_edits.specs.declared.patch.Span.{Span}
@@ -24,11 +24,11 @@ extent Backwards (spans.Put old new) = new
 extent d (spans.Rebase words from to) = 2 * words
 
 -- the piece of a span, whose bytes are the first of the row
-abbrev pub piece_of : Span → List ℕ → Piece
+abbrev pub piece_of : Span → List ℕ → PatchPiece
 piece_of (spans.Keep n) row = Keep n
 piece_of (spans.Put old new) row = Put (take old row) (take new (drop old row))
 piece_of (spans.Rebase words from to) row = Rebase words from to
 
-abbrev pub pieces_of : List Span → List ℕ → List Piece
+abbrev pub pieces_of : List Span → List ℕ → List PatchPiece
 pieces_of [] row = []
 pieces_of (s ∷ ss) row = piece_of s row ∷ pieces_of ss (drop (own s) row)

@@ -3,7 +3,7 @@ ghost use Rattle.std.specs.Prelude.{◌≡◌, ◌≤◌, ◌+◌, ◌-◌, ◌*
 ghost use Rattle.std.specs.List.{splice};
 ghost use Rattle.std.specs.FinMap.{insert, contains_key};
 ghost use Rattle.geos_model.specs.Heap.{capacity, chunk_bytes, fits_with};
-ghost use Rattle.chunk_edits.specs.Patching.{ArePiecesOf, IsPieceOf, Keep, Put, Rebase, directed_piece, directed_pieces, given, held, patched, peak, rebased, taken, total_taken, with_piece};
+ghost use Rattle.chunk_edits.specs.Patching.{ArePiecesOf, IsPieceOf, Keep, Put, Rebase, directed_piece, directed_pieces, given, total_held, patched, peak, rebased, taken, total_taken, with_piece};
 ghost use Rattle.chunk_edits.specs.Spans.{own, piece_of, pieces_of, total_own};
 
 use crate::chunk::{chunk_of, put};
@@ -108,10 +108,10 @@ const _: () = prove!(size_of::<Patch>() == 8);
 
 impl Model for Patch {
     ghost use Rattle.std.specs.Prelude.{◌≡◌, List, length};
-    ghost use Rattle.chunk_edits.specs.Patching.{Piece};
+    ghost use Rattle.chunk_edits.specs.Patching.{PatchPiece};
     ghost use Rattle.chunk_edits.specs.Spans.{pieces_of, total_own};
 
-    ghost Value = { List Piece };
+    ghost Value = { List PatchPiece };
 
     ghost view = { λ p. pieces_of p.pieces.value.spans.items p.pieces.value.content.items };
 
@@ -180,7 +180,7 @@ impl Patch {
 
     /// How many bytes it holds: those that go, and those that come.
     pub fn byte_count(&self) -> u64
-        ensures { result ≡ held self.now }
+        ensures { result ≡ total_held self.now }
     {
         self.pieces.content.len() as u64
     }

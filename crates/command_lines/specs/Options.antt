@@ -96,8 +96,8 @@ abbrev pub IsUsable : CommandLine → Type 0
 IsUsable line = (1 ≤ line.cache) × (line.cache ≤ 64) × (line.target ≡ Some line.file → ⊥)
 
 -- what the options say
-abbrev pub told_by : Options → CommandLine
-told_by o =
+abbrev pub line_of_options : Options → CommandLine
+line_of_options o =
     record {
       is_new = o.new;
       bails = o.bail;

@@ -2,7 +2,7 @@
 ghost use Rattle.std.specs.Prelude.{◌≡◌, ◌≤◌, codes, drop, true, false, IfOk, IfErr, map};
 ghost use Rattle.std.specs.List.{Contains};
 ghost use Rattle.clap.specs.Words.{FailsBy, app_of, fault_of, found_of, kind_of, matches_of, rows_of, rule_of};
-ghost use Rattle.command_lines.specs.Options.{IsMatched, IsUsable, RefusesWords, TurnsInto, command_line, flag, geosvm, said, told_by};
+ghost use Rattle.command_lines.specs.Options.{IsMatched, IsUsable, RefusesWords, TurnsInto, command_line, flag, geosvm, said, line_of_options};
 
 use crate::asked::{NoOptions, Options};
 use clap::error::ErrorKind;
@@ -28,7 +28,7 @@ const ABOUT: &str = concat!(
 /// Reads a command line, whose first word is the name of the program.
 pub fn options<'a, S: AsStr>(alloc: Global, words: &'a [S]) -> Result<Options<'a>, NoOptions>
     ensures ok { IfOk result
-        (λ o. (command_line (map S.text words.entry.now) ≡ Some (told_by o)) × IsUsable (told_by o)) }
+        (λ o. (command_line (map S.text words.entry.now) ≡ Some (line_of_options o)) × IsUsable (line_of_options o)) }
     ensures new { IfOk result (λ o. o.new ≡ true → Contains (drop 1 (map S.text words.entry.now)) (codes "--new")) }
     ensures err { IfErr result (RefusesWords (map S.text words.entry.now)) }
 {
@@ -103,7 +103,7 @@ fn flag<'a>(alloc: Global, name: &'a str, help: &'a str) -> Arg<'a>
 /// The options that were matched.
 fn told<'a>(matches: &ArgMatches<'a>) -> Options<'a>
     requires { IsMatched (found_of matches.now) }
-    ensures said { told_by result ≡ said (rows_of (found_of matches.now)) }
+    ensures said { line_of_options result ≡ said (rows_of (found_of matches.now)) }
     ensures cache { (1 ≤ result.cache) × (result.cache ≤ 64) }
 {
     Options {

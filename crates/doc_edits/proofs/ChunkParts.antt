@@ -26,7 +26,7 @@ use Rattle.geos_model.specs.declared.target.ByteEdit.{ByteEdit}
 use Rattle.geos_model.proofs.HeapTables.{heap_map-table, live_handle, is_chunk_handle-parts, trimmed-put, chunk_length_le}
 use Rattle.geos_model.proofs.HeapEdits.{get-put_same}
 use Rattle.geos_model.proofs.Tables.{put_at, slot_at-put_same, table_map-put}
-use Rattle.chunk_edits.specs.Patching.{Piece, BuildsPatch, patched, total_given, total_taken}
+use Rattle.chunk_edits.specs.Patching.{PatchPiece, BuildsPatch, patched, total_given, total_taken}
 use Rattle.chunk_edits.specs.Splicing.{Splice, Builds, RefusesToBuild, forwards}
 use Rattle.chunk_edits.proofs.PatchingLemmas.{patched_length, pieces_length}
 use Rattle.vm_blocks.proofs.RoomLemmas.{bytes-put}
@@ -46,7 +46,7 @@ pub record EditsChunk (edit : Edit) (d : Document) (b : VmHandle) (c : ChunkHand
   pub cost : (after : Document) → cost edit d after ≡ both_lengths d after b.0 c.0
 
 -- The patch is what an edit of an array builds for these bytes: nothing of its own refuses it, and what it makes of them is no longer than any chunk.
-abbrev pub BuildsFor : List Piece → List ℕ → (List ℕ → Conditions) → (List ℕ → List ℕ) → Type 0
+abbrev pub BuildsFor : List PatchPiece → List ℕ → (List ℕ → Conditions) → (List ℕ → List ℕ) → Type 0
 BuildsFor ps bytes own to = BuildsPatch (own bytes ++ too_long (to bytes)) ps bytes (to bytes)
 
 -- no heap has room for more bytes than these in a chunk
@@ -98,7 +98,7 @@ module _ (edit : Edit) (d : Document) (b : VmHandle) (c : ChunkHandle) (own : Li
         let here : first_refusal (own old ++ too_long (to old)) ≡ Some fault = subst (λ (x : List ℕ). first_refusal (own x ++ too_long (to x)) ≡ Some fault) there.value first in
         inr (past ∙ more_refused (own old) (means.are_own old) (nat_lt longest_chunk (length (to old))) (not (fits_with m c.0 (to old))) fault (long_full m c.0 (to old) there.valid there.live) here)
 
-    module _ (h : ChunkHandle) (here : h.0 ≡ c.0) (ps : List Piece) (builds : BuildsFor ps old own to) where
+    module _ (h : ChunkHandle) (here : h.0 ≡ c.0) (ps : List PatchPiece) (builds : BuildsFor ps old own to) where
       refusal_is : first_refusal (conditions edit d) ≡ cond (fits_with m c.0 (patched ps old)) None (Some Full)
       refusal_is =
           past ∙ more_accepted (own old) (means.are_own old) (nat_lt longest_chunk (length (to old))) (not (fits_with m c.0 (to old))) builds.accepted
@@ -132,11 +132,12 @@ module _ (edit : Edit) (d : Document) (b : VmHandle) (c : ChunkHandle) (own : Li
       }
 
     module _ (h : ChunkHandle) (here : h.0 ≡ c.0) where
-      pub patch_built : (ps : List Piece) → BuildsFor ps bytes own to → MakesPart edit d b c (parts.Patch h ps) done
+      pub patch_built : (ps : List PatchPiece) → BuildsFor ps bytes own to
+          → MakesPart edit d b c (parts.Patch h ps) done
       patch_built ps builds = patch_made h here ps (subst (λ (x : List ℕ). BuildsFor ps x own to) there.value builds)
 
       -- what a builder answers
-      pub built : (r : Result (List Piece) Fault) → MatchResult r (λ ps. BuildsFor ps bytes own to) (RefusesToBuild (own bytes ++ too_long (to bytes)))
+      pub built : (r : Result (List PatchPiece) Fault) → MatchResult r (λ ps. BuildsFor ps bytes own to) (RefusesToBuild (own bytes ++ too_long (to bytes)))
           → MatchResult r (λ ps. MakesPart edit d b c (parts.Patch h ps) done) (RefusesInMemory edit d)
       built (Ok ps) builds = patch_built ps builds
       built (Err fault) refuses = built_refused fault refuses
@@ -182,17 +183,17 @@ SplicesOf m c r edit = (d : Document) (b : VmHandle) → IsHeapAt d b.0 m → Is
 
 -- and of an array, whichever chunk it is.
 
-abbrev pub PatchesOf : List ℕ → Done → Result (List Piece) Fault → (VmHandle → ChunkHandle → Edit) → Type 0
+abbrev pub PatchesOf : List ℕ → Done → Result (List PatchPiece) Fault → (VmHandle → ChunkHandle → Edit) → Type 0
 PatchesOf bytes done r edit = (d : Document) (b : VmHandle) (c : ChunkHandle) → IsChunkAt d b.0 c.0 bytes → MatchResult r (λ ps. MakesPart (edit b c) d b c (parts.Patch c ps) done) (RefusesInMemory (edit b c) d)
 
-abbrev pub AnswersOf : List ℕ → Result (List Piece × Done) Fault → (VmHandle → ChunkHandle → Edit) → Type 0
+abbrev pub AnswersOf : List ℕ → Result (List PatchPiece × Done) Fault → (VmHandle → ChunkHandle → Edit) → Type 0
 AnswersOf bytes r edit = (d : Document) (b : VmHandle) (c : ChunkHandle) → IsChunkAt d b.0 c.0 bytes → MatchResult r (λ built. MakesPart (edit b c) d b c (parts.Patch c built.0) built.1) (RefusesInMemory (edit b c) d)
 
 module _ (bytes : List ℕ) (edit : VmHandle → ChunkHandle → Edit) where
-  pub array_built : (own : List ℕ → Conditions) (to : List ℕ → List ℕ) (done : Done) → ((d : Document) (b : VmHandle) (c : ChunkHandle) → EditsChunk (edit b c) d b c own to done) → (r : Result (List Piece) Fault)
+  pub array_built : (own : List ℕ → Conditions) (to : List ℕ → List ℕ) (done : Done) → ((d : Document) (b : VmHandle) (c : ChunkHandle) → EditsChunk (edit b c) d b c own to done) → (r : Result (List PatchPiece) Fault)
       → MatchResult r (λ ps. BuildsFor ps bytes own to) (RefusesToBuild (own bytes ++ too_long (to bytes))) → PatchesOf bytes done r edit
   array_built own to done means r builds = λ d b c at. built (edit b c) d b c own to done (means d b c) bytes at c refl r builds
 
-  pub silent_built : (r : Result (List Piece) Fault) → PatchesOf bytes done.Nothing r edit → AnswersOf bytes (silently r) edit
+  pub silent_built : (r : Result (List PatchPiece) Fault) → PatchesOf bytes done.Nothing r edit → AnswersOf bytes (silently r) edit
   silent_built (Ok ps) builds = builds
   silent_built (Err fault) builds = builds

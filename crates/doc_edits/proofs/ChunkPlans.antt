@@ -5,7 +5,7 @@ use Rattle.std.proofs.lemmas.List.{length-replicate}
 use Rattle.std.specs.FinMap.{contains_key}
 use Rattle.geos_model.specs.Document.{Document, chunks_of, is_heap}
 use Rattle.geos_model.specs.Heap.{ChunkMap, chunk_bytes, fits_with, fits_new, is_heap_map, next_chunk}
-use Rattle.geos_model.specs.Meaning.{chunk_at, conditions, with_chunk, new_chunk, no_place, on_chunk}
+use Rattle.geos_model.specs.Meaning.{chunk_at, conditions, with_chunk, new_chunk_handle, no_place, on_chunk}
 use Rattle.geos_model.specs.Refusal.{Conditions, first_refusal}
 use Rattle.geos_model.specs.Scope.{Chunk, scope_of}
 use Rattle.geos_model.specs.declared.command.Done.{Done}
@@ -138,7 +138,7 @@ module _ (edit : Edit) (d : Document) (b : VmHandle) where
       new_full e = by_place false e
 
       module _ (c : ChunkHandle) (next : next_chunk m ≡ Some c.0) (allows : AllowsNewChunk m c.0 (content_bytes content)) where
-        handle_is : new_chunk d b.0 ≡ c.0
+        handle_is : new_chunk_handle d b.0 ≡ c.0
         handle_is = ap (λ (x : ChunkMap). unwrap_or (next_chunk x) 0) (chunks_are d b.0 m live) ∙ ap (λ (o : Option ℕ). unwrap_or o 0) next
 
         pub new_planned : Plans edit d (changes.Part b (parts.ChunkIn c content)) (done.Chunk c)

@@ -32,12 +32,12 @@ use Rattle.element_arrays.specs.Answering.{IsAnswered, IsRefused}
 use Rattle.vm_blocks.specs.State.{CacheState}
 use Rattle.vm_chains.specs.Answers.{AnswersChain, IsWalkRefusal}
 use Rattle.vm_store.specs.Facts.{StoreFacts}
-use Rattle.vm_blocks.specs.Keeping.{KeepsBlocks, IsEnvironmentFault, IsHonest, IsCacheFull, is_full, is_loaded, is_shut_out}
+use Rattle.vm_blocks.specs.Keeping.{KeepsBlocks, IsEnvironmentFault, IsHonest, IsCacheFull, is_full, is_loaded, has_no_frame_for}
 use Rattle.vm_blocks.proofs.KeepingLaws.{keeps-refl}
 use Rattle.vm_blocks.specs.Kinds.{IsWrongBlock}
 use Rattle.doc_edits.specs.Found.{AreLate, IsChunkAt}
-use Rattle.doc_edits.specs.LookUps.{answer_of, chunk_asked, makes_list, AnswersInChunk, FindsInMemory, IsWrongRootOf, LooksUp, LooksUpInMemory, RefusesChunk, Sees, SeesAlongChain, ShowsOrRefuses}
-use Rattle.doc_edits.specs.Room.{has_no_room, IsChainRefusal, IsRefusedEarly, ReadsNothing}
+use Rattle.doc_edits.specs.LookUps.{answer_of, chunk_asked, makes_list, AnswersInChunk, FindsInMemory, IsWrongRootOf, LooksUp, LooksUpInMemory, RefusesChunk, AnswersFromBlocks, AnswersChainFromBlocks, ShowsOrRefuses}
+use Rattle.doc_edits.specs.Room.{lacks_frames, IsChainRefusal, IsRefusedEarly, ReadsNothing}
 use Rattle.doc_edits.specs.declared.look_ups.Lists.{Lists}
 use Rattle.doc_edits.specs.declared.look_ups.Prepared.{Prepared}
 use Rattle.doc_edits.proofs.Refusals.{carried_so, past_chunk}
@@ -88,7 +88,7 @@ refused_reply f P never (Err e) why fault is = let same : e ≡ fault = cc is in
 module _ {S T : Type 0} (facts : S → StoreFacts) (command : Command) (f : T → Reply) (never : (x : T) (fault : Fault) → f x ≡ Refused fault → ⊥) (r : Result T Fault) (a : CacheState S) where
   -- that is refused before any block is looked into,
   pub refused_along : (fault : Fault) → IsErrAnd r (λ e. e ≡ fault) → first_refusal ((CacheFull, is_full a) ∷ look_up_conditions command a.document) ≡ Some fault
-      → IsRefusedEarly (IsWrongRootOf command a.document) (is_full a) fault → SeesAlongChain facts a a command (reply_by f r)
+      → IsRefusedEarly (IsWrongRootOf command a.document) (is_full a) fault → AnswersChainFromBlocks facts a a command (reply_by f r)
   refused_along fault is first early =
       let lacks = IsEnvironmentFault facts a.disk.store a.disk.store in
       let root = IsWrongRootOf command a.document in
@@ -106,7 +106,7 @@ module _ {S T : Type 0} (facts : S → StoreFacts) (command : Command) (f : T �
   -- or goes along them.
   pub seen_along : (b : CacheState S) (P : T → Type 0) → is_full a ≡ false → KeepsBlocks facts a b → ((x : T) → P x → look_up command b.document ≡ Some (f x))
       → (IsHonest facts a.disk.store → AnswersChain (IsEnvironmentFault facts a.disk.store b.disk.store) (look_up_conditions command b.document) P r)
-      → IfErr r (IsWalkRefusal (IsEnvironmentFault facts a.disk.store b.disk.store) (IsWrongRootOf command a.document)) → SeesAlongChain facts a b command (reply_by f r)
+      → IfErr r (IsWalkRefusal (IsEnvironmentFault facts a.disk.store b.disk.store) (IsWrongRootOf command a.document)) → AnswersChainFromBlocks facts a b command (reply_by f r)
   seen_along b P room keeps does answers refusals =
       let lacks = IsEnvironmentFault facts a.disk.store b.disk.store in
       record {
@@ -181,10 +181,10 @@ chunk_looks command b c asked = looks_for_heap b.0 (look_up_conditions command) 
 
 -- A block that isn't loaded refuses what is looked up of its body.
 module _ {S : Type 0} (is_kind : Document → ℕ → Bool) (a e : CacheState S) (h : ℕ) (lacks : Fault → Type 0) (result : Result (Unit {0}) Fault)
-    (early : (fault : Fault) → IsWrongBlock is_kind a.document h fault → (result ≡ Err fault) × (e ≡ a)) (shut : is_kind a.document h ≡ true → is_shut_out a h ≡ true → (result ≡ Err CacheFull) × (e ≡ a))
+    (early : (fault : Fault) → IsWrongBlock is_kind a.document h fault → (result ≡ Err fault) × (e ≡ a)) (shut : is_kind a.document h ≡ true → has_no_frame_for a h ≡ true → (result ≡ Err CacheFull) × (e ≡ a))
     (fault : Fault) (was : result ≡ Err fault) (why : lacks fault ⊎ (IsWrongBlock is_kind e.document h fault ⊎ IsCacheFull a h fault)) where
-  pub load_refuses : (command : Command) → LooksFor is_kind h (look_up_conditions command) → LooksUp lacks (is_shut_out a h) command e.document (Refused fault)
-  load_refuses command looks = refused_or_lacked lacks (is_shut_out a h) command e.document fault (refused_for is_kind a e h result early shut (look_up_conditions command) looks lacks fault was why)
+  pub load_refuses : (command : Command) → LooksFor is_kind h (look_up_conditions command) → LooksUp lacks (has_no_frame_for a h) command e.document (Refused fault)
+  load_refuses command looks = refused_or_lacked lacks (has_no_frame_for a h) command e.document fault (refused_for is_kind a e h result early shut (look_up_conditions command) looks lacks fault was why)
 
 module _ (lacks : Fault → Type 0) (no_room : Bool) (d : Document) (b : VmHandle) (c : ChunkHandle) where
   -- where the heap is there and the chunk isn't
@@ -263,25 +263,25 @@ module _ {S : Type 0} (facts : S → StoreFacts) (a e : CacheState S) (keeps : K
 
   -- what is refused first is answered
   pub refusal_seen : {T : Type 0} (f : T → Reply) (r : Result T Fault) (fault : Fault) → IsErrAnd r (λ x. x ≡ fault)
-      → LooksUp (IsEnvironmentFault facts a.disk.store e.disk.store) (has_no_room a (look_up_needs command)) command e.document (Refused fault)
+      → LooksUp (IsEnvironmentFault facts a.disk.store e.disk.store) (lacks_frames a (look_up_needs command)) command e.document (Refused fault)
       → (ReadsNothing a (look_up_needs command) (look_up_conditions command a.document) → (e.disk ≡ a.disk) × (e.document ≡ a.document) × (first_refusal (look_up_conditions command a.document) ≡ Some fault))
-      → Sees facts a e command (reply_by f r)
+      → AnswersFromBlocks facts a e command (reply_by f r)
   refusal_seen f r fault is value unchanged = record {
     keeps = keeps;
-    value = refused_as (IsEnvironmentFault facts a.disk.store e.disk.store) (has_no_room a (look_up_needs command)) command e.document f r fault is value;
+    value = refused_as (IsEnvironmentFault facts a.disk.store e.disk.store) (lacks_frames a (look_up_needs command)) command e.document f r fault is value;
     already = λ nothing.
         let rest = unchanged nothing in
         (rest.0, rest.1, refused_as (λ x. (x ≡ Memory) × (makes_list command ≡ true)) false command a.document f r fault is (refused_with_room (λ x. (x ≡ Memory) × (makes_list command ≡ true)) false refl command a.document fault rest.2));
   }
 
   -- and so is what is there, whatever may be lacking
-  pub answer_seen : (reply : Reply) → has_no_room a (look_up_needs command) ≡ false
+  pub answer_seen : (reply : Reply) → lacks_frames a (look_up_needs command) ≡ false
       → ((lacks : Fault → Type 0) (no_room : Bool) → no_room ≡ false → LooksUp lacks no_room command e.document reply)
       → (ReadsNothing a (look_up_needs command) (look_up_conditions command a.document) → IsUnchanged)
-      → Sees facts a e command reply
+      → AnswersFromBlocks facts a e command reply
   answer_seen reply room answers unchanged = record {
     keeps = keeps;
-    value = answers (IsEnvironmentFault facts a.disk.store e.disk.store) (has_no_room a (look_up_needs command)) room;
+    value = answers (IsEnvironmentFault facts a.disk.store e.disk.store) (lacks_frames a (look_up_needs command)) room;
     already = λ nothing.
         let rest = unchanged nothing in
         (rest.0, rest.1, subst (λ (d : Document). LooksUpInMemory command d reply) rest.1 (answers (λ x. (x ≡ Memory) × (makes_list command ≡ true)) false refl));
@@ -289,66 +289,66 @@ module _ {S : Type 0} (facts : S → StoreFacts) (a e : CacheState S) (keeps : K
 
 -- Of a look-up into a block, with what came of bringing that into memory.
 module _ {S : Type 0} (facts : S → StoreFacts) (is_kind : Document → ℕ → Bool) (a e : CacheState S) (h : ℕ) (result : Result (Unit {0}) Fault) (keeps : KeepsBlocks facts a e)
-    (early : (fault : Fault) → IsWrongBlock is_kind a.document h fault → (result ≡ Err fault) × (e ≡ a)) (shut : is_kind a.document h ≡ true → is_shut_out a h ≡ true → (result ≡ Err CacheFull) × (e ≡ a))
+    (early : (fault : Fault) → IsWrongBlock is_kind a.document h fault → (result ≡ Err fault) × (e ≡ a)) (shut : is_kind a.document h ≡ true → has_no_frame_for a h ≡ true → (result ≡ Err CacheFull) × (e ≡ a))
     (here : is_loaded a h ≡ true → is_kind a.document h ≡ true → IsOk result × (e.disk ≡ a.disk) × (e.document ≡ a.document))
     (command : Command) (looks : LooksFor is_kind h (look_up_conditions command)) (needs : look_up_needs command ≡ OneBody h) where
   pub load_rests : ReadsNothing a (look_up_needs command) (look_up_conditions command a.document) → (e.disk ≡ a.disk) × (e.document ≡ a.document) × IfErr result (λ fault. first_refusal (look_up_conditions command a.document) ≡ Some fault)
   load_rests nothing = unchanged is_kind a e h result early shut (look_up_conditions command) looks here (subst (λ (n : Needs). ReadsNothing a n (look_up_conditions command a.document)) needs nothing)
 
   pub load_missed : {T : Type 0} (f : T → Reply) (r : Result T Fault) (fault : Fault) → result ≡ Err fault → IsErrAnd r (λ x. x ≡ fault)
-      → IsEnvironmentFault facts a.disk.store e.disk.store fault ⊎ (IsWrongBlock is_kind e.document h fault ⊎ IsCacheFull a h fault) → Sees facts a e command (reply_by f r)
+      → IsEnvironmentFault facts a.disk.store e.disk.store fault ⊎ (IsWrongBlock is_kind e.document h fault ⊎ IsCacheFull a h fault) → AnswersFromBlocks facts a e command (reply_by f r)
   load_missed f r fault was is why =
       refusal_seen facts a e keeps command f r fault is
-      (subst (λ (n : Needs). LooksUp (IsEnvironmentFault facts a.disk.store e.disk.store) (has_no_room a n) command e.document (Refused fault)) (sym needs) (load_refuses is_kind a e h (IsEnvironmentFault facts a.disk.store e.disk.store) result early shut fault was why command looks))
+      (subst (λ (n : Needs). LooksUp (IsEnvironmentFault facts a.disk.store e.disk.store) (lacks_frames a n) command e.document (Refused fault)) (sym needs) (load_refuses is_kind a e h (IsEnvironmentFault facts a.disk.store e.disk.store) result early shut fault was why command looks))
       (λ nothing. let rest = load_rests nothing in (rest.0, rest.1, subst (λ (x : Result (Unit {0}) Fault). IfErr x (λ y. first_refusal (look_up_conditions command a.document) ≡ Some y)) was rest.2))
 
-  pub load_room : (u : Unit {0}) → result ≡ Ok u → has_no_room a (look_up_needs command) ≡ false
-  load_room u was = ap (has_no_room a) needs ∙ room_at is_kind a e h result early shut (look_up_conditions command) looks u was
+  pub load_room : (u : Unit {0}) → result ≡ Ok u → lacks_frames a (look_up_needs command) ≡ false
+  load_room u was = ap (lacks_frames a) needs ∙ room_at is_kind a e h result early shut (look_up_conditions command) looks u was
 
-  pub load_seen : (u : Unit {0}) → result ≡ Ok u → (reply : Reply) → ((lacks : Fault → Type 0) (no_room : Bool) → no_room ≡ false → LooksUp lacks no_room command e.document reply) → Sees facts a e command reply
+  pub load_seen : (u : Unit {0}) → result ≡ Ok u → (reply : Reply) → ((lacks : Fault → Type 0) (no_room : Bool) → no_room ≡ false → LooksUp lacks no_room command e.document reply) → AnswersFromBlocks facts a e command reply
   load_seen u was reply answers = answer_seen facts a e keeps command reply (load_room u was) answers (λ nothing. let rest = load_rests nothing in (rest.0, rest.1))
 
 -- Of a look-up into a chunk, with what was found of that.
 module _ {S X : Type 0} (facts : S → StoreFacts) (a e : CacheState S) (b : VmHandle) (c : ChunkHandle) (now : X → List ℕ) (r : Result X Fault) (keeps : KeepsBlocks facts a e)
-    (found : MatchResult r (λ x. (is_shut_out a b.0 ≡ false) × IsChunkAt e.document b.0 c.0 (now x)) (RefusesChunk (IsEnvironmentFault facts a.disk.store e.disk.store) (is_shut_out a b.0) e.document b c))
+    (found : MatchResult r (λ x. (has_no_frame_for a b.0 ≡ false) × IsChunkAt e.document b.0 c.0 (now x)) (RefusesChunk (IsEnvironmentFault facts a.disk.store e.disk.store) (has_no_frame_for a b.0) e.document b c))
     (in_memory : FindsInMemory a e b c r) (command : Command) (needs : look_up_needs command ≡ OneBody b.0) (asked : chunk_asked command ≡ Some (b, c)) where
   near : ReadsNothing a (look_up_needs command) (look_up_conditions command a.document) → (e.disk ≡ a.disk) × (e.document ≡ a.document) × IfErr r (λ fault. first_refusal (look_up_conditions command a.document) ≡ Some fault)
   near nothing = in_memory command asked (subst (λ (n : Needs). ReadsNothing a n (look_up_conditions command a.document)) needs nothing)
 
-  pub chunk_missed : {T : Type 0} (f : T → Reply) (s : Result T Fault) (fault : Fault) → r ≡ Err fault → IsErrAnd s (λ x. x ≡ fault) → Sees facts a e command (reply_by f s)
+  pub chunk_missed : {T : Type 0} (f : T → Reply) (s : Result T Fault) (fault : Fault) → r ≡ Err fault → IsErrAnd s (λ x. x ≡ fault) → AnswersFromBlocks facts a e command (reply_by f s)
   chunk_missed f s fault was is =
-      let refuses : RefusesChunk (IsEnvironmentFault facts a.disk.store e.disk.store) (is_shut_out a b.0) e.document b c fault =
-      subst (λ (x : Result X Fault). MatchResult x (λ y. (is_shut_out a b.0 ≡ false) × IsChunkAt e.document b.0 c.0 (now y)) (RefusesChunk (IsEnvironmentFault facts a.disk.store e.disk.store) (is_shut_out a b.0) e.document b c)) was found in
+      let refuses : RefusesChunk (IsEnvironmentFault facts a.disk.store e.disk.store) (has_no_frame_for a b.0) e.document b c fault =
+      subst (λ (x : Result X Fault). MatchResult x (λ y. (has_no_frame_for a b.0 ≡ false) × IsChunkAt e.document b.0 c.0 (now y)) (RefusesChunk (IsEnvironmentFault facts a.disk.store e.disk.store) (has_no_frame_for a b.0) e.document b c)) was found in
       refusal_seen facts a e keeps command f s fault is
-      (subst (λ (n : Needs). LooksUp (IsEnvironmentFault facts a.disk.store e.disk.store) (has_no_room a n) command e.document (Refused fault)) (sym needs) (refuses command asked))
+      (subst (λ (n : Needs). LooksUp (IsEnvironmentFault facts a.disk.store e.disk.store) (lacks_frames a n) command e.document (Refused fault)) (sym needs) (refuses command asked))
       (λ nothing. let rest = near nothing in (rest.0, rest.1, subst (λ (x : Result X Fault). IfErr x (λ y. first_refusal (look_up_conditions command a.document) ≡ Some y)) was rest.2))
 
   module _ (x : X) (was : r ≡ Ok x) where
-    is_there : (is_shut_out a b.0 ≡ false) × IsChunkAt e.document b.0 c.0 (now x)
-    is_there = subst (λ (y : Result X Fault). MatchResult y (λ z. (is_shut_out a b.0 ≡ false) × IsChunkAt e.document b.0 c.0 (now z)) (RefusesChunk (IsEnvironmentFault facts a.disk.store e.disk.store) (is_shut_out a b.0) e.document b c)) was found
+    is_there : (has_no_frame_for a b.0 ≡ false) × IsChunkAt e.document b.0 c.0 (now x)
+    is_there = subst (λ (y : Result X Fault). MatchResult y (λ z. (has_no_frame_for a b.0 ≡ false) × IsChunkAt e.document b.0 c.0 (now z)) (RefusesChunk (IsEnvironmentFault facts a.disk.store e.disk.store) (has_no_frame_for a b.0) e.document b c)) was found
 
     -- what its bytes answer is answered
-    pub chunk_seen : (reply : Reply) → ((lacks : Fault → Type 0) (no_room : Bool) → no_room ≡ false → IsChunkAt e.document b.0 c.0 (now x) → LooksUp lacks no_room command e.document reply) → Sees facts a e command reply
+    pub chunk_seen : (reply : Reply) → ((lacks : Fault → Type 0) (no_room : Bool) → no_room ≡ false → IsChunkAt e.document b.0 c.0 (now x) → LooksUp lacks no_room command e.document reply) → AnswersFromBlocks facts a e command reply
     chunk_seen reply answers =
-        answer_seen facts a e keeps command reply (ap (has_no_room a) needs ∙ is_there.0) (λ lacks no_room room. answers lacks no_room room is_there.1) (λ nothing. let rest = near nothing in (rest.0, rest.1))
+        answer_seen facts a e keeps command reply (ap (lacks_frames a) needs ∙ is_there.0) (λ lacks no_room room. answers lacks no_room room is_there.1) (λ nothing. let rest = near nothing in (rest.0, rest.1))
 
     pub own_seen : {V T : Type 0} (own : List ℕ → Conditions) (value : List ℕ → V) (g : V → Reply) (s : Result T Fault) (v : T → V)
         → look_up_conditions command e.document ≡ on_chunk e.document b.0 c.0 ++ own (chunk_at e.document b.0 c.0) → look_up command e.document ≡ Some (g (value (chunk_at e.document b.0 c.0)))
-        → MatchResult s (λ y. IsAnswered (own (now x)) (value (now x)) (v y)) (IsRefused (own (now x))) → Sees facts a e command (reply_by (λ y. g (v y)) s)
+        → MatchResult s (λ y. IsAnswered (own (now x)) (value (now x)) (v y)) (IsRefused (own (now x))) → AnswersFromBlocks facts a e command (reply_by (λ y. g (v y)) s)
     own_seen own value g s v conditions does answered =
         chunk_seen (reply_by (λ y. g (v y)) s) (λ lacks no_room room there. own_answered lacks no_room room e.document b c (now x) there command own value g s v conditions does answered)
 
     -- so are bytes that are the chunk's
     pub own_seen_at : (bytes : List ℕ) → bytes ≡ now x → {V T : Type 0} (own : List ℕ → Conditions) (value : List ℕ → V) (g : V → Reply) (s : Result T Fault) (v : T → V)
         → look_up_conditions command e.document ≡ on_chunk e.document b.0 c.0 ++ own (chunk_at e.document b.0 c.0) → look_up command e.document ≡ Some (g (value (chunk_at e.document b.0 c.0)))
-        → MatchResult s (λ y. IsAnswered (own bytes) (value bytes) (v y)) (IsRefused (own bytes)) → Sees facts a e command (reply_by (λ y. g (v y)) s)
+        → MatchResult s (λ y. IsAnswered (own bytes) (value bytes) (v y)) (IsRefused (own bytes)) → AnswersFromBlocks facts a e command (reply_by (λ y. g (v y)) s)
     own_seen_at bytes is own value g s v conditions does answered =
         own_seen own value g s v conditions does (subst (λ (z : List ℕ). MatchResult s (λ y. IsAnswered (own z) (value z) (v y)) (IsRefused (own z))) is answered)
 
 -- the bytes of a chunk are answered as they are
 pub read_seen : {S X : Type 0} (facts : S → StoreFacts) (a e : CacheState S) (b : VmHandle) (c : ChunkHandle) (now : X → List ℕ) (r : Result X Fault) → KeepsBlocks facts a e
-    → MatchResult r (λ x. (is_shut_out a b.0 ≡ false) × IsChunkAt e.document b.0 c.0 (now x)) (RefusesChunk (IsEnvironmentFault facts a.disk.store e.disk.store) (is_shut_out a b.0) e.document b c)
-    → FindsInMemory a e b c r → Sees facts a e (commands.Read b c) (reply_by (λ x. BytesAre (now x)) r)
+    → MatchResult r (λ x. (has_no_frame_for a b.0 ≡ false) × IsChunkAt e.document b.0 c.0 (now x)) (RefusesChunk (IsEnvironmentFault facts a.disk.store e.disk.store) (has_no_frame_for a b.0) e.document b c)
+    → FindsInMemory a e b c r → AnswersFromBlocks facts a e (commands.Read b c) (reply_by (λ x. BytesAre (now x)) r)
 read_seen facts a e b c now (Err fault) keeps found in_memory = chunk_missed facts a e b c now (Err fault) keeps found in_memory (commands.Read b c) refl refl (λ x. BytesAre (now x)) (Err fault) fault refl refl
 read_seen facts a e b c now (Ok x) keeps found in_memory = chunk_seen facts a e b c now (Ok x) keeps found in_memory (commands.Read b c) refl refl x refl (BytesAre (now x))
     (λ lacks no_room room there. bytes_answered lacks no_room e.document b c now (Ok x) (room, there))

@@ -27,7 +27,7 @@ use Rattle.vm_blocks.specs.declared.change.Change.TheVariants as changes
 use Rattle.vm_blocks.proofs.KeepingLaws.{keeps-refl, lacks-memory}
 use Rattle.vm_blocks.proofs.Preparing.{applies_listed, applies_takes}
 use Rattle.doc_edits.specs.Planning.{freed_by, is_chain, is_of_chain, kind_of_change, IsChainEditFault, Plans, PlansAlongChain, PlansEdit, RefusesEdit, RefusesInMemory}
-use Rattle.doc_edits.specs.Room.{has_no_room, ReadsNothing}
+use Rattle.doc_edits.specs.Room.{lacks_frames, ReadsNothing}
 use Rattle.doc_edits.proofs.Loading.{IsBrought}
 use Rattle.doc_edits.proofs.Refusals.{accepted_so, handed_on, may_lack}
 use Rattle.doc_edits.proofs.Targets.{chunk_scope}
@@ -62,7 +62,7 @@ either_so (Ok x) P Q is = tt
 either_so (Err fault) P Q is = inl is
 
 -- Where it needs no more than is there, and nothing but that block was brought in.
-module _ {S : Type 0} (facts : S → StoreFacts) (edit : Edit) (a b : CacheState S) (keeps : KeepsBlocks facts a b) (room : has_no_room a (edit_needs edit) ≡ false)
+module _ {S : Type 0} (facts : S → StoreFacts) (edit : Edit) (a b : CacheState S) (keeps : KeepsBlocks facts a b) (room : lacks_frames a (edit_needs edit) ≡ false)
     (there : (x : ℕ) → edit_needs edit ≡ OneBody x → is_loaded b x ≡ true) (r : Result (Change × Done) Fault)
     (planned : MatchResult r (λ p. Plans edit b.document p.0 p.1) (RefusesInMemory edit b.document)) where
   in_memory : (change : Change) → kind_of_change change ≡ kind_of edit → IsInMemory change b
@@ -84,8 +84,8 @@ module _ {S : Type 0} (facts : S → StoreFacts) (edit : Edit) (a b : CacheState
   )
   ready (Err fault) is = (tt, tt)
 
-  may_refuse : MatchResult r (λ p. Plans edit b.document p.0 p.1) (RefusesEdit (IsEnvironmentFault facts a.disk.store b.disk.store) (has_no_room a (edit_needs edit)) edit b.document)
-  may_refuse = may_lack (IsEnvironmentFault facts a.disk.store b.disk.store) (has_no_room a (edit_needs edit)) edit b.document _ r room (lacks-memory facts a.disk.store b.disk.store) planned
+  may_refuse : MatchResult r (λ p. Plans edit b.document p.0 p.1) (RefusesEdit (IsEnvironmentFault facts a.disk.store b.disk.store) (lacks_frames a (edit_needs edit)) edit b.document)
+  may_refuse = may_lack (IsEnvironmentFault facts a.disk.store b.disk.store) (lacks_frames a (edit_needs edit)) edit b.document _ r room (lacks-memory facts a.disk.store b.disk.store) planned
 
   pub plans_there : ((x : VmHandle) → edit ≡ edits.FreeBlock x → IfOk r (λ p. freed_by p.0 ≡ x.0 ∷ [])) → (kind_of edit ≡ Plain → b ≡ a)
       → (ReadsNothing a (edit_needs edit) (conditions edit a.document) → (b.disk ≡ a.disk) × (b.document ≡ a.document)) → PlansEdit facts a b edit r
@@ -95,11 +95,11 @@ module _ {S : Type 0} (facts : S → StoreFacts) (edit : Edit) (a b : CacheState
         keeps = keeps;
         planned = λ honest. may_refuse;
         ready = (ready r planned).0;
-        room = accepted_so r (has_no_room a (edit_needs edit) ≡ false) room;
+        room = accepted_so r (lacks_frames a (edit_needs edit) ≡ false) room;
         shut = λ out. absurd (true≢false (sym out ∙ room));
         kind = (ready r planned).1;
         alone = alone;
-        refusals = either_so r (RefusesEdit (IsEnvironmentFault facts a.disk.store b.disk.store) (has_no_room a (edit_needs edit)) edit b.document) (IsChainEditFault edit a.document) (refused_so r _ _ may_refuse);
+        refusals = either_so r (RefusesEdit (IsEnvironmentFault facts a.disk.store b.disk.store) (lacks_frames a (edit_needs edit)) edit b.document) (IsChainEditFault edit a.document) (refused_so r _ _ may_refuse);
         plain = λ is. (plain is, refused);
         already = λ nothing. let w = already nothing in (w.0, w.1, subst (λ (d : Document). IfErr r (RefusesInMemory edit d)) w.1 refused);
       }
@@ -108,7 +108,7 @@ module _ {S : Type 0} (facts : S → StoreFacts) (edit : Edit) (a b : CacheState
 module _ {S : Type 0} (facts : S → StoreFacts) (edit : Edit) (needs : edit_needs edit ≡ NoBody) (a : CacheState S) where
   pub plans_bare : (r : Result (Change × Done) Fault) → MatchResult r (λ p. Plans edit a.document p.0 p.1) (RefusesInMemory edit a.document) → PlansEdit facts a a edit r
   plans_bare r planned =
-      plans_there facts edit a a (keeps-refl facts a) (ap (has_no_room a) needs) (λ x one. let no : NoBody ≡ OneBody x = sym needs ∙ one in absurd (cc no)) r planned
+      plans_there facts edit a a (keeps-refl facts a) (ap (lacks_frames a) needs) (λ x one. let no : NoBody ≡ OneBody x = sym needs ∙ one in absurd (cc no)) r planned
       (λ x is. let no : NoBody ≡ OneBody x.0 = sym needs ∙ ap edit_needs is in absurd (cc no)) (λ plain. refl) (λ nothing. (refl, refl))
 
 -- An edit that needs one.

@@ -11,18 +11,18 @@ use Rattle.geos_model.specs.declared.fault.Fault.{Fault}
 use Rattle.geos_model.specs.declared.fault.Fault.TheVariants.{BadChain, NoBlock, WrongKind, CacheFull}
 use Rattle.geos_model.proofs.FirstRefusals.{ComesBefore, still_first, full-block, full-chain, full-chains, full-heap, full-raw}
 use Rattle.vm_blocks.specs.State.{CacheState}
-use Rattle.vm_blocks.specs.Keeping.{KeepsBlocks, IsCacheFull, is_loaded, is_shut_out}
+use Rattle.vm_blocks.specs.Keeping.{KeepsBlocks, IsCacheFull, is_loaded, has_no_frame_for}
 use Rattle.vm_blocks.specs.Kinds.{IsWrongBlock}
 use Rattle.vm_blocks.proofs.KeepingLaws.{keeps-full, keeps-shut}
 use Rattle.vm_chains.specs.Answers.{IsWrongRoot}
 use Rattle.doc_edits.specs.Found.{AreLate, late_faults}
-use Rattle.doc_edits.specs.Room.{has_no_room, IsChainRefusal, IsRefusedEarly, IsRefusedUnseen}
+use Rattle.doc_edits.specs.Room.{lacks_frames, IsChainRefusal, IsRefusedEarly, IsRefusedUnseen}
 use Rattle.vm_chains.proofs.WalkLemmas.{raw_live}
 use Rattle.doc_edits.proofs.Documents.{heap_live}
 use Rattle.doc_edits.proofs.Refusals.{block_dead, heap_other, raw_other}
 
 -- What is brought into memory leaves as much room for what is needed.
-pub keeps-room : {S : Type 0} (facts : S → StoreFacts) (a b : CacheState S) → KeepsBlocks facts a b → (needs : Needs) → has_no_room b needs ≡ has_no_room a needs
+pub keeps-room : {S : Type 0} (facts : S → StoreFacts) (a b : CacheState S) → KeepsBlocks facts a b → (needs : Needs) → lacks_frames b needs ≡ lacks_frames a needs
 keeps-room facts a b keeps NoBody = refl
 keeps-room facts a b keeps (OneBody h) = keeps-shut facts a b keeps h
 keeps-room facts a b keeps ManyBodies = keeps-full facts a b keeps
@@ -87,13 +87,13 @@ module _ (d : Document) (first second : ℕ) (full : Bool) (fault : Fault) where
 -- What a load answers is the first refusal, or what it lacks.
 module _ {S : Type 0} (is_kind : Document → ℕ → Bool) (a b : CacheState S) (h : ℕ) (result : Result (Unit {0}) Fault)
     (early : (fault : Fault) → IsWrongBlock is_kind a.document h fault → (result ≡ Err fault) × (b ≡ a))
-    (shut : is_kind a.document h ≡ true → is_shut_out a h ≡ true → (result ≡ Err CacheFull) × (b ≡ a))
+    (shut : is_kind a.document h ≡ true → has_no_frame_for a h ≡ true → (result ≡ Err CacheFull) × (b ≡ a))
     (conditions : Document → Conditions) (looks : LooksFor is_kind h conditions) where
   -- where there is no room nothing is done
   abbrev IsKeptOut : Type 0
   IsKeptOut = (fault : Fault) × (result ≡ Err fault) × (b ≡ a) × (first_refusal ((CacheFull, true) ∷ conditions a.document) ≡ Some fault)
 
-  kept_out : is_shut_out a h ≡ true → IsKeptOut
+  kept_out : has_no_frame_for a h ≡ true → IsKeptOut
   kept_out out = elim (cases_Bool (is_kind a.document h)) as (λ _. IsKeptOut) [
     | inl of ↦ let none = shut of out in (CacheFull, none.0, none.1, looks.full a.document of)
     | inr other ↦ elim (cases_Bool (is_live a.document h)) as (λ _. IsKeptOut) [
@@ -107,20 +107,21 @@ module _ {S : Type 0} (is_kind : Document → ℕ → Bool) (a b : CacheState S)
           let none = early fault why in
           (fault, none.0, none.1, still_first CacheFull true (conditions a.document) fault (other_before is_kind a.document h fault why) (looks.other a.document fault why))
 
-  pub room_of : IfOk result (λ _. is_shut_out a h ≡ false)
-  room_of = elim (cases_Bool (is_shut_out a h)) as (λ _. IfOk result (λ _. is_shut_out a h ≡ false)) [
-    | inl out ↦ let none = kept_out out in subst (λ (r : Result (Unit {0}) Fault). IfOk r (λ _. is_shut_out a h ≡ false)) (sym none.1) tt
+  pub room_of : IfOk result (λ _. has_no_frame_for a h ≡ false)
+  room_of = elim (cases_Bool (has_no_frame_for a h)) as (λ _. IfOk result (λ _. has_no_frame_for a h ≡ false)) [
+    | inl out ↦ let none = kept_out out in subst (λ (r : Result (Unit {0}) Fault). IfOk r (λ _. has_no_frame_for a h ≡ false)) (sym none.1) tt
     | inr free ↦ of_free result free
   ]
     where
-      of_free : (r : Result (Unit {0}) Fault) → is_shut_out a h ≡ false → IfOk r (λ _. is_shut_out a h ≡ false)
+      of_free : (r : Result (Unit {0}) Fault) → has_no_frame_for a h ≡ false
+          → IfOk r (λ _. has_no_frame_for a h ≡ false)
       of_free (Ok u) free = free
       of_free (Err fault) free = tt
 
-  pub room_at : (u : Unit {0}) → result ≡ Ok u → is_shut_out a h ≡ false
-  room_at u was = subst (λ (r : Result (Unit {0}) Fault). IfOk r (λ _. is_shut_out a h ≡ false)) was room_of
+  pub room_at : (u : Unit {0}) → result ≡ Ok u → has_no_frame_for a h ≡ false
+  room_at u was = subst (λ (r : Result (Unit {0}) Fault). IfOk r (λ _. has_no_frame_for a h ≡ false)) was room_of
 
-  pub shut_of : is_shut_out a h ≡ true → (b ≡ a) × IfErr result (λ fault. first_refusal ((CacheFull, true) ∷ conditions a.document) ≡ Some fault)
+  pub shut_of : has_no_frame_for a h ≡ true → (b ≡ a) × IfErr result (λ fault. first_refusal ((CacheFull, true) ∷ conditions a.document) ≡ Some fault)
   shut_of out =
       let none = kept_out out in
       (none.2, subst (λ (r : Result (Unit {0}) Fault). IfErr r (λ fault. first_refusal ((CacheFull, true) ∷ conditions a.document) ≡ Some fault)) (sym none.1) none.3)
@@ -164,8 +165,8 @@ module _ {S : Type 0} (is_kind : Document → ℕ → Bool) (a b : CacheState S)
 
   module _ (lacks : Fault → Type 0) where
     pub refused_for : (fault : Fault) → result ≡ Err fault → lacks fault ⊎ (IsWrongBlock is_kind b.document h fault ⊎ IsCacheFull a h fault)
-        → (lacks fault × (is_shut_out a h ≡ false)) ⊎ (first_refusal ((CacheFull, is_shut_out a h) ∷ conditions b.document) ≡ Some fault)
-    refused_for fault was why = elim (cases_Bool (is_shut_out a h)) as (λ _. (lacks fault × (is_shut_out a h ≡ false)) ⊎ (first_refusal ((CacheFull, is_shut_out a h) ∷ conditions b.document) ≡ Some fault)) [
+        → (lacks fault × (has_no_frame_for a h ≡ false)) ⊎ (first_refusal ((CacheFull, has_no_frame_for a h) ∷ conditions b.document) ≡ Some fault)
+    refused_for fault was why = elim (cases_Bool (has_no_frame_for a h)) as (λ _. (lacks fault × (has_no_frame_for a h ≡ false)) ⊎ (first_refusal ((CacheFull, has_no_frame_for a h) ∷ conditions b.document) ≡ Some fault)) [
       | inl out ↦
           let none = kept_out out in
           let same : none.0 ≡ fault = cc (sym none.1 ∙ was) in
@@ -173,20 +174,20 @@ module _ {S : Type 0} (is_kind : Document → ℕ → Bool) (a b : CacheState S)
       | inr free ↦ with_room free why
     ]
       where
-        with_room : is_shut_out a h ≡ false → lacks fault ⊎ (IsWrongBlock is_kind b.document h fault ⊎ IsCacheFull a h fault)
-            → (lacks fault × (is_shut_out a h ≡ false)) ⊎ (first_refusal ((CacheFull, is_shut_out a h) ∷ conditions b.document) ≡ Some fault)
+        with_room : has_no_frame_for a h ≡ false → lacks fault ⊎ (IsWrongBlock is_kind b.document h fault ⊎ IsCacheFull a h fault)
+            → (lacks fault × (has_no_frame_for a h ≡ false)) ⊎ (first_refusal ((CacheFull, has_no_frame_for a h) ∷ conditions b.document) ≡ Some fault)
         with_room free (inl lack) = inl (lack, free)
-        with_room free (inr (inl other)) = inr (still_first CacheFull (is_shut_out a h) (conditions b.document) fault (other_before is_kind b.document h fault other) (looks.other b.document fault other))
+        with_room free (inr (inl other)) = inr (still_first CacheFull (has_no_frame_for a h) (conditions b.document) fault (other_before is_kind b.document h fault other) (looks.other b.document fault other))
         with_room free (inr (inr full)) = absurd (true≢false (sym full.1 ∙ free))
 
     pub err_of : IfErr result (λ fault. lacks fault ⊎ (IsWrongBlock is_kind b.document h fault ⊎ IsCacheFull a h fault))
-        → IfErr result (λ fault. lacks fault ⊎ (first_refusal ((CacheFull, is_shut_out a h) ∷ conditions b.document) ≡ Some fault))
+        → IfErr result (λ fault. lacks fault ⊎ (first_refusal ((CacheFull, has_no_frame_for a h) ∷ conditions b.document) ≡ Some fault))
     err_of refusals = of result refl refusals
       where
         of : (r : Result (Unit {0}) Fault) → result ≡ r → IfErr r (λ fault. lacks fault ⊎ (IsWrongBlock is_kind b.document h fault ⊎ IsCacheFull a h fault))
-            → IfErr r (λ fault. lacks fault ⊎ (first_refusal ((CacheFull, is_shut_out a h) ∷ conditions b.document) ≡ Some fault))
+            → IfErr r (λ fault. lacks fault ⊎ (first_refusal ((CacheFull, has_no_frame_for a h) ∷ conditions b.document) ≡ Some fault))
         of (Ok u) was refusals = tt
-        of (Err fault) was refusals = elim (refused_for fault was refusals) as (λ _. lacks fault ⊎ (first_refusal ((CacheFull, is_shut_out a h) ∷ conditions b.document) ≡ Some fault)) [
+        of (Err fault) was refusals = elim (refused_for fault was refusals) as (λ _. lacks fault ⊎ (first_refusal ((CacheFull, has_no_frame_for a h) ∷ conditions b.document) ≡ Some fault)) [
           | inl lack ↦ inl lack.0
           | inr first ↦ inr first
         ]

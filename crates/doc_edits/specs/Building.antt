@@ -14,7 +14,7 @@ use Rattle.geos_model.specs.declared.command.Edit.{Edit}
 use Rattle.geos_model.specs.declared.command.Kind.TheVariants.{In}
 use Rattle.geos_model.specs.declared.handle.VmHandle.{VmHandle}
 use Rattle.geos_model.specs.declared.handle.ChunkHandle.{ChunkHandle}
-use Rattle.chunk_edits.specs.Patching.{PatchLeads, Piece, patched}
+use Rattle.chunk_edits.specs.Patching.{PatchLeads, PatchPiece, patched}
 use Rattle.chunk_edits.specs.Splicing.{OccursAt, Splice, forwards}
 use Rattle.vm_blocks.specs.declared.change.PartChange.{PartChange}
 use Rattle.vm_blocks.specs.declared.change.PartChange.TheVariants as parts
@@ -61,7 +61,7 @@ pub record MakesSplice (edit : Edit) (d : Document) (b : VmHandle) (c : ChunkHan
   pub fits : fits_with (chunks_of d b.0) c.0 (forwards s (chunk_at d b.0 c.0)) ≡ true
 
 -- what was built for an edit that answers nothing
-abbrev pub silently : Result (List Piece) Fault → Result (List Piece × Done) Fault
+abbrev pub silently : Result (List PatchPiece) Fault → Result (List PatchPiece × Done) Fault
 silently (Ok ps) = Ok (ps, Nothing)
 silently (Err fault) = Err fault
 

@@ -15,11 +15,11 @@ use Rattle.geos_model.specs.declared.handle.ChunkHandle.{ChunkHandle}
 use Rattle.geos_model.specs.declared.handle.VmHandle.{VmHandle}
 use Rattle.vm_store.specs.Facts.{StoreFacts}
 use Rattle.vm_blocks.specs.State.{CacheState}
-use Rattle.vm_blocks.specs.Keeping.{KeepsBlocks, IsEnvironmentFault, IsHonest, is_full, is_loaded, is_shut_out}
+use Rattle.vm_blocks.specs.Keeping.{KeepsBlocks, IsEnvironmentFault, IsHonest, is_full, is_loaded, has_no_frame_for}
 use Rattle.vm_blocks.specs.Kinds.{IsWrongBlock}
 use Rattle.vm_chains.specs.Answers.{IsWrongRoot}
 use Rattle.doc_edits.specs.Found.{IsChunkAt, IsChunkLive}
-use Rattle.doc_edits.specs.Room.{has_no_room, IsChainRefusal, ReadsNothing}
+use Rattle.doc_edits.specs.Room.{lacks_frames, IsChainRefusal, ReadsNothing}
 use Rattle.doc_edits.specs.declared.look_ups.Lists.{Lists}
 use Rattle.doc_edits.specs.declared.look_ups.Prepared.{Prepared}
 use Rattle.doc_edits.specs.declared.look_ups.Prepared.TheVariants as prepared
@@ -71,11 +71,12 @@ LooksUpInMemory command d reply =
 -- What a look-up into one block comes to: the file is kept, and the document as it is held from then on is looked up,
 -- as far as there was room for the block. Where no body has to be read no store is called, and the answer is that of
 -- the document before.
-pub record Sees {S : Type 0} (facts : S → StoreFacts) (old new : CacheState S) (command : Command) (reply : Reply)
+pub record AnswersFromBlocks {S : Type 0} (facts : S → StoreFacts) (old new : CacheState S) (command : Command)
+    (reply : Reply)
     : Type 0 where
   pub keeps : KeepsBlocks facts old new
   pub value : LooksUp (IsEnvironmentFault facts old.disk.store new.disk.store)
-      (has_no_room old (look_up_needs command)) command new.document reply
+      (lacks_frames old (look_up_needs command)) command new.document reply
   pub already : ReadsNothing old (look_up_needs command) (look_up_conditions command old.document)
       → (new.disk ≡ old.disk) × (new.document ≡ old.document) × LooksUpInMemory command old.document reply
 
@@ -88,7 +89,7 @@ IsWrongRootOf command d = λ fault. ⊥
 
 -- What a look-up along chains comes to: the file is kept, and, if the store gives back what it has, the document as it
 -- is held from then on is looked up. Where each frame has a locked block nothing changes, and the document before is.
-pub record SeesAlongChain {S : Type 0} (facts : S → StoreFacts) (old new : CacheState S) (command : Command)
+pub record AnswersChainFromBlocks {S : Type 0} (facts : S → StoreFacts) (old new : CacheState S) (command : Command)
     (reply : Reply) : Type 0 where
   pub keeps : KeepsBlocks facts old new
   pub value : IsHonest facts old.disk.store
@@ -113,8 +114,9 @@ FindsInMemory old new b c result =
 pub record FindsChunk {S T : Type 0} (facts : S → StoreFacts) (old new : CacheState S) (b : VmHandle) (c : ChunkHandle)
     (result : Result T Fault) : Type 0 where
   pub keeps : KeepsBlocks facts old new
-  pub found : MatchResult result (λ _. (is_shut_out old b.0 ≡ false) × IsChunkLive new.document b.0 c.0)
-      (RefusesChunk (IsEnvironmentFault facts old.disk.store new.disk.store) (is_shut_out old b.0) new.document b c)
+  pub found : MatchResult result (λ _. (has_no_frame_for old b.0 ≡ false) × IsChunkLive new.document b.0 c.0)
+      (RefusesChunk (IsEnvironmentFault facts old.disk.store new.disk.store)
+      (has_no_frame_for old b.0) new.document b c)
   pub in_memory : FindsInMemory old new b c result
 
 -- What is behind a `&mut` is again what the call left there, once what was lent of it is given back, and this holds of

@@ -27,7 +27,7 @@ use Rattle.vm_blocks.specs.Keeping.{KeepsBlocks, IsEnvironmentFault, IsHonest, i
 use Rattle.vm_blocks.specs.Kinds.{IsWrongBlock}
 use Rattle.vm_blocks.specs.Preparing.{CanCarryOut}
 use Rattle.vm_chains.specs.Answers.{IsChainFault}
-use Rattle.doc_edits.specs.Room.{has_no_room, ReadsNothing}
+use Rattle.doc_edits.specs.Room.{lacks_frames, ReadsNothing}
 
 -- what kind of step a change is
 abbrev pub kind_of_change : Change → Kind
@@ -127,16 +127,16 @@ pub record PlansEdit {S : Type 0} (facts : S → StoreFacts) (old new : CacheSta
   pub keeps : KeepsBlocks facts old new
   pub planned : (is_of_chain edit ≡ true → IsHonest facts old.disk.store)
       → MatchResult result (λ p. Plans edit new.document p.0 p.1)
-      (RefusesEdit (IsEnvironmentFault facts old.disk.store new.disk.store) (has_no_room old (edit_needs edit)) edit
+      (RefusesEdit (IsEnvironmentFault facts old.disk.store new.disk.store) (lacks_frames old (edit_needs edit)) edit
       new.document)
   pub ready : IfOk result (λ p. CanCarryOut p.0 new)
-  pub room : IfOk result (λ _. has_no_room old (edit_needs edit) ≡ false)
-  pub shut : has_no_room old (edit_needs edit) ≡ true → (new ≡ old)
+  pub room : IfOk result (λ _. lacks_frames old (edit_needs edit) ≡ false)
+  pub shut : lacks_frames old (edit_needs edit) ≡ true → (new ≡ old)
       × IfErr result (λ fault. first_refusal ((CacheFull, true) ∷ conditions edit old.document) ≡ Some fault)
   pub kind : IfOk result (λ p. kind_of_change p.0 ≡ kind_of edit)
   pub alone : (b : VmHandle) → edit ≡ edits.FreeBlock b → IfOk result (λ p. freed_by p.0 ≡ b.0 ∷ [])
   pub refusals : IfErr result (λ fault.
-      RefusesEdit (IsEnvironmentFault facts old.disk.store new.disk.store) (has_no_room old (edit_needs edit)) edit
+      RefusesEdit (IsEnvironmentFault facts old.disk.store new.disk.store) (lacks_frames old (edit_needs edit)) edit
       new.document fault
       ⊎ IsChainEditFault edit old.document fault)
   pub plain : kind_of edit ≡ Plain → (new ≡ old) × IfErr result (RefusesInMemory edit new.document)

@@ -5,13 +5,13 @@ use Rattle.geos_model.specs.Refusal.{Conditions, first_refusal}
 use Rattle.geos_model.specs.declared.fault.Fault.{Fault}
 use Rattle.geos_model.specs.declared.fault.Fault.TheVariants.{CacheFull, NoBlock, WrongKind}
 use Rattle.vm_blocks.specs.State.{CacheState}
-use Rattle.vm_blocks.specs.Keeping.{is_full, is_loaded, is_shut_out}
+use Rattle.vm_blocks.specs.Keeping.{is_full, is_loaded, has_no_frame_for}
 use Rattle.vm_chains.specs.Answers.{IsWalkRefusal}
 
 -- A block that isn't locked can't be brought into memory where each frame has a locked one, and those of a chain are
 -- not even looked for.
-abbrev pub has_no_room : {S : Type 0} → CacheState S → Needs → Bool
-has_no_room state needs = lacks_room (is_shut_out state) (is_full state) needs
+abbrev pub lacks_frames : {S : Type 0} → CacheState S → Needs → Bool
+lacks_frames state needs = lacks_room (has_no_frame_for state) (is_full state) needs
 
 -- The first refusal is for a block that isn't live, or is of another kind, which is known without its body.
 abbrev pub IsRefusedUnseen : Conditions → Type 0

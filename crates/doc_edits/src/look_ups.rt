@@ -7,11 +7,11 @@ ghost use Rattle.geos_model.specs.LookUps.{array_look_up, block_look_up, chain_l
 ghost use Rattle.geos_model.specs.Reply.{Reply as Answer, AreEqual, BytesAre, NumberIs, TokenIs, reply_by, reply_of, info_is, blocks_are, chunks_are};
 ghost use Rattle.geos_model.specs.declared.command.Command.TheVariants as commands;
 ghost use Rattle.vm_blocks.specs.contracts.file_blocks.FileBlocks.{the_row};
-ghost use Rattle.vm_blocks.specs.Keeping.{KeepsBlocks, IsEnvironmentFault, is_loaded, is_shut_out};
+ghost use Rattle.vm_blocks.specs.Keeping.{KeepsBlocks, IsEnvironmentFault, is_loaded, has_no_frame_for};
 ghost use Rattle.element_arrays.specs.Answering.{IsAnswered, IsRefused};
 ghost use Rattle.doc_edits.specs.Found.{IsChunkAt};
 ghost use Rattle.doc_edits.specs.declared.look_ups.Lists.{Lists};
-ghost use Rattle.doc_edits.specs.LookUps.{AfterLoan, AnswersInChunk, FindsChunk, FindsInMemory, IsPreparedLookUp, RefusesChunk, Sees, SeesAlongChain, Shows, ShowsOrRefuses, is_list};
+ghost use Rattle.doc_edits.specs.LookUps.{AfterLoan, AnswersInChunk, FindsChunk, FindsInMemory, IsPreparedLookUp, RefusesChunk, AnswersFromBlocks, AnswersChainFromBlocks, Shows, ShowsOrRefuses, is_list};
 
 use crate::found::{bytes_in, heap_at, known_at, raw_at};
 use crate::marking::test_array;
@@ -27,7 +27,7 @@ use vm_store::Store;
 
 /// A block's user ID and size.
 pub fn info<S: Store>(blocks: &mut FileBlocks<S>, block: VmHandle) -> Result<Info, Fault>
-    ensures { Sees S.facts blocks.old blocks.new (commands.Info block) (reply_by info_is result) }
+    ensures { AnswersFromBlocks S.facts blocks.old blocks.new (commands.Info block) (reply_by info_is result) }
 {
     blocks.load(block)?;
     let user_id = blocks.attributes(block).user_id;
@@ -41,7 +41,7 @@ pub fn info<S: Store>(blocks: &mut FileBlocks<S>, block: VmHandle) -> Result<Inf
 pub fn read_raw<S: Store>(blocks: &mut FileBlocks<S>, block: VmHandle) -> Result<&[u8], Fault>
     ensures* leaves { sem 𝓛
         (AfterLoan (the_row S.row S.Store) blocks.entry
-        (λ loaded. Sees S.facts blocks.old loaded (commands.ReadRaw block)
+        (λ loaded. AnswersFromBlocks S.facts blocks.old loaded (commands.ReadRaw block)
         (reply_by (λ bytes. BytesAre bytes.now) result))) }
 {
     blocks.load_raw(block)?;
@@ -53,7 +53,7 @@ pub fn chunks<S: Store>(
     blocks: &mut FileBlocks<S>,
     block: VmHandle,
 ) -> Result<Vec<ChunkHandle>, Fault>
-    ensures { Sees S.facts blocks.old blocks.new (commands.Chunks block)
+    ensures { AnswersFromBlocks S.facts blocks.old blocks.new (commands.Chunks block)
         (reply_by (λ handles. chunks_are handles.items) result) }
 {
     blocks.load_heap(block)?;
@@ -68,10 +68,10 @@ fn chunk_at<S: Store>(
 ) -> Result<&[u8], Fault>
     ensures* leaves { sem 𝓛
         (AfterLoan (the_row S.row S.Store) blocks.entry (λ loaded. KeepsBlocks S.facts blocks.old loaded
-        × MatchResult result (λ bytes. (is_shut_out blocks.old block.0 ≡ false)
+        × MatchResult result (λ bytes. (has_no_frame_for blocks.old block.0 ≡ false)
         × IsChunkAt loaded.document block.0 chunk.0 bytes.now)
         (RefusesChunk (IsEnvironmentFault S.facts blocks.old.disk.store loaded.disk.store)
-        (is_shut_out blocks.old block.0) loaded.document block chunk)
+        (has_no_frame_for blocks.old block.0) loaded.document block chunk)
         × FindsInMemory blocks.old loaded block chunk result)) }
 {
     blocks.load_heap(block)?;
@@ -86,7 +86,7 @@ pub fn read_chunk<S: Store>(
 ) -> Result<&[u8], Fault>
     ensures* leaves { sem 𝓛
         (AfterLoan (the_row S.row S.Store) blocks.entry
-        (λ loaded. Sees S.facts blocks.old loaded (commands.Read block chunk)
+        (λ loaded. AnswersFromBlocks S.facts blocks.old loaded (commands.Read block chunk)
         (reply_by (λ bytes. BytesAre bytes.now) result))) }
 {
     chunk_at(blocks, block, chunk)
@@ -113,7 +113,8 @@ pub fn array_count<S: Store>(
     block: VmHandle,
     chunk: ChunkHandle,
 ) -> Result<usize, Fault>
-    ensures { Sees S.facts blocks.old blocks.new (commands.ArrayCount block chunk) (reply_by NumberIs result) }
+    ensures { AnswersFromBlocks S.facts blocks.old blocks.new (commands.ArrayCount block chunk)
+        (reply_by NumberIs result) }
 {
     load_chunk(blocks, block, chunk, ArrayKind::Chunk)?;
     count_in(&known_at(blocks, block, chunk))
@@ -137,7 +138,7 @@ pub fn array_element<S: Store>(
 ) -> Result<&[u8], Fault>
     ensures* leaves { sem 𝓛
         (AfterLoan (the_row S.row S.Store) blocks.entry
-        (λ loaded. Sees S.facts blocks.old loaded (commands.ArrayElement block chunk i)
+        (λ loaded. AnswersFromBlocks S.facts blocks.old loaded (commands.ArrayElement block chunk i)
         (reply_by (λ bytes. BytesAre bytes.now) result))) }
 {
     load_chunk(blocks, block, chunk, ArrayKind::Chunk)?;
@@ -165,7 +166,7 @@ pub fn element_refs<S: Store>(
     chunk: ChunkHandle,
     token: Token,
 ) -> Result<u32, Fault>
-    ensures { Sees S.facts blocks.old blocks.new (commands.ElementReferences block chunk token)
+    ensures { AnswersFromBlocks S.facts blocks.old blocks.new (commands.ElementReferences block chunk token)
         (reply_by NumberIs result) }
 {
     load_chunk(blocks, block, chunk, ArrayKind::Element)?;
@@ -181,7 +182,7 @@ pub fn element_bytes<S: Store>(
 ) -> Result<&[u8], Fault>
     ensures* leaves { sem 𝓛
         (AfterLoan (the_row S.row S.Store) blocks.entry
-        (λ loaded. Sees S.facts blocks.old loaded (commands.ElementBytes block chunk token)
+        (λ loaded. AnswersFromBlocks S.facts blocks.old loaded (commands.ElementBytes block chunk token)
         (reply_by (λ bytes. BytesAre bytes.now) result))) }
 {
     load_chunk(blocks, block, chunk, ArrayKind::Element)?;
@@ -194,7 +195,8 @@ pub fn elements_used<S: Store>(
     block: VmHandle,
     chunk: ChunkHandle,
 ) -> Result<usize, Fault>
-    ensures { Sees S.facts blocks.old blocks.new (commands.ElementsUsed block chunk) (reply_by NumberIs result) }
+    ensures { AnswersFromBlocks S.facts blocks.old blocks.new (commands.ElementsUsed block chunk)
+        (reply_by NumberIs result) }
 {
     load_chunk(blocks, block, chunk, ArrayKind::Element)?;
     element_arrays::used_count(&known_at(blocks, block, chunk))
@@ -207,7 +209,7 @@ pub fn token_of_used<S: Store>(
     chunk: ChunkHandle,
     k: u32,
 ) -> Result<Token, Fault>
-    ensures { Sees S.facts blocks.old blocks.new (commands.TokenOfUsed block chunk k)
+    ensures { AnswersFromBlocks S.facts blocks.old blocks.new (commands.TokenOfUsed block chunk k)
         (reply_by (λ token. TokenIs token.0) result) }
 {
     load_chunk(blocks, block, chunk, ArrayKind::Element)?;
@@ -221,7 +223,8 @@ pub fn used_of_token<S: Store>(
     chunk: ChunkHandle,
     token: Token,
 ) -> Result<usize, Fault>
-    ensures { Sees S.facts blocks.old blocks.new (commands.UsedOfToken block chunk token) (reply_by NumberIs result) }
+    ensures { AnswersFromBlocks S.facts blocks.old blocks.new (commands.UsedOfToken block chunk token)
+        (reply_by NumberIs result) }
 {
     load_chunk(blocks, block, chunk, ArrayKind::Element)?;
     element_arrays::used_of_token(&known_at(blocks, block, chunk), token)
@@ -234,7 +237,7 @@ pub fn name_find<S: Store>(
     chunk: ChunkHandle,
     name: &Bytes,
 ) -> Result<Token, Fault>
-    ensures { Sees S.facts blocks.old blocks.new (commands.NameFind block chunk name.now)
+    ensures { AnswersFromBlocks S.facts blocks.old blocks.new (commands.NameFind block chunk name.now)
         (reply_by (λ token. TokenIs token.0) result) }
 {
     load_chunk(blocks, block, chunk, ArrayKind::Name)?;
@@ -248,7 +251,7 @@ pub fn name_refs<S: Store>(
     chunk: ChunkHandle,
     token: Token,
 ) -> Result<u32, Fault>
-    ensures { Sees S.facts blocks.old blocks.new (commands.NameReferences block chunk token)
+    ensures { AnswersFromBlocks S.facts blocks.old blocks.new (commands.NameReferences block chunk token)
         (reply_by NumberIs result) }
 {
     load_chunk(blocks, block, chunk, ArrayKind::Name)?;
@@ -264,7 +267,7 @@ pub fn name_text<S: Store>(
 ) -> Result<&[u8], Fault>
     ensures* leaves { sem 𝓛
         (AfterLoan (the_row S.row S.Store) blocks.entry
-        (λ loaded. Sees S.facts blocks.old loaded (commands.NameText block chunk token)
+        (λ loaded. AnswersFromBlocks S.facts blocks.old loaded (commands.NameText block chunk token)
         (reply_by (λ bytes. BytesAre bytes.now) result))) }
 {
     load_chunk(blocks, block, chunk, ArrayKind::Name)?;
@@ -280,7 +283,7 @@ pub fn name_part<S: Store>(
 ) -> Result<&[u8], Fault>
     ensures* leaves { sem 𝓛
         (AfterLoan (the_row S.row S.Store) blocks.entry
-        (λ loaded. Sees S.facts blocks.old loaded (commands.NamePart block chunk token)
+        (λ loaded. AnswersFromBlocks S.facts blocks.old loaded (commands.NamePart block chunk token)
         (reply_by (λ bytes. BytesAre bytes.now) result))) }
 {
     load_chunk(blocks, block, chunk, ArrayKind::Name)?;
@@ -293,7 +296,7 @@ pub fn walk<S: Store>(
     blocks: &mut FileBlocks<S>,
     root: VmHandle,
 ) -> Result<Vec<VmHandle>, Fault>
-    ensures { SeesAlongChain S.facts blocks.old blocks.new (commands.Walk root)
+    ensures { AnswersChainFromBlocks S.facts blocks.old blocks.new (commands.Walk root)
         (reply_by (λ handles. blocks_are handles.items) result) }
 {
     test_chain(blocks, root)?;
@@ -306,7 +309,8 @@ pub fn chain_size<S: Store>(
     blocks: &mut FileBlocks<S>,
     root: VmHandle,
 ) -> Result<u32, Fault>
-    ensures { SeesAlongChain S.facts blocks.old blocks.new (commands.ChainSize root) (reply_by NumberIs result) }
+    ensures { AnswersChainFromBlocks S.facts blocks.old blocks.new (commands.ChainSize root)
+        (reply_by NumberIs result) }
 {
     test_chain(blocks, root)?;
     vm_chains::size(alloc, blocks, root)
@@ -319,7 +323,7 @@ pub fn chain_equal<S: Store>(
     first: VmHandle,
     second: VmHandle,
 ) -> Result<bool, Fault>
-    ensures { SeesAlongChain S.facts blocks.old blocks.new (commands.ChainEqual first second)
+    ensures { AnswersChainFromBlocks S.facts blocks.old blocks.new (commands.ChainEqual first second)
         (reply_by AreEqual result) }
 {
     test_chains(blocks, first, second)?;
@@ -371,7 +375,7 @@ pub fn prepare_in_block<'a, S: Store>(
     ensures keeps { KeepsBlocks S.facts blocks.old blocks.new }
     ensures ready { IfOk result (λ prepared. IsPreparedLookUp prepared blocks.new) }
     ensures sees { (reply : Answer) → ShowsOrRefuses result blocks.new lists.new reply
-        → Sees S.facts blocks.old blocks.new (block_look_up block asked.entry) reply }
+        → AnswersFromBlocks S.facts blocks.old blocks.new (block_look_up block asked.entry) reply }
 {
     match asked {
         BlockLookUp::Info => Ok(Prepared::Info(info(blocks, block)?)),
@@ -397,7 +401,7 @@ fn prepare_in_chunk<'a, S: Store>(
     ensures keeps { KeepsBlocks S.facts blocks.old blocks.new }
     ensures ready { IfOk result (λ prepared. IsPreparedLookUp prepared blocks.new) }
     ensures sees { (lists : Lists) (reply : Answer) → ShowsOrRefuses result blocks.new lists reply
-        → Sees S.facts blocks.old blocks.new (chunk_look_up block chunk asked.entry) reply }
+        → AnswersFromBlocks S.facts blocks.old blocks.new (chunk_look_up block chunk asked.entry) reply }
 {
     match asked {
         ChunkLookUp::Read => {
@@ -430,7 +434,7 @@ pub fn prepare_along_chain<'a, S: Store>(
     ensures keeps { KeepsBlocks S.facts blocks.old blocks.new }
     ensures ready { IfOk result (λ prepared. IsPreparedLookUp prepared blocks.new) }
     ensures sees { (reply : Answer) → ShowsOrRefuses result blocks.new lists.new reply
-        → SeesAlongChain S.facts blocks.old blocks.new (chain_look_up asked) reply
+        → AnswersChainFromBlocks S.facts blocks.old blocks.new (chain_look_up asked) reply
         × (has_form reply (form_asked (chain_look_up asked)) ≡ true) }
 {
     match asked {

@@ -4,12 +4,12 @@ use Rattle.clap.specs.Simple.{on_top}
 use Rattle.clap.specs.Words.{App, Row, Rule, Text, first_of, new_app, with_rule, with_subcommand}
 use Rattle.document_commands.specs.Arguments.{file_operand, flag, has_flag, with_version}
 use Rattle.document_commands.specs.declared.requested.Asked.TheVariants as asked
-use Rattle.document_commands.specs.declared.requested.Dumped.{Dumped}
-use Rattle.document_commands.specs.declared.requested.Dumped.TheVariants.{Both, Other, Saved}
+use Rattle.document_commands.specs.declared.requested.DumpScope.{DumpScope}
+use Rattle.document_commands.specs.declared.requested.DumpScope.TheVariants.{Both, Other, Saved}
 use Rattle.document_commands.specs.declared.requested.Form.{Form}
 use Rattle.document_commands.specs.declared.requested.Form.TheVariants as forms
-use Rattle.document_commands.specs.declared.requested.Picture.{Picture}
-use Rattle.document_commands.specs.declared.requested.Picture.TheVariants as pictures
+use Rattle.document_commands.specs.declared.requested.MapFormat.{MapFormat}
+use Rattle.document_commands.specs.declared.requested.MapFormat.TheVariants as pictures
 use Rattle.document_commands.specs.declared.requested.Request.{Request}
 use Rattle.document_commands.specs.declared.requested.Request.TheVariants as requests
 
@@ -55,24 +55,25 @@ geosdoc =
 
 -- ---- what a command asks for
 
-abbrev pub dumped_by : List Row → Dumped
-dumped_by rows = if has_flag (codes "saved") rows then Saved else if has_flag (codes "other") rows then Other else Both
+abbrev pub dump_scope_by : List Row → DumpScope
+dump_scope_by rows =
+    if has_flag (codes "saved") rows then Saved else if has_flag (codes "other") rows then Other else Both
 
 abbrev pub form_by : List Row → Form
 form_by rows = if has_flag (codes "json") rows then forms.Json else forms.Columns
 
-abbrev pub picture_by : List Row → Picture
-picture_by rows = if has_flag (codes "svg") rows then pictures.Svg else pictures.Text
+abbrev pub map_format_by : List Row → MapFormat
+map_format_by rows = if has_flag (codes "svg") rows then pictures.Svg else pictures.Text
 
 -- The request is that of the command of this name, with these matches, and of the file that they name.
 abbrev pub IsAsked : Text → List Row → Request → Type 0
 IsAsked name rows (requests.Check file) = (name ≡ codes "check") × (first_of (codes "file") rows ≡ Some file.now)
 IsAsked name rows (requests.Look (asked.Dump dumped) file) =
-    (name ≡ codes "dump") × (dumped ≡ dumped_by rows) × (first_of (codes "file") rows ≡ Some file.now)
+    (name ≡ codes "dump") × (dumped ≡ dump_scope_by rows) × (first_of (codes "file") rows ≡ Some file.now)
 IsAsked name rows (requests.Look (asked.Stat form) file) =
     (name ≡ codes "stat") × (form ≡ form_by rows) × (first_of (codes "file") rows ≡ Some file.now)
 IsAsked name rows (requests.Look (asked.Map picture) file) =
-    (name ≡ codes "map") × (picture ≡ picture_by rows) × (first_of (codes "file") rows ≡ Some file.now)
+    (name ≡ codes "map") × (picture ≡ map_format_by rows) × (first_of (codes "file") rows ≡ Some file.now)
 IsAsked name rows (requests.Restore file) = (name ≡ codes "restore") × (first_of (codes "file") rows ≡ Some file.now)
 
 -- a command was named, and the request is its

@@ -3,10 +3,10 @@ ghost use Rattle.std.specs.Prelude.{◌≡◌, IfErr, IfOk, IfSome, map, true};
 ghost use Rattle.clap.specs.Words.{app_of, found_of, kind_of, rows_of, subcommand_of, subcommand_rows_of, takes};
 ghost use Rattle.clap.specs.declared.error.kind.ErrorKind.TheVariants.{OutOfMemory};
 ghost use Rattle.document_commands.specs.Arguments.{has_flag};
-ghost use Rattle.document_commands.specs.Requests.{IsAskedBy, check_command, dump_command, dumped_by, form_by, geosdoc, map_command, picture_by, restore_command, stat_command};
+ghost use Rattle.document_commands.specs.Requests.{IsAskedBy, check_command, dump_command, dump_scope_by, form_by, geosdoc, map_command, map_format_by, restore_command, stat_command};
 
 use crate::arguments::{file_operand, flag};
-use crate::requested::{Asked, Dumped, Form, NoRequest, Picture, Request};
+use crate::requested::{Asked, DumpScope, Form, MapFormat, NoRequest, Request};
 use clap::error::ErrorKind;
 use clap::{ArgMatches, Command, Error};
 use geos_model::Bytes;
@@ -113,15 +113,15 @@ fn request_of<'a>(matches: &ArgMatches<'a>) -> Option<Request<'a>>
     }
 }
 
-fn dumped(matches: &ArgMatches<'_>) -> Dumped
-    ensures { result ≡ dumped_by (rows_of (found_of matches.now)) }
+fn dumped(matches: &ArgMatches<'_>) -> DumpScope
+    ensures { result ≡ dump_scope_by (rows_of (found_of matches.now)) }
 {
     if is_set(matches, "saved") {
-        Dumped::Saved
+        DumpScope::Saved
     } else if is_set(matches, "other") {
-        Dumped::Other
+        DumpScope::Other
     } else {
-        Dumped::Both
+        DumpScope::Both
     }
 }
 
@@ -135,13 +135,13 @@ fn form(matches: &ArgMatches<'_>) -> Form
     }
 }
 
-fn picture(matches: &ArgMatches<'_>) -> Picture
-    ensures { result ≡ picture_by (rows_of (found_of matches.now)) }
+fn picture(matches: &ArgMatches<'_>) -> MapFormat
+    ensures { result ≡ map_format_by (rows_of (found_of matches.now)) }
 {
     if is_set(matches, "svg") {
-        Picture::Svg
+        MapFormat::Svg
     } else {
-        Picture::Text
+        MapFormat::Text
     }
 }
 

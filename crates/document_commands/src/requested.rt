@@ -5,11 +5,11 @@ use geos_model::Bytes;
 #[derive(Clone, Copy)]
 pub enum Asked {
     /// A script that makes documents of the file again.
-    Dump(Dumped),
+    Dump(DumpScope),
     /// What the file has, counted.
     Stat(Form),
     /// A picture of what lies in the file.
-    Map(Picture),
+    Map(MapFormat),
 }
 
 /// How numbers are told.
@@ -23,14 +23,14 @@ pub enum Form {
 
 /// How a picture is given.
 #[derive(Clone, Copy)]
-pub enum Picture {
+pub enum MapFormat {
     Text,
     Svg,
 }
 
 /// Which documents of a file a dump has.
 #[derive(Clone, Copy)]
-pub enum Dumped {
+pub enum DumpScope {
     /// The saved one and the updated one.
     Both,
     /// The saved one.

@@ -5,7 +5,7 @@ use Rattle.geos_model.specs.Document.{is_valid_body}
 use Rattle.geos_model.specs.Image.{image}
 use Rattle.geos_model.specs.declared.command.Body.{Body}
 use Rattle.geos_model.specs.declared.command.Body.TheVariants as bodies
-use Rattle.document_dump.specs.Faults.{IsDumpRefusal, IsHeapImage, IsImage, IsRefusalOf}
+use Rattle.document_dump.specs.Faults.{IsDumpRefusal, IsHeapBodyImage, IsBodyImage, IsRefusalOf}
 use Rattle.document_dump.specs.declared.fault.DumpFault.{DumpFault}
 use Rattle.document_dump.specs.declared.fault.DumpFault.TheVariants as dump_faults
 
@@ -21,11 +21,11 @@ part-narrower CanBe Other dump_faults.File then is = absurd is
 part-narrower CanBe Other dump_faults.Damaged then is = λ other. is (then other)
 part-narrower CanBe Other dump_faults.Write then is = absurd is
 
-heap_of : (bytes : List ℕ) → get_or bytes 0 0 ≢ 0 → (body : Body) → is_valid_body body ≡ true → image body ≡ bytes → IsHeapImage bytes
+heap_of : (bytes : List ℕ) → get_or bytes 0 0 ≢ 0 → (body : Body) → is_valid_body body ≡ true → image body ≡ bytes → IsHeapBodyImage bytes
 unfolding image
 heap_of bytes kind (bodies.Raw xs) valid same = absurd (kind (sym (ap (λ (l : List ℕ). get_or l 0 0) same)))
 heap_of bytes kind (bodies.Heap m) valid same = (m, valid, same)
 
 -- an image that doesn't begin with 0 is that of a heap
-pub image-of_heap : (bytes : List ℕ) → get_or bytes 0 0 ≢ 0 → IsImage bytes → IsHeapImage bytes
+pub image-of_heap : (bytes : List ℕ) → get_or bytes 0 0 ≢ 0 → IsBodyImage bytes → IsHeapBodyImage bytes
 image-of_heap bytes kind i = heap_of bytes kind i.0 i.1 i.2

@@ -19,8 +19,8 @@ dump_fault Memory = dump_faults.Memory
 dump_fault File = dump_faults.File
 dump_fault fault = dump_faults.Damaged
 
-abbrev pub no_memory : DumpFault
-no_memory = dump_faults.Memory
+abbrev pub dump_out_of_memory : DumpFault
+dump_out_of_memory = dump_faults.Memory
 
 -- Why a dump, or a part of it, ends early: there is no memory; the store failed in this very call; it isn't honest; the
 -- writer failed.
@@ -40,12 +40,12 @@ abbrev pub IsWriteFault : DumpFault → Type 0
 IsWriteFault fault = fault ≡ dump_faults.Write
 
 -- some heap has this image
-abbrev pub IsHeapImage : List ℕ → Type 0
-IsHeapImage bytes = (m : ChunkMap) × (is_heap_map m ≡ true) × (image (Heap m) ≡ bytes)
+abbrev pub IsHeapBodyImage : List ℕ → Type 0
+IsHeapBodyImage bytes = (m : ChunkMap) × (is_heap_map m ≡ true) × (image (Heap m) ≡ bytes)
 
 -- some body has it
-abbrev pub IsImage : List ℕ → Type 0
-IsImage bytes = (body : Body) × (is_valid_body body ≡ true) × (image body ≡ bytes)
+abbrev pub IsBodyImage : List ℕ → Type 0
+IsBodyImage bytes = (body : Body) × (is_valid_body body ≡ true) × (image body ≡ bytes)
 
 -- between some documents a block has this change
 abbrev pub IsChangeOf : ℕ → Change → Type 0

@@ -9,7 +9,7 @@ ghost use Rattle.geos_model.specs.Heap.{most_chunks, handle_of, table_len};
 ghost use Rattle.geos_model.specs.Image.{image};
 ghost use Rattle.geos_model.specs.declared.command.Body.{Body};
 ghost use Rattle.geos_model.specs.declared.command.Body.TheVariants as model_bodies;
-ghost use Rattle.document_dump.specs.Faults.{IsHeapImage, IsImage, IsRefusalOf};
+ghost use Rattle.document_dump.specs.Faults.{IsHeapBodyImage, IsBodyImage, IsRefusalOf};
 ghost use Rattle.document_dump.specs.Lines.{line, text};
 ghost use Rattle.document_dump.specs.Changes.{write_of, piece_at, is_zeros, piece_written, bytes_written, chunk_name, entries_passed, entry_edits, block_made, type_set};
 
@@ -203,7 +203,7 @@ fn push_heap_image(
     attributes: Attributes,
     bytes: &[u8],
 ) -> Result<(), DumpFault>
-    ensures err { IfErr result (IsRefusalOf (IsHeapImage bytes.now)) }
+    ensures err { IfErr result (IsRefusalOf (IsHeapBodyImage bytes.now)) }
     ensures ok { OnOk result ((body : Body) → is_valid_body body ≡ true → image body ≡ bytes.now
         → out.new.items ≡ out.old.items ++ text (block_made block attributes body)) }
 {
@@ -220,7 +220,7 @@ pub fn push_block(
     attributes: Attributes,
     bytes: &[u8],
 ) -> Result<(), DumpFault>
-    ensures err { IfErr result (IsRefusalOf (IsImage bytes.now)) }
+    ensures err { IfErr result (IsRefusalOf (IsBodyImage bytes.now)) }
     ensures ok { OnOk result ((body : Body) → is_valid_body body ≡ true → image body ≡ bytes.now
         → out.new.items ≡ out.old.items ++ text (block_made block attributes body)) }
 {

@@ -61,7 +61,7 @@ fn first_change<S: Store>(
     ensures ok { IfOk result (λ change. IsTrue (S.facts file.old.store).honest
         → IsChange empty_document file.old.saved block.0 change) }
 {
-    file.validity();
+    file.reveal_invariant();
     match file.saved_entry(block) {
         None => Ok(Change::Free),
         Some(place) => {
@@ -89,7 +89,7 @@ fn both_change<S: Store>(
     ensures ok { IfOk result (λ change. IsTrue (S.facts file.old.store).honest
         → IsChange file.old.saved file.old.updated block.0 change) }
 {
-    file.validity();
+    file.reveal_invariant();
     let former = file.read_saved(block)?;
     let image = file.read_block(block)?;
     let same = is_same(former.as_slice(), image.as_slice());
@@ -107,7 +107,7 @@ fn new_change<S: Store>(file: &mut StoredDocuments<S>, block: VmHandle) -> Resul
     ensures ok { IfOk result (λ change. IsTrue (S.facts file.old.store).honest
         → IsChange file.old.saved file.old.updated block.0 change) }
 {
-    file.validity();
+    file.reveal_invariant();
     match file.entry(block) {
         None => Ok(Change::Free),
         Some(place) => {

@@ -30,9 +30,9 @@ impl fmt::Display for DumpFault {
 }
 
 impl From<AllocError> for DumpFault {
-    ghost use Rattle.document_dump.specs.Faults.{no_memory};
+    ghost use Rattle.document_dump.specs.Faults.{dump_out_of_memory};
 
-    ghost from_gives = { λ error fault. fault ≡ no_memory };
+    ghost from_gives = { λ error fault. fault ≡ dump_out_of_memory };
 
     fn from(_: AllocError) -> DumpFault {
         DumpFault::Memory

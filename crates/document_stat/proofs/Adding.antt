@@ -10,9 +10,9 @@ use Rattle.std.specs.FinMap.{entries}
 use Rattle.geos_model.specs.Heap.{ChunkMap}
 use Rattle.geos_model.specs.declared.block.Attributes.{Attributes}
 use Rattle.geos_model.specs.declared.command.Body.TheVariants.{Raw, Heap}
-use Rattle.document_stat.specs.Arrays.{is_kind, kind_of}
+use Rattle.document_stat.specs.Arrays.{is_kind, kind_of_array}
 use Rattle.document_stat.specs.Counted.{AddsArray, AddsBlocks, AddsChunks, Blocks, Chunks, IsCount, all_array_items, all_chunk_items, array_item, array_items, block_item, chunk_items, heap_items, if_so, raw_items, tally_of, typed_items}
-use Rattle.document_stat.specs.Tallies.{Adds, AddsIfAny}
+use Rattle.document_stat.specs.Tallies.{AddsItems, AddsIfAny}
 use Rattle.lmem_heap.specs.declared.known.ArrayKind.{ArrayKind}
 use Rattle.document_stat.specs.declared.blocks.BlockStat.{BlockStat}
 use Rattle.document_stat.specs.declared.chunks.ArrayStat.{ArrayStat}
@@ -39,7 +39,7 @@ pub adds_more_chunks : (block : ℕ) (cs ds : Chunks) (a b c : ChunkStat) → Ad
 adds_more_chunks block cs ds a b c first then = record {
   all = adds_same _ _ a.all c.all (sym (map-append _ cs ds)) (adds_more (chunk_items block cs) (chunk_items block ds) a.all b.all c.all first.all then.all);
   arrays = λ kind.
-      adds_same _ _ (tally_of kind a.arrays) (tally_of kind c.arrays) (kept-append (array_item block) (λ x. is_kind kind (kind_of x.1)) cs ds)
+      adds_same _ _ (tally_of kind a.arrays) (tally_of kind c.arrays) (kept-append (array_item block) (λ x. is_kind kind (kind_of_array x.1)) cs ds)
       (adds_more (array_items kind block cs) (array_items kind block ds) (tally_of kind a.arrays) (tally_of kind b.arrays) (tally_of kind c.arrays) (first.arrays kind) (then.arrays kind));
 }
 
@@ -47,10 +47,10 @@ pub adds_same_chunks : (block : ℕ) (cs ds : Chunks) (a b : ChunkStat) → cs �
 adds_same_chunks block cs ds a b same adds = subst (λ (l : Chunks). AddsChunks block l a b) same adds
 
 -- an array or none, of a chunk
-pub adds_chunk_array : (block c : ℕ) (bytes : List ℕ) (a b : ArrayStat) → AddsArray (kind_of bytes) (array_item block (c, bytes)) a b
-    → (kind : ArrayKind) → Adds (array_items kind block ((c, bytes) ∷ [])) (tally_of kind a) (tally_of kind b)
+pub adds_chunk_array : (block c : ℕ) (bytes : List ℕ) (a b : ArrayStat) → AddsArray (kind_of_array bytes) (array_item block (c, bytes)) a b
+    → (kind : ArrayKind) → AddsItems (array_items kind block ((c, bytes) ∷ [])) (tally_of kind a) (tally_of kind b)
 adds_chunk_array block c bytes a b adds kind =
-    adds_same _ _ (tally_of kind a) (tally_of kind b) (kept_one (array_item block) (is_kind kind (kind_of bytes)) (c, bytes)) (adds.each kind)
+    adds_same _ _ (tally_of kind a) (tally_of kind b) (kept_one (array_item block) (is_kind kind (kind_of_array bytes)) (c, bytes)) (adds.each kind)
 
 -- Blocks.
 
@@ -80,25 +80,25 @@ pub counted_more : (xs ys : Blocks) (a b : BlockStat) → IsCount xs a → AddsB
 counted_more xs ys a b is adds = record { first = is.first; none = is.none; adds = adds_more_blocks xs ys is.first a b is.adds adds }
 
 -- a raw block has no chunks
-pub raw_adds : (h : ℕ) (attributes : Attributes) (bytes : List ℕ) (old new : BlockStat) → Adds (block_item (h, record { attributes = attributes; body = Raw bytes }) ∷ []) old.raw new.raw → new.heaps ≡ old.heaps → new.types ≡ old.types → new.chunks ≡ old.chunks
+pub raw_adds : (h : ℕ) (attributes : Attributes) (bytes : List ℕ) (old new : BlockStat) → AddsItems (block_item (h, record { attributes = attributes; body = Raw bytes }) ∷ []) old.raw new.raw → new.heaps ≡ old.heaps → new.types ≡ old.types → new.chunks ≡ old.chunks
     → AddsBlocks ((h, record { attributes = attributes; body = Raw bytes }) ∷ []) old new
 raw_adds h attributes bytes old new raw heaps types chunks = record {
   raw = raw;
-  heaps = subst (λ (t : Tally). Adds [] old.heaps t) (sym heaps) (adds_none old.heaps);
+  heaps = subst (λ (t : Tally). AddsItems [] old.heaps t) (sym heaps) (adds_none old.heaps);
   types = λ t. subst (λ m. AddsIfAny [] (value_at nat_cmp old.types t) (value_at nat_cmp m t)) (sym types) (adds_if_any_none (value_at nat_cmp old.types t));
   chunks =
       adds_same _ _ old.chunks.all new.chunks.all (ap (λ (cs : Chunks). chunk_items h cs ++ []) (sym entries-empty))
-      (subst (λ (s : ChunkStat). Adds [] old.chunks.all s.all) (sym chunks) (adds_none old.chunks.all));
+      (subst (λ (s : ChunkStat). AddsItems [] old.chunks.all s.all) (sym chunks) (adds_none old.chunks.all));
   arrays = λ kind.
       adds_same _ _ (tally_of kind old.chunks.arrays) (tally_of kind new.chunks.arrays) (ap (λ (cs : Chunks). array_items kind h cs ++ []) (sym entries-empty))
-      (subst (λ (s : ChunkStat). Adds [] (tally_of kind old.chunks.arrays) (tally_of kind s.arrays)) (sym chunks) (adds_none (tally_of kind old.chunks.arrays)));
+      (subst (λ (s : ChunkStat). AddsItems [] (tally_of kind old.chunks.arrays) (tally_of kind s.arrays)) (sym chunks) (adds_none (tally_of kind old.chunks.arrays)));
 }
 
-pub heap_adds : (h : ℕ) (attributes : Attributes) (m : ChunkMap) (old new : BlockStat) → new.raw ≡ old.raw → Adds (block_item (h, record { attributes = attributes; body = Heap m }) ∷ []) old.heaps new.heaps
+pub heap_adds : (h : ℕ) (attributes : Attributes) (m : ChunkMap) (old new : BlockStat) → new.raw ≡ old.raw → AddsItems (block_item (h, record { attributes = attributes; body = Heap m }) ∷ []) old.heaps new.heaps
     → ((t : ℕ) → AddsIfAny (if_so (attributes.heap_type == t) (block_item (h, record { attributes = attributes; body = Heap m }))) (value_at nat_cmp old.types t) (value_at nat_cmp new.types t)) → AddsChunks h (entries m) old.chunks new.chunks
     → AddsBlocks ((h, record { attributes = attributes; body = Heap m }) ∷ []) old new
 heap_adds h attributes m old new raw heaps types chunks = record {
-  raw = subst (λ (t : Tally). Adds [] old.raw t) (sym raw) (adds_none old.raw);
+  raw = subst (λ (t : Tally). AddsItems [] old.raw t) (sym raw) (adds_none old.raw);
   heaps = heaps;
   types = λ t.
       adds_if_any_same _ _ (value_at nat_cmp old.types t) (value_at nat_cmp new.types t) (kept_one block_item (attributes.heap_type == t) (h, record { attributes = attributes; body = Heap m })) (types t);

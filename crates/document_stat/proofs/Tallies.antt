@@ -2,7 +2,7 @@
 use Rattle.std.proofs.Common.{◌≡◌, ◌+◌, ◌*◌, ◌<◌, ◌≤◌, min, ℕ, List, [], ◌∷◌, ◌++◌, All, Option, Some, None, length, refl, sym, ap, subst, ◌∙◌, arith, append_assoc, append-nil, length-append}
 use Rattle.std.proofs.lemmas.List.Elements.{All-nil, All-push, All-append, All-weaker, All-cons}
 use Rattle.std.proofs.lemmas.List.Sums.{sum_by_push}
-use Rattle.document_stat.specs.Tallies.{Adds, AddsIfAny, IsLargest, IsTally, IsTallyIfAny, most_items}
+use Rattle.document_stat.specs.Tallies.{AddsItems, AddsIfAny, IsLargest, IsTally, IsTallyIfAny, most_items}
 use Rattle.document_stat.specs.declared.tally.Item.{Item}
 use Rattle.document_stat.specs.declared.tally.Tally.{Tally}
 
@@ -37,10 +37,10 @@ tally_with items x old new few is small bounded count sum largest =
 
 -- Steps joined.
 
-pub adds_none : (t : Tally) → Adds [] t t
+pub adds_none : (t : Tally) → AddsItems [] t t
 adds_none t = record { tally = λ done few is. subst (λ (l : List Item). IsTally l t) (sym (append-nil done)) is }
 
-pub adds_more : (xs ys : List Item) (a b c : Tally) → Adds xs a b → Adds ys b c → Adds (xs ++ ys) a c
+pub adds_more : (xs ys : List Item) (a b c : Tally) → AddsItems xs a b → AddsItems ys b c → AddsItems (xs ++ ys) a c
 adds_more xs ys a b c first then = record {
   tally = λ done few is.
       let both = length-append xs ys in
@@ -48,8 +48,8 @@ adds_more xs ys a b c first then = record {
       subst (λ (l : List Item). IsTally l c) (append_assoc done xs ys) (then.tally (done ++ xs) (omega (arith, few, both, more)) (first.tally done (omega (arith, few, both)) is));
 }
 
-pub adds_same : (xs ys : List Item) (a b : Tally) → xs ≡ ys → Adds xs a b → Adds ys a b
-adds_same xs ys a b same adds = subst (λ (l : List Item). Adds l a b) same adds
+pub adds_same : (xs ys : List Item) (a b : Tally) → xs ≡ ys → AddsItems xs a b → AddsItems ys a b
+adds_same xs ys a b same adds = subst (λ (l : List Item). AddsItems l a b) same adds
 
 pub adds_if_any_none : (t : Option Tally) → AddsIfAny [] t t
 adds_if_any_none t = record { tally = λ done few is. subst (λ (l : List Item). IsTallyIfAny l t) (sym (append-nil done)) is }
@@ -66,10 +66,10 @@ pub adds_if_any_same : (xs ys : List Item) (a b : Option Tally) → xs ≡ ys �
 adds_if_any_same xs ys a b same adds = subst (λ (l : List Item). AddsIfAny l a b) same adds
 
 -- one that is counted where there was a tally, and where there was none
-pub added_to_some : (x : Item) (a b : Tally) → Adds (x ∷ []) a b → AddsIfAny (x ∷ []) (Some a) (Some b)
+pub added_to_some : (x : Item) (a b : Tally) → AddsItems (x ∷ []) a b → AddsIfAny (x ∷ []) (Some a) (Some b)
 added_to_some x a b adds = record { tally = λ done few is. (adds.tally done few is.0, omega (arith, length-append done (x ∷ []))) }
 
-pub added_to_none : (x : Item) (a b : Tally) → IsTally [] a → Adds (x ∷ []) a b → AddsIfAny (x ∷ []) None (Some b)
+pub added_to_none : (x : Item) (a b : Tally) → IsTally [] a → AddsItems (x ∷ []) a b → AddsIfAny (x ∷ []) None (Some b)
 added_to_none x a b none adds = record {
   tally = λ done few is.
       (subst (λ (l : List Item). IsTally (l ++ x ∷ []) b) (sym is) (adds.tally [] (omega arith) none), omega (arith, length-append done (x ∷ [])));

@@ -18,7 +18,7 @@ use Rattle.geos_model.specs.declared.command.Body.TheVariants.{Raw, Heap}
 use Rattle.geos_model.specs.declared.file.Entry.{Entry}
 use Rattle.geos_model.proofs.FileDocuments.{if_typed-some}
 use Rattle.geos_model.proofs.Files.{body_of-some, entry-low, is_entry-parts}
-use Rattle.document_stat.specs.Arrays.{is_kind, kind_of}
+use Rattle.document_stat.specs.Arrays.{is_kind, kind_of_array}
 use Rattle.document_stat.specs.Counted.{Blocks, IsBlockStat, IsCount, all_array_items, all_chunk_items, array_item, array_items, block_item, chunk_item, chunk_items, chunks_of_block, heap_items, raw_items, typed_items}
 use Rattle.document_stat.specs.Tallies.{most_items}
 use Rattle.lmem_heap.specs.declared.known.ArrayKind.{ArrayKind}
@@ -141,7 +141,7 @@ few_chunk_items b valid =
 
 few_array_items : (kind : ArrayKind) (b : ℕ × Block) → is_valid_body b.1.body ≡ true → length (array_items kind b.0 (chunks_of_block b)) ≤ 32752
 few_array_items kind b valid =
-    let kept = few_kept (array_item b.0) (λ c. is_kind kind (kind_of c.1)) (chunks_of_block b) in
+    let kept = few_kept (array_item b.0) (λ c. is_kind kind (kind_of_array c.1)) (chunks_of_block b) in
     let few = few_of_block b valid in
     omega (arith, kept, few)
 

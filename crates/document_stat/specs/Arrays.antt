@@ -8,8 +8,8 @@ use Rattle.lmem_heap.specs.declared.known.ArrayKind.{ArrayKind}
 use Rattle.lmem_heap.specs.declared.known.ArrayKind.TheVariants as kinds
 
 -- every element array and every name array is a chunk array too, and none is both
-abbrev pub kind_of : List ℕ → Option ArrayKind
-kind_of bytes =
+abbrev pub kind_of_array : List ℕ → Option ArrayKind
+kind_of_array bytes =
     if is_some (name_array_of bytes) then Some kinds.Name
     else if is_some (element_array_of bytes) then Some kinds.Element
     else if is_some (array_of bytes) then Some kinds.Chunk
@@ -22,5 +22,5 @@ is_kind kinds.Name (Some kinds.Name) = true
 is_kind kind other = false
 
 -- how many elements they have, free ones too
-abbrev pub elements_of : List ℕ → ℕ
-elements_of bytes = option_map_or (λ a. length a.elements) (array_of bytes) 0
+abbrev pub element_count : List ℕ → ℕ
+element_count bytes = option_map_or (λ a. length a.elements) (array_of bytes) 0

@@ -8,8 +8,8 @@ use Rattle.geos_model.specs.Heap.{capacity, need}
 use Rattle.geos_model.specs.Document.{Block, is_heap_body, chunks_of_body}
 use Rattle.geos_model.specs.declared.command.Body.{Body}
 use Rattle.geos_model.specs.declared.command.Body.TheVariants.{Raw, Heap}
-use Rattle.document_stat.specs.Arrays.{elements_of, is_kind, kind_of}
-use Rattle.document_stat.specs.Tallies.{Adds, AddsIfAny, IsTally, IsTallyIfAny}
+use Rattle.document_stat.specs.Arrays.{element_count, is_kind, kind_of_array}
+use Rattle.document_stat.specs.Tallies.{AddsItems, AddsIfAny, IsTally, IsTallyIfAny}
 use Rattle.lmem_heap.specs.declared.known.ArrayKind.{ArrayKind}
 use Rattle.lmem_heap.specs.declared.known.ArrayKind.TheVariants as kinds
 use Rattle.document_stat.specs.declared.blocks.BlockStat.{BlockStat}
@@ -27,12 +27,12 @@ abbrev pub Chunks : Type 0
 Chunks = List (ℕ × List ℕ)
 
 -- the bytes of a raw block, and those that a heap needs
-abbrev pub size_of : Body → ℕ
-size_of (Raw bytes) = length bytes
-size_of (Heap m) = need m
+abbrev pub body_size : Body → ℕ
+body_size (Raw bytes) = length bytes
+body_size (Heap m) = need m
 
 abbrev pub block_item : ℕ × Block → Item
-block_item b = record { subject = subjects.Block (record { 0 = b.0 }); size = size_of b.1.body }
+block_item b = record { subject = subjects.Block (record { 0 = b.0 }); size = body_size b.1.body }
 
 abbrev pub raw_items : Blocks → List Item
 raw_items bs = map block_item (filter (λ b. not (is_heap_body b.1.body)) bs)
@@ -51,13 +51,13 @@ chunk_item block c = record { subject = subjects.Chunk (record { 0 = block }) (r
 
 abbrev pub array_item : ℕ → ℕ × List ℕ → Item
 array_item block c =
-    record { subject = subjects.Chunk (record { 0 = block }) (record { 0 = c.0 }); size = elements_of c.1 }
+    record { subject = subjects.Chunk (record { 0 = block }) (record { 0 = c.0 }); size = element_count c.1 }
 
 abbrev pub chunk_items : ℕ → Chunks → List Item
 chunk_items block cs = map (chunk_item block) cs
 
 abbrev pub array_items : ArrayKind → ℕ → Chunks → List Item
-array_items kind block cs = map (array_item block) (filter (λ c. is_kind kind (kind_of c.1)) cs)
+array_items kind block cs = map (array_item block) (filter (λ c. is_kind kind (kind_of_array c.1)) cs)
 
 -- of all heaps, by rising handles
 abbrev pub chunks_of_block : ℕ × Block → Chunks
@@ -100,22 +100,22 @@ if_so b item = if b then item ∷ [] else []
 
 -- an array of this kind is counted behind others, or none
 pub record AddsArray (kind : Option ArrayKind) (item : Item) (old new : ArrayStat) : Type 0 where
-  pub each : (k : ArrayKind) → Adds (if_so (is_kind k kind) item) (tally_of k old) (tally_of k new)
+  pub each : (k : ArrayKind) → AddsItems (if_so (is_kind k kind) item) (tally_of k old) (tally_of k new)
 
 -- these chunks of a block are
 pub record AddsChunks (block : ℕ) (cs : Chunks) (old new : ChunkStat) : Type 0 where
-  pub all : Adds (chunk_items block cs) old.all new.all
+  pub all : AddsItems (chunk_items block cs) old.all new.all
   pub arrays : (kind : ArrayKind)
-      → Adds (array_items kind block cs) (tally_of kind old.arrays) (tally_of kind new.arrays)
+      → AddsItems (array_items kind block cs) (tally_of kind old.arrays) (tally_of kind new.arrays)
 
 -- these blocks are
 pub record AddsBlocks (bs : Blocks) (old new : BlockStat) : Type 0 where
-  pub raw : Adds (raw_items bs) old.raw new.raw
-  pub heaps : Adds (heap_items bs) old.heaps new.heaps
+  pub raw : AddsItems (raw_items bs) old.raw new.raw
+  pub heaps : AddsItems (heap_items bs) old.heaps new.heaps
   pub types : (t : ℕ) → AddsIfAny (typed_items t bs) (get nat_cmp old.types t) (get nat_cmp new.types t)
-  pub chunks : Adds (all_chunk_items bs) old.chunks.all new.chunks.all
+  pub chunks : AddsItems (all_chunk_items bs) old.chunks.all new.chunks.all
   pub arrays : (kind : ArrayKind)
-      → Adds (all_array_items kind bs) (tally_of kind old.chunks.arrays) (tally_of kind new.chunks.arrays)
+      → AddsItems (all_array_items kind bs) (tally_of kind old.chunks.arrays) (tally_of kind new.chunks.arrays)
 
 -- no block was counted before them
 pub record IsCount (bs : Blocks) (s : BlockStat) : Type 0 where

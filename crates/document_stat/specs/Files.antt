@@ -6,7 +6,7 @@ use Rattle.geos_model.specs.Document.{Document}
 use Rattle.geos_model.specs.File.{counting_slot, directory_of, document_at, open_slot, pages_of, stands}
 use Rattle.geos_model.specs.declared.fault.Fault.{Fault}
 use Rattle.geos_model.specs.declared.file.Slot.{Slot}
-use Rattle.vm_format.specs.Listed.{shown}
+use Rattle.vm_format.specs.Listed.{as_directory}
 use Rattle.vm_format.specs.Reading.{IsResourceFault}
 use Rattle.vm_format.specs.Slots.{header_verdict}
 use Rattle.file_report.specs.Pages.{AreFreePages, file_usages, slot_usages}
@@ -26,12 +26,12 @@ pub record IsChosen (file : List ℕ) (s : Slot) : Type 0 where
 
 pub record IsCountingSlot (file : List ℕ) (c : CountingSlot) : Type 0 where
   pub chosen : IsChosen file c.slot
-  pub updated : directory_of c.slot.version file c.slot.working ≡ Some (shown c.updated)
-  pub saved : directory_of c.slot.version file c.slot.saved ≡ Some (shown c.saved)
+  pub updated : directory_of c.slot.version file c.slot.working ≡ Some (as_directory c.updated)
+  pub saved : directory_of c.slot.version file c.slot.saved ≡ Some (as_directory c.saved)
 
 -- what it leads to
 abbrev pub counting_usages : CountingSlot → List Usage
-counting_usages c = slot_usages c.slot (Some (shown c.updated)) (Some (shown c.saved))
+counting_usages c = slot_usages c.slot (Some (as_directory c.updated)) (Some (as_directory c.saved))
 
 -- lack of memory, a store that failed, or what an opening of the file answers
 abbrev pub IsRefusal : StoreFacts → Fault → Type 0

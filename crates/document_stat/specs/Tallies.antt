@@ -25,7 +25,7 @@ abbrev pub most_items : ℕ
 most_items = 4294967296
 
 -- these items are counted behind others
-pub record Adds (items : List Item) (old new : Tally) : Type 0 where
+pub record AddsItems (items : List Item) (old new : Tally) : Type 0 where
   pub tally : (done : List Item) → length done + length items ≤ most_items → IsTally done old
       → IsTally (done ++ items) new
 

@@ -112,7 +112,7 @@ impl BlockStat {
             (AddsBlocks ((block.0, record { attributes = attributes; body = image.now }) ∷ []) self.old self.new) }
         ensures err { IfErr result (λ fault. fault ≡ Fault.Memory) }
     {
-        image.validity();
+        image.reveal_invariant();
         let bytes = image.as_slice();
         if !image.is_heap() {
             self.add_raw(block, (bytes.len() - 1) as u32);

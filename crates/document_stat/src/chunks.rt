@@ -2,7 +2,7 @@
 ghost use Rattle.std.specs.Prelude.{◌≡◌, ◌≤◌, ◌<◌, true, [], ◌∷◌, length};
 ghost use Rattle.std.specs.FinMap.{entries, get, keys};
 ghost use Rattle.geos_model.specs.Heap.{handle_of, is_heap_map, most_chunks, table_len};
-ghost use Rattle.document_stat.specs.Arrays.{elements_of, kind_of};
+ghost use Rattle.document_stat.specs.Arrays.{element_count, kind_of_array};
 ghost use Rattle.document_stat.specs.Counted.{AddsArray, AddsChunks, chunks_under, tally_of};
 ghost use Rattle.document_stat.specs.Tallies.{IsTally};
 ghost use Rattle.lmem_heap.specs.declared.known.ArrayKind.{ArrayKind};
@@ -59,7 +59,7 @@ impl ArrayStat {
 
     // With the array that a chunk's bytes read as, if any.
     fn with_bytes(self, subject: Subject, bytes: &[u8]) -> ArrayStat
-        ensures { AddsArray (kind_of bytes.now) (record { subject = subject; size = elements_of bytes.now })
+        ensures { AddsArray (kind_of_array bytes.now) (record { subject = subject; size = element_count bytes.now })
             self result }
     {
         match read_array(bytes) {

@@ -2,7 +2,7 @@
 ghost use Rattle.std.specs.Prelude.{◌≡◌, ℕ, true, IsTrue, IfOk, IfErr, IsErrOf, Some, None};
 ghost use Rattle.geos_model.specs.Document.{Document};
 ghost use Rattle.geos_model.specs.File.{document_of, is_directory};
-ghost use Rattle.vm_format.specs.Listed.{shown};
+ghost use Rattle.vm_format.specs.Listed.{as_directory};
 ghost use Rattle.vm_store.specs.Facts.{FailedSince};
 ghost use Rattle.vm_format.specs.Reading.{IsReadRefusal, OnlyReadsStore};
 ghost use Rattle.document_stat.specs.Files.{IsCountingSlot, IsDocumentStat, IsFileStat, IsRefusal, IsSavedStat};
@@ -47,11 +47,11 @@ fn count_document<S: Store>(
 ) -> Result<DocumentStat, Fault>
     ensures looks { OnlyReadsStore (S.facts store.old) (S.facts store.new) }
     ensures ok { IfOk result (λ stat. IsTrue (S.facts store.old).honest
-        → (version : ℕ) (n : ℕ) → is_directory version n (shown directory.now) ≡ true
-        → (d : Document) × (document_of (S.facts store.old).content (shown directory.now) ≡ Some d)
+        → (version : ℕ) (n : ℕ) → is_directory version n (as_directory directory.now) ≡ true
+        → (d : Document) × (document_of (S.facts store.old).content (as_directory directory.now) ≡ Some d)
         × IsDocumentStat d stat) }
     ensures damaged { IsErrOf result Fault.Damaged → IsTrue (S.facts store.old).honest
-        → document_of (S.facts store.old).content (shown directory.now) ≡ None }
+        → document_of (S.facts store.old).content (as_directory directory.now) ≡ None }
     ensures file { IsErrOf result Fault.File → FailedSince (S.facts store.old) (S.facts store.new) }
     ensures refusals { IfErr result IsReadRefusal }
 {
@@ -74,7 +74,7 @@ fn count_saved<S: Store>(
         → IsCountingSlot (S.facts store.old).content slot.now
         → IsSavedStat (S.facts store.old).content slot.now.slot stat) }
     ensures damaged { IsErrOf result Fault.Damaged → IsTrue (S.facts store.old).honest
-        → document_of (S.facts store.old).content (shown slot.now.saved) ≡ None }
+        → document_of (S.facts store.old).content (as_directory slot.now.saved) ≡ None }
     ensures file { IsErrOf result Fault.File → FailedSince (S.facts store.old) (S.facts store.new) }
     ensures refusals { IfErr result IsReadRefusal }
 {

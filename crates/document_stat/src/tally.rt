@@ -31,7 +31,7 @@ pub struct Tally {
 
 impl Tally {
     ghost use Rattle.std.specs.Prelude.{List, [], ◌∷◌, ◌++◌};
-    ghost use Rattle.document_stat.specs.Tallies.{Adds, IsLargest, IsTally};
+    ghost use Rattle.document_stat.specs.Tallies.{AddsItems, IsLargest, IsTally};
     ghost use Rattle.document_stat.specs.declared.tally.Item.{Item};
 
     /// That of nothing.
@@ -47,7 +47,7 @@ impl Tally {
 
     /// With one more. No document has so many that a number doesn't hold them.
     pub(crate) fn with(self, item: Item) -> Tally
-        ensures { Adds (item ∷ []) self result }
+        ensures { AddsItems (item ∷ []) self result }
     {
         Tally {
             count: self.count.saturating_add(1),

@@ -4,13 +4,13 @@ use Rattle.geos_model.specs.declared.fault.Fault.{Fault}
 use Rattle.geos_model.specs.declared.fault.Fault.TheVariants as faults
 use Rattle.vm_store.specs.Facts.{StoreFacts, FailedSince}
 use Rattle.vm_file.specs.Calls.{IsResourceFault}
-use Rattle.geos_shell.specs.Streams.{Writes}
+use Rattle.geos_shell.specs.Streams.{WriteCalls}
 use Rattle.file_report.specs.Checked.{IsReport, counting_between}
 use Rattle.file_report.specs.declared.checking.Report.{Report}
 use Rattle.file_report.specs.declared.checking.SlotReport.{SlotReport}
-use Rattle.document_tools.specs.Checks.{ChecksStore, IsCheckText, SendsReport, TellsReport}
+use Rattle.document_tools.specs.Checks.{ChecksStore, IsCheckText, SendsReport, PrintsReport}
 use Rattle.document_tools.specs.Endings.{EndsUnread, IsRefusedFor}
-use Rattle.document_tools.specs.Pages.{TellsCounting}
+use Rattle.document_tools.specs.Pages.{ReportsCounting}
 use Rattle.document_tools.specs.Reports.{report_text}
 use Rattle.document_tools.specs.declared.ending.Ending.{Ending}
 use Rattle.document_tools.specs.declared.ending.Ending.TheVariants as endings
@@ -18,21 +18,21 @@ use Rattle.document_tools.specs.declared.obstacle.Obstacle.TheVariants.{Unread}
 
 -- the lines of a report and those of the pages are its text
 pub text_told : (r : Report) (counting : Option SlotReport) (pages told text : List ℕ) → counting ≡ counting_between r.first r.second
-    → TellsCounting r.file_length counting pages → told ≡ pages → text ≡ report_text r ++ told → IsCheckText r text
+    → ReportsCounting r.file_length counting pages → told ≡ pages → text ≡ report_text r ++ told → IsCheckText r text
 text_told r counting pages told text counts tells same is = record {
   pages = pages;
-  counting = subst (λ (o : Option SlotReport). TellsCounting r.file_length o pages) counts tells;
+  counting = subst (λ (o : Option SlotReport). ReportsCounting r.file_length o pages) counts tells;
   is = subst (λ (l : List ℕ). text ≡ report_text r ++ l) same is;
 }
 
 -- the status of a report that was written is that of its verdict
-pub told_by : {W : Type 0} (writes : Writes W) (r : Report) (from to : W) (ending : Ending) (v : Result (Unit {0}) Fault) → r.verdict ≡ v
-    → MatchResult v (λ _. ending ≡ endings.Done) (λ _. ending ≡ endings.Unsound) → SendsReport writes r from (Ok tt) to → TellsReport writes r from to ending
+pub told_by : {W : Type 0} (writes : WriteCalls W) (r : Report) (from to : W) (ending : Ending) (v : Result (Unit {0}) Fault) → r.verdict ≡ v
+    → MatchResult v (λ _. ending ≡ endings.Done) (λ _. ending ≡ endings.Unsound) → SendsReport writes r from (Ok tt) to → PrintsReport writes r from to ending
 told_by writes r from to ending (Ok u) is ends sends = rw ends (rw is refl, sends)
 told_by writes r from to ending (Err fault) is ends sends = rw ends (rw is refl, sends)
 
-pub checked : {W : Type 0} (writes : Writes W) (file : List ℕ) (old new : StoreFacts) (r : Report) (from to : W) (ending : Ending)
-    → (IsTrue old.honest → IsReport old.content r) → TellsReport writes r from to ending → ChecksStore writes file old new from to ending
+pub checked : {W : Type 0} (writes : WriteCalls W) (file : List ℕ) (old new : StoreFacts) (r : Report) (from to : W) (ending : Ending)
+    → (IsTrue old.honest → IsReport old.content r) → PrintsReport writes r from to ending → ChecksStore writes file old new from to ending
 checked writes file old new r from to endings.Done so told = (r, so, told)
 checked writes file old new r from to endings.Unsound so told = (r, so, told)
 checked writes file old new r from to (endings.Refused line) so told = absurd told
@@ -40,7 +40,7 @@ checked writes file old new r from to endings.Memory so told = told
 checked writes file old new r from to endings.ReadFault so told = absurd told
 checked writes file old new r from to endings.WriteFault so told = (r, so, told)
 
-refused_unread : {W : Type 0} (writes : Writes W) (file : List ℕ) (old new : StoreFacts) (from to : W) (ending : Ending) → FailedSince old new → to ≡ from
+refused_unread : {W : Type 0} (writes : WriteCalls W) (file : List ℕ) (old new : StoreFacts) (from to : W) (ending : Ending) → FailedSince old new → to ≡ from
     → IsRefusedFor file Unread ending → ChecksStore writes file old new from to ending
 refused_unread writes file old new from to endings.Done failed same is = absurd is
 refused_unread writes file old new from to endings.Unsound failed same is = absurd is
@@ -50,7 +50,7 @@ refused_unread writes file old new from to endings.ReadFault failed same is = ab
 refused_unread writes file old new from to endings.WriteFault failed same is = absurd is
 
 -- a reading failed for lack of memory, or since the store failed
-pub unchecked : {W : Type 0} (writes : Writes W) (file : List ℕ) (old new : StoreFacts) (fault : Fault) (from to : W) (ending : Ending)
+pub unchecked : {W : Type 0} (writes : WriteCalls W) (file : List ℕ) (old new : StoreFacts) (fault : Fault) (from to : W) (ending : Ending)
     → IsResourceFault fault → (fault ≡ faults.File → FailedSince old new) → to ≡ from → EndsUnread file fault ending
     → ChecksStore writes file old new from to ending
 unchecked writes file old new fault from to ending (inl e) failed same ends = rw (ends.memory e) same

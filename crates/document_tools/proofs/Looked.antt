@@ -9,7 +9,7 @@ use Rattle.geos_model.specs.declared.fault.Fault.{Fault}
 use Rattle.geos_model.specs.declared.fault.Fault.TheVariants as faults
 use Rattle.vm_store.specs.Facts.{StoreFacts, FailedSince}
 use Rattle.vm_file.specs.Calls.{IsResourceFault}
-use Rattle.geos_shell.specs.Streams.{StopsWriting, Writes}
+use Rattle.geos_shell.specs.Streams.{StopsWriting, WriteCalls}
 use Rattle.vm_file.specs.Opened.{OnlyReadsStore}
 use Rattle.vm_file.specs.StoredDocuments.{StoredState}
 use Rattle.vm_format.proofs.LooksLemmas.{raised_later, still}
@@ -30,10 +30,10 @@ use Rattle.document_tools.specs.Endings.{IsRefusedFor}
 use Rattle.document_tools.specs.Looks.{EndsUnopened}
 use Rattle.document_tools.specs.Maps.{EndsMap, HasMapCause, IsMapEnd, MapsStore, picture_of}
 use Rattle.document_tools.specs.Obstacles.{refusal_line}
-use Rattle.document_tools.specs.Stats.{StatsStore, TellsStat}
+use Rattle.document_tools.specs.Stats.{StatsStore, PrintsStat}
 use Rattle.document_tools.specs.declared.ending.Ending.{Ending}
 use Rattle.document_tools.specs.declared.ending.Ending.TheVariants as endings
-use Rattle.document_commands.specs.declared.requested.Picture.{Picture}
+use Rattle.document_commands.specs.declared.requested.MapFormat.{MapFormat}
 use Rattle.document_tools.specs.declared.obstacle.Obstacle.{Obstacle}
 use Rattle.document_tools.specs.declared.obstacle.Obstacle.TheVariants.{Unopened, Unread}
 use Rattle.document_commands.specs.declared.requested.Form.{Form}
@@ -67,8 +67,8 @@ unlooked_at stood P file old new fault obstacle ending unread unopened memory fa
     refused_or_memory P file obstacle (λ line is. unopened line is (λ honest. opens_so stood old fault ends.0 ends.1 (so honest))) memory ending ends.2
 
 -- what was counted is told, or there is no memory for it, or the write of it failed
-pub stated : {W : Type 0} (writes : Writes W) (file : List ℕ) (form : Form) (old new : StoreFacts) (s : FileStat) (from to : W) (ending : Ending)
-    → (IsTrue old.honest → IsFileStat old.content s) → TellsStat writes form s from to ending → StatsStore writes file form old new from to ending
+pub stated : {W : Type 0} (writes : WriteCalls W) (file : List ℕ) (form : Form) (old new : StoreFacts) (s : FileStat) (from to : W) (ending : Ending)
+    → (IsTrue old.honest → IsFileStat old.content s) → PrintsStat writes form s from to ending → StatsStore writes file form old new from to ending
 stated writes file form old new s from to endings.Done so told = (s, so, told)
 stated writes file form old new s from to endings.Unsound so told = absurd told
 stated writes file form old new s from to (endings.Refused line) so told = absurd told
@@ -101,7 +101,7 @@ map_caused A drawn (Err (map_faults.Unopened fault)) failed cause ends = tt
 map_caused A drawn (Err map_faults.Write) failed cause ends = ∥∥₁_map cause (λ so. so ends)
 
 -- a drawing that is told, or why there is none
-pub mapped_store : {W : Type 0} (contents : W → Option (List ℕ)) (writes : Writes W) (file : List ℕ) (picture : Picture) (old new : StoreFacts) (from to : W) (drawn : Result (Unit {0}) MapFault)
+pub mapped_store : {W : Type 0} (contents : W → Option (List ℕ)) (writes : WriteCalls W) (file : List ℕ) (picture : MapFormat) (old new : StoreFacts) (from to : W) (drawn : Result (Unit {0}) MapFault)
     (ending : Ending)
     → OnOk drawn (IsTrue old.honest → IsDrawn (picture_of picture) old.content (contents from) (contents to)) → (drawn ≡ Err map_faults.File → FailedSince old new) → IfErr drawn (IsMapRefusal old)
     → IfErr drawn (λ fault. HasMapCause fault (∥ StopsWriting writes to ∥₁)) → EndsMap file drawn ending → MapsStore contents writes file picture old new from to ending
@@ -128,7 +128,7 @@ dump_caused A dumped (Err dump_faults.Damaged) failed cause ends = tt
 dump_caused A dumped (Err dump_faults.Write) failed cause ends = ∥∥₁_map cause (λ so. so ends)
 
 -- documents that are open, and their dump, or why there is none
-pub dumped_open : {S W : Type 0} (facts : S → StoreFacts) (contents : W → Option (List ℕ)) (writes : Writes W) (name : List ℕ) (which : Which) (damaged : Obstacle) (from to : StoredState S) (old new : W)
+pub dumped_open : {S W : Type 0} (facts : S → StoreFacts) (contents : W → Option (List ℕ)) (writes : WriteCalls W) (name : List ℕ) (which : Which) (damaged : Obstacle) (from to : StoredState S) (old new : W)
     (dumped : Result (Unit {0}) DumpFault) (ending : Ending)
     → OnOk dumped (IsTrue (facts from.store).honest → Appends (contents old) (contents new) (dump_text which from.updated from.saved))
     → IfErr dumped (IsDumpRefusal (facts from.store) (facts to.store)) → IfErr dumped (λ fault. HasDumpCause fault (∥ StopsWriting writes new ∥₁)) → EndsDump name damaged dumped ending
@@ -142,7 +142,7 @@ dumped_open facts contents writes name which damaged from to old new (Err dump_f
 dumped_open facts contents writes name which damaged from to old new (Err dump_faults.Write) ending text refusal cause ends = rw ends cause
 
 -- a store that was opened, and then dumped
-pub dumped_stood : {S W : Type 0} (facts : S → StoreFacts) (contents : W → Option (List ℕ)) (writes : Writes W) (name : List ℕ) (which : Which) (stood : List ℕ → Result (Document × Document) Fault) (told : Fault → Obstacle)
+pub dumped_stood : {S W : Type 0} (facts : S → StoreFacts) (contents : W → Option (List ℕ)) (writes : WriteCalls W) (name : List ℕ) (which : Which) (stood : List ℕ → Result (Document × Document) Fault) (told : Fault → Obstacle)
     (store : S) (from to : StoredState S) (old new : W) (ending : Ending)
     → OnlyReadsStore (facts store) (facts from.store) → (IsTrue (facts store).honest → stood (facts store).content ≡ Ok (from.updated, from.saved))
     → DumpsOpen facts contents writes name which (told faults.Damaged) from to old new ending

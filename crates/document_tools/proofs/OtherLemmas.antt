@@ -8,7 +8,7 @@ use Rattle.vm_store.specs.Facts.{StoreFacts}
 use Rattle.vm_file.specs.Opened.{OnlyReadsStore}
 use Rattle.vm_format.specs.Slots.{slot_stands}
 use Rattle.vm_format.proofs.LooksLemmas.{held_before, raised_later, same_bytes_then, still}
-use Rattle.geos_shell.specs.Streams.{Writes}
+use Rattle.geos_shell.specs.Streams.{WriteCalls}
 use Rattle.file_report.specs.Checked.{IsReport, counting_between, counting_number}
 use Rattle.file_report.specs.declared.checking.SlotReport.{SlotReport}
 use Rattle.file_report.specs.declared.checking.SlotState.{SlotState}
@@ -31,7 +31,7 @@ failed_before file a b c endings.Memory reads fails = tt
 failed_before file a b c endings.ReadFault reads fails = absurd fails
 failed_before file a b c endings.WriteFault reads fails = absurd fails
 
-slot_before : {W : Type 0} (contents : W → Option (List ℕ)) (writes : Writes W) (file : List ℕ) (slot : ℕ) (a b c : StoreFacts) (old new : W) (ending : Ending) → OnlyReadsStore a b
+slot_before : {W : Type 0} (contents : W → Option (List ℕ)) (writes : WriteCalls W) (file : List ℕ) (slot : ℕ) (a b c : StoreFacts) (old new : W) (ending : Ending) → OnlyReadsStore a b
     → DumpsSlot contents writes file slot b c old new ending → DumpsSlot contents writes file slot a c old new ending
 slot_before contents writes file slot a b c old new endings.Done reads dumps = λ so.
     let d = dumps (still a b reads so) in
@@ -43,7 +43,7 @@ slot_before contents writes file slot a b c old new endings.Memory reads dumps =
 slot_before contents writes file slot a b c old new endings.ReadFault reads dumps = absurd dumps
 slot_before contents writes file slot a b c old new endings.WriteFault reads dumps = dumps
 
-pub other_before : {W : Type 0} (contents : W → Option (List ℕ)) (writes : Writes W) (file : List ℕ) (a b c : StoreFacts) (old new : W) (ending : Ending) → OnlyReadsStore a b
+pub other_before : {W : Type 0} (contents : W → Option (List ℕ)) (writes : WriteCalls W) (file : List ℕ) (a b c : StoreFacts) (old new : W) (ending : Ending) → OnlyReadsStore a b
     → DumpsOther contents writes file b c old new ending → DumpsOther contents writes file a c old new ending
 other_before contents writes file a b c old new ending reads (inl fails) = inl (failed_before file a b c ending reads fails.0, fails.1)
 other_before contents writes file a b c old new ending reads (inr dumps) =

@@ -7,7 +7,7 @@ use Rattle.geos_model.specs.declared.fault.Fault.{Fault}
 use Rattle.vm_store.specs.Facts.{StoreFacts, FailedSince}
 use Rattle.vm_file.specs.Opened.{OnlyReadsStore}
 use Rattle.vm_file.specs.StoredDocuments.{StoredState}
-use Rattle.geos_shell.specs.Streams.{StopsWriting, Writes}
+use Rattle.geos_shell.specs.Streams.{StopsWriting, WriteCalls}
 use Rattle.document_dump.specs.Dumps.{dump_text}
 use Rattle.document_dump.specs.declared.dumping.Which.{Which}
 use Rattle.document_dump.specs.declared.fault.DumpFault.{DumpFault}
@@ -43,7 +43,7 @@ EndsDump file damaged (Err dump_faults.Write) ending = ending ≡ endings.WriteF
 
 -- What comes of the dump of a store, by what its bytes stand for and how a refusal of that is told: the script of these
 -- documents is written, or it isn't, or not whole. A write fault is told only where the last write failed.
-abbrev pub DumpsStood : {W : Type 0} → (W → Option (List ℕ)) → Writes W → List ℕ → Which
+abbrev pub DumpsStood : {W : Type 0} → (W → Option (List ℕ)) → WriteCalls W → List ℕ → Which
     → (List ℕ → Result (Document × Document) Fault) → (Fault → Obstacle) → StoreFacts → StoreFacts → W → W → Ending
     → Type 0
 DumpsStood contents writes file which stood told from to old new endings.Done =
@@ -57,13 +57,14 @@ DumpsStood contents writes file which stood told from to old new endings.WriteFa
 DumpsStood contents writes file which stood told from to old new ending = ⊥
 
 -- of what the slot leads to that counts
-abbrev pub DumpsStore : {W : Type 0} → (W → Option (List ℕ)) → Writes W → List ℕ → Which → StoreFacts → StoreFacts → W
+abbrev pub DumpsStore : {W : Type 0} → (W → Option (List ℕ)) → WriteCalls W → List ℕ → Which → StoreFacts → StoreFacts
+    → W
     → W → Ending → Type 0
 DumpsStore contents writes file which from to old new ending =
     DumpsStood contents writes file which stands Unopened from to old new ending
 
 -- The same of documents that are open. They are told as damaged only where the store isn't honest.
-abbrev pub DumpsOpen : {S W : Type 0} → (S → StoreFacts) → (W → Option (List ℕ)) → Writes W → List ℕ → Which
+abbrev pub DumpsOpen : {S W : Type 0} → (S → StoreFacts) → (W → Option (List ℕ)) → WriteCalls W → List ℕ → Which
     → Obstacle → StoredState S → StoredState S → W → W → Ending → Type 0
 DumpsOpen facts contents writes name which damaged from to old new endings.Done =
     IsTrue (facts from.store).honest
@@ -76,7 +77,7 @@ DumpsOpen facts contents writes name which damaged from to old new endings.Write
 DumpsOpen facts contents writes name which damaged from to old new ending = ⊥
 
 -- What comes of it for the file of a name: it is opened to be read alone, and dumped, and nothing is written to it.
-abbrev pub DumpsFile : {V S W : Type 0} → Views V S → (S → StoreFacts) → (W → Option (List ℕ)) → Writes W → List ℕ
+abbrev pub DumpsFile : {V S W : Type 0} → Views V S → (S → StoreFacts) → (W → Option (List ℕ)) → WriteCalls W → List ℕ
     → Which → V → V → W → W → Ending → Type 0
 DumpsFile {V} {S} views facts contents writes file which old new from to ending =
     LooksAt views file old new (λ cause. IsRefusedFor file (Unviewed cause) ending × (to ≡ from))

@@ -2,7 +2,7 @@
 use Rattle.std.specs.Prelude.{◌≡◌, ◌≢◌, ℕ, List, codes, Option, Some, None, Result, ⊤}
 use Rattle.geos_model.specs.declared.fault.Fault.{Fault}
 use Rattle.geos_model.specs.declared.fault.Fault.TheVariants.{Memory}
-use Rattle.geos_shell.specs.Streams.{Writes}
+use Rattle.geos_shell.specs.Streams.{WriteCalls}
 use Rattle.geos_shell.specs.declared.streams.WriteFault.{WriteFault}
 use Rattle.document_tools.specs.Obstacles.{refusal_line}
 use Rattle.document_tools.specs.declared.ending.Ending.{Ending}
@@ -11,27 +11,27 @@ use Rattle.document_tools.specs.declared.obstacle.Obstacle.{Obstacle}
 use Rattle.document_tools.specs.declared.obstacle.Obstacle.TheVariants.{Unread}
 
 -- the exit status
-abbrev pub status_of : Ending → ℕ
-status_of endings.Done = 0
-status_of endings.Unsound = 1
-status_of (endings.Refused line) = 1
-status_of endings.Memory = 1
-status_of endings.ReadFault = 1
-status_of endings.WriteFault = 1
+abbrev pub ending_status : Ending → ℕ
+ending_status endings.Done = 0
+ending_status endings.Unsound = 1
+ending_status (endings.Refused line) = 1
+ending_status endings.Memory = 1
+ending_status endings.ReadFault = 1
+ending_status endings.WriteFault = 1
 
 -- the line for standard error, if there is one
-abbrev pub told_line : Ending → Option (List ℕ)
-told_line endings.Done = None
-told_line endings.Unsound = None
-told_line (endings.Refused line) = Some line
-told_line endings.Memory = Some (codes "geosdoc: memory\n")
-told_line endings.ReadFault = Some (codes "geosdoc: read fault\n")
-told_line endings.WriteFault = Some (codes "geosdoc: write fault\n")
+abbrev pub error_line : Ending → Option (List ℕ)
+error_line endings.Done = None
+error_line endings.Unsound = None
+error_line (endings.Refused line) = Some line
+error_line endings.Memory = Some (codes "geosdoc: memory\n")
+error_line endings.ReadFault = Some (codes "geosdoc: read fault\n")
+error_line endings.WriteFault = Some (codes "geosdoc: write fault\n")
 
 -- a line is written, whatever comes of the write, or nothing where there is no line
-abbrev pub TellsLine : {E : Type 0} → Writes E → Option (List ℕ) → E → E → Type 0
-TellsLine writes None old new = new ≡ old
-TellsLine writes (Some line) old new = (result : Result (Unit {0}) WriteFault) × writes old line result new
+abbrev pub PrintsLine : {E : Type 0} → WriteCalls E → Option (List ℕ) → E → E → Type 0
+PrintsLine writes None old new = new ≡ old
+PrintsLine writes (Some line) old new = (result : Result (Unit {0}) WriteFault) × writes old line result new
 
 -- it is told that this stands against it, or that there is no memory for the line
 abbrev pub IsRefusedFor : List ℕ → Obstacle → Ending → Type 0

@@ -4,7 +4,7 @@ use Rattle.geos_model.specs.File.{stands}
 use Rattle.geos_model.specs.declared.fault.Fault.{Fault}
 use Rattle.geos_model.specs.declared.fault.Fault.TheVariants.{File, Memory}
 use Rattle.vm_store.specs.Facts.{StoreFacts, FailedSince}
-use Rattle.geos_shell.specs.Streams.{Writes}
+use Rattle.geos_shell.specs.Streams.{WriteCalls}
 use Rattle.geos_shell.specs.declared.streams.WriteFault.{WriteFault}
 use Rattle.document_tools.specs.Endings.{IsRefusedFor}
 use Rattle.document_tools.specs.Obstacles.{refusal_line}
@@ -30,7 +30,7 @@ IsUnlookedAt file from to line =
     × (IsTrue from.honest → stands from.content ≡ Err fault))
 
 -- a text was written in one write, or that failed
-abbrev pub SendsText : {W : Type 0} → Writes W → List ℕ → W → W → Ending → Type 0
+abbrev pub SendsText : {W : Type 0} → WriteCalls W → List ℕ → W → W → Ending → Type 0
 SendsText writes text old new endings.Done = writes old text (Ok tt) new
 SendsText writes text old new endings.WriteFault = (fault : WriteFault) × writes old text (Err fault) new
 SendsText writes text old new ending = ⊥

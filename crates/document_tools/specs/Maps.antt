@@ -2,8 +2,8 @@
 use Rattle.std.specs.Prelude.{◌≡◌, ℕ, List, Bool, true, false, IsTrue, Option, Result, Ok, Err, ⊤}
 use Rattle.vm_store.specs.Facts.{StoreFacts}
 use Rattle.vm_file.specs.Opened.{OnlyReadsStore}
-use Rattle.geos_shell.specs.Streams.{StopsWriting, Writes}
-use Rattle.file_map.specs.Drawn.{IsDrawn, svg_of, text_of}
+use Rattle.geos_shell.specs.Streams.{StopsWriting, WriteCalls}
+use Rattle.file_map.specs.Drawn.{IsDrawn, svg_of, map_text}
 use Rattle.file_map.specs.declared.fault.MapFault.{MapFault}
 use Rattle.file_map.specs.declared.fault.MapFault.TheVariants as map_faults
 use Rattle.file_map.specs.declared.part.Part.{Part}
@@ -12,12 +12,12 @@ use Rattle.document_tools.specs.Looks.{IsUnlookedAt}
 use Rattle.document_tools.specs.Views.{LooksAt, Views}
 use Rattle.document_tools.specs.declared.ending.Ending.{Ending}
 use Rattle.document_tools.specs.declared.ending.Ending.TheVariants as endings
-use Rattle.document_commands.specs.declared.requested.Picture.{Picture}
-use Rattle.document_commands.specs.declared.requested.Picture.TheVariants.{Text, Svg}
+use Rattle.document_commands.specs.declared.requested.MapFormat.{MapFormat}
+use Rattle.document_commands.specs.declared.requested.MapFormat.TheVariants.{Text, Svg}
 use Rattle.document_tools.specs.declared.obstacle.Obstacle.TheVariants.{Unopened, Unread, Unviewed}
 
-abbrev pub picture_of : Picture → List ℕ → List Part → ℕ → List ℕ
-picture_of Text = text_of
+abbrev pub picture_of : MapFormat → List ℕ → List Part → ℕ → List ℕ
+picture_of Text = map_text
 picture_of Svg = svg_of
 
 -- How a drawing ends whose pieces were gathered, by how the drawing itself did and whether the last write failed: well
@@ -43,7 +43,8 @@ EndsMap file (Err map_faults.Write) ending = ending ≡ endings.WriteFault
 
 -- What comes of the drawing of a store: the picture is written, or it isn't, or not whole. A write fault is told only
 -- where the last write failed.
-abbrev pub MapsStore : {W : Type 0} → (W → Option (List ℕ)) → Writes W → List ℕ → Picture → StoreFacts → StoreFacts → W
+abbrev pub MapsStore : {W : Type 0} → (W → Option (List ℕ)) → WriteCalls W → List ℕ → MapFormat → StoreFacts
+    → StoreFacts → W
     → W → Ending → Type 0
 MapsStore contents writes file picture from to old new endings.Done =
     IsTrue from.honest → IsDrawn (picture_of picture) from.content (contents old) (contents new)
@@ -53,8 +54,8 @@ MapsStore contents writes file picture from to old new endings.WriteFault = ∥ 
 MapsStore contents writes file picture from to old new ending = ⊥
 
 -- What comes of it for the file of a name: it is opened to be read alone, and drawn, and nothing is written to it.
-abbrev pub MapsFile : {V S W : Type 0} → Views V S → (S → StoreFacts) → (W → Option (List ℕ)) → Writes W → List ℕ
-    → Picture → V → V → W → W → Ending → Type 0
+abbrev pub MapsFile : {V S W : Type 0} → Views V S → (S → StoreFacts) → (W → Option (List ℕ)) → WriteCalls W → List ℕ
+    → MapFormat → V → V → W → W → Ending → Type 0
 MapsFile {V} {S} views facts contents writes file picture old new from to ending =
     LooksAt views file old new (λ cause. IsRefusedFor file (Unviewed cause) ending × (to ≡ from))
     (λ store. (left : S) × OnlyReadsStore (facts store) (facts left)

@@ -3,7 +3,7 @@ use Rattle.std.specs.Prelude.{◌≡◌, ◌==◌, ◌⊎◌, ℕ, List, IsTrue,
 use Rattle.vm_store.specs.Facts.{StoreFacts}
 use Rattle.vm_format.specs.Slots.{number_of, slot_stands}
 use Rattle.vm_file.specs.Opened.{OnlyReadsStore}
-use Rattle.geos_shell.specs.Streams.{Writes}
+use Rattle.geos_shell.specs.Streams.{WriteCalls}
 use Rattle.file_report.specs.Checked.{IsReport, counting_number}
 use Rattle.file_report.specs.declared.checking.Report.{Report}
 use Rattle.document_dump.specs.declared.dumping.Which.TheVariants.{Both}
@@ -20,7 +20,8 @@ abbrev pub other_slot : ℕ → ℕ
 other_slot slot = number_of (slot == 0)
 
 -- what comes of the dump of what a slot leads to
-abbrev pub DumpsSlot : {W : Type 0} → (W → Option (List ℕ)) → Writes W → List ℕ → ℕ → StoreFacts → StoreFacts → W → W
+abbrev pub DumpsSlot : {W : Type 0} → (W → Option (List ℕ)) → WriteCalls W → List ℕ → ℕ → StoreFacts → StoreFacts → W
+    → W
     → Ending → Type 0
 DumpsSlot contents writes file slot from to old new ending =
     DumpsStood contents writes file Both (λ bytes. slot_stands bytes slot) NoOther from to old new ending
@@ -33,7 +34,7 @@ FailsLook file from to ending = ⊥
 
 -- What comes of the dump of a store's other slot: the file can't be read, or opens for no slot's sake, and that is
 -- told; or what the slot leads to is dumped that doesn't count.
-abbrev pub DumpsOther : {W : Type 0} → (W → Option (List ℕ)) → Writes W → List ℕ → StoreFacts → StoreFacts → W → W
+abbrev pub DumpsOther : {W : Type 0} → (W → Option (List ℕ)) → WriteCalls W → List ℕ → StoreFacts → StoreFacts → W → W
     → Ending → Type 0
 DumpsOther contents writes file from to old new ending =
     (FailsLook file from to ending × (new ≡ old))
@@ -42,7 +43,7 @@ DumpsOther contents writes file from to old new ending =
     × DumpsSlot contents writes file (other_slot slot) from to old new ending)
 
 -- What comes of it for the file of a name: it is opened to be read alone, and dumped, and nothing is written to it.
-abbrev pub DumpsOtherFile : {V S W : Type 0} → Views V S → (S → StoreFacts) → (W → Option (List ℕ)) → Writes W
+abbrev pub DumpsOtherFile : {V S W : Type 0} → Views V S → (S → StoreFacts) → (W → Option (List ℕ)) → WriteCalls W
     → List ℕ → V → V → W → W → Ending → Type 0
 DumpsOtherFile {V} {S} views facts contents writes file old new from to ending =
     LooksAt views file old new (λ cause. IsRefusedFor file (Unviewed cause) ending × (to ≡ from))

@@ -26,13 +26,13 @@ stands_text (Ok v) = codes "its documents stand\n"
 stands_text (Err fault) = codes "its documents don't stand\n"
 
 -- words, and a number behind them
-abbrev pub numbered : List ℕ → ℕ → List ℕ
-numbered words n = words ++ decimal n
+abbrev pub words_and_number : List ℕ → ℕ → List ℕ
+words_and_number words n = words ++ decimal n
 
 abbrev pub open_line : ℕ → SlotReport → List ℕ
 open_line number r =
-    slot_start number ++ numbered (codes "open, version ") r.slot.version
-    ++ numbered (codes ", sequence ") r.slot.sequence ++ codes ": " ++ stands_text r.verdict
+    slot_start number ++ words_and_number (codes "open, version ") r.slot.version
+    ++ words_and_number (codes ", sequence ") r.slot.sequence ++ codes ": " ++ stands_text r.verdict
 
 abbrev pub finding_line : ℕ → Finding → List ℕ
 finding_line number f = slot_start number ++ finding_text f ++ codes "\n"

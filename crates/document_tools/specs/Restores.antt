@@ -11,7 +11,7 @@ use Rattle.geos_replies.specs.Holdings.{Holding, holding}
 use Rattle.geos_shell.specs.Program.{IsCreated, IsNotCreated}
 use Rattle.geos_shell.specs.RunFaults.{HasCause}
 use Rattle.geos_shell.specs.Runs.{RunsTo}
-use Rattle.geos_shell.specs.declared.runner.Manner.{Manner}
+use Rattle.geos_shell.specs.declared.runner.ScriptOptions.{ScriptOptions}
 use Rattle.geos_shell.specs.declared.runner.RunFault.{RunFault}
 use Rattle.geos_shell.specs.declared.runner.RunFault.TheVariants as run_faults
 use Rattle.document_tools.specs.Endings.{IsRefusedFor}
@@ -24,11 +24,12 @@ use Rattle.document_tools.specs.declared.obstacle.Obstacle.TheVariants.{Unmade}
 -- ---- how the file is made
 
 -- a file of a name is made where nothing of that name is, or it isn't
-abbrev pub Makes : Type 0 → Type 1
-Makes M = M → List ℕ → Result (Unit {0}) MakeFault → M → Type 0
+abbrev pub MakeCalls : Type 0 → Type 1
+MakeCalls M = M → List ℕ → Result (Unit {0}) MakeFault → M → Type 0
 
 -- A file of the name was made where none was, then it was opened, and it is empty.
-pub record MakesFile {F S M : Type 0} (calls : Opener F S) (facts : S → StoreFacts) (makes : Makes M) (name : List ℕ)
+pub record MakesFile {F S M : Type 0} (calls : Opener F S) (facts : S → StoreFacts) (makes : MakeCalls M)
+    (name : List ℕ)
     (old : F) (from : M) (store : S) (new : F) (to : M) : Type 0 where
   pub guarded : F
   pub guards : calls.guards old (Ok tt) guarded
@@ -46,7 +47,8 @@ IsUnusable {F} {S} calls facts name old new =
     × OnlyReadsStore (facts first) (facts left) × calls.closes opened left new)
 
 -- No file is made for this fault, and none is opened; or what was made can't be used.
-abbrev pub MakesNone : {F S M : Type 0} → Opener F S → (S → StoreFacts) → Makes M → List ℕ → F → M → F → M → MakeFault
+abbrev pub MakesNone : {F S M : Type 0} → Opener F S → (S → StoreFacts) → MakeCalls M → List ℕ → F → M → F → M
+    → MakeFault
     → Type 0
 MakesNone {F} calls facts makes name old from new to fault =
     ((cause : StoreFault) × calls.guards old (Err cause) new × (to ≡ from) × (fault ≡ Failed))
@@ -57,8 +59,8 @@ MakesNone {F} calls facts makes name old from new to fault =
 -- ---- what is done with it
 
 -- the first refusal ends the script, and its lines aren't echoed
-abbrev pub manner : Manner
-manner = record { bails = true; echoes = false }
+abbrev pub script_options : ScriptOptions
+script_options = record { bails = true; echoes = false }
 
 -- how many frames the cache has
 abbrev pub frames : ℕ
@@ -69,18 +71,18 @@ abbrev pub refused_line : List ℕ → List ℕ → List ℕ
 refused_line file reply =
     codes "geosdoc: " ++ file ++ codes ": a line of the script is refused: " ++ reply ++ codes "\n"
 
-abbrev pub TellsRefusal : List ℕ → Ending → Type 0
-TellsRefusal file (endings.Refused line) = (reply : List ℕ) × (line ≡ refused_line file reply)
-TellsRefusal file endings.Memory = ⊤
-TellsRefusal file ending = ⊥
+abbrev pub EndsByRefusal : List ℕ → Ending → Type 0
+EndsByRefusal file (endings.Refused line) = (reply : List ℕ) × (line ≡ refused_line file reply)
+EndsByRefusal file endings.Memory = ⊤
+EndsByRefusal file ending = ⊥
 
 -- how a restore ends, by what the run of its script came to
 abbrev pub EndsRun : List ℕ → Result (Unit {0}) RunFault → Ending → Type 0
 EndsRun file (Ok v) ending = ending ≡ endings.Done
 EndsRun file (Err run_faults.Read) ending = ending ≡ endings.ReadFault
 EndsRun file (Err run_faults.Memory) ending = ending ≡ endings.Memory
-EndsRun file (Err run_faults.Write) ending = TellsRefusal file ending
-EndsRun file (Err run_faults.Refused) ending = TellsRefusal file ending
+EndsRun file (Err run_faults.Write) ending = EndsByRefusal file ending
+EndsRun file (Err run_faults.Refused) ending = EndsByRefusal file ending
 
 -- The script is run on a session, up to the first line that is refused, and then the file is closed. All replies are
 -- taken, so that the run ends by no write fault.
@@ -89,7 +91,7 @@ pub record RunsScript {F S : Type 0} (calls : Opener F S) (facts : S → StoreFa
     : Type 0 where
   pub result : Result (Unit {0}) RunFault
   pub left : Holding S
-  pub runs : RunsTo result facts manner (holding session None None) from to None None left
+  pub runs : RunsTo result facts script_options (holding session None None) from to None None left
   pub cause : IfErr result (λ fault. HasCause fault reading ⊥)
   pub closes : calls.closes old left.session.disk.store new
   pub ends : EndsRun file result ending
@@ -110,7 +112,7 @@ RestoresIn {F} {S} calls facts file store old from to reading ending new =
     × RunsScript calls facts file session old from to reading ending new)
 
 -- What a restore comes to. Nothing is opened but what was made before.
-abbrev pub Restores : {F S M : Type 0} → Opener F S → (S → StoreFacts) → Makes M → List ℕ → F → M → F → M
+abbrev pub Restores : {F S M : Type 0} → Opener F S → (S → StoreFacts) → MakeCalls M → List ℕ → F → M → F → M
     → Option (List ℕ) → Option (List ℕ) → Type 0 → Ending → Type 0
 Restores {F} {S} calls facts makes file old made new makes_on from to reading ending =
     ((fault : MakeFault) × MakesNone calls facts makes file old made new makes_on fault

@@ -2,11 +2,11 @@
 use Rattle.std.specs.Prelude.{◌≡◌, ◌^◌, ℕ, List, Option}
 use Rattle.vm_store.specs.Facts.{StoreFacts}
 use Rattle.vm_store.specs.Files.{Opener}
-use Rattle.geos_shell.specs.Streams.{Reads, StopsReading, Writes}
+use Rattle.geos_shell.specs.Streams.{ReadCalls, StopsReading, WriteCalls}
 use Rattle.document_commands.specs.declared.requested.Asked.{Asked}
 use Rattle.document_commands.specs.declared.requested.Asked.TheVariants as asked
-use Rattle.document_commands.specs.declared.requested.Dumped.{Dumped}
-use Rattle.document_commands.specs.declared.requested.Dumped.TheVariants as documents
+use Rattle.document_commands.specs.declared.requested.DumpScope.{DumpScope}
+use Rattle.document_commands.specs.declared.requested.DumpScope.TheVariants as documents
 use Rattle.document_commands.specs.declared.requested.Request.{Request}
 use Rattle.document_commands.specs.declared.requested.Request.TheVariants as requests
 use Rattle.document_dump.specs.declared.dumping.Which.TheVariants as which
@@ -14,27 +14,29 @@ use Rattle.document_tools.specs.Checks.{ChecksFile}
 use Rattle.document_tools.specs.DumpedFiles.{DumpsFile}
 use Rattle.document_tools.specs.Maps.{MapsFile}
 use Rattle.document_tools.specs.OtherSlots.{DumpsOtherFile}
-use Rattle.document_tools.specs.Restores.{Makes, Restores}
+use Rattle.document_tools.specs.Restores.{MakeCalls, Restores}
 use Rattle.document_tools.specs.Stats.{StatsFile}
 use Rattle.document_tools.specs.Views.{Views}
 use Rattle.document_tools.specs.declared.ending.Ending.{Ending}
 use Rattle.document_tools.specs.declared.running.Machine.{Machine}
 
 -- the dump that is asked for
-abbrev pub DumpsAsked : {V S W : Type 0} → Views V S → (S → StoreFacts) → (W → Option (List ℕ)) → Writes W → Dumped
+abbrev pub DumpsRequested : {V S W : Type 0} → Views V S → (S → StoreFacts) → (W → Option (List ℕ)) → WriteCalls W
+    → DumpScope
     → List ℕ → V → V → W → W → Ending → Type 0
-DumpsAsked views facts contents writes documents.Both file old new from to ending =
+DumpsRequested views facts contents writes documents.Both file old new from to ending =
     DumpsFile views facts contents writes file which.Both old new from to ending
-DumpsAsked views facts contents writes documents.Saved file old new from to ending =
+DumpsRequested views facts contents writes documents.Saved file old new from to ending =
     DumpsFile views facts contents writes file which.Saved old new from to ending
-DumpsAsked views facts contents writes documents.Other file old new from to ending =
+DumpsRequested views facts contents writes documents.Other file old new from to ending =
     DumpsOtherFile views facts contents writes file old new from to ending
 
 -- what is asked of a file but for a check
-abbrev pub CarriesOutLook : {V S W : Type 0} → Views V S → (S → StoreFacts) → (W → Option (List ℕ)) → Writes W → Asked
+abbrev pub CarriesOutLook : {V S W : Type 0} → Views V S → (S → StoreFacts) → (W → Option (List ℕ)) → WriteCalls W
+    → Asked
     → List ℕ → V → V → W → W → Ending → Type 0
 CarriesOutLook views facts contents writes (asked.Dump dumped) file old new from to ending =
-    DumpsAsked views facts contents writes dumped file old new from to ending
+    DumpsRequested views facts contents writes dumped file old new from to ending
 CarriesOutLook views facts contents writes (asked.Stat form) file old new from to ending =
     StatsFile views facts writes file form old new from to ending
 CarriesOutLook views facts contents writes (asked.Map picture) file old new from to ending =
@@ -46,7 +48,7 @@ OnlyLooks old new = (new.files ≡ old.files) × (new.maker ≡ old.maker) × (n
 
 -- what a request comes to: what its tool does with its file, and nothing else
 abbrev pub CarriesOut : {V S F T M R W : Type 0} → Views V S → (S → StoreFacts) → Opener F T → (T → StoreFacts)
-    → Makes M → (R → Option (List ℕ)) → Reads R → (W → Option (List ℕ)) → Writes W → Request
+    → MakeCalls M → (R → Option (List ℕ)) → ReadCalls R → (W → Option (List ℕ)) → WriteCalls W → Request
     → Machine V F M R → Machine V F M R → W → W → Ending → Type 0
 CarriesOut views viewed calls facts makes remaining reads contents writes (requests.Check file) old new from to ending =
     ChecksFile views viewed writes file.now old.viewer new.viewer from to ending × OnlyLooks old new

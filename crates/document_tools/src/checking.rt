@@ -2,7 +2,7 @@
 ghost use Rattle.std.specs.Prelude.{◌≡◌, ◌++◌, IfOk, MatchResult};
 ghost use Rattle.vm_file.specs.Opened.{OnlyReadsStore};
 ghost use Rattle.file_report.specs.Checked.{counting_number};
-ghost use Rattle.document_tools.specs.Checks.{ChecksFile, ChecksStore, IsCheckText, TellsReport};
+ghost use Rattle.document_tools.specs.Checks.{ChecksFile, ChecksStore, IsCheckText, PrintsReport};
 ghost use Rattle.document_tools.specs.Reports.{report_text};
 ghost use Rattle.document_tools.specs.declared.ending.Ending.TheVariants as endings;
 
@@ -57,7 +57,7 @@ fn ending_of(verdict: Result<(), Fault>) -> Ending
 // Writes all that is told of a report.
 fn send_report<W: Sink>(report: &Report, text: &[u8], writer: &mut W) -> Ending
     requires { IsCheckText report.now text.now }
-    ensures { TellsReport W.writes report.now writer.old writer.new result }
+    ensures { PrintsReport W.writes report.now writer.old writer.new result }
 {
     match writer.write_out(text) {
         Ok(()) => ending_of(report.verdict),
@@ -66,7 +66,7 @@ fn send_report<W: Sink>(report: &Report, text: &[u8], writer: &mut W) -> Ending
 }
 
 fn tell_report<W: Sink>(alloc: Global, report: &Report, writer: &mut W) -> Ending
-    ensures { TellsReport W.writes report.now writer.old writer.new result }
+    ensures { PrintsReport W.writes report.now writer.old writer.new result }
 {
     match check_text(alloc, report) {
         Ok(text) => send_report(report, text.as_slice(), writer),

@@ -1,7 +1,7 @@
 //! How a tool ends.
 ghost use Rattle.std.specs.Prelude.{◌≡◌, Some};
 ghost use Rattle.vm_file.specs.Calls.{IsResourceFault};
-ghost use Rattle.document_tools.specs.Endings.{EndsUnread, IsRefusedFor, TellsLine, status_of, told_line};
+ghost use Rattle.document_tools.specs.Endings.{EndsUnread, IsRefusedFor, PrintsLine, ending_status, error_line};
 
 use crate::obstacle::{Obstacle, push_refusal};
 use geos_model::{Bytes, Fault};
@@ -27,7 +27,7 @@ pub enum Ending {
 impl Ending {
     /// The exit status.
     pub fn status(&self) -> u8
-        ensures { result ≡ status_of self.now }
+        ensures { result ≡ ending_status self.now }
     {
         match self {
             Ending::Done => 0,
@@ -41,15 +41,15 @@ impl Ending {
 
     /// Tells it on `errors`, where there is anything to tell, and gives the exit status.
     pub fn tell<E: Sink>(&self, errors: &mut E) -> u8
-        ensures status { result ≡ status_of self.now }
-        ensures told { TellsLine E.writes (told_line self.now) errors.old errors.new }
+        ensures status { result ≡ ending_status self.now }
+        ensures told { PrintsLine E.writes (error_line self.now) errors.old errors.new }
     {
         self.tell_line(errors);
         self.status()
     }
 
     fn tell_line<E: Sink>(&self, errors: &mut E)
-        ensures { TellsLine E.writes (told_line self.now) errors.old errors.new }
+        ensures { PrintsLine E.writes (error_line self.now) errors.old errors.new }
     {
         match self {
             Ending::Done | Ending::Unsound => {}
@@ -63,7 +63,7 @@ impl Ending {
 
 /// Writes a line to standard error. Where not even that can be done, the status still says what became of the run.
 pub fn complain<E: Sink>(errors: &mut E, line: &[u8])
-    ensures { TellsLine E.writes (Some line.now) errors.old errors.new }
+    ensures { PrintsLine E.writes (Some line.now) errors.old errors.new }
 {
     let _ = errors.write_out(line);
 }

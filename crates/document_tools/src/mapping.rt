@@ -11,7 +11,7 @@ use crate::ending::{Ending, refused};
 use crate::obstacle::Obstacle;
 use crate::pieces::{Pieces, Watched};
 use crate::viewer::Viewer;
-use document_commands::Picture;
+use document_commands::MapFormat;
 use file_map::{MapFault, draw_svg, draw_text};
 use geos_shell::Sink;
 use std::alloc::Global;
@@ -21,7 +21,7 @@ use vm_store::Store;
 fn draw<S: Store, W: Write>(
     alloc: Global,
     store: &mut S,
-    picture: Picture,
+    picture: MapFormat,
     writer: &mut W,
 ) -> Result<(), MapFault>
     ensures looks { OnlyReadsStore (S.facts store.old) (S.facts store.new) }
@@ -31,8 +31,8 @@ fn draw<S: Store, W: Write>(
     ensures refusals { IfErr result (IsMapRefusal (S.facts store.old)) }
 {
     match picture {
-        Picture::Text => draw_text(alloc, store, writer),
-        Picture::Svg => draw_svg(alloc, store, writer),
+        MapFormat::Text => draw_text(alloc, store, writer),
+        MapFormat::Svg => draw_svg(alloc, store, writer),
     }
 }
 
@@ -52,7 +52,7 @@ fn map_end(drawn: Result<(), MapFault>, failed: bool) -> Result<(), MapFault>
 fn draw_to<S: Store, W: Sink + Drop>(
     alloc: Global,
     store: &mut S,
-    picture: Picture,
+    picture: MapFormat,
     writer: W,
 ) -> (W, Result<(), MapFault>)
     ensures looks { OnlyReadsStore (S.facts store.old) (S.facts store.new) }
@@ -85,7 +85,7 @@ fn map_store<S: Store, W: Sink + Drop>(
     alloc: Global,
     store: &mut S,
     file: &str,
-    picture: Picture,
+    picture: MapFormat,
     writer: W,
 ) -> (W, Ending)
     ensures looks { OnlyReadsStore (S.facts store.old) (S.facts store.new) }
@@ -102,7 +102,7 @@ pub fn map_file<V: Viewer, W: Sink + Drop>(
     alloc: Global,
     viewer: &mut V,
     file: &str,
-    picture: Picture,
+    picture: MapFormat,
     writer: W,
 ) -> (W, Ending)
     ensures { MapsFile V.views V.Opened.facts W.contents W.writes file.now picture viewer.old viewer.new writer

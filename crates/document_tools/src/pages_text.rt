@@ -2,8 +2,8 @@
 ghost use Rattle.std.specs.Prelude.{◌≡◌, ◌++◌, IfOk, OnOk};
 ghost use Rattle.std.specs.List.{flat_map};
 ghost use Rattle.std.specs.Option.{option_map};
-ghost use Rattle.file_report.specs.Texts.{extent_text};
-ghost use Rattle.document_tools.specs.Pages.{TellsCounting, TellsPages, content_text, overlap_line, unused_line, usage_text};
+ghost use Rattle.file_report.specs.Texts.{extent_words};
+ghost use Rattle.document_tools.specs.Pages.{ReportsCounting, ReportsPages, content_text, overlap_line, unused_line, usage_text};
 
 use crate::lines::{push_decimal, push_handle, push_shown};
 use file_report::{Content, SlotReport, Usage, free_pages, overlaps, usages};
@@ -31,7 +31,7 @@ fn push_content(out: &mut Vec<u8>, content: Content) -> Result<(), AllocError>
 }
 
 fn push_extent(out: &mut Vec<u8>, extent: Extent) -> Result<(), AllocError>
-    ensures { OnOk result (out.new.items ≡ out.old.items ++ extent_text extent) }
+    ensures { OnOk result (out.new.items ≡ out.old.items ++ extent_words extent) }
 {
     out.extend_from_slice(b"page ")?;
     push_decimal(out, u64::from(extent.page))?;
@@ -95,7 +95,7 @@ fn pages_lines(
 
 // Which extents of what a slot leads to overlap, and how many pages nothing lies on.
 fn slot_pages(alloc: Global, slot: &SlotReport, length: u64) -> Result<Vec<u8>, AllocError>
-    ensures { IfOk result (λ text. TellsPages length slot.now text.items) }
+    ensures { IfOk result (λ text. ReportsPages length slot.now text.items) }
 {
     let found = usages(alloc, slot)?;
     let extents = found.as_slice();
@@ -113,7 +113,7 @@ pub fn counting_text(
     counting: Option<&SlotReport>,
     length: u64,
 ) -> Result<Vec<u8>, AllocError>
-    ensures { IfOk result (λ text. TellsCounting length (option_map (λ r. r.now) counting.entry) text.items) }
+    ensures { IfOk result (λ text. ReportsCounting length (option_map (λ r. r.now) counting.entry) text.items) }
 {
     match counting {
         Some(slot) => slot_pages(alloc, slot, length),

@@ -4,7 +4,7 @@ ghost use Rattle.std.specs.Fmt.{decimal};
 ghost use Rattle.std.specs.Option.{option_map};
 ghost use Rattle.std.specs.List.{flat_map};
 ghost use Rattle.file_report.specs.Checked.{counting_number};
-ghost use Rattle.document_tools.specs.Reports.{counts_line, finding_line, none_line, numbered, open_line, opens_line, report_text, slot_lines, slot_start, stands_text};
+ghost use Rattle.document_tools.specs.Reports.{counts_line, finding_line, none_line, words_and_number, open_line, opens_line, report_text, slot_lines, slot_start, stands_text};
 
 use crate::lines::{push_decimal, push_shown};
 use file_report::{Finding, Report, SlotReport, SlotState};
@@ -70,7 +70,7 @@ fn push_stands(out: &mut Vec<u8>, verdict: Result<(), Fault>) -> Result<(), Allo
 
 // Words, and a number behind them.
 fn push_numbered(out: &mut Vec<u8>, words: &[u8], number: u64) -> Result<(), AllocError>
-    ensures { OnOk result (out.new.items ≡ out.old.items ++ numbered words.now number) }
+    ensures { OnOk result (out.new.items ≡ out.old.items ++ words_and_number words.now number) }
 {
     out.extend_from_slice(words)?;
     push_decimal(out, number)

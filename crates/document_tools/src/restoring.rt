@@ -2,13 +2,13 @@
 ghost use Rattle.std.specs.Prelude.{◌≡◌, ◌++◌, ◌^◌, [], true, IfErr, IfOk, IsTrue, None, Ok, OnErr, OnOk};
 ghost use Rattle.vm_file.specs.Opened.{OnlyReadsStore};
 ghost use Rattle.geos_shell.specs.Streams.{StopsReading};
-ghost use Rattle.document_tools.specs.Restores.{EndsRun, EndsUncreated, IsUnusable, MakesFile, MakesNone, Restores, RestoresIn, RunsScript, TellsRefusal, refused_line};
+ghost use Rattle.document_tools.specs.Restores.{EndsRun, EndsUncreated, IsUnusable, MakesFile, MakesNone, Restores, RestoresIn, RunsScript, EndsByRefusal, refused_line};
 
 use crate::ending::{Ending, refused};
 use crate::obstacle::{MakeFault, Obstacle};
 use arrayvec::ArrayVec;
 use geos_model::{Bytes, Fault};
-use geos_shell::{Manner, RunFault, Sink, Source, WriteFault, run_in_manner};
+use geos_shell::{RunFault, ScriptOptions, Sink, Source, WriteFault, run_in_manner};
 use std::alloc::{AllocError, Global};
 use undo_log::Session;
 use vm_store::{Files, Store};
@@ -22,7 +22,7 @@ const READS: u32 = 1 << 24;
 /// How many bytes of a reply are kept. A refusal has fewer.
 const LONGEST_REFUSAL: usize = 64;
 
-const MANNER: Manner = Manner {
+const MANNER: ScriptOptions = ScriptOptions {
     bails: true,
     echoes: false,
 };
@@ -30,9 +30,9 @@ const MANNER: Manner = Manner {
 /// Who makes files where none are. What a call does is known by its relation alone, so that where a contract has it,
 /// just that call was made.
 pub trait MakesNew {
-    ghost use Rattle.document_tools.specs.Restores.{Makes};
+    ghost use Rattle.document_tools.specs.Restores.{MakeCalls};
 
-    ghost makes: { Makes Self };
+    ghost makes: { MakeCalls Self };
 
     /// Makes an empty file of a name, and leaves what is there as it is: it fails where there is anything of that name,
     /// a link too that leads nowhere.
@@ -134,7 +134,7 @@ fn push_refused_line(out: &mut Vec<u8>, file: &str, reply: &[u8]) -> Result<(), 
 }
 
 fn refused_by(alloc: Global, file: &str, reply: &[u8]) -> Ending
-    ensures { TellsRefusal file.now result }
+    ensures { EndsByRefusal file.now result }
 {
     let mut line = Vec::new(alloc);
     match push_refused_line(&mut line, file, reply) {

@@ -1,9 +1,9 @@
 //! What is asked for, carried out.
 ghost use Rattle.std.specs.Prelude.{◌≡◌};
-ghost use Rattle.document_tools.specs.Endings.{TellsLine, status_of, told_line};
+ghost use Rattle.document_tools.specs.Endings.{PrintsLine, ending_status, error_line};
 ghost use Rattle.document_tools.specs.Checks.{ChecksFile};
 ghost use Rattle.document_tools.specs.Stats.{StatsFile};
-ghost use Rattle.document_tools.specs.Runs.{CarriesOut, DumpsAsked, CarriesOutLook};
+ghost use Rattle.document_tools.specs.Runs.{CarriesOut, DumpsRequested, CarriesOutLook};
 ghost use Rattle.document_tools.specs.declared.ending.Ending.{Ending};
 
 use crate::checking::check_file;
@@ -14,7 +14,7 @@ use crate::other_slot::dump_other;
 use crate::restoring::{MakesNew, restore};
 use crate::stating::stat_file;
 use crate::viewer::Viewer;
-use document_commands::{Asked, Dumped, Form, Request};
+use document_commands::{Asked, DumpScope, Form, Request};
 use document_dump::Which;
 use geos_shell::{Sink, Source};
 use std::alloc::Global;
@@ -62,16 +62,16 @@ fn dump_asked<V: Viewer, W: Sink + Drop>(
     alloc: Global,
     viewer: &mut V,
     file: &str,
-    asked: Dumped,
+    asked: DumpScope,
     writer: W,
 ) -> (W, Ending)
-    ensures { DumpsAsked V.views V.Opened.facts W.contents W.writes asked file.now viewer.old viewer.new writer
+    ensures { DumpsRequested V.views V.Opened.facts W.contents W.writes asked file.now viewer.old viewer.new writer
         result.0 result.1 }
 {
     match asked {
-        Dumped::Both => dump_file(alloc, viewer, file, Which::Both, writer),
-        Dumped::Saved => dump_file(alloc, viewer, file, Which::Saved, writer),
-        Dumped::Other => dump_other(alloc, viewer, file, writer),
+        DumpScope::Both => dump_file(alloc, viewer, file, Which::Both, writer),
+        DumpScope::Saved => dump_file(alloc, viewer, file, Which::Saved, writer),
+        DumpScope::Other => dump_other(alloc, viewer, file, writer),
     }
 }
 
@@ -129,7 +129,7 @@ pub fn run<V: Viewer, F: Files, M: MakesNew, R: Source, W: Sink + Drop, E: Sink>
     ensures { (ending : Ending) × (left : W)
         × CarriesOut V.views V.Opened.facts F.calls F.Opened.facts M.makes R.remaining R.reads W.contents W.writes
         request.entry machine.old machine.new writer left ending
-        × TellsLine E.writes (told_line ending) errors.old errors.new × (result ≡ status_of ending) }
+        × PrintsLine E.writes (error_line ending) errors.old errors.new × (result ≡ ending_status ending) }
 {
     let (_left, ending) = carry_out(alloc, request, machine, writer);
     ending.tell(errors)

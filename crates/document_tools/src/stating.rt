@@ -1,7 +1,7 @@
 //! What a file has, counted.
 ghost use Rattle.std.specs.Prelude.{◌≡◌, ◌++◌, IfOk, OnOk};
 ghost use Rattle.vm_file.specs.Opened.{OnlyReadsStore};
-ghost use Rattle.document_tools.specs.Stats.{StatsFile, StatsStore, TellsStat, stat_text};
+ghost use Rattle.document_tools.specs.Stats.{StatsFile, StatsStore, PrintsStat, stat_text};
 
 use crate::ending::{Ending, refused};
 use crate::looking::{send_text, unopened};
@@ -32,7 +32,7 @@ fn text_of(alloc: Global, stat: &FileStat, form: Form) -> Result<Vec<u8>, AllocE
 }
 
 fn tell_stat<W: Sink>(alloc: Global, stat: &FileStat, form: Form, writer: &mut W) -> Ending
-    ensures { TellsStat W.writes form stat.now writer.old writer.new result }
+    ensures { PrintsStat W.writes form stat.now writer.old writer.new result }
 {
     match text_of(alloc, stat, form) {
         Ok(text) => send_text(text.as_slice(), writer),

@@ -13,7 +13,7 @@ use Rattle.geos_model.specs.ElementEdits.{with_new, with_new_at}
 use Rattle.geos_model.specs.declared.fault.Fault.{Fault}
 use Rattle.geos_model.proofs.ArrayEdits.{even_with}
 use Rattle.geos_model.proofs.Images.{word-reads_back}
-use Rattle.chunk_edits.specs.Patching.{Piece, BuildsPatch, PatchLeads}
+use Rattle.chunk_edits.specs.Patching.{PatchPiece, BuildsPatch, PatchLeads}
 use Rattle.chunk_edits.specs.Splicing.{RefusesToBuild}
 use Rattle.chunk_arrays.specs.Rewriting.{extra_after}
 use Rattle.element_arrays.specs.Slotted.{Slotted, slotted_array, slotted_bytes, GivesSlots, RefusesSlots}
@@ -165,7 +165,7 @@ length-sized size bytes fits one = elim (cases_Bool (length bytes == size)) [
 
 -- The slots that a patch gives or refuses.
 
-pub gives : (s : Slotted) (new : Slots) (v w : Array) (x : List Piece) → v ≡ slotted_array s → w ≡ slots_array s.more new → BuildsPatch (too_long (array_bytes w)) x (array_bytes v) (array_bytes w) → GivesSlots s new x
+pub gives : (s : Slotted) (new : Slots) (v w : Array) (x : List PatchPiece) → v ≡ slotted_array s → w ≡ slots_array s.more new → BuildsPatch (too_long (array_bytes w)) x (array_bytes v) (array_bytes w) → GivesSlots s new x
 unfolding slotted_bytes
 gives s new v w x old to built =
     subst (λ a. BuildsPatch (too_long (array_bytes (slots_array s.more new))) x (array_bytes a) (array_bytes (slots_array s.more new))) old
@@ -176,10 +176,10 @@ unfolding slotted_bytes
 refuses s new w fault to refused = subst (λ b. RefusesToBuild (too_long (array_bytes b)) fault) to refused
 
 -- what `rewrite` answers
-abbrev pub Rewrites : Array → Array → Result (List Piece) Fault → Type 0
+abbrev pub Rewrites : Array → Array → Result (List PatchPiece) Fault → Type 0
 Rewrites v w r = MatchResult r (λ x. BuildsPatch (too_long (array_bytes w)) x (array_bytes v) (array_bytes w)) (RefusesToBuild (too_long (array_bytes w)))
 
-pub answers : (s : Slotted) (new : Slots) (v w : Array) (r : Result (List Piece) Fault) → v ≡ slotted_array s → w ≡ slots_array s.more new → Rewrites v w r → MatchResult r (GivesSlots s new) (RefusesSlots s new)
+pub answers : (s : Slotted) (new : Slots) (v w : Array) (r : Result (List PatchPiece) Fault) → v ≡ slotted_array s → w ≡ slots_array s.more new → Rewrites v w r → MatchResult r (GivesSlots s new) (RefusesSlots s new)
 answers s new v w r old to h = MatchResult-weaker r h (λ x. gives s new v w x old to) (λ fault. refuses s new w fault to)
 
 -- a token that names the place of a slot
@@ -337,13 +337,13 @@ module _ (own few : Conditions) (from to from′ to′ : List ℕ) (decides : fi
   ]
 
   module _ (from_is : from′ ≡ from) where
-    pub replaces_for : (p : List Piece) → Replaces few from′ to′ p → Replaces own from to p
+    pub replaces_for : (p : List PatchPiece) → Replaces few from′ to′ p → Replaces own from to p
     replaces_for p made = record {
       accepted = decides ∙ ap (λ (l : List ℕ). first_refusal (few ++ too_long l)) (sym to_is) ∙ made.accepted;
       leads = subst (λ (l : List ℕ). PatchLeads p l to) from_is (subst (λ (l : List ℕ). PatchLeads p from′ l) to_is made.leads);
     }
 
-    pub handed_on : (r : Result (List Piece) Fault) → MatchResult r (Replaces few from′ to′) (RefusesToReplace few to′) → MatchResult r (Replaces own from to) (RefusesToReplace own to)
+    pub handed_on : (r : Result (List PatchPiece) Fault) → MatchResult r (Replaces few from′ to′) (RefusesToReplace few to′) → MatchResult r (Replaces own from to) (RefusesToReplace own to)
     handed_on (Ok p) made = replaces_for p made
     handed_on (Err fault) refused = refuses_for fault refused
 
@@ -352,15 +352,15 @@ module _ (own : Conditions) (s : Slotted) (slots : Slots) (from to : List ℕ) (
   pub slots_refused : (fault : Fault) → RefusesSlots s slots fault → RefusesToReplace own to fault
   slots_refused fault refused = refuses_for own [] from to (slotted_bytes s.more s.slots) (slotted_bytes s.more slots) (accepted-room own _ none) to_is fault refused
 
-  pub slots_given : (patch : List Piece) → GivesSlots s slots patch → Replaces own from to patch
+  pub slots_given : (patch : List PatchPiece) → GivesSlots s slots patch → Replaces own from to patch
   slots_given patch made = replaces_for own [] from to (slotted_bytes s.more s.slots) (slotted_bytes s.more slots) (accepted-room own _ none) to_is from_is patch made
 
-  pub slots_handed_on : (r : Result (List Piece) Fault) → MatchResult r (GivesSlots s slots) (RefusesSlots s slots) → MatchResult r (Replaces own from to) (RefusesToReplace own to)
+  pub slots_handed_on : (r : Result (List PatchPiece) Fault) → MatchResult r (GivesSlots s slots) (RefusesSlots s slots) → MatchResult r (Replaces own from to) (RefusesToReplace own to)
   slots_handed_on (Ok patch) made = slots_given patch made
   slots_handed_on (Err fault) refused = slots_refused fault refused
 
   -- with a token beside the patch
-  pub token_handed_on : (r : Result (List Piece × Token) Fault) (token token′ : ℕ) → token′ ≡ token
+  pub token_handed_on : (r : Result (List PatchPiece × Token) Fault) (token token′ : ℕ) → token′ ≡ token
       → MatchResult r (λ made. GivesSlots s slots made.0 × (made.1.0 ≡ token′)) (RefusesSlots s slots)
       → MatchResult r (λ made. Replaces own from to made.0 × (made.1.0 ≡ token)) (RefusesToReplace own to)
   token_handed_on (Ok made) token token′ is h = (slots_given made.0 h.0, h.1 ∙ is)

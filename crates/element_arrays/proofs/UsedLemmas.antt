@@ -19,7 +19,7 @@ use Rattle.geos_model.specs.ArrayEdits.{is_missized, too_long}
 use Rattle.geos_model.proofs.Arrays.{same_bytes-is}
 use Rattle.element_arrays.specs.Referencing.{element_with_reference, element_reference_conditions}
 use Rattle.chunk_arrays.specs.Replacing.{Replaces, RefusesToReplace}
-use Rattle.chunk_edits.specs.Patching.{Piece}
+use Rattle.chunk_edits.specs.Patching.{PatchPiece}
 use Rattle.element_arrays.proofs.SlottedLemmas.{slots_handed_on, refuses_for, replaces_for}
 
 -- ---- the slots that are read of an element array's bytes, and what is found of a token there
@@ -39,7 +39,7 @@ module _ (bytes : List ℕ) (s : Slotted) (read : (element_array_of bytes ≡ So
     pub edited_bytes : slotted_bytes s.more new ≡ element_bytes (edit (elements_in bytes))
     edited_bytes = new_bytes new ∙ ap element_bytes same ∙ ap (λ (x : Slots). element_bytes (edit x)) (sym elements_are)
 
-    pub edit_handed_on : (own : Conditions) → first_refusal own ≡ None → (r : Result (List Piece) Fault) → MatchResult r (GivesSlots s new) (RefusesSlots s new)
+    pub edit_handed_on : (own : Conditions) → first_refusal own ≡ None → (r : Result (List PatchPiece) Fault) → MatchResult r (GivesSlots s new) (RefusesSlots s new)
         → MatchResult r (Replaces own bytes (element_bytes (edit (elements_in bytes)))) (RefusesToReplace own (element_bytes (edit (elements_in bytes))))
     edit_handed_on own none = slots_handed_on own s new bytes (element_bytes (edit (elements_in bytes))) none read.1 edited_bytes
 
@@ -160,7 +160,7 @@ module _ (bytes element : List ℕ) (s : Slotted) (read : (element_array_of byte
         refuses_for (add_conditions bytes element) (element_reference_conditions s.slots t) bytes (element_added bytes element) (slotted_bytes s.more s.slots) (slotted_bytes s.more (element_with_reference s.slots t))
         (equal-decides (too_long (element_added bytes element))) equal-bytes
 
-    pub equal-replaced : (patch : List Piece) → Replaces (element_reference_conditions s.slots t) (slotted_bytes s.more s.slots) (slotted_bytes s.more (element_with_reference s.slots t)) patch → Replaces (add_conditions bytes element) bytes (element_added bytes element) patch
+    pub equal-replaced : (patch : List PatchPiece) → Replaces (element_reference_conditions s.slots t) (slotted_bytes s.more s.slots) (slotted_bytes s.more (element_with_reference s.slots t)) patch → Replaces (add_conditions bytes element) bytes (element_added bytes element) patch
     equal-replaced =
         replaces_for (add_conditions bytes element) (element_reference_conditions s.slots t) bytes (element_added bytes element) (slotted_bytes s.more s.slots) (slotted_bytes s.more (element_with_reference s.slots t))
         (equal-decides (too_long (element_added bytes element))) equal-bytes read.1

@@ -4,7 +4,7 @@ use Rattle.geos_model.specs.Array.{Array, array_bytes}
 use Rattle.geos_model.specs.ArrayEdits.{too_long}
 use Rattle.geos_model.specs.ElementArray.{Slots, slots_array, is_sound}
 use Rattle.geos_model.specs.declared.fault.Fault.{Fault}
-use Rattle.chunk_edits.specs.Patching.{Piece, BuildsPatch}
+use Rattle.chunk_edits.specs.Patching.{PatchPiece, BuildsPatch}
 use Rattle.chunk_edits.specs.Splicing.{RefusesToBuild}
 
 pub record Slotted : Type 0 where
@@ -20,7 +20,7 @@ unfoldable pub slotted_bytes : List ℕ → Slots → List ℕ
 slotted_bytes more slots = array_bytes (slots_array more slots)
 
 -- from the bytes of an array the patch leads to those with other slots
-abbrev pub GivesSlots : Slotted → Slots → List Piece → Type 0
+abbrev pub GivesSlots : Slotted → Slots → List PatchPiece → Type 0
 GivesSlots s slots patch =
     let new = slotted_bytes s.more slots in
     BuildsPatch (too_long new) patch (slotted_bytes s.more s.slots) new

@@ -31,7 +31,7 @@ use Rattle.file_map.specs.Drawn.{IsDrawn, IsFileMap}
 use Rattle.file_map.specs.Faults.{IsLack, IsMapRefusal, IsUncounted}
 use Rattle.file_map.specs.declared.fault.MapFault.{MapFault}
 use Rattle.file_map.specs.declared.fault.MapFault.TheVariants.{Memory, File, Unopened, Write}
-use Rattle.file_map.specs.Parts.{part_of}
+use Rattle.file_map.specs.Parts.{part_of_usage}
 use Rattle.file_map.specs.declared.part.Part.{Part}
 use Rattle.file_map.specs.declared.reading.FileMap.{FileMap}
 
@@ -146,7 +146,7 @@ sorted_parts ps us same sorted = λ i j d rises within.
 
 -- what was read of a file that opens
 pub file_map : (file : List ℕ) (r : Report) (s : SlotReport) (us : List Usage) (m : FileMap) → IsReport file r → IsOk r.verdict → counting_between r.first r.second ≡ Some s
-    → IsPermutation (usages_of s) us → IsNonDecreasingBy (λ u. u.extent.page) us → m.parts.items ≡ map (part_of file) us → m.pages ≡ pages_of r.file_length → IsFileMap file m
+    → IsPermutation (usages_of s) us → IsNonDecreasingBy (λ u. u.extent.page) us → m.parts.items ≡ map (part_of_usage file) us → m.pages ≡ pages_of r.file_length → IsFileMap file m
 file_map file r s us m is ok counts lists sorted parts pages =
     let opens : IsOk (verdict_of (stands file)) = subst IsOk is.verdict ok in
     let long = long_file file opens in

@@ -6,7 +6,7 @@ use Rattle.std.proofs.lemmas.Bool.{cond-false}
 use Rattle.std.proofs.lemmas.List.{drop_more, get_or_push}
 use Rattle.std.proofs.lemmas.Option.{slice_get-get_or}
 use Rattle.file_map.specs.Bars.{bar_of, bars_drawn, below}
-use Rattle.file_map.specs.Parts.{drawn_more, is_heap, is_shared, joined}
+use Rattle.file_map.specs.Parts.{drawn_more, is_heap_part, is_shared, joined}
 use Rattle.file_map.specs.declared.part.Kind.TheVariants.{Slots}
 use Rattle.file_map.specs.declared.part.Part.{Part}
 use Rattle.file_map.specs.declared.part.Users.TheVariants.{Updated}
@@ -40,4 +40,4 @@ below_cases true y = omega arith
 below_cases false y = omega arith
 
 pub below_most : (p : Part) (y : ℕ) → below p y ≤ y + 34
-below_most p y = below_cases (is_heap p) y
+below_most p y = below_cases (is_heap_part p) y

@@ -10,8 +10,8 @@ use Rattle.std.proofs.lemmas.List.{length-drop}
 use Rattle.geos_model.specs.File.{end_page}
 use Rattle.vm_space.specs.Space.{is_on, is_within}
 use Rattle.vm_space.proofs.SpaceLemmas.{within_no}
-use Rattle.file_map.specs.Pages.{lies, content, content_at, users}
-use Rattle.file_map.specs.Walks.{AreEnds, Covers, IsPast, IsWalk, begins_by, begins_by_of, ends_behind, further}
+use Rattle.file_map.specs.Pages.{lies, page_content, content_at, users}
+use Rattle.file_map.specs.Walks.{AreEnds, Covers, IsPast, IsPartWalk, begins_by, begins_by_of, ends_behind, further}
 use Rattle.file_map.specs.declared.part.Part.{Part}
 use Rattle.file_map.specs.declared.walk.Ends.{Ends}
 use Rattle.file_map.specs.declared.walk.Walk.{Walk}
@@ -64,7 +64,7 @@ ends_more ps rest p page ends begun e = record {
 }
 
 -- a walk on a page is one on the next page too
-pub walk_later : (ps : List Part) (page : ℕ) (w : Walk) → IsWalk ps page w → IsWalk ps (page + 1) w
+pub walk_later : (ps : List Part) (page : ℕ) (w : Walk) → IsPartWalk ps page w → IsPartWalk ps (page + 1) w
 walk_later ps page w is = record {
   within = is.within;
   ends = record {
@@ -94,8 +94,9 @@ pub begun_page : (ps : List Part) (next page : ℕ) (d : Part) → begins_by ps 
 begun_page ps next page d begins = leb-true _ page (sym (begun_at ps next page d (begun_within ps next page begins)) ∙ begins)
 
 -- one part further
-pub walk_more : (ps : List Part) (page : ℕ) (w : Walk) (d : Part) → IsWalk ps page w → begins_by ps w.next page ≡ true
-    → IsWalk ps page (record { next = w.next + 1; ends = ends_behind (get_or ps w.next d) w.ends })
+pub walk_more : (ps : List Part) (page : ℕ) (w : Walk) (d : Part) → IsPartWalk ps page w → begins_by ps w.next page
+    ≡ true
+    → IsPartWalk ps page (record { next = w.next + 1; ends = ends_behind (get_or ps w.next d) w.ends })
 walk_more ps page w d is begins =
     let within = begun_within ps w.next page begins in
     record {
@@ -119,9 +120,9 @@ lies_at : (test : Part → Bool) (ps : List Part) (page end : ℕ) (w : Walk) �
 lies_at test ps page end w sorted past c = c page (omega arith) ∙ or_none _ _ (past_none test ps page w sorted past)
 
 -- what lies on the page
-pub walk_content : (ps : List Part) (page : ℕ) (w : Walk) → IsNonDecreasingBy (λ p. p.extent.page) ps → IsWalk ps page w → IsPast ps page w
+pub walk_content : (ps : List Part) (page : ℕ) (w : Walk) → IsNonDecreasingBy (λ p. p.extent.page) ps → IsPartWalk ps page w → IsPast ps page w
     → content_at ps page
-    ≡ content (nat_lt page w.ends.slots) (nat_lt page w.ends.directory) (nat_lt page w.ends.raw) (nat_lt page w.ends.heap) (users (nat_lt page w.ends.updated) (nat_lt page w.ends.saved))
+    ≡ page_content (nat_lt page w.ends.slots) (nat_lt page w.ends.directory) (nat_lt page w.ends.raw) (nat_lt page w.ends.heap) (users (nat_lt page w.ends.updated) (nat_lt page w.ends.saved))
 walk_content ps page w sorted is past =
     let slots = lies_at _ ps page w.ends.slots w sorted past is.ends.slots in
     let directory = lies_at _ ps page w.ends.directory w sorted past is.ends.directory in
@@ -131,7 +132,7 @@ walk_content ps page w sorted is past =
     let saved = lies_at _ ps page w.ends.saved w sorted past is.ends.saved in
     cc
 
-pub walk_none : (ps : List Part) → IsWalk ps 0 (record { next = 0; ends = record { slots = 0; directory = 0; raw = 0; heap = 0; updated = 0; saved = 0 } })
+pub walk_none : (ps : List Part) → IsPartWalk ps 0 (record { next = 0; ends = record { slots = 0; directory = 0; raw = 0; heap = 0; updated = 0; saved = 0 } })
 walk_none ps = record {
   within = omega arith;
   ends = record { slots = λ q from. none q _; directory = λ q from. none q _; raw = λ q from. none q _; heap = λ q from. none q _; updated = λ q from. none q _; saved = λ q from. none q _ };

@@ -9,7 +9,7 @@ use Rattle.file_report.specs.declared.pages.Usage.{Usage}
 use Rattle.file_map.specs.Bars.{bars_drawn}
 use Rattle.file_map.specs.Heaps.{heap_lines}
 use Rattle.file_map.specs.Pages.{page_picture}
-use Rattle.file_map.specs.Parts.{drawn, is_heap, part_of}
+use Rattle.file_map.specs.Parts.{drawn_parts, is_heap_part, part_of_usage}
 use Rattle.file_map.specs.Svg.{gaps, heaps_top, labels, parts_drawn, start_drawn}
 use Rattle.file_map.specs.declared.heaps.TheConstants.{HEADING}
 use Rattle.file_map.specs.declared.part.Part.{Part}
@@ -27,19 +27,19 @@ pub record IsUsageList (file : List ℕ) (us : List Usage) : Type 0 where
 pub record IsFileMap (file : List ℕ) (m : FileMap) : Type 0 where
   pub usages : List Usage
   pub list : IsUsageList file usages
-  pub parts : m.parts.items ≡ map (part_of file) usages
+  pub parts : m.parts.items ≡ map (part_of_usage file) usages
   pub pages : m.pages ≡ pages_of (length file)
 
 -- the picture as text, of the parts of a file of so many pages: the pages, and behind a blank line the heaps
-abbrev pub text_of : List ℕ → List Part → ℕ → List ℕ
-text_of file ps pages = page_picture ps pages ++ HEADING.now ++ heap_lines file (drawn ps)
+abbrev pub map_text : List ℕ → List Part → ℕ → List ℕ
+map_text file ps pages = page_picture ps pages ++ HEADING.now ++ heap_lines file (drawn_parts ps)
 
 -- and as SVG: the pages with what lies on them, and below them the heaps
 abbrev pub svg_of : List ℕ → List Part → ℕ → List ℕ
 svg_of file ps pages =
-    let once = drawn ps in
+    let once = drawn_parts ps in
     let top = heaps_top pages in
-    start_drawn pages (top + 34 * count_by is_heap once) ++ labels pages ++ parts_drawn once ++ gaps pages
+    start_drawn pages (top + 34 * count_by is_heap_part once) ++ labels pages ++ parts_drawn once ++ gaps pages
     ++ bars_drawn file top once ++ codes "</svg>\n"
 
 -- known bytes grow by a picture of the file
@@ -47,4 +47,4 @@ pub record IsDrawn (picture : List ℕ → List Part → ℕ → List ℕ) (file
     : Type 0 where
   pub usages : List Usage
   pub list : IsUsageList file usages
-  pub appends : Appends from to (picture file (map (part_of file) usages) (pages_of (length file)))
+  pub appends : Appends from to (picture file (map (part_of_usage file) usages) (pages_of (length file)))

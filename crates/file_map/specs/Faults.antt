@@ -13,8 +13,8 @@ abbrev pub read_fault : Fault → MapFault
 read_fault faults.Memory = Memory
 read_fault fault = File
 
-abbrev pub no_memory : MapFault
-no_memory = Memory
+abbrev pub map_out_of_memory : MapFault
+map_out_of_memory = Memory
 
 abbrev pub unread : MapFault
 unread = File

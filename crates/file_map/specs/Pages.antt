@@ -4,7 +4,7 @@ use Rattle.std.specs.List.{range_with_len, flat_map, list_any}
 use Rattle.geos_model.specs.Script.{line_feed}
 use Rattle.vm_space.specs.Space.{is_on}
 use Rattle.file_map.specs.Lines.{padded}
-use Rattle.file_map.specs.Parts.{is_slots, is_directory, is_raw, is_heap, is_updated, is_saved}
+use Rattle.file_map.specs.Parts.{is_slots, is_directory_part, is_raw_part, is_heap_part, is_updated, is_saved}
 use Rattle.file_map.specs.declared.part.Part.{Part}
 use Rattle.file_map.specs.declared.part.Users.{Users}
 use Rattle.file_map.specs.declared.part.Users.TheVariants.{Updated, Saved, Both}
@@ -22,17 +22,18 @@ users true false = Updated
 users false saved = Saved
 
 -- what a page has, by which kinds of parts lie on it, and whose they are
-abbrev pub content : Bool → Bool → Bool → Bool → Users → Content
-content false false false false u = Nothing
-content true false false false u = Slots
-content false true false false u = Directory u
-content false false true false u = Raw u
-content false false false true u = Heap u
-content slots directory raw heap u = Several
+abbrev pub page_content : Bool → Bool → Bool → Bool → Users → Content
+page_content false false false false u = Nothing
+page_content true false false false u = Slots
+page_content false true false false u = Directory u
+page_content false false true false u = Raw u
+page_content false false false true u = Heap u
+page_content slots directory raw heap u = Several
 
 abbrev pub content_at : List Part → ℕ → Content
 content_at ps page =
-    content (lies is_slots ps page) (lies is_directory ps page) (lies is_raw ps page) (lies is_heap ps page)
+    page_content (lies is_slots ps page) (lies is_directory_part ps page) (lies is_raw_part ps page)
+    (lies is_heap_part ps page)
     (users (lies is_updated ps page) (lies is_saved ps page))
 
 -- how it is drawn: directories as `D`, `d` and `~`, raw blocks as `R`, `r` and `-`, heaps as `H`, `h` and `=`, in both
@@ -52,19 +53,19 @@ glyph (Heap Saved) = 61
 glyph Several = 33
 
 -- the contents, numbered in the order of the legend
-abbrev pub number : Content → ℕ
-number Slots = 0
-number (Directory Both) = 1
-number (Directory Updated) = 2
-number (Directory Saved) = 3
-number (Raw Both) = 4
-number (Raw Updated) = 5
-number (Raw Saved) = 6
-number (Heap Both) = 7
-number (Heap Updated) = 8
-number (Heap Saved) = 9
-number Several = 10
-number Nothing = 11
+abbrev pub content_number : Content → ℕ
+content_number Slots = 0
+content_number (Directory Both) = 1
+content_number (Directory Updated) = 2
+content_number (Directory Saved) = 3
+content_number (Raw Both) = 4
+content_number (Raw Updated) = 5
+content_number (Raw Saved) = 6
+content_number (Heap Both) = 7
+content_number (Heap Updated) = 8
+content_number (Heap Saved) = 9
+content_number Several = 10
+content_number Nothing = 11
 
 -- so many pages from one on
 abbrev pub glyphs : List Part → ℕ → ℕ → List ℕ
@@ -83,7 +84,7 @@ rows ps pages = flat_map (row_text ps pages) (range_with_len 0 ((pages + 63) / 6
 
 -- how many of the first pages have a content of this number
 abbrev pub count : List Part → ℕ → ℕ → ℕ
-count ps pages n = count_by (λ page. number (content_at ps page) == n) (range_with_len 0 pages)
+count ps pages n = count_by (λ page. content_number (content_at ps page) == n) (range_with_len 0 pages)
 
 -- the page behind a row
 abbrev pub row_end : ℕ → ℕ → ℕ
@@ -110,7 +111,7 @@ abbrev pub legend_line : Content → ℕ → List ℕ
 legend_line c n = if n == 0 then [] else glyph c ∷ padded 9 n ++ codes "  " ++ name c ++ line_feed ∷ []
 
 abbrev pub legend : List Part → ℕ → List ℕ
-legend ps pages = flat_map (λ c. legend_line c (count ps pages (number c))) LEGEND
+legend ps pages = flat_map (λ c. legend_line c (count ps pages (content_number c))) LEGEND
 
 -- the rows of pages, and the legend behind a blank line
 unfoldable pub page_picture : List Part → ℕ → List ℕ

@@ -61,22 +61,22 @@ part_in file e (contents.Directory name) =
 part_in file e (contents.Image name h) =
     record { extent = e; kind = kind_at file e; users = users_of name; block = h }
 
-abbrev pub part_of : List ℕ → Usage → Part
-part_of file u = part_in file u.extent u.content
+abbrev pub part_of_usage : List ℕ → Usage → Part
+part_of_usage file u = part_in file u.extent u.content
 
 -- whose part it is, and of which kind
 
 abbrev pub is_slots : Part → Bool
 is_slots p = kind_is_slots p.kind
 
-abbrev pub is_directory : Part → Bool
-is_directory p = kind_is_directory p.kind
+abbrev pub is_directory_part : Part → Bool
+is_directory_part p = kind_is_directory p.kind
 
-abbrev pub is_raw : Part → Bool
-is_raw p = kind_is_raw p.kind
+abbrev pub is_raw_part : Part → Bool
+is_raw_part p = kind_is_raw p.kind
 
-abbrev pub is_heap : Part → Bool
-is_heap p = kind_is_heap p.kind
+abbrev pub is_heap_part : Part → Bool
+is_heap_part p = kind_is_heap p.kind
 
 abbrev pub is_updated : Part → Bool
 is_updated p = users_have_updated p.users
@@ -90,8 +90,8 @@ is_saved p = users_have_saved p.users
 abbrev pub is_same : Part → Part → Bool
 is_same p q =
     p.extent.page == q.extent.page && p.extent.length == q.extent.length && p.block.0 == q.block.0
-    && same_truth (is_slots p) (is_slots q) && same_truth (is_directory p) (is_directory q)
-    && same_truth (is_raw p) (is_raw q)
+    && same_truth (is_slots p) (is_slots q) && same_truth (is_directory_part p) (is_directory_part q)
+    && same_truth (is_raw_part p) (is_raw_part q)
 
 -- the updated document has the first and the saved one the other
 abbrev pub is_shared : Part → Part → Bool
@@ -106,5 +106,5 @@ abbrev pub drawn_more : List Part → Part → List Part
 drawn_more ps p = take (length ps - 1) ps ++ joined (slice_get ps (length ps - 1)) p
 
 -- each part once: what both documents have, one behind the other, is one part
-abbrev pub drawn : List Part → List Part
-drawn ps = fold drawn_more [] ps
+abbrev pub drawn_parts : List Part → List Part
+drawn_parts ps = fold drawn_more [] ps

@@ -4,8 +4,8 @@ use Rattle.std.specs.List.{range_with_len, flat_map}
 use Rattle.geos_model.specs.File.{end_page}
 use Rattle.geos_model.specs.Script.{four_digits}
 use Rattle.file_map.specs.Lines.{numbered}
-use Rattle.file_map.specs.Pages.{name, number}
-use Rattle.file_map.specs.Parts.{is_heap, is_raw}
+use Rattle.file_map.specs.Pages.{name, content_number}
+use Rattle.file_map.specs.Parts.{is_heap_part, is_raw_part}
 use Rattle.file_map.specs.declared.colours.TheConstants.{PATTERNS}
 use Rattle.file_map.specs.declared.pages.TheConstants.{LEGEND}
 use Rattle.file_map.specs.declared.pages.Content.{Content}
@@ -71,7 +71,8 @@ users_words Both = codes " of both documents"
 
 -- what a part is, and whose
 abbrev pub subject : Part → List ℕ
-subject p = kind_words p.kind ++ (if is_raw p || is_heap p then four_digits p.block.0 else []) ++ users_words p.users
+subject p =
+    kind_words p.kind ++ (if is_raw_part p || is_heap_part p then four_digits p.block.0 else []) ++ users_words p.users
 
 -- where it lies
 abbrev pub place : Part → List ℕ
@@ -125,7 +126,8 @@ abbrev pub swatch_at : ℕ → ℕ → Content → List ℕ
 swatch_at x y c = filled (content_fill c) ++ rect x y 12 ++ swatch_text x y (name c)
 
 abbrev pub swatch : Content → List ℕ
-swatch c = if number c == 10 then [] else swatch_at (70 + 300 * (number c / 4)) (10 + 20 * (number c % 4)) c
+swatch c = if content_number c == 10 then [] else swatch_at (70 + 300 * (content_number c / 4))
+    (10 + 20 * (content_number c % 4)) c
 
 abbrev pub legend_drawn : List ℕ
 legend_drawn = flat_map swatch LEGEND

@@ -2,7 +2,7 @@
 use Rattle.std.specs.Prelude.{◌≡◌, ℕ, ◌≤◌, ◌||◌, Bool, false, max, nat_le, nat_lt, List, length, drop, slice_get, Option, None, Some, if◌then◌else◌}
 use Rattle.geos_model.specs.File.{end_page}
 use Rattle.file_map.specs.Pages.{lies}
-use Rattle.file_map.specs.Parts.{is_slots, is_directory, is_raw, is_heap, is_updated, is_saved}
+use Rattle.file_map.specs.Parts.{is_slots, is_directory_part, is_raw_part, is_heap_part, is_updated, is_saved}
 use Rattle.file_map.specs.declared.part.Part.{Part}
 use Rattle.file_map.specs.declared.walk.Ends.{Ends}
 use Rattle.file_map.specs.declared.walk.Walk.{Walk}
@@ -15,9 +15,9 @@ ends_behind p ends =
     let end = end_page p.extent in
     record {
       slots = further (is_slots p) end ends.slots;
-      directory = further (is_directory p) end ends.directory;
-      raw = further (is_raw p) end ends.raw;
-      heap = further (is_heap p) end ends.heap;
+      directory = further (is_directory_part p) end ends.directory;
+      raw = further (is_raw_part p) end ends.raw;
+      heap = further (is_heap_part p) end ends.heap;
       updated = further (is_updated p) end ends.updated;
       saved = further (is_saved p) end ends.saved;
     }
@@ -35,13 +35,13 @@ Covers test ps rest page end = (q : ℕ) → page ≤ q → lies test ps q ≡ (
 
 pub record AreEnds (ps rest : List Part) (page : ℕ) (ends : Ends) : Type 0 where
   pub slots : Covers is_slots ps rest page ends.slots
-  pub directory : Covers is_directory ps rest page ends.directory
-  pub raw : Covers is_raw ps rest page ends.raw
-  pub heap : Covers is_heap ps rest page ends.heap
+  pub directory : Covers is_directory_part ps rest page ends.directory
+  pub raw : Covers is_raw_part ps rest page ends.raw
+  pub heap : Covers is_heap_part ps rest page ends.heap
   pub updated : Covers is_updated ps rest page ends.updated
   pub saved : Covers is_saved ps rest page ends.saved
 
-pub record IsWalk (ps : List Part) (page : ℕ) (w : Walk) : Type 0 where
+pub record IsPartWalk (ps : List Part) (page : ℕ) (w : Walk) : Type 0 where
   pub within : w.next ≤ length ps
   pub ends : AreEnds ps (drop w.next ps) page w.ends
 

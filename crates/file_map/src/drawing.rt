@@ -6,10 +6,10 @@ ghost use Rattle.geos_model.specs.File.{bytes_in};
 ghost use Rattle.geos_model.specs.Heap.{most_chunks};
 ghost use Rattle.vm_store.specs.Facts.{FailedSince};
 ghost use Rattle.vm_format.specs.Reading.{OnlyReadsStore};
-ghost use Rattle.file_map.specs.Drawn.{IsDrawn, svg_of, text_of};
+ghost use Rattle.file_map.specs.Drawn.{IsDrawn, svg_of, map_text};
 ghost use Rattle.file_map.specs.Faults.{IsLack, IsMapRefusal, IsWriteLack};
 ghost use Rattle.file_map.specs.Heaps.{heap_lines, line_of, sizes};
-ghost use Rattle.file_map.specs.Parts.{drawn, is_heap};
+ghost use Rattle.file_map.specs.Parts.{drawn_parts, is_heap_part};
 
 use crate::bars::{HEAP_HEIGHT, write_bars};
 use crate::fault::MapFault;
@@ -29,7 +29,7 @@ const MOST_PARTS: usize = 16_387;
 
 // Each part once.
 fn draw_once(alloc: Global, parts: &[Part]) -> Result<Vec<Part>, AllocError>
-    ensures parts { IfOk result (λ once. once.items ≡ drawn parts.now) }
+    ensures parts { IfOk result (λ once. once.items ≡ drawn_parts parts.now) }
     ensures few { IfOk result (λ once. length once.items ≤ 16387) }
 {
     let mut once = Vec::new(alloc);
@@ -102,7 +102,7 @@ fn write_text<S: Store, W: Write>(
     ensures looks { OnlyReadsStore (S.facts store.old) (S.facts store.new) }
     ensures text { OnOk result (IsTrue (S.facts store.old).honest
         → Appends (W.contents writer.old) (W.contents writer.new)
-        (text_of (S.facts store.old).content map.now.parts.items map.now.pages)) }
+        (map_text (S.facts store.old).content map.now.parts.items map.now.pages)) }
     ensures file { IsErrOf result MapFault.File → FailedSince (S.facts store.old) (S.facts store.new) }
     ensures refusals { IfErr result IsLack }
 {
@@ -123,7 +123,7 @@ pub fn draw_text<S: Store, W: Write>(
 ) -> Result<(), MapFault>
     ensures looks { OnlyReadsStore (S.facts store.old) (S.facts store.new) }
     ensures text { OnOk result (IsTrue (S.facts store.old).honest
-        → IsDrawn text_of (S.facts store.old).content (W.contents writer.old) (W.contents writer.new)) }
+        → IsDrawn map_text (S.facts store.old).content (W.contents writer.old) (W.contents writer.new)) }
     ensures file { IsErrOf result MapFault.File → FailedSince (S.facts store.old) (S.facts store.new) }
     ensures refusals { IfErr result (IsMapRefusal (S.facts store.old)) }
 {
@@ -133,7 +133,7 @@ pub fn draw_text<S: Store, W: Write>(
 
 // How many of them are heaps.
 fn heap_count(parts: &[Part]) -> usize
-    ensures { result ≡ count_by is_heap parts.now }
+    ensures { result ≡ count_by is_heap_part parts.now }
 {
     parts.iter().filter(|part| part.is_heap()).count()
 }
@@ -142,7 +142,7 @@ fn heap_count(parts: &[Part]) -> usize
 fn height(parts: &[Part], top: u64) -> u64
     requires few { length parts.now ≤ 16387 }
     requires top { top < 2 ^ 57 }
-    ensures { result ≡ top + 34 * count_by is_heap parts.now }
+    ensures { result ≡ top + 34 * count_by is_heap_part parts.now }
 {
     top + HEAP_HEIGHT * heap_count(parts) as u64
 }

@@ -31,9 +31,9 @@ impl fmt::Display for MapFault {
 }
 
 impl From<AllocError> for MapFault {
-    ghost use Rattle.file_map.specs.Faults.{no_memory};
+    ghost use Rattle.file_map.specs.Faults.{map_out_of_memory};
 
-    ghost from_gives = { λ error fault. fault ≡ no_memory };
+    ghost from_gives = { λ error fault. fault ≡ map_out_of_memory };
 
     fn from(_: AllocError) -> MapFault {
         MapFault::Memory
@@ -41,9 +41,9 @@ impl From<AllocError> for MapFault {
 }
 
 impl<T: Drop> From<AllocFailed<T>> for MapFault {
-    ghost use Rattle.file_map.specs.Faults.{no_memory};
+    ghost use Rattle.file_map.specs.Faults.{map_out_of_memory};
 
-    ghost from_gives = { λ error fault. fault ≡ no_memory };
+    ghost from_gives = { λ error fault. fault ≡ map_out_of_memory };
 
     fn from(_: AllocFailed<T>) -> MapFault {
         MapFault::Memory

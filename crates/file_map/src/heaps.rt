@@ -2,7 +2,7 @@
 ghost use Rattle.std.specs.Prelude.{◌≡◌, ◌≤◌, ◌<◌, ◌+◌, ◌*◌, ◌-◌, ◌/◌, ◌++◌, ◌∷◌, not, ◌==◌, count_by, IfOk, OnOk, length, min};
 ghost use Rattle.geos_model.specs.Heap.{most_chunks};
 ghost use Rattle.geos_model.specs.Words.{word_at};
-ghost use Rattle.file_map.specs.Heaps.{bar, bytes_told, cells, columns, counts_told, header, heap_line, heap_numbers, is_live, line_start, sizes, space, table_bytes, used, users_name};
+ghost use Rattle.file_map.specs.Heaps.{bar, bytes_text, cells, heap_columns, counts_text, header, heap_line, heap_numbers, is_chunk_size, line_start, sizes, chunk_space, table_bytes, used_bytes, users_name};
 
 use crate::lines::{push_handle, push_numbered, push_padded, push_repeated};
 use crate::part::Users;
@@ -55,14 +55,14 @@ pub fn read_sizes(alloc: Global, image: &[u8]) -> Result<Vec<u16>, AllocError>
 
 /// Whether a table entry is that of a chunk.
 pub fn is_live(size: u16) -> bool
-    ensures { result ≡ is_live size }
+    ensures { result ≡ is_chunk_size size }
 {
     size != NO_CHUNK
 }
 
 /// What an entry takes outside the table.
 pub fn space(size: u16) -> usize
-    ensures value { result ≡ space size }
+    ensures value { result ≡ chunk_space size }
     ensures most { result ≤ 65540 }
 {
     if size == NO_CHUNK || size == 0 {
@@ -83,7 +83,7 @@ pub fn header(sizes: &[u16]) -> usize
 /// How many bytes the heap needs.
 pub fn used(sizes: &[u16]) -> usize
     requires { length sizes.now ≤ most_chunks }
-    ensures { result ≡ used sizes.now }
+    ensures { result ≡ used_bytes sizes.now }
 {
     let mut total = header(sizes);
     for size in sizes {
@@ -94,7 +94,7 @@ pub fn used(sizes: &[u16]) -> usize
 
 /// How many chunks there are.
 pub fn live_count(sizes: &[u16]) -> usize
-    ensures { result ≡ count_by is_live sizes.now }
+    ensures { result ≡ count_by is_chunk_size sizes.now }
 {
     sizes.iter().filter(|size| is_live(**size)).count()
 }
@@ -164,7 +164,7 @@ fn push_columns(
     entries: usize,
     used: usize,
 ) -> Result<(), AllocError>
-    ensures { OnOk result (out.new.items ≡ out.old.items ++ columns live entries used) }
+    ensures { OnOk result (out.new.items ≡ out.old.items ++ heap_columns live entries used) }
 {
     push_padded(out, 7, live as u64)?;
     push_padded(out, 7, entries.saturating_sub(live) as u64)?;
@@ -174,7 +174,7 @@ fn push_columns(
 }
 
 fn push_counts(out: &mut Vec<u8>, live: usize, entries: usize) -> Result<(), AllocError>
-    ensures { OnOk result (out.new.items ≡ out.old.items ++ counts_told live entries) }
+    ensures { OnOk result (out.new.items ≡ out.old.items ++ counts_text live entries) }
 {
     push_numbered(out, b" chunks ", live as u64)?;
     push_numbered(
@@ -185,7 +185,7 @@ fn push_counts(out: &mut Vec<u8>, live: usize, entries: usize) -> Result<(), All
 }
 
 fn push_bytes(out: &mut Vec<u8>, used: usize) -> Result<(), AllocError>
-    ensures { OnOk result (out.new.items ≡ out.old.items ++ bytes_told used) }
+    ensures { OnOk result (out.new.items ≡ out.old.items ++ bytes_text used) }
 {
     push_numbered(out, b", bytes used ", used as u64)?;
     push_numbered(out, b", free ", CAPACITY.saturating_sub(used) as u64)

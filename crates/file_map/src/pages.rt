@@ -1,6 +1,6 @@
 //! What lies on a page.
 ghost use Rattle.std.specs.Prelude.{◌≡◌};
-ghost use Rattle.file_map.specs.Pages.{content, glyph, name, number, users};
+ghost use Rattle.file_map.specs.Pages.{page_content, glyph, name, content_number, users};
 
 use crate::part::Users;
 
@@ -50,7 +50,7 @@ pub fn users(updated: bool, saved: bool) -> Users
 
 /// What a page has, by the kinds of the parts on it.
 pub fn make_content(slots: bool, directory: bool, raw: bool, heap: bool, users: Users) -> Content
-    ensures { result ≡ content slots directory raw heap users }
+    ensures { result ≡ page_content slots directory raw heap users }
 {
     match (slots, directory, raw, heap) {
         (false, false, false, false) => Content::Nothing,
@@ -105,7 +105,7 @@ impl Content {
 
     /// Its place in the legend, from 0 on.
     pub fn number(self) -> usize
-        ensures { result ≡ number self }
+        ensures { result ≡ content_number self }
     {
         match self {
             Content::Slots => 0,

@@ -1,6 +1,6 @@
 //! What lies in an extent of a file, and whose it is.
 ghost use Rattle.std.specs.Prelude.{◌≡◌, OnOk};
-ghost use Rattle.file_map.specs.Parts.{drawn_more, is_directory, is_heap, is_raw, is_same, is_saved, is_shared, is_slots, is_updated, users_of};
+ghost use Rattle.file_map.specs.Parts.{drawn_more, is_directory_part, is_heap_part, is_raw_part, is_same, is_saved, is_shared, is_slots, is_updated, users_of};
 
 use file_report::Named;
 use geos_model::{Extent, VmHandle};
@@ -53,19 +53,19 @@ impl Part {
     }
 
     pub fn is_directory(&self) -> bool
-        ensures { result ≡ is_directory self.now }
+        ensures { result ≡ is_directory_part self.now }
     {
         matches!(self.kind, Kind::Directory)
     }
 
     pub fn is_raw(&self) -> bool
-        ensures { result ≡ is_raw self.now }
+        ensures { result ≡ is_raw_part self.now }
     {
         matches!(self.kind, Kind::Raw)
     }
 
     pub fn is_heap(&self) -> bool
-        ensures { result ≡ is_heap self.now }
+        ensures { result ≡ is_heap_part self.now }
     {
         matches!(self.kind, Kind::Heap)
     }

@@ -6,7 +6,7 @@ ghost use Rattle.vm_format.specs.Reading.{OnlyReadsStore};
 ghost use Rattle.vm_store.specs.Facts.{FailedSince, byte};
 ghost use Rattle.file_map.specs.Drawn.{IsFileMap};
 ghost use Rattle.file_map.specs.Faults.{IsMapRefusal, IsReadLack, IsUncounted};
-ghost use Rattle.file_map.specs.Parts.{is_heap_at, kind_at, part_of};
+ghost use Rattle.file_map.specs.Parts.{is_heap_at, kind_at, part_of_usage};
 
 use crate::fault::MapFault;
 use crate::part::{Kind, Part, Users, users_of};
@@ -43,7 +43,7 @@ fn read_part<S: Store>(store: &mut S, usage: Usage) -> Result<Part, MapFault>
     ensures looks { OnlyReadsStore (S.facts store.old) (S.facts store.new) }
     ensures extent { IfOk result (λ part. part.extent ≡ usage.extent) }
     ensures part { IfOk result (λ part. IsTrue (S.facts store.old).honest
-        → part ≡ part_of (S.facts store.old).content usage) }
+        → part ≡ part_of_usage (S.facts store.old).content usage) }
     ensures file { IsErrOf result MapFault.File → FailedSince (S.facts store.old) (S.facts store.new) }
     ensures refusals { IfErr result (λ fault. fault ≡ MapFault.File) }
 {
@@ -84,7 +84,7 @@ fn read_parts<S: Store>(
     ensures looks { OnlyReadsStore (S.facts store.old) (S.facts store.new) }
     ensures extents { IfOk result (λ parts. map (λ p. p.extent) parts.items ≡ map (λ u. u.extent) usages.now) }
     ensures parts { IfOk result (λ parts. IsTrue (S.facts store.old).honest
-        → parts.items ≡ map (part_of (S.facts store.old).content) usages.now) }
+        → parts.items ≡ map (part_of_usage (S.facts store.old).content) usages.now) }
     ensures file { IsErrOf result MapFault.File → FailedSince (S.facts store.old) (S.facts store.new) }
     ensures refusals { IfErr result IsReadLack }
 {

@@ -4,8 +4,8 @@ ghost use Rattle.std.specs.List.Sorted.{IsNonDecreasingBy};
 ghost use Rattle.std.specs.Io.KnownBytes.{Appends};
 ghost use Rattle.file_map.specs.Faults.{IsWriteLack};
 ghost use Rattle.file_map.specs.Pages.{content_at, glyph, legend, legend_line, page_picture, row_end, row_text, rows};
-ghost use Rattle.file_map.specs.Tallies.{IsTally};
-ghost use Rattle.file_map.specs.Walks.{IsWalk};
+ghost use Rattle.file_map.specs.Tallies.{IsPageTally};
+ghost use Rattle.file_map.specs.Walks.{IsPartWalk};
 
 use crate::fault::MapFault;
 use crate::lines::{push_padded, send};
@@ -28,12 +28,12 @@ fn push_page(
 ) -> Result<Walk, AllocError>
     // The page, and what was found below it.
     requires sorted { IsNonDecreasingBy (λ p. p.extent.page) parts.now }
-    requires walk { IsWalk parts.now page from }
-    requires tally { IsTally parts.now page counts.old }
+    requires walk { IsPartWalk parts.now page from }
+    requires tally { IsPageTally parts.now page counts.old }
     requires below { page < 2 ^ 56 }
     // What is found with it.
-    ensures walk { IfOk result (λ walk. IsWalk parts.now (page + 1) walk) }
-    ensures tally { OnOk result (IsTally parts.now (page + 1) counts.new) }
+    ensures walk { IfOk result (λ walk. IsPartWalk parts.now (page + 1) walk) }
+    ensures tally { OnOk result (IsPageTally parts.now (page + 1) counts.new) }
     ensures text { OnOk result (out.new.items ≡ out.old.items ++ glyph (content_at parts.now page) ∷ []) }
 {
     let walk = advance(parts, from, page);
@@ -56,11 +56,11 @@ fn push_row(
     requires sorted { IsNonDecreasingBy (λ p. p.extent.page) parts.now }
     requires below { pages < 2 ^ 56 }
     requires begins { 64 * row < pages }
-    requires walk { IsWalk parts.now (64 * row) from }
-    requires tally { IsTally parts.now (64 * row) counts.old }
+    requires walk { IsPartWalk parts.now (64 * row) from }
+    requires tally { IsPageTally parts.now (64 * row) counts.old }
     // What is found with it.
-    ensures walk { IfOk result (λ walk. IsWalk parts.now (row_end pages row) walk) }
-    ensures tally { OnOk result (IsTally parts.now (row_end pages row) counts.new) }
+    ensures walk { IfOk result (λ walk. IsPartWalk parts.now (row_end pages row) walk) }
+    ensures tally { OnOk result (IsPageTally parts.now (row_end pages row) counts.new) }
     ensures text { OnOk result (out.new.items ≡ out.old.items ++ row_text parts.now pages row) }
 {
     let first = ROW * row;
@@ -84,8 +84,8 @@ fn write_rows<W: Write>(
 ) -> Result<(), MapFault>
     requires sorted { IsNonDecreasingBy (λ p. p.extent.page) parts.now }
     requires below { pages < 2 ^ 56 }
-    requires tally { IsTally parts.now 0 counts.old }
-    ensures tally { OnOk result (IsTally parts.now pages counts.new) }
+    requires tally { IsPageTally parts.now 0 counts.old }
+    ensures tally { OnOk result (IsPageTally parts.now pages counts.new) }
     ensures text { OnOk result (Appends (W.contents writer.old) (W.contents writer.new) (rows parts.now pages)) }
     ensures refusals { IfErr result IsWriteLack }
 {
@@ -119,7 +119,7 @@ fn push_legend(
     pages: u64,
     counts: &[u64],
 ) -> Result<(), AllocError>
-    requires { IsTally parts.now pages counts.now }
+    requires { IsPageTally parts.now pages counts.now }
     ensures { OnOk result (out.new.items ≡ out.old.items ++ legend parts.now pages) }
 {
     let _ = parts;

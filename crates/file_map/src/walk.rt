@@ -1,8 +1,8 @@
 //! A walk along the pages of a file, over the parts by their first pages.
 ghost use Rattle.std.specs.Prelude.{◌≡◌, ◌≤◌, ◌<◌, ◌+◌, max, length, nat_lt, slice_index_or, if◌then◌else◌, IsTrue};
 ghost use Rattle.std.specs.List.Sorted.{IsNonDecreasingBy};
-ghost use Rattle.file_map.specs.Pages.{content, content_at, users};
-ghost use Rattle.file_map.specs.Walks.{IsPast, IsWalk, begins_by, ends_behind};
+ghost use Rattle.file_map.specs.Pages.{page_content, content_at, users};
+ghost use Rattle.file_map.specs.Walks.{IsPast, IsPartWalk, begins_by, ends_behind};
 
 use crate::pages::{Content, make_content, users};
 use crate::part::Part;
@@ -28,7 +28,7 @@ pub struct Walk {
 
 /// Before the first page.
 pub fn start_walk(parts: &[Part]) -> Walk
-    ensures { IsWalk parts.now 0 result }
+    ensures { IsPartWalk parts.now 0 result }
 {
     let _ = parts;
     Walk {
@@ -79,8 +79,8 @@ fn begins_by(parts: &[Part], next: usize, page: u64) -> bool
 /// Goes on to a page: each part that begins there has begun.
 pub fn advance(parts: &[Part], from: Walk, page: u64) -> Walk
     requires sorted { IsNonDecreasingBy (λ p. p.extent.page) parts.now }
-    requires walk { IsWalk parts.now page from }
-    ensures walk { IsWalk parts.now page result }
+    requires walk { IsPartWalk parts.now page from }
+    ensures walk { IsPartWalk parts.now page result }
     ensures past { IsPast parts.now page result }
 {
     let mut walk = from;
@@ -96,7 +96,7 @@ pub fn advance(parts: &[Part], from: Walk, page: u64) -> Walk
 /// What lies on a page to which a walk has come.
 pub fn content_of(parts: &[Part], walk: Walk, page: u64) -> Content
     requires sorted { IsNonDecreasingBy (λ p. p.extent.page) parts.now }
-    requires walk { IsWalk parts.now page walk }
+    requires walk { IsPartWalk parts.now page walk }
     requires past { IsPast parts.now page walk }
     ensures { result ≡ content_at parts.now page }
 {

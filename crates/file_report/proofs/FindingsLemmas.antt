@@ -6,7 +6,7 @@ use Rattle.geos_model.specs.Words.{word_at}
 use Rattle.geos_model.specs.File.{entry_read}
 use Rattle.geos_model.specs.declared.file.Entry.{Entry}
 use Rattle.geos_model.specs.declared.handle.VmHandle.{VmHandle}
-use Rattle.file_report.specs.Findings.{FindsMore, IsNoted, IsSeen, IsUnlisted, IsHeaderFault, IsEntryFault, handle_before, text_at}
+use Rattle.file_report.specs.Findings.{FindsMore, IsNoted, IsSeen, IsUnlisted, IsHeaderFault, IsEntryFault, handle_before, entry_text_at}
 use Rattle.file_report.specs.declared.finding.Named.{Named}
 use Rattle.file_report.specs.declared.finding.HeaderFault.{HeaderFault}
 use Rattle.file_report.specs.declared.finding.EntryFault.{EntryFault}
@@ -50,7 +50,7 @@ header_seen version n bytes name fault wrong file s looked =
 
 abbrev pub IsEntrySo : ℕ → ℕ → List ℕ → ℕ → Entry → EntryFault → Type 0
 IsEntrySo version n bytes i e fault =
-    (e ≡ entry_read (word_at bytes 4) (text_at bytes i)) × IsEntryFault version n (word_at bytes 4) (handle_before bytes i) (text_at bytes i) e fault
+    (e ≡ entry_read (word_at bytes 4) (entry_text_at bytes i)) × IsEntryFault version n (word_at bytes 4) (handle_before bytes i) (entry_text_at bytes i) e fault
 
 entry_seen : (version n : ℕ) (bytes : List ℕ) (name : Named) (i : ℕ) (e : Entry) (fault : EntryFault) → IsEntrySo version n bytes i e fault → IsSeen version n bytes name (finding.Entry name i e fault)
 entry_seen version n bytes name i e fault wrong file s looked =
@@ -61,15 +61,15 @@ entry_seen version n bytes name i e fault wrong file s looked =
 pub record IsEntryOf (bytes : List ℕ) (i version last : ℕ) (text : List ℕ) (e : Entry) : Type 0 where
   pub version_is : version ≡ word_at bytes 4
   pub last_is : last ≡ handle_before bytes i
-  pub text_is : text ≡ text_at bytes i
+  pub text_is : text ≡ entry_text_at bytes i
   pub entry_is : e ≡ entry_read version text
 
 pub entry_noted : (file_version n : ℕ) (bytes : List ℕ) (name : Named) (i version last : ℕ) (text : List ℕ) (e : Entry) (fault : EntryFault) (old new : List Finding) (holds : Bool) → IsEntryOf bytes i version last text e
     → (holds ≡ false → IsEntryFault file_version n version last text e fault) → FindsMore (IsNoted holds (finding.Entry name i e fault)) old new → FindsMore (IsSeen file_version n bytes name) old new
 entry_noted file_version n bytes name i version last text e fault old new holds of wrong = noted _ old new _ holds (λ no. entry_seen file_version n bytes name i e fault (
   of.entry_is ∙ ap₂ entry_read of.version_is of.text_is,
-  subst (λ v. IsEntryFault file_version n v (handle_before bytes i) (text_at bytes i) e fault) of.version_is
-      (subst (λ l. IsEntryFault file_version n version l (text_at bytes i) e fault) of.last_is
+  subst (λ v. IsEntryFault file_version n v (handle_before bytes i) (entry_text_at bytes i) e fault) of.version_is
+      (subst (λ l. IsEntryFault file_version n version l (entry_text_at bytes i) e fault) of.last_is
       (subst (λ t. IsEntryFault file_version n version last t e fault) of.text_is (wrong no))),
 ))
 

@@ -11,7 +11,7 @@ use Rattle.geos_model.specs.File.{end_page}
 use Rattle.geos_model.specs.declared.file.Extent.{Extent}
 use Rattle.vm_space.specs.Space.{is_on}
 use Rattle.vm_space.proofs.SpaceLemmas.{within_yes, within_no}
-use Rattle.file_report.specs.Pages.{AreFreePages, AreRuns, IsLongest, IsRun, IsWalk, PassesFree, begins_run, is_free, is_used, pages_with}
+use Rattle.file_report.specs.Pages.{AreFreePages, AreRuns, IsLongest, IsFreePageRun, IsPageWalk, PassesFree, begins_run, is_free_page, is_used, pages_with}
 use Rattle.file_report.specs.declared.free.FreePages.{FreePages}
 use Rattle.file_report.specs.declared.free.Walk.{Walk}
 use Rattle.file_report.specs.declared.pages.Usage.{Usage}
@@ -35,7 +35,7 @@ same_begins : (f g : ℕ → Bool) (n : ℕ) → ((p : ℕ) → p < n → f p �
 same_begins f g n same zero below = same 0 below
 same_begins f g n same (suc p) below = ap₂ (λ a b. a && not b) (same (suc p) below) (same p (omega (arith, below)))
 
-same_run : (f g : ℕ → Bool) (n start count : ℕ) → ((p : ℕ) → p < n → f p ≡ g p) → start + count ≤ n → IsRun f start count → IsRun g start count
+same_run : (f g : ℕ → Bool) (n start count : ℕ) → ((p : ℕ) → p < n → f p ≡ g p) → start + count ≤ n → IsFreePageRun f start count → IsFreePageRun g start count
 same_run f g n start count same inside run = λ p from below. sym (same p (omega (arith, inside, below))) ∙ run p from below
 
 -- the pages behind don't matter
@@ -60,7 +60,7 @@ not_begun f zero taken = taken
 not_begun f (suc n) taken = ap (λ b. b && not (f n)) taken
 
 -- a run that would have the last page has it not
-cut_run : (f : ℕ → Bool) (n start count most : ℕ) → f n ≡ false → start + count ≤ suc n → IsRun f start count → ((start count : ℕ) → start + count ≤ n → IsRun f start count → count ≤ most) → count ≤ most
+cut_run : (f : ℕ → Bool) (n start count most : ℕ) → f n ≡ false → start + count ≤ suc n → IsFreePageRun f start count → ((start count : ℕ) → start + count ≤ n → IsFreePageRun f start count → count ≤ most) → count ≤ most
 cut_run f n start count most taken inside run below = elim (cases_lt n (start + count)) [
   | inl reaches ↦ elim (cases_lt start (start + count)) [
     | inl some ↦ let free : true ≡ false = sym (run n (omega (arith, some, inside, reaches)) reaches) ∙ taken in absurd (cc free)
@@ -135,7 +135,7 @@ one_begun f n (suc k) edge free =
 longer : (f : ℕ → Bool) (n k most : ℕ) → ((p : ℕ) → p + 1 ≡ n → f p ≡ false) → ((p : ℕ) → n ≤ p → p < n + k → f p ≡ true) → IsLongest f n most → IsLongest f (n + k) (max most k)
 longer f n k most edge free is =
     let within = is.within in
-    let none : (start count : ℕ) → start + count ≤ n + k → IsRun f start count → count ≤ max most k = λ start count inside run. elim (cases_lt n (start + count)) [
+    let none : (start count : ℕ) → start + count ≤ n + k → IsFreePageRun f start count → count ≤ max most k = λ start count inside run. elim (cases_lt n (start + count)) [
       | inr short ↦ let old = is.most start count short run in omega (arith, old)
       | inl reaches ↦ elim (cases_lt start n) [
         | inr later ↦ omega (arith, later, inside)
@@ -147,10 +147,16 @@ longer f n k most edge free is =
     elim (cases_lt most k) [
       | inl new ↦
           let size : k ≡ max most k = omega (arith, new) in
-          record { start = n; within = omega (arith, new); run = subst (λ (c : ℕ). IsRun f n c) size free; most = none }
+          record {
+            start = n;
+            within = omega (arith, new);
+            run = subst
+                (λ (c : ℕ). IsFreePageRun f n c) size free;
+            most = none;
+          }
       | inr old ↦
           let size : most ≡ max most k = omega (arith, old) in
-          record { start = is.start; within = omega (arith, within, old); run = subst (λ (c : ℕ). IsRun f is.start c) size is.run; most = none }
+          record { start = is.start; within = omega (arith, within, old); run = subst (λ (c : ℕ). IsFreePageRun f is.start c) size is.run; most = none }
     ]
 
 free_more : (f : ℕ → Bool) (n k : ℕ) (r new : FreePages) → 0 < k → n + k ≤ 18446744073709551615 → ((p : ℕ) → p + 1 ≡ n → f p ≡ false) → ((p : ℕ) → n ≤ p → p < n + k → f p ≡ true) → AreRuns f n r
@@ -205,7 +211,7 @@ or_yes : (b : Bool) → (b || true) ≡ true
 or_yes true = refl
 or_yes false = refl
 
-module _ (taken : ℕ → Bool) (n start : ℕ) (w : Walk) (is : IsWalk taken n start w) (e : Extent) (from : start ≤ e.page) where
+module _ (taken : ℕ → Bool) (n start : ℕ) (w : Walk) (is : IsPageWalk taken n start w) (e : Extent) (from : start ≤ e.page) where
   abbrev with_extent : ℕ → Bool
   with_extent page = taken page || is_on page e
 
@@ -229,7 +235,7 @@ module _ (taken : ℕ → Bool) (n start : ℕ) (w : Walk) (is : IsWalk taken n 
   ]
 
   -- one more extent, of a byte at least, past which the walk goes
-  pub walk_more : (passed new : Walk) → n ≤ 18446744073709551615 → e.page < end_page e → PassesFree w (min n e.page) passed → new.free ≡ passed.free → new.end ≡ min n (max passed.end (end_page e)) → IsWalk with_extent n e.page new
+  pub walk_more : (passed new : Walk) → n ≤ 18446744073709551615 → e.page < end_page e → PassesFree w (min n e.page) passed → new.free ≡ passed.free → new.end ≡ min n (max passed.end (end_page e)) → IsPageWalk with_extent n e.page new
   walk_more passed new fits some passes free_is end_is =
       let s = min n e.page in
       let b = end_page e in
@@ -261,7 +267,7 @@ module _ (taken : ℕ → Bool) (n start : ℕ) (w : Walk) (is : IsWalk taken n 
       }
 
   -- one of no bytes
-  pub walk_none : end_page e ≤ e.page → IsWalk with_extent n e.page w
+  pub walk_none : end_page e ≤ e.page → IsPageWalk with_extent n e.page w
   walk_none none =
       let same : (p : ℕ) → with_extent p ≡ taken p = λ p. off p (within_no e.page (end_page e) p (λ low high. omega (arith, none, low, high))) in
       record {
@@ -273,7 +279,8 @@ module _ (taken : ℕ → Bool) (n start : ℕ) (w : Walk) (is : IsWalk taken n 
       }
 
 -- tests that are the same
-walk_same : (f g : ℕ → Bool) (n start : ℕ) (w : Walk) → ((p : ℕ) → f p ≡ g p) → IsWalk f n start w → IsWalk g n start w
+walk_same : (f g : ℕ → Bool) (n start : ℕ) (w : Walk) → ((p : ℕ) → f p ≡ g p) → IsPageWalk f n start w
+    → IsPageWalk g n start w
 walk_same f g n start w same is = record {
   counted = same_runs (λ p. not (f p)) (λ p. not (g p)) w.end w.free (λ p below. ap not (same p)) is.counted;
   inside = is.inside;
@@ -287,12 +294,12 @@ walk_same f g n start w same is = record {
 -- the first i are passed
 pub record IsPassed (us : List Usage) (n i : ℕ) (w : Walk) : Type 0 where
   pub start : ℕ
-  pub walk : IsWalk (is_used (take i us)) n start w
+  pub walk : IsPageWalk (is_used (take i us)) n start w
   pub later : (j : ℕ) (d : Usage) → i ≤ j → j < length us → start ≤ (get_or us j d).extent.page
 
 pub passed_none : (us : List Usage) (n : ℕ) (w : Walk) → w.end ≡ 0 → w.free.pages ≡ 0 → w.free.runs ≡ 0 → w.free.longest ≡ 0 → IsPassed us n 0 w
 passed_none us n w end pages runs longest =
-    let none : AreRuns (is_free (take 0 us)) 0 w.free = record {
+    let none : AreRuns (is_free_page (take 0 us)) 0 w.free = record {
       pages = pages;
       runs = runs;
       longest = record {
@@ -305,7 +312,7 @@ passed_none us n w end pages runs longest =
     record {
       start = 0;
       walk = record {
-        counted = subst (λ (k : ℕ). AreRuns (is_free (take 0 us)) k w.free) (sym end) none;
+        counted = subst (λ (k : ℕ). AreRuns (is_free_page (take 0 us)) k w.free) (sym end) none;
         inside = omega (arith, end);
         edge = λ less p at. absurd (omega (arith, at, end));
         used = λ p low high. absurd (omega (arith, high, end));
@@ -315,7 +322,7 @@ passed_none us n w end pages runs longest =
     }
 
 pub passed_more : (us : List Usage) (n i : ℕ) (d : Usage) (w new : Walk) → IsNonDecreasingBy (λ u. u.extent.page) us → i < length us → IsPassed us n i w
-    → ((taken : ℕ → Bool) (start : ℕ) → IsWalk taken n start w → start ≤ (get_or us i d).extent.page → IsWalk (λ page. taken page || is_on page (get_or us i d).extent) n (get_or us i d).extent.page new) → IsPassed us n (i + 1) new
+    → ((taken : ℕ → Bool) (start : ℕ) → IsPageWalk taken n start w → start ≤ (get_or us i d).extent.page → IsPageWalk (λ page. taken page || is_on page (get_or us i d).extent) n (get_or us i d).extent.page new) → IsPassed us n (i + 1) new
 passed_more us n i d w new order within p step =
     let e = (get_or us i d).extent in
     let next = step (is_used (take i us)) p.start p.walk (p.later i d (omega arith) within) in
@@ -338,4 +345,4 @@ passed_all us n i w new fits past p passes =
 
 -- in whatever order
 pub free_moved : (us vs : List Usage) (n : ℕ) (f : FreePages) → IsPermutation us vs → AreFreePages vs n f → AreFreePages us n f
-free_moved us vs n f moved is = same_runs (is_free vs) (is_free us) n f (λ p below. ap not (sym (list_any-IsPermutation (λ u. is_on p u.extent) us vs moved))) is
+free_moved us vs n f moved is = same_runs (is_free_page vs) (is_free_page us) n f (λ p below. ap not (sym (list_any-IsPermutation (λ u. is_on p u.extent) us vs moved))) is

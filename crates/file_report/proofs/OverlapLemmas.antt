@@ -9,7 +9,7 @@ use Rattle.std.proofs.lemmas.List.{get_or-take, length-take, take_more}
 use Rattle.std.proofs.lemmas.List.Elements.{Contains-append_left, Contains-push, Contains-push_cases}
 use Rattle.geos_model.specs.File.{end_page}
 use Rattle.vm_space.proofs.SpaceLemmas.{within_high, within_low, within_yes}
-use Rattle.file_report.specs.Pages.{AreTold, DoOverlap, IsShared, IsTold, part_of}
+use Rattle.file_report.specs.Pages.{AreReportedIn, DoOverlap, IsShared, IsReportedIn, part_of_content}
 use Rattle.geos_model.specs.declared.handle.VmHandle.{VmHandle}
 use Rattle.geos_model.specs.declared.file.Extent.{Extent}
 use Rattle.file_report.specs.declared.pages.Part.{Part}
@@ -59,7 +59,7 @@ shared_on u v w s t = record { part = s.part ∙ t.part; extent = s.extent ∙ t
 overlap_back : (u v : Usage) → DoOverlap (u, v) → DoOverlap (v, u)
 overlap_back u v o = record { page = o.page; first = o.second; second = o.first; differ = λ s. o.differ (shared_back v u s) }
 
-told_as : (pairs : List (Usage × Usage)) (u v : Usage) → IsShared u v → IsTold pairs u → IsTold pairs v
+told_as : (pairs : List (Usage × Usage)) (u v : Usage) → IsShared u v → IsReportedIn pairs u → IsReportedIn pairs v
 told_as pairs u v s t = record {
   pair = t.pair;
   listed = t.listed;
@@ -90,7 +90,7 @@ same_extent e f = elim (cases_eq e.page f.page) [
 ]
 
 shared_or : (u v : Usage) → IsShared u v ⊎ (IsShared u v → ⊥)
-shared_or u v = elim (same_part (part_of u.content) (part_of v.content)) [
+shared_or u v = elim (same_part (part_of_content u.content) (part_of_content v.content)) [
   | inl part ↦ elim (same_extent u.extent v.extent) [
     | inl extent ↦ inl (record { part = part; extent = extent })
     | inr differ ↦ inr (λ s. differ s.extent)
@@ -108,7 +108,7 @@ pub record IsFurthest (us : List Usage) (furthest : Option Usage) : Type 0 where
 -- these are walked over
 pub record IsSwept (us : List Usage) (pairs : List (Usage × Usage)) (furthest : Option Usage) : Type 0 where
   pub furthest_is : IsFurthest us furthest
-  pub told : AreTold us pairs
+  pub told : AreReportedIn us pairs
 
 none_in : (u : Usage) → Contains [] u → ⊥
 none_in u c = absurd (let short = c.1 in omega (arith, short))
@@ -139,9 +139,9 @@ furthest_more us v furthest next before which behind behind_all =
     }
 
 -- an extent that overlaps the next one: both are told
-pair_told : (us : List Usage) (v u f : Usage) (old new : List (Usage × Usage)) → ((x : Usage) → Contains us x → x.extent.page ≤ v.extent.page) → AreTold us old
-    → ((x : Usage) → IsTold old x → IsTold new x) → (DoOverlap (f, v) → Contains new (f, v)) → Contains us u → Contains us f → end_page u.extent ≤ end_page f.extent → DoOverlap (u, v)
-    → IsTold new u × IsTold new v
+pair_told : (us : List Usage) (v u f : Usage) (old new : List (Usage × Usage)) → ((x : Usage) → Contains us x → x.extent.page ≤ v.extent.page) → AreReportedIn us old
+    → ((x : Usage) → IsReportedIn old x → IsReportedIn new x) → (DoOverlap (f, v) → Contains new (f, v)) → Contains us u → Contains us f → end_page u.extent ≤ end_page f.extent → DoOverlap (u, v)
+    → IsReportedIn new u × IsReportedIn new v
 pair_told us v u f old new order told kept added u_in f_in far o =
     let common = overlap_pages u v o in
     let u_low = order u u_in in
@@ -155,19 +155,20 @@ pair_told us v u f old new order told kept added u_in f_in far o =
           (kept u (told u f u_in f_in both), told_as new f v same (kept f (told f u f_in u_in (overlap_back u f both))))
       | inr differ ↦
           let pair : Contains new (f, v) = added (overlap_from f v with_v differ) in
-          let told_v : IsTold new v = record { pair = (f, v); listed = pair; has = inr (shared_itself v) } in
+          let told_v : IsReportedIn new v = record { pair = (f, v); listed = pair; has = inr (shared_itself v) } in
           elim (shared_or u f) [
-            | inl same ↦ (let told_u : IsTold new u = record { pair = (f, v); listed = pair; has = inl (shared_back u f same) } in (told_u, told_v))
+            | inl same ↦ (let told_u : IsReportedIn new u = record { pair = (f, v); listed = pair; has = inl (shared_back u f same) } in (told_u, told_v))
             | inr apart ↦ (kept u (told u f u_in f_in (overlap_from u f with_u apart)), told_v)
           ]
     ]
 
 swept_more : (us : List Usage) (v : Usage) (old new : List (Usage × Usage)) (furthest : Option Usage) (next : Usage) → ((x : Usage) → Contains us x → x.extent.page ≤ v.extent.page)
-    → IsSwept us old furthest → ((x : Usage) → IsTold old x → IsTold new x) → ((x : Usage) → furthest ≡ Some x → DoOverlap (x, v) → Contains new (x, v))
+    → IsSwept us old furthest → ((x : Usage) → IsReportedIn old x → IsReportedIn new x) → ((x : Usage) → furthest ≡ Some x → DoOverlap (x, v) → Contains new (x, v))
     → ((furthest ≡ Some next) ⊎ (next ≡ v)) → end_page v.extent ≤ end_page next.extent → ((x : Usage) → furthest ≡ Some x → end_page x.extent ≤ end_page next.extent)
     → IsSwept (us ++ v ∷ []) new (Some next)
 swept_more us v old new furthest next order swept kept added which behind behind_all =
-    let with_next : (u : Usage) → Contains us u → DoOverlap (u, v) → IsTold new u × IsTold new v = λ u u_in o.
+    let with_next : (u : Usage) → Contains us u → DoOverlap (u, v) → IsReportedIn new u
+    × IsReportedIn new v = λ u u_in o.
     let f = swept.furthest_is.all u u_in in
     pair_told us v u f.0 old new order swept.told kept (added f.0 f.1) u_in (swept.furthest_is.one f.0 f.1) f.2 o in
     record {
@@ -178,7 +179,7 @@ swept_more us v old new furthest next order swept kept added which behind behind
           | inr w_new ↦ (with_next u u_old (subst (λ x. DoOverlap (u, x)) (sym w_new) o)).0
         ]
         | inr u_new ↦ elim (Contains-push_cases us v w w_in) [
-          | inl w_old ↦ subst (IsTold new) u_new (with_next w w_old (overlap_back v w (subst (λ x. DoOverlap (x, w)) (sym u_new) o))).1
+          | inl w_old ↦ subst (IsReportedIn new) u_new (with_next w w_old (overlap_back v w (subst (λ x. DoOverlap (x, w)) (sym u_new) o))).1
           | inr w_new ↦ absurd (o.differ (subst (IsShared u) (sym u_new ∙ w_new) (shared_itself u)))
         ]
       ];
@@ -200,7 +201,7 @@ taken_before us i d within order x c =
     omega (arith, rises, same, page)
 
 pub swept_next : (us : List Usage) (i : ℕ) (d : Usage) (old new : List (Usage × Usage)) (furthest : Option Usage) (next : Usage) → i < length us → IsNonDecreasingBy (λ u. u.extent.page) us
-    → IsSwept (take i us) old furthest → ((x : Usage) → IsTold old x → IsTold new x) → ((x : Usage) → furthest ≡ Some x → DoOverlap (x, get_or us i d) → Contains new (x, get_or us i d))
+    → IsSwept (take i us) old furthest → ((x : Usage) → IsReportedIn old x → IsReportedIn new x) → ((x : Usage) → furthest ≡ Some x → DoOverlap (x, get_or us i d) → Contains new (x, get_or us i d))
     → ((furthest ≡ Some next) ⊎ (next ≡ get_or us i d)) → end_page (get_or us i d).extent ≤ end_page next.extent → ((x : Usage) → furthest ≡ Some x → end_page x.extent ≤ end_page next.extent)
     → IsSwept (take (i + 1) us) new (Some next)
 swept_next us i d old new furthest next within order swept kept added which behind behind_all =

@@ -7,7 +7,7 @@ use Rattle.geos_model.specs.File.{directory_of, document_at, slot_of, pair_of, s
 use Rattle.geos_model.specs.declared.fault.Fault.{Fault}
 use Rattle.geos_model.specs.declared.file.Extent.{Extent}
 use Rattle.geos_model.specs.declared.file.Slot.{Slot}
-use Rattle.vm_format.specs.Listed.{shown}
+use Rattle.vm_format.specs.Listed.{as_directory}
 use Rattle.vm_format.specs.Slots.{chosen_by, header_verdict}
 use Rattle.file_report.specs.declared.document.CheckedDocument.{CheckedDocument}
 use Rattle.file_report.specs.Findings.{IsSo}
@@ -23,7 +23,7 @@ verdict_of (Err fault) = Err fault
 
 -- whether one of a slot's documents stands, and its directory if it has one
 pub record IsChecked (file : List ℕ) (version : ℕ) (e : Extent) (d : CheckedDocument) : Type 0 where
-  pub directory : option_map shown d.directory ≡ directory_of version file e
+  pub directory : option_map as_directory d.directory ≡ directory_of version file e
   pub stands : d.stands ≡ is_some (document_at version file e)
 
 -- whether a slot's documents stand, and what is wrong where they don't; and the directories that it leads to, where it
@@ -33,8 +33,9 @@ pub record IsSlotReport (file : List ℕ) (r : SlotReport) : Type 0 where
   pub so : All (IsSo file r.slot) r.findings.items
   pub some : IsErr r.verdict → 0 < length r.findings.items
   pub updated : IsOk (header_verdict r.slot)
-      → option_map shown r.updated ≡ directory_of r.slot.version file r.slot.working
-  pub saved : IsOk (header_verdict r.slot) → option_map shown r.saved ≡ directory_of r.slot.version file r.slot.saved
+      → option_map as_directory r.updated ≡ directory_of r.slot.version file r.slot.working
+  pub saved : IsOk (header_verdict r.slot) → option_map as_directory r.saved
+      ≡ directory_of r.slot.version file r.slot.saved
 
 -- what stands at a slot's page
 abbrev pub IsState : List ℕ → ℕ → SlotState → Type 0
@@ -51,12 +52,12 @@ opened Short = None
 opened NoMark = None
 opened (Closed s) = None
 
-abbrev pub numbered : SlotReport → ℕ × SlotReport
-numbered r = (r.slot.sequence, r)
+abbrev pub with_sequence : SlotReport → ℕ × SlotReport
+with_sequence r = (r.slot.sequence, r)
 
 -- with what was found of them
 abbrev pub chosen : Option SlotReport → Option SlotReport → Result (ℕ × SlotReport) Fault
-chosen first second = chosen_by (option_map numbered first) (option_map numbered second)
+chosen first second = chosen_by (option_map with_sequence first) (option_map with_sequence second)
 
 abbrev pub chosen_between : SlotState → SlotState → Result (ℕ × SlotReport) Fault
 chosen_between first second = chosen (opened first) (opened second)

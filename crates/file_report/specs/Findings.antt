@@ -32,8 +32,8 @@ IsHeaderFault file_version bytes header.Zeros = are_zeros (take 6 (drop 10 bytes
 IsHeaderFault file_version bytes (header.Length count) = (count ≡ word_at bytes 6) × (length bytes ≢ 16 + 16 * count)
 
 -- the text of an entry of a directory
-abbrev pub text_at : List ℕ → ℕ → List ℕ
-text_at bytes i = take 16 (drop (16 + 16 * i) bytes)
+abbrev pub entry_text_at : List ℕ → ℕ → List ℕ
+entry_text_at bytes i = take 16 (drop (16 + 16 * i) bytes)
 
 -- the handle of the entry before one, 0 before the first
 abbrev pub handle_before : List ℕ → ℕ → ℕ
@@ -59,7 +59,7 @@ pub record IsUnlisted (bytes : List ℕ) (map_block : ℕ) : Type 0 where
   pub unlisted : (i : ℕ) → 16 + 16 * i + 16 ≤ length bytes → word_at bytes (16 + 16 * i) ≢ map_block
 
 -- one of a slot's documents has a directory, which lists this entry
-pub record IsListed (file : List ℕ) (s : Slot) (name : Named) (e : Entry) : Type 0 where
+pub record IsEntryListed (file : List ℕ) (s : Slot) (name : Named) (e : Entry) : Type 0 where
   pub directory : Directory
   pub found : directory_of s.version file (directory_extent s name) ≡ Some directory
   pub listed : Contains directory.entries e
@@ -78,9 +78,9 @@ IsSo file s (finding.MapBlock name h) = IsUnlisted (bytes_in file (directory_ext
 IsSo file s (finding.Entry name i e fault) =
     let bytes = bytes_in file (directory_extent s name) in
     let version = word_at bytes 4 in
-    (e ≡ entry_read version (text_at bytes i))
-    × IsEntryFault s.version (length file) version (handle_before bytes i) (text_at bytes i) e fault
-IsSo file s (finding.Image name e) = IsListed file s name e × (block_of file e ≡ None)
+    (e ≡ entry_read version (entry_text_at bytes i))
+    × IsEntryFault s.version (length file) version (handle_before bytes i) (entry_text_at bytes i) e fault
+IsSo file s (finding.Image name e) = IsEntryListed file s name e × (block_of file e ≡ None)
 
 -- more was found, or nothing, and all that is new is so
 pub record FindsMore (so : Finding → Type 0) (old new : List Finding) : Type 0 where

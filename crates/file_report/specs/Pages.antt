@@ -7,7 +7,7 @@ use Rattle.geos_model.specs.declared.file.Extent.{Extent}
 use Rattle.geos_model.specs.declared.file.Entry.{Entry}
 use Rattle.geos_model.specs.declared.file.Slot.{Slot}
 use Rattle.vm_space.specs.Space.{is_on}
-use Rattle.vm_format.specs.Listed.{shown}
+use Rattle.vm_format.specs.Listed.{as_directory}
 use Rattle.file_report.specs.declared.finding.Named.{Named}
 use Rattle.file_report.specs.declared.finding.Named.TheVariants.{Updated, Saved}
 use Rattle.file_report.specs.declared.checking.SlotReport.{SlotReport}
@@ -37,7 +37,7 @@ slot_usages s updated saved = slots_usage ∷ usages_in Updated s.working update
 
 -- with those that were found
 abbrev pub usages_of : SlotReport → List Usage
-usages_of r = slot_usages r.slot (option_map shown r.updated) (option_map shown r.saved)
+usages_of r = slot_usages r.slot (option_map as_directory r.updated) (option_map as_directory r.saved)
 
 -- with those that are in a file
 abbrev pub file_usages : List ℕ → Slot → List Usage
@@ -53,8 +53,8 @@ pages_with is zero = 0
 pages_with is (suc n) = cond (is n) 1 0 + pages_with is n
 
 -- nothing lies on a page
-abbrev pub is_free : List Usage → ℕ → Bool
-is_free us page = not (is_used us page)
+abbrev pub is_free_page : List Usage → ℕ → Bool
+is_free_page us page = not (is_used us page)
 
 -- a free page behind one that isn't, or the first page
 abbrev pub begins_run : (ℕ → Bool) → ℕ → Bool
@@ -62,15 +62,15 @@ begins_run free zero = free zero
 begins_run free (suc page) = free (suc page) && not (free page)
 
 -- so many pages from one on are free
-abbrev pub IsRun : (ℕ → Bool) → ℕ → ℕ → Type 0
-IsRun free start count = (page : ℕ) → start ≤ page → page < start + count → free page ≡ true
+abbrev pub IsFreePageRun : (ℕ → Bool) → ℕ → ℕ → Type 0
+IsFreePageRun free start count = (page : ℕ) → start ≤ page → page < start + count → free page ≡ true
 
 -- among the first n pages is a run of so many, and none of more
 pub record IsLongest (free : ℕ → Bool) (n count : ℕ) : Type 0 where
   pub start : ℕ
   pub within : start + count ≤ n
-  pub run : IsRun free start count
-  pub most : (start count' : ℕ) → start + count' ≤ n → IsRun free start count' → count' ≤ count
+  pub run : IsFreePageRun free start count
+  pub most : (start count' : ℕ) → start + count' ≤ n → IsFreePageRun free start count' → count' ≤ count
 
 -- the first n pages, by a test which are free
 pub record AreRuns (free : ℕ → Bool) (n : ℕ) (f : FreePages) : Type 0 where
@@ -80,17 +80,17 @@ pub record AreRuns (free : ℕ → Bool) (n : ℕ) (f : FreePages) : Type 0 wher
 
 -- those of the first n pages on which nothing lies
 abbrev pub AreFreePages : List Usage → ℕ → FreePages → Type 0
-AreFreePages us n f = AreRuns (is_free us) n f
+AreFreePages us n f = AreRuns (is_free_page us) n f
 
 -- what an extent holds, whichever of the two documents has it
-abbrev pub part_of : Content → Part
-part_of content.Slots = part.Slots
-part_of (content.Directory name) = part.Directory
-part_of (content.Image name block) = part.Image block
+abbrev pub part_of_content : Content → Part
+part_of_content content.Slots = part.Slots
+part_of_content (content.Directory name) = part.Directory
+part_of_content (content.Image name block) = part.Image block
 
 -- the same thing in the same place, as what both documents have
 pub record IsShared (u v : Usage) : Type 0 where
-  pub part : part_of u.content ≡ part_of v.content
+  pub part : part_of_content u.content ≡ part_of_content v.content
   pub extent : u.extent ≡ v.extent
 
 -- two different things, and a page on which both lie
@@ -101,20 +101,20 @@ pub record DoOverlap (p : Usage × Usage) : Type 0 where
   pub differ : IsShared p.0 p.1 → ⊥
 
 -- one of the pairs has this, or the same in the same place
-pub record IsTold (pairs : List (Usage × Usage)) (u : Usage) : Type 0 where
+pub record IsReportedIn (pairs : List (Usage × Usage)) (u : Usage) : Type 0 where
   pub pair : Usage × Usage
   pub listed : Contains pairs pair
   pub has : IsShared pair.0 u ⊎ IsShared pair.1 u
 
 -- each of them that overlaps another one is told
-abbrev pub AreTold : List Usage → List (Usage × Usage) → Type 0
-AreTold us pairs = (u v : Usage) → Contains us u → Contains us v → DoOverlap (u, v) → IsTold pairs u
+abbrev pub AreReportedIn : List Usage → List (Usage × Usage) → Type 0
+AreReportedIn us pairs = (u v : Usage) → Contains us u → Contains us v → DoOverlap (u, v) → IsReportedIn pairs u
 
 -- The walk over the pages.
 
 -- Of n pages those before the walk's end are counted, and those from `start` on to it are taken. Where the end is none
 -- of the file's, the page before it is taken.
-pub record IsWalk (taken : ℕ → Bool) (n start : ℕ) (w : Walk) : Type 0 where
+pub record IsPageWalk (taken : ℕ → Bool) (n start : ℕ) (w : Walk) : Type 0 where
   pub counted : AreRuns (λ page. not (taken page)) w.end w.free
   pub inside : w.end ≤ n
   pub edge : w.end < n → (page : ℕ) → page + 1 ≡ w.end → taken page ≡ true

@@ -5,8 +5,8 @@ use Rattle.geos_model.specs.Document.{Block}
 use Rattle.geos_model.specs.declared.command.Body.{Body}
 use Rattle.geos_model.specs.declared.file.Entry.{Entry}
 use Rattle.geos_model.specs.declared.file.Slot.{Slot}
-use Rattle.vm_format.specs.Reading.{IsRead}
-use Rattle.file_report.specs.Findings.{IsListed, IsSo, directory_extent}
+use Rattle.vm_format.specs.Reading.{IsDirectoryRead}
+use Rattle.file_report.specs.Findings.{IsEntryListed, IsSo, directory_extent}
 use Rattle.file_report.specs.declared.finding.Finding.{Finding}
 use Rattle.file_report.specs.declared.finding.Named.{Named}
 use Rattle.vm_format.specs.declared.stored_directory.ReadDirectory.{ReadDirectory}
@@ -33,7 +33,7 @@ IsSoOf n s f = (file : List ℕ) → n ≡ length file → IsSo file s f
 -- so it is in each file of n bytes from which this directory was read
 abbrev pub IsSoOfRead : ℕ → Slot → Named → ReadDirectory → Finding → Type 0
 IsSoOfRead n s name read f =
-    (file : List ℕ) → n ≡ length file → IsRead s.version (directory_extent s name) read file → IsSo file s f
+    (file : List ℕ) → n ≡ length file → IsDirectoryRead s.version (directory_extent s name) read file → IsSo file s f
 
 -- so it is in what an honest store has
 abbrev pub IsSoIn : StoreFacts → Slot → Finding → Type 0
@@ -42,4 +42,4 @@ IsSoIn store s f = IsTrue store.honest → IsSo store.content s f
 -- so it is there with each slot of which the directory lists these entries
 abbrev pub IsSoOfEntries : StoreFacts → Named → List Entry → Finding → Type 0
 IsSoOfEntries store name entries f =
-    (s : Slot) → IsTrue store.honest → All (IsListed store.content s name) entries → IsSo store.content s f
+    (s : Slot) → IsTrue store.honest → All (IsEntryListed store.content s name) entries → IsSo store.content s f

@@ -20,35 +20,36 @@ abbrev pub name_text : Named → List ℕ
 name_text Updated = codes "updated"
 name_text Saved = codes "saved"
 
-abbrev pub extent_text : Extent → List ℕ
-extent_text e = codes "page " ++ decimal e.page ++ codes ", " ++ decimal e.length ++ codes " bytes"
+abbrev pub extent_words : Extent → List ℕ
+extent_words e = codes "page " ++ decimal e.page ++ codes ", " ++ decimal e.length ++ codes " bytes"
 
-abbrev pub header_text : HeaderFault → List ℕ
-header_text header.Mark = codes "its mark is not GDIR"
-header_text (header.Version v) = codes "its version is " ++ decimal v
-header_text header.Zeros = codes "its zeros are not"
-header_text (header.Length count) = codes "its length is not that of " ++ decimal count ++ codes " entries"
+abbrev pub header_fault_words : HeaderFault → List ℕ
+header_fault_words header.Mark = codes "its mark is not GDIR"
+header_fault_words (header.Version v) = codes "its version is " ++ decimal v
+header_fault_words header.Zeros = codes "its zeros are not"
+header_fault_words (header.Length count) = codes "its length is not that of " ++ decimal count ++ codes " entries"
 
-abbrev pub entry_text : EntryFault → List ℕ
-entry_text entry.Order = codes "its handle does not rise"
-entry_text entry.Handle = codes "its handle is too great"
-entry_text entry.Length = codes "no image has its length"
-entry_text entry.Outside = codes "its image is not in the file"
-entry_text entry.Zeros = codes "its zeros are not"
+abbrev pub entry_fault_words : EntryFault → List ℕ
+entry_fault_words entry.Order = codes "its handle does not rise"
+entry_fault_words entry.Handle = codes "its handle is too great"
+entry_fault_words entry.Length = codes "no image has its length"
+entry_fault_words entry.Outside = codes "its image is not in the file"
+entry_fault_words entry.Zeros = codes "its zeros are not"
 
 abbrev pub finding_text : Finding → List ℕ
 finding_text (finding.SlotVersion v) = codes "its version is " ++ decimal v
 finding_text finding.SlotZeros = codes "its zeros are not"
 finding_text finding.SlotSequence = codes "its sequence number is 0"
-finding_text (finding.NoDirectory name e) = name_text name ++ codes " document: no directory at " ++ extent_text e
-finding_text (finding.Outside name e) = name_text name ++ codes " directory: not in the file: " ++ extent_text e
-finding_text (finding.NoLength name e) = name_text name ++ codes " directory: none has such a length: " ++ extent_text e
-finding_text (finding.Header name fault) = name_text name ++ codes " directory: " ++ header_text fault
+finding_text (finding.NoDirectory name e) = name_text name ++ codes " document: no directory at " ++ extent_words e
+finding_text (finding.Outside name e) = name_text name ++ codes " directory: not in the file: " ++ extent_words e
+finding_text (finding.NoLength name e) =
+    name_text name ++ codes " directory: none has such a length: " ++ extent_words e
+finding_text (finding.Header name fault) = name_text name ++ codes " directory: " ++ header_fault_words fault
 finding_text (finding.MapBlock name h) =
     name_text name ++ codes " directory: its map block " ++ handle_text h.0 ++ codes " is not listed"
 finding_text (finding.Entry name i e fault) =
     name_text name ++ codes " directory: entry " ++ decimal i ++ codes ", block " ++ handle_text e.handle.0
-    ++ codes ", image at " ++ extent_text e.extent ++ codes ": " ++ entry_text fault
+    ++ codes ", image at " ++ extent_words e.extent ++ codes ": " ++ entry_fault_words fault
 finding_text (finding.Image name e) =
     name_text name ++ codes " document: block " ++ handle_text e.handle.0 ++ codes " of type "
-    ++ decimal e.attributes.heap_type ++ codes ": no image of one at " ++ extent_text e.extent
+    ++ decimal e.attributes.heap_type ++ codes ": no image of one at " ++ extent_words e.extent

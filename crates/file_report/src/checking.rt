@@ -7,7 +7,7 @@ ghost use Rattle.vm_format.specs.Reading.{IsResourceFault, OnlyReadsStore};
 ghost use Rattle.file_report.specs.Findings.{FindsMore};
 ghost use Rattle.file_report.specs.Reading.{IsSoOfSlot};
 ghost use Rattle.vm_format.specs.Slots.{chosen_by, header_verdict};
-ghost use Rattle.file_report.specs.Checked.{IsReport, IsSlotReport, IsState, chosen_between, counting_between, counting_number, numbered, opened, verdict_by};
+ghost use Rattle.file_report.specs.Checked.{IsReport, IsSlotReport, IsState, chosen_between, counting_between, counting_number, with_sequence, opened, verdict_by};
 
 use crate::document::check_document;
 use crate::finding::{Finding, Named, note_unless};
@@ -198,7 +198,7 @@ impl Report {
 
 // What was found of a slot, with its sequence number, where it is open.
 fn numbered(state: &SlotState) -> Option<(u64, &SlotReport)>
-    ensures { option_map (λ p. (p.0, p.1.now)) result ≡ option_map numbered (opened state.now) }
+    ensures { option_map (λ p. (p.0, p.1.now)) result ≡ option_map with_sequence (opened state.now) }
 {
     match state {
         SlotState::Open(report) => Some((report.slot.sequence, report)),

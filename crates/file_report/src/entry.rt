@@ -2,7 +2,7 @@
 ghost use Rattle.std.specs.Prelude.{◌≡◌, ◌+◌, ◌*◌, ◌<◌, ◌≤◌, ◌≢◌, ◌⊎◌, ◌-◌, ℕ, false, length, take, drop};
 ghost use Rattle.geos_model.specs.Words.{word_at};
 ghost use Rattle.geos_model.specs.File.{directory_mark, greatest_handle, longest_directory, longest_image};
-ghost use Rattle.file_report.specs.Findings.{are_zeros, handle_before, text_at, zeros_of};
+ghost use Rattle.file_report.specs.Findings.{are_zeros, handle_before, entry_text_at, zeros_of};
 
 use byteorder::{ByteOrder, LittleEndian};
 use vm_format::{ENTRY_LENGTH, HEADER_LENGTH, LONGEST_DIRECTORY, LONGEST_IMAGE, most_handles};
@@ -10,7 +10,7 @@ use vm_format::{ENTRY_LENGTH, HEADER_LENGTH, LONGEST_DIRECTORY, LONGEST_IMAGE, m
 /// The text of an entry.
 pub fn text_at(bytes: &[u8], i: usize) -> &[u8]
     requires { 16 + 16 * i + 16 ≤ length bytes.now }
-    ensures text { result.now ≡ text_at bytes.now i }
+    ensures text { result.now ≡ entry_text_at bytes.now i }
     ensures size { length result.now ≡ ENTRY_LENGTH }
 {
     let at = HEADER_LENGTH + ENTRY_LENGTH * i;

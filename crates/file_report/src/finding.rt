@@ -98,9 +98,9 @@ impl fmt::Display for Named {
 
 impl fmt::Display for HeaderFault {
     ghost use Rattle.std.specs.Prelude.{Some};
-    ghost use Rattle.file_report.specs.Texts.{header_text};
+    ghost use Rattle.file_report.specs.Texts.{header_fault_words};
 
-    ghost output = { λ fault. Some (header_text fault) };
+    ghost output = { λ fault. Some (header_fault_words fault) };
 
     fn fmt<W: fmt::Write>(&self, f: &mut fmt::Formatter<W>) -> fmt::Result {
         match self {
@@ -114,9 +114,9 @@ impl fmt::Display for HeaderFault {
 
 impl fmt::Display for EntryFault {
     ghost use Rattle.std.specs.Prelude.{Some};
-    ghost use Rattle.file_report.specs.Texts.{entry_text};
+    ghost use Rattle.file_report.specs.Texts.{entry_fault_words};
 
-    ghost output = { λ fault. Some (entry_text fault) };
+    ghost output = { λ fault. Some (entry_fault_words fault) };
 
     fn fmt<W: fmt::Write>(&self, f: &mut fmt::Formatter<W>) -> fmt::Result {
         match self {
@@ -135,9 +135,9 @@ struct At(Extent);
 
 impl fmt::Display for At {
     ghost use Rattle.std.specs.Prelude.{Some};
-    ghost use Rattle.file_report.specs.Texts.{extent_text};
+    ghost use Rattle.file_report.specs.Texts.{extent_words};
 
-    ghost output = { λ at. Some (extent_text at.0) };
+    ghost output = { λ at. Some (extent_words at.0) };
 
     fn fmt<W: fmt::Write>(&self, f: &mut fmt::Formatter<W>) -> fmt::Result {
         let Extent { page, length } = self.0;

@@ -2,7 +2,7 @@
 ghost use Rattle.std.specs.Prelude.{◌≤◌, ◌||◌, ℕ, Bool};
 ghost use Rattle.std.specs.List.Sorted.{IsNonDecreasingBy};
 ghost use Rattle.vm_space.specs.Space.{is_on};
-ghost use Rattle.file_report.specs.Pages.{AreFreePages, IsWalk, PassesFree};
+ghost use Rattle.file_report.specs.Pages.{AreFreePages, IsPageWalk, PassesFree};
 
 use crate::pages::Usage;
 use geos_model::Extent;
@@ -47,8 +47,8 @@ impl Walk {
 
     // Past an extent, of so many pages. One of no bytes lies on none.
     fn past(self, extent: Extent, pages: u64) -> Walk
-        ensures { (taken : ℕ → Bool) (start : ℕ) → IsWalk taken pages start self → start ≤ extent.page
-            → IsWalk (λ page. taken page || is_on page extent) pages extent.page result }
+        ensures { (taken : ℕ → Bool) (start : ℕ) → IsPageWalk taken pages start self → start ≤ extent.page
+            → IsPageWalk (λ page. taken page || is_on page extent) pages extent.page result }
     {
         if extent.length == 0 {
             return self;

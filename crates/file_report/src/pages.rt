@@ -4,8 +4,8 @@ ghost use Rattle.std.specs.List.{Contains};
 ghost use Rattle.std.specs.List.Sorted.{IsNonDecreasingBy};
 ghost use Rattle.std.specs.Option.{option_copied, option_map};
 ghost use Rattle.geos_model.specs.File.{end_page};
-ghost use Rattle.vm_format.specs.Listed.{shown};
-ghost use Rattle.file_report.specs.Pages.{AreTold, DoOverlap, IsShared, IsTold, image_usage, part_of, slot_usages, usages_in, usages_of};
+ghost use Rattle.vm_format.specs.Listed.{as_directory};
+ghost use Rattle.file_report.specs.Pages.{AreReportedIn, DoOverlap, IsShared, IsReportedIn, image_usage, part_of_content, slot_usages, usages_in, usages_of};
 ghost use Rattle.file_report.specs.declared.pages.Usage.{Usage};
 
 use crate::checking::SlotReport;
@@ -47,7 +47,7 @@ fn push_document(
     directory: Option<&Directory>,
 ) -> Result<(), AllocError>
     ensures { OnOk result (usages.new.items
-        ≡ usages.old.items ++ usages_in name extent (option_map shown (option_copied directory.entry))) }
+        ≡ usages.old.items ++ usages_in name extent (option_map as_directory (option_copied directory.entry))) }
 {
     if let Some(directory) = directory {
         usages.push(Usage {
@@ -84,7 +84,8 @@ pub fn slot_usages(
     saved: Option<&Directory>,
 ) -> Result<Vec<Usage>, AllocError>
     ensures all { IfOk result (λ usages. IsPermutation (slot_usages slot.now
-        (option_map shown (option_copied updated.entry)) (option_map shown (option_copied saved.entry))) usages.items) }
+        (option_map as_directory (option_copied updated.entry)) (option_map as_directory (option_copied saved.entry)))
+        usages.items) }
     ensures order { IfOk result (λ usages. IsNonDecreasingBy (λ u. u.extent.page) usages.items) }
 {
     let mut usages = Vec::new(alloc);
@@ -117,7 +118,7 @@ pub enum Part {
 }
 
 fn part_in(content: Content) -> Part
-    ensures { result ≡ part_of content }
+    ensures { result ≡ part_of_content content }
 {
     match content {
         Content::Slots => Part::Slots,
@@ -153,7 +154,7 @@ fn push_overlap(
     usage: Usage,
 ) -> Result<(), AllocError>
     ensures overlap { OnOk result (All DoOverlap pairs.old.items → All DoOverlap pairs.new.items) }
-    ensures kept { OnOk result ((u : Usage) → IsTold pairs.old.items u → IsTold pairs.new.items u) }
+    ensures kept { OnOk result ((u : Usage) → IsReportedIn pairs.old.items u → IsReportedIn pairs.new.items u) }
     ensures told { OnOk result ((u : Usage) → furthest ≡ Some u → DoOverlap (u, usage)
         → Contains pairs.new.items (u, usage)) }
 {
@@ -183,7 +184,7 @@ fn further(furthest: Option<Usage>, usage: Usage) -> Usage
 pub fn overlaps(alloc: Global, usages: &[Usage]) -> Result<Vec<(Usage, Usage)>, AllocError>
     ensures overlap { IfOk result (λ pairs. All DoOverlap pairs.items) }
     ensures all { IfOk result (λ pairs. IsNonDecreasingBy (λ u. u.extent.page) usages.now
-        → AreTold usages.now pairs.items) }
+        → AreReportedIn usages.now pairs.items) }
 {
     let mut pairs = Vec::new(alloc);
     let mut furthest = None;

@@ -4,9 +4,9 @@ use Rattle.geos_model.specs.Refusal.{number_of_fault}
 use Rattle.geos_model.specs.declared.command.Edit.{Edit}
 use Rattle.geos_model.specs.declared.fault.Fault.{Fault}
 use Rattle.undo_log.specs.Sessions.{SessionState}
-use Rattle.c_sessions.specs.Codes.{Tells}
+use Rattle.c_sessions.specs.Codes.{ReportsAnswer}
 use Rattle.c_sessions.specs.Files.{BeginsOn, Begun, IsNotBegun}
-use Rattle.geos_c.specs.Handles.{Begins, EditsOnHandle, HandsOutOnHandle, IsPut, MakesOnHandle, OnFiles, OnHandle, SavesOnHandle, TellsOnHandle}
+use Rattle.geos_c.specs.Handles.{Begins, EditsOnHandle, HandsOutOnHandle, IsPutInHandle, MakesOnHandle, OnFiles, OnHandle, SavesOnHandle, ReportsOnHandle}
 use Rattle.c_sessions.specs.Keeping.{IsBegun, SavesInto}
 use Rattle.geos_c.specs.Stores.{FileStore, channel_calls, facts, file_number}
 use Rattle.geos_c.specs.declared.channel.Channel.{Channel}
@@ -34,13 +34,13 @@ module _ (old new : Handle) (kept lent : Kept FileStore) (after : SessionState F
   not_closed closed = let wrong : false ≡ true = sym closed ∙ was.0 in absurd (cc wrong)
 
   pub served : {T : Type 0} (does : SessionState FileStore → SessionState FileStore → Result T Fault → Type 0)
-      → Tells (does lent.session after) code → OnHandle does old new told
+      → ReportsAnswer (does lent.session after) code → OnHandle does old new told
   served does did = record {
     same = still_open;
     number = λ is_open. number_is;
-    told = λ is_open. subst (λ (n : ℤ). Tells (does old.kept.session new.kept.session) n) (sym code_is)
-        (subst (λ (s : SessionState FileStore). Tells (does old.kept.session s) code) (sym after_is)
-        (subst (λ (s : SessionState FileStore). Tells (does s after) code) before_is did));
+    told = λ is_open. subst (λ (n : ℤ). ReportsAnswer (does old.kept.session new.kept.session) n) (sym code_is)
+        (subst (λ (s : SessionState FileStore). ReportsAnswer (does old.kept.session s) code) (sym after_is)
+        (subst (λ (s : SessionState FileStore). ReportsAnswer (does s after) code) before_is did));
     closed = not_closed;
   }
 
@@ -56,7 +56,7 @@ module _ (old new : Handle) (kept lent : Kept FileStore) (after : SessionState F
   }
 
   pub tells : (does : SessionState FileStore → SessionState FileStore → ℤ → Type 0) (nothing : Type 0)
-      → does lent.session after code → TellsOnHandle does nothing old new told
+      → does lent.session after code → ReportsOnHandle does nothing old new told
   tells does nothing did = record {
     same = still_open;
     number = λ is_open. number_is;
@@ -95,7 +95,7 @@ edits edit made old new code did = record {
 -- what was to begin a session on the file with this number is put behind a handle that has none
 module _ (is : FileStore → Begun FileStore → Type 0) (number : FileNumber) (old new : Handle) (code : ℤ) where
   abbrev Answers : Type 0
-  Answers = (answer : Result (Kept FileStore) Fault) × OnFiles (λ from to. IsBegun channel_calls is number from answer to) × IsPut answer old new code
+  Answers = (answer : Result (Kept FileStore) Fault) × OnFiles (λ from to. IsBegun channel_calls is number from answer to) × IsPutInHandle answer old new code
 
   answered : {B : Type 0} (value : B → Kept FileStore) (from to : Channel) (result : Result B Fault)
       → MatchResult result (λ b. ((value b).number ≡ number) × BeginsOn channel_calls is number from (value b).session to) (λ fault. IsNotBegun channel_calls is number from fault to)

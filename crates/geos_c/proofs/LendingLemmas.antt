@@ -20,7 +20,7 @@ use Rattle.geos_model.specs.declared.handle.VmHandle.{VmHandle}
 use Rattle.geos_model.proofs.Undoing.{same_reply}
 use Rattle.undo_log.specs.Sessions.{SessionState, machine_of}
 use Rattle.undo_log.proofs.Locks.{is_locked-is, lock_count-is}
-use Rattle.c_sessions.specs.Codes.{Tells}
+use Rattle.c_sessions.specs.Codes.{ReportsAnswer}
 use Rattle.geos_c.specs.Lending.{HandsOutPlace, IsLent, Lends, lent_by}
 
 -- what takes no memory, where no call of the store has failed, is answered by the rules alone
@@ -190,7 +190,7 @@ handed_on (Err e) fault o is first = first ∙ ap (λ f. Some (Refused f)) (sym 
 
 -- What is lent is handed out.
 pub handed_out : {S : Type 0} (command : Command) (block : ℕ) (old new : SessionState S) (answer : Result (Bor (List ℕ)) Fault) (at : Ptr) (count : ℕ) (code : ℤ)
-    → IsLent command block old (reply_by (λ bytes. BytesAre bytes.now) answer) → new ≡ old → HandsOutPlace answer at count code → Tells (Lends command block at count old new) code
+    → IsLent command block old (reply_by (λ bytes. BytesAre bytes.now) answer) → new ≡ old → HandsOutPlace answer at count code → ReportsAnswer (Lends command block at count old new) code
 handed_out command block old new (Ok bytes) at count code lent same out =
     let there : at ≢ null_ptr = λ none. let wrong : null_ptr ≡ as_ptr bytes = sym none ∙ out.place.0 in absurd (cc wrong) in
     (Ok bytes.now, out.code_is, (lent, same, (there, out.place.1)))

@@ -91,11 +91,11 @@ AbandonsGroup facts old new answer = Steps facts commands.Abandon old new answer
 abbrev pub vm : ℕ → VmHandle
 vm n = record { 0 = n }
 
-abbrev pub chunk : ℕ → ChunkHandle
-chunk n = record { 0 = n }
+abbrev pub chunk_handle : ℕ → ChunkHandle
+chunk_handle n = record { 0 = n }
 
-abbrev pub token : ℕ → Token
-token n = record { 0 = n }
+abbrev pub token_numbered : ℕ → Token
+token_numbered n = record { 0 = n }
 
 abbrev pub LocksBlock : {S : Type 0} → (S → StoreFacts) → ℕ → SessionState S → SessionState S → Answer → Type 0
 LocksBlock facts block old new answer = Steps facts (commands.Lock (vm block)) old new answer

@@ -16,7 +16,7 @@ use Rattle.vm_store.specs.Facts.{StoreFacts}
 use Rattle.vm_file.specs.Disk.{KeepsCommitted}
 use Rattle.vm_blocks.specs.Keeping.{IsEnvironmentFault, is_loaded}
 use Rattle.doc_edits.specs.Planning.{IsChainEditFault, RefusesEdit}
-use Rattle.doc_edits.specs.Room.{has_no_room, ReadsNothing}
+use Rattle.doc_edits.specs.Room.{lacks_frames, ReadsNothing}
 use Rattle.undo_log.specs.Editing.{EditsInMemory}
 use Rattle.undo_log.specs.Locking.{IsBarred}
 use Rattle.undo_log.specs.Sessions.{SessionState, IsStep, KeepsSession, PushesEdit, cache_of, machine_of}
@@ -28,11 +28,11 @@ pub record Edits {S : Type 0} (facts : S → StoreFacts) (edit : Edit) (old new 
   pub ok : IfOk answer (λ done. PushesEdit facts edit done old new)
   pub err : OnErr answer (KeepsSession facts old new)
   pub refusals : IfErr answer (λ fault. IsBarred edit old fault ⊎ (
-      RefusesEdit (IsEnvironmentFault facts old.disk.store new.disk.store) (has_no_room (cache_of old) (edit_needs edit))
+      RefusesEdit (IsEnvironmentFault facts old.disk.store new.disk.store) (lacks_frames (cache_of old) (edit_needs edit))
       edit new.document fault
       ⊎ IsChainEditFault edit old.document fault))
   pub locked : ((target : Bool) → is_barred edit (machine_of target old) ≡ true) → (answer ≡ Err Locked) × (new ≡ old)
-  pub shut : has_no_room (cache_of old) (edit_needs edit) ≡ true → (new ≡ old)
+  pub shut : lacks_frames (cache_of old) (edit_needs edit) ≡ true → (new ≡ old)
       × IsErrAnd answer (λ fault. IsBarred edit old fault ⊎ RefusesEdit (λ f. f ≡ Memory) true edit old.document fault)
   pub in_memory : OnOk answer ((b : VmHandle) → kind_of edit ≡ In b → is_loaded (cache_of new) b.0 ≡ true)
   pub passes : KeepsCommitted facts old.disk new.disk

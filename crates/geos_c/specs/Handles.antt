@@ -6,11 +6,11 @@ use Rattle.geos_model.specs.declared.command.Edit.{Edit}
 use Rattle.geos_model.specs.declared.fault.Fault.{Fault}
 use Rattle.geos_model.specs.declared.fault.Fault.TheVariants.{Memory}
 use Rattle.undo_log.specs.Sessions.{SessionState}
-use Rattle.c_sessions.specs.Codes.{Tells, bad_argument, not_open, open_already}
+use Rattle.c_sessions.specs.Codes.{ReportsAnswer, bad_argument, not_open, open_already}
 use Rattle.geos_c.specs.Edits.{Edits, Makes}
 use Rattle.c_sessions.specs.Files.{Begun}
 use Rattle.c_sessions.specs.Keeping.{IsBegun, SavesInto}
-use Rattle.geos_c.specs.LookUps.{TellsReply}
+use Rattle.geos_c.specs.LookUps.{ReportsReply}
 use Rattle.geos_c.specs.Stores.{FileStore, channel_calls, facts, file_number}
 use Rattle.geos_c.specs.Telling.{HandsOutEqual, HandsOutInfo, HandsOutNumber}
 use Rattle.geos_c.specs.declared.channel.Channel.{Channel}
@@ -23,7 +23,7 @@ pub record OnHandle {T : Type 0} (does : SessionState FileStore → SessionState
     (old new : Handle) (code : ℤ) : Type 0 where
   pub same : new.is_open ≡ old.is_open
   pub number : old.is_open ≡ true → new.kept.number ≡ old.kept.number
-  pub told : old.is_open ≡ true → Tells (does old.kept.session new.kept.session) code
+  pub told : old.is_open ≡ true → ReportsAnswer (does old.kept.session new.kept.session) code
   pub closed : old.is_open ≡ false → code ≡ not_open
 
 -- A call on a handle that hands out bytes, likewise. Where there is no session it hands out none.
@@ -35,7 +35,7 @@ pub record HandsOutOnHandle (does : SessionState FileStore → SessionState File
   pub closed : old.is_open ≡ false → (code ≡ not_open) × (count ≡ 0) × (after ≡ before)
 
 -- A call on a handle that hands out something else, likewise. Where there is no session it hands out nothing.
-pub record TellsOnHandle (does : SessionState FileStore → SessionState FileStore → ℤ → Type 0) (nothing : Type 0)
+pub record ReportsOnHandle (does : SessionState FileStore → SessionState FileStore → ℤ → Type 0) (nothing : Type 0)
     (old new : Handle) (code : ℤ) : Type 0 where
   pub same : new.is_open ≡ old.is_open
   pub number : old.is_open ≡ true → new.kept.number ≡ old.kept.number
@@ -49,17 +49,17 @@ EditsOnHandle edit = OnHandle (Edits facts edit)
 
 -- what the edit made is handed out
 abbrev pub MakesOnHandle : Edit → ℕ → Handle → Handle → ℤ → Type 0
-MakesOnHandle edit made = TellsOnHandle (λ old new. Tells (Makes facts edit made old new)) (made ≡ 0)
+MakesOnHandle edit made = ReportsOnHandle (λ old new. ReportsAnswer (Makes facts edit made old new)) (made ≡ 0)
 
 abbrev pub NumberOnHandle : Command → ℕ → Handle → Handle → ℤ → Type 0
-NumberOnHandle look_up number = TellsOnHandle (TellsReply facts look_up (HandsOutNumber number)) (number ≡ 0)
+NumberOnHandle look_up number = ReportsOnHandle (ReportsReply facts look_up (HandsOutNumber number)) (number ≡ 0)
 
 abbrev pub EqualOnHandle : Command → ℕ → Handle → Handle → ℤ → Type 0
-EqualOnHandle look_up equal = TellsOnHandle (TellsReply facts look_up (HandsOutEqual equal)) (equal ≡ 0)
+EqualOnHandle look_up equal = ReportsOnHandle (ReportsReply facts look_up (HandsOutEqual equal)) (equal ≡ 0)
 
 abbrev pub InfoOnHandle : Command → ℕ → ℕ → ℕ → Handle → Handle → ℤ → Type 0
 InfoOnHandle look_up is_heap user_id size =
-    TellsOnHandle (TellsReply facts look_up (HandsOutInfo is_heap user_id size))
+    ReportsOnHandle (ReportsReply facts look_up (HandsOutInfo is_heap user_id size))
     ((is_heap ≡ 0) × (user_id ≡ 0) × (size ≡ 0))
 
 -- There was no memory for a copy of the bytes that the call is passed, and it did nothing.
@@ -72,8 +72,8 @@ abbrev pub Copies : (Handle → Handle → ℤ → Type 0) → Handle → Handle
 Copies does old new code = does old new code ⊎ IsUncopied old new code
 
 -- likewise where a number is handed out
-abbrev pub CopiesAndTells : ℕ → (Handle → Handle → ℤ → Type 0) → Handle → Handle → ℤ → Type 0
-CopiesAndTells number does old new code = does old new code ⊎ (IsUncopied old new code × (number ≡ 0))
+abbrev pub CopiesAndReports : ℕ → (Handle → Handle → ℤ → Type 0) → Handle → Handle → ℤ → Type 0
+CopiesAndReports number does old new code = does old new code ⊎ (IsUncopied old new code × (number ≡ 0))
 
 -- Sessions and the files that they are in.
 
@@ -82,8 +82,9 @@ abbrev pub OnFiles : (Channel → Channel → Type 0) → Type 0
 OnFiles makes = (from : Channel) × (to : Channel) × makes from to
 
 -- what was begun is behind the handle, or the handle is as it was, and the code is the fault's number
-abbrev pub IsPut : Result (Kept FileStore) Fault → Handle → Handle → ℤ → Type 0
-IsPut answer old new code = MatchResult answer (λ kept. (code ≡ pos 0) × (new.is_open ≡ true) × (new.kept ≡ kept))
+abbrev pub IsPutInHandle : Result (Kept FileStore) Fault → Handle → Handle → ℤ → Type 0
+IsPutInHandle answer old new code =
+    MatchResult answer (λ kept. (code ≡ pos 0) × (new.is_open ≡ true) × (new.kept ≡ kept))
     (λ fault. (new ≡ old) × (code ≡ pos (number_of_fault fault)))
 
 -- A session is begun on the file with a number behind a handle that has none, where so many frames are allowed.
@@ -92,7 +93,8 @@ pub record Begins (is : FileStore → Begun FileStore → Type 0) (number : ℤ)
   pub in_use : old.is_open ≡ true → (code ≡ open_already) × (new ≡ old)
   pub out_of_bounds : old.is_open ≡ false → (frames < 1) ⊎ (64 < frames) → (code ≡ bad_argument) × (new ≡ old)
   pub begun : old.is_open ≡ false → 1 ≤ frames → frames ≤ 64 → (answer : Result (Kept FileStore) Fault)
-      × OnFiles (λ from to. IsBegun channel_calls is (file_number number) from answer to) × IsPut answer old new code
+      × OnFiles (λ from to. IsBegun channel_calls is (file_number number) from answer to)
+      × IsPutInHandle answer old new code
 
 -- A save-as behind a handle, likewise.
 pub record SavesOnHandle (number : ℤ) (old new : Handle) (code : ℤ) : Type 0 where

@@ -8,7 +8,7 @@ use Rattle.geos_replies.specs.Replies.{Responds}
 use Rattle.c_sessions.specs.Codes.{HandsOut, untold}
 
 -- The line is answered, without a target for a save-as, over any store, and its reply line is handed out.
-pub record IsAnswered {S : Type 0} (facts : S → StoreFacts) (line : List ℕ) (old new : SessionState S)
+pub record IsLineAnswered {S : Type 0} (facts : S → StoreFacts) (line : List ℕ) (old new : SessionState S)
     (before after : List ℕ) (count : ℕ) (code : ℤ) : Type 0 where
   pub reply : List ℕ
   pub target : Option S
@@ -28,4 +28,4 @@ pub record IsUntold {S : Type 0} (facts : S → StoreFacts) (line : List ℕ) (o
 abbrev pub AnswersLine : {S : Type 0} → (S → StoreFacts) → List ℕ → SessionState S → SessionState S → List ℕ → List ℕ
     → ℕ → ℤ → Type 0
 AnswersLine facts line old new before after count code =
-    IsAnswered facts line old new before after count code ⊎ IsUntold facts line old new before after count code
+    IsLineAnswered facts line old new before after count code ⊎ IsUntold facts line old new before after count code

@@ -27,16 +27,16 @@ Asks facts (commands.ChainEqual b other) old new reply =
 Asks facts command old new reply = AnswersLookUp facts old new command reply
 
 -- what a look-up answers is handed out so
-abbrev pub TellsReply : {S : Type 0} → (S → StoreFacts) → Command → (Reply → ℤ → Type 0)
+abbrev pub ReportsReply : {S : Type 0} → (S → StoreFacts) → Command → (Reply → ℤ → Type 0)
     → SessionState S → SessionState S → ℤ → Type 0
-TellsReply facts command hands_out old new code =
+ReportsReply facts command hands_out old new code =
     (reply : Reply) × Asks facts command old new reply × hands_out reply code
 
 -- The bytes or the handles that a look-up answers are handed out, or it is refused.
 abbrev pub ReadsBytes : {S : Type 0} → (S → StoreFacts) → Command → SessionState S → SessionState S
     → List ℕ → List ℕ → ℕ → ℤ → Type 0
 ReadsBytes facts command old new before after count code =
-    TellsReply facts command (λ reply told. HandsOutReply reply before after count told) old new code
+    ReportsReply facts command (λ reply told. HandsOutReply reply before after count told) old new code
 
 -- Which look-ups answer what.
 

@@ -7,7 +7,7 @@ use Rattle.vm_store.specs.System.{SystemCalls}
 use Rattle.c_sessions.specs.Files.{FileCalls}
 use Rattle.geos_c.specs.declared.channel.Channel.{Channel}
 use Rattle.geos_c.specs.declared.channel.ChannelFile.{ChannelFile}
-use Rattle.geos_c.specs.declared.channel.Given.{Given}
+use Rattle.geos_c.specs.declared.channel.ChannelSystem.{ChannelSystem}
 use Rattle.c_sessions.specs.declared.files.FileNumber.{FileNumber}
 
 abbrev pub FileStore : Type 0
@@ -24,8 +24,8 @@ abbrev pub store_on : FileNumber → FileStore
 store_on n = record { file = record { number = n }; has_failed_sync = false; failures = 0 }
 
 -- The program has opened and locked it: the number is found, and is the file.
-abbrev pub given_calls : SystemCalls Given FileNumber ChannelFile
-given_calls = record {
+abbrev pub channel_system_calls : SystemCalls ChannelSystem FileNumber ChannelFile
+channel_system_calls = record {
   guards = λ old result new. (new ≡ old) × (result ≡ Ok tt);
   opens = λ old path make result new. (new ≡ old) × (result ≡ Ok old.number);
   syncs_folder = λ old path result new. (new ≡ old) × (result ≡ Ok tt);

@@ -1,7 +1,7 @@
 //! Calls on a session over any store, answered by codes.
 ghost use Rattle.std.specs.Prelude.{◌≡◌};
 ghost use Rattle.geos_c.specs.Calls.{AbandonsGroup, BeginsGroup, CountsLocks, Dirties, EndsGroup, LocksBlock, Redoes, Reverts, Saves, Undoes, UnlocksBlock, Updates};
-ghost use Rattle.c_sessions.specs.Codes.{Tells};
+ghost use Rattle.c_sessions.specs.Codes.{ReportsAnswer};
 ghost use Rattle.geos_c.specs.Edits.{Makes, number_of as number_done};
 
 use c_sessions::code_of;
@@ -10,77 +10,77 @@ use undo_log::Session;
 use vm_store::Store;
 
 pub(crate) fn undo<S: Store>(session: &mut Session<S>) -> i32
-    ensures { Tells (Undoes S.facts session.old session.new) result }
+    ensures { ReportsAnswer (Undoes S.facts session.old session.new) result }
 {
     let answer = session.undo();
     code_of(answer)
 }
 
 pub(crate) fn redo<S: Store>(session: &mut Session<S>) -> i32
-    ensures { Tells (Redoes S.facts session.old session.new) result }
+    ensures { ReportsAnswer (Redoes S.facts session.old session.new) result }
 {
     let answer = session.redo();
     code_of(answer)
 }
 
 pub(crate) fn update<S: Store>(session: &mut Session<S>) -> i32
-    ensures { Tells (Updates S.facts session.old session.new) result }
+    ensures { ReportsAnswer (Updates S.facts session.old session.new) result }
 {
     let answer = session.update();
     code_of(answer)
 }
 
 pub(crate) fn save<S: Store>(session: &mut Session<S>) -> i32
-    ensures { Tells (Saves S.facts session.old session.new) result }
+    ensures { ReportsAnswer (Saves S.facts session.old session.new) result }
 {
     let answer = session.save();
     code_of(answer)
 }
 
 pub(crate) fn revert<S: Store>(session: &mut Session<S>) -> i32
-    ensures { Tells (Reverts S.facts session.old session.new) result }
+    ensures { ReportsAnswer (Reverts S.facts session.old session.new) result }
 {
     let answer = session.revert();
     code_of(answer)
 }
 
 pub(crate) fn begin<S: Store>(session: &mut Session<S>) -> i32
-    ensures { Tells (BeginsGroup session.old session.new) result }
+    ensures { ReportsAnswer (BeginsGroup session.old session.new) result }
 {
     let answer = session.begin();
     code_of(answer)
 }
 
 pub(crate) fn end<S: Store>(session: &mut Session<S>) -> i32
-    ensures { Tells (EndsGroup session.old session.new) result }
+    ensures { ReportsAnswer (EndsGroup session.old session.new) result }
 {
     let answer = session.end();
     code_of(answer)
 }
 
 pub(crate) fn abandon<S: Store>(session: &mut Session<S>) -> i32
-    ensures { Tells (AbandonsGroup S.facts session.old session.new) result }
+    ensures { ReportsAnswer (AbandonsGroup S.facts session.old session.new) result }
 {
     let answer = session.abandon();
     code_of(answer)
 }
 
 pub(crate) fn lock<S: Store>(session: &mut Session<S>, block: u16) -> i32
-    ensures { Tells (LocksBlock S.facts block session.old session.new) result }
+    ensures { ReportsAnswer (LocksBlock S.facts block session.old session.new) result }
 {
     let answer = session.lock(VmHandle(block));
     code_of(answer)
 }
 
 pub(crate) fn unlock<S: Store>(session: &mut Session<S>, block: u16) -> i32
-    ensures { Tells (UnlocksBlock block session.old session.new) result }
+    ensures { ReportsAnswer (UnlocksBlock block session.old session.new) result }
 {
     let answer = session.unlock(VmHandle(block));
     code_of(answer)
 }
 
 pub(crate) fn dirty<S: Store>(session: &mut Session<S>, block: u16) -> i32
-    ensures { Tells (Dirties block session.old session.new) result }
+    ensures { ReportsAnswer (Dirties block session.old session.new) result }
 {
     let answer = session.dirty(VmHandle(block));
     code_of(answer)
@@ -88,7 +88,7 @@ pub(crate) fn dirty<S: Store>(session: &mut Session<S>, block: u16) -> i32
 
 /// Hands out how often a block is locked, none where that is refused.
 pub(crate) fn locks<S: Store>(session: &mut Session<S>, block: u16, count: &mut u8) -> i32
-    ensures { Tells (CountsLocks block count.new session.old session.new) result }
+    ensures { ReportsAnswer (CountsLocks block count.new session.old session.new) result }
 {
     match session.locks(VmHandle(block)) {
         Ok(locks) => {
@@ -104,7 +104,7 @@ pub(crate) fn locks<S: Store>(session: &mut Session<S>, block: u16, count: &mut 
 
 /// Makes an edit, and hands out what it made, 0 where it makes nothing or is refused.
 pub(crate) fn edit<S: Store>(session: &mut Session<S>, edit: &Edit, made: &mut u16) -> i32
-    ensures { Tells (Makes S.facts edit.now made.new session.old session.new) result }
+    ensures { ReportsAnswer (Makes S.facts edit.now made.new session.old session.new) result }
 {
     match session.edit(edit) {
         Ok(done) => {

@@ -1,7 +1,7 @@
 //! Files of the program's, by numbers of its own, behind a channel: each call is a message, answered at once.
 ghost use Rattle.std.specs.Prelude.{◌≡◌};
 ghost use Rattle.vm_store.specs.HostSystem.{host_system_facts, host_system_timely};
-ghost use Rattle.geos_c.specs.Stores.{channel_calls, given_calls, store_on};
+ghost use Rattle.geos_c.specs.Stores.{channel_calls, channel_system_calls, store_on};
 
 use crate::message::{Operation, message};
 use byteorder::{ByteOrder, LittleEndian};
@@ -21,7 +21,7 @@ pub(crate) struct ChannelFile {
 
 /// The number that a program gives for a file, whose path and lock are its own.
 #[derive(Drop)]
-struct Given {
+struct ChannelSystem {
     number: FileNumber,
 }
 
@@ -87,10 +87,10 @@ impl SystemFile for ChannelFile {
     }
 }
 
-impl System<ChannelFile> for Given {
+impl System<ChannelFile> for ChannelSystem {
     type Handle = FileNumber;
 
-    ghost calls = { given_calls };
+    ghost calls = { channel_system_calls };
 
     /// The program's streams are its own.
     fn guard_streams(&mut self) -> Result<(), SystemFault> {
@@ -126,7 +126,7 @@ fn begin(number: FileNumber, own: Option<FileNumber>) -> Result<(), StoreFault> 
 fn store(number: FileNumber) -> HostStore<ChannelFile>
     ensures { result ≡ store_on number }
 {
-    let mut given = Given { number };
+    let mut given = ChannelSystem { number };
     match HostStore::open(&mut given, "", false) {
         Ok(store) => store,
         Err(_) => unreachable!(),

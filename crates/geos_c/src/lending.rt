@@ -3,8 +3,8 @@ ghost use Rattle.std.specs.Prelude.{◌≡◌};
 ghost use Rattle.std.specs.Ptr.{as_ptr, null_ptr};
 ghost use Rattle.geos_model.specs.Reply.{BytesAre, reply_by};
 ghost use Rattle.geos_model.specs.declared.command.Command.TheVariants as commands;
-ghost use Rattle.geos_c.specs.Calls.{chunk as chunk_of, vm};
-ghost use Rattle.c_sessions.specs.Codes.{Tells};
+ghost use Rattle.geos_c.specs.Calls.{chunk_handle, vm};
+ghost use Rattle.c_sessions.specs.Codes.{ReportsAnswer};
 ghost use Rattle.geos_c.specs.Lending.{HandsOutPlace, IsLent, Lends};
 
 use geos_model::{ChunkHandle, Fault, VmHandle};
@@ -79,8 +79,9 @@ pub(crate) fn lend_chunk<S: Store>(
     bytes: &mut *const u8,
     length: &mut usize,
 ) -> i32
-    ensures { Tells
-        (Lends (commands.Read (vm block) (chunk_of chunk)) block bytes.new length.new session.old session.new) result }
+    ensures { ReportsAnswer
+        (Lends (commands.Read (vm block) (chunk_handle chunk)) block bytes.new length.new session.old session.new)
+        result }
 {
     hand_out_place(
         locked_chunk(session, VmHandle(block), ChunkHandle(chunk)),
@@ -96,7 +97,8 @@ pub(crate) fn lend_raw<S: Store>(
     bytes: &mut *const u8,
     length: &mut usize,
 ) -> i32
-    ensures { Tells (Lends (commands.ReadRaw (vm block)) block bytes.new length.new session.old session.new) result }
+    ensures { ReportsAnswer (Lends (commands.ReadRaw (vm block)) block bytes.new length.new session.old session.new)
+        result }
 {
     hand_out_place(locked_raw(session, VmHandle(block)), bytes, length)
 }

@@ -1,7 +1,7 @@
 //! Look-ups of a session over any store, by the command that asks; what each answers is handed out, and told by a code.
 ghost use Rattle.std.specs.Prelude.{IsTrue};
 ghost use Rattle.geos_model.specs.declared.command.Command.TheVariants as commands;
-ghost use Rattle.geos_c.specs.LookUps.{ReadsBytes, TellsReply, asks_bytes, asks_handles, asks_number, asks_word};
+ghost use Rattle.geos_c.specs.LookUps.{ReadsBytes, ReportsReply, asks_bytes, asks_handles, asks_number, asks_word};
 ghost use Rattle.geos_c.specs.Telling.{HandsOutEqual, HandsOutInfo, HandsOutNumber};
 
 use crate::telling::{
@@ -19,7 +19,7 @@ pub(crate) fn number<S: Store>(
     number: &mut usize,
 ) -> i32
     requires { IsTrue (asks_number look_up.now) }
-    ensures { TellsReply S.facts look_up.now (HandsOutNumber number.new) session.old session.new result }
+    ensures { ReportsReply S.facts look_up.now (HandsOutNumber number.new) session.old session.new result }
 {
     match look_up {
         Command::ArrayCount(block, chunk) => {
@@ -47,7 +47,7 @@ pub(crate) fn number<S: Store>(
 /// A handle, a token or a type.
 pub(crate) fn word<S: Store>(session: &mut Session<S>, look_up: &Command, word: &mut u16) -> i32
     requires { IsTrue (asks_word look_up.now) }
-    ensures { TellsReply S.facts look_up.now (HandsOutNumber word.new) session.old session.new result }
+    ensures { ReportsReply S.facts look_up.now (HandsOutNumber word.new) session.old session.new result }
 {
     match look_up {
         Command::HeapType(block) => tell_type(session.heap_type(*block), word),
@@ -128,7 +128,7 @@ pub(crate) fn info<S: Store>(
     user_id: &mut u16,
     size: &mut u32,
 ) -> i32
-    ensures { TellsReply S.facts (commands.Info block) (HandsOutInfo is_heap.new user_id.new size.new)
+    ensures { ReportsReply S.facts (commands.Info block) (HandsOutInfo is_heap.new user_id.new size.new)
         session.old session.new result }
 {
     tell_info(session.info(block), is_heap, user_id, size)
@@ -141,7 +141,7 @@ pub(crate) fn equal<S: Store>(
     second: VmHandle,
     equal: &mut u8,
 ) -> i32
-    ensures { TellsReply S.facts (commands.ChainEqual first second) (HandsOutEqual equal.new)
+    ensures { ReportsReply S.facts (commands.ChainEqual first second) (HandsOutEqual equal.new)
         session.old session.new result }
 {
     tell_equal(session.chain_equal(first, second), equal)

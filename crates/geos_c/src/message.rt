@@ -1,6 +1,6 @@
 //! Messages to the program, by which it is asked for the calls on its file.
 ghost use Rattle.std.specs.Prelude.{◌≡◌};
-ghost use Rattle.geos_c.specs.Messages.{code_of, message_text};
+ghost use Rattle.geos_c.specs.Messages.{operation_code, message_text};
 
 use byteorder::{ByteOrder, LittleEndian};
 
@@ -28,7 +28,7 @@ pub(crate) enum Operation {
 
 impl Operation {
     fn code(self) -> u8
-        ensures { result ≡ code_of self }
+        ensures { result ≡ operation_code self }
     {
         match self {
             Operation::Read => 1,

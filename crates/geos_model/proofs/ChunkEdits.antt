@@ -7,7 +7,7 @@ use Rattle.std.specs.FinMap.{insert, empty, contains_key}
 use Rattle.geos_model.specs.Refusal.{Conditions, number_of_fault, one_order, applies, first_refusal}
 use Rattle.geos_model.specs.Heap.{is_chunk_handle, chunk_bytes, fits_with, fits_new, longest_chunk}
 use Rattle.geos_model.specs.Document.{Block, Document, chunks_of_body, chunks_of, is_heap, attributes_of, IsValid}
-use Rattle.geos_model.specs.Meaning.{chunk_at, with_chunk, new_chunk, makes_chunk, no_place, no_room, on_heap, on_chunk, on_new_chunk, on_new_bytes}
+use Rattle.geos_model.specs.Meaning.{chunk_at, with_chunk, new_chunk_handle, makes_chunk, no_place, no_room, on_heap, on_chunk, on_new_chunk, on_new_bytes}
 use Rattle.geos_model.specs.EditLaws.{HasBytes, ChunkEditsLaw}
 use Rattle.geos_model.specs.declared.fault.Fault.{Fault}
 use Rattle.geos_model.specs.declared.fault.Fault.TheVariants.{NoChunk, WrongKind, Full}
@@ -48,15 +48,15 @@ module _ (d : Document) (valid : IsValid d) (b c : ℕ) (own : Conditions) (byte
       omega (arith, short)
 
 made : (d : Document) (b : ℕ) (own : Conditions) (bytes : List ℕ) → IsValid d → first_refusal (on_new_chunk d b own bytes) ≡ None
-    → HasBytes own bytes (makes_chunk d b bytes).0 b (new_chunk d b)
+    → HasBytes own bytes (makes_chunk d b bytes).0 b (new_chunk_handle d b)
 made d b own bytes valid none =
     let cs : Conditions = on_new_chunk d b own bytes in
     let heap = not_false (is_heap d b) (or_none (none_applies cs none WrongKind refl)).0 in
     let place = placed (chunks_of d b) bytes (full_last own (fits_new (chunks_of d b) bytes) (none_applies cs none Full refl)) in
     record {
       accepted = accepted_middle (on_heap d b) own (no_place (chunks_of d b) bytes) none;
-      few = few d valid b (new_chunk d b) own bytes heap place.0 place.1;
-      there = there d valid b (new_chunk d b) own bytes;
+      few = few d valid b (new_chunk_handle d b) own bytes heap place.0 place.1;
+      there = there d valid b (new_chunk_handle d b) own bytes;
     }
 
 changed : (d : Document) (b c : ℕ) (own : Conditions) (bytes : List ℕ) → IsValid d → first_refusal (on_new_bytes d b c own bytes) ≡ None

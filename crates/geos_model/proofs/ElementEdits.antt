@@ -13,7 +13,7 @@ use Rattle.geos_model.specs.Array.{array_bytes}
 use Rattle.geos_model.specs.ArrayEdits.{is_missized}
 use Rattle.geos_model.specs.ElementArray.{Element, Slots, element_at, is_free, all_distinct, is_good_slot, is_sound, greatest_count, slots_array, element_bytes, element_array_of}
 use Rattle.geos_model.specs.ElementEdits.{no_slots, elements_in, count_at, bytes_at, with_element, without_element, with_new_at, with_new, unreferenced, token_of, token_of_bytes, added, on_token, is_count_full, create_elements_conditions, add_conditions, add_reference_conditions, change_conditions, element_added, reference_added, reference_removed, element_deleted, element_changed}
-use Rattle.geos_model.specs.EditLaws.{HasNone, KeepsOthers, Becomes, referenced, dereferenced, Adds, LeavesElements, ElementEditsLaw}
+use Rattle.geos_model.specs.EditLaws.{HasNone, KeepsOthers, Becomes, referenced, dereferenced, AddsBytes, LeavesElements, ElementEditsLaw}
 use Rattle.geos_model.specs.declared.fault.Fault.{Fault}
 use Rattle.geos_model.specs.declared.fault.Fault.TheVariants.{Range, NotArray, NoElement, CountFull}
 use Rattle.geos_model.proofs.Arrays.{same_bytes-is, same_bytes-refl}
@@ -322,7 +322,7 @@ new_holds [] s slot is sound =
 new_holds (t ∷ ts) s slot is sound =
     get_or-set_same s.slots t slot None (ltb-true t (length s.slots) (and_parts (nat_lt t (length s.slots)) (is_none (element_at s t)) (first_free s t ts is sound)).0)
 
-adds_at : (s : Slots) (bytes : List ℕ) (found : Option ℕ) → token_of_bytes s bytes ≡ found → is_sound s ≡ true → Adds bytes s (added_at s bytes found).0 (added_at s bytes found).1
+adds_at : (s : Slots) (bytes : List ℕ) (found : Option ℕ) → token_of_bytes s bytes ≡ found → is_sound s ≡ true → AddsBytes bytes s (added_at s bytes found).0 (added_at s bytes found).1
 adds_at s bytes None is sound =
     let slot : Option Element = Some (record { count = 1; bytes = bytes }) in
     inr (
@@ -360,7 +360,7 @@ edits-create size none =
     let long = length-no_slots size in
     (element_array_again (no_slots size) (sound-no_slots size low) (omega (arith, long)), λ t. refl)
 
-edits-add : (bytes element : List ℕ) → let s = elements_in bytes in LeavesElements (add_conditions bytes element) (element_added bytes element) s (added s element).0 (added s element).1 (Adds element)
+edits-add : (bytes element : List ℕ) → let s = elements_in bytes in LeavesElements (add_conditions bytes element) (element_added bytes element) s (added s element).0 (added s element).1 (AddsBytes element)
 edits-add bytes element none short =
     let s : Slots = elements_in bytes in
     let new : Slots = (added s element).0 in

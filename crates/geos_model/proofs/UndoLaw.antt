@@ -9,7 +9,7 @@ use Rattle.geos_model.specs.Meaning.{effect}
 use Rattle.geos_model.specs.Cost.{cost}
 use Rattle.geos_model.specs.Reply.{Reply, Accepted}
 use Rattle.geos_model.specs.Machine.{Machine, Request, UndoStep, OpenGroup, Call, Step, Run, command_conditions, done_by, recorded, undone, begun, ended, abandoned, kind_of}
-use Rattle.geos_model.specs.Undoing.{Tally, UndoLaw, is_refused, is_undo, turns, redoes_or_reverts, accepted, with_edit, with_end, after_request, after_calls, tally}
+use Rattle.geos_model.specs.Undoing.{Tally, UndoLaw, is_refused, is_undo, is_undo_or_redo, redoes_or_reverts, accepted, with_edit, with_end, after_request, after_calls, tally}
 use Rattle.geos_model.specs.declared.fault.Fault.TheVariants.{GroupOpen}
 use Rattle.geos_model.specs.declared.command.Kind.{Kind}
 use Rattle.geos_model.specs.declared.command.Command.{Command}
@@ -105,7 +105,7 @@ counted-abandon start t m None is counted = tt
 counted-abandon start t m (Some g) is counted = record { group = refl; whole = tt; goes = rw (← is) at counted.goes }
 
 -- so a command that nothing refuses
-done_by-counted : (start : Standing) (t : Tally) (c : Command) (m : Machine) → turns (Some c) ≡ false → first_refusal (command_conditions c m) ≡ None → Counted start t m
+done_by-counted : (start : Standing) (t : Tally) (c : Command) (m : Machine) → is_undo_or_redo (Some c) ≡ false → first_refusal (command_conditions c m) ≡ None → Counted start t m
     → OnDone (λ reply new. Counted start (after_request (Some c) t) new) (done_by c m)
 done_by-counted start t (commands.Edit e) m h none counted =
     let after : Document = (effect e m.document).0 in
@@ -126,7 +126,7 @@ done_by-counted start t c m h none counted = counted-at start t m (done_by c m) 
 
 -- so an accepted request
 counted-on : (start : Standing) (t : Tally) (failed : Bool) (old new : Machine) (request : Request) (reply : Reply) → Step failed old request reply new → is_refused reply ≡ false
-    → turns request ≡ false → Counted start t old → Counted start (after_request request t) new
+    → is_undo_or_redo request ≡ false → Counted start t old → Counted start (after_request request t) new
 counted-on start t failed old new None reply step h k counted = absurd (bad_line-refused reply step h)
 counted-on start t failed old new (Some c) reply step h k counted =
     on_done (λ reply new. Counted start (after_request (Some c) t) new) (done_by c old) reply new
@@ -135,12 +135,12 @@ counted-on start t failed old new (Some c) reply step h k counted =
 -- Calls.
 
 -- those among which no undo, no redo and no revert is accepted
-calls-counted : (start : Standing) (calls : List Call) (t : Tally) (old new : Machine) → accepted turns calls ≡ 0 → Run old calls new
+calls-counted : (start : Standing) (calls : List Call) (t : Tally) (old new : Machine) → accepted is_undo_or_redo calls ≡ 0 → Run old calls new
     → Counted start t old → Counted start (after_calls calls t) new
 calls-counted start [] t old new none run counted = counted-same start t old new counted run
 calls-counted start (c ∷ cs) t old new none run counted = elim (cases_Bool (is_refused c.reply)) [
   | inl out ↦ rw out (calls-counted start cs t run.0 new (rw out at none) run.2 (counted-same start t old run.0 counted (refused c.request c.reply run.1 out)))
-  | inr taken ↦ elim (cases_Bool (turns c.request)) [
+  | inr taken ↦ elim (cases_Bool (is_undo_or_redo c.request)) [
     | inl turn ↦ absurd (cc (rw (taken, turn) at none))
     | inr on ↦
         let next = counted-on start t c.failed old run.0 c.request c.reply run.1 taken on counted in

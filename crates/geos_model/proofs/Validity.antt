@@ -9,7 +9,7 @@ use Rattle.geos_model.specs.Refusal.{Conditions, number_of_fault, applies, first
 use Rattle.geos_model.specs.Bytes.{written, deleted}
 use Rattle.geos_model.specs.Heap.{capacity, is_chunk_handle, is_heap_map, fits_with, fits_new}
 use Rattle.geos_model.specs.Document.{Block, Document, empty_document, is_vm_handle, vm_handles, next_handle, is_valid_body, is_heap_body, chunks_of_body, bytes_of_body, is_live, is_heap, chunks_of, raw_bytes_of, attributes_of, is_raw, with_block, without_block, with_body, with_attributes, no_attributes, most_blocks, FitAttributes, IsTyped, IsValidBlock, IsValid}
-use Rattle.geos_model.specs.Meaning.{chunk_at, with_chunk, without_chunk, past_end, new_chunk, makes_block, makes_chunk, on_chunk, on_new_chunk, on_new_bytes}
+use Rattle.geos_model.specs.Meaning.{chunk_at, with_chunk, without_chunk, past_end, new_chunk_handle, makes_block, makes_chunk, on_chunk, on_new_chunk, on_new_bytes}
 use Rattle.geos_model.specs.declared.fault.Fault.TheVariants.{NoBlock, NoChunk, WrongKind, Full, Range}
 use Rattle.geos_model.specs.declared.block.Attributes.{Attributes}
 use Rattle.geos_model.specs.declared.command.Body.{Body}
@@ -211,7 +211,7 @@ module _ (d : Document) (valid : IsValid d) (b : ℕ) where
       let heap = not_false (is_heap d b) (or_none (none_applies cs none WrongKind refl)).0 in
       let last = full_last own (fits_new (chunks_of d b) bytes) (none_applies cs none Full refl) in
       let place = placed (chunks_of d b) bytes last in
-      with_chunk-valid (new_chunk d b) bytes live heap place.0 place.1
+      with_chunk-valid (new_chunk_handle d b) bytes live heap place.0 place.1
 
   -- a chunk gets other bytes
   pub new_bytes-valid : (c : ℕ) (own : Conditions) (bytes : List ℕ) → first_refusal (on_new_bytes d b c own bytes) ≡ None → IsValid (with_chunk d b c bytes)

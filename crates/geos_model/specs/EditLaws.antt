@@ -3,7 +3,7 @@ use Rattle.std.specs.Prelude.{◌≡◌, ◌⊎◌, ◌<◌, ◌+◌, ◌-◌, �
 use Rattle.geos_model.specs.Refusal.{Conditions, first_refusal}
 use Rattle.geos_model.specs.Bytes.{resized}
 use Rattle.geos_model.specs.Document.{Document, IsValid}
-use Rattle.geos_model.specs.Meaning.{chunk_at, with_chunk, new_chunk, makes_chunk, on_new_chunk, on_new_bytes}
+use Rattle.geos_model.specs.Meaning.{chunk_at, with_chunk, new_chunk_handle, makes_chunk, on_new_chunk, on_new_bytes}
 use Rattle.geos_model.specs.Array.{Array, array_bytes, array_of}
 use Rattle.geos_model.specs.ArrayEdits.{new_array, array_in, with_elements, element_inserted, element_set, element_resized, elements_deleted, array_zeroed, on_array, create_conditions, insert_conditions, set_conditions, resize_conditions, delete_conditions}
 use Rattle.geos_model.specs.ElementArray.{Element, Slots, element_at, element_bytes, element_array_of}
@@ -22,7 +22,7 @@ pub record HasBytes (own : Conditions) (bytes : List ℕ) (d : Document) (b c : 
 pub record ChunkEditsLaw : Type 0 where
   pub made : (d : Document) (b : ℕ) (own : Conditions) (bytes : List ℕ) → IsValid d
       → first_refusal (on_new_chunk d b own bytes) ≡ None
-      → HasBytes own bytes (makes_chunk d b bytes).0 b (new_chunk d b)
+      → HasBytes own bytes (makes_chunk d b bytes).0 b (new_chunk_handle d b)
   pub changed : (d : Document) (b c : ℕ) (own : Conditions) (bytes : List ℕ) → IsValid d
       → first_refusal (on_new_bytes d b c own bytes) ≡ None
       → HasBytes own bytes (with_chunk d b c bytes) b c
@@ -74,8 +74,8 @@ IsAbsent s bytes = (u : ℕ) (e : Element) → element_at s u ≡ Some e → e.b
 
 -- Bytes are added: the token's element has them and gets one reference more, or none has them and the token, which was
 -- not in use, gets a new one.
-abbrev pub Adds : List ℕ → Slots → Slots → ℕ → Type 0
-Adds bytes s new t =
+abbrev pub AddsBytes : List ℕ → Slots → Slots → ℕ → Type 0
+AddsBytes bytes s new t =
     ((bytes_at s t ≡ bytes) × Becomes referenced s new t)
     ⊎ (IsAbsent s bytes × (element_at s t ≡ None) × (element_at new t ≡ Some (record { count = 1; bytes = bytes })))
 
@@ -92,7 +92,7 @@ pub record ElementEditsLaw : Type 0 where
   pub add : (bytes element : List ℕ)
       → let s = elements_in bytes in
       LeavesElements (add_conditions bytes element) (element_added bytes element) s (added s element).0
-      (token_added bytes element) (Adds element)
+      (token_added bytes element) (AddsBytes element)
   pub add_reference : (bytes : List ℕ) (t : ℕ)
       → let s = elements_in bytes in
       LeavesElements (add_reference_conditions bytes t) (reference_added bytes t) s

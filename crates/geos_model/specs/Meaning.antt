@@ -49,8 +49,8 @@ abbrev pub no_place : ChunkMap → List ℕ → Conditions
 no_place m bytes = (Full, not (fits_new m bytes)) ∷ []
 
 -- the handle that a new chunk gets
-abbrev pub new_chunk : Document → ℕ → ℕ
-new_chunk d b = unwrap_or (next_chunk (chunks_of d b)) 0
+abbrev pub new_chunk_handle : Document → ℕ → ℕ
+new_chunk_handle d b = unwrap_or (next_chunk (chunks_of d b)) 0
 
 abbrev pub on_block : Document → ℕ → Conditions
 on_block d b = (NoBlock, not (is_live d b)) ∷ []
@@ -134,7 +134,7 @@ abbrev pub makes_block : Document → Block → Document × Done
 makes_block d block = let h = unwrap_or (next_handle d) 0 in (with_block d h block, done.Block (record { 0 = h }))
 
 abbrev pub makes_chunk : Document → ℕ → List ℕ → Document × Done
-makes_chunk d b bytes = (with_chunk d b (new_chunk d b) bytes, done.Chunk (record { 0 = new_chunk d b }))
+makes_chunk d b bytes = (with_chunk d b (new_chunk_handle d b) bytes, done.Chunk (record { 0 = new_chunk_handle d b }))
 
 -- an edit that copies these blocks, and answers the handle of the first one's copy
 abbrev pub copies_blocks : Document → List ℕ → Document × Done

@@ -29,12 +29,12 @@ abbrev pub redoes_or_reverts : Request → Bool
 redoes_or_reverts request = is_redo request || is_revert request
 
 -- an undo, a redo or a revert
-abbrev pub turns : Request → Bool
-turns request = is_undo request || redoes_or_reverts request
+abbrev pub is_undo_or_redo : Request → Bool
+is_undo_or_redo request = is_undo request || redoes_or_reverts request
 
 -- an edit, an undo, a redo or a revert
 abbrev pub moves : Request → Bool
-moves request = is_edit request || turns request
+moves request = is_edit request || is_undo_or_redo request
 
 abbrev pub is_accepted : (Request → Bool) → Call → Bool
 is_accepted kind c = not (is_refused c.reply) && kind c.request
@@ -101,7 +101,7 @@ steps_made cs = (tally cs).steps
 abbrev pub UndoLaw : Type 0
 UndoLaw =
     (old mid new : Machine) (edits undos : List Call) → old.group ≡ None
-    → accepted turns edits ≡ 0 → accepted redoes_or_reverts undos ≡ 0 → steps_made undos ≡ 0
+    → accepted is_undo_or_redo edits ≡ 0 → accepted redoes_or_reverts undos ≡ 0 → steps_made undos ≡ 0
     → steps_made edits ≡ accepted is_undo undos → Run old edits mid → Run mid undos new
     → mid.group ≡ None → new.group ≡ None → SamePast old new
 

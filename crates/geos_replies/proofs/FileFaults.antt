@@ -27,12 +27,12 @@ use Rattle.vm_blocks.specs.Locking.{CantLock, HasNoLock}
 use Rattle.vm_blocks.proofs.KeepingLaws.{lacks-cases}
 use Rattle.vm_chains.specs.Answers.{IsWrongRoot}
 use Rattle.vm_blocks.specs.State.{CacheState}
-use Rattle.doc_edits.specs.LookUps.{IsWrongRootOf, Sees, SeesAlongChain, answer_of}
+use Rattle.doc_edits.specs.LookUps.{IsWrongRootOf, AnswersFromBlocks, AnswersChainFromBlocks, answer_of}
 use Rattle.doc_edits.specs.Planning.{IsChainEditFault, RefusesEdit}
-use Rattle.doc_edits.specs.Room.{has_no_room}
+use Rattle.doc_edits.specs.Room.{lacks_frames}
 use Rattle.undo_log.specs.Committing.{IsSaveAsRefused}
 use Rattle.undo_log.specs.Locking.{IsBarred}
-use Rattle.undo_log.specs.Sessions.{SessionState, cache_of, failed_since, has_locks}
+use Rattle.undo_log.specs.Sessions.{SessionState, cache_of, failed_since, has_locked_blocks}
 use Rattle.undo_log.specs.Turning.{CantApplyLog, IsNotAbandoned, IsRefusedUndoOrRedo, busy_fault}
 use Rattle.undo_log.specs.declared.entry.LogEntry.{LogEntry}
 use Rattle.undo_log.proofs.Keeping.{failed_true}
@@ -174,12 +174,12 @@ module _ {S : Type 0} (facts : S → StoreFacts) where
 
   -- of an edit
   pub file_edit : {A : Type 0} (e : Edit) (old new : SessionState S) (r : Result A Fault)
-      → IfErr r (λ fault. IsBarred e old fault ⊎ (RefusesEdit (IsEnvironmentFault facts old.disk.store new.disk.store) (has_no_room (cache_of old) (edit_needs e)) e new.document fault ⊎ IsChainEditFault e old.document fault))
+      → IfErr r (λ fault. IsBarred e old fault ⊎ (RefusesEdit (IsEnvironmentFault facts old.disk.store new.disk.store) (lacks_frames (cache_of old) (edit_needs e)) e new.document fault ⊎ IsChainEditFault e old.document fault))
       → IfErr r (IsFailure facts old.disk.store new.disk.store)
   file_edit e old new (Ok x) refusals = tt
   file_edit e old new (Err fault) (inl barred) = λ is. cc (barred.0, is)
   file_edit e old new (Err fault) (inr (inl (inl lacks))) = lacked old.disk.store new.disk.store fault lacks
-  file_edit e old new (Err fault) (inr (inl (inr first))) = λ is. absurd (first_other ((faults.CacheFull, has_no_room (cache_of old) (edit_needs e)) ∷ conditions e new.document) fault first is)
+  file_edit e old new (Err fault) (inr (inl (inr first))) = λ is. absurd (first_other ((faults.CacheFull, lacks_frames (cache_of old) (edit_needs e)) ∷ conditions e new.document) fault first is)
   file_edit e old new (Err fault) (inr (inr chain)) = λ is. absurd (chain_other e old.document fault chain is)
 
   cant_apply : (old new : SessionState S) (fault : Fault) → CantApplyLog facts old new fault → IsFailure facts old.disk.store new.disk.store fault
@@ -190,14 +190,14 @@ module _ {S : Type 0} (facts : S → StoreFacts) where
   pub file_turn : {A : Type 0} (nothing : Fault) (from : List LogEntry) (old new : SessionState S) → (nothing ≡ faults.File → ⊥) → (r : Result A Fault) → IfErr r (IsRefusedUndoOrRedo facts nothing from old new)
       → IfErr r (IsFailure facts old.disk.store new.disk.store)
   file_turn nothing from old new other (Ok x) refusals = tt
-  file_turn nothing from old new other (Err fault) (inl held) = λ is. absurd (held_other (is_some old.log.group) (has_locks old) fault held.0 is)
+  file_turn nothing from old new other (Err fault) (inl held) = λ is. absurd (held_other (is_some old.log.group) (has_locked_blocks old) fault held.0 is)
   file_turn nothing from old new other (Err fault) (inr (free, inl none)) = λ is. absurd (other (sym none.1 ∙ is))
   file_turn nothing from old new other (Err fault) (inr (free, inr cant)) = cant_apply old new fault cant.1
 
   -- of an abandon
   pub file_abandon : {A : Type 0} (old new : SessionState S) (r : Result A Fault) → IfErr r (IsNotAbandoned facts old new) → IfErr r (IsFailure facts old.disk.store new.disk.store)
   file_abandon old new (Ok x) refusals = tt
-  file_abandon old new (Err fault) (inl held) = λ is. absurd (closed_other (is_some old.log.group) (has_locks old) fault held.0 is)
+  file_abandon old new (Err fault) (inl held) = λ is. absurd (closed_other (is_some old.log.group) (has_locked_blocks old) fault held.0 is)
   file_abandon old new (Err fault) (inr cant) = cant_apply old new fault cant.2
 
   -- of a lock, and of what uses one
@@ -224,22 +224,23 @@ module _ {S : Type 0} (facts : S → StoreFacts) where
           or_right (failed_since (facts old.disk.store) (facts new.disk.store)) (failed_since (facts target) (facts back)) (failed_true (facts target) (facts back) raised)
 
       by : (busy : Option Fault) → busy_fault old ≡ busy → IsTrue (failed_since_in facts (holding old (Some target) former) (holding new (Some back) former))
-      by (Some f) busy = absurd (held_other (is_some old.log.group) (has_locks old) f busy (sym (held f busy) ∙ is))
+      by (Some f) busy = absurd (held_other (is_some old.log.group) (has_locked_blocks old) f busy
+          (sym (held f busy) ∙ is))
       by None free = either ((refused.free free).file is)
 
   -- of a look-up
-  pub file_seen : (old new : SessionState S) (c : Command) (reply : Reply) → Sees facts (cache_of old) (cache_of new) c reply → reply ≡ Refused faults.File
+  pub file_seen : (old new : SessionState S) (c : Command) (reply : Reply) → AnswersFromBlocks facts (cache_of old) (cache_of new) c reply → reply ≡ Refused faults.File
       → FailedSince (facts old.disk.store) (facts new.disk.store)
   file_seen old new c reply sees is = elim sees.value as (λ _. FailedSince (facts old.disk.store) (facts new.disk.store)) [
     | inl lacks ↦
         let both : Refused lacks.0 ≡ Refused faults.File = sym lacks.2 ∙ is in
         let same : lacks.0 ≡ faults.File = cc both in
         lacked old.disk.store new.disk.store lacks.0 lacks.1 same
-    | inr answers ↦ absurd (rules_other (has_no_room (cache_of old) (look_up_needs c)) c new.document reply answers is)
+    | inr answers ↦ absurd (rules_other (lacks_frames (cache_of old) (look_up_needs c)) c new.document reply answers is)
   ]
 
   -- along chains
-  pub file_along : (old new : SessionState S) (c : Command) (reply : Reply) → SeesAlongChain facts (cache_of old) (cache_of new) c reply → reply ≡ Refused faults.File
+  pub file_along : (old new : SessionState S) (c : Command) (reply : Reply) → AnswersChainFromBlocks facts (cache_of old) (cache_of new) c reply → reply ≡ Refused faults.File
       → FailedSince (facts old.disk.store) (facts new.disk.store)
   file_along old new c reply sees is = elim (sees.refusals faults.File is) as (λ _. FailedSince (facts old.disk.store) (facts new.disk.store)) [
     | inl (inl lacks) ↦ lacked old.disk.store new.disk.store faults.File lacks refl

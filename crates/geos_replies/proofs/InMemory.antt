@@ -14,7 +14,7 @@ use Rattle.vm_blocks.specs.Preparing.{IsInMemory}
 use Rattle.vm_blocks.specs.declared.change.Change.{Change}
 use Rattle.vm_blocks.specs.declared.change.Change.TheVariants as changes
 use Rattle.doc_edits.specs.Planning.{kind_of_change}
-use Rattle.undo_log.specs.Logging.{turned_over}
+use Rattle.undo_log.specs.Logging.{reversed_entry}
 use Rattle.undo_log.specs.Sessions.{SessionState, cache_of}
 use Rattle.undo_log.specs.Turning.{IsEntryApplied, MovesEntry}
 use Rattle.undo_log.specs.declared.entry.LogEntry.{LogEntry}
@@ -32,7 +32,7 @@ module _ {S : Type 0} where
   part_in_memory direction (changes.Map old new) state here b is = cc is
 
   module _ (facts : S → StoreFacts) (direction : Direction) (old new : SessionState S) where
-    entry_in_memory : (e : LogEntry) (es : List LogEntry) → IsEntryApplied facts direction e (cache_of old) (cache_of new) → HasNextInMemory (turned_over e ∷ es) new
+    entry_in_memory : (e : LogEntry) (es : List LogEntry) → IsEntryApplied facts direction e (cache_of old) (cache_of new) → HasNextInMemory (reversed_entry e ∷ es) new
     entry_in_memory (entries.One c) es made = part_in_memory direction c (cache_of new) made.in_memory
     entry_in_memory (entries.Group cs) es made = λ b is. cc is
 

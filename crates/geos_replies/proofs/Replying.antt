@@ -29,7 +29,7 @@ use Rattle.undo_log.specs.Sessions.{SessionState, AnswersAsked, AnswersAlongChai
 use Rattle.undo_log.proofs.Keeping.{kept_frames, kept_passes, keeps_refl}
 use Rattle.geos_replies.specs.Holdings.{AnswersRequest, AreExact, CommitsNothing, Holding, IsTakenIfSure, KeepsHolding, LeavesFiles, LeavesInMemory, MayServe, ServesRequest, SameFiles, failed_since_in, holding, machine}
 use Rattle.geos_replies.specs.Holdings.{is_refusal}
-use Rattle.geos_replies.specs.Replies.{Extends, Replied, Responds, Told, asks_no_body}
+use Rattle.geos_replies.specs.Replies.{Extends, Replied, Responds, RepliesToLookUp, asks_no_body}
 use Rattle.geos_replies.proofs.FileFaults.{IsFailure, failed_in, file_along, file_at_rest, file_seen}
 use Rattle.geos_replies.proofs.Refusals.{keeps_all, keeps_with}
 use Rattle.geos_replies.proofs.Serving.{serves_passing, step_any}
@@ -135,7 +135,7 @@ module _ {S : Type 0} (facts : S → StoreFacts) where
 
   -- what was told of a look-up
   pub replied_told : {T E : Type 0} (put : Result T E) (old new : SessionState S) (target former : Option S) (c : Command) (before after : List ℕ)
-      → is_look_up c ≡ true → (asks_no_body c ≡ true → new ≡ old) → Told put facts old c new before after
+      → is_look_up c ≡ true → (asks_no_body c ≡ true → new ≡ old) → RepliesToLookUp put facts old c new before after
       → Replied put facts (holding old target former) c (holding new target former) before after
   replied_told put old new target former c before after asks same t =
       let first = holding old target former in
@@ -156,12 +156,12 @@ module _ {S : Type 0} (facts : S → StoreFacts) where
 module _ {S T E : Type 0} (facts : S → StoreFacts) (put : Result T E) (c : Command) (reply : Reply) (before after : List ℕ) where
   -- a look-up whose reply's text a call that may fail has put
   pub told : (old new : SessionState S) → IsStep facts old new c reply → KeepsSession facts old new → (reply ≡ Refused faults.File → FailedSince (facts old.disk.store) (facts new.disk.store))
-      → OnOk put (after ≡ before ++ reply_text reply) → Told put facts old c new before after
+      → OnOk put (after ≡ before ++ reply_text reply) → RepliesToLookUp put facts old c new before after
   told old new step keeps file said = record { reply = reply; step = step; keeps = keeps; file = file; text = said }
 
   -- one that calls no store
   pub told_at_rest : (s : SessionState S) → ((target : Bool) → Step false (machine_of target s) (Some c) reply (machine_of target s)) → OnOk put (after ≡ before ++ reply_text reply)
-      → Told put facts s c s before after
+      → RepliesToLookUp put facts s c s before after
   told_at_rest s step said =
       record {
         reply = reply;
@@ -172,19 +172,19 @@ module _ {S T E : Type 0} (facts : S → StoreFacts) (put : Result T E) (c : Com
       }
 
   -- so of a look-up of no body
-  told_resting : (old new : SessionState S) → AnswersWithoutBody old new c reply → OnOk put (after ≡ before ++ reply_text reply) → Told put facts old c new before after
-  told_resting old new answers said = subst (λ (s : SessionState S). Told put facts old c s before after) (sym answers.1)
+  told_resting : (old new : SessionState S) → AnswersWithoutBody old new c reply → OnOk put (after ≡ before ++ reply_text reply) → RepliesToLookUp put facts old c new before after
+  told_resting old new answers said = subst (λ (s : SessionState S). RepliesToLookUp put facts old c s before after) (sym answers.1)
       (told_at_rest old (λ target. subst (λ (s : SessionState S). Step false (machine_of target old) (Some c) reply (machine_of target s)) answers.1 (answers.0 target)) said)
 
   -- what a look-up comes to is told
-  told_seen : (old new : SessionState S) → AnswersLookUp facts old new c reply → OnOk put (after ≡ before ++ reply_text reply) → Told put facts old c new before after
+  told_seen : (old new : SessionState S) → AnswersLookUp facts old new c reply → OnOk put (after ≡ before ++ reply_text reply) → RepliesToLookUp put facts old c new before after
   told_seen old new looks said = told old new looks.step looks.keeps (file_seen facts old new c reply looks.sees) said
 
-  told_along : (old new : SessionState S) → AnswersAlongChain facts old new c reply → OnOk put (after ≡ before ++ reply_text reply) → Told put facts old c new before after
+  told_along : (old new : SessionState S) → AnswersAlongChain facts old new c reply → OnOk put (after ≡ before ++ reply_text reply) → RepliesToLookUp put facts old c new before after
   told_along old new looks said = told old new looks.step looks.keeps (file_along facts old new c reply looks.sees) said
 
 module _ {S T E : Type 0} (facts : S → StoreFacts) (put : Result T E) (old new : SessionState S) (reply : Reply) (before after : List ℕ) where
-  pub told_answer : (look_up : LookUp) → AnswersAsked facts old new look_up reply → OnOk put (after ≡ before ++ reply_text reply) → Told put facts old (command_of look_up) new before after
+  pub told_answer : (look_up : LookUp) → AnswersAsked facts old new look_up reply → OnOk put (after ≡ before ++ reply_text reply) → RepliesToLookUp put facts old (command_of look_up) new before after
   told_answer look_ups.List answers said = told_resting facts put commands.List reply before after old new answers said
   told_answer (look_ups.Plain asked) answers said = told_resting facts put (plain_look_up asked) reply before after old new answers said
   told_answer (look_ups.InBlock b asked) answers said = told_seen facts put (block_look_up b asked) reply before after old new answers said
@@ -221,12 +221,12 @@ answered_stays facts old new reply (look_ups.AlongChain (chain_look_ups.Equal b 
 pub seen_as : (c : Command) (o : Option LookUp) → MatchOption o (is_look_up c ≡ false) (λ look_up. command_of look_up ≡ c) → (look_up : LookUp) → o ≡ Some look_up → command_of look_up ≡ c
 seen_as c o seen look_up was = subst (λ (o : Option LookUp). MatchOption o (is_look_up c ≡ false) (λ look_up. command_of look_up ≡ c)) was seen
 
-pub told_of : {S T E : Type 0} (facts : S → StoreFacts) (put : Result T E) (old new : SessionState S) (before after : List ℕ) (a b : Command) → a ≡ b → Told put facts old a new before after → Told put facts old b new before after
-told_of facts put old new before after a b same told = subst (λ (c : Command). Told put facts old c new before after) same told
+pub told_of : {S T E : Type 0} (facts : S → StoreFacts) (put : Result T E) (old new : SessionState S) (before after : List ℕ) (a b : Command) → a ≡ b → RepliesToLookUp put facts old a new before after → RepliesToLookUp put facts old b new before after
+told_of facts put old new before after a b same told = subst (λ (c : Command). RepliesToLookUp put facts old c new before after) same told
 
 -- the text of a look-up's reply, put behind what was there, leaves that
 pub extends_told : {S T E : Type 0} (put : Result T E) (facts : S → StoreFacts) (old new : SessionState S) (c : Command) (before after : List ℕ)
-    → Told put facts old c new before after → OnOk put (Extends before after)
+    → RepliesToLookUp put facts old c new before after → OnOk put (Extends before after)
 extends_told (Ok x) facts old new c before after t = extends_by before (reply_text t.reply) after t.text
 extends_told (Err e) facts old new c before after t = tt
 

@@ -16,7 +16,7 @@ use Rattle.vm_blocks.specs.Locking.{GainsLock}
 use Rattle.undo_log.specs.Logging.{Log}
 use Rattle.undo_log.specs.Sessions.{SessionState, IsExact, IsStep, KeepsSession, cache_of, machine_of, failed_since}
 use Rattle.undo_log.proofs.Keeping.{kept_passes}
-use Rattle.geos_replies.specs.Holdings.{AreExact, CommitsAsTold, CommitsNothing, IsTakenIfSure, LeavesFiles, ServesRequest, SameFiles, CommitsOrKeeps, failed_with, holding, result_told}
+use Rattle.geos_replies.specs.Holdings.{AreExact, CommitsAsReplied, CommitsNothing, IsTakenIfSure, LeavesFiles, ServesRequest, SameFiles, CommitsOrKeeps, failed_with, holding, result_of_reply}
 
 -- Where more stores may have failed, no less may be given up.
 
@@ -107,7 +107,7 @@ module _ {S : Type 0} (facts : S → StoreFacts) where
   -- how a commit tries a pair, in the words of its reply
   tries : (pair : Documents) (old new : Disk S) (result : Result (Unit {0}) Fault) → MayCommit facts pair old new result
       → IfErr result (λ fault. fault ≢ File → KeepsCommitted facts old new) → (IsErrOf result File → FailedSince (facts old.store) (facts new.store))
-      → CommitsOrKeeps facts pair old new (result_told (reply_by (λ _. Accepted) result))
+      → CommitsOrKeeps facts pair old new (result_of_reply (reply_by (λ _. Accepted) result))
   tries pair old new (Ok x) commits passes file = record { commits = commits; passes = tt }
   tries pair old new (Err fault) commits passes file =
       record { commits = commits; passes = λ unless. passes (λ is. unless is (file (ap Err is))) }
@@ -117,7 +117,7 @@ module _ {S : Type 0} (facts : S → StoreFacts) where
       → MayCommit facts pair old.disk new.disk result → IfErr result (λ fault. fault ≢ File → KeepsCommitted facts old.disk new.disk)
       → (IsErrOf result File → FailedSince (facts old.disk.store) (facts new.disk.store))
       → IsStep facts old new c (reply_by (λ _. Accepted) result)
-      → (CommitsAsTold facts pair (holding old target former) (reply_by (λ _. Accepted) result) (holding new target former)
+      → (CommitsAsReplied facts pair (holding old target former) (reply_by (λ _. Accepted) result) (holding new target former)
       → LeavesFiles facts (holding old target former) (Some c) (reply_by (λ _. Accepted) result) (holding new target former))
       → IsTakenIfSure facts old (Some c) (reply_by (λ _. Accepted) result) new
       → AreExact facts (holding old target former) → ServesRequest facts (holding old target former) (Some c) (reply_by (λ _. Accepted) result) (holding new target former)

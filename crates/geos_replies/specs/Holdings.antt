@@ -71,14 +71,14 @@ pub record CommitsOrKeeps {S : Type 0} (facts : S → StoreFacts) (pair : Docume
       (fault ≡ File → FailedSince (facts old.store) (facts new.store) → ⊥) → KeepsCommitted facts old new)
 
 -- the result that a reply to a commit tells
-abbrev pub result_told : Reply → Result (Unit {0}) Fault
-result_told (Refused fault) = Err fault
-result_told _ = Ok tt
+abbrev pub result_of_reply : Reply → Result (Unit {0}) Fault
+result_of_reply (Refused fault) = Err fault
+result_of_reply _ = Ok tt
 
 -- A commit of this pair to the session's file ends as the reply tells.
-pub record CommitsAsTold {S : Type 0} (facts : S → StoreFacts) (pair : Documents) (old : Holding S) (reply : Reply)
+pub record CommitsAsReplied {S : Type 0} (facts : S → StoreFacts) (pair : Documents) (old : Holding S) (reply : Reply)
     (new : Holding S) : Type 0 where
-  pub tries : CommitsOrKeeps facts pair old.session.disk new.session.disk (result_told reply)
+  pub tries : CommitsOrKeeps facts pair old.session.disk new.session.disk (result_of_reply reply)
   pub target : new.target ≡ old.target
   pub former : new.former ≡ old.former
 
@@ -115,11 +115,11 @@ SavesAs facts old (Some target) reply new = SaveAsAccepted facts old target new
 -- by the request and the reply
 abbrev pub LeavesFiles : {S : Type 0} → (S → StoreFacts) → Holding S → Request → Reply → Holding S → Type 0
 LeavesFiles facts old (Some commands.Update) reply new =
-    CommitsAsTold facts (old.session.document, old.session.disk.saved) old reply new
+    CommitsAsReplied facts (old.session.document, old.session.disk.saved) old reply new
 LeavesFiles facts old (Some commands.Save) reply new =
-    CommitsAsTold facts (old.session.document, old.session.document) old reply new
+    CommitsAsReplied facts (old.session.document, old.session.document) old reply new
 LeavesFiles facts old (Some commands.Revert) reply new =
-    CommitsAsTold facts (old.session.disk.saved, old.session.disk.saved) old reply new
+    CommitsAsReplied facts (old.session.disk.saved, old.session.disk.saved) old reply new
 LeavesFiles facts old (Some commands.SaveAs) reply new = SavesAs facts old old.target reply new
 LeavesFiles facts old (Some commands.Begin) reply new = SameFiles old new
 LeavesFiles facts old (Some commands.End) reply new = SameFiles old new

@@ -26,7 +26,7 @@ asks_no_body _ = false
 
 -- The machine answers a command so, and over any store the session is kept, and a file fault answered only where the
 -- store failed in this very call. Where there was memory for the reply's text, that was put behind what was there.
-pub record Told {S T E : Type 0} (result : Result T E) (facts : S → StoreFacts) (old : SessionState S)
+pub record RepliesToLookUp {S T E : Type 0} (result : Result T E) (facts : S → StoreFacts) (old : SessionState S)
     (command : Command) (new : SessionState S) (before after : List ℕ) : Type 0 where
   pub reply : Reply
   pub step : IsStep facts old new command reply

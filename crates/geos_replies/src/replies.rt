@@ -5,7 +5,7 @@ ghost use Rattle.geos_model.specs.Reply.{Accepted, reply_by};
 ghost use Rattle.geos_model.specs.Script.{command, reply_text};
 ghost use Rattle.geos_model.specs.declared.command.Command.TheVariants as commands;
 ghost use Rattle.geos_replies.specs.Holdings.{AreExact, KeepsHolding, MayServe, ServesRequest, failed_since_in, holding};
-ghost use Rattle.geos_replies.specs.Replies.{Extends, Replied, Responds, Told, asks_no_body};
+ghost use Rattle.geos_replies.specs.Replies.{Extends, Replied, Responds, RepliesToLookUp, asks_no_body};
 
 use geos_model::{Command, Fault, LookUp, Reply};
 use geos_script::{push_reply, read_command};
@@ -19,7 +19,8 @@ fn push_look_up<S: Store>(
     look_up: LookUp<'_>,
     out: &mut Vec<u8>,
 ) -> Result<(), AllocError>
-    ensures told { Told result S.facts session.old (command_of look_up.entry) session.new out.old.items out.new.items }
+    ensures told { RepliesToLookUp result S.facts session.old
+        (command_of look_up.entry) session.new out.old.items out.new.items }
     ensures stays { asks_no_body (command_of look_up.entry) ≡ true → session.new ≡ session.old }
     ensures err { OnErr result (Extends out.old.items out.new.items) }
 {

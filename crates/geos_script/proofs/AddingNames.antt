@@ -8,13 +8,13 @@ use Rattle.geos_model.specs.declared.handle.VmHandle.{VmHandle}
 use Rattle.geos_model.specs.declared.handle.ChunkHandle.{ChunkHandle}
 use Rattle.geos_model.specs.declared.command.Edit.TheVariants as edits
 use Rattle.geos_model.specs.declared.command.Command.TheVariants as commands
-use Rattle.geos_script.specs.Reading.{FailsToRead, command_has_bytes, has_bytes}
+use Rattle.geos_script.specs.Reading.{FailsToRead, command_has_bytes, is_nonempty}
 
 -- the command has these bytes among its own
 abbrev HasThem : (List ℕ → Command) → Type 0
-HasThem f = (bs : List ℕ) → has_bytes bs ≡ true → command_has_bytes (f bs) ≡ true
+HasThem f = (bs : List ℕ) → is_nonempty bs ≡ true → command_has_bytes (f bs) ≡ true
 
-carried : (o : Option (List ℕ)) (f : List ℕ → Command) (fault : Fault) → FailsToRead has_bytes o fault → HasThem f → FailsToRead command_has_bytes (option_and_then (λ bs. Some (f bs)) o) fault
+carried : (o : Option (List ℕ)) (f : List ℕ → Command) (fault : Fault) → FailsToRead is_nonempty o fault → HasThem f → FailsToRead command_has_bytes (option_and_then (λ bs. Some (f bs)) o) fault
 carried None f fault (inl bad) has = inl (bad.0, refl)
 carried None f fault (inr memory) has = absurd (memory.1)
 carried (Some bs) f fault (inl bad) has = cc (bad.1)
@@ -73,13 +73,13 @@ module _ (none : Bor (List ℕ)) where
     all_five b c name part replace first second third fourth fifth = five ws least most ∙ rw (first, second, third, fourth, fifth) refl
 
     pub no_name : (b : VmHandle) (c : ChunkHandle) (part : List ℕ) (replace : Bool) (fault : Fault) → block (get_or ws 0 none).now ≡ Some b → chunk (get_or ws 1 none).now ≡ Some c
-        → bytes (get_or ws 3 none).now ≡ Some part → is_set (get_or ws 4 none).now ≡ Some replace → FailsToRead has_bytes (bytes (get_or ws 2 none).now) fault
+        → bytes (get_or ws 3 none).now ≡ Some part → is_set (get_or ws 4 none).now ≡ Some replace → FailsToRead is_nonempty (bytes (get_or ws 2 none).now) fault
         → FailsToRead command_has_bytes (meant ws) fault
     no_name b c part replace fault first second fourth fifth failed =
         rw (five ws least most, first, second, fourth, fifth) (carried (bytes (get_or ws 2 none).now) (λ name. adds b c name part replace) fault failed (name_has b c part replace))
 
     pub no_part : (b : VmHandle) (c : ChunkHandle) (name : List ℕ) (replace : Bool) (fault : Fault) → block (get_or ws 0 none).now ≡ Some b → chunk (get_or ws 1 none).now ≡ Some c
-        → bytes (get_or ws 2 none).now ≡ Some name → is_set (get_or ws 4 none).now ≡ Some replace → FailsToRead has_bytes (bytes (get_or ws 3 none).now) fault
+        → bytes (get_or ws 2 none).now ≡ Some name → is_set (get_or ws 4 none).now ≡ Some replace → FailsToRead is_nonempty (bytes (get_or ws 3 none).now) fault
         → FailsToRead command_has_bytes (meant ws) fault
     no_part b c name replace fault first second third fifth failed =
         rw (five ws least most, first, second, third, fifth) (carried (bytes (get_or ws 3 none).now) (λ part. adds b c name part replace) fault failed (part_has b c name replace))

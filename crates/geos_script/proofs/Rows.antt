@@ -7,7 +7,7 @@ use Rattle.geos_model.proofs.Arrays.{same_bytes-is}
 use Rattle.geos_model.specs.declared.command.Command.{Command}
 use Rattle.geos_model.specs.declared.fault.Fault.{Fault}
 use Rattle.geos_model.specs.declared.fault.Fault.TheVariants as faults
-use Rattle.geos_script.specs.Making.{Makes, named_from, nothing, operand_then}
+use Rattle.geos_script.specs.Making.{ParsesOperands, named_from, nothing, operand_then}
 use Rattle.geos_script.specs.Reading.{ReadsAs, command_has_bytes}
 
 -- the row with the name
@@ -29,7 +29,7 @@ passed from to name text operands f is other =
 
 -- what is made of what words spell is what they mean
 made : {T : Type 0} (is_kept : T → Bool) (made_by : T → Command → Type 0) (to : T → Command) (spelled : Option T) (result : Result Command Fault)
-    → Makes is_kept made_by spelled result → ((t : T) (x : Command) → made_by t x → x ≡ to t) → ((t : T) → is_kept t ≡ command_has_bytes (to t))
+    → ParsesOperands is_kept made_by spelled result → ((t : T) (x : Command) → made_by t x → x ≡ to t) → ((t : T) → is_kept t ≡ command_has_bytes (to t))
     → ReadsAs command_has_bytes (option_map to spelled) result
 made is_kept made_by to None (Ok x) m same has = absurd m
 made is_kept made_by to (Some t) (Ok x) m same has = ap Some (sym (same t x m))
@@ -58,34 +58,34 @@ operand_is {A} {T} p f others to each (w ∷ ws) = read (p w)
     read (Some a) = each a ws ∙ mapped a (others ws)
 
 pub made_0 : (made_by : Unit {0} → Command → Type 0) (to : Command) (ws : List (Bor (List ℕ))) (result : Result Command Fault)
-    → Makes (λ _. false) made_by (nothing (map (λ w. w.now) ws)) result → ((x : Command) → made_by tt x → x ≡ to) → false ≡ command_has_bytes to
+    → ParsesOperands (λ _. false) made_by (nothing (map (λ w. w.now) ws)) result → ((x : Command) → made_by tt x → x ≡ to) → false ≡ command_has_bytes to
     → ReadsAs command_has_bytes (with_none to (map (λ w. w.now) ws)) result
 made_0 made_by to ws result m same has =
     rw (nothing_is (λ _. to) (map (λ w. w.now) ws)) (made (λ _. false) made_by (λ _. to) _ result m (λ t. same) (λ t. has))
 
 pub made_1 : {A : Type 0} (p : List ℕ → Option A) (is_kept : A × Unit {0} → Bool) (made_by : A × Unit {0} → Command → Type 0) (to : A → Command) (ws : List (Bor (List ℕ))) (result : Result Command Fault)
-    → Makes is_kept made_by (operand_then p nothing (map (λ w. w.now) ws)) result → ((a : A) (x : Command) → made_by (a, tt) x → x ≡ to a) → ((a : A) → is_kept (a, tt) ≡ command_has_bytes (to a))
+    → ParsesOperands is_kept made_by (operand_then p nothing (map (λ w. w.now) ws)) result → ((a : A) (x : Command) → made_by (a, tt) x → x ≡ to a) → ((a : A) → is_kept (a, tt) ≡ command_has_bytes (to a))
     → ReadsAs command_has_bytes (with_1 p to (map (λ w. w.now) ws)) result
 made_1 p is_kept made_by to ws result m same has =
     let means = operand_is p (λ a. with_none (to a)) nothing (λ t. to t.0) (λ a. nothing_is (λ _. to a)) (map (λ w. w.now) ws) in
     rw means (made is_kept made_by (λ t. to t.0) _ result m (λ t. same t.0) (λ t. has t.0))
 
 pub made_2 : {A B : Type 0} (p : List ℕ → Option A) (q : List ℕ → Option B) (is_kept : A × (B × Unit {0}) → Bool) (made_by : A × (B × Unit {0}) → Command → Type 0) (to : A → B → Command) (ws : List (Bor (List ℕ))) (result : Result Command Fault)
-    → Makes is_kept made_by (operand_then p (operand_then q nothing) (map (λ w. w.now) ws)) result → ((a : A) (b : B) (x : Command) → made_by (a, (b, tt)) x → x ≡ to a b) → ((a : A) (b : B) → is_kept (a, (b, tt)) ≡ command_has_bytes (to a b))
+    → ParsesOperands is_kept made_by (operand_then p (operand_then q nothing) (map (λ w. w.now) ws)) result → ((a : A) (b : B) (x : Command) → made_by (a, (b, tt)) x → x ≡ to a b) → ((a : A) (b : B) → is_kept (a, (b, tt)) ≡ command_has_bytes (to a b))
     → ReadsAs command_has_bytes (with_2 p q to (map (λ w. w.now) ws)) result
 made_2 p q is_kept made_by to ws result m same has =
     let means = operand_is p (λ a. with_1 q (to a)) (operand_then q nothing) (λ t. to t.0 t.1.0) (λ a. operand_is q (λ b. with_none (to a b)) nothing (λ t. to a t.0) (λ b. nothing_is (λ _. to a b))) (map (λ w. w.now) ws) in
     rw means (made is_kept made_by (λ t. to t.0 t.1.0) _ result m (λ t. same t.0 t.1.0) (λ t. has t.0 t.1.0))
 
 pub made_3 : {A B C : Type 0} (p : List ℕ → Option A) (q : List ℕ → Option B) (r : List ℕ → Option C) (is_kept : A × (B × (C × Unit {0})) → Bool) (made_by : A × (B × (C × Unit {0})) → Command → Type 0) (to : A → B → C → Command) (ws : List (Bor (List ℕ))) (result : Result Command Fault)
-    → Makes is_kept made_by (operand_then p (operand_then q (operand_then r nothing)) (map (λ w. w.now) ws)) result → ((a : A) (b : B) (c : C) (x : Command) → made_by (a, (b, (c, tt))) x → x ≡ to a b c) → ((a : A) (b : B) (c : C) → is_kept (a, (b, (c, tt))) ≡ command_has_bytes (to a b c))
+    → ParsesOperands is_kept made_by (operand_then p (operand_then q (operand_then r nothing)) (map (λ w. w.now) ws)) result → ((a : A) (b : B) (c : C) (x : Command) → made_by (a, (b, (c, tt))) x → x ≡ to a b c) → ((a : A) (b : B) (c : C) → is_kept (a, (b, (c, tt))) ≡ command_has_bytes (to a b c))
     → ReadsAs command_has_bytes (with_3 p q r to (map (λ w. w.now) ws)) result
 made_3 p q r is_kept made_by to ws result m same has =
     let means = operand_is p (λ a. with_2 q r (to a)) (operand_then q (operand_then r nothing)) (λ t. to t.0 t.1.0 t.1.1.0) (λ a. operand_is q (λ b. with_1 r (to a b)) (operand_then r nothing) (λ t. to a t.0 t.1.0) (λ b. operand_is r (λ c. with_none (to a b c)) nothing (λ t. to a b t.0) (λ c. nothing_is (λ _. to a b c)))) (map (λ w. w.now) ws) in
     rw means (made is_kept made_by (λ t. to t.0 t.1.0 t.1.1.0) _ result m (λ t. same t.0 t.1.0 t.1.1.0) (λ t. has t.0 t.1.0 t.1.1.0))
 
 pub made_4 : {A B C D : Type 0} (p : List ℕ → Option A) (q : List ℕ → Option B) (r : List ℕ → Option C) (s : List ℕ → Option D) (is_kept : A × (B × (C × (D × Unit {0}))) → Bool) (made_by : A × (B × (C × (D × Unit {0}))) → Command → Type 0) (to : A → B → C → D → Command) (ws : List (Bor (List ℕ))) (result : Result Command Fault)
-    → Makes is_kept made_by (operand_then p (operand_then q (operand_then r (operand_then s nothing))) (map (λ w. w.now) ws)) result → ((a : A) (b : B) (c : C) (d : D) (x : Command) → made_by (a, (b, (c, (d, tt)))) x → x ≡ to a b c d) → ((a : A) (b : B) (c : C) (d : D) → is_kept (a, (b, (c, (d, tt)))) ≡ command_has_bytes (to a b c d))
+    → ParsesOperands is_kept made_by (operand_then p (operand_then q (operand_then r (operand_then s nothing))) (map (λ w. w.now) ws)) result → ((a : A) (b : B) (c : C) (d : D) (x : Command) → made_by (a, (b, (c, (d, tt)))) x → x ≡ to a b c d) → ((a : A) (b : B) (c : C) (d : D) → is_kept (a, (b, (c, (d, tt)))) ≡ command_has_bytes (to a b c d))
     → ReadsAs command_has_bytes (with_4 p q r s to (map (λ w. w.now) ws)) result
 made_4 p q r s is_kept made_by to ws result m same has =
     let means = operand_is p (λ a. with_3 q r s (to a)) (operand_then q (operand_then r (operand_then s nothing))) (λ t. to t.0 t.1.0 t.1.1.0 t.1.1.1.0) (λ a. operand_is q (λ b. with_2 r s (to a b)) (operand_then r (operand_then s nothing)) (λ t. to a t.0 t.1.0 t.1.1.0) (λ b. operand_is r (λ c. with_1 s (to a b c)) (operand_then s nothing) (λ t. to a b t.0 t.1.0) (λ c. operand_is s (λ d. with_none (to a b c d)) nothing (λ t. to a b c t.0) (λ d. nothing_is (λ _. to a b c d))))) (map (λ w. w.now) ws) in

@@ -5,7 +5,7 @@ use Rattle.std.specs.List.{AllPass, list_all}
 use Rattle.std.proofs.lemmas.Bool.{cases_Bool, eqb-true}
 use Rattle.std.proofs.lemmas.Bool.Decides.{nat_tests}
 use Rattle.std.proofs.lemmas.List.Sums.{AllPass-from_list_all, list_all-from_AllPass}
-use Rattle.geos_script.specs.Reading.{has_bytes}
+use Rattle.geos_script.specs.Reading.{is_nonempty}
 use Rattle.std.proofs.Math.Nat.{pow-le-pow_right}
 use Rattle.hex.specs.Hex.{decode_of, decode_pairs, is_hex_digit, pair_value}
 use Rattle.hex.specs.declared.error.FromHexError.{FromHexError}
@@ -68,13 +68,13 @@ pub spelled_digits : (word : List ℕ) → same_bytes word (codes "-") ≡ false
     → list_all is_hex_digit word ≡ is_some (bytes word)
 spelled_digits word no_dash some even = rw (no_dash, some) (pairs_spelled word (eqb-true _ _ even))
 
-some_decoded : (word : List ℕ) (r : Result (List ℕ) FromHexError) → decode_of word ≡ r → 0 < length word → is_some (if_spelled r) ≡ true → IsSomeAnd (if_spelled r) (λ bs. IsTrue (has_bytes bs))
+some_decoded : (word : List ℕ) (r : Result (List ℕ) FromHexError) → decode_of word ≡ r → 0 < length word → is_some (if_spelled r) ≡ true → IsSomeAnd (if_spelled r) (λ bs. IsTrue (is_nonempty bs))
 some_decoded word (Err e) is some there = cc there
 some_decoded word (Ok []) is some there = let ok = decode_of-ok word [] is in absurd (omega (arith, ok.2))
 some_decoded word (Ok (x ∷ bs)) is some there = refl
 
 -- what a word spells that is no dash has bytes
-pub spelled_some : (word : List ℕ) → same_bytes word (codes "-") ≡ false → is_some (bytes word) ≡ true → IsSomeAnd (bytes word) (λ bs. IsTrue (has_bytes bs))
+pub spelled_some : (word : List ℕ) → same_bytes word (codes "-") ≡ false → is_some (bytes word) ≡ true → IsSomeAnd (bytes word) (λ bs. IsTrue (is_nonempty bs))
 spelled_some word no_dash there =
     elim (cases_Bool (length word == 0)) [
       | inl none ↦ cc (rw (no_dash, none) at there)

@@ -18,8 +18,8 @@ operand_then p others [] = None
 operand_then p others (w ∷ ws) = option_and_then (λ a. option_map (λ t. (a, t)) (others ws)) (p w)
 
 -- What was made of operands that words spell, if they spell any. There may be no memory for what has to be kept.
-abbrev pub Makes : {T R : Type 0} → (T → Bool) → (T → R → Type 0) → Option T → Result R Fault → Type 0
-Makes is_kept made spelled result =
+abbrev pub ParsesOperands : {T R : Type 0} → (T → Bool) → (T → R → Type 0) → Option T → Result R Fault → Type 0
+ParsesOperands is_kept made spelled result =
     MatchResult result (λ x. IsSomeAnd spelled (λ t. made t x)) (FailsToRead is_kept spelled)
 
 -- what a name and its operands mean by the rows of the script's table from one on

@@ -7,26 +7,26 @@ use Rattle.geos_model.specs.declared.command.Edit.TheVariants as edits
 use Rattle.geos_model.specs.declared.command.Command.{Command}
 use Rattle.geos_model.specs.declared.command.Command.TheVariants as commands
 
-abbrev pub has_bytes : List ℕ → Bool
-has_bytes [] = false
-has_bytes (x ∷ xs) = true
+abbrev pub is_nonempty : List ℕ → Bool
+is_nonempty [] = false
+is_nonempty (x ∷ xs) = true
 
 abbrev pub edit_has_bytes : Edit → Bool
-edit_has_bytes (edits.WriteRaw b at bytes) = has_bytes bytes
-edit_has_bytes (edits.Attach b bytes) = has_bytes bytes
-edit_has_bytes (edits.Write b c at bytes) = has_bytes bytes
-edit_has_bytes (edits.InsertElement b c i element) = has_bytes element
-edit_has_bytes (edits.SetElement b c i element) = has_bytes element
-edit_has_bytes (edits.AddElement b c element) = has_bytes element
-edit_has_bytes (edits.ChangeElement b c t element) = has_bytes element
-edit_has_bytes (edits.AddName b c name part replace) = has_bytes name || has_bytes part
-edit_has_bytes (edits.ChangeName b c t name) = has_bytes name
+edit_has_bytes (edits.WriteRaw b at bytes) = is_nonempty bytes
+edit_has_bytes (edits.Attach b bytes) = is_nonempty bytes
+edit_has_bytes (edits.Write b c at bytes) = is_nonempty bytes
+edit_has_bytes (edits.InsertElement b c i element) = is_nonempty element
+edit_has_bytes (edits.SetElement b c i element) = is_nonempty element
+edit_has_bytes (edits.AddElement b c element) = is_nonempty element
+edit_has_bytes (edits.ChangeElement b c t element) = is_nonempty element
+edit_has_bytes (edits.AddName b c name part replace) = is_nonempty name || is_nonempty part
+edit_has_bytes (edits.ChangeName b c t name) = is_nonempty name
 edit_has_bytes _ = false
 
 -- Whether a command has bytes to be kept: reading it takes memory for these and for nothing else.
 abbrev pub command_has_bytes : Command → Bool
 command_has_bytes (commands.Edit e) = edit_has_bytes e
-command_has_bytes (commands.NameFind b c name) = has_bytes name
+command_has_bytes (commands.NameFind b c name) = is_nonempty name
 command_has_bytes _ = false
 
 -- why reading fails: BadCommand where nothing is meant, or Memory where what is meant has bytes

@@ -4,7 +4,7 @@ ghost use Rattle.std.specs.List.{AllPass, list_all};
 ghost use Rattle.hex.specs.Hex.{decode_pairs, is_hex_digit, pair_value};
 ghost use Rattle.geos_model.specs.Script as script;
 ghost use Rattle.geos_model.specs.declared.fault.Fault.TheVariants as faults;
-ghost use Rattle.geos_script.specs.Reading.{ReadsAs, has_bytes};
+ghost use Rattle.geos_script.specs.Reading.{ReadsAs, is_nonempty};
 
 use geos_model::{Bytes, ChunkHandle, Fault, Token, VmHandle};
 use std::alloc::Global;
@@ -127,7 +127,7 @@ impl<T: Operand> LastOperand for T {
 impl LastOperand for Bytes {
     ghost spelled_last = { script.bytes };
 
-    ghost is_kept = { has_bytes };
+    ghost is_kept = { is_nonempty };
 
     fn read_last(alloc: Global, word: &[u8]) -> Result<Bytes, Fault> {
         if !spells_bytes(word) {

@@ -2,7 +2,7 @@
 ghost use Rattle.std.specs.Prelude.{◌≡◌, map, false};
 ghost use Rattle.geos_model.specs.declared.command.Command.{Command};
 ghost use Rattle.geos_model.specs.declared.command.Command.TheVariants as commands;
-ghost use Rattle.geos_script.specs.Making.{Makes, nothing, operand_then};
+ghost use Rattle.geos_script.specs.Making.{ParsesOperands, nothing, operand_then};
 ghost use Rattle.geos_script.specs.Reading.{putting};
 
 use crate::operands::{LastOperand, Operand};
@@ -51,7 +51,7 @@ macro_rules! put_made {
 // Inlined, since it costs less than a call.
 #[inline(always)]
 pub(crate) fn none(place: &mut Command, words: &[&[u8]], made: Command) -> Result<(), Fault>
-    ensures { Makes (λ _. false) (λ _ c. c ≡ made) (nothing (map (λ w. w.now) words.now))
+    ensures { ParsesOperands (λ _. false) (λ _ c. c ≡ made) (nothing (map (λ w. w.now) words.now))
         (putting result place.new) }
 {
     put_made! { place, words; [] => made }
@@ -66,7 +66,7 @@ pub(crate) fn one<A: LastOperand, R: Made, F: FnOnce(A) -> R + Drop>(
     make: F,
 ) -> Result<(), Fault>
     requires { F.IsAlwaysCallable make }
-    ensures { Makes (λ t. A.is_kept t.0) (λ t c. (r : R) × F.post make t.0 r × (c ≡ R.as_command r))
+    ensures { ParsesOperands (λ t. A.is_kept t.0) (λ t c. (r : R) × F.post make t.0 r × (c ≡ R.as_command r))
         (operand_then A.spelled_last nothing (map (λ w. w.now) words.now)) (putting result place.new) }
 {
     put_made! { place, words; [a] => make(A::read_last(alloc, a)?).into_command() }
@@ -80,7 +80,7 @@ pub(crate) fn two<A: Operand, B: LastOperand, R: Made, F: FnOnce(A, B) -> R + Dr
     make: F,
 ) -> Result<(), Fault>
     requires { F.IsAlwaysCallable make }
-    ensures { Makes (λ t. B.is_kept t.1.0) (λ t c. (r : R) × F.post make t.0 t.1.0 r × (c ≡ R.as_command r))
+    ensures { ParsesOperands (λ t. B.is_kept t.1.0) (λ t c. (r : R) × F.post make t.0 t.1.0 r × (c ≡ R.as_command r))
         (operand_then A.spelled (operand_then B.spelled_last nothing) (map (λ w. w.now) words.now))
         (putting result place.new) }
 {
@@ -96,7 +96,7 @@ pub(crate) fn three<
     F: FnOnce(A, B, C) -> R + Drop,
 >(alloc: Global, place: &mut Command, words: &[&[u8]], make: F) -> Result<(), Fault>
     requires { F.IsAlwaysCallable make }
-    ensures { Makes (λ t. C.is_kept t.1.1.0)
+    ensures { ParsesOperands (λ t. C.is_kept t.1.1.0)
         (λ t c. (r : R) × F.post make t.0 t.1.0 t.1.1.0 r × (c ≡ R.as_command r))
         (operand_then A.spelled (operand_then B.spelled (operand_then C.spelled_last nothing))
         (map (λ w. w.now) words.now)) (putting result place.new) }
@@ -114,7 +114,7 @@ pub(crate) fn four<
     F: FnOnce(A, B, C, D) -> R + Drop,
 >(alloc: Global, place: &mut Command, words: &[&[u8]], make: F) -> Result<(), Fault>
     requires { F.IsAlwaysCallable make }
-    ensures { Makes (λ t. D.is_kept t.1.1.1.0)
+    ensures { ParsesOperands (λ t. D.is_kept t.1.1.1.0)
         (λ t c. (r : R) × F.post make t.0 t.1.0 t.1.1.0 t.1.1.1.0 r × (c ≡ R.as_command r))
         (operand_then A.spelled (operand_then B.spelled (operand_then C.spelled (operand_then D.spelled_last nothing)))
         (map (λ w. w.now) words.now)) (putting result place.new) }

@@ -6,7 +6,7 @@ use Rattle.command_lines.specs.Options.{CommandLine}
 use Rattle.command_lines.specs.declared.asked.NoOptions.{NoOptions}
 use Rattle.command_lines.specs.declared.asked.NoOptions.TheVariants as no_options
 use Rattle.geos_shell.specs.Outcome.{HasRunCause, IsUnread, without_options}
-use Rattle.geos_shell.specs.Program.{IsNotBegun}
+use Rattle.geos_shell.specs.Program.{IsScriptNotAnswered}
 use Rattle.geos_shell.specs.declared.outcome.Outcome.{Outcome}
 use Rattle.geos_shell.specs.declared.outcome.Outcome.TheVariants as outcomes
 use Rattle.geos_shell.specs.declared.runner.RunFault.TheVariants as faults
@@ -38,7 +38,7 @@ unread_cause P Q outcomes.Target h = tt
 unread_cause P Q outcomes.Done h = tt
 
 -- where no session was begun
-pub not_begun_cause : {F S : Type 0} (P Q : Type 0) (calls : Opener F S) (facts : S → StoreFacts) (line : CommandLine) (old new : F) (outcome : Outcome) → IsNotBegun calls facts line old new outcome → HasRunCause outcome P Q
+pub not_begun_cause : {F S : Type 0} (P Q : Type 0) (calls : Opener F S) (facts : S → StoreFacts) (line : CommandLine) (old new : F) (outcome : Outcome) → IsScriptNotAnswered calls facts line old new outcome → HasRunCause outcome P Q
 not_begun_cause P Q calls facts line old new (outcomes.Run fault) (inl fails) = absurd fails.1
 not_begun_cause P Q calls facts line old new (outcomes.Run fault) (inr given_up) = absurd given_up.rest
 not_begun_cause P Q calls facts line old new (outcomes.Usage text) h = tt

@@ -11,7 +11,7 @@ use Rattle.vm_file.specs.Documents.{Documents}
 use Rattle.vm_file.proofs.PassingLemmas.{KeepsCommitted-refl}
 use Rattle.undo_log.specs.Sessions.{failed_since}
 use Rattle.undo_log.proofs.Keeping.{failed_true}
-use Rattle.geos_replies.specs.Holdings.{AreExact, CommitsAsTold, CommitsNothing, Holding, LeavesFiles, SavesAs, ServesRequest, SameFiles, CommitsOrKeeps, failed_with, failed_since_in}
+use Rattle.geos_replies.specs.Holdings.{AreExact, CommitsAsReplied, CommitsNothing, Holding, LeavesFiles, SavesAs, ServesRequest, SameFiles, CommitsOrKeeps, failed_with, failed_since_in}
 use Rattle.geos_replies.proofs.FileFaults.{failed_so}
 use Rattle.geos_shell.specs.Runs.{AfterFailures, CountsFailures}
 
@@ -57,7 +57,7 @@ module _ {S : Type 0} (facts : S → StoreFacts) where
             (λ raised. not_failed (failed_since_in facts old new) none (failed_so facts _ old.target new.target left (failed_true (facts old.session.disk.store) (facts new.session.disk.store) raised)));
       }
 
-  after_settles : (old new : Holding S) (pair : Documents) (reply : Reply) → CommitsAsTold facts pair old reply new → IsTrue (facts old.session.disk.store).honest
+  after_settles : (old new : Holding S) (pair : Documents) (reply : Reply) → CommitsAsReplied facts pair old reply new → IsTrue (facts old.session.disk.store).honest
       → AfterFailures facts old (cond (failed_since_in facts old new) 1 0) new
   after_settles old new pair reply settles so =
       after_tries old new pair _ settles.tries (λ none. settles.target ∙ none) (λ none. sym settles.target ∙ none) so

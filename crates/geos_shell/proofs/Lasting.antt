@@ -5,16 +5,16 @@ use Rattle.geos_model.specs.Script.{lines}
 use Rattle.vm_store.specs.Facts.{StoreFacts}
 use Rattle.geos_replies.specs.Holdings.{Holding}
 use Rattle.geos_shell.specs.Runs.{AnswersLines, StopsBy}
-use Rattle.geos_shell.specs.Progress.{HasNoFeed, IsAnswered, IsStopped, Progress, StandsFor}
+use Rattle.geos_shell.specs.Progress.{HasNoFeed, IsAnsweredInRun, IsStopped, Progress, StandsFor}
 use Rattle.geos_shell.specs.declared.runner.RunFault.{RunFault}
 use Rattle.geos_shell.specs.declared.runner.RunFault.TheVariants as faults
-use Rattle.geos_shell.specs.declared.runner.Manner.{Manner}
+use Rattle.geos_shell.specs.declared.runner.ScriptOptions.{ScriptOptions}
 use Rattle.geos_shell.proofs.Steps.{Answered-last, Progress-feed, Progress-part, Progress-some, Refused-feed, Refused-last, StopsBy-feed, StopsBy-last}
 
-module _ {S : Type 0} (facts : S → StoreFacts) (manner : Manner) (start now new : Holding S) (read kept sent old replies : List ℕ) where
+module _ {S : Type 0} (facts : S → StoreFacts) (manner : ScriptOptions) (start now new : Holding S) (read kept sent old replies : List ℕ) where
   -- a whole line, whose front may have been kept before, and which the bytes in full stand for
   pub line_answered : (tail full rest : List ℕ) → StandsFor (kept ++ tail) full → length rest ≡ 0 → HasNoFeed tail
-      → IsAnswered facts manner now full new old replies
+      → IsAnsweredInRun facts manner now full new old replies
       → Progress facts manner start read (sent ++ old) now kept → Progress facts manner start (read ++ (tail ++ 10 ∷ [])) (sent ++ replies) new rest
   line_answered tail full rest stands none free answers p =
       let (written, answered, grown) = answers in
@@ -34,10 +34,11 @@ module _ {S : Type 0} (facts : S → StoreFacts) (manner : Manner) (start now ne
   line_stopped faults.Write tail full rest stands free stops p = absurd stops
 
   -- the last line, of which all is kept
-  pub last_answered : (line : List ℕ) → line ≡ kept → 0 < length kept → IsAnswered facts manner now line new old replies
+  pub last_answered : (line : List ℕ) → line ≡ kept → 0 < length kept
+      → IsAnsweredInRun facts manner now line new old replies
       → Progress facts manner start read (sent ++ old) now kept → AnswersLines facts manner start (lines read) (sent ++ replies) new
   last_answered line is some answers p =
-      let (written, answered, grown) = subst (λ (l : List ℕ). IsAnswered facts manner now l new old replies) is answers in
+      let (written, answered, grown) = subst (λ (l : List ℕ). IsAnsweredInRun facts manner now l new old replies) is answers in
       rw (grown, ← append_assoc sent old written) (Answered-last p some answered)
 
   -- that line, in which the run stops

@@ -16,11 +16,11 @@ use Rattle.vm_store.specs.Facts.{StoreFacts}
 use Rattle.geos_replies.specs.Holdings.{AnswersCalls, AnswersRequest, AreExact, Holding, failed_since_in}
 use Rattle.geos_shell.specs.Manners.{begins_with_no, echoed, lead, longest_kept, plain, written_of}
 use Rattle.geos_replies.specs.Holdings.{is_refusal}
-use Rattle.geos_shell.specs.Progress.{IsAnswered, StandsFor}
+use Rattle.geos_shell.specs.Progress.{IsAnsweredInRun, StandsFor}
 use Rattle.geos_replies.specs.Replies.{Responds}
 use Rattle.geos_shell.specs.Runs.{AnswersLines, AnswersOf, EndsBy, RefusesRequest, replies_of}
 use Rattle.geos_shell.specs.declared.runner.RunFault.TheVariants as faults
-use Rattle.geos_shell.specs.declared.runner.Manner.{Manner}
+use Rattle.geos_shell.specs.declared.runner.ScriptOptions.{ScriptOptions}
 use Rattle.geos_shell.proofs.Composed.{AnswersCalls-append, AnswersCalls-one, serves_calls}
 use Rattle.geos_shell.proofs.Lines.{StandsFor-command, longest_kept-is}
 
@@ -114,7 +114,7 @@ or_false false = refl
 
 -- ---- lines
 
-module _ {S : Type 0} (facts : S → StoreFacts) (manner : Manner) where
+module _ {S : Type 0} (facts : S → StoreFacts) (manner : ScriptOptions) where
   -- lines whose calls are answered
   by_calls : (old new : Holding S) (asked : List (List ℕ)) (written : List ℕ) (calls : List Call) → map (λ c. c.request) calls ≡ filter gets_reply (requests asked) → AnswersCalls facts old calls new
       → written ≡ written_of manner.echoes asked (replies_of calls) → (manner.bails && list_any is_refusal (replies_of calls)) ≡ false → AnswersLines facts manner old asked written new
@@ -141,7 +141,7 @@ module _ {S : Type 0} (facts : S → StoreFacts) (manner : Manner) where
 
   -- what was put behind the line is no refusal, where the run bails
   answered_by : (old new : Holding S) (line : List ℕ) (request : Request) → command line ≡ request → (before mid after : List ℕ) → mid ≡ before ++ lead manner.echoes line
-      → Responds facts old request new mid after → (manner.bails && begins_with_no (drop (length mid) after)) ≡ false → IsAnswered facts manner old line new before after
+      → Responds facts old request new mid after → (manner.bails && begins_with_no (drop (length mid) after)) ≡ false → IsAnsweredInRun facts manner old line new before after
   answered_by old new line (Some commands.Blank) is before mid after led r goes_on =
       (lead manner.echoes line, AnswersLines-unasked old new line (ap gets_reply is) r.0, r.1 ∙ led)
   answered_by old new line request is before mid after led r goes_on =
@@ -178,7 +178,7 @@ module _ {S : Type 0} (facts : S → StoreFacts) (manner : Manner) where
 
   -- a line was answered
   pub answered : (old new : Holding S) (line before after : List ℕ) → Responds facts old (command line) new (before ++ lead manner.echoes line) after
-      → (manner.bails && begins_with_no (drop (length (before ++ lead manner.echoes line)) after)) ≡ false → IsAnswered facts manner old line new before after
+      → (manner.bails && begins_with_no (drop (length (before ++ lead manner.echoes line)) after)) ≡ false → IsAnsweredInRun facts manner old line new before after
   answered old new line before after r goes_on = answered_by old new line (command line) refl before _ after refl r goes_on
 
   -- by a refusal
@@ -192,7 +192,7 @@ counted : (calls : List Call) (asked : List Request) → map (λ c. c.request) c
 counted calls asked e = length-map calls (λ (c : Call). c.reply) ∙ sym (length-map calls (λ (c : Call). c.request)) ∙ ap length e
 
 -- more lines are answered
-pub AnswersLines-append : {S : Type 0} {facts : S → StoreFacts} {manner : Manner} {old mid new : Holding S} {xs ys : List (List ℕ)} {ws vs : List ℕ}
+pub AnswersLines-append : {S : Type 0} {facts : S → StoreFacts} {manner : ScriptOptions} {old mid new : Holding S} {xs ys : List (List ℕ)} {ws vs : List ℕ}
     → AnswersLines facts manner old xs ws mid → AnswersLines facts manner mid ys vs new → AnswersLines facts manner old (xs ++ ys) (ws ++ vs) new
 AnswersLines-append {S} {facts} {manner} {old} {mid} {new} {xs} {ys} {ws} {vs} p q =
     let first = replies_of p.calls in
@@ -216,7 +216,7 @@ written_of-StandsFor false begun kept rs h = refl
 written_of-StandsFor true begun kept rs h =
     ap₂ (λ (front : List ℕ) (c : Request). (front ++ 10 ∷ []) ++ output (take (cond (gets_reply c) 1 0) rs) ++ []) h (StandsFor-command begun kept h)
 
-module _ {S : Type 0} {facts : S → StoreFacts} {manner : Manner} {old new : Holding S} {begun kept written : List ℕ} (h : StandsFor begun kept) where
+module _ {S : Type 0} {facts : S → StoreFacts} {manner : ScriptOptions} {old new : Holding S} {begun kept written : List ℕ} (h : StandsFor begun kept) where
   pub AnswersLines-StandsFor : AnswersLines facts manner old (kept ∷ []) written new → AnswersLines facts manner old (begun ∷ []) written new
   AnswersLines-StandsFor a =
       record {
@@ -239,7 +239,7 @@ module _ {S : Type 0} {facts : S → StoreFacts} {manner : Manner} {old new : Ho
 -- ---- the plain manner
 
 -- a manner that neither bails nor echoes is that
-pub manner_is : (manner : Manner) → manner.bails ≡ false → manner.echoes ≡ false → manner ≡ plain
+pub manner_is : (manner : ScriptOptions) → manner.bails ≡ false → manner.echoes ≡ false → manner ≡ plain
 manner_is manner bails echoes = λ i. record { bails = bails i; echoes = echoes i }
 
 -- what is written is the replies

@@ -1,9 +1,9 @@
 -- Reads that were made.
 use Rattle.std.proofs.Common.{◌≡◌, ◌+◌, ℕ, List, [], ◌∷◌, Result, refl, ap, arith, length}
 use Rattle.geos_shell.specs.declared.streams.ReadFault.{ReadFault}
-use Rattle.geos_shell.specs.Streams.{Reads, ReadsOften}
+use Rattle.geos_shell.specs.Streams.{ReadCalls, ReadsOften}
 
-module _ {R : Type 0} (reads : Reads R) where
+module _ {R : Type 0} (reads : ReadCalls R) where
   -- none
   pub ReadsOften-none : (r : R) → ReadsOften reads 0 r r
   ReadsOften-none r = record { states = []; made = refl; count = refl }

@@ -14,11 +14,11 @@ use Rattle.geos_shell.specs.RunFaults.{HasCause}
 use Rattle.geos_shell.specs.Runs.{AnswersAll, AnswersFinished, AnswersSome, AnswersUnsent, EndsBy, RunsTo, StoppedWith, StopsBy}
 use Rattle.geos_shell.specs.declared.runner.RunFault.{RunFault}
 use Rattle.geos_shell.specs.declared.runner.RunFault.TheVariants as faults
-use Rattle.geos_shell.specs.declared.runner.Manner.{Manner}
+use Rattle.geos_shell.specs.declared.runner.ScriptOptions.{ScriptOptions}
 use Rattle.geos_shell.proofs.Steps.{Progress-none, Answered-finished, StopsBy-after}
 
 -- the bytes that were read, what was written, and what they led to
-pub record Ran {S : Type 0} (facts : S → StoreFacts) (manner : Manner) (start : Holding S) (from to before after : Option (List ℕ)) (now : Moment S) : Type 0 where
+pub record Ran {S : Type 0} (facts : S → StoreFacts) (manner : ScriptOptions) (start : Holding S) (from to before after : Option (List ℕ)) (now : Moment S) : Type 0 where
   pub read : List ℕ
   pub consumed : Consumes from to read
   pub written : List ℕ
@@ -27,7 +27,7 @@ pub record Ran {S : Type 0} (facts : S → StoreFacts) (manner : Manner) (start 
   pub none_left : now.kept.replies.items ≡ []
 
 -- nothing was read
-pub Ran-none : {S : Type 0} (facts : S → StoreFacts) (manner : Manner) (reader writer : Option (List ℕ)) (h : Holding S) (kept : Answering)
+pub Ran-none : {S : Type 0} (facts : S → StoreFacts) (manner : ScriptOptions) (reader writer : Option (List ℕ)) (h : Holding S) (kept : Answering)
     → kept.begun.items ≡ [] → kept.replies.items ≡ [] → Ran facts manner h reader reader writer writer (moment h kept)
 Ran-none facts manner reader writer h kept begun replies =
     record {
@@ -39,7 +39,7 @@ Ran-none facts manner reader writer h kept begun replies =
       none_left = replies;
     }
 
-module _ {S : Type 0} {facts : S → StoreFacts} {manner : Manner} {start : Holding S} {from mid before out : Option (List ℕ)} {now : Moment S} (ran : Ran facts manner start from mid before out now) where
+module _ {S : Type 0} {facts : S → StoreFacts} {manner : ScriptOptions} {start : Holding S} {from mid before out : Option (List ℕ)} {now : Moment S} (ran : Ran facts manner start from mid before out now) where
   same_replies : ran.written ++ now.kept.replies.items ≡ ran.written
   same_replies = rw ran.none_left (append-nil ran.written)
 
@@ -124,7 +124,7 @@ module _ {S : Type 0} {facts : S → StoreFacts} {manner : Manner} {start : Hold
       }
 
 -- how the run ends where the writer failed, or a piece or the last line stopped it
-pub EndsBy-or : {S P Q : Type 0} (fault : RunFault) (facts : S → StoreFacts) (manner : Manner) (old : Holding S) (from to before after : Option (List ℕ)) (new : Holding S)
+pub EndsBy-or : {S P Q : Type 0} (fault : RunFault) (facts : S → StoreFacts) (manner : ScriptOptions) (old : Holding S) (from to before after : Option (List ℕ)) (new : Holding S)
     → (P → AnswersUnsent facts manner old from to new) → (Q → AnswersSome fault facts manner old from to before after new)
     → ((fault ≡ faults.Write) × P) ⊎ Q → EndsBy fault facts manner old from to before after new
 EndsBy-or fault facts manner old from to before after new unsent stopped (inl failed) = rw (failed.0) (unsent failed.1)
@@ -133,7 +133,7 @@ EndsBy-or faults.Refused facts manner old from to before after new unsent stoppe
 EndsBy-or faults.Read facts manner old from to before after new unsent stopped (inr stops) = absurd (stopped stops).stopped
 EndsBy-or faults.Write facts manner old from to before after new unsent stopped (inr stops) = absurd (stopped stops).stopped
 
-module _ {S : Type 0} (facts : S → StoreFacts) (manner : Manner) where
+module _ {S : Type 0} (facts : S → StoreFacts) (manner : ScriptOptions) where
   -- a run that stopped stopped in a line, or at the next one
   stopped_with : (fault : RunFault) (start : Holding S) (read written : List ℕ) (new : Holding S) → StopsBy fault facts manner start read written new
       → (replies : List ℕ) × StoppedWith facts manner start (lines read) replies new
@@ -217,7 +217,7 @@ HasCause-more faults.Memory f g h = tt
 HasCause-more faults.Refused f g h = tt
 
 -- the session of a run that ended well is exact
-pub exact_after : {S : Type 0} (facts : S → StoreFacts) (manner : Manner) (old new : Holding S) (from to before after : Option (List ℕ)) (result : Result (Unit {0}) RunFault) → result ≡ Ok tt
+pub exact_after : {S : Type 0} (facts : S → StoreFacts) (manner : ScriptOptions) (old new : Holding S) (from to before after : Option (List ℕ)) (result : Result (Unit {0}) RunFault) → result ≡ Ok tt
     → RunsTo result facts manner old from to before after new → AreExact facts old → IsExact facts new.session
 exact_after facts manner old new from to before after (Ok x) well runs exact = (runs.answered.serves exact).exact.0
 exact_after facts manner old new from to before after (Err fault) well runs exact = cc well

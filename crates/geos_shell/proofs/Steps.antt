@@ -8,12 +8,12 @@ use Rattle.geos_shell.specs.Runs.{AnswersLines, MayServeNext, RefusesRequest, St
 use Rattle.geos_shell.specs.Progress.{HasNoFeed, StandsFor, Progress, GoesOver, Moment, StopsIn}
 use Rattle.geos_shell.specs.declared.runner.RunFault.{RunFault}
 use Rattle.geos_shell.specs.declared.runner.RunFault.TheVariants as faults
-use Rattle.geos_shell.specs.declared.runner.Manner.{Manner}
+use Rattle.geos_shell.specs.declared.runner.ScriptOptions.{ScriptOptions}
 use Rattle.geos_shell.proofs.Lines.{lines-at_feed, lines-one, lines-some, finished_lines-at_feed, finished_lines-none, HasNoFeed-append, StandsFor-command, StandsFor-none, StandsFor-some, StandsFor-trans}
 use Rattle.geos_shell.proofs.Manners.{AnswersLines-StandsFor, AnswersLines-append, AnswersLines-none, RefusesRequest-StandsFor}
 
 -- nothing was read
-pub Progress-none : {S : Type 0} (facts : S → StoreFacts) (manner : Manner) (start : Holding S) → Progress facts manner start [] [] start []
+pub Progress-none : {S : Type 0} (facts : S → StoreFacts) (manner : ScriptOptions) (start : Holding S) → Progress facts manner start [] [] start []
 Progress-none facts manner start =
     record {
       answered = [];
@@ -38,7 +38,7 @@ none_next : {S : Type 0} (facts : S → StoreFacts) (h : Holding S) (others : Li
 none_next facts h [] = refl
 none_next facts h (line ∷ others) = inl refl
 
-module _ {S : Type 0} {facts : S → StoreFacts} {manner : Manner} {start now : Holding S} {read written kept : List ℕ} (p : Progress facts manner start read written now kept) where
+module _ {S : Type 0} {facts : S → StoreFacts} {manner : ScriptOptions} {start now : Holding S} {read written kept : List ℕ} (p : Progress facts manner start read written now kept) where
   -- bytes with no line feed
   pub Progress-part : (part new : List ℕ) → HasNoFeed part → StandsFor (kept ++ part) new → Progress facts manner start (read ++ part) written now new
   Progress-part part new free h =
@@ -158,7 +158,7 @@ module _ {S : Type 0} {facts : S → StoreFacts} {manner : Manner} {start now : 
   pub Refused-last : {new : Holding S} {more : List ℕ} → 0 < length kept → RefusesRequest facts manner now kept more new → StoppedByRefusal facts manner start (lines read) (written ++ more) new
   Refused-last some r = with_refusal (lines read) [] (with_last some) r
 
-module _ {S : Type 0} (facts : S → StoreFacts) (manner : Manner) where
+module _ {S : Type 0} (facts : S → StoreFacts) (manner : ScriptOptions) where
   -- two steps make one
   pub GoesOver-trans : (old mid new : Moment S) (xs ys : List ℕ) → GoesOver facts manner old xs mid → GoesOver facts manner mid ys new → GoesOver facts manner old (xs ++ ys) new
   GoesOver-trans old mid new xs ys first second start read sent p =

@@ -3,10 +3,10 @@ use Rattle.std.specs.Prelude.{ℕ, Bool, true, false, List, [], ◌∷◌, ◌++
 use Rattle.std.specs.List.{starts_with}
 use Rattle.geos_model.specs.Reply.{Reply, Refused}
 use Rattle.geos_model.specs.Script.{command, gets_reply, line_feed, output}
-use Rattle.geos_shell.specs.declared.runner.Manner.{Manner}
+use Rattle.geos_shell.specs.declared.runner.ScriptOptions.{ScriptOptions}
 
 -- the manner of a run that goes to its script's end and writes nothing but replies
-abbrev pub plain : Manner
+abbrev pub plain : ScriptOptions
 plain = record { bails = false; echoes = false }
 
 -- how many bytes of a line are kept and echoed: more than a command has

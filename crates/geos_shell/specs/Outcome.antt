@@ -11,7 +11,7 @@ use Rattle.geos_shell.specs.declared.runner.RunFault.{RunFault}
 use Rattle.geos_shell.specs.declared.runner.RunFault.TheVariants as faults
 use Rattle.geos_shell.specs.declared.streams.WriteFault.{WriteFault}
 use Rattle.geos_shell.specs.RunFaults.{HasCause, run_fault_text}
-use Rattle.geos_shell.specs.Streams.{Writes}
+use Rattle.geos_shell.specs.Streams.{WriteCalls}
 use Rattle.geos_shell.specs.declared.outcome.Outcome.{Outcome}
 use Rattle.geos_shell.specs.declared.outcome.Outcome.TheVariants as outcomes
 
@@ -58,29 +58,29 @@ outcome_text outcomes.SameFile = codes "geosvm: FILE2 is FILE" ++ line_feed ∷ 
 
 -- The line of an outcome was written to standard error, or, if it were longer than any is, that memory ran out,
 -- whatever came of the write.
-pub record TellsOn {E : Type 0} (writes : Writes E) (outcome : Outcome) (old new : E) : Type 0 where
+pub record PrintsOutcomeLine {E : Type 0} (writes : WriteCalls E) (outcome : Outcome) (old new : E) : Type 0 where
   pub text : List ℕ
   pub is : (text ≡ outcome_text outcome) ⊎ (text ≡ run_line faults.Memory)
   pub result : Result (Unit {0}) WriteFault
   pub written : writes old text result new
 
 -- A text was written to standard output, or that failed, which is told as a write fault.
-abbrev pub TellsText : {W E : Type 0} → Writes W → Writes E → List ℕ → W → W → E → E → ℕ → Type 0
-TellsText out_writes error_writes text out_old out_new old new status =
+abbrev pub PrintsText : {W E : Type 0} → WriteCalls W → WriteCalls E → List ℕ → W → W → E → E → ℕ → Type 0
+PrintsText out_writes error_writes text out_old out_new old new status =
     (out_writes out_old text (Ok tt) out_new × (new ≡ old) × (status ≡ 0))
     ⊎ ((fault : WriteFault) × out_writes out_old text (Err fault) out_new
-    × TellsOn error_writes (outcomes.Run faults.Write) old new × (status ≡ 1))
+    × PrintsOutcomeLine error_writes (outcomes.Run faults.Write) old new × (status ≡ 1))
 
 -- What is told, and the exit status.
-abbrev pub IsTold : {W E : Type 0} → Writes W → Writes E → Outcome → W → W → E → E → ℕ → Type 0
-IsTold out_writes error_writes (outcomes.Help text) out_old out_new old new status =
-    TellsText out_writes error_writes text out_old out_new old new status
-IsTold out_writes error_writes (outcomes.Version text) out_old out_new old new status =
-    TellsText out_writes error_writes text out_old out_new old new status
-IsTold out_writes error_writes outcomes.Done out_old out_new old new status =
+abbrev pub PrintsOutcome : {W E : Type 0} → WriteCalls W → WriteCalls E → Outcome → W → W → E → E → ℕ → Type 0
+PrintsOutcome out_writes error_writes (outcomes.Help text) out_old out_new old new status =
+    PrintsText out_writes error_writes text out_old out_new old new status
+PrintsOutcome out_writes error_writes (outcomes.Version text) out_old out_new old new status =
+    PrintsText out_writes error_writes text out_old out_new old new status
+PrintsOutcome out_writes error_writes outcomes.Done out_old out_new old new status =
     (out_new ≡ out_old) × (new ≡ old) × (status ≡ 0)
-IsTold out_writes error_writes outcome out_old out_new old new status =
-    (out_new ≡ out_old) × TellsOn error_writes outcome old new × (status ≡ status_of outcome)
+PrintsOutcome out_writes error_writes outcome out_old out_new old new status =
+    (out_new ≡ out_old) × PrintsOutcomeLine error_writes outcome old new × (status ≡ status_of outcome)
 
 -- why a run ended, where a read or a write ended it
 abbrev pub HasRunCause : Outcome → Type 0 → Type 0 → Type 0

@@ -18,7 +18,7 @@ use Rattle.geos_shell.specs.Outcome.{without_options}
 use Rattle.geos_shell.specs.Runs.{AnswersAll, EndsBy}
 use Rattle.geos_shell.specs.declared.outcome.Outcome.{Outcome}
 use Rattle.geos_shell.specs.declared.outcome.Outcome.TheVariants as outcomes
-use Rattle.geos_shell.specs.declared.runner.Manner.{Manner}
+use Rattle.geos_shell.specs.declared.runner.ScriptOptions.{ScriptOptions}
 
 -- ---- sessions
 
@@ -135,8 +135,8 @@ pub record RunsOn {F S : Type 0} (calls : Opener F S) (Ends : Holding S → Type
   pub closes : Closes calls left old new
 
 -- the manner that a command line asks for
-abbrev pub manner_of : CommandLine → Manner
-manner_of line = record { bails = line.bails; echoes = line.echoes }
+abbrev pub script_options_of : CommandLine → ScriptOptions
+script_options_of line = record { bails = line.bails; echoes = line.echoes }
 
 -- ---- outcomes
 
@@ -156,13 +156,13 @@ IsGivenUp calls facts line store opened new outcomes.Target = TargetIsShut calls
 IsGivenUp calls facts line store opened new _ = ⊥
 
 -- the script isn't answered
-abbrev pub IsNotBegun : {F S : Type 0} → Opener F S → (S → StoreFacts) → CommandLine → F → F → Outcome → Type 0
-IsNotBegun calls facts line old new outcome =
+abbrev pub IsScriptNotAnswered : {F S : Type 0} → Opener F S → (S → StoreFacts) → CommandLine → F → F → Outcome → Type 0
+IsScriptNotAnswered calls facts line old new outcome =
     (FileFails calls line old new × IsFileFault line outcome)
     ⊎ FromFile calls line old (λ store opened. IsGivenUp calls facts line store opened new outcome)
 
 -- the script is answered: well, or until the run ended by a fault, which is the one that is told
-abbrev pub IsScriptAnswered : {F S : Type 0} → Opener F S → (S → StoreFacts) → Manner → Holding S → F → F
+abbrev pub IsScriptAnswered : {F S : Type 0} → Opener F S → (S → StoreFacts) → ScriptOptions → Holding S → F → F
     → Option (List ℕ) → Option (List ℕ) → Option (List ℕ) → Option (List ℕ) → Outcome → Type 0
 IsScriptAnswered calls facts manner first old new from to before after outcomes.Done =
     RunsOn calls (λ left. AnswersAll facts manner first from to before after left) old new
@@ -178,7 +178,7 @@ pub record ServesFiles {F S : Type 0} (calls : Opener F S) (facts : S → StoreF
   pub target : Option S
   pub begins : FromFile calls line old
       (λ store opened. BeginsSession calls facts line store opened session target begun)
-  pub answers : IsScriptAnswered calls facts (manner_of line)
+  pub answers : IsScriptAnswered calls facts (script_options_of line)
       (holding session target None) begun new from to before after outcome
 
 -- Words that are no usable command line end in what says so, or in lack of memory, and no file is opened. Of a usable
@@ -190,5 +190,5 @@ ComesTo calls facts words old new from to before after outcome =
     ((none : NoOptions) × RefusesWords words none × (outcome ≡ without_options none)
     × (new ≡ old) × (to ≡ from) × (after ≡ before))
     ⊎ ((line : CommandLine) × (command_line words ≡ Some line) × IsUsable line × (
-    (IsNotBegun calls facts line old new outcome × (to ≡ from) × (after ≡ before)) ⊎
+    (IsScriptNotAnswered calls facts line old new outcome × (to ≡ from) × (after ≡ before)) ⊎
     ServesFiles calls facts line old new from to before after outcome))

@@ -9,19 +9,21 @@ use Rattle.geos_shell.specs.Runs.{AnswersLines, RefusesRequest, StoppedWith, Sto
 use Rattle.geos_shell.specs.declared.answering.Answering.{Answering}
 use Rattle.geos_shell.specs.declared.runner.RunFault.{RunFault}
 use Rattle.geos_shell.specs.declared.runner.RunFault.TheVariants as faults
-use Rattle.geos_shell.specs.declared.runner.Manner.{Manner}
+use Rattle.geos_shell.specs.declared.runner.ScriptOptions.{ScriptOptions}
 
 -- ---- one line
 
 -- The line is answered, and what is written of it was put behind what was there.
-abbrev pub IsAnswered : {S : Type 0} → (S → StoreFacts) → Manner → Holding S → List ℕ → Holding S → List ℕ → List ℕ
+abbrev pub IsAnsweredInRun : {S : Type 0} → (S → StoreFacts) → ScriptOptions → Holding S → List ℕ → Holding S → List ℕ
+    → List ℕ
     → Type 0
-IsAnswered facts manner old line new before after =
+IsAnsweredInRun facts manner old line new before after =
     (written : List ℕ) × AnswersLines facts manner old (line ∷ []) written new × (after ≡ before ++ written)
 
 -- The run stopped in the line: there was no memory for it, or it is refused, which only a run doesn't outlast that
 -- bails.
-abbrev pub IsStopped : {S : Type 0} → RunFault → (S → StoreFacts) → Manner → Holding S → List ℕ → Holding S → List ℕ
+abbrev pub IsStopped : {S : Type 0} → RunFault → (S → StoreFacts) → ScriptOptions → Holding S → List ℕ → Holding S
+    → List ℕ
     → List ℕ → Type 0
 IsStopped faults.Memory facts manner old line new before after =
     MayServe facts old (command line) new × (after ≡ before)
@@ -42,7 +44,8 @@ StandsFor begun kept = take longest_kept kept ≡ take longest_kept begun
 
 -- Of what was read since start, the finished lines are answered, by which this is written, and what is kept stands for
 -- the line that has begun.
-pub record Progress {S : Type 0} (facts : S → StoreFacts) (manner : Manner) (start : Holding S) (read written : List ℕ)
+pub record Progress {S : Type 0} (facts : S → StoreFacts) (manner : ScriptOptions) (start : Holding S)
+    (read written : List ℕ)
     (now : Holding S) (kept : List ℕ) : Type 0 where
   pub answered : List (List ℕ)
   pub begun : List ℕ
@@ -61,36 +64,37 @@ abbrev pub moment : {S : Type 0} → Holding S → Answering → Moment S
 moment holding kept = record { holding = holding; kept = kept }
 
 -- the same, after replies that were sent before
-abbrev pub ProgressOf : {S : Type 0} → (S → StoreFacts) → Manner → Holding S → List ℕ → List ℕ → Moment S → Type 0
+abbrev pub ProgressOf : {S : Type 0} → (S → StoreFacts) → ScriptOptions → Holding S → List ℕ → List ℕ → Moment S
+    → Type 0
 ProgressOf facts manner start read sent now =
     Progress facts manner start read (sent ++ now.kept.replies.items) now.holding now.kept.begun.items
 
 -- From one moment the run comes to another by these bytes.
-abbrev pub GoesOver : {S : Type 0} → (S → StoreFacts) → Manner → Moment S → List ℕ → Moment S → Type 0
+abbrev pub GoesOver : {S : Type 0} → (S → StoreFacts) → ScriptOptions → Moment S → List ℕ → Moment S → Type 0
 GoesOver {S} facts manner old bytes new =
     (start : Holding S) (read sent : List ℕ) → ProgressOf facts manner start read sent old
     → ProgressOf facts manner start (read ++ bytes) sent new
 
 -- In these bytes the run stopped, and what it wrote is right so far.
-abbrev pub StopsIn : {S : Type 0} → RunFault → (S → StoreFacts) → Manner → Moment S → List ℕ → Moment S → Type 0
+abbrev pub StopsIn : {S : Type 0} → RunFault → (S → StoreFacts) → ScriptOptions → Moment S → List ℕ → Moment S → Type 0
 StopsIn {S} fault facts manner old bytes new =
     (start : Holding S) (read sent : List ℕ) → ProgressOf facts manner start read sent old
     → StopsBy fault facts manner start (read ++ bytes) (sent ++ new.kept.replies.items) new.holding
 
 -- Behind all that was read the run answered the last line too.
-abbrev pub Ends : {S : Type 0} → (S → StoreFacts) → Manner → Moment S → Moment S → Type 0
+abbrev pub Ends : {S : Type 0} → (S → StoreFacts) → ScriptOptions → Moment S → Moment S → Type 0
 Ends {S} facts manner old new =
     (start : Holding S) (read sent : List ℕ) → ProgressOf facts manner start read sent old
     → AnswersLines facts manner start (lines read) (sent ++ new.kept.replies.items) new.holding
 
 -- In the last line, which no line feed ends, the run stopped.
-abbrev pub StopsAtEnd : {S : Type 0} → RunFault → (S → StoreFacts) → Manner → Moment S → Moment S → Type 0
+abbrev pub StopsAtEnd : {S : Type 0} → RunFault → (S → StoreFacts) → ScriptOptions → Moment S → Moment S → Type 0
 StopsAtEnd {S} fault facts manner old new =
     (start : Holding S) (read sent : List ℕ) → ProgressOf facts manner start read sent old
     → (0 < length read) × StopsBy fault facts manner start read (sent ++ new.kept.replies.items) new.holding
 
 -- The run goes over these bytes, and writes their replies.
-pub record AnswersPiece {S : Type 0} (facts : S → StoreFacts) (manner : Manner) (old : Moment S) (bytes : List ℕ)
+pub record AnswersPiece {S : Type 0} (facts : S → StoreFacts) (manner : ScriptOptions) (old : Moment S) (bytes : List ℕ)
     (new : Moment S) (before after : Option (List ℕ)) : Type 0 where
   pub written : List ℕ
   pub appended : Appends before after written
@@ -98,7 +102,7 @@ pub record AnswersPiece {S : Type 0} (facts : S → StoreFacts) (manner : Manner
       → ProgressOf facts manner start (read ++ bytes) (sent ++ written) new
 
 -- The run stopped in these bytes, and wrote its replies.
-pub record StopsPiece {S : Type 0} (fault : RunFault) (facts : S → StoreFacts) (manner : Manner) (old : Moment S)
+pub record StopsPiece {S : Type 0} (fault : RunFault) (facts : S → StoreFacts) (manner : ScriptOptions) (old : Moment S)
     (bytes : List ℕ) (new : Holding S) (before after : Option (List ℕ)) : Type 0 where
   pub written : List ℕ
   pub appended : Appends before after written
@@ -106,7 +110,7 @@ pub record StopsPiece {S : Type 0} (fault : RunFault) (facts : S → StoreFacts)
       → StopsBy fault facts manner start (read ++ bytes) (sent ++ written) new
 
 -- The run answered the last line too, and wrote its replies.
-pub record AnswersRest {S : Type 0} (facts : S → StoreFacts) (manner : Manner) (old : Moment S) (new : Holding S)
+pub record AnswersRest {S : Type 0} (facts : S → StoreFacts) (manner : ScriptOptions) (old : Moment S) (new : Holding S)
     (before after : Option (List ℕ)) : Type 0 where
   pub written : List ℕ
   pub appended : Appends before after written
@@ -114,7 +118,7 @@ pub record AnswersRest {S : Type 0} (facts : S → StoreFacts) (manner : Manner)
       → AnswersLines facts manner start (lines read) (sent ++ written) new
 
 -- The run stopped at the last line, which no line feed ends, and wrote the replies to those before.
-pub record StopsRest {S : Type 0} (fault : RunFault) (facts : S → StoreFacts) (manner : Manner) (old : Moment S)
+pub record StopsRest {S : Type 0} (fault : RunFault) (facts : S → StoreFacts) (manner : ScriptOptions) (old : Moment S)
     (new : Holding S) (before after : Option (List ℕ)) : Type 0 where
   pub written : List ℕ
   pub appended : Appends before after written
@@ -122,20 +126,21 @@ pub record StopsRest {S : Type 0} (fault : RunFault) (facts : S → StoreFacts) 
       → (0 < length read) × StopsBy fault facts manner start read (sent ++ written) new
 
 -- The writer failed behind these bytes or in a line of them.
-abbrev pub Unsent : {S : Type 0} → (S → StoreFacts) → Manner → Moment S → List ℕ → Holding S → Type 0
+abbrev pub Unsent : {S : Type 0} → (S → StoreFacts) → ScriptOptions → Moment S → List ℕ → Holding S → Type 0
 Unsent {S} facts manner old bytes new =
     (start : Holding S) (read sent : List ℕ) → ProgressOf facts manner start read sent old
     → (replies : List ℕ) × StoppedWith facts manner start (lines (read ++ bytes)) replies new
 
 -- In these bytes the writer failed, or the run stopped and wrote its replies.
-abbrev pub PieceFails : {S : Type 0} → RunFault → (S → StoreFacts) → Manner → Moment S → List ℕ → Holding S
+abbrev pub PieceFails : {S : Type 0} → RunFault → (S → StoreFacts) → ScriptOptions → Moment S → List ℕ → Holding S
     → Option (List ℕ) → Option (List ℕ) → Type 0
 PieceFails fault facts manner old bytes new before after =
     ((fault ≡ faults.Write) × Unsent facts manner old bytes new)
     ⊎ StopsPiece fault facts manner old bytes new before after
 
 -- At the last line the writer failed, or the run stopped and wrote its replies.
-abbrev pub RestFails : {S : Type 0} → RunFault → (S → StoreFacts) → Manner → Moment S → Holding S → Option (List ℕ)
+abbrev pub RestFails : {S : Type 0} → RunFault → (S → StoreFacts) → ScriptOptions → Moment S → Holding S
+    → Option (List ℕ)
     → Option (List ℕ) → Type 0
 RestFails fault facts manner old new before after =
     ((fault ≡ faults.Write) × Unsent facts manner old [] new) ⊎ StopsRest fault facts manner old new before after

@@ -11,7 +11,7 @@ use Rattle.vm_store.specs.Facts.{StoreFacts, last_count}
 use Rattle.geos_replies.specs.Holdings.{AnswersCalls, AnswersRequest, Holding, AreExact, MayServe, Serving, machine}
 use Rattle.geos_shell.specs.Manners.{lead, written_of}
 use Rattle.geos_replies.specs.Holdings.{is_refusal}
-use Rattle.geos_shell.specs.declared.runner.Manner.{Manner}
+use Rattle.geos_shell.specs.declared.runner.ScriptOptions.{ScriptOptions}
 use Rattle.geos_shell.specs.declared.runner.RunFault.{RunFault}
 use Rattle.geos_shell.specs.declared.runner.RunFault.TheVariants as faults
 
@@ -58,7 +58,7 @@ replies_of calls = map (λ c. c.reply) calls
 
 -- These lines are answered so in this manner, over any store call by call: what is written is the replies, or the lines
 -- with their replies, and a run that bails went on behind no refusal. Where all is exact the calls are served.
-pub record AnswersLines {S : Type 0} (facts : S → StoreFacts) (manner : Manner) (old : Holding S)
+pub record AnswersLines {S : Type 0} (facts : S → StoreFacts) (manner : ScriptOptions) (old : Holding S)
     (asked : List (List ℕ)) (written : List ℕ) (new : Holding S) : Type 0 where
   pub calls : List Call
   pub asks : map (λ c. c.request) calls ≡ filter gets_reply (requests asked)
@@ -68,7 +68,7 @@ pub record AnswersLines {S : Type 0} (facts : S → StoreFacts) (manner : Manner
   pub serves : AreExact facts old → ServesCalls facts old calls new
 
 -- A script was read to its end, each line of it is answered, and nothing else is written.
-pub record AnswersAll {S : Type 0} (facts : S → StoreFacts) (manner : Manner) (old : Holding S)
+pub record AnswersAll {S : Type 0} (facts : S → StoreFacts) (manner : ScriptOptions) (old : Holding S)
     (from to before after : Option (List ℕ)) (new : Holding S) : Type 0 where
   pub script : List ℕ
   pub consumed : Consumes from to script
@@ -78,7 +78,7 @@ pub record AnswersAll {S : Type 0} (facts : S → StoreFacts) (manner : Manner) 
   pub appended : Appends before after written
 
 -- Each line of what was read that a line feed ends is answered, and nothing else is written.
-pub record AnswersFinished {S : Type 0} (facts : S → StoreFacts) (manner : Manner) (old : Holding S)
+pub record AnswersFinished {S : Type 0} (facts : S → StoreFacts) (manner : ScriptOptions) (old : Holding S)
     (from to before after : Option (List ℕ)) (new : Holding S) : Type 0 where
   pub read : List ℕ
   pub consumed : Consumes from to read
@@ -96,7 +96,7 @@ MayServeNext facts old [] new = new ≡ old
 MayServeNext facts old (line ∷ lines) new = MayServe facts old (command line) new
 
 -- The first ones of the lines are answered, and of the others at most the next is, of which nothing is written.
-pub record StoppedWith {S : Type 0} (facts : S → StoreFacts) (manner : Manner) (old : Holding S)
+pub record StoppedWith {S : Type 0} (facts : S → StoreFacts) (manner : ScriptOptions) (old : Holding S)
     (lines : List (List ℕ)) (written : List ℕ) (new : Holding S) : Type 0 where
   pub answered : List (List ℕ)
   pub others : List (List ℕ)
@@ -106,7 +106,8 @@ pub record StoppedWith {S : Type 0} (facts : S → StoreFacts) (manner : Manner)
   pub next : MayServeNext facts mid others new
 
 -- The line is refused, and what is written of it is its reply, behind the line itself where lines are echoed.
-pub record RefusesRequest {S : Type 0} (facts : S → StoreFacts) (manner : Manner) (old : Holding S) (line : List ℕ)
+pub record RefusesRequest {S : Type 0} (facts : S → StoreFacts) (manner : ScriptOptions) (old : Holding S)
+    (line : List ℕ)
     (written : List ℕ) (new : Holding S) : Type 0 where
   pub fault : Fault
   pub answers : AnswersRequest facts old (command line) (Refused fault) new
@@ -114,7 +115,7 @@ pub record RefusesRequest {S : Type 0} (facts : S → StoreFacts) (manner : Mann
 
 -- The first ones of the lines are answered, none of them by a refusal, and the next is refused, whose reply is written
 -- too. Those behind it are not looked at.
-pub record StoppedByRefusal {S : Type 0} (facts : S → StoreFacts) (manner : Manner) (old : Holding S)
+pub record StoppedByRefusal {S : Type 0} (facts : S → StoreFacts) (manner : ScriptOptions) (old : Holding S)
     (lines : List (List ℕ)) (written : List ℕ) (new : Holding S) : Type 0 where
   pub answered : List (List ℕ)
   pub line : List ℕ
@@ -129,7 +130,8 @@ pub record StoppedByRefusal {S : Type 0} (facts : S → StoreFacts) (manner : Ma
 
 -- What was done where the run stopped in a line of what was read: for lack of memory all before was answered, of lines
 -- that a line feed ends; by a refusal, which only a run does that bails, this line too.
-abbrev pub StopsBy : {S : Type 0} → RunFault → (S → StoreFacts) → Manner → Holding S → List ℕ → List ℕ → Holding S
+abbrev pub StopsBy : {S : Type 0} → RunFault → (S → StoreFacts) → ScriptOptions → Holding S → List ℕ → List ℕ
+    → Holding S
     → Type 0
 StopsBy faults.Memory facts manner old read written new =
     (stopped : StoppedWith facts manner old (lines read) written new) × AreFirst stopped.answered (finished_lines read)
@@ -139,7 +141,8 @@ StopsBy fault facts manner old read written new = ⊥
 
 -- Something was read, and the run stopped in a line of it. What is said to be written then is written, and nothing
 -- else.
-pub record AnswersSome {S : Type 0} (fault : RunFault) (facts : S → StoreFacts) (manner : Manner) (old : Holding S)
+pub record AnswersSome {S : Type 0} (fault : RunFault) (facts : S → StoreFacts) (manner : ScriptOptions)
+    (old : Holding S)
     (from to before after : Option (List ℕ)) (new : Holding S) : Type 0 where
   pub read : List ℕ
   pub some : 0 < length read
@@ -149,7 +152,7 @@ pub record AnswersSome {S : Type 0} (fault : RunFault) (facts : S → StoreFacts
   pub appended : Appends before after written
 
 -- The run stopped in a line of what was read or behind all, and how much is written isn't said.
-pub record AnswersUnsent {S : Type 0} (facts : S → StoreFacts) (manner : Manner) (old : Holding S)
+pub record AnswersUnsent {S : Type 0} (facts : S → StoreFacts) (manner : ScriptOptions) (old : Holding S)
     (from to : Option (List ℕ)) (new : Holding S) : Type 0 where
   pub read : List ℕ
   pub consumed : Consumes from to read
@@ -157,14 +160,16 @@ pub record AnswersUnsent {S : Type 0} (facts : S → StoreFacts) (manner : Manne
   pub stopped : StoppedWith facts manner old (lines read) replies new
 
 -- what a run has done that ends by this fault
-abbrev pub EndsBy : {S : Type 0} → RunFault → (S → StoreFacts) → Manner → Holding S → Option (List ℕ) → Option (List ℕ)
+abbrev pub EndsBy : {S : Type 0} → RunFault → (S → StoreFacts) → ScriptOptions → Holding S → Option (List ℕ)
+    → Option (List ℕ)
     → Option (List ℕ) → Option (List ℕ) → Holding S → Type 0
 EndsBy faults.Read facts manner old from to before after new = AnswersFinished facts manner old from to before after new
 EndsBy faults.Write facts manner old from to before after new = AnswersUnsent facts manner old from to new
 EndsBy fault facts manner old from to before after new = AnswersSome fault facts manner old from to before after new
 
 -- what a run has done that ends with this result
-abbrev pub RunsTo : {S : Type 0} → Result (Unit {0}) RunFault → (S → StoreFacts) → Manner → Holding S → Option (List ℕ)
+abbrev pub RunsTo : {S : Type 0} → Result (Unit {0}) RunFault → (S → StoreFacts) → ScriptOptions → Holding S
+    → Option (List ℕ)
     → Option (List ℕ) → Option (List ℕ) → Option (List ℕ) → Holding S → Type 0
 RunsTo result facts manner old from to before after new =
     MatchResult result (λ _. AnswersAll facts manner old from to before after new)

@@ -3,11 +3,11 @@ ghost use Rattle.std.specs.Prelude.{◌≡◌, ◌++◌, ◌∷◌, [], ◌≤�
 ghost use Rattle.geos_model.specs.Script.{command, line_feed};
 ghost use Rattle.geos_replies.specs.Holdings.{MayServe, holding};
 ghost use Rattle.geos_shell.specs.Manners.{begins_with_no, lead};
-ghost use Rattle.geos_shell.specs.Progress.{Ends, GoesOver, HasNoFeed, IsAnswered, IsStopped, StandsFor, StopsAtEnd, StopsIn, moment};
+ghost use Rattle.geos_shell.specs.Progress.{Ends, GoesOver, HasNoFeed, IsAnsweredInRun, IsStopped, StandsFor, StopsAtEnd, StopsIn, moment};
 ghost use Rattle.geos_replies.specs.Replies.{Extends, Responds};
 ghost use Rattle.geos_shell.specs.RunFaults.{HasCause};
 
-use crate::runner::{Manner, RunFault};
+use crate::runner::{RunFault, ScriptOptions};
 use bstr::ByteSlice;
 use geos_replies::answer_line;
 use std::alloc::{AllocError, Global};
@@ -37,7 +37,7 @@ impl Answering {
     pub(crate) fn feed<S: Store>(
         &mut self,
         alloc: Global,
-        manner: Manner,
+        manner: ScriptOptions,
         session: &mut Session<S>,
         target: &mut Option<S>,
         former: &mut Option<S>,
@@ -68,7 +68,7 @@ impl Answering {
     fn end_line<S: Store>(
         &mut self,
         alloc: Global,
-        manner: Manner,
+        manner: ScriptOptions,
         session: &mut Session<S>,
         target: &mut Option<S>,
         former: &mut Option<S>,
@@ -96,7 +96,7 @@ impl Answering {
     pub(crate) fn end<S: Store>(
         &mut self,
         alloc: Global,
-        manner: Manner,
+        manner: ScriptOptions,
         session: &mut Session<S>,
         target: &mut Option<S>,
         former: &mut Option<S>,
@@ -120,14 +120,14 @@ impl Answering {
 /// Answers a line, behind the line itself where lines are echoed. Where the run bails, a refusal stops it.
 fn answer<S: Store>(
     alloc: Global,
-    manner: Manner,
+    manner: ScriptOptions,
     session: &mut Session<S>,
     target: &mut Option<S>,
     former: &mut Option<S>,
     line: &[u8],
     out: &mut Vec<u8>,
 ) -> Result<(), RunFault>
-    ensures ok { OnOk result (IsAnswered S.facts manner (holding session.old target.old former.old) line.now
+    ensures ok { OnOk result (IsAnsweredInRun S.facts manner (holding session.old target.old former.old) line.now
         (holding session.new target.new former.new) out.old.items out.new.items) }
     ensures err { IfErr result
         (λ fault. IsStopped fault S.facts manner (holding session.old target.old former.old) line.now

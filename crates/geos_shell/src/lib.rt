@@ -9,5 +9,5 @@ mod streams;
 
 pub use outcome::Outcome;
 pub use program::{run_program, serve};
-pub use runner::{Ended, Manner, RunFault, run, run_in, run_in_manner};
+pub use runner::{Ended, RunFault, ScriptOptions, run, run_in, run_in_manner};
 pub use streams::{ReadFault, Sink, Source, WriteFault};

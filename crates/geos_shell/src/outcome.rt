@@ -1,7 +1,7 @@
 //! What a run of the program comes to.
 ghost use Rattle.std.specs.Prelude.{◌≡◌, OnOk};
 ghost use Rattle.std.specs.Io.KnownBytes.{Appends};
-ghost use Rattle.geos_shell.specs.Outcome.{IsTold, TellsOn, TellsText, fault_line, status_of, outcome_text};
+ghost use Rattle.geos_shell.specs.Outcome.{PrintsOutcome, PrintsOutcomeLine, PrintsText, fault_line, status_of, outcome_text};
 
 use crate::runner::RunFault;
 use crate::streams::Sink;
@@ -68,7 +68,7 @@ impl Outcome {
     /// Tells it, help and the version on `out` and all else on `errors`, and gives the exit status. Help and a version
     /// that can't be written are a write fault, which is told as one. It takes no memory.
     pub fn tell<W: Sink, E: Sink>(&self, out: &mut W, errors: &mut E) -> u8
-        ensures { IsTold W.writes E.writes self.now out.old out.new errors.old errors.new result }
+        ensures { PrintsOutcome W.writes E.writes self.now out.old out.new errors.old errors.new result }
     {
         match self {
             Outcome::Help(text) | Outcome::Version(text) => tell_text(text, out, errors),
@@ -88,7 +88,7 @@ impl Outcome {
 
     /// Writes the line to standard error, and gives the exit status.
     fn tell_fault<E: Sink>(&self, errors: &mut E) -> u8
-        ensures { TellsOn E.writes self.now errors.old errors.new × (result ≡ status_of self.now) }
+        ensures { PrintsOutcomeLine E.writes self.now errors.old errors.new × (result ≡ status_of self.now) }
     {
         let mut line = ArrayVec::<u8, LONGEST_LINE>::new();
         // Where not even this can be told, the status still says what became of the run.
@@ -128,7 +128,7 @@ fn write_fault<W: Write>(writer: &mut W, place: &str, fault: Fault) -> io::Resul
 
 /// Writes a text to standard output, and gives the exit status. Where that fails, a write fault is told.
 fn tell_text<W: Sink, E: Sink>(text: &Bytes, out: &mut W, errors: &mut E) -> u8
-    ensures { TellsText W.writes E.writes text.now out.old out.new errors.old errors.new result }
+    ensures { PrintsText W.writes E.writes text.now out.old out.new errors.old errors.new result }
 {
     match out.write_out(text.as_slice()) {
         Ok(()) => 0,

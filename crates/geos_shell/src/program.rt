@@ -1,14 +1,14 @@
 //! The program: a document file, a script and its replies.
 ghost use Rattle.std.specs.Prelude.{◌≡◌, ◌≤◌, ◌^◌, true, false, None, OnErr, IfOk, IfErr, MatchResult, map};
-ghost use Rattle.command_lines.specs.Options.{told_by};
+ghost use Rattle.command_lines.specs.Options.{line_of_options};
 ghost use Rattle.geos_shell.specs.Files.{OpensFile, FileFails, OpensTarget, TargetFails, ClosesAny};
-ghost use Rattle.geos_shell.specs.Outcome.{HasRunCause, IsTold, IsUnread};
-ghost use Rattle.geos_shell.specs.Program.{FromFile, BeginsSession, ComesTo, IsScriptAnswered, IsGivenUp, IsNotBegun};
+ghost use Rattle.geos_shell.specs.Outcome.{HasRunCause, PrintsOutcome, IsUnread};
+ghost use Rattle.geos_shell.specs.Program.{FromFile, BeginsSession, ComesTo, IsScriptAnswered, IsGivenUp, IsScriptNotAnswered};
 ghost use Rattle.geos_shell.specs.Streams.{StopsReading, StopsWriting};
 ghost use Rattle.geos_replies.specs.Holdings.{holding};
 
 use crate::outcome::Outcome;
-use crate::runner::{Manner, READS, RunFault, run_in_manner};
+use crate::runner::{READS, RunFault, ScriptOptions, run_in_manner};
 use crate::streams::{Sink, Source};
 use command_lines::{Options, options};
 use geos_model::{Bytes, Fault};
@@ -40,7 +40,7 @@ pub fn serve<'a, F: Files, T: AsStr, R: Source, W: Sink>(
     match options(alloc, words) {
         Ok(options) => match begin(alloc, files, options) {
             Ok(begun) => {
-                let manner = Manner {
+                let manner = ScriptOptions {
                     bails: options.bail,
                     echoes: options.echo,
                 };
@@ -67,7 +67,7 @@ pub fn run_program<F: Files, T: AsStr + Drop, R: Source, W: Sink, E: Sink>(
         (R.remaining reader.old) (R.remaining reader.new) (W.contents writer.old) (W.contents served) outcome)
         (λ _. IsUnread outcome × (files.new ≡ files.old) × (reader.new ≡ reader.old) × (served ≡ writer.old))
         × HasRunCause outcome (StopsReading R.reads (2 ^ 24) reader.old reader.new) (StopsWriting W.writes served)
-        × IsTold W.writes E.writes outcome served writer.new errors.old errors.new result }
+        × PrintsOutcome W.writes E.writes outcome served writer.new errors.old errors.new result }
 {
     match words {
         Ok(words) => {
@@ -104,10 +104,11 @@ type Begun<F> = (Session<<F as Files>::Opened>, Option<<F as Files>::Opened>);
 fn begin<F: Files>(alloc: Global, files: &mut F, options: Options) -> Result<Begun<F>, Outcome>
     requires { (1 ≤ options.cache) × (options.cache ≤ 64) }
     ensures ok { IfOk result
-        (λ begun. FromFile F.calls (told_by options.entry) files.old
+        (λ begun. FromFile F.calls (line_of_options options.entry) files.old
         (λ store opened. BeginsSession F.calls F.Opened.facts
-        (told_by options.entry) store opened begun.0 begun.1 files.new)) }
-    ensures err { IfErr result (IsNotBegun F.calls F.Opened.facts (told_by options.entry) files.old files.new) }
+        (line_of_options options.entry) store opened begun.0 begun.1 files.new)) }
+    ensures err { IfErr result (IsScriptNotAnswered F.calls F.Opened.facts
+        (line_of_options options.entry) files.old files.new) }
 {
     match open_file(files, options) {
         Ok(store) if options.new => create(alloc, files, options, store),
@@ -119,8 +120,8 @@ fn begin<F: Files>(alloc: Global, files: &mut F, options: Options) -> Result<Beg
 
 /// Opens FILE, once the standard streams are guarded.
 fn open_file<F: Files>(files: &mut F, options: Options) -> Result<F::Opened, StoreFault>
-    ensures ok { IfOk result (λ store. OpensFile F.calls (told_by options.entry) files.old store files.new) }
-    ensures err { OnErr result (FileFails F.calls (told_by options.entry) files.old files.new) }
+    ensures ok { IfOk result (λ store. OpensFile F.calls (line_of_options options.entry) files.old store files.new) }
+    ensures err { OnErr result (FileFails F.calls (line_of_options options.entry) files.old files.new) }
 {
     files.guard_streams()?;
     files.open(options.file, options.new)
@@ -128,8 +129,9 @@ fn open_file<F: Files>(files: &mut F, options: Options) -> Result<F::Opened, Sto
 
 /// Opens the target of a save-as, if one is named. A missing file is made; nothing is written to it before a save-as.
 fn open_target<F: Files>(files: &mut F, options: Options) -> Result<Option<F::Opened>, StoreFault>
-    ensures ok { IfOk result (λ target. OpensTarget F.calls (told_by options.entry).target files.old target files.new) }
-    ensures err { OnErr result (TargetFails F.calls (told_by options.entry).target files.old files.new) }
+    ensures ok { IfOk result (λ target. OpensTarget F.calls
+        (line_of_options options.entry).target files.old target files.new) }
+    ensures err { OnErr result (TargetFails F.calls (line_of_options options.entry).target files.old files.new) }
 {
     match options.target {
         Some(name) => Ok(Some(files.open(name, true)?)),
@@ -148,8 +150,9 @@ fn create<F: Files>(
     requires new { options.new ≡ true }
     ensures ok { IfOk result
         (λ begun. BeginsSession F.calls F.Opened.facts
-        (told_by options.entry) store files.old begun.0 begun.1 files.new) }
-    ensures err { IfErr result (IsGivenUp F.calls F.Opened.facts (told_by options.entry) store files.old files.new) }
+        (line_of_options options.entry) store files.old begun.0 begun.1 files.new) }
+    ensures err { IfErr result (IsGivenUp F.calls F.Opened.facts
+        (line_of_options options.entry) store files.old files.new) }
 {
     let Ok(target) = open_target(files, options) else {
         files.close(store);
@@ -176,8 +179,9 @@ fn open<F: Files>(
     requires old { options.new ≡ false }
     ensures ok { IfOk result
         (λ begun. BeginsSession F.calls F.Opened.facts
-        (told_by options.entry) store files.old begun.0 begun.1 files.new) }
-    ensures err { IfErr result (IsGivenUp F.calls F.Opened.facts (told_by options.entry) store files.old files.new) }
+        (line_of_options options.entry) store files.old begun.0 begun.1 files.new) }
+    ensures err { IfErr result (IsGivenUp F.calls F.Opened.facts
+        (line_of_options options.entry) store files.old files.new) }
 {
     let session = match Session::open(alloc, store, usize::from(options.cache)) {
         Ok(session) => session,
@@ -196,7 +200,7 @@ fn open<F: Files>(
 /// Answers the script, and closes all files.
 fn answer<F: Files, R: Source, W: Sink>(
     alloc: Global,
-    manner: Manner,
+    manner: ScriptOptions,
     files: &mut F,
     begun: Begun<F>,
     reader: &mut R,

@@ -24,7 +24,7 @@ pub(crate) const READS: u32 = 1 << 24;
 
 /// How a script is run. A plain run goes to its script's end, and writes nothing but replies.
 #[derive(Clone, Copy, Debug, Default, PartialEq, Eq)]
-pub struct Manner {
+pub struct ScriptOptions {
     /// The run ends behind the first refusal.
     pub bails: bool,
     /// Each line is written before its reply.
@@ -97,8 +97,8 @@ pub struct Ended<S: Store> {
 ///
 /// Where what is held is exact, over an honest store and target, the session is what the answers lead to, and is exact,
 /// and each answer is the machine's but for such a fault or lack of memory. A crash now leaves the documents acknowledged
-/// last or those of a commit that failed since, as a session's `validity` says; where no call of a store failed in this
-/// run, those of none that failed in it.
+/// last or those of a commit that failed since, as a session's `reveal_invariant` says; where no call of a store failed
+/// in this run, those of none that failed in it.
 pub fn run<S: Store, R: Source, W: Sink>(
     alloc: Global,
     session: Session<S>,
@@ -153,7 +153,7 @@ pub fn run_in<S: Store, R: Source, W: Sink>(
     ensures cause { IfErr result (λ fault. HasCause fault (StopsReading R.reads (2 ^ 24) reader.old reader.new)
         (StopsWriting W.writes writer.new)) }
 {
-    let plain = Manner::default();
+    let plain = ScriptOptions::default();
     run_in_manner(alloc, plain, session, target, former, reader, writer, READS)
 }
 
@@ -163,7 +163,7 @@ pub fn run_in<S: Store, R: Source, W: Sink>(
 /// a refusal, and carries out nothing further, whatever else was read.
 pub fn run_in_manner<S: Store, R: Source, W: Sink>(
     alloc: Global,
-    manner: Manner,
+    manner: ScriptOptions,
     session: &mut Session<S>,
     target: &mut Option<S>,
     former: &mut Option<S>,
@@ -218,7 +218,7 @@ pub fn run_in_manner<S: Store, R: Source, W: Sink>(
 /// Answers the lines that end in a piece, and writes their replies, so that they are seen before the next read.
 fn answer_piece<S: Store, W: Sink>(
     alloc: Global,
-    manner: Manner,
+    manner: ScriptOptions,
     answering: &mut Answering,
     session: &mut Session<S>,
     target: &mut Option<S>,
@@ -248,7 +248,7 @@ fn answer_piece<S: Store, W: Sink>(
 /// Answers the last line, which no line feed ends, if there is one, and writes its reply.
 fn answer_rest<S: Store, W: Sink>(
     alloc: Global,
-    manner: Manner,
+    manner: ScriptOptions,
     answering: &mut Answering,
     session: &mut Session<S>,
     target: &mut Option<S>,

@@ -2,7 +2,7 @@
 ghost use Rattle.std.specs.Prelude.{◌≡◌, ℕ, List, Option, OnOk};
 ghost use Rattle.std.specs.Io.{ReadsAtMost};
 ghost use Rattle.std.specs.Io.KnownBytes.{Appends, ReadConsumes};
-ghost use Rattle.geos_shell.specs.Streams.{Reads, Writes};
+ghost use Rattle.geos_shell.specs.Streams.{ReadCalls, WriteCalls};
 
 use std::io::{ErrorKind, Read, Write};
 
@@ -25,7 +25,7 @@ pub trait Source {
     // The bytes that reads will give from here on, where they are known.
     ghost remaining: { Self → Option (List ℕ) };
 
-    ghost reads: { Reads Self };
+    ghost reads: { ReadCalls Self };
 
     /// Reads bytes into the front of the piece, and tells how many: none only at the end.
     fn read_piece(&mut self, piece: &mut [u8]) -> Result<usize, ReadFault>
@@ -39,7 +39,7 @@ pub trait Sink {
     // The bytes that were written, where they are known.
     ghost contents: { Self → Option (List ℕ) };
 
-    ghost writes: { Writes Self };
+    ghost writes: { WriteCalls Self };
 
     /// Writes all these bytes, and flushes them.
     fn write_out(&mut self, bytes: &[u8]) -> Result<(), WriteFault>

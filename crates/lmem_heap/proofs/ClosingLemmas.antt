@@ -1,7 +1,7 @@
 -- A free piece goes down to the one below it, and the chunks between them go up.
 use Rattle.std.proofs.Common.{◌≡◌, ℕ, ◌+◌, ◌-◌, ◌*◌, ◌/◌, ◌<◌, ◌≤◌, List, [], ◌∷◌, ◌++◌, length, refl, sym, ap, subst, ◌∙◌, inl, inr, arith}
 use Rattle.lmem_heap.specs.declared.space.Space.{Space}
-use Rattle.lmem_heap.specs.Pieces.{word_in, entry, piece_space, Piece, Used, Free, size_head, Lies, Points, AllShaped, IsFresh, ArePiecesDistinct, used, frees, spaces, place_of}
+use Rattle.lmem_heap.specs.Pieces.{word_in, entry, piece_space, Piece, Used, Free, size_head, Lies, Points, AllShaped, IsFresh, ArePiecesDistinct, used, free_count, spaces, place_of}
 use Rattle.lmem_heap.specs.Edits.{Same, IsSet, IsSlid, AreRaised}
 use Rattle.lmem_heap.specs.Tiled.{IsTiled, chunks_in, chunk_from}
 use Rattle.lmem_heap.specs.Space.{IsSpareAt, AreSpare, IsChain, IsOther, HasPieces, IsWellFormed, HasBelow, HasSameChunks}
@@ -40,7 +40,7 @@ used_distinct [] h = tt
 used_distinct (Used i b ∷ cs) h = (fresh_used i cs h.0, used_distinct cs h.1)
 used_distinct (Free s ∷ cs) h = used_distinct cs h
 
-none_spare : (p : ℕ) (cs : List Piece) (f : ℕ) → frees cs ≡ 0 → IsSpareAt p cs f → ⊥
+none_spare : (p : ℕ) (cs : List Piece) (f : ℕ) → free_count cs ≡ 0 → IsSpareAt p cs f → ⊥
 none_spare p [] f none h = h
 none_spare p (Used i b ∷ cs) f none h = none_spare (p + piece_space (length b)) cs f none h
 none_spare p (Free s ∷ cs) f none h = omega (arith, none)
@@ -166,7 +166,7 @@ module _ (xs us vs ys : List ℕ) (t low g h n r : ℕ) (a run d : List Piece) (
 
   -- ---- the list
 
-  spare_closed : (f : ℕ) → frees run ≡ 0 → (h ≡ f → ⊥) → IsSpareAt low old f → IsSpareAt low new f × (word_in ys (f + 2) ≡ word_in xs (f + 2))
+  spare_closed : (f : ℕ) → free_count run ≡ 0 → (h ≡ f → ⊥) → IsSpareAt low old f → IsSpareAt low new f × (word_in ys (f + 2) ≡ word_in xs (f + 2))
   spare_closed f none ne sp =
       let E = ends in let S = shape_rest in
       elim (spare_parts low a (Free n ∷ (run ++ (Free r ∷ d))) f sp) [
@@ -194,16 +194,16 @@ module _ (xs us vs ys : List ℕ) (t low g h n r : ℕ) (a run d : List Piece) (
         ]
       ]
 
-  spares_closed : (fs : List ℕ) → frees run ≡ 0 → IsOther h fs → AreSpare low old fs → AreSpare low new fs
+  spares_closed : (fs : List ℕ) → free_count run ≡ 0 → IsOther h fs → AreSpare low old fs → AreSpare low new fs
   spares_closed [] none other s = tt
   spares_closed (f ∷ fs) none other s = ((spare_closed f none other.0 s.0).0, spares_closed fs none other.1 s.1)
 
-  chain_closed : (k : ℕ) (fs : List ℕ) → frees run ≡ 0 → IsOther h fs → AreSpare low old fs → IsChain xs k fs → IsChain ys k fs
+  chain_closed : (k : ℕ) (fs : List ℕ) → free_count run ≡ 0 → IsOther h fs → AreSpare low old fs → IsChain xs k fs → IsChain ys k fs
   chain_closed k [] none other s c = c
   chain_closed k (f ∷ fs) none other s c =
       (c.0, chain_closed (word_in ys (f + 2)) fs none other.1 s.1 (subst (λ (j : ℕ). IsChain xs j fs) (sym (spare_closed f none other.0 s.0).1) c.1))
 
-  pub closed_frees : frees new + 1 ≡ frees old
+  pub closed_frees : free_count new + 1 ≡ free_count old
   closed_frees = omega (arith, frees_append a (Free (n + r) ∷ (run ++ d)), frees_append run d, frees_append a (Free n ∷ (run ++ (Free r ∷ d))), frees_append run (Free r ∷ d))
 
 -- ---- a space

@@ -5,7 +5,7 @@ use Rattle.std.proofs.lemmas.Bool.{cond-false, ne_eqb, cases_lt}
 use Rattle.std.specs.Option.{option_map}
 use Rattle.geos_model.proofs.Table.{slot_space}
 use Rattle.lmem_heap.specs.declared.space.Space.{Space}
-use Rattle.lmem_heap.specs.Pieces.{word_in, entry, piece_space, Piece, Used, Free, size_head, AllShaped, IsFresh, spaces, used, frees, Points, place_of}
+use Rattle.lmem_heap.specs.Pieces.{word_in, entry, piece_space, Piece, Used, Free, size_head, AllShaped, IsFresh, spaces, used, free_count, Points, place_of}
 use Rattle.lmem_heap.specs.Edits.{Same, IsSet, IsZeroed}
 use Rattle.lmem_heap.specs.Tiled.{IsTiled, chunk_under, chunks_in, chunk_from, table_end}
 use Rattle.lmem_heap.specs.Space.{AreSpare, IsOther, IsChain, HasPieces, IsWellFormedBut, IsWellFormed, IsDetached, IsChanged, HasFree, HasNext}
@@ -29,7 +29,7 @@ pub total_small : {detached : ℕ} (s : Space) (cs : List Piece) (fs : List ℕ)
 total_small s cs fs h = omega (arith, h.count, used_le cs, lies_end size_head s.region s.low cs 65520 h.tiled.lies)
 
 -- where nothing is free behind the first piece there is no free piece
-no_frees : (limit : ℕ) (cs : List Piece) → AllShaped limit cs → spaces cs ≤ spaces (used cs) → frees cs ≡ 0
+no_frees : (limit : ℕ) (cs : List Piece) → AllShaped limit cs → spaces cs ≤ spaces (used cs) → free_count cs ≡ 0
 no_frees limit [] shaped full = refl
 no_frees limit (Used i b ∷ cs) shaped full = no_frees limit cs shaped.1 (omega arith)
 no_frees limit (Free s ∷ cs) shaped full = absurd (omega (arith, shaped.0.0, used_le cs))

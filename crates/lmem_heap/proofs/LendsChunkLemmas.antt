@@ -12,7 +12,7 @@ use Rattle.lmem_heap.specs.Pieces.{word_in, entry}
 use Rattle.lmem_heap.specs.Tiled.{chunk_under, chunks_in}
 use Rattle.lmem_heap.specs.Space.{IsWellFormed, IsRunOf}
 use Rattle.lmem_heap.specs.Stored.{Stored, store_of, offsets_in, IsStoredHeap}
-use Rattle.lmem_heap.specs.LendsChunk.{with_chunk}
+use Rattle.lmem_heap.specs.LendsChunk.{with_table_chunk}
 use Rattle.lmem_heap.proofs.TiledLemmas.{under_piece, under_dead}
 use Rattle.lmem_heap.proofs.EntryLemmas.{IsLivePiece, live_piece}
 use Rattle.lmem_heap.proofs.ChunkBytesLemmas.{written_well_formed, written_entries, written_chunks}
@@ -139,7 +139,7 @@ module _ (s : Space) (m : Stored) (i from size : ℕ) (stored : IsStoredHeap s) 
   pub lent_stored : IsStoredHeap (record { region = put s.region from (take size w); slots = s.slots; low = s.low; head = s.head; total = s.total })
   lent_stored = over_stored s m i from size stored is slot run some (put s.region from (take size w)) 0 (take size w) range there
 
-  pub lent_shows : store_of (put s.region from (take size w)) s.slots ≡ with_chunk m i w
+  pub lent_shows : store_of (put s.region from (take size w)) s.slots ≡ with_table_chunk m i w
   lent_shows =
       let b = unwrap_or (get_or m.chunks i None) [] in let ys = put s.region from (take size w) in
       let cut : put b 0 (take size w) ≡ put b 0 w = ap (λ (k : ℕ). put b 0 (take k w)) (sym (run_size s m i from size stored is slot run)) ∙ put-cut b w in

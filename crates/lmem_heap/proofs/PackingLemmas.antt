@@ -1,6 +1,6 @@
 -- The walk that packs the chunks, run by run, and how all move up together then.
 use Rattle.std.proofs.Common.{◌≡◌, ◌≢◌, ℕ, ◌+◌, ◌-◌, ◌*◌, ◌/◌, ◌%◌, ◌<◌, ◌≤◌, List, [], ◌∷◌, ◌++◌, length, refl, sym, ap, subst, ◌∙◌, append_assoc, arith, inl, inr}
-use Rattle.lmem_heap.specs.Pieces.{word_in, entry, piece_space, Piece, Used, Free, size_head, handle_head, space, IsPieceAt, Lies, Points, AllShaped, ArePiecesDistinct, used, spaces, place_to, size_of, IsFresh, frees, place_of}
+use Rattle.lmem_heap.specs.Pieces.{word_in, entry, piece_space, Piece, Used, Free, size_head, handle_head, space, IsPieceAt, Lies, Points, AllShaped, ArePiecesDistinct, used, spaces, place_to, size_of, IsFresh, free_count, place_of}
 use Rattle.lmem_heap.specs.Edits.{IsReadyToPack, IsRunPacked, IsSlid, IsSet, IsPacked}
 use Rattle.lmem_heap.specs.Tiled.{IsThreaded, IsTiled, AreThreaded, IsCompacted, IsGathered, chunk_from}
 use Rattle.lmem_heap.proofs.EditLemmas.{entry_word, entry_kept}
@@ -403,12 +403,12 @@ module _ (xs : List ℕ) (t low total : ℕ) (cs : List Piece) (tiled : IsTiled 
         entries = λ j l fresh. same j l (used_fresh j cs fresh);
       }
 
-pub frees_used : (cs : List Piece) → frees (used cs) ≡ 0
+pub frees_used : (cs : List Piece) → free_count (used cs) ≡ 0
 frees_used [] = refl
 frees_used (Used i b ∷ cs) = frees_used cs
 frees_used (Free s ∷ cs) = frees_used cs
 
-pub frees_behind : (room : ℕ) (cs : List Piece) → frees (used cs ++ (Free room ∷ [])) ≡ 1
+pub frees_behind : (room : ℕ) (cs : List Piece) → free_count (used cs ++ (Free room ∷ [])) ≡ 1
 frees_behind room [] = refl
 frees_behind room (Used i b ∷ cs) = frees_behind room cs
 frees_behind room (Free s ∷ cs) = frees_behind room cs

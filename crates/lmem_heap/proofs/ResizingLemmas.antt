@@ -4,7 +4,7 @@ use Rattle.std.proofs.lemmas.Bool.{cases_lt}
 use Rattle.std.proofs.lemmas.List.{length-replicate, get_or-replicate, get_or_append_left, get_or-append_right, get_or-take}
 use Rattle.geos_model.specs.Bytes.{resized}
 use Rattle.lmem_heap.specs.declared.space.Space.{Space}
-use Rattle.lmem_heap.specs.Pieces.{word_in, entry, piece_space, Piece, Used, Free, size_head, Lies, Points, AllShaped, IsFresh, ArePiecesDistinct, frees, used, spaces, place_of}
+use Rattle.lmem_heap.specs.Pieces.{word_in, entry, piece_space, Piece, Used, Free, size_head, Lies, Points, AllShaped, IsFresh, ArePiecesDistinct, free_count, used, spaces, place_of}
 use Rattle.lmem_heap.specs.Edits.{Same, IsSet, IsSized, IsSlid, AreLowered}
 use Rattle.lmem_heap.specs.Tiled.{chunks_in, IsTiled, chunk_from, table_end}
 use Rattle.lmem_heap.specs.Space.{AreSpare, IsOther, HasPieces, IsWellFormed, IsDetached, HasNext, IsResized, IsChain}
@@ -34,7 +34,7 @@ resized_zeros b n k past in_n =
 
 -- what is kept of pieces in a row that become others
 module _ {detached : ℕ} (s : Space) (ys : List ℕ) (i p : ℕ) (a old new d : List Piece) (fs : List ℕ) (held : HasPieces s (a ++ (old ++ d)) fs detached) (at : p ≡ s.low + spaces a)
-    (e : IsEdit s.region ys s.slots i s.low p old new) (front : IsFresh i a) (back : IsFresh i d) (links : Each (IsLinkKept s.region ys p old new) fs) (total : ℕ) (takes : total + spaces (used old) ≡ s.total + spaces (used new)) (more : ℕ) (leaves : more + frees old ≡ detached + frees new) where
+    (e : IsEdit s.region ys s.slots i s.low p old new) (front : IsFresh i a) (back : IsFresh i d) (links : Each (IsLinkKept s.region ys p old new) fs) (total : ℕ) (takes : total + spaces (used old) ≡ s.total + spaces (used new)) (more : ℕ) (leaves : more + free_count old ≡ detached + free_count new) where
   pub held_edited : HasPieces (record { region = ys; slots = s.slots; low = s.low; head = s.head; total = total }) (a ++ (new ++ d)) fs more
   held_edited = record {
     tiled = edited s.region ys s.slots i s.low p a old new d held.tiled at e front back;
@@ -89,7 +89,7 @@ module _ {detached : ℕ} (s : Space) (ys : List ℕ) (i p n : ℕ) (a : List Pi
         covered = λ l fresh. absurd (fresh.0 refl);
       }
 
-  module _ (others : IsFresh i a × IsFresh i d) (links : Each (IsLinkKept s.region ys p (Used i b ∷ x) (Used i (resized b n) ∷ y)) fs) (total : ℕ) (takes : total + (piece_space (length b) + spaces (used x)) ≡ s.total + (piece_space n + spaces (used y))) (more : ℕ) (leaves : more + frees x ≡ detached + frees y) where
+  module _ (others : IsFresh i a × IsFresh i d) (links : Each (IsLinkKept s.region ys p (Used i b ∷ x) (Used i (resized b n) ∷ y)) fs) (total : ℕ) (takes : total + (piece_space (length b) + spaces (used x)) ≡ s.total + (piece_space n + spaces (used y))) (more : ℕ) (leaves : more + free_count x ≡ detached + free_count y) where
     pub sized_held : HasPieces (record { region = ys; slots = s.slots; low = s.low; head = s.head; total = total }) (a ++ (Used i (resized b n) ∷ (y ++ d))) fs more
     sized_held = held_edited s ys i p a (Used i b ∷ x) (Used i (resized b n) ∷ y) d fs held at sized_edit others.0 others.1 links total (omega (arith, ap piece_space (count_resized b n))) more leaves
 

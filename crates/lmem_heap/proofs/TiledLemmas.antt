@@ -4,7 +4,7 @@ use Rattle.std.proofs.lemmas.Bool.{cases_eq, cond-true, cond-false, ne_eqb, eq-e
 use Rattle.std.proofs.lemmas.List.Edits.{length-between, get_or-between}
 use Rattle.std.proofs.lemmas.List.FromFn.{fill_by_all, length-map-range_with_len, get_or-map-range_with_len}
 use Rattle.std.proofs.lemmas.Grind.{same_number_lists, get_or-set_at}
-use Rattle.lmem_heap.specs.Pieces.{word_in, entry, piece_space, Piece, Used, Free, size_head, Lies, Points, IsFresh, ArePiecesDistinct, used, spaces, place_of, AllShaped, frees}
+use Rattle.lmem_heap.specs.Pieces.{word_in, entry, piece_space, Piece, Used, Free, size_head, Lies, Points, IsFresh, ArePiecesDistinct, used, spaces, place_of, AllShaped, free_count}
 use Rattle.lmem_heap.specs.Tiled.{IsTiled, chunk_under, chunks_in, chunk_from}
 use Rattle.lmem_heap.proofs.PieceLemmas.{lies_end, lies_split, points_split, distinct_at, spaces_append, lies_append, points_append, shaped_append, shaped_split, fresh_append, fresh_split, distinct_behind, lies_kept, points_kept}
 use Rattle.lmem_heap.proofs.ThreadingLemmas.{slot_in}
@@ -305,13 +305,13 @@ used_append [] ds = omega arith
 used_append (Used i b ∷ cs) ds = omega (arith, used_append cs ds)
 used_append (Free s ∷ cs) ds = used_append cs ds
 
-pub frees_append : (cs ds : List Piece) → frees (cs ++ ds) ≡ frees cs + frees ds
+pub frees_append : (cs ds : List Piece) → free_count (cs ++ ds) ≡ free_count cs + free_count ds
 frees_append [] ds = omega arith
 frees_append (Used i b ∷ cs) ds = frees_append cs ds
 frees_append (Free s ∷ cs) ds = omega (arith, frees_append cs ds)
 
 -- how many pieces are free
-pub frees_edited : (a old new d : List Piece) → frees (a ++ (new ++ d)) + frees old ≡ frees (a ++ (old ++ d)) + frees new
+pub frees_edited : (a old new d : List Piece) → free_count (a ++ (new ++ d)) + free_count old ≡ free_count (a ++ (old ++ d)) + free_count new
 frees_edited a old new d = omega (arith, frees_append a (new ++ d), frees_append new d, frees_append a (old ++ d), frees_append old d)
 
 pub count_edited : (a old new d : List Piece) → spaces (used (a ++ (new ++ d))) + spaces (used old) ≡ spaces (used (a ++ (old ++ d))) + spaces (used new)

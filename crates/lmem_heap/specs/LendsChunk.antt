@@ -6,9 +6,9 @@ use Rattle.lmem_heap.specs.Stored.{Stored}
 use Rattle.lmem_heap.specs.contracts.table.ChunkTable.{the_row}
 
 -- the table with bytes written over a chunk's
-abbrev pub with_chunk : Stored → ℕ → List ℕ → Stored
-with_chunk m i bytes =
+abbrev pub with_table_chunk : Stored → ℕ → List ℕ → Stored
+with_table_chunk m i bytes =
     record { chunks = set m.chunks i (Some (put (unwrap_or (get_or m.chunks i None) []) 0 bytes)); offsets = m.offsets }
 
-abbrev pub lends_chunk : MutBor Stored → ℕ → MutBor (List ℕ) → Fml
-lends_chunk t i chunk = Lends the_row (Array u8 0) t chunk (with_chunk t.now i)
+abbrev pub lends_table_chunk : MutBor Stored → ℕ → MutBor (List ℕ) → Fml
+lends_table_chunk t i chunk = Lends the_row (Array u8 0) t chunk (with_table_chunk t.now i)

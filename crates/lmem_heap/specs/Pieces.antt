@@ -82,10 +82,10 @@ used (Used i bytes ∷ cs) = Used i bytes ∷ used cs
 used (Free s ∷ cs) = used cs
 
 -- how many are free
-abbrev pub frees : List Piece → ℕ
-frees [] = 0
-frees (Used i bytes ∷ cs) = frees cs
-frees (Free s ∷ cs) = frees cs + 1
+abbrev pub free_count : List Piece → ℕ
+free_count [] = 0
+free_count (Used i bytes ∷ cs) = free_count cs
+free_count (Free s ∷ cs) = free_count cs + 1
 
 -- what pieces take
 abbrev pub spaces : List Piece → ℕ

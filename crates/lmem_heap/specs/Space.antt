@@ -1,7 +1,7 @@
 -- A heap's space: its region, and the list of its free pieces, which lies in the region.
 use Rattle.std.specs.Prelude.{◌≡◌, ◌≢◌, ℕ, ◌+◌, ◌<◌, ◌≤◌, ◌⊎◌, List, [], ◌∷◌, ◌++◌, length, Option, Some, None, set, get_or, unwrap_or}
 use Rattle.geos_model.specs.Bytes.{resized}
-use Rattle.lmem_heap.specs.Pieces.{word_in, entry, piece_space, Piece, Used, Free, frees, used, spaces}
+use Rattle.lmem_heap.specs.Pieces.{word_in, entry, piece_space, Piece, Used, Free, free_count, used, spaces}
 use Rattle.lmem_heap.specs.Tiled.{IsTiled, chunks_in}
 use Rattle.lmem_heap.specs.declared.space.Space.{Space}
 
@@ -38,7 +38,7 @@ pub record HasPieces (s : Space) (cs : List Piece) (fs : List ℕ) (detached : �
   pub chain : IsChain s.region s.head fs
   pub spare : AreSpare s.low cs fs
   pub apart : AreApart fs
-  pub all : frees cs ≡ length fs + detached
+  pub all : free_count cs ≡ length fs + detached
   pub count : s.total ≡ spaces (used cs)
 
 -- a space, with so many free pieces that the list lacks
@@ -114,7 +114,7 @@ pub record HasBelow (s : Space) (g h : ℕ) : Type 0 where
   pub after : List Piece
   pub free : List ℕ
   pub held : HasPieces s (before ++ (Free room ∷ (run ++ (Free last ∷ after)))) free 1
-  pub chunks : frees run ≡ 0
+  pub chunks : free_count run ≡ 0
   pub place : g ≡ s.low + spaces before
   pub next : h ≡ g + room + spaces run
   pub other : IsOther h free

@@ -30,7 +30,7 @@ impl Model for ChunkTable {
 }
 
 impl ChunkTable {
-    ghost use Rattle.lmem_heap.specs.LendsChunk.{lends_chunk};
+    ghost use Rattle.lmem_heap.specs.LendsChunk.{lends_table_chunk};
     ghost use Rattle.lmem_heap.specs.Stored.{AreLast, AreStoredDisjoint, AreBehind, StoredHoldsChunks};
 
     /// No slots, in a region that may have any bytes.
@@ -267,7 +267,7 @@ impl ChunkTable {
     pub(crate) fn chunk_mut(&mut self, i: usize) -> &mut [u8]
         requires slot { i < length self.old.chunks }
         requires live { IsSome (get_or self.old.chunks i None) }
-        ensures* writes_back { sem 𝓛 (lends_chunk self.entry i result) }
+        ensures* writes_back { sem 𝓛 (lends_table_chunk self.entry i result) }
         ensures value { result.now ≡ unwrap_or (get_or self.old.chunks i None) [] }
     {
         let run = self.space.find_run(i);

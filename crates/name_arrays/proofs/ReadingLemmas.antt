@@ -12,7 +12,7 @@ use Rattle.geos_model.proofs.NameArrays.{word-small}
 use Rattle.element_arrays.specs.Slotted.{Slotted, slotted_array, slotted_bytes, GivesSlots, RefusesSlots}
 use Rattle.element_arrays.specs.Tested.{has_length, are_slots_within}
 use Rattle.element_arrays.proofs.TestedLemmas.{slots_read-is, slots_none}
-use Rattle.name_arrays.specs.Reading.{named_array, IsRead}
+use Rattle.name_arrays.specs.Reading.{named_array, IsNameArrayRead}
 use Rattle.std.specs.Option.{option_map_or}
 use Rattle.geos_model.specs.Refusal.{Conditions, first_refusal}
 use Rattle.geos_model.specs.ElementEdits.{count_at, bytes_at, with_element, without_element, with_new, unreferenced, is_count_full}
@@ -23,7 +23,7 @@ use Rattle.name_arrays.proofs.NamingLemmas.{new_bytes, bytes_with, found_name}
 use Rattle.geos_model.specs.ArrayEdits.{too_long}
 use Rattle.geos_model.specs.declared.fault.Fault.{Fault}
 use Rattle.geos_model.specs.declared.handle.Token.{Token}
-use Rattle.chunk_edits.specs.Patching.{Piece}
+use Rattle.chunk_edits.specs.Patching.{PatchPiece}
 use Rattle.chunk_arrays.specs.Replacing.{Replaces, RefusesToReplace}
 use Rattle.element_arrays.proofs.SlottedLemmas.{refuses_for, replaces_for, slots_handed_on, token_handed_on}
 
@@ -155,7 +155,7 @@ module _ (bytes : List ℕ) (a : Array) (s : Slotted) (part : ℕ) (is : array_o
       let other : is_sound_names (names_read a s.slots) ≡ false = and_left _ _ (and_left _ _ (and_right (is_sound s.slots) (s.slots.size == 0) (ne_eqb s.slots.size 0 sized))) in
       comes_to ∙ cond-false _ _ _ other
 
-  pub sound_read : is_sound_names (named_array s part) ≡ true → IsRead bytes s part
+  pub sound_read : is_sound_names (named_array s part) ≡ true → IsNameArrayRead bytes s part
   unfolding slotted_bytes
   sound_read sound = record {
     is = comes_to ∙ cond-true _ _ _ (ap is_sound_names names_is ∙ sound) ∙ ap Some names_is;
@@ -170,7 +170,7 @@ module _ (bytes : List ℕ) (a : Array) (s : Slotted) (part : ℕ) (is : array_o
     pub more_is : length s.more + 2 ≡ 4 → s.more ≡ word part
     more_is = more_of a s part array read small
 
-    pub is_read : IsRead bytes s part
+    pub is_read : IsNameArrayRead bytes s part
     is_read = sound_read is_sound_read
 
 -- ---- what refusals and new bytes come to where a chunk's bytes are read as a name array
@@ -179,7 +179,7 @@ used_not_none : {T : Type 0} (o : Option T) → is_some o ≡ true → is_none o
 used_not_none None used = absurd (cc used)
 used_not_none (Some x) used = refl
 
-module _ (bytes : List ℕ) (s : Slotted) (size : ℕ) (read : IsRead bytes s size) where
+module _ (bytes : List ℕ) (s : Slotted) (size : ℕ) (read : IsNameArrayRead bytes s size) where
   abbrev a : NameArray
   a = named_array s size
 
@@ -230,7 +230,7 @@ module _ (bytes : List ℕ) (s : Slotted) (size : ℕ) (read : IsRead bytes s si
           refuses_for (add_name_conditions bytes text part) (name_reference_conditions a part t) bytes (name_added bytes text part replace) (slotted_bytes s.more s.slots) (name_bytes_with_reference a part replace t)
           decides added_found
 
-      pub found_replaced : (patch : List Piece) → Replaces (name_reference_conditions a part t) (slotted_bytes s.more s.slots) (name_bytes_with_reference a part replace t) patch → Replaces (add_name_conditions bytes text part) bytes (name_added bytes text part replace) patch
+      pub found_replaced : (patch : List PatchPiece) → Replaces (name_reference_conditions a part t) (slotted_bytes s.more s.slots) (name_bytes_with_reference a part replace t) patch → Replaces (add_name_conditions bytes text part) bytes (name_added bytes text part replace) patch
       found_replaced =
           replaces_for (add_name_conditions bytes text part) (name_reference_conditions a part t) bytes (name_added bytes text part replace) (slotted_bytes s.more s.slots) (name_bytes_with_reference a part replace t)
           decides added_found read.same
@@ -253,7 +253,7 @@ module _ (bytes : List ℕ) (s : Slotted) (size : ℕ) (read : IsRead bytes s si
       pub new_refusals : (bad : Bool) → (not (is_name text) || not (length part == size)) ≡ bad → (rest : Conditions) → first_refusal (add_name_conditions bytes text part ++ rest) ≡ first_refusal ((CountFull, false) ∷ (Range, bad) ∷ rest)
       new_refusals bad bad_is = add_refusals text part false bad full_new bad_is
 
-      pub new_handed_on : (not (is_name text) || not (length part == size)) ≡ false → (r : Result (List Piece × Token) Fault)
+      pub new_handed_on : (not (is_name text) || not (length part == size)) ≡ false → (r : Result (List PatchPiece × Token) Fault)
           → MatchResult r (λ made. GivesSlots s (with_new s.slots (part ++ text)).0 made.0 × (made.1.0 ≡ (with_new s.slots (part ++ text)).1)) (RefusesSlots s (with_new s.slots (part ++ text)).0)
           → MatchResult r (λ made. Replaces (add_name_conditions bytes text part) bytes (name_added bytes text part replace) made.0 × (made.1.0 ≡ name_token_added bytes text part replace)) (RefusesToReplace (add_name_conditions bytes text part) (name_added bytes text part replace))
       new_handed_on good r =
@@ -274,7 +274,7 @@ module _ (bytes : List ℕ) (s : Slotted) (size : ℕ) (read : IsRead bytes s si
           ∙ ap (λ (b : NameArray). name_bytes (record b { names = unreferenced b.names t })) (sym names_are)
 
       module _ (used : is_some (element_at a.names t) ≡ true) (slots : Slots) (is : slots ≡ unreferenced s.slots t) where
-        pub removed_handed_on : (r : Result (List Piece) Fault) → MatchResult r (GivesSlots s slots) (RefusesSlots s slots) → MatchResult r (Replaces (on_name_token bytes t) bytes (name_reference_removed bytes t)) (RefusesToReplace (on_name_token bytes t) (name_reference_removed bytes t))
+        pub removed_handed_on : (r : Result (List PatchPiece) Fault) → MatchResult r (GivesSlots s slots) (RefusesSlots s slots) → MatchResult r (Replaces (on_name_token bytes t) bytes (name_reference_removed bytes t)) (RefusesToReplace (on_name_token bytes t) (name_reference_removed bytes t))
         removed_handed_on = slots_handed_on (on_name_token bytes t) s slots bytes (name_reference_removed bytes t) (past_token t used []) read.same (removed slots is)
 
       pub last_reference : count ≡ 1 → without_element s.slots t ≡ unreferenced s.slots t

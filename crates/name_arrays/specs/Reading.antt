@@ -8,6 +8,6 @@ abbrev pub named_array : Slotted → ℕ → NameArray
 named_array s part = record { part = part; names = s.slots }
 
 -- bytes are this name array
-pub record IsRead (bytes : List ℕ) (s : Slotted) (part : ℕ) : Type 0 where
+pub record IsNameArrayRead (bytes : List ℕ) (s : Slotted) (part : ℕ) : Type 0 where
   pub is : name_array_of bytes ≡ Some (named_array s part)
   pub same : slotted_bytes s.more s.slots ≡ bytes

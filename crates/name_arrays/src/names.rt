@@ -7,7 +7,7 @@ ghost use Rattle.geos_model.specs.ElementArray.{element_at, slots_of};
 ghost use Rattle.geos_model.specs.NameArray.{name_array_of, names_of, is_name, is_sound_names};
 ghost use Rattle.geos_model.specs.NameEdits.{token_of_text};
 ghost use Rattle.element_arrays.specs.Slotted.{slotted_array};
-ghost use Rattle.name_arrays.specs.Reading.{named_array, IsRead};
+ghost use Rattle.name_arrays.specs.Reading.{named_array, IsNameArrayRead};
 
 use byteorder::{ByteOrder, LittleEndian};
 use chunk_arrays::{View, check};
@@ -45,7 +45,7 @@ pub(crate) struct Name<'a> {
 /// none where they are known to be such an array, and no memory.
 pub(crate) fn read<'a>(bytes: &KnownBytes<'a>) -> Result<Names<'a>, Fault>
     ensures { MatchResult result
-        (λ names. IsRead bytes.now names.slots names.part)
+        (λ names. IsNameArrayRead bytes.now names.slots names.part)
         (λ fault. (fault ≡ Fault.NotArray) × (name_array_of bytes.now ≡ None)) }
 {
     let view = check(bytes)?;

@@ -28,7 +28,7 @@ impl Model for RawBody {
 
 #[tactic(auto, using(crate::proofs::Puts::lengths))]
 impl RawBody {
-    ghost use Rattle.raw_region.specs.LendsBody.{lends_run};
+    ghost use Rattle.raw_region.specs.LendsBody.{lends_body_run};
 
     /// No bytes yet; the region is allocated here, and never grows.
     pub fn new(alloc: Global) -> Result<RawBody, AllocError>
@@ -102,7 +102,7 @@ impl RawBody {
     /// The `n` bytes from `at` on, to be written. They end as what is left in them, and the others as they were.
     pub fn slice_mut(&mut self, at: usize, n: usize) -> &mut [u8]
         requires { at + n ≤ length self.old }
-        ensures* writes_back { sem 𝓛 (lends_run self.entry at n result) }
+        ensures* writes_back { sem 𝓛 (lends_body_run self.entry at n result) }
         ensures value { result.now ≡ slice_range self.old at (at + n) }
     {
         self.region.slice_mut(at, n)

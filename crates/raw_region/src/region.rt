@@ -33,7 +33,7 @@ impl Model for Region {
 
 #[tactic(auto, using(crate::proofs::Puts::lengths))]
 impl Region {
-    ghost use Rattle.raw_region.specs.LendsRun.{lends_run};
+    ghost use Rattle.raw_region.specs.LendsRun.{lends_region_run};
 
     /// A region of zeros.
     pub fn new(alloc: Global) -> Result<Region, AllocError>
@@ -84,7 +84,7 @@ impl Region {
     /// The `n` bytes from `at` on, to be written. The region ends as it was, with what is left in them in their place.
     pub fn slice_mut(&mut self, at: usize, n: usize) -> &mut [u8]
         requires { at + n ≤ SIZE }
-        ensures* writes_back { sem 𝓛 (lends_run self.entry at n result) }
+        ensures* writes_back { sem 𝓛 (lends_region_run self.entry at n result) }
         ensures value { result.now ≡ slice_range self.old at (at + n) }
         ensures len { length result.now ≡ n }
     {

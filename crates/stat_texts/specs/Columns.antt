@@ -51,8 +51,8 @@ sized_lines b =
     heading (codes "       bytes") ++ tally_line (codes "  raw blocks       ") b.raw
     ++ tally_line (codes "  chunks           ") b.chunks.all
 
-abbrev pub heap_lines : BlockStat → List ℕ
-heap_lines b =
+abbrev pub heap_stat_lines : BlockStat → List ℕ
+heap_stat_lines b =
     heading (codes "needed bytes") ++ tally_line (codes "  heaps            ") b.heaps
     ++ flat_map type_line b.types.entries ++ codes "  free in heaps " ++ right 26 (free_bytes b) ++ codes "\n"
 
@@ -71,7 +71,7 @@ document_start name d =
 
 abbrev pub document_lines : List ℕ → DocumentStat → List ℕ
 document_lines name d =
-    document_start name d ++ sized_lines d.blocks ++ heap_lines d.blocks ++ array_lines d.blocks.chunks.arrays
+    document_start name d ++ sized_lines d.blocks ++ heap_stat_lines d.blocks ++ array_lines d.blocks.chunks.arrays
 
 abbrev pub saved_lines : Option DocumentStat → List ℕ
 saved_lines None = codes "\nthe saved document is the updated one\n"

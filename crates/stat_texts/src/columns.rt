@@ -2,7 +2,7 @@
 ghost use Rattle.std.specs.Prelude.{◌≡◌, ◌++◌, OnOk};
 ghost use Rattle.std.specs.Fmt.{decimal};
 ghost use Rattle.std.specs.List.{flat_map};
-ghost use Rattle.stat_texts.specs.Columns.{array_lines, columns, document_lines, document_start, free_line, heading, heap_lines, largest_text, length_lines, map_block_text, saved_lines, sized_lines, subject_text, tally_columns, tally_line, type_line};
+ghost use Rattle.stat_texts.specs.Columns.{array_lines, columns, document_lines, document_start, free_line, heading, heap_stat_lines, largest_text, length_lines, map_block_text, saved_lines, sized_lines, subject_text, tally_columns, tally_line, type_line};
 
 use crate::numbers::{push_decimal, push_handle, push_left, push_right};
 use document_stat::{ArrayStat, BlockStat, DocumentStat, FileStat, Item, Subject, Tally};
@@ -88,7 +88,7 @@ fn push_sized(out: &mut Vec<u8>, blocks: &BlockStat) -> Result<(), AllocError>
 }
 
 fn push_heaps(out: &mut Vec<u8>, blocks: &BlockStat) -> Result<(), AllocError>
-    ensures { OnOk result (out.new.items ≡ out.old.items ++ heap_lines blocks.now) }
+    ensures { OnOk result (out.new.items ≡ out.old.items ++ heap_stat_lines blocks.now) }
 {
     push_heading(out, b"needed bytes")?;
     push_tally(out, b"  heaps            ", &blocks.heaps)?;

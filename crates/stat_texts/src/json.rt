@@ -1,6 +1,6 @@
 //! What a file has, as one JSON object on a line.
 ghost use Rattle.std.specs.Prelude.{◌≡◌, ◌++◌, [], OnOk, codes, if◌then◌else◌};
-ghost use Rattle.stat_texts.specs.Json.{arrays, blocks, document, free_pages, handle, heap_type, heaps, json, largest, map_block, members, number, pages, saved, subject, tally, types};
+ghost use Rattle.stat_texts.specs.Json.{arrays, blocks, document, free_pages, handle_member, heap_type_object, heaps, json, largest, map_block, members, number_member, pages, saved, subject_members, tally_member, types};
 
 use crate::numbers::{push_decimal, push_handle};
 use document_stat::{ArrayStat, BlockStat, DocumentStat, FileStat, Item, Subject, Tally};
@@ -8,7 +8,7 @@ use std::alloc::AllocError;
 use std::collections::BTreeMap;
 
 fn push_number(out: &mut Vec<u8>, name: &[u8], value: u64) -> Result<(), AllocError>
-    ensures { OnOk result (out.new.items ≡ out.old.items ++ number name.now value) }
+    ensures { OnOk result (out.new.items ≡ out.old.items ++ number_member name.now value) }
 {
     out.extend_from_slice(b"\"")?;
     out.extend_from_slice(name)?;
@@ -17,7 +17,7 @@ fn push_number(out: &mut Vec<u8>, name: &[u8], value: u64) -> Result<(), AllocEr
 }
 
 fn push_named_handle(out: &mut Vec<u8>, name: &[u8], value: u16) -> Result<(), AllocError>
-    ensures { OnOk result (out.new.items ≡ out.old.items ++ handle name.now value) }
+    ensures { OnOk result (out.new.items ≡ out.old.items ++ handle_member name.now value) }
 {
     out.extend_from_slice(b"\"")?;
     out.extend_from_slice(name)?;
@@ -27,7 +27,7 @@ fn push_named_handle(out: &mut Vec<u8>, name: &[u8], value: u16) -> Result<(), A
 }
 
 fn push_subject(out: &mut Vec<u8>, of: Subject) -> Result<(), AllocError>
-    ensures { OnOk result (out.new.items ≡ out.old.items ++ subject of) }
+    ensures { OnOk result (out.new.items ≡ out.old.items ++ subject_members of) }
 {
     match of {
         Subject::Block(block) => push_named_handle(out, b"block", block.0),
@@ -65,7 +65,7 @@ fn push_members(out: &mut Vec<u8>, unit: &[u8], of: &Tally) -> Result<(), AllocE
 }
 
 fn push_tally(out: &mut Vec<u8>, name: &[u8], unit: &[u8], of: &Tally) -> Result<(), AllocError>
-    ensures { OnOk result (out.new.items ≡ out.old.items ++ tally name.now unit.now of.now) }
+    ensures { OnOk result (out.new.items ≡ out.old.items ++ tally_member name.now unit.now of.now) }
 {
     out.extend_from_slice(b"\"")?;
     out.extend_from_slice(name)?;
@@ -75,7 +75,7 @@ fn push_tally(out: &mut Vec<u8>, name: &[u8], unit: &[u8], of: &Tally) -> Result
 }
 
 fn push_type(out: &mut Vec<u8>, number: u16, of: &Tally) -> Result<(), AllocError>
-    ensures { OnOk result (out.new.items ≡ out.old.items ++ heap_type (number, of.now)) }
+    ensures { OnOk result (out.new.items ≡ out.old.items ++ heap_type_object (number, of.now)) }
 {
     out.extend_from_slice(b"{")?;
     push_number(out, b"type", u64::from(number))?;

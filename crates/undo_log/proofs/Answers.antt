@@ -16,11 +16,11 @@ use Rattle.vm_blocks.specs.declared.change.Change.{Change}
 use Rattle.chunk_edits.specs.declared.direction.Direction.{Direction}
 use Rattle.chunk_edits.specs.declared.direction.Direction.TheVariants.{Forwards, Backwards}
 use Rattle.doc_edits.specs.Planning.{change_cost, Plans}
-use Rattle.undo_log.specs.Logging.{AreExclusive, Log, after_all, after_entry, all_changes, changes_cost, closed_with, entry_cost, kind_of_entry, step, steps, turned_over, with_change}
+use Rattle.undo_log.specs.Logging.{AreExclusive, Log, after_all, after_entry, all_changes, changes_cost, closed_with, entry_cost, kind_of_entry, step, steps, reversed_entry, with_change}
 use Rattle.undo_log.specs.Sessions.{opposite, AreSteps}
 use Rattle.undo_log.specs.declared.entry.LogEntry.{LogEntry}
 use Rattle.undo_log.specs.declared.entry.LogEntry.TheVariants as entries
-use Rattle.undo_log.specs.Turning.{turn_command}
+use Rattle.undo_log.specs.Turning.{step_command}
 use Rattle.undo_log.proofs.Directions.{log_by}
 use Rattle.undo_log.proofs.Keeping.{answers_on, machine_with}
 use Rattle.undo_log.proofs.Steps.{entry_back, goes_back}
@@ -78,16 +78,16 @@ edit_answers m edit d log undone redone c done are plans free room = edit_in m e
 
 -- An entry that was made, as the newest of the other list.
 
-kind_turned : (e : LogEntry) → kind_of_entry (turned_over e) ≡ kind_of_entry e
+kind_turned : (e : LogEntry) → kind_of_entry (reversed_entry e) ≡ kind_of_entry e
 kind_turned (entries.One c) = refl
 kind_turned (entries.Group cs) = refl
 
-cost_turned : (e : LogEntry) → entry_cost (turned_over e) ≡ entry_cost e
+cost_turned : (e : LogEntry) → entry_cost (reversed_entry e) ≡ entry_cost e
 cost_turned (entries.One c) = refl
 cost_turned (entries.Group cs) = sum_by-IsPermutation change_cost cs (reverse cs) (IsPermutation-reverse cs)
 
-steps_back : (direction : Direction) (e : LogEntry) (es : List LogEntry) (d new : Document) → after_entry (opposite direction) (turned_over e) new ≡ d
-    → steps (opposite direction) (turned_over e ∷ es) new ≡ record { kind = kind_of_entry e; cost = entry_cost e; document = d } ∷ steps (opposite direction) es d
+steps_back : (direction : Direction) (e : LogEntry) (es : List LogEntry) (d new : Document) → after_entry (opposite direction) (reversed_entry e) new ≡ d
+    → steps (opposite direction) (reversed_entry e ∷ es) new ≡ record { kind = kind_of_entry e; cost = entry_cost e; document = d } ∷ steps (opposite direction) es d
 steps_back direction e es d new gives = λ i. record { kind = kind_turned e i; cost = cost_turned e i; document = gives i } ∷ steps (opposite direction) es (gives i)
 
 -- the machine in which no group is open, with these steps to take in a direction, and these in the opposite one
@@ -101,18 +101,18 @@ machine_by-is Forwards m d from to = refl
 
 -- what undo and redo do where there is a step
 step_taken : (direction : Direction) (m : Machine) (d : Document) (s : UndoStep) (from to : List UndoStep) → machine.has_locks m ≡ false
-    → Answers (machine_by direction m d (s ∷ from) to) (Some (turn_command direction)) Accepted (machine_by direction m s.document from (record s { document = d } ∷ to))
+    → Answers (machine_by direction m d (s ∷ from) to) (Some (step_command direction)) Accepted (machine_by direction m s.document from (record s { document = d } ∷ to))
 step_taken Backwards m d s from to none = rw (none, some_steps s from) refl
 step_taken Forwards m d s from to none = rw (none, some_steps s from) refl
 
 -- the next entry is made
 pub turn_answers : (direction : Direction) (m : Machine) (d : Document) (e : LogEntry) (from to : List LogEntry) → machine.has_locks m ≡ false → AreSteps direction d (all_changes (e ∷ from)) (all_changes to)
-    → Answers (machine_with m d (log_by direction (e ∷ from) to)) (Some (turn_command direction)) Accepted (machine_with m (after_entry direction e d) (log_by direction from (turned_over e ∷ to)))
+    → Answers (machine_with m d (log_by direction (e ∷ from) to)) (Some (step_command direction)) Accepted (machine_with m (after_entry direction e d) (log_by direction from (reversed_entry e ∷ to)))
 turn_answers direction m d e from to none are =
     let new = after_entry direction e d in
     let back = steps_back direction e to d new (entry_back direction d e from are.valid are.first) in
-    answers_on _ _ _ _ (Some (turn_command direction)) Accepted (machine_by-is direction m d (e ∷ from) to)
-    (machine_by-is direction m new from (turned_over e ∷ to) ∙ ap (λ (xs : List UndoStep). machine_by direction m new (steps direction from new) xs) back)
+    answers_on _ _ _ _ (Some (step_command direction)) Accepted (machine_by-is direction m d (e ∷ from) to)
+    (machine_by-is direction m new from (reversed_entry e ∷ to) ∙ ap (λ (xs : List UndoStep). machine_by direction m new (steps direction from new) xs) back)
     (step_taken direction m d (step direction e d) (steps direction from new) (steps (opposite direction) to d) none)
 
 -- A group begins, ends, and is abandoned.

@@ -22,7 +22,7 @@ use Rattle.vm_blocks.specs.State.{CacheState, as_file}
 use Rattle.chunk_edits.specs.declared.direction.Direction.TheVariants.{Backwards}
 use Rattle.undo_log.specs.Committing.{IsBusy, IsSessionCommit}
 use Rattle.undo_log.specs.Logging.{Log, empty_log, group_of, to_redo, to_undo}
-use Rattle.undo_log.specs.Sessions.{SessionState, file_of, has_locks, locks_in, machine_of, failed_since, AreSteps, IsStep}
+use Rattle.undo_log.specs.Sessions.{SessionState, file_of, has_locked_blocks, locks_in, machine_of, failed_since, AreSteps, IsStep}
 use Rattle.undo_log.specs.Turning.{busy_fault}
 use Rattle.undo_log.proofs.Keeping.{Holds, drifted_listed, failed_true, machine_is, none_marked, same_exact}
 use Rattle.undo_log.proofs.Locks.{no_locks}
@@ -41,7 +41,7 @@ refused_commit failed m new c fault stays refuses outside unlocked takes calls w
 
 -- What is known of a commit of an exact session that tries a pair of documents, the document being that of a machine.
 module _ {S : Type 0} (facts : S → StoreFacts) (target : Bool) (old new : SessionState S) (so : IsTrue (facts old.disk.store).honest) (free : busy_fault old ≡ None) (locks : locks_in new.resident ≡ locks_in old.resident) where
-  none : has_locks old ≡ false
+  none : has_locked_blocks old ≡ false
   none = (at_rest old free).1
 
   outside : is_some (option_map (group_of old.document) old.log.group) ≡ false
@@ -158,8 +158,9 @@ module _ {S : Type 0} (facts : S → StoreFacts) (s : SessionState S) (fault : F
     exact,
     λ target.
         let first : first_refusal (on_commit (machine_of target s)) ≡ Some fault =
-        ap (λ (is_open : Bool). first_refusal ((Worn, s.disk.sequence == machine.last_sequence) ∷ (GroupOpen, is_open) ∷ (Locked, has_locks s) ∷ [])) (group_open (group_of s.document) s.log.group)
-        ∙ held_first (is_some s.log.group) (has_locks s) fault held (s.disk.sequence == machine.last_sequence) in
+        ap (λ (is_open : Bool). first_refusal ((Worn, s.disk.sequence == machine.last_sequence) ∷ (GroupOpen, is_open) ∷ (Locked, has_locked_blocks s) ∷ [])) (group_open (group_of s.document) s.log.group)
+        ∙ held_first (is_some s.log.group) (has_locked_blocks s) fault held
+        (s.disk.sequence == machine.last_sequence) in
         inl (rw (are target, first) refl),
   )
 
@@ -186,7 +187,7 @@ module _ {S : Type 0} (facts : S → StoreFacts) (s : SessionState S) (fault : F
   not_file false false is file = absurd (cc is)
 
   pub fails_held : (IsOther : Fault → Type 0) → Fails {A = Unit {0}} facts (λ f. IsOther f ⊎ IsBusy s f) s.disk.store s.disk.store (Err fault)
-  fails_held IsOther = record { file = λ is. absurd (not_file (is_some s.log.group) (has_locks s) held is); faults = inr (inr held) }
+  fails_held IsOther = record { file = λ is. absurd (not_file (is_some s.log.group) (has_locked_blocks s) held is); faults = inr (inr held) }
 
 -- Where neither is it is a commit of the file.
 pub tries_free : {S : Type 0} (facts : S → StoreFacts) (pair : Documents) (d : Document) (old new : SessionState S) (result : Result (Unit {0}) Fault) → busy_fault old ≡ None

@@ -4,7 +4,7 @@ use Rattle.geos_model.specs.Document.{Document}
 use Rattle.vm_blocks.specs.declared.change.Change.{Change}
 use Rattle.chunk_edits.specs.declared.direction.Direction.{Direction}
 use Rattle.chunk_edits.specs.declared.direction.Direction.TheVariants.{Forwards, Backwards}
-use Rattle.undo_log.specs.Logging.{IsHead, Log, all_changes, next_entries, next_moved, open_changes, to_redo, to_undo, turned_over}
+use Rattle.undo_log.specs.Logging.{IsHead, Log, all_changes, next_entries, next_moved, open_changes, to_redo, to_undo, reversed_entry}
 use Rattle.undo_log.specs.Sessions.{opposite, AreSteps, CanApplyBothByHandle}
 use Rattle.undo_log.specs.declared.entry.LogEntry.{LogEntry}
 
@@ -31,7 +31,7 @@ module _ (e : LogEntry) (log : Log) (none : log.group ≡ None) where
   log_was Backwards first = λ i. record { undo = first.are i; redo = log.redo; group = none i }
   log_was Forwards first = λ i. record { undo = log.undo; redo = first.are i; group = none i }
 
-  pub log_moved : (direction : Direction) (first : IsHead e (next_entries direction log)) → next_moved direction log ≡ log_by direction first.others (turned_over e ∷ next_entries (opposite direction) log)
+  pub log_moved : (direction : Direction) (first : IsHead e (next_entries direction log)) → next_moved direction log ≡ log_by direction first.others (reversed_entry e ∷ next_entries (opposite direction) log)
   log_moved Backwards first = let are : log.undo ≡ e ∷ first.others = first.are in rw (are, none) refl
   log_moved Forwards first = let are : log.redo ≡ e ∷ first.others = first.are in rw (are, none) refl
 

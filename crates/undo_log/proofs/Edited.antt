@@ -39,7 +39,7 @@ use Rattle.vm_blocks.proofs.KeepingLaws.{honest-steady, keeps-passes, keeps-unle
 use Rattle.vm_blocks.proofs.Preparing.{made_on}
 use Rattle.doc_edits.specs.Marking.{IsJustEdited}
 use Rattle.doc_edits.specs.Planning.{freed_by, is_chain, is_of_chain, kind_of_change, Plans, RefusesEdit, RefusesInMemory}
-use Rattle.doc_edits.specs.Room.{has_no_room, ReadsNothing}
+use Rattle.doc_edits.specs.Room.{lacks_frames, ReadsNothing}
 use Rattle.doc_edits.proofs.Targets.{array_scope}
 use Rattle.undo_log.specs.Locking.{IsBarred, bars}
 use Rattle.undo_log.specs.Editing.{EditsInMemory}
@@ -149,7 +149,7 @@ module _ {S : Type 0} (facts : S → StoreFacts) where
         }
 
     -- what was planned for the document as it was held then
-    pub made_of_plan : (edit : Edit) (c : Change) (done : Done) (new : CacheState S) (result : Result (Unit {0}) Fault) → CanCarryOut c mid → has_no_room old (edit_needs edit) ≡ false → kind_of_change c ≡ kind_of edit
+    pub made_of_plan : (edit : Edit) (c : Change) (done : Done) (new : CacheState S) (result : Result (Unit {0}) Fault) → CanCarryOut c mid → lacks_frames old (edit_needs edit) ≡ false → kind_of_change c ≡ kind_of edit
         → ((is_of_chain edit ≡ true → IsHonest facts old.disk.store) → Plans edit mid.document c done) → IsSurelyMade c mid new result → IsApplied facts c mid new → IsEditApplied facts edit old new c done
     made_of_plan edit c done new result ready room kind plans sure makes = record {
       listed = listed_before c (facts old.disk.store).honest old.document mid.document (keeps-unless_corrupt facts old mid keeps) ready.listed;
@@ -216,24 +216,24 @@ module _ {S : Type 0} (facts : S → StoreFacts) where
         same : new_m ≡ m
         document : m.document ≡ old.document
         unbarred : is_barred edit m ≡ false
-        room : machine.has_no_room m (edit_needs edit) ≡ has_no_room (cache_of old) (edit_needs edit)
+        room : machine.has_no_room m (edit_needs edit) ≡ lacks_frames (cache_of old) (edit_needs edit)
 
       module _ (m new_m : Machine) (judges : Judges m new_m) (so : IsTrue (facts old.disk.store).honest) where
         -- the first refusal is its own
-        refused_first : first_refusal ((CacheFull, has_no_room (cache_of old) (edit_needs edit)) ∷ conditions edit new.document) ≡ Some fault → Answers m (Some (commands.Edit edit)) (Refused fault) m
+        refused_first : first_refusal ((CacheFull, lacks_frames (cache_of old) (edit_needs edit)) ∷ conditions edit new.document) ≡ Some fault → Answers m (Some (commands.Edit edit)) (Refused fault) m
         refused_first first =
             let judged : first_refusal (machine.command_conditions (commands.Edit edit) m) ≡ Some fault =
             edit-judged edit m judges.unbarred
             ∙ ap (λ r. first_refusal ((CacheFull, r) ∷ conditions edit m.document)) judges.room
-            ∙ ap (λ (d : Document). first_refusal ((CacheFull, has_no_room (cache_of old) (edit_needs edit)) ∷ conditions edit d)) (judges.document ∙ sym (kept_document facts old new keeps so))
+            ∙ ap (λ (d : Document). first_refusal ((CacheFull, lacks_frames (cache_of old) (edit_needs edit)) ∷ conditions edit d)) (judges.document ∙ sym (kept_document facts old new keeps so))
             ∙ first in
             ap (λ o. option_map_or (λ f. Some (Refused f, m)) o (machine.done_by (commands.Edit edit) m)) judged
 
-        refused_alone : has_no_room (cache_of old) (edit_needs edit) ≡ false → first_refusal (conditions edit new.document) ≡ Some fault → Answers m (Some (commands.Edit edit)) (Refused fault) m
+        refused_alone : lacks_frames (cache_of old) (edit_needs edit) ≡ false → first_refusal (conditions edit new.document) ≡ Some fault → Answers m (Some (commands.Edit edit)) (Refused fault) m
         refused_alone room first = rw (edit-passed edit m judges.unbarred (judges.room ∙ room), judges.document, ← kept_document facts old new keeps so, first) refl
 
         refused_in : (k : Kind) → kind_of edit ≡ k → is_of_no_body k ≡ false
-            → RefusesEdit (IsEnvironmentFault facts old.disk.store new.disk.store) (has_no_room (cache_of old) (edit_needs edit)) edit new.document fault
+            → RefusesEdit (IsEnvironmentFault facts old.disk.store new.disk.store) (lacks_frames (cache_of old) (edit_needs edit)) edit new.document fault
             → Step (failed_since (facts old.disk.store) (facts new.disk.store)) m (Some (commands.Edit edit)) (Refused fault) new_m
         refused_in k kind body refuses = elim refuses as (λ _. Step (failed_since (facts old.disk.store) (facts new.disk.store)) m (Some (commands.Edit edit)) (Refused fault) new_m) [
           | inl lacks ↦ gives_up facts old.disk.store new.disk.store m new_m (commands.Edit edit) fault so lacks judges.same refl (rw (kind, body) refl)
@@ -243,10 +243,10 @@ module _ {S : Type 0} (facts : S → StoreFacts) where
         refused_plain : kind_of edit ≡ Plain → RefusesInMemory edit new.document fault → Step (failed_since (facts old.disk.store) (facts new.disk.store)) m (Some (commands.Edit edit)) (Refused fault) new_m
         refused_plain kind refuses = elim refuses as (λ _. Step (failed_since (facts old.disk.store) (facts new.disk.store)) m (Some (commands.Edit edit)) (Refused fault) new_m) [
           | inl memory ↦ inr (record { fault = Memory; may = refl; says = ap Refused memory; stays = judges.same })
-          | inr first ↦ inl (rw judges.same (refused_alone (ap (has_no_room (cache_of old)) (plain_needs edit kind)) first))
+          | inr first ↦ inl (rw judges.same (refused_alone (ap (lacks_frames (cache_of old)) (plain_needs edit kind)) first))
         ]
 
-        by_kind : (k : Kind) → kind_of edit ≡ k → RefusesEdit (IsEnvironmentFault facts old.disk.store new.disk.store) (has_no_room (cache_of old) (edit_needs edit)) edit new.document fault
+        by_kind : (k : Kind) → kind_of edit ≡ k → RefusesEdit (IsEnvironmentFault facts old.disk.store new.disk.store) (lacks_frames (cache_of old) (edit_needs edit)) edit new.document fault
             → (kind_of edit ≡ Plain → RefusesInMemory edit new.document fault) → Step (failed_since (facts old.disk.store) (facts new.disk.store)) m (Some (commands.Edit edit)) (Refused fault) new_m
         by_kind Plain kind refuses plain = refused_plain kind (plain kind)
         by_kind (In b) kind refuses plain = refused_in (In b) kind refl refuses
@@ -254,7 +254,7 @@ module _ {S : Type 0} (facts : S → StoreFacts) where
         by_kind Freed kind refuses plain = refused_in Freed kind refl refuses
         by_kind Group kind refuses plain = refused_in Group kind refl refuses
 
-      pub edit_refused : (IsTrue (facts old.disk.store).honest → RefusesEdit (IsEnvironmentFault facts old.disk.store new.disk.store) (has_no_room (cache_of old) (edit_needs edit)) edit new.document fault)
+      pub edit_refused : (IsTrue (facts old.disk.store).honest → RefusesEdit (IsEnvironmentFault facts old.disk.store new.disk.store) (lacks_frames (cache_of old) (edit_needs edit)) edit new.document fault)
           → (kind_of edit ≡ Plain → RefusesInMemory edit new.document fault) → IsStep facts old new (commands.Edit edit) (Refused fault)
       edit_refused refuses plain = λ exact. (
         kept_exact facts old new keeps exact,

@@ -23,7 +23,7 @@ use Rattle.vm_blocks.specs.declared.change.PartChange.TheVariants as parts
 use Rattle.vm_blocks.proofs.ChangeLaws.{flip_twice}
 use Rattle.vm_blocks.proofs.ManyBlocks.{All-from_map, taken_gone, in_and_out, out_and_in}
 use Rattle.vm_blocks.proofs.Preparing.{live_there}
-use Rattle.undo_log.specs.Logging.{after_all, after_entry, all_changes, changes_in, turned_over}
+use Rattle.undo_log.specs.Logging.{after_all, after_entry, all_changes, changes_in, reversed_entry}
 use Rattle.undo_log.specs.Sessions.{opposite, CanApplyBothByHandle}
 use Rattle.undo_log.specs.declared.entry.LogEntry.{LogEntry}
 use Rattle.undo_log.specs.declared.entry.LogEntry.TheVariants as entries
@@ -356,6 +356,6 @@ entry_listed direction (entries.One c) others d listed = (listed.0, tt)
 entry_listed direction (entries.Group cs) others d listed = listed_front direction cs (all_changes others) d listed
 
 pub moved_listed : (honest : Bool) (direction : Direction) (d new : Document) (e : LogEntry) (from to : List LogEntry) → IsFileDocument honest d → Alike (after_entry direction e d) new
-    → CanApplyBothByHandle direction d (all_changes (e ∷ from)) (all_changes to) → CanApplyBothByHandle direction new (all_changes from) (all_changes (turned_over e ∷ to))
+    → CanApplyBothByHandle direction d (all_changes (e ∷ from)) (all_changes to) → CanApplyBothByHandle direction new (all_changes from) (all_changes (reversed_entry e ∷ to))
 moved_listed honest direction d new (entries.One c) from to known same are = moved_known direction d new c (all_changes from) (all_changes to) (listed_known honest d known) same are
 moved_listed honest direction d new (entries.Group cs) from to known same are = moved_all_listed direction d new cs (all_changes from) (all_changes to) (listed_known honest d known) same are

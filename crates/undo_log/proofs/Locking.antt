@@ -20,7 +20,7 @@ use Rattle.geos_model.proofs.HeapEdits.{get-put_same, get-put_other, get-taken_s
 use Rattle.vm_store.specs.Facts.{StoreFacts}
 use Rattle.vm_blocks.specs.State.{CacheState, is_resident, locks_of}
 use Rattle.vm_blocks.proofs.OrderOfUse.{fewer_locked, locked_there}
-use Rattle.vm_blocks.specs.Keeping.{KeepsBlocks, IsEnvironmentFault, is_shut_out}
+use Rattle.vm_blocks.specs.Keeping.{KeepsBlocks, IsEnvironmentFault, has_no_frame_for}
 use Rattle.vm_blocks.specs.Locking.{CantLock, GainsLock, HasNoLock, LosesLock}
 use Rattle.vm_blocks.proofs.KeepingLaws.{shut-unlocked}
 use Rattle.undo_log.specs.Logging.{Log}
@@ -34,7 +34,7 @@ use Rattle.undo_log.proofs.Locks.{as_locked, is_locked-is, is_shut_out-is, lock_
 record CanLock {S : Type 0} (s : SessionState S) (b : ℕ) : Type 0 where
   live : is_live s.document b ≡ true
   few : (locks_of s.resident b == most_locks) ≡ false
-  place : is_shut_out (cache_of s) b ≡ false
+  place : has_no_frame_for (cache_of s) b ≡ false
 
 -- which is so where it was accepted
 can_lock : {S : Type 0} (s : SessionState S) (b : ℕ) → ((fault : Fault) → CantLock (cache_of s) b fault → ⊥) → CanLock s b
@@ -43,7 +43,7 @@ can_lock s b none = elim (cases_Bool (is_live s.document b)) as (λ _. CanLock s
   | inl live ↦ record {
     live = live;
     few = ne_eqb (locks_of s.resident b) most_locks (λ all. none LockLimit (inr (inl (refl, live, all))));
-    place = elim (cases_Bool (is_shut_out (cache_of s) b)) as (λ _. is_shut_out (cache_of s) b ≡ false) [
+    place = elim (cases_Bool (has_no_frame_for (cache_of s) b)) as (λ _. has_no_frame_for (cache_of s) b ≡ false) [
       | inl shut ↦ absurd (none CacheFull (inr (inr (live, (refl, shut)))))
       | inr place ↦ place
     ];

@@ -13,13 +13,13 @@ use Rattle.geos_model.specs.Machine.{Needs, NoBody, OneBody, ManyBodies, is_barr
 use Rattle.geos_model.specs.declared.command.Edit.{Edit}
 use Rattle.geos_model.specs.declared.command.Edit.TheVariants as edits
 use Rattle.geos_model.proofs.HeapEdits.{get-put_same, get-put_other, get-taken_same, get-taken_other}
-use Rattle.vm_blocks.specs.State.{ResidentBlock, is_locked, locks_of, locked_count, KeepsLocks}
+use Rattle.vm_blocks.specs.State.{ResidentBlock, is_block_locked, locks_of, locked_count, KeepsLocks}
 use Rattle.vm_blocks.proofs.Locks.{none_locked}
-use Rattle.vm_blocks.specs.Keeping.{is_full, is_shut_out}
+use Rattle.vm_blocks.specs.Keeping.{is_full, has_no_frame_for}
 use Rattle.vm_blocks.proofs.KeepingLaws.{full-is, shut-is}
-use Rattle.doc_edits.specs.Room.{has_no_room}
+use Rattle.doc_edits.specs.Room.{lacks_frames}
 use Rattle.undo_log.specs.Locking.{bars}
-use Rattle.undo_log.specs.Sessions.{SessionState, cache_of, has_locks, locks_in, machine_of}
+use Rattle.undo_log.specs.Sessions.{SessionState, cache_of, has_locked_blocks, locks_in, machine_of}
 
 -- a count as a map has it, which has none of 0
 abbrev pub as_locked : ℕ → Option ℕ
@@ -34,17 +34,18 @@ is_not true is = refl
 is_not false wrong = absurd (cc wrong)
 
 -- the first seat of a list, of which the handle is
-get_same : (m : FinMap nat_cmp ℕ) (s : ResidentBlock) (h : ℕ) → h ≡ s.0 → get (if is_locked s then insert m s.0 s.1 else remove m s.0) h ≡ as_locked s.1
-get_same m s h at = elim (cases_Bool (is_locked s)) as (λ _. get (if is_locked s then insert m s.0 s.1 else remove m s.0) h ≡ as_locked s.1) [
+get_same : (m : FinMap nat_cmp ℕ) (s : ResidentBlock) (h : ℕ) → h ≡ s.0 → get (if is_block_locked s then insert m s.0 s.1 else remove m s.0) h ≡ as_locked s.1
+get_same m s h at = elim (cases_Bool (is_block_locked s)) as (λ _. get (if is_block_locked s then insert m s.0 s.1 else remove m s.0) h ≡ as_locked s.1) [
   | inl locked ↦ ap (λ b. get (if b then insert m s.0 s.1 else remove m s.0) h) locked ∙ get-put_same m s.0 s.1 h at ∙ sym (cond-false _ _ _ (isnt (s.1 == 0) locked))
   | inr free ↦ ap (λ b. get (if b then insert m s.0 s.1 else remove m s.0) h) free ∙ get-taken_same m s.0 h at ∙ sym (cond-true _ _ _ (is_not (s.1 == 0) free))
 ]
 
-get_other : (m : FinMap nat_cmp ℕ) (s : ResidentBlock) (h : ℕ) → h ≢ s.0 → get (if is_locked s then insert m s.0 s.1 else remove m s.0) h ≡ get m h
-get_other m s h other = elim (is_locked s) as (λ b. get (if b then insert m s.0 s.1 else remove m s.0) h ≡ get m h) [
-  | true ↦ get-put_other m s.0 s.1 h other
-  | false ↦ get-taken_other m s.0 h other
-]
+get_other : (m : FinMap nat_cmp ℕ) (s : ResidentBlock) (h : ℕ) → h ≢ s.0 → get (if is_block_locked s then insert m s.0 s.1 else remove m s.0) h ≡ get m h
+get_other m s h other =
+    elim (is_block_locked s) as (λ b. get (if b then insert m s.0 s.1 else remove m s.0) h ≡ get m h) [
+      | true ↦ get-put_other m s.0 s.1 h other
+      | false ↦ get-taken_other m s.0 h other
+    ]
 
 pub get-locks : (ss : List ResidentBlock) (h : ℕ) → get (locks_in ss) h ≡ as_locked (locks_of ss h)
 get-locks [] h = get-empty nat_cmp h
@@ -76,8 +77,8 @@ absent x (s ∷ ss) none = (elim (nat_eq x s.0) as (λ b. b || list_any (λ y. x
   | false ↦ λ more. absent x ss more
 ]) none
 
-counts : (s : ResidentBlock) (ss : List ResidentBlock) → locked_count (s ∷ ss) ≡ cond (is_locked s) 1 0 + locked_count ss
-counts s ss = sum_by-cons (λ (x : ResidentBlock). cond (is_locked x) 1 0) s ss
+counts : (s : ResidentBlock) (ss : List ResidentBlock) → locked_count (s ∷ ss) ≡ cond (is_block_locked s) 1 0 + locked_count ss
+counts s ss = sum_by-cons (λ (x : ResidentBlock). cond (is_block_locked x) 1 0) s ss
 
 pub len-locks : (ss : List ResidentBlock) → all_distinct (map (λ s. s.0) ss) ≡ true → len (locks_in ss) ≡ locked_count ss
 len-locks [] distinct = len-empty nat_cmp ℕ
@@ -87,7 +88,7 @@ len-locks (s ∷ ss) distinct =
     let out : contains_key (locks_in ss) s.0 ≡ false = contains-locks ss s.0 ∙ ap not (eq-eqb (locks_of ss s.0) 0 gone) in
     let rest = len-locks ss parts.1 in
     let sum = counts s ss in
-    (elim (is_locked s) as (λ b. locked_count (s ∷ ss) ≡ cond b 1 0 + locked_count ss → len (if b then insert (locks_in ss) s.0 s.1 else remove (locks_in ss) s.0) ≡ locked_count (s ∷ ss)) [
+    (elim (is_block_locked s) as (λ b. locked_count (s ∷ ss) ≡ cond b 1 0 + locked_count ss → len (if b then insert (locks_in ss) s.0 s.1 else remove (locks_in ss) s.0) ≡ locked_count (s ∷ ss)) [
       | true ↦ λ all. let long : len (insert (locks_in ss) s.0 s.1) ≡ len (locks_in ss) + 1 = len-insert nat_cmp_total (locks_in ss) s.0 s.1 ∙ cond-false _ _ _ out in omega (arith, long, rest, all)
       | false ↦ λ all. let long : len (remove (locks_in ss) s.0) ≡ len (locks_in ss) = len-remove nat_cmp_total (locks_in ss) s.0 ∙ cond-false _ _ _ out in omega (arith, long, rest, all)
     ]) sum
@@ -116,13 +117,13 @@ module _ {S : Type 0} (s : SessionState S) where
   lock_count-is target b = count-locks s.resident b
 
   module _ (distinct : all_distinct (map (λ x. x.0) s.resident) ≡ true) where
-    pub has_locks-is : has_locks s ≡ nat_lt 0 (locked_count s.resident)
+    pub has_locks-is : has_locked_blocks s ≡ nat_lt 0 (locked_count s.resident)
     has_locks-is = ap (nat_lt 0) (len-locks s.resident distinct)
 
     pub all_locked-is : (target : Bool) → machine.all_locked (machine_of target s) ≡ is_full (cache_of s)
     all_locked-is target = ap (nat_le s.frames) (len-locks s.resident distinct) ∙ sym (full-is (cache_of s))
 
-    pub is_shut_out-is : (target : Bool) (b : ℕ) → machine.is_shut_out (machine_of target s) b ≡ is_shut_out (cache_of s) b
+    pub is_shut_out-is : (target : Bool) (b : ℕ) → machine.is_shut_out (machine_of target s) b ≡ has_no_frame_for (cache_of s) b
     is_shut_out-is target b =
         ap (λ t. t && not (machine.is_locked (machine_of target s) b)) (all_locked-is target) ∙ ap (λ t. is_full (cache_of s) && t) (ap not (is_locked-is target b) ∙ not_not (locks_of s.resident b == 0))
         ∙ sym (shut-is (cache_of s) b)
@@ -131,7 +132,7 @@ module _ {S : Type 0} (s : SessionState S) where
         not_not true = refl
         not_not false = refl
 
-    pub has_no_room-is : (target : Bool) (needs : Needs) → machine.has_no_room (machine_of target s) needs ≡ has_no_room (cache_of s) needs
+    pub has_no_room-is : (target : Bool) (needs : Needs) → machine.has_no_room (machine_of target s) needs ≡ lacks_frames (cache_of s) needs
     has_no_room-is target NoBody = refl
     has_no_room-is target (OneBody b) = is_shut_out-is target b
     has_no_room-is target ManyBodies = all_locked-is target

@@ -30,8 +30,8 @@ use Rattle.vm_store.specs.Facts.{StoreFacts}
 use Rattle.vm_blocks.specs.State.{CacheState}
 use Rattle.vm_blocks.specs.Keeping.{KeepsBlocks, IsEnvironmentFault}
 use Rattle.vm_blocks.proofs.KeepingLaws.{honest-steady}
-use Rattle.doc_edits.specs.LookUps.{LooksUp, Sees, SeesAlongChain, Shows, ShowsOrRefuses}
-use Rattle.doc_edits.specs.Room.{has_no_room}
+use Rattle.doc_edits.specs.LookUps.{LooksUp, AnswersFromBlocks, AnswersChainFromBlocks, Shows, ShowsOrRefuses}
+use Rattle.doc_edits.specs.Room.{lacks_frames}
 use Rattle.doc_edits.specs.declared.look_ups.Lists.{Lists}
 use Rattle.doc_edits.specs.declared.look_ups.Prepared.{Prepared}
 use Rattle.doc_edits.proofs.Forms.{looks_form}
@@ -62,38 +62,38 @@ session_with blocks log = record { disk = blocks.disk; document = blocks.documen
 
 module _ {S : Type 0} (facts : S → StoreFacts) (old new : SessionState S) (keeps : KeepsSession facts old new) (distinct : all_distinct (map (λ s. s.0) old.resident) ≡ true) where
   -- What is answered of the document, the machine answers.
-  pub look_up_step : (c : Command) (reply : Reply) → IsLookUp c → (IsTrue (facts old.disk.store).honest → LooksUp (IsEnvironmentFault facts old.disk.store new.disk.store) (has_no_room (cache_of old) (look_up_needs c)) c new.document reply) → IsStep facts old new c reply
+  pub look_up_step : (c : Command) (reply : Reply) → IsLookUp c → (IsTrue (facts old.disk.store).honest → LooksUp (IsEnvironmentFault facts old.disk.store new.disk.store) (lacks_frames (cache_of old) (look_up_needs c)) c new.document reply) → IsStep facts old new c reply
   look_up_step c reply is looks = λ exact.
       let so = exact.honest in
-      let now : LooksUp (IsEnvironmentFault facts old.disk.store new.disk.store) (has_no_room (cache_of old) (look_up_needs c)) c old.document reply = subst (λ (d : Document). LooksUp (IsEnvironmentFault facts old.disk.store new.disk.store) (has_no_room (cache_of old) (look_up_needs c)) c d reply) (kept_document facts old new keeps so) (looks so) in (
+      let now : LooksUp (IsEnvironmentFault facts old.disk.store new.disk.store) (lacks_frames (cache_of old) (look_up_needs c)) c old.document reply = subst (λ (d : Document). LooksUp (IsEnvironmentFault facts old.disk.store new.disk.store) (lacks_frames (cache_of old) (look_up_needs c)) c d reply) (kept_document facts old new keeps so) (looks so) in (
         kept_exact facts old new keeps exact,
         λ target.
             let m = machine_of target old in
             let same : machine_of target new ≡ m = kept_machine facts old new keeps target exact in
             elim now as (λ _. Step (failed_since (facts old.disk.store) (facts new.disk.store)) m (Some c) reply (machine_of target new)) [
               | inl lack ↦ rw lack.2 (gives_up facts old.disk.store new.disk.store m (machine_of target new) c lack.0 so lack.1 same (is.takes m) (is.calls m))
-              | inr first ↦ inl (rw (same, is.refuses m, is.answers m, has_no_room-is old distinct target (look_up_needs c)) (stays_with m (first_refusal ((CacheFull, has_no_room (cache_of old) (look_up_needs c)) ∷ look_up_conditions c m.document)) (look_up c m.document) reply first))
+              | inr first ↦ inl (rw (same, is.refuses m, is.answers m, has_no_room-is old distinct target (look_up_needs c)) (stays_with m (first_refusal ((CacheFull, lacks_frames (cache_of old) (look_up_needs c)) ∷ look_up_conditions c m.document)) (look_up c m.document) reply first))
             ],
       )
 
-  pub looked : (c : Command) (reply : Reply) → IsLookUp c → Sees facts (cache_of old) (cache_of new) c reply → AnswersLookUp facts old new c reply
+  pub looked : (c : Command) (reply : Reply) → IsLookUp c → AnswersFromBlocks facts (cache_of old) (cache_of new) c reply → AnswersLookUp facts old new c reply
   looked c reply is sees = record { keeps = keeps; step = look_up_step c reply is (λ _. sees.value); sees = sees }
 
-  pub along : (c : Command) (reply : Reply) → IsLookUp c → look_up_needs c ≡ ManyBodies → SeesAlongChain facts (cache_of old) (cache_of new) c reply → AnswersAlongChain facts old new c reply
+  pub along : (c : Command) (reply : Reply) → IsLookUp c → look_up_needs c ≡ ManyBodies → AnswersChainFromBlocks facts (cache_of old) (cache_of new) c reply → AnswersAlongChain facts old new c reply
   along c reply is many sees = record {
     keeps = keeps;
-    step = look_up_step c reply is (λ so. subst (λ (needs : Needs). LooksUp (IsEnvironmentFault facts old.disk.store new.disk.store) (has_no_room (cache_of old) needs) c new.document reply) (sym many) (sees.value (honest-steady facts old.disk.store so)));
+    step = look_up_step c reply is (λ so. subst (λ (needs : Needs). LooksUp (IsEnvironmentFault facts old.disk.store new.disk.store) (lacks_frames (cache_of old) needs) c new.document reply) (sym many) (sees.value (honest-steady facts old.disk.store so)));
     sees = sees;
   }
 
 -- So it is of a session that is seen to be one of these blocks.
 module _ {S : Type 0} (facts : S → StoreFacts) (old new : CacheState S) (log : Log) (keeps : KeepsBlocks facts old new) (s : SessionState S) (is : session_with old log ≡ s) where
   module _ (distinct : all_distinct (map (λ s. s.0) old.resident) ≡ true) (c : Command) (reply : Reply) (asks : IsLookUp c) where
-    pub looked_at : Sees facts old new c reply → AnswersLookUp facts s (session_with new log) c reply
+    pub looked_at : AnswersFromBlocks facts old new c reply → AnswersLookUp facts s (session_with new log) c reply
     looked_at sees =
         subst (λ (x : SessionState S). AnswersLookUp facts x (session_with new log) c reply) is (looked facts (session_with old log) (session_with new log) (record { blocks = keeps; log = refl }) distinct c reply asks sees)
 
-    pub looked_along : look_up_needs c ≡ ManyBodies → SeesAlongChain facts old new c reply → AnswersAlongChain facts s (session_with new log) c reply
+    pub looked_along : look_up_needs c ≡ ManyBodies → AnswersChainFromBlocks facts old new c reply → AnswersAlongChain facts s (session_with new log) c reply
     looked_along many sees =
         subst (λ (x : SessionState S). AnswersAlongChain facts x (session_with new log) c reply) is (along facts (session_with old log) (session_with new log) (record { blocks = keeps; log = refl }) distinct c reply asks many sees)
 
@@ -159,17 +159,17 @@ chain_is (chain_look_ups.Equal b other) = (record { takes = λ _. refl; calls = 
 -- So it answers what was prepared.
 module _ {S : Type 0} (facts : S → StoreFacts) (old new : CacheState S) (log : Log) (s : SessionState S) (is : session_with old log ≡ s) (distinct : all_distinct (map (λ s. s.0) old.resident) ≡ true)
     (lists : Lists) (r : Result Prepared Fault) (reply : Reply) (shows : ShowsOrRefuses r new lists reply) where
-  module _ (b : VmHandle) (asked : BlockLookUp) (sees : (reply : Reply) → ShowsOrRefuses r new lists reply → Sees facts old new (block_look_up b asked) reply) where
+  module _ (b : VmHandle) (asked : BlockLookUp) (sees : (reply : Reply) → ShowsOrRefuses r new lists reply → AnswersFromBlocks facts old new (block_look_up b asked) reply) where
     pub in_block_keeps : KeepsBlocks facts old new
     in_block_keeps = (sees reply shows).keeps
 
     pub in_block_form : has_form reply (form_asked (block_look_up b asked)) ≡ true
-    in_block_form = looks_form (IsEnvironmentFault facts old.disk.store new.disk.store) (has_no_room old (look_up_needs (block_look_up b asked))) (block_look_up b asked) new.document reply (sees reply shows).value
+    in_block_form = looks_form (IsEnvironmentFault facts old.disk.store new.disk.store) (lacks_frames old (look_up_needs (block_look_up b asked))) (block_look_up b asked) new.document reply (sees reply shows).value
 
     pub in_block_looked : AnswersLookUp facts s (session_with new log) (block_look_up b asked) reply
     in_block_looked = looked_at facts old new log in_block_keeps s is distinct (block_look_up b asked) reply (block_is b asked) (sees reply shows)
 
-  module _ (asked : ChainLookUp) (sees : (reply : Reply) → ShowsOrRefuses r new lists reply → SeesAlongChain facts old new (chain_look_up asked) reply × (has_form reply (form_asked (chain_look_up asked)) ≡ true)) where
+  module _ (asked : ChainLookUp) (sees : (reply : Reply) → ShowsOrRefuses r new lists reply → AnswersChainFromBlocks facts old new (chain_look_up asked) reply × (has_form reply (form_asked (chain_look_up asked)) ≡ true)) where
     pub along_chain_keeps : KeepsBlocks facts old new
     along_chain_keeps = (sees reply shows).0.keeps
 

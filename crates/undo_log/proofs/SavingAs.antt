@@ -20,7 +20,7 @@ use Rattle.vm_blocks.specs.SavingAs.{IsSavedAs, IsNotSavedAs}
 use Rattle.vm_blocks.specs.State.{CacheState, as_file}
 use Rattle.undo_log.specs.Committing.{IsBusy, IsSaveAsRefused}
 use Rattle.undo_log.specs.Logging.{Log, group_of}
-use Rattle.undo_log.specs.Sessions.{SessionState, file_of, has_locks, locks_in, machine_of, failed_since, IsExact}
+use Rattle.undo_log.specs.Sessions.{SessionState, file_of, has_locked_blocks, locks_in, machine_of, failed_since, IsExact}
 use Rattle.undo_log.specs.Turning.{busy_fault}
 use Rattle.undo_log.proofs.Keeping.{Holds, drifted_listed, machine_is, none_marked, same_exact}
 use Rattle.undo_log.proofs.Turns.{at_rest, group_open}
@@ -46,7 +46,7 @@ pub record Keeps {S : Type 0} (old new : SessionState S) : Type 0 where
   pub resident : new.resident ≡ old.resident
 
 module _ {S : Type 0} (facts : S → StoreFacts) (old new : SessionState S) (keeps : Keeps old new) (free : busy_fault old ≡ None) where
-  none : has_locks old ≡ false
+  none : has_locked_blocks old ≡ false
   none = (at_rest old free).1
 
   outside : is_some (option_map (group_of old.document) old.log.group) ≡ false
@@ -62,7 +62,7 @@ module _ {S : Type 0} (facts : S → StoreFacts) (old new : SessionState S) (kee
   refusal fault failed same worn file damaged is = elim is as (λ _. Step failed (machine_of true old) (Some commands.SaveAs) (Refused fault) (machine_of true new)) [
     | inl (inl (inl memory)) ↦ inr (record { fault = Memory; may = refl; says = rw memory refl; stays = same })
     | inl (inl (inr failing)) ↦ inr (record { fault = File; may = rw (file failing) refl; says = rw failing refl; stays = same })
-    | inl (inr last) ↦ inl (rw (last, same, is_worn (is_some (option_map (group_of old.document) old.log.group)) (has_locks old) (old.disk.sequence == last_sequence) outside none (eq-eqb old.disk.sequence last_sequence (worn last))) refl)
+    | inl (inr last) ↦ inl (rw (last, same, is_worn (is_some (option_map (group_of old.document) old.log.group)) (has_locked_blocks old) (old.disk.sequence == last_sequence) outside none (eq-eqb old.disk.sequence last_sequence (worn last))) refl)
     | inr other ↦ absurd (damaged other)
   ]
 
@@ -130,9 +130,9 @@ module _ {S : Type 0} (facts : S → StoreFacts) (s : SessionState S) (fault : F
   pub held_step : (failed : Bool) → Step failed (machine_of true s) (Some commands.SaveAs) (Refused fault) (machine_of true s)
   held_step failed =
       let worn = s.disk.sequence == machine.last_sequence in
-      let first : first_refusal ((NoTarget, false) ∷ (Worn, worn) ∷ (GroupOpen, is_some (option_map (group_of s.document) s.log.group)) ∷ (Locked, has_locks s) ∷ []) ≡ Some fault =
-      ap (λ (is_open : Bool). first_refusal ((NoTarget, false) ∷ (Worn, worn) ∷ (GroupOpen, is_open) ∷ (Locked, has_locks s) ∷ [])) (group_open (group_of s.document) s.log.group)
-      ∙ held_first (is_some s.log.group) (has_locks s) fault held worn in
+      let first : first_refusal ((NoTarget, false) ∷ (Worn, worn) ∷ (GroupOpen, is_some (option_map (group_of s.document) s.log.group)) ∷ (Locked, has_locked_blocks s) ∷ []) ≡ Some fault =
+      ap (λ (is_open : Bool). first_refusal ((NoTarget, false) ∷ (Worn, worn) ∷ (GroupOpen, is_open) ∷ (Locked, has_locked_blocks s) ∷ [])) (group_open (group_of s.document) s.log.group)
+      ∙ held_first (is_some s.log.group) (has_locked_blocks s) fault held worn in
       inl (rw first refl)
 
   pub not_moved : (target : S) → IsCrashConsistent facts s.disk → IsSaveAsRefused facts target target s s fault
@@ -144,4 +144,4 @@ module _ {S : Type 0} (facts : S → StoreFacts) (s : SessionState S) (fault : F
   }
 
   pub not_worn : (fault ≡ Worn) ↔ ((busy_fault s ≡ None) × (s.disk.sequence ≡ last_sequence))
-  not_worn = (λ is. absurd (never_worn (is_some s.log.group) (has_locks s) fault held is), λ both. let no : None ≡ Some fault = sym both.0 ∙ held in absurd (cc no))
+  not_worn = (λ is. absurd (never_worn (is_some s.log.group) (has_locked_blocks s) fault held is), λ both. let no : None ≡ Some fault = sym both.0 ∙ held in absurd (cc no))

@@ -8,8 +8,8 @@ use Rattle.vm_blocks.specs.declared.change.Change.{Change}
 use Rattle.chunk_edits.specs.declared.direction.Direction.{Direction}
 use Rattle.chunk_edits.specs.declared.direction.Direction.TheVariants.{Forwards, Backwards}
 use Rattle.vm_blocks.proofs.ChangeLaws.{change_back, flip_twice}
-use Rattle.undo_log.specs.Logging.{Log, after_all, after_entry, all_changes, before, open_changes, step, steps, to_redo, to_undo, turned_over}
-use Rattle.undo_log.specs.Sessions.{opposite, CanApplyAll, AreSteps}
+use Rattle.undo_log.specs.Logging.{Log, after_all, after_entry, all_changes, before, open_changes, step, steps, to_redo, to_undo, reversed_entry}
+use Rattle.undo_log.specs.Sessions.{opposite, CanApplyAllDirected, AreSteps}
 use Rattle.undo_log.specs.declared.entry.LogEntry.{LogEntry}
 use Rattle.undo_log.specs.declared.entry.LogEntry.TheVariants as entries
 use Rattle.undo_log.proofs.Lists.{reverse_onto}
@@ -37,7 +37,7 @@ after_all-append direction [] others d = refl
 after_all-append direction (c ∷ cs) others d = after_all-append direction cs others (after_directed direction c d)
 
 -- what can be taken of the first ones, and of those behind them
-pub can_split : (direction : Direction) (cs others : List Change) (d : Document) → CanApplyAll direction (cs ++ others) d → CanApplyAll direction cs d × CanApplyAll direction others (after_all direction cs d)
+pub can_split : (direction : Direction) (cs others : List Change) (d : Document) → CanApplyAllDirected direction (cs ++ others) d → CanApplyAllDirected direction cs d × CanApplyAllDirected direction others (after_all direction cs d)
 can_split direction [] others d can = (tt, can)
 can_split direction (c ∷ cs) others d can = let rest = can_split direction cs others (after_directed direction c d) can.1 in ((can.0, rest.0), rest.1)
 
@@ -46,7 +46,7 @@ pub record AreBack (direction : Direction) (cs : List Change) (d : Document) : T
   pub valid : IsValid (after_all direction cs d)
   pub gives : after_all (opposite direction) (reverse cs) (after_all direction cs d) ≡ d
 
-pub all_back : (direction : Direction) (cs : List Change) (d : Document) → IsValid d → CanApplyAll direction cs d → AreBack direction cs d
+pub all_back : (direction : Direction) (cs : List Change) (d : Document) → IsValid d → CanApplyAllDirected direction cs d → AreBack direction cs d
 all_back direction [] d valid can = record { valid = valid; gives = refl }
 all_back direction (c ∷ cs) d valid can =
     let first = goes_back direction c d valid can.0 in
@@ -61,7 +61,7 @@ all_back direction (c ∷ cs) d valid can =
     }
 
 -- each document along the entries is valid
-steps-valid : (direction : Direction) (es : List LogEntry) (d : Document) → IsValid d → CanApplyAll direction (all_changes es) d → AreValid (steps direction es d)
+steps-valid : (direction : Direction) (es : List LogEntry) (d : Document) → IsValid d → CanApplyAllDirected direction (all_changes es) d → AreValid (steps direction es d)
 steps-valid direction [] d valid can = valid-none
 steps-valid direction (entries.One c ∷ es) d valid can =
     let back = goes_back direction c d valid can.0 in
@@ -73,7 +73,7 @@ steps-valid direction (entries.Group cs ∷ es) d valid can =
 
 -- The steps of a log: the group that is open, and then those of its lists.
 module _ (d : Document) (log : Log) (are : AreSteps Backwards d (to_undo log) (to_redo log)) where
-  open_parts : CanApplyAll Backwards (open_changes log.group) d × CanApplyAll Backwards (all_changes log.undo) (before log.group d)
+  open_parts : CanApplyAllDirected Backwards (open_changes log.group) d × CanApplyAllDirected Backwards (all_changes log.undo) (before log.group d)
   open_parts = can_split Backwards (open_changes log.group) (all_changes log.undo) d are.first
 
   pub before-valid : IsValid (before log.group d)
@@ -91,7 +91,7 @@ edited_steps d undo redo c are applies =
     let back = goes_back Forwards c d are.valid applies in
     record {
       valid = back.valid;
-      first = (back.applies, subst (CanApplyAll Backwards undo) (sym back.gives) are.first);
+      first = (back.applies, subst (CanApplyAllDirected Backwards undo) (sym back.gives) are.first);
       second = tt;
     }
 
@@ -102,7 +102,7 @@ moved_steps direction d from to c are =
     record {
       valid = back.valid;
       first = are.first.1;
-      second = (back.applies, subst (CanApplyAll (opposite direction) to) (sym back.gives) are.second);
+      second = (back.applies, subst (CanApplyAllDirected (opposite direction) to) (sym back.gives) are.second);
     }
 
 -- the newest changes of one list are carried out, and are the newest of the other
@@ -114,12 +114,12 @@ moved_all direction d (c ∷ cs) from to are =
 
 -- so it is of an entry
 pub moved_entry : (direction : Direction) (d : Document) (e : LogEntry) (from to : List LogEntry) → AreSteps direction d (all_changes (e ∷ from)) (all_changes to)
-    → AreSteps direction (after_entry direction e d) (all_changes from) (all_changes (turned_over e ∷ to))
+    → AreSteps direction (after_entry direction e d) (all_changes from) (all_changes (reversed_entry e ∷ to))
 moved_entry direction d (entries.One c) from to are = moved_steps direction d (all_changes from) (all_changes to) c are
 moved_entry direction d (entries.Group cs) from to are = moved_all direction d cs (all_changes from) (all_changes to) are
 
 -- and it can be taken back
-pub entry_back : (direction : Direction) (d : Document) (e : LogEntry) (others : List LogEntry) → IsValid d → CanApplyAll direction (all_changes (e ∷ others)) d
-    → after_entry (opposite direction) (turned_over e) (after_entry direction e d) ≡ d
+pub entry_back : (direction : Direction) (d : Document) (e : LogEntry) (others : List LogEntry) → IsValid d → CanApplyAllDirected direction (all_changes (e ∷ others)) d
+    → after_entry (opposite direction) (reversed_entry e) (after_entry direction e d) ≡ d
 entry_back direction d (entries.One c) others valid can = (goes_back direction c d valid can.0).gives
 entry_back direction d (entries.Group cs) others valid can = (all_back direction cs d valid (can_split direction cs (all_changes others) d can).0).gives

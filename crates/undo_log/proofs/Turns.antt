@@ -27,9 +27,9 @@ use Rattle.chunk_edits.specs.declared.direction.Direction.TheVariants.{Forwards,
 use Rattle.vm_blocks.proofs.KeepingLaws.{honest-steady, open-shut}
 use Rattle.vm_blocks.proofs.Preparing.{applies_takes}
 use Rattle.doc_edits.specs.Planning.{kind_of_change}
-use Rattle.undo_log.specs.Logging.{AreExclusive, IsHead, Log, after_all, after_entry, all_changes, before, group_of, kind_of_entry, next_entries, next_moved, open_changes, steps, to_redo, to_undo, turned_over}
-use Rattle.undo_log.specs.Sessions.{SessionState, cache_of, has_locks, machine_of, opposite, CanApplyAll, AreSteps, IsExact, IsStep, KeepsSession}
-use Rattle.undo_log.specs.Turning.{IsEntryApplied, MovesEntry, CanApplyEntry, CantApply, CantApplyEntry, CantApplyLog, IsSure, IsSureKind, abandon_fault, newest_made, nothing_to_turn, turn_command, busy_fault}
+use Rattle.undo_log.specs.Logging.{AreExclusive, IsHead, Log, after_all, after_entry, all_changes, before, group_of, kind_of_entry, next_entries, next_moved, open_changes, steps, to_redo, to_undo, reversed_entry}
+use Rattle.undo_log.specs.Sessions.{SessionState, cache_of, has_locked_blocks, machine_of, opposite, CanApplyAllDirected, AreSteps, IsExact, IsStep, KeepsSession}
+use Rattle.undo_log.specs.Turning.{IsEntryApplied, MovesEntry, CanApplyEntry, CantApply, CantApplyEntry, CantApplyLog, IsSure, IsSureKind, abandon_fault, newest_made, no_step_fault, step_command, busy_fault}
 use Rattle.undo_log.specs.declared.entry.LogEntry.{LogEntry}
 use Rattle.undo_log.specs.declared.entry.LogEntry.TheVariants as entries
 use Rattle.undo_log.proofs.Answers.{abandon_moved, some_steps, turn_answers}
@@ -59,12 +59,12 @@ none_locked (changes.Attributes b old new) ss none = tt
 none_locked (changes.Map old new) ss none = tt
 
 -- Changes that can be taken one after another are taken by the bodies.
-all_take : (direction : Direction) (cs : List Change) (d : Document) → CanApplyAll direction cs d → AllowAll (map (directed direction) cs) d
+all_take : (direction : Direction) (cs : List Change) (d : Document) → CanApplyAllDirected direction cs d → AllowAll (map (directed direction) cs) d
 all_take direction [] d can = tt
 all_take direction (c ∷ cs) d can = (applies_takes (directed direction c) d can.0, all_take direction cs (after_change (directed direction c) d) can.1)
 
 -- so in the words of blocks
-pub all_apply : (direction : Direction) (cs : List Change) (d : Document) → CanApplyAll direction cs d → preparing.CanApplyAll (map (directed direction) cs) d
+pub all_apply : (direction : Direction) (cs : List Change) (d : Document) → CanApplyAllDirected direction cs d → preparing.CanApplyAll (map (directed direction) cs) d
 all_apply direction [] d can = tt
 all_apply direction (c ∷ cs) d can = (can.0, all_apply direction cs (after_change (directed direction c) d) can.1)
 
@@ -75,8 +75,8 @@ group_open f None = refl
 group_open f (Some x) = refl
 
 -- where nothing is, no group is open and no block is locked
-pub at_rest : {S : Type 0} (s : SessionState S) → busy_fault s ≡ None → (is_some s.log.group ≡ false) × (has_locks s ≡ false)
-at_rest s free = by_parts (is_some s.log.group) (has_locks s) free
+pub at_rest : {S : Type 0} (s : SessionState S) → busy_fault s ≡ None → (is_some s.log.group ≡ false) × (has_locked_blocks s ≡ false)
+at_rest s free = by_parts (is_some s.log.group) (has_locked_blocks s) free
   where
     by_parts : (is_open locked : Bool) → (if is_open then Some GroupOpen else if locked then Some Locked else None) ≡ None → (is_open ≡ false) × (locked ≡ false)
     by_parts true locked is = absurd (cc is)
@@ -107,8 +107,8 @@ some_changes cs (x ∷ xs) is result fault was P none empty = reversed x xs (is 
     reversed x xs same = let long : length (reverse (x ∷ xs)) ≡ 0 = ap length same in let as_long = length-reverse (x ∷ xs) in absurd (omega (arith, long, as_long))
 
 -- where nothing keeps a group from being abandoned, one is open and no block is locked
-pub abandon_free : {S : Type 0} (s : SessionState S) → abandon_fault s ≡ None → (s.log.group ≡ Some (open_changes s.log.group)) × (has_locks s ≡ false)
-abandon_free s free = by_parts s.log.group (has_locks s) free
+pub abandon_free : {S : Type 0} (s : SessionState S) → abandon_fault s ≡ None → (s.log.group ≡ Some (open_changes s.log.group)) × (has_locked_blocks s ≡ false)
+abandon_free s free = by_parts s.log.group (has_locked_blocks s) free
   where
     by_parts : (group : Option (List Change)) (locked : Bool) → (if is_some group then (if locked then Some Locked else None) else Some NoGroup) ≡ None → (group ≡ Some (open_changes group)) × (locked ≡ false)
     by_parts None locked is = absurd (cc is)
@@ -176,16 +176,16 @@ module _ {S : Type 0} (facts : S → StoreFacts) where
   sure_one s Backwards (changes.Attributes b old new) applies sure = (refl, tt, tt)
   sure_one s Backwards (changes.Map old new) applies sure = (refl, tt, tt)
 
-  sure_entry : (s : SessionState S) (direction : Direction) (e : LogEntry) (es : List LogEntry) → (IsExact facts s → CanApplyAll direction (all_changes (e ∷ es)) s.document) → IsSure facts s direction (e ∷ es)
+  sure_entry : (s : SessionState S) (direction : Direction) (e : LogEntry) (es : List LogEntry) → (IsExact facts s → CanApplyAllDirected direction (all_changes (e ∷ es)) s.document) → IsSure facts s direction (e ∷ es)
       → CanApplyEntry direction e (cache_of s)
   sure_entry s direction (entries.One c) es can sure = sure_one s direction c (λ exact. (can exact).0) sure
   sure_entry s direction (entries.Group cs) es can sure = (sure.none_comes_in, sure.in_memory, (can_split direction cs (all_changes es) s.document (can sure.exact)).0)
 
   -- the newest of a list is
-  pub sure_turns : (s : SessionState S) (direction : Direction) (e : LogEntry) (from : List LogEntry) → IsHead e from → (IsExact facts s → CanApplyAll direction (all_changes from) s.document) → IsSure facts s direction from
+  pub sure_turns : (s : SessionState S) (direction : Direction) (e : LogEntry) (from : List LogEntry) → IsHead e from → (IsExact facts s → CanApplyAllDirected direction (all_changes from) s.document) → IsSure facts s direction from
       → CanApplyEntry direction e (cache_of s)
   sure_turns s direction e from first can sure =
-      sure_entry s direction e first.others (λ exact. subst (λ (es : List LogEntry). CanApplyAll direction (all_changes es) s.document) first.are (can exact)) (subst (IsSure facts s direction) first.are sure)
+      sure_entry s direction e first.others (λ exact. subst (λ (es : List LogEntry). CanApplyAllDirected direction (all_changes es) s.document) first.are (can exact)) (subst (IsSure facts s direction) first.are sure)
 
   pub newest_is : (direction : Direction) (e : LogEntry) (from : List LogEntry) (d : Document) → IsHead e from → after_entry direction e d ≡ newest_made direction from d
   newest_is direction e from d first = ap (λ (es : List LogEntry). newest_made direction es d) (sym first.are)
@@ -194,11 +194,11 @@ module _ {S : Type 0} (facts : S → StoreFacts) where
   none_sure s direction from none sure = subst (IsSure facts s direction) none sure
 
   -- What can be taken of an exact session in which no group is open.
-  pub next_can : (s : SessionState S) (direction : Direction) → busy_fault s ≡ None → IsExact facts s → CanApplyAll direction (all_changes (next_entries direction s.log)) s.document
+  pub next_can : (s : SessionState S) (direction : Direction) → busy_fault s ≡ None → IsExact facts s → CanApplyAllDirected direction (all_changes (next_entries direction s.log)) s.document
   next_can s direction free exact = (steps_by direction s.document s.log (none_open s free) exact.steps).first
 
-  pub newest_can : (direction : Direction) (e : LogEntry) (from : List LogEntry) (d : Document) → (first : IsHead e from) → CanApplyAll direction (all_changes from) d → CanApplyAll direction (all_changes (e ∷ first.others)) d
-  newest_can direction e from d first can = subst (λ (es : List LogEntry). CanApplyAll direction (all_changes es) d) first.are can
+  pub newest_can : (direction : Direction) (e : LogEntry) (from : List LogEntry) (d : Document) → (first : IsHead e from) → CanApplyAllDirected direction (all_changes from) d → CanApplyAllDirected direction (all_changes (e ∷ first.others)) d
+  newest_can direction e from d first can = subst (λ (es : List LogEntry). CanApplyAllDirected direction (all_changes es) d) first.are can
 
   -- What can be made isn't refused.
   pub never_refused : (direction : Direction) (e : LogEntry) (old new : CacheState S) (fault : Fault) (result : Result (Unit {0}) Fault) → result ≡ Err fault
@@ -211,7 +211,7 @@ module _ {S : Type 0} (facts : S → StoreFacts) where
 
   module _ (old new : SessionState S) where
     -- Why an entry can't be made, in a session.
-    pub cant_take : (direction : Direction) (fault : Fault) (e : LogEntry) (es : List LogEntry) → (IsExact facts old → CanApplyAll direction (all_changes (e ∷ es)) old.document) → CantApplyEntry facts direction e (cache_of old) (cache_of new) fault
+    pub cant_take : (direction : Direction) (fault : Fault) (e : LogEntry) (es : List LogEntry) → (IsExact facts old → CanApplyAllDirected direction (all_changes (e ∷ es)) old.document) → CantApplyEntry facts direction e (cache_of old) (cache_of new) fault
         → CantApplyLog facts old new fault
     cant_take direction fault (entries.One c) es can unready = elim unready as (λ _. CantApplyLog facts old new fault) [
       | inl lacks ↦ inl lacks
@@ -233,18 +233,18 @@ module _ {S : Type 0} (facts : S → StoreFacts) where
     newest_may direction e es from d is unsure = ap (λ (xs : List LogEntry). newest_takes (turn_takes direction) (steps direction xs d)) is ∙ may_take direction e (cache_of old) unsure
 
     may_turn : (direction : Direction) (e : LogEntry) → IsHead e (next_entries direction old.log) → (CanApplyEntry direction e (cache_of old) → ⊥) → (target : Bool)
-        → (takes_memory (turn_command direction) (machine_of target old) ≡ true) × (calls_store (turn_command direction) (machine_of target old) ≡ true)
+        → (takes_memory (step_command direction) (machine_of target old) ≡ true) × (calls_store (step_command direction) (machine_of target old) ≡ true)
     may_turn Backwards e first unsure target = let takes = newest_may Backwards e first.others old.log.undo (before old.log.group old.document) first.are unsure in (takes, takes)
     may_turn Forwards e first unsure target = let takes = newest_may Forwards e first.others old.log.redo old.document first.are unsure in (takes, takes)
 
     module _ (direction : Direction) (e : LogEntry) (first : IsHead e (next_entries direction old.log)) where
       -- The next entry in a direction isn't made,
-      pub turn_refused : (fault : Fault) → KeepsSession facts old new → (CanApplyEntry direction e (cache_of old) → ⊥) → CantApplyLog facts old new fault → IsStep facts old new (turn_command direction) (Refused fault)
+      pub turn_refused : (fault : Fault) → KeepsSession facts old new → (CanApplyEntry direction e (cache_of old) → ⊥) → CantApplyLog facts old new fault → IsStep facts old new (step_command direction) (Refused fault)
       turn_refused fault keeps unsure why = λ exact. (
         kept_exact facts old new keeps exact,
         λ target.
             let may = may_turn direction e first unsure target in
-            gives_up facts old.disk.store new.disk.store (machine_of target old) (machine_of target new) (turn_command direction) fault exact.honest (lacking fault exact why) (kept_machine facts old new keeps target exact) may.0 may.1,
+            gives_up facts old.disk.store new.disk.store (machine_of target old) (machine_of target new) (step_command direction) fault exact.honest (lacking fault exact why) (kept_machine facts old new keeps target exact) may.0 may.1,
       )
 
       -- or it is.
@@ -252,28 +252,28 @@ module _ {S : Type 0} (facts : S → StoreFacts) where
         abbrev others : List LogEntry
         others = next_entries (opposite direction) old.log
 
-        log_is : new.log ≡ log_by direction first.others (turned_over e ∷ others)
+        log_is : new.log ≡ log_by direction first.others (reversed_entry e ∷ others)
         log_is = log ∙ log_moved e old.log (none_open old free) direction first
 
         pub turn_moves : MovesEntry facts direction (cache_of old) (cache_of new) (next_entries direction old.log) others (next_entries direction new.log) (next_entries (opposite direction) new.log)
         turn_moves = record {
           entry = e;
           makes = makes;
-          from_was = first.are ∙ ap (λ (es : List LogEntry). e ∷ es) (sym (ap (next_entries direction) log_is ∙ next_of direction first.others (turned_over e ∷ others)));
-          to_is = ap (next_entries (opposite direction)) log_is ∙ opposite_of direction first.others (turned_over e ∷ others);
+          from_was = first.are ∙ ap (λ (es : List LogEntry). e ∷ es) (sym (ap (next_entries direction) log_is ∙ next_of direction first.others (reversed_entry e ∷ others)));
+          to_is = ap (next_entries (opposite direction)) log_is ∙ opposite_of direction first.others (reversed_entry e ∷ others);
         }
 
         pub turn_group : new.log.group ≡ old.log.group
-        turn_group = ap (λ (l : Log). l.group) log_is ∙ none_of direction first.others (turned_over e ∷ others) ∙ sym (none_open old free)
+        turn_group = ap (λ (l : Log). l.group) log_is ∙ none_of direction first.others (reversed_entry e ∷ others) ∙ sym (none_open old free)
 
-        pub turn_taken : IsStep facts old new (turn_command direction) Accepted
+        pub turn_taken : IsStep facts old new (step_command direction) Accepted
         turn_taken = λ exact.
             let so = exact.honest in
             let passes = entry_passes direction e (cache_of old) (cache_of new) makes in
             let document : new.document ≡ after_entry direction e old.document = (entry_document direction e (cache_of old) (cache_of new) makes).same so in
             let are : AreSteps direction old.document (all_changes (e ∷ first.others)) (all_changes others) =
             subst (λ (es : List LogEntry). AreSteps direction old.document (all_changes es) (all_changes others)) first.are (steps_by direction old.document old.log (none_open old free) exact.steps) in
-            let moved = steps_of direction (after_entry direction e old.document) first.others (turned_over e ∷ others) (moved_entry direction old.document e first.others others are) in (
+            let moved = steps_of direction (after_entry direction e old.document) first.others (reversed_entry e ∷ others) (moved_entry direction old.document e first.others others are) in (
               record {
                 honest = subst IsTrue (sym passes.honest) so;
                 steps = subst (λ (d : Document). AreSteps Backwards d (to_undo new.log) (to_redo new.log)) (sym document)
@@ -283,7 +283,7 @@ module _ {S : Type 0} (facts : S → StoreFacts) where
                   let m = machine_of target old in
                   let is = passed_machine facts old new target so passes (entry_frames direction e (cache_of old) (cache_of new) makes) (entry_locks direction e (cache_of old) (cache_of new) makes)
                   ∙ ap (λ (d : Document). machine_with m d new.log) document ∙ ap (λ (l : Log). machine_with m (after_entry direction e old.document) l) log_is in
-                  inl (answers_on m _ (machine_of target new) _ (Some (turn_command direction)) Accepted (ap (λ (l : Log). machine_with m old.document l) (log_was e old.log (none_open old free) direction first)) is
+                  inl (answers_on m _ (machine_of target new) _ (Some (step_command direction)) Accepted (ap (λ (l : Log). machine_with m old.document l) (log_was e old.log (none_open old free) direction first)) is
                   (turn_answers direction m old.document e first.others others (at_rest old free).1 are)),
             )
 
@@ -293,10 +293,10 @@ module _ {S : Type 0} (facts : S → StoreFacts) where
         → first_refusal ((nothing, none) ∷ (GroupOpen, is_open) ∷ (Locked, locked) ∷ []) ≡ Some fault)
         → (target none : Bool) → first_refusal ((nothing, none) ∷ machine.at_rest (machine_of target s)) ≡ Some fault
     held_first nothing by_parts target none =
-        ap (λ (x : Bool). first_refusal ((nothing, none) ∷ (GroupOpen, x) ∷ (Locked, has_locks s) ∷ [])) (group_open (group_of s.document) s.log.group) ∙ by_parts (is_some s.log.group) (has_locks s) none held
+        ap (λ (x : Bool). first_refusal ((nothing, none) ∷ (GroupOpen, x) ∷ (Locked, has_locked_blocks s) ∷ [])) (group_open (group_of s.document) s.log.group) ∙ by_parts (is_some s.log.group) (has_locked_blocks s) none held
 
     parts_first : (direction : Direction) (is_open locked none : Bool) → (if is_open then Some GroupOpen else if locked then Some Locked else None) ≡ Some fault
-        → first_refusal ((nothing_to_turn direction, none) ∷ (GroupOpen, is_open) ∷ (Locked, locked) ∷ []) ≡ Some fault
+        → first_refusal ((no_step_fault direction, none) ∷ (GroupOpen, is_open) ∷ (Locked, locked) ∷ []) ≡ Some fault
     parts_first Backwards true locked none is = is
     parts_first Backwards false true none is = is
     parts_first Backwards false false none is = absurd (cc is)
@@ -304,12 +304,12 @@ module _ {S : Type 0} (facts : S → StoreFacts) where
     parts_first Forwards false true none is = is
     parts_first Forwards false false none is = absurd (cc is)
 
-    pub turn_held : (direction : Direction) → IsStep facts s s (turn_command direction) (Refused fault)
+    pub turn_held : (direction : Direction) → IsStep facts s s (step_command direction) (Refused fault)
     turn_held Backwards = λ exact. (exact, λ target. inl (rw (held_first NothingToUndo (parts_first Backwards) target (length (machine_of target s).past == 0)) refl))
     turn_held Forwards = λ exact. (exact, λ target. inl (rw (held_first NothingToRedo (parts_first Forwards) target (length (machine_of target s).future == 0)) refl))
 
   -- There is none.
-  pub turn_none : (s : SessionState S) (free : busy_fault s ≡ None) (direction : Direction) → next_entries direction s.log ≡ [] → IsStep facts s s (turn_command direction) (Refused (nothing_to_turn direction))
+  pub turn_none : (s : SessionState S) (free : busy_fault s ≡ None) (direction : Direction) → next_entries direction s.log ≡ [] → IsStep facts s s (step_command direction) (Refused (no_step_fault direction))
   turn_none s free Backwards none = λ exact. (exact, λ target. inl (rw (none_open s free, (at_rest s free).1, none) refl))
   turn_none s free Forwards none = λ exact. (exact, λ target. inl (rw (none_open s free, (at_rest s free).1, none) refl))
 
@@ -325,17 +325,17 @@ module _ {S : Type 0} (facts : S → StoreFacts) where
       exact,
       λ target.
           let first : first_refusal (machine.command_conditions commands.Abandon (machine_of target s)) ≡ Some fault =
-          ap (λ (x : Bool). first_refusal ((NoGroup, not x) ∷ (Locked, has_locks s) ∷ [])) (group_open (group_of s.document) s.log.group) ∙ abandon_parts (is_some s.log.group) (has_locks s) held in
+          ap (λ (x : Bool). first_refusal ((NoGroup, not x) ∷ (Locked, has_locked_blocks s) ∷ [])) (group_open (group_of s.document) s.log.group) ∙ abandon_parts (is_some s.log.group) (has_locked_blocks s) held in
           inl (rw first refl),
     )
 
   -- The group that is open.
   module _ (old new : SessionState S) (cs : List Change) (is_open : old.log.group ≡ Some cs) where
     -- its changes can be taken back where the session is exact
-    pub group_can : IsExact facts old → CanApplyAll Backwards cs old.document
+    pub group_can : IsExact facts old → CanApplyAllDirected Backwards cs old.document
     group_can exact =
-        let can : CanApplyAll Backwards (cs ++ all_changes old.log.undo) old.document =
-        subst (λ (g : Option (List Change)). CanApplyAll Backwards (open_changes g ++ all_changes old.log.undo) old.document) is_open exact.steps.first in
+        let can : CanApplyAllDirected Backwards (cs ++ all_changes old.log.undo) old.document =
+        subst (λ (g : Option (List Change)). CanApplyAllDirected Backwards (open_changes g ++ all_changes old.log.undo) old.document) is_open exact.steps.first in
         (can_split Backwards cs (all_changes old.log.undo) old.document can).0
 
     pub group_not_taken : (fault : Fault) → CantPrepareAll facts (map (directed Backwards) cs) (cache_of old) (cache_of new) fault → CantApplyLog facts old new fault
@@ -359,7 +359,7 @@ module _ {S : Type 0} (facts : S → StoreFacts) where
           gives_up facts old.disk.store new.disk.store (machine_of target old) (machine_of target new) commands.Abandon fault exact.honest (lacking old new fault exact why) (kept_machine facts old new keeps target exact) takes takes,
     )
 
-    pub abandon_taken : has_locks old ≡ false → AreExclusive cs old.log.redo → new.log ≡ record old.log { group = None } → AreApplied facts (map (directed Backwards) cs) (cache_of old) (cache_of new)
+    pub abandon_taken : has_locked_blocks old ≡ false → AreExclusive cs old.log.redo → new.log ≡ record old.log { group = None } → AreApplied facts (map (directed Backwards) cs) (cache_of old) (cache_of new)
         → IsStep facts old new commands.Abandon Accepted
     abandon_taken none apart log makes = λ exact.
         let so = exact.honest in
@@ -386,6 +386,6 @@ module _ {S : Type 0} (facts : S → StoreFacts) where
         )
       where
         -- what can be made again can be in the document before the group, which is the same or has nothing to make again
-        apart_can : (xs : List Change) → AreExclusive xs old.log.redo → CanApplyAll Forwards (all_changes old.log.redo) old.document → CanApplyAll Forwards (all_changes old.log.redo) (after_all Backwards xs old.document)
+        apart_can : (xs : List Change) → AreExclusive xs old.log.redo → CanApplyAllDirected Forwards (all_changes old.log.redo) old.document → CanApplyAllDirected Forwards (all_changes old.log.redo) (after_all Backwards xs old.document)
         apart_can [] apart can = can
-        apart_can (c ∷ xs) apart can = subst (λ (es : List LogEntry). CanApplyAll Forwards (all_changes es) (after_all Backwards (c ∷ xs) old.document)) (sym apart) tt
+        apart_can (c ∷ xs) apart can = subst (λ (es : List LogEntry). CanApplyAllDirected Forwards (all_changes es) (after_all Backwards (c ∷ xs) old.document)) (sym apart) tt

@@ -26,16 +26,16 @@ all_changes (entries.One c ∷ es) = c ∷ all_changes es
 all_changes (entries.Group cs ∷ es) = cs ++ all_changes es
 
 -- an entry once it is made: its changes are made the other way round next, the last one first
-abbrev pub turned_over : LogEntry → LogEntry
-turned_over (entries.One c) = entries.One c
-turned_over (entries.Group cs) = entries.Group (reverse cs)
+abbrev pub reversed_entry : LogEntry → LogEntry
+reversed_entry (entries.One c) = entries.One c
+reversed_entry (entries.Group cs) = entries.Group (reverse cs)
 
 -- the entry at a place is turned over
-pub record TurnsOverAt (place : ℕ) (old new : List LogEntry) : Type 0 where
+pub record ReversesAt (place : ℕ) (old new : List LogEntry) : Type 0 where
   pub entry : LogEntry
   pub others : List LogEntry
   pub was : drop place old ≡ entry ∷ others
-  pub is : drop place new ≡ turned_over entry ∷ others
+  pub is : drop place new ≡ reversed_entry entry ∷ others
   pub before : take place new ≡ take place old
 
 abbrev pub kind_of_entry : LogEntry → Kind
@@ -140,8 +140,8 @@ with_group_closed log = closed_with log.group log
 -- the next entry in a direction is the next in the opposite one
 abbrev pub moved_from : Direction → List LogEntry → Log → Log
 moved_from direction [] log = log
-moved_from Backwards (e ∷ es) log = record log { undo = es; redo = turned_over e ∷ log.redo }
-moved_from Forwards (e ∷ es) log = record log { undo = turned_over e ∷ log.undo; redo = es }
+moved_from Backwards (e ∷ es) log = record log { undo = es; redo = reversed_entry e ∷ log.redo }
+moved_from Forwards (e ∷ es) log = record log { undo = reversed_entry e ∷ log.undo; redo = es }
 
 abbrev pub next_moved : Direction → Log → Log
 next_moved direction log = moved_from direction (next_entries direction log) log

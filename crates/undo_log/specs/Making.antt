@@ -17,7 +17,7 @@ use Rattle.vm_blocks.specs.Keeping.{IsEnvironmentFault, KeepsBlocks}
 use Rattle.vm_blocks.specs.Preparing.{CanApplyByHandle, IsApplied}
 use Rattle.vm_blocks.specs.declared.change.Change.{Change}
 use Rattle.doc_edits.specs.Planning.{is_of_chain, kind_of_change, IsChainEditFault, Plans, RefusesEdit, RefusesInMemory}
-use Rattle.doc_edits.specs.Room.{has_no_room, ReadsNothing}
+use Rattle.doc_edits.specs.Room.{lacks_frames, ReadsNothing}
 
 -- What a change means that was made, over any store: the edit, of the document as it was held once its block was
 -- loaded, and the answer. Where no block comes in, the document from then on is just what the edit makes of that one.
@@ -33,7 +33,7 @@ pub record IsEditApplied {S : Type 0} (facts : S → StoreFacts) (edit : Edit) (
     (change : Change) (done : Done) : Type 0 where
   pub listed : CanApplyByHandle change old.document
   pub makes : IsApplied facts change old new
-  pub room : has_no_room old (edit_needs edit) ≡ false
+  pub room : lacks_frames old (edit_needs edit) ≡ false
   pub kind : kind_of_change change ≡ kind_of edit
   pub meant : (is_of_chain edit ≡ true → IsTrue (facts old.disk.store).honest) → IsMeant facts edit old new change done
 
@@ -46,14 +46,14 @@ pub record MakesEdit {S : Type 0} (facts : S → StoreFacts) (edit : Edit) (old 
   pub ok : IfOk result (λ p. IsEditApplied facts edit old new p.0 p.1)
   pub err : OnErr result (KeepsBlocks facts old new)
   pub refusals : IfErr result (λ fault.
-      RefusesEdit (IsEnvironmentFault facts old.disk.store new.disk.store) (has_no_room old (edit_needs edit)) edit
+      RefusesEdit (IsEnvironmentFault facts old.disk.store new.disk.store) (lacks_frames old (edit_needs edit)) edit
       new.document fault
       ⊎ IsChainEditFault edit old.document fault)
   pub rules : IsTrue (facts old.disk.store).honest
       → IfErr result (RefusesEdit (IsEnvironmentFault facts old.disk.store new.disk.store)
-      (has_no_room old (edit_needs edit)) edit new.document)
+      (lacks_frames old (edit_needs edit)) edit new.document)
   pub plain : kind_of edit ≡ Plain → (new.disk ≡ old.disk) × IfErr result (RefusesInMemory edit new.document)
-  pub shut : has_no_room old (edit_needs edit) ≡ true → (new ≡ old)
+  pub shut : lacks_frames old (edit_needs edit) ≡ true → (new ≡ old)
       × IsErrAnd result (λ fault. first_refusal ((CacheFull, true) ∷ conditions edit old.document) ≡ Some fault)
   pub already : kind_of edit ≢ Made → ReadsNothing old (edit_needs edit) (conditions edit old.document)
       → (new.disk ≡ old.disk)

@@ -16,20 +16,17 @@ use Rattle.geos_model.specs.declared.look_up.LookUp.{LookUp}
 use Rattle.geos_model.specs.declared.look_up.LookUp.TheVariants as look_ups
 use Rattle.vm_store.specs.Facts.{StoreFacts, raised}
 use Rattle.vm_file.specs.Disk.{Disk, FileState}
-use Rattle.vm_blocks.specs.State.{CacheState, ResidentBlock, is_locked, as_file}
+use Rattle.vm_blocks.specs.State.{CacheState, ResidentBlock, is_block_locked, as_file}
 use Rattle.vm_blocks.specs.Changes.{after_directed, directed, CanApply}
 use Rattle.vm_blocks.specs.Keeping.{KeepsBlocks}
 use Rattle.vm_blocks.specs.Preparing.{CanApplyAllByHandle}
 use Rattle.vm_blocks.specs.declared.change.Change.{Change}
+pub use Rattle.chunk_edits.specs.Directions.{opposite}
 use Rattle.chunk_edits.specs.declared.direction.Direction.{Direction}
 use Rattle.chunk_edits.specs.declared.direction.Direction.TheVariants.{Forwards, Backwards}
-use Rattle.doc_edits.specs.LookUps.{Sees, SeesAlongChain}
+use Rattle.doc_edits.specs.LookUps.{AnswersFromBlocks, AnswersChainFromBlocks}
 use Rattle.undo_log.specs.Logging.{Log, before, group_of, steps, to_redo, to_undo, with_change}
 use Rattle.undo_log.specs.Making.{IsEditApplied}
-
-abbrev pub opposite : Direction → Direction
-opposite Forwards = Backwards
-opposite Backwards = Forwards
 
 -- A session: the disk, its document as it is now, the blocks in memory and how many may be, and what it keeps of steps.
 pub record SessionState (S : Type 0) : Type 0 where
@@ -50,11 +47,12 @@ file_of s = as_file (cache_of s)
 -- How often each block is locked, of those in memory that are. If a handle had two seats, the first would count.
 abbrev pub locks_in : List ResidentBlock → FinMap nat_cmp ℕ
 locks_in [] = empty
-locks_in (s ∷ residents) = if is_locked s then insert (locks_in residents) s.0 s.1 else remove (locks_in residents) s.0
+locks_in (s ∷ residents) =
+    if is_block_locked s then insert (locks_in residents) s.0 s.1 else remove (locks_in residents) s.0
 
 -- whether any block is locked
-abbrev pub has_locks : {S : Type 0} → SessionState S → Bool
-has_locks s = nat_lt 0 (len (locks_in s.resident))
+abbrev pub has_locked_blocks : {S : Type 0} → SessionState S → Bool
+has_locked_blocks s = nat_lt 0 (len (locks_in s.resident))
 
 -- the machine that a session is, where a target for a save-as is left and where none is
 abbrev pub machine_of : {S : Type 0} → Bool → SessionState S → Machine
@@ -76,17 +74,17 @@ abbrev pub failed_since : StoreFacts → StoreFacts → Bool
 failed_since old new = nat_le (raised old.failures) new.failures
 
 -- each change can be carried out in a direction, one after another
-abbrev pub CanApplyAll : Direction → List Change → Document → Type 0
-CanApplyAll direction [] d = Unit {0}
-CanApplyAll direction (c ∷ cs) d =
-    CanApply (directed direction c) d × CanApplyAll direction cs (after_directed direction c d)
+abbrev pub CanApplyAllDirected : Direction → List Change → Document → Type 0
+CanApplyAllDirected direction [] d = Unit {0}
+CanApplyAllDirected direction (c ∷ cs) d =
+    CanApply (directed direction c) d × CanApplyAllDirected direction cs (after_directed direction c d)
 
 -- The document is valid, each change of one list can be carried out in this direction, and each of the other one in the
 -- opposite one.
 pub record AreSteps (direction : Direction) (d : Document) (from to : List Change) : Type 0 where
   pub valid : IsValid d
-  pub first : CanApplyAll direction from d
-  pub second : CanApplyAll (opposite direction) to d
+  pub first : CanApplyAllDirected direction from d
+  pub second : CanApplyAllDirected (opposite direction) to d
 
 -- That is so as far as handles tell, over any store.
 pub record CanApplyBothByHandle (direction : Direction) (d : Document) (from to : List Change) : Type 0 where
@@ -119,14 +117,14 @@ pub record AnswersLookUp {S : Type 0} (facts : S → StoreFacts) (old new : Sess
     (reply : Reply) : Type 0 where
   pub keeps : KeepsSession facts old new
   pub step : IsStep facts old new command reply
-  pub sees : Sees facts (cache_of old) (cache_of new) command reply
+  pub sees : AnswersFromBlocks facts (cache_of old) (cache_of new) command reply
 
 -- what a look-up along chains comes to
 pub record AnswersAlongChain {S : Type 0} (facts : S → StoreFacts) (old new : SessionState S) (command : Command)
     (reply : Reply) : Type 0 where
   pub keeps : KeepsSession facts old new
   pub step : IsStep facts old new command reply
-  pub sees : SeesAlongChain facts (cache_of old) (cache_of new) command reply
+  pub sees : AnswersChainFromBlocks facts (cache_of old) (cache_of new) command reply
 
 -- What one comes to that looks into no body: a step of the machine over any store, and nothing changes.
 abbrev pub AnswersWithoutBody : {S : Type 0} → SessionState S → SessionState S → Command → Reply → Type 0

@@ -16,8 +16,8 @@ use Rattle.vm_blocks.specs.declared.change.Change.{Change}
 use Rattle.chunk_edits.specs.declared.direction.Direction.{Direction}
 use Rattle.chunk_edits.specs.declared.direction.Direction.TheVariants.{Forwards, Backwards}
 use Rattle.doc_edits.specs.Planning.{kind_of_change}
-use Rattle.undo_log.specs.Logging.{after_entry, open_changes, turned_over}
-use Rattle.undo_log.specs.Sessions.{SessionState, cache_of, has_locks, CanApplyAll, IsExact}
+use Rattle.undo_log.specs.Logging.{after_entry, open_changes, reversed_entry}
+use Rattle.undo_log.specs.Sessions.{SessionState, cache_of, has_locked_blocks, CanApplyAllDirected, IsExact}
 use Rattle.undo_log.specs.declared.entry.LogEntry.{LogEntry}
 use Rattle.undo_log.specs.declared.entry.LogEntry.TheVariants as entries
 
@@ -49,7 +49,7 @@ CanApplyEntry direction (entries.One c) blocks =
     × AllowsChange (directed direction c) blocks.document
 CanApplyEntry direction (entries.Group cs) blocks =
     NoneComesIn (map (directed direction) cs) × AreInMemory (map (directed direction) cs) blocks
-    × CanApplyAll direction cs blocks.document
+    × CanApplyAllDirected direction cs blocks.document
 
 -- the newest entry of a list is made, and is the newest of the other
 pub record MovesEntry {S : Type 0} (facts : S → StoreFacts) (direction : Direction) (old new : CacheState S)
@@ -57,16 +57,16 @@ pub record MovesEntry {S : Type 0} (facts : S → StoreFacts) (direction : Direc
   pub entry : LogEntry
   pub makes : IsEntryApplied facts direction entry old new
   pub from_was : from ≡ entry ∷ from'
-  pub to_is : to' ≡ turned_over entry ∷ to
+  pub to_is : to' ≡ reversed_entry entry ∷ to
 
 -- the command that makes the next step in a direction, and its fault where there is none
-abbrev pub turn_command : Direction → Command
-turn_command Backwards = commands.Undo
-turn_command Forwards = commands.Redo
+abbrev pub step_command : Direction → Command
+step_command Backwards = commands.Undo
+step_command Forwards = commands.Redo
 
-abbrev pub nothing_to_turn : Direction → Fault
-nothing_to_turn Backwards = NothingToUndo
-nothing_to_turn Forwards = NothingToRedo
+abbrev pub no_step_fault : Direction → Fault
+no_step_fault Backwards = NothingToUndo
+no_step_fault Forwards = NothingToRedo
 
 -- what the newest entry of a list makes of a document
 abbrev pub newest_made : Direction → List LogEntry → Document → Document
@@ -76,11 +76,11 @@ newest_made direction (e ∷ es) d = after_entry direction e d
 -- What is refused before all else where a group is to be closed and no block locked: for an open group, or else for a
 -- locked block.
 abbrev pub busy_fault : {S : Type 0} → SessionState S → Option Fault
-busy_fault s = if is_some s.log.group then Some GroupOpen else if has_locks s then Some Locked else None
+busy_fault s = if is_some s.log.group then Some GroupOpen else if has_locked_blocks s then Some Locked else None
 
 -- so where a group is to be open
 abbrev pub abandon_fault : {S : Type 0} → SessionState S → Option Fault
-abandon_fault s = if is_some s.log.group then (if has_locks s then Some Locked else None) else Some NoGroup
+abandon_fault s = if is_some s.log.group then (if has_locked_blocks s then Some Locked else None) else Some NoGroup
 
 -- Why what the log has can't be made: for a fault of what the call may lack; or, in a session that isn't exact, a body
 -- that doesn't take a change.

@@ -1,6 +1,6 @@
 //! What is kept of one step: the change of an edit, or the changes of a group.
 ghost use Rattle.std.specs.Prelude.{◌≡◌, ◌-◌, ◌^◌, min, reverse};
-ghost use Rattle.undo_log.specs.Logging.{entry_weight, turned_over};
+ghost use Rattle.undo_log.specs.Logging.{entry_weight, reversed_entry};
 
 use crate::weighing::total_weight;
 use std::marker::Model;
@@ -75,7 +75,7 @@ impl LogEntry {
 
     /// Its changes were made: the last one is the next.
     pub(crate) fn turn_over(&mut self)
-        ensures { self.new ≡ turned_over self.old }
+        ensures { self.new ≡ reversed_entry self.old }
     {
         match self {
             LogEntry::One(_) => {}

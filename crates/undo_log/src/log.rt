@@ -2,7 +2,7 @@
 ghost use Rattle.std.specs.Prelude.{◌≡◌, ◌<◌, ◌+◌, ◌-◌, ◌^◌, [], true, Some, None, OnOk, MatchOption, is_some, length, min, reverse};
 ghost use Rattle.std.specs.Option.{option_map};
 ghost use Rattle.chunk_edits.specs.declared.direction.Direction.TheVariants.{Backwards, Forwards};
-ghost use Rattle.undo_log.specs.Logging.{AreExclusive, IsHead, TurnsOverAt, empty_log, open_changes, next_entries, next_moved, to_redo, to_undo, total_weight, with_change, with_group_closed};
+ghost use Rattle.undo_log.specs.Logging.{AreExclusive, IsHead, ReversesAt, empty_log, open_changes, next_entries, next_moved, to_redo, to_undo, total_weight, with_change, with_group_closed};
 
 use crate::entry::{Changes, LogEntry};
 use crate::growing::reserve_one;
@@ -243,7 +243,7 @@ impl UndoLog {
     }
 
     /// It does nothing: its caller learns that nothing is left to make again while the open group has changes.
-    pub(crate) fn validity(&self)
+    pub(crate) fn reveal_invariant(&self)
         ensures { AreExclusive (open_changes self.now.lists.group) self.now.lists.redo }
     {
         let _group = &self.group;
@@ -253,7 +253,7 @@ impl UndoLog {
 // The entry at a place is turned over.
 fn turn_over_at(entries: &mut [LogEntry], place: usize)
     requires { place < length entries.old }
-    ensures { TurnsOverAt place entries.old entries.new }
+    ensures { ReversesAt place entries.old entries.new }
 {
     entries[place].turn_over();
 }

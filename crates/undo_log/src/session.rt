@@ -22,13 +22,13 @@ ghost use Rattle.vm_blocks.specs.Locking.{CantLock, GainsLock, HasNoLock, LosesL
 ghost use Rattle.vm_blocks.specs.Opening.{IsOpenedFrom, IsNotOpened, IsMadeIn, IsNotMade};
 ghost use Rattle.chunk_edits.specs.declared.direction.Direction.TheVariants.{Backwards, Forwards};
 ghost use Rattle.doc_edits.specs.Planning.{IsChainEditFault, RefusesEdit};
-ghost use Rattle.doc_edits.specs.Room.{has_no_room, ReadsNothing};
+ghost use Rattle.doc_edits.specs.Room.{lacks_frames, ReadsNothing};
 ghost use Rattle.undo_log.specs.Editing.{EditsInMemory};
 ghost use Rattle.undo_log.specs.Locking.{IsBarred};
 ghost use Rattle.undo_log.specs.Committing.{IsBusy, IsSaveAsRefused, IsSessionCommit};
 ghost use Rattle.undo_log.specs.Logging.{AreExclusive, before, empty_log, next_entries, open_changes, to_redo, to_undo, total_weight, with_group_closed};
-ghost use Rattle.undo_log.specs.Sessions.{cache_of, file_of, has_locks, machine_of, opposite, failed_since, total_cost, IsExact, IsStep, KeepsSession, PushesEdit};
-ghost use Rattle.undo_log.specs.Turning.{Abandons, IsNotAbandoned, IsRefusedUndoOrRedo, IsSure, IsSureGroup, MovesEntry, abandon_fault, newest_made, busy_fault, nothing_to_turn, turn_command};
+ghost use Rattle.undo_log.specs.Sessions.{cache_of, file_of, has_locked_blocks, machine_of, opposite, failed_since, total_cost, IsExact, IsStep, KeepsSession, PushesEdit};
+ghost use Rattle.undo_log.specs.Turning.{Abandons, IsNotAbandoned, IsRefusedUndoOrRedo, IsSure, IsSureGroup, MovesEntry, abandon_fault, newest_made, busy_fault, no_step_fault, step_command};
 
 mod look_ups;
 
@@ -88,7 +88,7 @@ impl<S: Store> Session<S> {
         ensures log { result.log ≡ empty_log }
         ensures exact { IsTrue (S.facts blocks.disk.store).honest → IsExact S.facts result }
     {
-        blocks.validity();
+        blocks.reveal_invariant();
         Session {
             alloc,
             blocks,
@@ -155,7 +155,7 @@ impl<S: Store> Session<S> {
         ensures lists { (self.new.log ≡ self.old.log) × (self.new.frames ≡ self.old.frames) }
         ensures resident { self.new.resident ≡ self.old.resident }
     {
-        self.blocks.validity();
+        self.blocks.reveal_invariant();
         if let Some(fault) = self.busy_fault() {
             return Err(fault);
         }
@@ -172,7 +172,7 @@ impl<S: Store> Session<S> {
         ensures lists { (self.new.log ≡ self.old.log) × (self.new.frames ≡ self.old.frames) }
         ensures resident { self.new.resident ≡ self.old.resident }
     {
-        self.blocks.validity();
+        self.blocks.reveal_invariant();
         if let Some(fault) = self.busy_fault() {
             // Before the sequence number is looked at.
             return Err(fault);
@@ -196,12 +196,12 @@ impl<S: Store> Session<S> {
             (λ _. self.new.resident ≡ [])
             (λ _. self.new.resident ≡ self.old.resident) }
     {
-        self.blocks.validity();
+        self.blocks.reveal_invariant();
         if let Some(fault) = self.busy_fault() {
             return Err(fault);
         }
         self.blocks.revert()?;
-        self.blocks.validity();
+        self.blocks.reveal_invariant();
         self.log.clear();
         Ok(())
     }
@@ -238,7 +238,7 @@ impl<S: Store> Session<S> {
         ensures worn { IsErrAnd result (λ refused. refused.fault ≡ Fault.Worn)
             ↔ (busy_fault self.old ≡ None) × (self.old.disk.sequence ≡ last_sequence) }
     {
-        self.blocks.validity();
+        self.blocks.reveal_invariant();
         if let Some(fault) = self.busy_fault() {
             return Err(Refused {
                 fault,
@@ -261,11 +261,11 @@ impl<S: Store> Session<S> {
         // Refusals.
         ensures refusals { IfErr result (λ fault. IsBarred edit.now self.old fault
             ⊎ (RefusesEdit (IsEnvironmentFault S.facts self.old.disk.store self.new.disk.store)
-            (has_no_room (cache_of self.old) (edit_needs edit.now)) edit.now self.new.document fault
+            (lacks_frames (cache_of self.old) (edit_needs edit.now)) edit.now self.new.document fault
             ⊎ IsChainEditFault edit.now self.old.document fault)) }
         ensures locked { ((target : Bool) → is_barred edit.now (machine_of target self.old) ≡ true)
             → (result ≡ Err Fault.Locked) × (self.new ≡ self.old) }
-        ensures shut { has_no_room (cache_of self.old) (edit_needs edit.now) ≡ true → (self.new ≡ self.old)
+        ensures shut { lacks_frames (cache_of self.old) (edit_needs edit.now) ≡ true → (self.new ≡ self.old)
             × IsErrAnd result (λ fault. IsBarred edit.now self.old fault
             ⊎ RefusesEdit (λ f. f ≡ Fault.Memory) true edit.now self.old.document fault) }
         // What is in memory afterwards.
@@ -278,7 +278,7 @@ impl<S: Store> Session<S> {
             → ReadsNothing (cache_of self.old) (edit_needs edit.now) (conditions edit.now self.old.document)
             → EditsInMemory edit.now self.old self.new result }
     {
-        self.blocks.validity();
+        self.blocks.reveal_invariant();
         let target = edit.target();
         if is_barred(&self.blocks, target) {
             return Err(Fault::Locked);
@@ -343,13 +343,13 @@ impl<S: Store> Session<S> {
     // Makes the next step in a direction: to go backwards is to undo.
     fn turn(&mut self, direction: Direction) -> Result<(), Fault>
         // What is done.
-        ensures step { IsStep S.facts self.old self.new (turn_command direction) (reply_by (λ _. Accepted) result) }
+        ensures step { IsStep S.facts self.old self.new (step_command direction) (reply_by (λ _. Accepted) result) }
         ensures ok { OnOk result (MovesEntry S.facts direction (cache_of self.old) (cache_of self.new)
             (next_entries direction self.old.log) (next_entries (opposite direction) self.old.log)
             (next_entries direction self.new.log) (next_entries (opposite direction) self.new.log)) }
         ensures err { OnErr result (KeepsSession S.facts self.old self.new) }
         // Refusals.
-        ensures refusals { IfErr result (IsRefusedUndoOrRedo S.facts (nothing_to_turn direction)
+        ensures refusals { IfErr result (IsRefusedUndoOrRedo S.facts (no_step_fault direction)
             (next_entries direction self.old.log) self.old self.new) }
         ensures held { (fault : Fault) → busy_fault self.old ≡ Some fault
             → (result ≡ Err fault) × (self.new ≡ self.old) }
@@ -362,7 +362,7 @@ impl<S: Store> Session<S> {
             → IsOk result × (self.new.disk ≡ self.old.disk)
             × (self.new.document ≡ newest_made direction (next_entries direction self.old.log) self.old.document) }
     {
-        self.blocks.validity();
+        self.blocks.reveal_invariant();
         if let Some(fault) = self.busy_fault() {
             // Before it is asked whether there is a step.
             return Err(fault);
@@ -436,8 +436,8 @@ impl<S: Store> Session<S> {
             → IsOk result × (self.new.disk ≡ self.old.disk)
             × (self.new.document ≡ before self.old.log.group self.old.document) }
     {
-        self.blocks.validity();
-        self.log.validity();
+        self.blocks.reveal_invariant();
+        self.log.reveal_invariant();
         if let Some(fault) = self.abandon_fault() {
             return Err(fault);
         }
@@ -501,7 +501,7 @@ impl<S: Store> Session<S> {
     /// It does nothing: its caller learns that each document of the machine of an exact session is valid, as it always
     /// is, that its locks are, what a crash now leaves, and that nothing is left to redo while the open group has an
     /// edit. What a store that isn't honest has isn't known, but for handles and the map block.
-    pub fn validity(&self)
+    pub fn reveal_invariant(&self)
         ensures machine { IsExact S.facts self.now → (target : Bool) → IsValidMachine (machine_of target self.now) }
         ensures locks { (target : Bool) → AreValidLocks (machine_of target self.now) }
         ensures listed { IsFileDocument (S.facts self.now.disk.store).honest self.now.document }
@@ -509,8 +509,8 @@ impl<S: Store> Session<S> {
         ensures group { AreExclusive (open_changes self.now.log.group) self.now.log.redo }
         ensures few { length self.now.resident ≤ self.now.frames }
     {
-        self.blocks.validity();
-        self.log.validity();
+        self.blocks.reveal_invariant();
+        self.log.reveal_invariant();
     }
 
     /// How many content bytes the records of undo, redo and an open group hold, 2^64 - 1 where these are more.
@@ -543,7 +543,7 @@ impl<S: Store> Session<S> {
         ensures already { is_loaded (cache_of self.old) block.0 ≡ true → locks_of self.old.resident block.0 < 255
             → IsOk result × (self.new.disk ≡ self.old.disk) × (self.new.document ≡ self.old.document) }
     {
-        self.blocks.validity();
+        self.blocks.reveal_invariant();
         self.blocks.lock(block)
     }
 
@@ -585,11 +585,11 @@ impl<S: Store> Session<S> {
 
     /// Whether any block is locked, so that commits, undo, redo, abandon and edits of chains are refused.
     pub fn has_locks(&self) -> bool
-        ensures value { result ≡ has_locks self.now }
+        ensures value { result ≡ has_locked_blocks self.now }
         ensures machine { (target : Bool) → result ≡ machine_has_locks (machine_of target self.now) }
         ensures blocks { result ≡ nat_lt 0 (locked_count self.now.resident) }
     {
-        self.blocks.validity();
+        self.blocks.reveal_invariant();
         self.blocks.has_locks()
     }
 
@@ -623,7 +623,7 @@ impl<S: Store> Session<S> {
             (λ body. (0 < locks_of self.now.resident block.0)
             × (option_map (λ b. b.body) (get self.now.document.blocks block.0) ≡ Some (body_value body.now))) }
     {
-        self.blocks.validity();
+        self.blocks.reveal_invariant();
         if self.blocks.locks(block) > 0 {
             Some(self.blocks.body(block))
         } else {

@@ -6,8 +6,8 @@ ghost use Rattle.vm_blocks.specs.Keeping.{KeepsBlocks};
 ghost use Rattle.vm_blocks.specs.Preparing.{AreInMemory, CanApplyAllByHandle, CantPrepareAll, AreApplied, NoneComesIn};
 ghost use Rattle.chunk_edits.specs.declared.direction.Direction.TheVariants.{Backwards};
 ghost use Rattle.undo_log.specs.Logging.{after_all, after_entry, changes_in};
-ghost use Rattle.undo_log.specs.Sessions.{CanApplyAll};
-ghost use Rattle.undo_log.specs.Turning.{CanApplyEntry, CantApplyEntry, IsEntryApplied, nothing_to_turn};
+ghost use Rattle.undo_log.specs.Sessions.{CanApplyAllDirected};
+ghost use Rattle.undo_log.specs.Turning.{CanApplyEntry, CantApplyEntry, IsEntryApplied, no_step_fault};
 
 use crate::entry::LogEntry;
 use geos_model::Fault;
@@ -16,7 +16,7 @@ use vm_store::Store;
 
 /// What a turn in a direction is refused for where there is no step to make.
 pub fn nothing_to_turn(direction: Direction) -> Fault
-    ensures { result ≡ nothing_to_turn direction }
+    ensures { result ≡ no_step_fault direction }
 {
     match direction {
         Direction::Backwards => Fault::NothingToUndo,
@@ -44,7 +44,7 @@ pub fn make_entry<S: Store>(
         → IsOk result × (blocks.new.disk ≡ blocks.old.disk)
         × (blocks.new.document ≡ after_entry direction entry.now blocks.old.document) }
 {
-    blocks.validity();
+    blocks.reveal_invariant();
     match entry {
         LogEntry::One(change) => blocks.change(change, direction),
         LogEntry::Group(changes) => blocks.change_all(changes.as_slice(), direction),
@@ -68,7 +68,7 @@ pub fn take_back<S: Store>(blocks: &mut FileBlocks<S>, changes: &[Change]) -> Re
     ensures none { changes.now ≡ [] → IsOk result × (blocks.new ≡ blocks.old) }
     ensures sure { NoneComesIn (map (directed Backwards) (reverse changes.now))
         → AreInMemory (map (directed Backwards) (reverse changes.now)) blocks.old
-        → CanApplyAll Backwards (reverse changes.now) blocks.old.document
+        → CanApplyAllDirected Backwards (reverse changes.now) blocks.old.document
         → IsOk result × (blocks.new.disk ≡ blocks.old.disk)
         × (blocks.new.document ≡ after_all Backwards (reverse changes.now) blocks.old.document) }
 {

@@ -16,7 +16,7 @@ use Rattle.geos_model.proofs.HeapTables.{live_handle}
 use Rattle.geos_model.proofs.BlockLists.{put_stands, put_valid, put_map_block}
 use Rattle.geos_model.proofs.Validity.{with_block-valid}
 use Rattle.geos_model.specs.declared.block.Attributes.{Attributes}
-use Rattle.chunk_edits.specs.Patching.{Piece, ArePiecesOf, patched, peak, reversed_pieces}
+use Rattle.chunk_edits.specs.Patching.{PatchPiece, ArePiecesOf, patched, peak, reversed_pieces}
 use Rattle.chunk_edits.specs.Splicing.{Splice, OccursAt, forwards, backwards}
 use Rattle.chunk_edits.proofs.PatchingLemmas.{patch_leads_back, pieces_length, reversed_peak, reversed_twice}
 use Rattle.chunk_edits.proofs.SplicingLemmas.{leads_back}
@@ -167,10 +167,10 @@ module _ (d : Document) (b : ℕ) (u : Attributes) (m : ChunkMap) (there : get d
   chunk_fits : (c : ℕ) (s : Splice) (bytes : List ℕ) → get m c ≡ Some bytes → OccursAt bytes s.at s.old → fits_with m c (forwards s bytes) ≡ true → FitsChunk d b c s
   chunk_fits c s bytes is stands fits = record { heap = rw there refl; live = rw (there, is) refl; stands = rw (there, is) stands; fits = rw (there, is) fits }
 
-  patch_made : (c : ℕ) (ps : List Piece) (bytes : List ℕ) → get m c ≡ Some bytes → with_chunk d b c (patched ps (chunk_at d b c)) ≡ with_block d b (heap_block u (insert m c (patched ps bytes)))
+  patch_made : (c : ℕ) (ps : List PatchPiece) (bytes : List ℕ) → get m c ≡ Some bytes → with_chunk d b c (patched ps (chunk_at d b c)) ≡ with_block d b (heap_block u (insert m c (patched ps bytes)))
   patch_made c ps bytes is = rw (there, is) refl
 
-  patch_fits : (c : ℕ) (ps : List Piece) (bytes : List ℕ) → get m c ≡ Some bytes → ArePiecesOf ps bytes → fits_with m c (replicate (peak ps) 0) ≡ true → FitsPatch d b c ps
+  patch_fits : (c : ℕ) (ps : List PatchPiece) (bytes : List ℕ) → get m c ≡ Some bytes → ArePiecesOf ps bytes → fits_with m c (replicate (peak ps) 0) ≡ true → FitsPatch d b c ps
   patch_fits c ps bytes is stands fits = record { heap = rw there refl; live = rw (there, is) refl; stands = rw (there, is) stands; fits = rw there fits }
 
   new_chunk_fits : (c : ℕ) (bytes : List ℕ) → is_chunk_handle c ≡ true → get m c ≡ None → fits_with m c bytes ≡ true → FitsNewChunk d b c bytes
@@ -227,7 +227,7 @@ pub room_again : (m : ChunkMap) (c : ℕ) (bytes more : List ℕ) → fits_with 
 unfolding fits_with
 room_again m c bytes more room = ap fits (put_again m c bytes more) ∙ room
 
-patch_undone : (d : Document) (b : ℕ) (c : ChunkHandle) (ps : List Piece) → IsValid d → FitsPatch d b c.0 ps → PartUndone b (parts.Patch c ps) d
+patch_undone : (d : Document) (b : ℕ) (c : ChunkHandle) (ps : List PatchPiece) → IsValid d → FitsPatch d b c.0 ps → PartUndone b (parts.Patch c ps) d
 patch_undone d b c ps valid fits =
     let found = heap_at d b fits.heap in
     let u : Attributes = found.0 in

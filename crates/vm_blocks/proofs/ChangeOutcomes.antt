@@ -23,7 +23,7 @@ use Rattle.vm_blocks.proofs.ManyBlocks.{in_handles}
 use Rattle.vm_blocks.specs.Changes.{AreFree, after_change, after_part}
 use Rattle.vm_blocks.specs.Keeping.{KeepsBlocks, IsEnvironmentFault, is_loaded}
 use Rattle.vm_blocks.specs.Parts.{body_after_part}
-use Rattle.vm_blocks.specs.Preparing.{AllowsChange, CanCarryOut, IsInMemory, IsShutOut, CantPrepare, Turns}
+use Rattle.vm_blocks.specs.Preparing.{AllowsChange, CanCarryOut, IsInMemory, IsShutOut, CantPrepare, AppliesChange}
 use Rattle.vm_blocks.specs.declared.change.Change.{Change}
 use Rattle.vm_blocks.specs.declared.change.Change.TheVariants as changes
 use Rattle.vm_blocks.specs.declared.change.PartChange.{PartChange}
@@ -76,7 +76,7 @@ module _ {S : Type 0} (facts : S → StoreFacts) where
   -- A change that is made on the same disk.
 
   pub turns_exact : (c : Change) (old new : CacheState S) → new.disk ≡ old.disk → new.document ≡ after_change c old.document → new.frames ≡ old.frames → KeepsLocks old.resident new.resident → IsInMemory c new
-      → (IsShutOut c old → ⊥) → Turns facts c old new (Ok tt)
+      → (IsShutOut c old → ⊥) → AppliesChange facts c old new (Ok tt)
   turns_exact c old new disk document frames locks in_memory near = record {
     ok = record {
       passes = subst (λ (d : Disk S). KeepsCommitted facts old.disk d) (sym disk) (KeepsCommitted-refl facts old.disk);
@@ -107,7 +107,7 @@ module _ {S : Type 0} (facts : S → StoreFacts) where
   module _ (ms : Members) (puts : List Member) (old new : CacheState S) (are : puts ≡ ms.list.items) (resident : (new.resident ≡ old.resident) × (new.frames ≡ old.frames)) where
     pub put_in_turns : (r : Result (Unit {0}) Fault)
         → MatchResult r (λ _. LeavesDocument facts (put_all puts old.document) (as_file old) (as_file new)) (λ _. LeavesDocument facts old.document (as_file old) (as_file new))
-        → Fails facts NoFault old.disk.store new.disk.store r → (puts ≡ [] → IsOk r × (new ≡ old)) → Turns facts (changes.BlocksIn ms) old new r
+        → Fails facts NoFault old.disk.store new.disk.store r → (puts ≡ [] → IsOk r × (new ≡ old)) → AppliesChange facts (changes.BlocksIn ms) old new r
     unfolding KeepsBlocks
     put_in_turns (Ok done) keeps fails none = record {
       ok = record {
@@ -134,7 +134,7 @@ module _ {S : Type 0} (facts : S → StoreFacts) where
   -- A body changes.
 
   module _ (c : Change) (old mid : CacheState S) (keeps : KeepsBlocks facts old mid) where
-    pub turns_ready : (new : CacheState S) → IsInMemory c mid → (IsShutOut c old → ⊥) → (IsInMemory c old → AllowsChange c old.document → (mid.disk ≡ old.disk) × (mid.document ≡ old.document)) → new ≡ with_document mid (after_change c mid.document) → Turns facts c old new (Ok tt)
+    pub turns_ready : (new : CacheState S) → IsInMemory c mid → (IsShutOut c old → ⊥) → (IsInMemory c old → AllowsChange c old.document → (mid.disk ≡ old.disk) × (mid.document ≡ old.document)) → new ≡ with_document mid (after_change c mid.document) → AppliesChange facts c old new (Ok tt)
     turns_ready new in_memory near same is = record {
       ok = makes facts old mid keeps c new in_memory is;
       err = tt;
@@ -143,7 +143,7 @@ module _ {S : Type 0} (facts : S → StoreFacts) where
       shut = λ far. absurd (near far);
     }
 
-    pub turns_unready : (fault : Fault) → CantPrepare facts c old mid fault → (IsInMemory c old → AllowsChange c old.document → ⊥) → (IsShutOut c old → (fault ≡ CacheFull) × (mid ≡ old)) → Turns facts c old mid (Err fault)
+    pub turns_unready : (fault : Fault) → CantPrepare facts c old mid fault → (IsInMemory c old → AllowsChange c old.document → ⊥) → (IsShutOut c old → (fault ≡ CacheFull) × (mid ≡ old)) → AppliesChange facts c old mid (Err fault)
     turns_unready fault unready sure shut = record { ok = tt; err = keeps; refusals = unready; sure = λ none here takes. absurd (sure here takes); shut = λ far. (ap Err (shut far).0, (shut far).1) }
 
   -- A change that can be made as things are.

@@ -8,7 +8,7 @@ use Rattle.geos_model.specs.declared.command.Body.{Body}
 use Rattle.geos_model.specs.declared.command.Body.TheVariants.{Raw, Heap}
 use Rattle.geos_model.proofs.HeapEdits.{get-put_same, get-taken_same}
 use Rattle.geos_model.proofs.HeapTables.{live_handle}
-use Rattle.chunk_edits.specs.Patching.{Piece, ArePiecesOf, patched, peak, reversed_pieces}
+use Rattle.chunk_edits.specs.Patching.{PatchPiece, ArePiecesOf, patched, peak, reversed_pieces}
 use Rattle.chunk_edits.specs.Splicing.{Splice, OccursAt, forwards, backwards}
 use Rattle.chunk_edits.proofs.PatchingLemmas.{patch_leads_back, pieces_length, reversed_peak}
 use Rattle.vm_blocks.specs.Changes.{content_bytes, reversed_part, CanApplyPart}
@@ -68,7 +68,7 @@ module _ (m : ChunkMap) (heap : is_heap_map m ≡ true) (c : ℕ) where
         ap (λ (l : List ℕ). insert (insert m c made) c (backwards s l)) now ∙ given,
       )
 
-  patch_back : (ps : List Piece) → contains_key m c ≡ true → ArePiecesOf ps (chunk_bytes m c) → fits_with m c (replicate (peak ps) 0) ≡ true
+  patch_back : (ps : List PatchPiece) → contains_key m c ≡ true → ArePiecesOf ps (chunk_bytes m c) → fits_with m c (replicate (peak ps) 0) ≡ true
       → let n = insert m c (patched ps (chunk_bytes m c)) in
       (contains_key n c ≡ true) × ArePiecesOf (reversed_pieces ps) (chunk_bytes n c) × (fits_with n c (replicate (peak (reversed_pieces ps)) 0) ≡ true) × (insert n c (patched (reversed_pieces ps) (chunk_bytes n c)) ≡ m)
   patch_back ps live stands room =

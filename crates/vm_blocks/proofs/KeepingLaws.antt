@@ -10,10 +10,10 @@ use Rattle.geos_model.specs.declared.fault.Fault.TheVariants.{Damaged, File, Mem
 use Rattle.vm_file.specs.Disk.{KeepsCommitted, SameUnlessCorrupt}
 use Rattle.vm_file.specs.Effects.{IsDamage}
 use Rattle.vm_file.proofs.PassingLemmas.{KeepsCommitted-refl, KeepsCommitted-trans, SameUnlessCorrupt-refl, SameUnlessCorrupt-trans}
-use Rattle.vm_blocks.specs.State.{CacheState, is_resident, locks_of, locked_count, all_locked, KeepsLocks, KeepsDocument}
+use Rattle.vm_blocks.specs.State.{CacheState, is_resident, locks_of, locked_count, all_frames_locked, KeepsLocks, KeepsDocument}
 use Rattle.vm_blocks.proofs.Locks.{keeps_refl, each_locked}
 use Rattle.vm_blocks.proofs.OrderOfUse.{locked_there, some_free}
-use Rattle.vm_blocks.specs.Keeping.{KeepsBlocks, IsHonest, IsEnvironmentFault, IsCacheFull, is_loaded, is_full, is_shut_out}
+use Rattle.vm_blocks.specs.Keeping.{KeepsBlocks, IsHonest, IsEnvironmentFault, IsCacheFull, is_loaded, is_full, has_no_frame_for}
 use Rattle.vm_blocks.proofs.Residents.{both}
 
 module _ {S : Type 0} (facts : S → StoreFacts) where
@@ -64,10 +64,10 @@ module _ {S : Type 0} (facts : S → StoreFacts) where
   -- the same blocks can be brought into memory
   pub keeps-full : (a b : CacheState S) → KeepsBlocks facts a b → is_full b ≡ is_full a
   unfolding KeepsBlocks is_full
-  keeps-full a b p = ap (λ n. all_locked n b.resident) p.0.frames ∙ ap (nat_le a.frames) p.1.count
+  keeps-full a b p = ap (λ n. all_frames_locked n b.resident) p.0.frames ∙ ap (nat_le a.frames) p.1.count
 
-  pub keeps-shut : (a b : CacheState S) → KeepsBlocks facts a b → (h : ℕ) → is_shut_out b h ≡ is_shut_out a h
-  unfolding KeepsBlocks is_shut_out
+  pub keeps-shut : (a b : CacheState S) → KeepsBlocks facts a b → (h : ℕ) → has_no_frame_for b h ≡ has_no_frame_for a h
+  unfolding KeepsBlocks has_no_frame_for
   keeps-shut a b p h = ap (λ t. t && (locks_of b.resident h == 0)) (keeps-full a b p) ∙ ap (λ n. is_full a && (n == 0)) (p.1.each h)
 
   -- over a store that gives back what it has
@@ -156,37 +156,37 @@ loaded-resident state h loaded = (and_parts (is_resident state.resident h) (is_l
 
 -- Where each frame has a locked block.
 
-pub full-is : {S : Type 0} (state : CacheState S) → is_full state ≡ all_locked state.frames state.resident
+pub full-is : {S : Type 0} (state : CacheState S) → is_full state ≡ all_frames_locked state.frames state.resident
 unfolding is_full
 full-is state = refl
 
-pub shut-is : {S : Type 0} (state : CacheState S) (h : ℕ) → is_shut_out state h ≡ (is_full state && (locks_of state.resident h == 0))
-unfolding is_shut_out
+pub shut-is : {S : Type 0} (state : CacheState S) (h : ℕ) → has_no_frame_for state h ≡ (is_full state && (locks_of state.resident h == 0))
+unfolding has_no_frame_for
 shut-is state h = refl
 
-pub shut-full : {S : Type 0} (state : CacheState S) (h : ℕ) → is_shut_out state h ≡ true → is_full state ≡ true
+pub shut-full : {S : Type 0} (state : CacheState S) (h : ℕ) → has_no_frame_for state h ≡ true → is_full state ≡ true
 shut-full state h shut = (and_parts (is_full state) (locks_of state.resident h == 0) (sym (shut-is state h) ∙ shut)).0
 
-pub shut-unlocked : {S : Type 0} (state : CacheState S) (h : ℕ) → is_shut_out state h ≡ true → locks_of state.resident h ≡ 0
+pub shut-unlocked : {S : Type 0} (state : CacheState S) (h : ℕ) → has_no_frame_for state h ≡ true → locks_of state.resident h ≡ 0
 shut-unlocked state h shut = eqb-true (locks_of state.resident h) 0 (and_parts (is_full state) (locks_of state.resident h == 0) (sym (shut-is state h) ∙ shut)).1
 
 -- one that isn't locked is shut out
-pub full-shut : {S : Type 0} (state : CacheState S) (h : ℕ) → is_full state ≡ true → locks_of state.resident h ≡ 0 → is_shut_out state h ≡ true
+pub full-shut : {S : Type 0} (state : CacheState S) (h : ℕ) → is_full state ≡ true → locks_of state.resident h ≡ 0 → has_no_frame_for state h ≡ true
 full-shut state h full none = shut-is state h ∙ both (is_full state) (locks_of state.resident h == 0) full (eq-eqb (locks_of state.resident h) 0 none)
 
-pub open-shut : {S : Type 0} (state : CacheState S) (h : ℕ) → is_full state ≡ false → is_shut_out state h ≡ false
+pub open-shut : {S : Type 0} (state : CacheState S) (h : ℕ) → is_full state ≡ false → has_no_frame_for state h ≡ false
 open-shut state h free = shut-is state h ∙ ap (λ t. t && (locks_of state.resident h == 0)) free
 
 -- one that is locked isn't
-pub locked-open : {S : Type 0} (state : CacheState S) (h : ℕ) → 0 < locks_of state.resident h → is_shut_out state h ≡ false
-locked-open state h locked = elim (cases_Bool (is_shut_out state h)) as (λ _. is_shut_out state h ≡ false) [
+pub locked-open : {S : Type 0} (state : CacheState S) (h : ℕ) → 0 < locks_of state.resident h → has_no_frame_for state h ≡ false
+locked-open state h locked = elim (cases_Bool (has_no_frame_for state h)) as (λ _. has_no_frame_for state h ≡ false) [
   | inl shut ↦ let none = shut-unlocked state h shut in absurd (omega (arith, locked, none))
   | inr free ↦ free
 ]
 
 -- nor is any that is in memory
-pub resident-open : {S : Type 0} (state : CacheState S) (h : ℕ) → length state.resident ≤ state.frames → is_resident state.resident h ≡ true → is_shut_out state h ≡ false
-resident-open state h few there = elim (cases_Bool (is_full state)) as (λ _. is_shut_out state h ≡ false) [
+pub resident-open : {S : Type 0} (state : CacheState S) (h : ℕ) → length state.resident ≤ state.frames → is_resident state.resident h ≡ true → has_no_frame_for state h ≡ false
+resident-open state h few there = elim (cases_Bool (is_full state)) as (λ _. has_no_frame_for state h ≡ false) [
   | inl full ↦ locked-open state h (each_locked state.frames state.resident h few (sym (full-is state) ∙ full) there)
   | inr free ↦ open-shut state h free
 ]
@@ -206,10 +206,10 @@ pub locked-loaded : {S : Type 0} (state : CacheState S) (h : ℕ) → ((k : ℕ)
 locked-loaded state h live locked = let there : is_resident state.resident h ≡ true = locked_there h state.resident locked in loaded-by state h there (live h there)
 
 -- a block that isn't shut out is never refused so
-pub frame-there : {S : Type 0} (state : CacheState S) (h : ℕ) (fault : Fault) → is_shut_out state h ≡ false → IsCacheFull state h fault → ⊥
+pub frame-there : {S : Type 0} (state : CacheState S) (h : ℕ) (fault : Fault) → has_no_frame_for state h ≡ false → IsCacheFull state h fault → ⊥
 frame-there state h fault free lacks = cc (lacks.1, free)
 
-pub err-with_frame : {A S : Type 0} (state : CacheState S) (h : ℕ) (P Q : Fault → Type 0) (r : Result A Fault) → is_shut_out state h ≡ false
+pub err-with_frame : {A S : Type 0} (state : CacheState S) (h : ℕ) (P Q : Fault → Type 0) (r : Result A Fault) → has_no_frame_for state h ≡ false
     → IfErr r (λ fault. P fault ⊎ (Q fault ⊎ IsCacheFull state h fault)) → IfErr r (λ fault. P fault ⊎ Q fault)
 err-with_frame state h P Q (Ok done) free err = tt
 err-with_frame state h P Q (Err fault) free err = elim err as (λ _. P fault ⊎ Q fault) [
@@ -220,7 +220,7 @@ err-with_frame state h P Q (Err fault) free err = elim err as (λ _. P fault ⊎
   ]
 ]
 
-pub err-open : {A S : Type 0} (state : CacheState S) (h : ℕ) (P : Fault → Type 0) (r : Result A Fault) → is_shut_out state h ≡ false → IfErr r (λ fault. P fault ⊎ IsCacheFull state h fault) → IfErr r P
+pub err-open : {A S : Type 0} (state : CacheState S) (h : ℕ) (P : Fault → Type 0) (r : Result A Fault) → has_no_frame_for state h ≡ false → IfErr r (λ fault. P fault ⊎ IsCacheFull state h fault) → IfErr r P
 err-open state h P (Ok done) free err = tt
 err-open state h P (Err fault) free err = elim err as (λ _. P fault) [
   | inl one ↦ one

@@ -9,9 +9,9 @@ use Rattle.vm_store.specs.Facts.{StoreFacts}
 use Rattle.geos_model.specs.Document.{is_live}
 use Rattle.geos_model.specs.declared.fault.Fault.{Fault}
 use Rattle.geos_model.specs.declared.fault.Fault.TheVariants.{LockLimit}
-use Rattle.vm_blocks.specs.State.{CacheState, ResidentBlock, all_locked, is_resident, locks_of}
+use Rattle.vm_blocks.specs.State.{CacheState, ResidentBlock, all_frames_locked, is_resident, locks_of}
 use Rattle.vm_blocks.proofs.OrderOfUse.{locked_there}
-use Rattle.vm_blocks.specs.Keeping.{KeepsBlocks, is_full, is_loaded, is_shut_out}
+use Rattle.vm_blocks.specs.Keeping.{KeepsBlocks, is_full, is_loaded, has_no_frame_for}
 use Rattle.vm_blocks.specs.Locking.{GainsLock, LosesLock, CantLock}
 use Rattle.vm_blocks.proofs.KeepingLaws.{full-is, keeps-locks, keeps-stays, loaded-by, loaded-live, loaded-resident, shut-is, shut-unlocked}
 

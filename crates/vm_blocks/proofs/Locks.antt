@@ -14,7 +14,7 @@ use Rattle.geos_model.specs.Document.{Document}
 use Rattle.geos_model.specs.ElementArray.{all_distinct}
 use Rattle.geos_model.specs.declared.fault.Fault.{Fault}
 use Rattle.lru.specs.LruCache.{promoted}
-use Rattle.vm_blocks.specs.State.{ResidentBlock, is_resident, is_locked, locks_of, locked_count, all_locked, victim, evicted, KeepsLocks}
+use Rattle.vm_blocks.specs.State.{ResidentBlock, is_resident, is_block_locked, locks_of, locked_count, all_frames_locked, victim, evicted, KeepsLocks}
 use Rattle.vm_blocks.specs.Frames.{frame_of, residents, IsFrameOf, AreFramesOf}
 use Rattle.vm_blocks.specs.declared.frame.Frame.{Frame}
 use Rattle.vm_blocks.proofs.OrderOfUse.{lookup-residents, fewer_locked}
@@ -24,10 +24,10 @@ keys-residents [] = refl
 keys-residents (e ∷ es) = ap (λ ks. e.0 ∷ ks) (keys-residents es)
 
 abbrev one : ResidentBlock → ℕ
-one s = cond (is_locked s) 1 0
+one s = cond (is_block_locked s) 1 0
 
 counts : (s : ResidentBlock) (ss : List ResidentBlock) → locked_count (s ∷ ss) ≡ one s + locked_count ss
-counts s ss = sum_by-cons (λ (x : ResidentBlock). cond (is_locked x) 1 0) s ss
+counts s ss = sum_by-cons (λ (x : ResidentBlock). cond (is_block_locked x) 1 0) s ss
 
 pub keeps_refl : (ss : List ResidentBlock) → KeepsLocks ss ss
 keeps_refl ss = record { each = λ h. refl; count = refl }
@@ -41,7 +41,7 @@ unlocked n is = eqb-true n 0 (by (n == 0) refl)
     by true at = at
     by false at = absurd (cc (at, is))
 
-free_first : (s : ResidentBlock) (ss : List ResidentBlock) (h : ℕ) (o : Option ℕ) (b : Bool) → is_locked s ≡ b → IsDistinct nat_eq (keys_of (s ∷ ss)) → ((k : ℕ) → o ≡ Some k → lookup (nat_eq k) ss ≡ Some 0)
+free_first : (s : ResidentBlock) (ss : List ResidentBlock) (h : ℕ) (o : Option ℕ) (b : Bool) → is_block_locked s ≡ b → IsDistinct nat_eq (keys_of (s ∷ ss)) → ((k : ℕ) → o ≡ Some k → lookup (nat_eq k) ss ≡ Some 0)
     → option_map_or (λ h. Some h) o (cond b None (Some s.0)) ≡ Some h → lookup (nat_eq h) (s ∷ ss) ≡ Some 0
 free_first s ss h (Some k) b locked distinct more same =
     let is : k ≡ h = ap (λ (o : Option ℕ). unwrap_or o k) same in
@@ -58,7 +58,7 @@ free_first s ss h None false locked distinct more same =
 
 victim_unlocked : (ss : List ResidentBlock) (h : ℕ) → IsDistinct nat_eq (keys_of ss) → victim ss ≡ Some h → lookup (nat_eq h) ss ≡ Some 0
 victim_unlocked [] h distinct is = absurd (cc is)
-victim_unlocked (s ∷ ss) h distinct is = free_first s ss h (victim ss) (is_locked s) refl distinct (λ k at. victim_unlocked ss k (IsDistinct-tail nat_eq s.0 (keys_of ss) distinct) at) is
+victim_unlocked (s ∷ ss) h distinct is = free_first s ss h (victim ss) (is_block_locked s) refl distinct (λ k at. victim_unlocked ss k (IsDistinct-tail nat_eq s.0 (keys_of ss) distinct) at) is
 
 -- a block that isn't locked goes
 
@@ -228,7 +228,7 @@ all_held h [] all there = absurd (cc there)
 all_held h (s ∷ ss) all there =
     let sum = counts s ss in
     let most = fewer_locked ss in
-    (elim (is_locked s) as (λ b. is_locked s ≡ b → 0 < locks_of (s ∷ ss) h) [
+    (elim (is_block_locked s) as (λ b. is_block_locked s ≡ b → 0 < locks_of (s ∷ ss) h) [
       | true ↦ λ locked.
           let single : ◌≡◌ {A = ℕ} (one s) 1 = ap (λ b. cond b 1 0) locked in
           let rest : length ss ≤ locked_count ss = omega (arith, sum, single, all) in
@@ -239,5 +239,5 @@ all_held h (s ∷ ss) all there =
       | false ↦ λ free. let none : ◌≡◌ {A = ℕ} (one s) 0 = ap (λ b. cond b 1 0) free in absurd (omega (arith, sum, none, most, all))
     ]) refl
 
-pub each_locked : (frames : ℕ) (ss : List ResidentBlock) (h : ℕ) → length ss ≤ frames → all_locked frames ss ≡ true → is_resident ss h ≡ true → 0 < locks_of ss h
+pub each_locked : (frames : ℕ) (ss : List ResidentBlock) (h : ℕ) → length ss ≤ frames → all_frames_locked frames ss ≡ true → is_resident ss h ≡ true → 0 < locks_of ss h
 each_locked frames ss h few full there = let most = leb-true frames (locked_count ss) full in all_held h ss (omega (arith, few, most)) there

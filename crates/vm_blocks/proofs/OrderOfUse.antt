@@ -11,7 +11,7 @@ use Rattle.std.proofs.lemmas.List.Sums.{sum_by-cons}
 use Rattle.std.specs.Option.{option_map_or, option_map, option_or}
 use Rattle.std.specs.Map.{lookup, lookup_entry, remove_entry, set_value, keys_of}
 use Rattle.lru.specs.LruCache.{LruCache, put_entries, promoted}
-use Rattle.vm_blocks.specs.State.{ResidentBlock, is_first, is_resident, is_locked, locked_count, all_locked, victim, evicted}
+use Rattle.vm_blocks.specs.State.{ResidentBlock, is_first, is_resident, is_block_locked, locked_count, all_frames_locked, victim, evicted}
 use Rattle.vm_blocks.specs.Frames.{frame_of, residents, with_frame, changed_in, is_changed_in}
 use Rattle.vm_blocks.specs.declared.frame.Frame.{Frame}
 
@@ -90,22 +90,22 @@ there_at s ss h None false more same = let is : s.0 ≡ h = ap (λ (o : Option �
 
 pub victim_there : (ss : List ResidentBlock) (h : ℕ) → victim ss ≡ Some h → is_some (lookup (nat_eq h) ss) ≡ true
 victim_there [] h is = absurd (cc is)
-victim_there (s ∷ ss) h is = there_at s ss h (victim ss) (is_locked s) (λ k at. victim_there ss k at) is
+victim_there (s ∷ ss) h is = there_at s ss h (victim ss) (is_block_locked s) (λ k at. victim_there ss k at) is
 
-none_at : (s : ResidentBlock) (ss : List ResidentBlock) (o : Option ℕ) (b : Bool) → is_locked s ≡ b → (o ≡ None → locked_count ss ≡ length ss) → option_map_or (λ h. Some h) o (cond b None (Some s.0)) ≡ None → locked_count (s ∷ ss) ≡ length (s ∷ ss)
+none_at : (s : ResidentBlock) (ss : List ResidentBlock) (o : Option ℕ) (b : Bool) → is_block_locked s ≡ b → (o ≡ None → locked_count ss ≡ length ss) → option_map_or (λ h. Some h) o (cond b None (Some s.0)) ≡ None → locked_count (s ∷ ss) ≡ length (s ∷ ss)
 none_at s ss (Some k) b locked more same = absurd (cc same)
-none_at s ss None true locked more same = let on = more refl in let one : ◌≡◌ {A = ℕ} (cond (is_locked s) 1 0) 1 = ap (λ b. cond b 1 0) locked in let sum = sum_by-cons (λ (x : ResidentBlock). cond (is_locked x) 1 0) s ss in omega (arith, on, one, sum)
+none_at s ss None true locked more same = let on = more refl in let one : ◌≡◌ {A = ℕ} (cond (is_block_locked s) 1 0) 1 = ap (λ b. cond b 1 0) locked in let sum = sum_by-cons (λ (x : ResidentBlock). cond (is_block_locked x) 1 0) s ss in omega (arith, on, one, sum)
 none_at s ss None false locked more same = absurd (cc same)
 
 pub no_victim : (ss : List ResidentBlock) → victim ss ≡ None → locked_count ss ≡ length ss
 no_victim [] is = refl
-no_victim (s ∷ ss) is = none_at s ss (victim ss) (is_locked s) refl (λ at. no_victim ss at) is
+no_victim (s ∷ ss) is = none_at s ss (victim ss) (is_block_locked s) refl (λ at. no_victim ss at) is
 
 some_by : (o : Option ℕ) → (o ≡ None → ⊥) → is_some o ≡ true
 some_by (Some k) never = refl
 some_by None never = absurd (never refl)
 
-pub has_victim : (frames : ℕ) (ss : List ResidentBlock) → frames ≤ length ss → all_locked frames ss ≡ false → is_some (victim ss) ≡ true
+pub has_victim : (frames : ℕ) (ss : List ResidentBlock) → frames ≤ length ss → all_frames_locked frames ss ≡ false → is_some (victim ss) ≡ true
 has_victim frames ss full some = some_by (victim ss) (λ at. let count = no_victim ss at in let wrong : true ≡ false = sym (le-leb frames (locked_count ss) (omega (arith, count, full))) ∙ some in absurd (cc wrong))
 
 -- a block comes in
@@ -280,43 +280,44 @@ pub fewer_locked : (ss : List ResidentBlock) → locked_count ss ≤ length ss
 fewer_locked [] = omega arith
 fewer_locked (s ∷ ss) =
     let on = fewer_locked ss in
-    let sum = sum_by-cons (λ (x : ResidentBlock). cond (is_locked x) 1 0) s ss in
-    let one = at_most_one (is_locked s) in
+    let sum = sum_by-cons (λ (x : ResidentBlock). cond (is_block_locked x) 1 0) s ss in
+    let one = at_most_one (is_block_locked s) in
     omega (arith, on, sum, one)
   where
     at_most_one : (b : Bool) → cond b 1 0 ≤ 1
     at_most_one true = omega arith
     at_most_one false = omega arith
 
-free_at : (s : ResidentBlock) (ss : List ResidentBlock) (h : ℕ) (o : Option ℕ) (b : Bool) → is_locked s ≡ b → ((k : ℕ) → o ≡ Some k → locked_count ss < length ss) → option_map_or (λ h. Some h) o (cond b None (Some s.0)) ≡ Some h → locked_count (s ∷ ss) < length (s ∷ ss)
+free_at : (s : ResidentBlock) (ss : List ResidentBlock) (h : ℕ) (o : Option ℕ) (b : Bool) → is_block_locked s ≡ b → ((k : ℕ) → o ≡ Some k → locked_count ss < length ss) → option_map_or (λ h. Some h) o (cond b None (Some s.0)) ≡ Some h → locked_count (s ∷ ss) < length (s ∷ ss)
 free_at s ss h (Some k) true locked more same =
     let on = more k refl in
-    let one : ◌≡◌ {A = ℕ} (cond (is_locked s) 1 0) 1 = ap (λ b. cond b 1 0) locked in
-    let sum = sum_by-cons (λ (x : ResidentBlock). cond (is_locked x) 1 0) s ss in
+    let one : ◌≡◌ {A = ℕ} (cond (is_block_locked s) 1 0) 1 = ap (λ b. cond b 1 0) locked in
+    let sum = sum_by-cons (λ (x : ResidentBlock). cond (is_block_locked x) 1 0) s ss in
     omega (arith, on, one, sum)
 free_at s ss h (Some k) false locked more same =
     let on = more k refl in
-    let one : ◌≡◌ {A = ℕ} (cond (is_locked s) 1 0) 0 = ap (λ b. cond b 1 0) locked in
-    let sum = sum_by-cons (λ (x : ResidentBlock). cond (is_locked x) 1 0) s ss in
+    let one : ◌≡◌ {A = ℕ} (cond (is_block_locked s) 1 0) 0 = ap (λ b. cond b 1 0) locked in
+    let sum = sum_by-cons (λ (x : ResidentBlock). cond (is_block_locked x) 1 0) s ss in
     omega (arith, on, one, sum)
 free_at s ss h None true locked more same = absurd (cc same)
 free_at s ss h None false locked more same =
     let on = fewer_locked ss in
-    let one : ◌≡◌ {A = ℕ} (cond (is_locked s) 1 0) 0 = ap (λ b. cond b 1 0) locked in
-    let sum = sum_by-cons (λ (x : ResidentBlock). cond (is_locked x) 1 0) s ss in
+    let one : ◌≡◌ {A = ℕ} (cond (is_block_locked s) 1 0) 0 = ap (λ b. cond b 1 0) locked in
+    let sum = sum_by-cons (λ (x : ResidentBlock). cond (is_block_locked x) 1 0) s ss in
     omega (arith, on, one, sum)
 
 pub victim_free : (ss : List ResidentBlock) (h : ℕ) → victim ss ≡ Some h → locked_count ss < length ss
 victim_free [] h is = absurd (cc is)
-victim_free (s ∷ ss) h is = free_at s ss h (victim ss) (is_locked s) refl (λ k at. victim_free ss k at) is
+victim_free (s ∷ ss) h is = free_at s ss h (victim ss) (is_block_locked s) refl (λ k at. victim_free ss k at) is
 
-pub some_free : (frames : ℕ) (ss : List ResidentBlock) → locked_count ss < frames → all_locked frames ss ≡ false
-some_free frames ss below = elim (cases_Bool (nat_le frames (locked_count ss))) as (λ _. all_locked frames ss ≡ false) [
-  | inl full ↦ let above = leb-true frames (locked_count ss) full in absurd (omega (arith, above, below))
-  | inr out ↦ out
-]
+pub some_free : (frames : ℕ) (ss : List ResidentBlock) → locked_count ss < frames → all_frames_locked frames ss ≡ false
+some_free frames ss below =
+    elim (cases_Bool (nat_le frames (locked_count ss))) as (λ _. all_frames_locked frames ss ≡ false) [
+      | inl full ↦ let above = leb-true frames (locked_count ss) full in absurd (omega (arith, above, below))
+      | inr out ↦ out
+    ]
 
-pub none_free : (frames : ℕ) (ss : List ResidentBlock) → length ss ≤ frames → frames ≤ length ss → victim ss ≡ None → all_locked frames ss ≡ true
+pub none_free : (frames : ℕ) (ss : List ResidentBlock) → length ss ≤ frames → frames ≤ length ss → victim ss ≡ None → all_frames_locked frames ss ≡ true
 none_free frames ss most least is = let all = no_victim ss is in le-leb frames (locked_count ss) (omega (arith, all, most, least))
 
 pub locks_found : (es : List (ℕ × Frame)) → nat_lt 0 (locked_count (residents es)) ≡ is_some (find (λ (e : ℕ × Frame). not (e.1.locks == 0)) es)
@@ -324,11 +325,11 @@ locks_found [] = refl
 locks_found (e ∷ es) = (elim (not (e.1.locks == 0)) as (λ b. not (e.1.locks == 0) ≡ b → nat_lt 0 (locked_count (residents (e ∷ es))) ≡ is_some (cond b (Some e) (find (λ (e : ℕ × Frame). not (e.1.locks == 0)) es))) [
   | true ↦ λ at.
       let one : ◌≡◌ {A = ℕ} (cond (not (e.1.locks == 0)) 1 0) 1 = ap (λ b. cond b 1 0) at in
-      let sum = sum_by-cons (λ (x : ResidentBlock). cond (is_locked x) 1 0) (e.0, e.1.locks) (residents es) in
+      let sum = sum_by-cons (λ (x : ResidentBlock). cond (is_block_locked x) 1 0) (e.0, e.1.locks) (residents es) in
       lt-ltb 0 (locked_count (residents (e ∷ es))) (omega (arith, one, sum))
   | false ↦ λ at.
       let zero : ◌≡◌ {A = ℕ} (cond (not (e.1.locks == 0)) 1 0) 0 = ap (λ b. cond b 1 0) at in
-      let sum = sum_by-cons (λ (x : ResidentBlock). cond (is_locked x) 1 0) (e.0, e.1.locks) (residents es) in
+      let sum = sum_by-cons (λ (x : ResidentBlock). cond (is_block_locked x) 1 0) (e.0, e.1.locks) (residents es) in
       let same : locked_count (residents (e ∷ es)) ≡ locked_count (residents es) = omega (arith, zero, sum) in
       ap (nat_lt 0) same ∙ locks_found es
 ]) refl

@@ -12,7 +12,7 @@ use Rattle.geos_model.proofs.HeapTables.{live_handle}
 use Rattle.geos_model.proofs.HeapEdits.{heap-insert, heap-remove}
 use Rattle.geos_model.specs.declared.block.Attributes.{Attributes}
 use Rattle.geos_model.specs.declared.handle.ChunkHandle.{ChunkHandle}
-use Rattle.chunk_edits.specs.Patching.{Piece, directed_pieces, patched, peak, total_taken}
+use Rattle.chunk_edits.specs.Patching.{PatchPiece, directed_pieces, patched, peak, total_taken}
 use Rattle.chunk_edits.specs.Splicing.{forwards}
 use Rattle.chunk_edits.specs.declared.direction.Direction.{Direction}
 use Rattle.chunk_edits.specs.declared.direction.Direction.TheVariants.{Forwards, Backwards}
@@ -82,7 +82,7 @@ part_kind (parts.ChunkOut c content) (Raw bytes) takes = absurd takes
 part_kind (parts.ChunkOut c content) (Heap m) takes = refl
 
 -- what a patch makes of a chunk fits where there is room for as many bytes as there are on the way
-pub patched_fits : (m : ChunkMap) (c : ℕ) (ps : List Piece) (bytes : List ℕ) → is_heap_map m ≡ true → is_chunk_handle c ≡ true → total_taken ps ≡ length bytes → fits_with m c (replicate (peak ps) 0) ≡ true → fits_with m c (patched ps bytes) ≡ true
+pub patched_fits : (m : ChunkMap) (c : ℕ) (ps : List PatchPiece) (bytes : List ℕ) → is_heap_map m ≡ true → is_chunk_handle c ≡ true → total_taken ps ≡ length bytes → fits_with m c (replicate (peak ps) 0) ≡ true → fits_with m c (patched ps bytes) ≡ true
 patched_fits m c ps bytes heap handle size room =
     fits_fewer m c (replicate (peak ps) 0) (patched ps bytes) heap handle room (omega (arith, patched_length_of ps bytes size, given_le_peak ps, length-replicate {A = ℕ} (peak ps) 0))
 
@@ -102,10 +102,10 @@ part_valid (parts.ChunkOut c content) (Heap m) valid takes = heap-remove m c.0 v
 
 -- A patch in a direction is the one of the pieces in that direction.
 
-pub directed_patch : (direction : Direction) (c : ChunkHandle) (ps : List Piece) → directed_part direction (parts.Patch c ps) ≡ parts.Patch c (directed_pieces direction ps)
+pub directed_patch : (direction : Direction) (c : ChunkHandle) (ps : List PatchPiece) → directed_part direction (parts.Patch c ps) ≡ parts.Patch c (directed_pieces direction ps)
 directed_patch Forwards c ps = refl
 directed_patch Backwards c ps = refl
 
-pub directed_peak : (direction : Direction) (ps : List Piece) → peak (directed_pieces direction ps) ≡ peak ps
+pub directed_peak : (direction : Direction) (ps : List PatchPiece) → peak (directed_pieces direction ps) ≡ peak ps
 directed_peak Forwards ps = refl
 directed_peak Backwards ps = reversed_peak ps

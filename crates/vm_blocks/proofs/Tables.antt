@@ -8,7 +8,7 @@ use Rattle.geos_model.specs.declared.command.Body.{Body}
 use Rattle.geos_model.proofs.HeapEdits.{get-put_same, get-put_other}
 use Rattle.geos_model.specs.declared.block.Attributes.{Attributes}
 use Rattle.vm_blocks.specs.Bodies.{body_value}
-use Rattle.vm_blocks.specs.Frames.{chunks_in, frame_of, overlay, IsFrameOf, AreFramesOf}
+use Rattle.vm_blocks.specs.Frames.{chunks_in_frames, frame_of, overlay, IsFrameOf, AreFramesOf}
 use Rattle.vm_blocks.specs.declared.body.BlockBody.{BlockBody}
 use Rattle.vm_blocks.specs.declared.frame.Frame.{Frame}
 use Rattle.vm_blocks.proofs.DocumentUnderFrames.{cover, attributes_by, heap_by, heap_body, get-overlay, overlay_map, same_document, block_by, body_by, cover_by}
@@ -90,7 +90,7 @@ body_under es d h body is = ap (option_map (λ (b : Block). b.body)) (get-overla
 
 -- the chunks of a heap in memory
 
-pub chunks_under : (es : List (ℕ × Frame)) (d : Document) (h : ℕ) → is_some (frame_of es h) ≡ true → chunks_of (overlay es d) h ≡ chunks_in es h
+pub chunks_under : (es : List (ℕ × Frame)) (d : Document) (h : ℕ) → is_some (frame_of es h) ≡ true → chunks_of (overlay es d) h ≡ chunks_in_frames es h
 chunks_under es d h here = ap (λ (o : Option Block). option_map_or (λ b. chunks_of_body b.body) o empty) (get-overlay es d h) ∙ by (frame_of es h) here
   where
     by : (o : Option Frame) → is_some o ≡ true → option_map_or (λ (b : Block). chunks_of_body b.body) (cover o d h) empty ≡ option_map_or (λ (f : Frame). chunks_of_body (body_value f.body)) o empty

@@ -2,7 +2,7 @@
 use Rattle.std.specs.Prelude.{◌≡◌, ◌≤◌, ◌+◌, ℕ, List, IsTrue, None, length, replicate}
 use Rattle.std.specs.FinMap.{get, contains_key}
 use Rattle.geos_model.specs.Heap.{ChunkMap, chunk_bytes, fits_with, is_chunk_handle, capacity}
-use Rattle.chunk_edits.specs.Patching.{Piece, peak, total_taken}
+use Rattle.chunk_edits.specs.Patching.{PatchPiece, peak, total_taken}
 use Rattle.chunk_edits.specs.Splicing.{Splice, forwards}
 
 -- a raw body has the part that is replaced, and room for what comes
@@ -17,7 +17,7 @@ pub record AllowsChunk (m : ChunkMap) (c : ℕ) (s : Splice) : Type 0 where
   pub fits : IsTrue (fits_with m c (forwards s (chunk_bytes m c)))
 
 -- a chunk is of as many bytes as the pieces, and its heap has room for as many as there are on the way
-pub record AllowsPatch (m : ChunkMap) (c : ℕ) (ps : List Piece) : Type 0 where
+pub record AllowsPatch (m : ChunkMap) (c : ℕ) (ps : List PatchPiece) : Type 0 where
   pub live : IsTrue (contains_key m c)
   pub size : total_taken ps ≡ length (chunk_bytes m c)
   pub fits : IsTrue (fits_with m c (replicate (peak ps) 0))

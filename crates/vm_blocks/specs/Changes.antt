@@ -7,7 +7,7 @@ use Rattle.geos_model.specs.Document.{Block, Document, IsValid, is_vm_handle, is
 use Rattle.geos_model.specs.ElementArray.{all_distinct}
 use Rattle.geos_model.specs.Meaning.{chunk_at, with_chunk, without_chunk}
 use Rattle.geos_model.specs.declared.command.Body.TheVariants.{Raw}
-use Rattle.chunk_edits.specs.Patching.{Piece, ArePiecesOf, held, patched, peak, reversed_pieces}
+use Rattle.chunk_edits.specs.Patching.{PatchPiece, ArePiecesOf, total_held, patched, peak, reversed_pieces}
 use Rattle.chunk_edits.specs.Splicing.{Splice, OccursAt, forwards}
 use Rattle.chunk_edits.specs.declared.direction.Direction.{Direction}
 use Rattle.chunk_edits.specs.declared.direction.Direction.TheVariants.{Forwards, Backwards}
@@ -120,7 +120,7 @@ pub record FitsChunk (d : Document) (b c : ℕ) (s : Splice) : Type 0 where
   pub fits : fits_with (chunks_of d b) c (forwards s (chunk_at d b c)) ≡ true
 
 -- the bytes of a chunk are those of the pieces, and there is room for as many as there are on the way
-pub record FitsPatch (d : Document) (b c : ℕ) (ps : List Piece) : Type 0 where
+pub record FitsPatch (d : Document) (b c : ℕ) (ps : List PatchPiece) : Type 0 where
   pub heap : is_heap d b ≡ true
   pub live : contains_key (chunks_of d b) c ≡ true
   pub stands : ArePiecesOf ps (chunk_at d b c)
@@ -192,7 +192,7 @@ content_weight (contents.Zeros n) = 0
 abbrev pub part_weight : PartChange → ℕ
 part_weight (parts.Raw s) = length s.old + length s.new
 part_weight (parts.Chunk c s) = length s.old + length s.new
-part_weight (parts.Patch c ps) = held ps
+part_weight (parts.Patch c ps) = total_held ps
 part_weight (parts.ChunkIn c content) = content_weight content
 part_weight (parts.ChunkOut c content) = content_weight content
 

@@ -18,8 +18,8 @@ abbrev pub frame_of : List (ℕ × Frame) → ℕ → Option Frame
 frame_of es h = lookup (nat_eq h) es
 
 -- the chunks of a heap in memory, none of another block
-abbrev pub chunks_in : List (ℕ × Frame) → ℕ → ChunkMap
-chunks_in es h = option_map_or (λ f. chunks_of_body (body_value f.body)) (frame_of es h) empty
+abbrev pub chunks_in_frames : List (ℕ × Frame) → ℕ → ChunkMap
+chunks_in_frames es h = option_map_or (λ f. chunks_of_body (body_value f.body)) (frame_of es h) empty
 
 -- what callers see of the frames
 abbrev pub residents : List (ℕ × Frame) → List ResidentBlock

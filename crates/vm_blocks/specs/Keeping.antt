@@ -6,7 +6,7 @@ use Rattle.geos_model.specs.Document.{is_live}
 use Rattle.geos_model.specs.declared.fault.Fault.{Fault}
 use Rattle.geos_model.specs.declared.fault.Fault.TheVariants.{File, Memory, CacheFull}
 use Rattle.vm_file.specs.Effects.{IsDamage}
-use Rattle.vm_blocks.specs.State.{CacheState, is_resident, locks_of, all_locked, KeepsLocks, KeepsDocument}
+use Rattle.vm_blocks.specs.State.{CacheState, is_resident, locks_of, all_frames_locked, KeepsLocks, KeepsDocument}
 
 -- nothing is committed, the document stays, as far as the store gives back what it has, and each block is locked as
 -- often as before
@@ -29,12 +29,12 @@ is_loaded state h = is_resident state.resident h && is_live state.document h
 
 -- each frame has a locked block, so that no other one can be brought into memory
 unfoldable pub is_full : {S : Type 0} → CacheState S → Bool
-is_full state = all_locked state.frames state.resident
+is_full state = all_frames_locked state.frames state.resident
 
 -- nor this one: it isn't locked
-unfoldable pub is_shut_out : {S : Type 0} → CacheState S → ℕ → Bool
-is_shut_out state h = is_full state && (locks_of state.resident h == 0)
+unfoldable pub has_no_frame_for : {S : Type 0} → CacheState S → ℕ → Bool
+has_no_frame_for state h = is_full state && (locks_of state.resident h == 0)
 
 -- the fault for that
 abbrev pub IsCacheFull : {S : Type 0} → CacheState S → ℕ → Fault → Type 0
-IsCacheFull state h fault = (fault ≡ CacheFull) × (is_shut_out state h ≡ true)
+IsCacheFull state h fault = (fault ≡ CacheFull) × (has_no_frame_for state h ≡ true)

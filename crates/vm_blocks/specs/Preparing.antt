@@ -11,7 +11,7 @@ use Rattle.vm_store.specs.Facts.{StoreFacts}
 use Rattle.vm_file.specs.Disk.{SameUnlessCorrupt, KeepsCommitted}
 use Rattle.vm_blocks.specs.State.{CacheState, ResidentBlock, locks_of, KeepsLocks}
 use Rattle.vm_blocks.specs.Changes.{after_change, incoming_blocks, CanApply, AreFree, HasMap}
-use Rattle.vm_blocks.specs.Keeping.{KeepsBlocks, IsHonest, IsEnvironmentFault, is_loaded, is_shut_out}
+use Rattle.vm_blocks.specs.Keeping.{KeepsBlocks, IsHonest, IsEnvironmentFault, is_loaded, has_no_frame_for}
 use Rattle.vm_file.specs.Members.{imaged_blocks}
 use Rattle.vm_blocks.specs.Parts.{AllowsPart}
 use Rattle.vm_blocks.specs.declared.change.Change.{Change}
@@ -53,7 +53,7 @@ AreUnlocked (changes.Map old new) residents = Unit {0}
 abbrev pub IsShutOut : {S : Type 0} → Change → CacheState S → Type 0
 IsShutOut (changes.BlocksIn ms) state = ⊥
 IsShutOut (changes.BlocksOut ms) state = ⊥
-IsShutOut (changes.Part b part) state = is_shut_out state b.0 ≡ true
+IsShutOut (changes.Part b part) state = has_no_frame_for state b.0 ≡ true
 IsShutOut (changes.Attributes b old new) state = ⊥
 IsShutOut (changes.Map old new) state = ⊥
 
@@ -91,7 +91,7 @@ CantPrepare facts change old new fault =
 -- What a call leaves that makes a change or is refused. It is sure where no block comes in, and the one that changes is
 -- in memory and takes it: then the store isn't called, and over any store the document is the one that the change
 -- makes.
-pub record Turns {S : Type 0} (facts : S → StoreFacts) (change : Change) (old new : CacheState S)
+pub record AppliesChange {S : Type 0} (facts : S → StoreFacts) (change : Change) (old new : CacheState S)
     (result : Result (Unit {0}) Fault) : Type 0 where
   pub ok : OnOk result (IsApplied facts change old new)
   pub err : OnErr result (KeepsBlocks facts old new)

@@ -36,20 +36,20 @@ is_resident residents h = is_some (lookup (nat_eq h) residents)
 abbrev pub locks_of : List ResidentBlock → ℕ → ℕ
 locks_of residents h = unwrap_or (lookup (nat_eq h) residents) 0
 
-abbrev pub is_locked : ResidentBlock → Bool
-is_locked s = not (s.1 == 0)
+abbrev pub is_block_locked : ResidentBlock → Bool
+is_block_locked s = not (s.1 == 0)
 
 abbrev pub locked_count : List ResidentBlock → ℕ
-locked_count residents = count_by is_locked residents
+locked_count residents = count_by is_block_locked residents
 
 -- each frame has a locked block
-abbrev pub all_locked : ℕ → List ResidentBlock → Bool
-all_locked frames residents = nat_le frames (locked_count residents)
+abbrev pub all_frames_locked : ℕ → List ResidentBlock → Bool
+all_frames_locked frames residents = nat_le frames (locked_count residents)
 
 -- the least recently used block that isn't locked
 abbrev pub victim : List ResidentBlock → Option ℕ
 victim [] = None
-victim (s ∷ ss) = option_map_or (λ h. Some h) (victim ss) (cond (is_locked s) None (Some s.0))
+victim (s ∷ ss) = option_map_or (λ h. Some h) (victim ss) (cond (is_block_locked s) None (Some s.0))
 
 -- without it
 abbrev pub evicted : List ResidentBlock → List ResidentBlock

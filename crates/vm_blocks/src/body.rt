@@ -59,7 +59,7 @@ impl BlockBody {
     }
 
     /// It does nothing: its caller learns that the body is one that a document can have.
-    pub fn validity(&self)
+    pub fn reveal_invariant(&self)
         ensures { is_valid_body (body_value self.now) ≡ true }
     {
         match self {

@@ -111,7 +111,7 @@ fn put_in_free<S: Store>(blocks: &mut FileBlocks<S>, members: &Members) -> Resul
     ensures sure { imaged_blocks members.now.list.items ≡ []
         → IsOk result × StaysInMemory blocks.old blocks.new }
 {
-    blocks.validity();
+    blocks.reveal_invariant();
     if has_live(blocks, members) {
         return Err(Obstacle::NotInMemory);
     }

@@ -95,7 +95,7 @@ impl<S: Store> FileBlocks<S> {
             });
         };
         let file = VmFile::open(alloc, store)?;
-        file.validity();
+        file.reveal_invariant();
         Ok(FileBlocks {
             alloc,
             file,
@@ -112,7 +112,7 @@ impl<S: Store> FileBlocks<S> {
 
     /// It does nothing: its caller learns what always holds. What a store that isn't honest has of bodies, and of the
     /// updated and the saved document, isn't known.
-    pub fn validity(&self)
+    pub fn reveal_invariant(&self)
         // Of the documents and their file.
         ensures document { IsTrue (S.facts self.now.disk.store).honest → IsValid self.now.document }
         ensures listed { IsFileDocument (S.facts self.now.disk.store).honest self.now.document }
@@ -127,7 +127,7 @@ impl<S: Store> FileBlocks<S> {
         ensures counts { (h : ℕ) → locks_of self.now.resident h ≤ 255 }
     {
         let _count = self.frames.len();
-        self.file.validity();
+        self.file.reveal_invariant();
     }
 
     /// How often a block is locked, 0 where it isn't in memory.
@@ -172,7 +172,7 @@ impl<S: Store> FileBlocks<S> {
         ensures value { result ≡ attributes_of self.now.document handle.0 }
         ensures typed { IsTyped (is_heap self.now.document handle.0) result }
     {
-        self.file.validity();
+        self.file.reveal_invariant();
         self.file.entry(handle).unwrap().attributes
     }
 

@@ -8,9 +8,9 @@ ghost use Rattle.lmem_heap.specs.Known.{is_array_of};
 ghost use Rattle.lru.specs.LruCache.{lru_cache, promoted};
 ghost use Rattle.vm_blocks.specs.Bodies.{body_value};
 ghost use Rattle.vm_blocks.specs.Changes.{directed_part};
-ghost use Rattle.vm_blocks.specs.Frames.{chunks_in, frame_of, overlay, residents, with_frame, AreFramesOf};
+ghost use Rattle.vm_blocks.specs.Frames.{chunks_in_frames, frame_of, overlay, residents, with_frame, AreFramesOf};
 ghost use Rattle.vm_blocks.specs.Parts.{AllowsPart, body_after_part};
-ghost use Rattle.vm_blocks.specs.State.{locks_of, locked_count, all_locked, is_first, victim};
+ghost use Rattle.vm_blocks.specs.State.{locks_of, locked_count, all_frames_locked, is_first, victim};
 
 use crate::body::BlockBody;
 use crate::part::{carry_out_heap, carry_out_raw};
@@ -63,7 +63,7 @@ fn mark_one(frames: &mut LruCache<u16, Frame>, block: u16)
 {
     mark(frames, block, true);
     if let Some(frame) = frames.peek(&block) {
-        frame.body.validity();
+        frame.body.reveal_invariant();
     }
 }
 
@@ -90,8 +90,8 @@ pub fn mark_array(
     chunk: ChunkHandle,
     kind: ArrayKind,
 )
-    requires live { contains_key (chunks_in frames.old.entries block) chunk.0 ≡ true }
-    requires array { is_array_of kind (chunk_bytes (chunks_in frames.old.entries block) chunk.0) ≡ true }
+    requires live { contains_key (chunks_in_frames frames.old.entries block) chunk.0 ≡ true }
+    requires array { is_array_of kind (chunk_bytes (chunks_in_frames frames.old.entries block) chunk.0) ≡ true }
     ensures { frames.new ≡ frames.old }
 {
     if let Some(frame) = frames.peek_mut(&block) {
@@ -194,7 +194,7 @@ pub fn has_locks(frames: &LruCache<u16, Frame>) -> bool
 
 /// Whether each frame has a locked block, so that no other can come into memory.
 pub fn all_locked(frames: &LruCache<u16, Frame>) -> bool
-    ensures { result ≡ all_locked frames.now.cap (residents frames.now.entries) }
+    ensures { result ≡ all_frames_locked frames.now.cap (residents frames.now.entries) }
 {
     if frames.len() < frames.cap().get() {
         return false;

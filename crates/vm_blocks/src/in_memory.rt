@@ -11,7 +11,7 @@ ghost use Rattle.vm_blocks.specs.Keeping.{IsEnvironmentFault, KeepsBlocks, is_lo
 ghost use Rattle.vm_blocks.specs.Preparing.{after_changes, AreApplied, AreInMemory, CanApplyAll, CanApplyAllByHandle, CanRemoveByHandle, IsInMemory, NoneComesIn};
 
 use crate::bringing_in::{bring_in_all, take_out_again};
-use crate::part::{is_exact, validity};
+use crate::part::{is_exact, reveal_invariant};
 use crate::{Change, Direction, FileBlocks, PartChange};
 use geos_model::{Fault, VmHandle};
 use vm_store::Store;
@@ -93,7 +93,7 @@ fn change_others<S: Store>(
         ≡ after_changes (others (directed_all direction changes.now)) blocks.old.document) }
 {
     load_all(blocks, changes, direction)?;
-    blocks.validity();
+    blocks.reveal_invariant();
     if !carry_out_all(blocks, changes, direction) {
         return Err(Obstacle::NotInMemory);
     }
@@ -128,7 +128,7 @@ fn is_reversible<S: Store>(blocks: &FileBlocks<S>, change: &Change, direction: D
     ensures no { result ≡ false → IsInMemory (directed direction change.now) blocks.now
         → FitsInPlace (directed direction change.now) blocks.now.document → ⊥ }
 {
-    blocks.validity();
+    blocks.reveal_invariant();
     match change {
         Change::BlocksIn(_) | Change::BlocksOut(_) | Change::Map { .. } => true,
         Change::Part(handle, part) => is_reversible_part(blocks, *handle, part, direction),
@@ -154,7 +154,7 @@ fn is_reversible_part<S: Store>(
         return false;
     }
     let body = blocks.body(handle);
-    validity(body);
+    reveal_invariant(body);
     is_exact(body, part, direction)
 }
 
@@ -246,7 +246,7 @@ fn load_for<S: Store>(
     ensures sure { IsInMemory (directed direction change.now) blocks.old
         → IsOk result × StaysInMemory blocks.old blocks.new }
 {
-    blocks.validity();
+    blocks.reveal_invariant();
     match change {
         Change::Part(handle, _) if blocks.is_live(*handle) => blocks.load_live(*handle),
         _ => Ok(()),

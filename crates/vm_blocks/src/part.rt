@@ -80,7 +80,7 @@ pub(crate) fn is_exact(body: &BlockBody, change: &PartChange, direction: Directi
 }
 
 /// It does nothing: its caller learns that a body in memory is one that can be.
-pub(crate) fn validity(body: &BlockBody)
+pub(crate) fn reveal_invariant(body: &BlockBody)
     ensures { is_valid_body (body_value body.now) ≡ true }
 {
     match body {

@@ -29,7 +29,7 @@ fn put_of<S: Store>(
     ensures is { IfOk result
         (λ put. put_all (put ∷ []) file.now.document ≡ with_body file.now.document block.0 (body_value body.now)) }
 {
-    file.validity();
+    file.reveal_invariant();
     let place = file.entry(block).unwrap();
     Ok(Member {
         handle: block,
@@ -101,7 +101,7 @@ pub fn read_body<S: Store>(
     ensures fails { Fails S.facts
         (IsDamage (S.facts file.old.disk.store).honest) file.old.disk.store file.new.disk.store result }
 {
-    file.validity();
+    file.reveal_invariant();
     let is_heap = file.entry(block).unwrap().is_heap;
     let image = file.read_block(block)?;
     match read_image(region, &image) {
@@ -168,7 +168,7 @@ pub fn begin_commit<S: Store>(
     // Refusals.
     ensures fails { Fails S.facts IsWorn file.old.disk.store file.new.disk.store result }
 {
-    file.validity();
+    file.reveal_invariant();
     if file.is_worn() {
         return Err(Fault::Worn);
     }

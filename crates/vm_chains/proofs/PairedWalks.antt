@@ -15,7 +15,7 @@ use Rattle.vm_blocks.proofs.KeepingLaws.{keeps-same, lacks-later}
 use Rattle.vm_chains.specs.Answers.{AnswersChain}
 use Rattle.vm_chains.specs.Alike.{are_alike, mark_of}
 use Rattle.vm_chains.specs.Comparing.{AreCompared, AreEqualIf, AreInStep, IsMarkedStep}
-use Rattle.vm_chains.specs.Stepping.{IsAlong, IsAtRoot, IsOver, IsStep}
+use Rattle.vm_chains.specs.Stepping.{IsAlong, IsAtRoot, IsOver, IsWalkStep}
 use Rattle.vm_chains.specs.Walking.{Stops}
 use Rattle.vm_chains.specs.declared.stepping.Walk.{Walk}
 use Rattle.vm_chains.proofs.ChainLemmas.{blocks_are, distinct_of}
@@ -48,7 +48,7 @@ to_come d root walk hs along is =
     behind walk.met hs (blocks_from walk.left d walk.pending) (distinct_of o hs (sym (chain_is d root o along.rest) ∙ is)).0
 
 -- by a step of the walk, or by its end
-to_come_at_step : (d : Document) (root h : ℕ) (old new : Walk) (hs : List ℕ) → IsAlong d root old → IsStep d h old new → chain d root ≡ Some hs → (rest : List ℕ) × (hs ≡ old.met ++ h ∷ rest)
+to_come_at_step : (d : Document) (root h : ℕ) (old new : Walk) (hs : List ℕ) → IsAlong d root old → IsWalkStep d h old new → chain d root ≡ Some hs → (rest : List ℕ) × (hs ≡ old.met ++ h ∷ rest)
 to_come_at_step d root h old new hs along step is =
     let goes = to_come d root new hs (step_along d root h old new along step) is in
     (goes.0, goes.1 ∙ ap (λ (xs : List ℕ). xs ++ goes.0) step.met ∙ append_assoc old.met (h ∷ []) goes.0)
@@ -67,7 +67,7 @@ module _ (d : Document) (f s : ℕ) (first second first_then second_then : Walk)
   by_rest xs ys us vs same x_is y_is is = sym ((λ j. pointwise (are_alike d) (x_is j) (y_is j)) ∙ pointwise-prefix (are_alike d) first.met second.met us vs old.alike ∙ is)
 
   -- Each has a next block.
-  module _ (x y : ℕ) (x_step : IsStep d x first first_then) (y_step : IsStep d y second second_then) where
+  module _ (x y : ℕ) (x_step : IsWalkStep d x first first_then) (y_step : IsWalkStep d y second second_then) where
     pub pair_alike : are_alike d x y ≡ true → AreInStep d f s first_then second_then
     pair_alike alike = record {
       first_along = step_along d f x first first_then old.first_along x_step;
@@ -87,7 +87,7 @@ module _ (d : Document) (f s : ℕ) (first second first_then second_then : Walk)
 
   -- One of them has none.
 
-  pub first_longer : (x : ℕ) → IsStep d x first first_then → IsOver second second_then → AreCompared d f s false first_then second_then
+  pub first_longer : (x : ℕ) → IsWalkStep d x first first_then → IsOver second second_then → AreCompared d f s false first_then second_then
   first_longer x x_step over = record {
     first_along = step_along d f x first first_then old.first_along x_step;
     second_along = over_still d s second second_then old.second_along over;
@@ -96,7 +96,7 @@ module _ (d : Document) (f s : ℕ) (first second first_then second_then : Walk)
         by_rest xs ys (x ∷ us.0) [] false us.1 (none_to_come d s second second_then ys old.second_along over y_is) refl;
   }
 
-  pub second_longer : (y : ℕ) → IsOver first first_then → IsStep d y second second_then → AreCompared d f s false first_then second_then
+  pub second_longer : (y : ℕ) → IsOver first first_then → IsWalkStep d y second second_then → AreCompared d f s false first_then second_then
   second_longer y over y_step = record {
     first_along = over_still d f first first_then old.first_along over;
     second_along = step_along d s y second second_then old.second_along y_step;

@@ -11,7 +11,7 @@ use Rattle.geos_model.specs.declared.handle.VmHandle.{VmHandle}
 use Rattle.vm_blocks.specs.Keeping.{KeepsBlocks, IsHonest, IsEnvironmentFault}
 use Rattle.vm_blocks.proofs.KeepingLaws.{keeps-refl, keeps-same, keeps-steady, keeps-trans, lacks-later}
 use Rattle.vm_chains.specs.Numbers.{numbers}
-use Rattle.vm_chains.specs.Stepping.{AreMet, HasMet, HasMetAll, IsAlong, IsAtRoot, IsBroken, IsOver, IsStep}
+use Rattle.vm_chains.specs.Stepping.{AreMet, HasMet, HasMetAll, IsAlong, IsAtRoot, IsBroken, IsOver, IsWalkStep}
 use Rattle.vm_chains.specs.Walking.{IsChainWalk, Stops}
 use Rattle.vm_chains.specs.declared.stepping.Walk.{Walk}
 use Rattle.vm_chains.proofs.Loading.{still_live}
@@ -22,7 +22,7 @@ use Rattle.vm_chains.proofs.WalkLemmas.{member_live, met_blocks, none_met, one_m
 pub at_root : (d : Document) (root : ℕ) (walk : Walk) → IsAtRoot root walk → IsAlong d root walk
 at_root d root walk at = subst (λ (n : ℕ). IsChainWalk d root n walk.met walk.pending) (sym at.left) (walk_begins d root walk.met walk.pending at.met at.pending)
 
-pub step_along : (d : Document) (root h : ℕ) (old new : Walk) → IsAlong d root old → IsStep d h old new → IsAlong d root new
+pub step_along : (d : Document) (root h : ℕ) (old new : Walk) → IsAlong d root old → IsWalkStep d h old new → IsAlong d root new
 step_along d root h old new along step =
     let from = same_walk d root old.left (suc new.left) old.met old.pending (h ∷ step.rest) along (omega (arith, step.left)) step.next in
     let on = same_walk d root new.left new.left _ _ new.pending (walk_goes_on d root new.left old.met h step.rest from step.goes_on.member step.first_time) refl (sym step.goes_on.pending) in
@@ -58,7 +58,7 @@ none_has_met d root walk at = record {
   root_first = inl (at.met, at.pending);
 }
 
-pub step_has_met : (d : Document) (root h : ℕ) (old new : Walk) → HasMet d root old → IsStep d h old new → HasMet d root new
+pub step_has_met : (d : Document) (root h : ℕ) (old new : Walk) → HasMet d root old → IsWalkStep d h old new → HasMet d root new
 step_has_met d root h old new has step = record {
   blocks = one_met d old.left new.left h old.met new.met has.blocks step.left (member_live d h step.goes_on.member) step.first_time step.met;
   root_first = inr (root_met root h old.met old.pending step.rest new.met has.root_first step.next step.met);
@@ -92,7 +92,7 @@ module _ {S : Type 0} (facts : S → StoreFacts) where
           root_first = has.root_first;
         }
 
-    pub goes-step : (h : ℕ) (new : Walk) → IsStep c.document h old new → GoesAlong a c from new
+    pub goes-step : (h : ℕ) (new : Walk) → IsWalkStep c.document h old new → GoesAlong a c from new
     goes-step h new step = record {
       keeps = keeps-trans facts a b c goes.keeps keeps;
       along = λ root steady along. step_along c.document root h old new (still_along root steady along) step;
@@ -132,11 +132,11 @@ pub at_none : {A : Type 0} (next : Option A) (P : Type 0) (Q : A → Type 0) →
 at_none None P Q none answered = answered
 at_none (Some x) P Q none answered = absurd (none x refl)
 
-pub stepped : (d : Document) (old new : Walk) (next : Option VmHandle) (h : VmHandle) → next ≡ Some h → MatchOption next (IsOver old new) (λ x. IsStep d x.0 old new) → IsStep d h.0 old new
-stepped d old new next h is answered = at_some next h (IsOver old new) (λ x. IsStep d x.0 old new) is answered
+pub stepped : (d : Document) (old new : Walk) (next : Option VmHandle) (h : VmHandle) → next ≡ Some h → MatchOption next (IsOver old new) (λ x. IsWalkStep d x.0 old new) → IsWalkStep d h.0 old new
+stepped d old new next h is answered = at_some next h (IsOver old new) (λ x. IsWalkStep d x.0 old new) is answered
 
-pub ended : (d : Document) (old new : Walk) (next : Option VmHandle) → ((h : VmHandle) → next ≡ Some h → ⊥) → MatchOption next (IsOver old new) (λ x. IsStep d x.0 old new) → IsOver old new
-ended d old new next none answered = at_none next (IsOver old new) (λ x. IsStep d x.0 old new) none answered
+pub ended : (d : Document) (old new : Walk) (next : Option VmHandle) → ((h : VmHandle) → next ≡ Some h → ⊥) → MatchOption next (IsOver old new) (λ x. IsWalkStep d x.0 old new) → IsOver old new
+ended d old new next none answered = at_none next (IsOver old new) (λ x. IsWalkStep d x.0 old new) none answered
 
 -- a refusal, over any store
 pub refused_then : {S : Type 0} (facts : S → StoreFacts) (a b c : CacheState S) (fault : Fault) → KeepsBlocks facts a b → IsEnvironmentFault facts b.disk.store c.disk.store fault ⊎ (fault ≡ BadChain) → IsEnvironmentFault facts a.disk.store c.disk.store fault ⊎ (fault ≡ BadChain)

@@ -4,13 +4,13 @@ use lib.Pointwise.{pointwise}
 use Rattle.geos_model.specs.Chain.{chain, chain_blocks, relinked, same_shape}
 use Rattle.geos_model.specs.Document.{Document, raw_bytes_of}
 use Rattle.vm_chains.specs.Alike.{are_alike, mark_of}
-use Rattle.vm_chains.specs.Stepping.{IsAlong, IsStep}
+use Rattle.vm_chains.specs.Stepping.{IsAlong, IsWalkStep}
 use Rattle.vm_chains.specs.declared.stepping.Walk.{Walk}
 
 -- A step is made, and the block that it meets has these bytes, with a mark for each of its links.
 pub record IsMarkedStep (d : Document) (bytes : List ℕ) (old new : Walk) : Type 0 where
   pub block : ℕ
-  pub step : IsStep d block old new
+  pub step : IsWalkStep d block old new
   pub marked : bytes ≡ relinked mark_of (raw_bytes_of d block)
 
 -- Two walks have met as many blocks, and those at the same place are alike.

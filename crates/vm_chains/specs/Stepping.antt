@@ -21,7 +21,7 @@ IsAlong d root walk = IsChainWalk d root walk.left walk.met walk.pending
 
 -- The next block that is pending is one of a chain and is met for the first time, and then what it links to is pending
 -- before all else.
-pub record IsStep (d : Document) (h : ℕ) (old new : Walk) : Type 0 where
+pub record IsWalkStep (d : Document) (h : ℕ) (old new : Walk) : Type 0 where
   pub rest : List ℕ
   pub next : old.pending ≡ h ∷ rest
   pub first_time : list_any (λ x. x == h) old.met ≡ false

@@ -20,7 +20,7 @@ pub record GoesOn (d : Document) (h : ℕ) (old new : List ℕ) : Type 0 where
   pub pending : new ≡ links (raw_bytes_of d h) ++ old
 
 -- a mark stands at each of these handles, and at no other
-pub record AreMarked (hs : List ℕ) (marks : List Bool) : Type 0 where
+pub record AreMarksOf (hs : List ℕ) (marks : List Bool) : Type 0 where
   pub size : length marks ≡ most_blocks + 1
   pub marked : (h : ℕ) → get_or marks h false ≡ list_any (λ x. x == h) hs
 

@@ -81,7 +81,7 @@ fn have_same_shape<S: Store>(
     ensures refusals { IfErr result
         (λ fault. IsEnvironmentFault S.facts blocks.old.disk.store blocks.new.disk.store fault ⊎ (fault ≡ BadChain)) }
 {
-    blocks.validity();
+    blocks.reveal_invariant();
     let mut first = Walk::new(alloc, first_root)?;
     let mut second = Walk::new(alloc, second_root)?;
     let same = are_alike(alloc, blocks, &mut first, &mut second)?;

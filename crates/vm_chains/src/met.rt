@@ -19,13 +19,13 @@ pub(crate) struct Met {
 impl Model for Met {
     ghost use Rattle.std.specs.Prelude.{List, ℕ};
     ghost use Rattle.vm_chains.specs.Numbers.{numbers};
-    ghost use Rattle.vm_chains.specs.Walking.{AreMarked};
+    ghost use Rattle.vm_chains.specs.Walking.{AreMarksOf};
 
     ghost Value = { List ℕ };
 
     ghost view = { λ m. numbers m.handles.items };
 
-    ghost invariant = { λ m. AreMarked (numbers m.handles.items) m.marks.items };
+    ghost invariant = { λ m. AreMarksOf (numbers m.handles.items) m.marks.items };
 }
 
 impl Met {

@@ -4,7 +4,7 @@ ghost use Rattle.geos_model.specs.Chain.{chain, is_member};
 ghost use Rattle.geos_model.specs.declared.fault.Fault.TheVariants.{BadChain};
 ghost use Rattle.vm_blocks.specs.Keeping.{KeepsBlocks, IsHonest, IsEnvironmentFault, is_full, is_loaded};
 ghost use Rattle.vm_chains.specs.Numbers.{numbers};
-ghost use Rattle.vm_chains.specs.Stepping.{IsAtRoot, IsAlong, IsBroken, IsOver, IsStep, HasMet, HasMetAll};
+ghost use Rattle.vm_chains.specs.Stepping.{IsAtRoot, IsAlong, IsBroken, IsOver, IsWalkStep, HasMet, HasMetAll};
 ghost use Rattle.vm_chains.specs.Walking.{GoesOn, Stops};
 
 use crate::links::{links_of, push_links};
@@ -49,7 +49,7 @@ impl Walk {
         // What is answered.
         ensures value { MatchResult result
             (λ next. MatchOption next (IsOver self.old self.new)
-            (λ h. IsStep blocks.new.document h.0 self.old self.new))
+            (λ h. IsWalkStep blocks.new.document h.0 self.old self.new))
             (Stops (IsEnvironmentFault S.facts blocks.old.disk.store blocks.new.disk.store)
             (IsBroken blocks.new.document self.old)) }
         ensures loaded { IfOk result (λ next. IfSome next (λ h. is_loaded blocks.new h.0 ≡ true)) }
@@ -65,7 +65,7 @@ impl Walk {
         if self.met.contains(handle) {
             return Err(Fault::BadChain);
         }
-        blocks.validity();
+        blocks.reveal_invariant();
         follow(blocks, handle, &mut self.pending)?;
         self.met.add(handle)?;
         self.left -= 1;
@@ -94,7 +94,7 @@ impl Walk {
             (λ fault. IsEnvironmentFault S.facts blocks.old.disk.store blocks.new.disk.store fault
             ⊎ (fault ≡ BadChain)) }
     {
-        blocks.validity();
+        blocks.reveal_invariant();
         while let Some(_next) = self.step(blocks)? {}
         Ok(self.met.into_handles())
     }

@@ -1,7 +1,7 @@
 -- A slot that is whole but for its gate: with the gate open, a file that a crash leaves stands for what the slot leads to.
 use Rattle.std.proofs.Common.{◌≡◌, ◌≢◌, ℕ, ◌+◌, ◌*◌, List, [], ◌∷◌, All, refl, ap, subst, ◌∙◌, arith, inr}
 use Rattle.vm_store.specs.Facts.{StoreFacts, byte}
-use Rattle.vm_store.specs.Bytes.{puts-put, torn-put}
+use Rattle.vm_store.specs.Bytes.{writes-after_write, torn-after_write}
 use Rattle.vm_file.specs.Ranges.{IsPlaced}
 use Rattle.vm_file.specs.Slots.{prepared_extents, spare_of, LeadsTo, IsBeside, Outcome, CrashLeavesSlots}
 use Rattle.vm_file.specs.Documents.{Documents, documents_in, attempted_in}
@@ -37,13 +37,13 @@ module _ (slots : Slots) (pair : Pair) (file : List ℕ) (is : slots.spare ≡ P
 
     outcome : Outcome slots file opened
     unfolding opened isnt
-    outcome = outcome_torn (512 * spare_of slots + 4) 1 slots file c opened are.placed (spares_gate slots are.placed isnt) (torn-put (512 * spare_of slots + 4) (1 ∷ []) c) was
+    outcome = outcome_torn (512 * spare_of slots + 4) 1 slots file c opened are.placed (spares_gate slots are.placed isnt) (torn-after_write (512 * spare_of slots + 4) (1 ∷ []) c) was
 
     gate : byte opened (512 * spare_of slots + 4) ≡ 1
     unfolding opened
     gate =
         let here : 512 * spare_of slots + 4 ≡ 512 * spare_of slots + 4 + 0 = omega arith in
-        ap (byte opened) here ∙ (puts-put (512 * spare_of slots + 4) (1 ∷ []) c).each 0 (omega arith)
+        ap (byte opened) here ∙ (writes-after_write (512 * spare_of slots + 4) (1 ∷ []) c).each 0 (omega arith)
 
     leads : LeadsTo (spare_of slots) 2 (slots.sequence + 1) pair file opened
     unfolding opened outcome

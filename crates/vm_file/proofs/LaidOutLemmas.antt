@@ -4,8 +4,8 @@ use Rattle.std.specs.Prelude.{IfSome}
 use Rattle.std.specs.Option.{option_map, option_map_or}
 use Rattle.std.proofs.lemmas.List.Elements.{All-nil, All-cons, All-head, All-tail, All-append}
 use Rattle.std.proofs.lemmas.List.{map-append, take_more}
-use Rattle.vm_store.specs.Facts.{byte, Puts}
-use Rattle.vm_store.specs.Laws.{Holds-Puts}
+use Rattle.vm_store.specs.Facts.{byte, WritesBytes}
+use Rattle.vm_store.specs.Laws.{Holds-WritesBytes}
 use Rattle.geos_model.specs.Document.{Block, most_blocks, is_heap, is_heap_body, is_live, attributes_of, no_attributes, FitAttributes}
 use Rattle.geos_model.proofs.Table.{table_map}
 use Rattle.geos_model.specs.Image.{body_of, body_read}
@@ -81,7 +81,7 @@ module _ (source old c d : List ℕ) (honest : Type 0) (ps : List (Option Place)
     new = record place { extent = record { page = page; length = place.extent.length } }
 
     image_there : bytes_in d new.extent ≡ written.image
-    image_there = bytes_held d written.image new.extent written.size (Holds-Puts (512 * page) written.image c d written.put)
+    image_there = bytes_held d written.image new.extent written.size (Holds-WritesBytes (512 * page) written.image c d written.put)
 
     new_imaged : IsImaged d new
     new_imaged = record {
@@ -169,7 +169,7 @@ copied_as p q (Some place) H K a b c d is from same copied = record {
   image = copied.image;
   is_image = copied.is_image;
   size = copied.size;
-  put = subst (λ n. Puts (512 * n) copied.image c d) is copied.put;
+  put = subst (λ n. WritesBytes (512 * n) copied.image c d) is copied.put;
   same = λ so. copied.same (from so) ∙ ap (λ f. bytes_in f place.extent) (same so);
 }
 

@@ -4,8 +4,8 @@ use Rattle.std.specs.Prelude.{if◌then◌else◌, IfSome}
 use Rattle.std.specs.FinMap.{from_entries}
 use Rattle.std.proofs.lemmas.List.{append-nil}
 use Rattle.std.proofs.lemmas.List.Elements.{All-nil, All-cons, All-append}
-use Rattle.vm_store.specs.Facts.{StoreFacts, byte, Holds, Puts, IsDurable}
-use Rattle.vm_store.specs.Laws.{Holds-Puts}
+use Rattle.vm_store.specs.Facts.{StoreFacts, byte, Holds, WritesBytes, IsDurable}
+use Rattle.vm_store.specs.Laws.{Holds-WritesBytes}
 use Rattle.geos_model.specs.Document.{empty_document, FitAttributes}
 use Rattle.geos_model.proofs.Table.{table_entries, table_map}
 use Rattle.geos_model.specs.File.{slot_mark, directory_text, open_slot}
@@ -29,10 +29,10 @@ use Rattle.vm_file.proofs.StandsLemmas.{fits_pair, lead_open, slot_value}
 
 -- Bytes that are put.
 
-put_byte : (at i : ℕ) (bytes a b : List ℕ) → (i < at) ⊎ (at + length bytes ≤ i) → Puts at bytes a b → byte b i ≡ byte a i
+put_byte : (at i : ℕ) (bytes a b : List ℕ) → (i < at) ⊎ (at + length bytes ≤ i) → WritesBytes at bytes a b → byte b i ≡ byte a i
 put_byte at i bytes a b out puts = elim out as (λ _. byte b i ≡ byte a i) [ inl before ↦ puts.below i before | inr behind ↦ puts.above i behind ]
 
-put_holds : (at from : ℕ) (bytes xs a b : List ℕ) → IsOut at (length bytes) from (from + length xs) → Puts at bytes a b → Holds a from xs → Holds b from xs
+put_holds : (at from : ℕ) (bytes xs a b : List ℕ) → IsOut at (length bytes) from (from + length xs) → WritesBytes at bytes a b → Holds a from xs → Holds b from xs
 put_holds at from bytes xs a b out puts was = record {
   within = omega (arith, puts.size, was.within);
   each = λ i inside.
@@ -49,19 +49,19 @@ unfolding gate_text
 gate_long directory = refl
 
 -- The directory is put, and then the slots.
-pub slots_laid : (directory : Extent) (text a b c d : List ℕ) → 2 ≤ directory.page → Puts (start_of directory) text a b → Puts 0 (first_slot directory) b c → Puts 512 slot_mark c d → IsLaid 0 directory text a d
+pub slots_laid : (directory : Extent) (text a b c d : List ℕ) → 2 ≤ directory.page → WritesBytes (start_of directory) text a b → WritesBytes 0 (first_slot directory) b c → WritesBytes 512 slot_mark c d → IsLaid 0 directory text a d
 slots_laid directory text a b c d behind directory_put first second =
     let long = first_long directory in
     let rest = gate_long directory in
-    let there = Holds-Puts 0 (first_slot directory) b c first in
-    let text_there = Holds-Puts (start_of directory) text a b directory_put in
+    let there = Holds-WritesBytes 0 (first_slot directory) b c first in
+    let text_there = Holds-WritesBytes (start_of directory) text a b directory_put in
     let gate : List ℕ = gate_text 2 1 directory directory in
     let P : List ℕ → Type 0 = λ xs. Holds c 0 (slot_mark ++ 0 ∷ xs) in
     record {
       gate_is = second.below 4 (omega arith) ∙ first.each 4 (omega (arith, long));
       marked = put_holds 512 0 slot_mark slot_mark c d (inl (omega arith)) second (holds_part c 0 [] slot_mark (0 ∷ gate) there);
       rest = put_holds 512 5 slot_mark gate c d (inl (omega (arith, rest))) second (holds_part c 0 (slot_mark ++ 0 ∷ []) gate [] (subst P (sym (append-nil gate)) there));
-      second = Holds-Puts 512 slot_mark c d second;
+      second = Holds-WritesBytes 512 slot_mark c d second;
       beside = second.above 516 (omega arith) ∙ first.above 516 (omega (arith, long)) ∙ directory_put.below 516 (omega (arith, behind));
       there = put_holds 512 (start_of directory) slot_mark text c d (inr (omega (arith, behind))) second (put_holds 0 (start_of directory) (first_slot directory) text b c (inr (omega (arith, behind, long))) first text_there);
       others = λ i high apart out. put_byte 512 i slot_mark c d apart second ∙ first.above i (omega (arith, long)) ∙ put_byte (start_of directory) i text a b out directory_put;

@@ -2,7 +2,7 @@
 use Rattle.std.specs.Prelude.{◌≡◌, ◌⊎◌, ℕ, ◌+◌, ◌*◌, ◌≤◌, Bool, IsTrue, List, [], ◌∷◌, true, Result, Ok, OnOk, OnErr, MatchResult, refl, Option, None, Some}
 use Rattle.std.specs.Coded.{Coded, code_by, coded×, coded_ℕ, coded_list, coded_option}
 use Rattle.vm_store.specs.Facts.{StoreFacts}
-use Rattle.vm_store.specs.Bytes.{put}
+use Rattle.vm_store.specs.Bytes.{after_write}
 use Rattle.geos_model.specs.Document.{Document, block_at, is_heap, is_live, is_valid_body, is_vm_handle, attributes_of, IsTyped}
 use Rattle.geos_model.specs.File.{stands}
 use Rattle.geos_model.specs.declared.fault.Fault.{Fault}
@@ -77,7 +77,7 @@ ContentStands facts disk =
 
 -- the file with the gate of a slot open
 abbrev pub with_gate_open : ℕ → List ℕ → List ℕ
-with_gate_open slot file = put (512 * slot + 4) (1 ∷ []) file
+with_gate_open slot file = after_write (512 * slot + 4) (1 ∷ []) file
 
 -- A slot is whole but for its gate: each content that a crash now may leave, with that gate open, stands for the pair
 -- under this number.

@@ -1,6 +1,6 @@
 -- The making of a file.
 use Rattle.std.specs.Prelude.{◌≡◌, ◌⊎◌, ℕ, ◌+◌, ◌*◌, ◌<◌, ◌≤◌, max, false, List, [], ◌∷◌, ◌++◌, All, IfSome, Option, None, Some, length, replicate, take, drop}
-use Rattle.vm_store.specs.Facts.{byte, Holds, Puts}
+use Rattle.vm_store.specs.Facts.{byte, Holds, WritesBytes}
 use Rattle.geos_model.specs.File.{slot_mark, slot_text, Directory, directory_text, bytes_in, pages_of}
 use Rattle.geos_model.specs.declared.file.Extent.{Extent}
 use Rattle.geos_model.specs.declared.file.Slot.{Slot}
@@ -123,7 +123,7 @@ pub record IsImageCopied (page : ℕ) (place : Place) (honest : Type 0) (source 
   pub image : List ℕ
   pub is_image : IsImageOf place.is_heap image
   pub size : length image ≡ place.extent.length
-  pub put : Puts (512 * page) image old new
+  pub put : WritesBytes (512 * page) image old new
   pub same : honest → image ≡ bytes_in source place.extent
 
 abbrev pub IsBlockCopied : ℕ → Option Place → Type 0 → List ℕ → List ℕ → List ℕ → Type 0

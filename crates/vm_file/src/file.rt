@@ -174,7 +174,7 @@ impl<S: Store> VmFile<S> {
     }
 
     /// It does nothing: its caller learns what always holds of a file.
-    pub fn validity(&self)
+    pub fn reveal_invariant(&self)
         ensures { IsFile S.facts self.now }
     {
         // What is always so of the fields is known where one is named.

@@ -143,7 +143,7 @@ impl Image {
     }
 
     /// It does nothing: its caller learns that the body is one that a document can have.
-    pub fn validity(&self)
+    pub fn reveal_invariant(&self)
         ensures { is_valid_body self.now ≡ true }
     {
         // What is always so of the fields is known where one is named.

@@ -1,7 +1,7 @@
 //! The making of a file.
 ghost use Rattle.std.specs.Prelude.{◌≡◌, ◌≢◌, ◌≤◌, ℕ, List, [], ◌∷◌, IsTrue, OnOk, IfOk, IfErr, IsErrOf, length};
 ghost use Rattle.geos_model.specs.File.{slot_mark};
-ghost use Rattle.vm_store.specs.Facts.{IsDurable, Puts, Counts, FailedSince};
+ghost use Rattle.vm_store.specs.Facts.{IsDurable, WritesBytes, Counts, FailedSince};
 ghost use Rattle.vm_format.specs.Reading.{IsResourceFault};
 ghost use Rattle.vm_file.specs.Making.{first_directory, first_slot, first_file, IsLaid, IsNewSlots};
 ghost use Rattle.vm_file.specs.Sound.{IsSound};
@@ -65,8 +65,8 @@ fn write_slots<S: Store>(store: &mut S, directory: Extent) -> Result<(), StoreFa
     ensures honest { (S.facts store.new).honest ≡ (S.facts store.old).honest }
     ensures failures { Counts result (S.facts store.old) (S.facts store.new) }
     ensures first { OnOk result (IsTrue (S.facts store.old).honest
-        → (c : List ℕ) × Puts 0 (first_slot directory) (S.facts store.old).content c
-        × Puts 512 slot_mark c (S.facts store.new).content) }
+        → (c : List ℕ) × WritesBytes 0 (first_slot directory) (S.facts store.old).content c
+        × WritesBytes 512 slot_mark c (S.facts store.new).content) }
     ensures durable { OnOk result (IsTrue (S.facts store.old).honest → IsDurable (S.facts store.new)) }
 {
     store.write_at(0, &first_slot_bytes(directory))?;
@@ -96,7 +96,7 @@ fn open_first<S: Store>(store: &mut S) -> Result<(), StoreFault>
     ensures honest { (S.facts store.new).honest ≡ (S.facts store.old).honest }
     ensures failures { Counts result (S.facts store.old) (S.facts store.new) }
     ensures opened { OnOk result (IsTrue (S.facts store.old).honest
-        → Puts 4 (1 ∷ []) (S.facts store.old).content (S.facts store.new).content) }
+        → WritesBytes 4 (1 ∷ []) (S.facts store.old).content (S.facts store.new).content) }
     ensures durable { OnOk result (IsTrue (S.facts store.old).honest → IsDurable (S.facts store.new)) }
 {
     store.write_at(4, &[1])?;

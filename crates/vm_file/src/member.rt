@@ -29,7 +29,7 @@ impl BlockImage {
         requires { IsTyped (is_heap_body image) attributes }
         ensures { imaged_block result ≡ record { attributes = attributes; body = image } }
     {
-        image.validity();
+        image.reveal_invariant();
         BlockImage { attributes, image }
     }
 

@@ -102,7 +102,7 @@ impl<S: Store> StoredDocuments<S> {
     }
 
     /// It does nothing: its caller learns what always holds of the documents.
-    pub fn validity(&self)
+    pub fn reveal_invariant(&self)
         ensures { AreFileDocuments S.facts self.now }
     {
         // What is always so of the fields is known where one is named.

@@ -9,8 +9,8 @@ use Rattle.geos_model.specs.declared.file.Entry.{Entry}
 use Rattle.vm_format.specs.declared.directory.Directory.{Directory}
 
 -- a directory as the definitions see it
-abbrev pub shown : Directory → file.Directory
-shown d = record { version = d.version; map_block = d.map_block.0; entries = d.entries.items }
+abbrev pub as_directory : Directory → file.Directory
+as_directory d = record { version = d.version; map_block = d.map_block.0; entries = d.entries.items }
 
 -- the version of a directory, behind its mark
 abbrev pub version_read : List ℕ → ℕ

@@ -5,7 +5,7 @@ use Rattle.geos_model.specs.File.{bytes_in, directory_of, is_directory, is_in_fi
 use Rattle.geos_model.specs.declared.fault.Fault.{Fault}
 use Rattle.geos_model.specs.declared.fault.Fault.TheVariants.{Memory, File, Damaged, NotDocument}
 use Rattle.geos_model.specs.declared.file.Extent.{Extent}
-use Rattle.vm_format.specs.Listed.{shown}
+use Rattle.vm_format.specs.Listed.{as_directory}
 use Rattle.vm_format.specs.declared.stored_directory.ReadDirectory.{ReadDirectory}
 use Rattle.vm_format.specs.declared.stored_directory.ReadDirectory.TheVariants.{Misplaced, Wrong, Right}
 
@@ -38,14 +38,14 @@ pub record IsDirectoryPlace (version n : ℕ) (e : Extent) : Type 0 where
   pub short : e.length ≤ longest_directory
 
 -- a directory of a file of a version was read from an extent
-abbrev pub IsRead : ℕ → Extent → ReadDirectory → List ℕ → Type 0
-IsRead version e Misplaced file = directory_of version file e ≡ None
-IsRead version e (Wrong bytes) file = (bytes.items ≡ bytes_in file e) × (directory_of version file e ≡ None)
-IsRead version e (Right directory) file = directory_of version file e ≡ Some (shown directory)
+abbrev pub IsDirectoryRead : ℕ → Extent → ReadDirectory → List ℕ → Type 0
+IsDirectoryRead version e Misplaced file = directory_of version file e ≡ None
+IsDirectoryRead version e (Wrong bytes) file = (bytes.items ≡ bytes_in file e) × (directory_of version file e ≡ None)
+IsDirectoryRead version e (Right directory) file = directory_of version file e ≡ Some (as_directory directory)
 
 -- what was read from any store is a directory that can be in a file of a version and of n bytes, where one can lie
 abbrev pub IsFormedRead : ℕ → ℕ → Extent → ReadDirectory → Type 0
 IsFormedRead version n e Misplaced = Unit {0}
 IsFormedRead version n e (Wrong bytes) = Unit {0}
 IsFormedRead version n e (Right directory) =
-    (is_directory version n (shown directory) ≡ true) × IsDirectoryPlace version n e
+    (is_directory version n (as_directory directory) ≡ true) × IsDirectoryPlace version n e

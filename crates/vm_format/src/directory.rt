@@ -3,7 +3,7 @@ ghost use Rattle.std.specs.Prelude.{◌≡◌, ◌⊎◌, ◌≤◌, ◌↔◌, 
 ghost use Rattle.std.specs.List.{list_any};
 ghost use Rattle.geos_model.specs.File.{directory_text, directory_in, header_text, entry_text, entry_read, is_entry, is_map_block, is_version_in, greatest_handle};
 ghost use Rattle.geos_model.specs.declared.fault.Fault.TheVariants.{Memory, Damaged};
-ghost use Rattle.vm_format.specs.Listed.{shown, HasHeader, IsNextEntry, entries_read, are_entries};
+ghost use Rattle.vm_format.specs.Listed.{as_directory, HasHeader, IsNextEntry, entries_read, are_entries};
 
 use crate::extent::{extent_of_text, write_extent};
 use crate::pages::is_in_file;
@@ -132,7 +132,7 @@ pub fn read_dir(
     file_length: u64,
     file_version: u8,
 ) -> Result<Directory, Fault>
-    ensures read { IfOk result (λ d. directory_in file_version file_length bytes.now ≡ Some (shown d)) }
+    ensures read { IfOk result (λ d. directory_in file_version file_length bytes.now ≡ Some (as_directory d)) }
     ensures damaged { result ≡ Err Damaged → directory_in file_version file_length bytes.now ≡ None }
     ensures refused { IfErr result (λ fault. (fault ≡ Damaged) ⊎ (fault ≡ Memory)) }
 {

@@ -2,8 +2,8 @@
 ghost use Rattle.std.specs.Prelude.{◌≡◌, ◌↔◌, IsTrue, IfOk, IfErr, IsErrOf, Some, None, length, true};
 ghost use Rattle.geos_model.specs.File.{directory_of, is_directory};
 ghost use Rattle.vm_store.specs.Facts.{FailedSince};
-ghost use Rattle.vm_format.specs.Listed.{shown};
-ghost use Rattle.vm_format.specs.Reading.{IsDirectoryPlace, IsFormedRead, IsRead, IsReadRefusal, IsResourceFault, OnlyReadsStore};
+ghost use Rattle.vm_format.specs.Listed.{as_directory};
+ghost use Rattle.vm_format.specs.Reading.{IsDirectoryPlace, IsFormedRead, IsDirectoryRead, IsReadRefusal, IsResourceFault, OnlyReadsStore};
 
 use crate::directory::{Directory, HEADER_LENGTH, LONGEST_DIRECTORY, read_dir};
 use crate::pages::is_in_file;
@@ -46,7 +46,7 @@ pub fn look_for_directory<S: Store>(
     // What is read.
     ensures formed { IfOk result (IsFormedRead version file_length extent) }
     ensures read { IfOk result (λ read. IsTrue (S.facts store.old).honest
-        → IsRead version extent read (S.facts store.old).content) }
+        → IsDirectoryRead version extent read (S.facts store.old).content) }
     // Refusals.
     ensures file { IsErrOf result Fault.File → FailedSince (S.facts store.old) (S.facts store.new) }
     ensures refusals { IfErr result IsResourceFault }
@@ -75,10 +75,10 @@ pub fn read_directory<S: Store>(
     // The store.
     ensures looks { OnlyReadsStore (S.facts store.old) (S.facts store.new) }
     // The directory.
-    ensures formed { IfOk result (λ d. is_directory version file_length (shown d) ≡ true) }
+    ensures formed { IfOk result (λ d. is_directory version file_length (as_directory d) ≡ true) }
     ensures place { IfOk result (λ d. IsDirectoryPlace version file_length extent) }
     ensures read { IfOk result (λ d. IsTrue (S.facts store.old).honest
-        → directory_of version (S.facts store.old).content extent ≡ Some (shown d)) }
+        → directory_of version (S.facts store.old).content extent ≡ Some (as_directory d)) }
     // Refusals.
     ensures damaged { IsErrOf result Fault.Damaged → IsTrue (S.facts store.old).honest
         → directory_of version (S.facts store.old).content extent ≡ None }

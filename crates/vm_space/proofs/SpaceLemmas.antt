@@ -2,7 +2,7 @@
 use Rattle.std.proofs.Common.{◌≡◌, ℕ, ◌+◌, ◌<◌, ◌≤◌, true, false, cond, List, length, get_or, set, sym, ap, ◌∙◌, arith, leb, ltb, inl, inr, ◌⊎◌, zero, suc, ◌*◌, ◌-◌, max, min, [], ◌∷◌, replicate, count_by, refl, subst}
 use Rattle.std.proofs.lemmas.Bool.{cases_lt, cases_eq, cases_Bool, le-leb, lt-ltb, leb-true, ltb-true, and_parts, and_from, false≢true}
 use Rattle.std.proofs.lemmas.List.{get_or-set_same, get_or-set_other, length-set, get_or-replicate, length-replicate, get_or_past}
-use Rattle.vm_space.specs.Space.{is_within, AreRaised, IsRun, Space, is_on, AreTaken, IsTaken, IsFirstRun, IsHint, IsLargestHint, IsSpaceSound}
+use Rattle.vm_space.specs.Space.{is_within, AreCountsRaised, IsRun, Space, is_on, AreTaken, IsTaken, IsFirstRun, IsHint, IsLargestHint, IsSpaceSound}
 use Rattle.std.specs.List.Sorted.{IsPermutation}
 use Rattle.std.proofs.lemmas.List.Sorted.{sum_by-IsPermutation, length_permutation, All-permutation}
 use Rattle.std.proofs.lemmas.List.Sums.{count_by-le-length}
@@ -56,10 +56,10 @@ once_same start end page other = elim (cases_lt page start) [
   ]
 ]
 
-pub raised-none : (start : ℕ) (counts : List ℕ) → AreRaised start start counts counts
+pub raised-none : (start : ℕ) (counts : List ℕ) → AreCountsRaised start start counts counts
 raised-none start counts page = (let no = once_no start start page (λ l h. absurd (omega (arith, l, h))) in omega (arith, no))
 
-pub raised_more : (start end : ℕ) (old new : List ℕ) → start ≤ end → end < length new → AreRaised start end old new → AreRaised start (end + 1) old (set new end (get_or new end 0 + 1))
+pub raised_more : (start end : ℕ) (old new : List ℕ) → start ≤ end → end < length new → AreCountsRaised start end old new → AreCountsRaised start (end + 1) old (set new end (get_or new end 0 + 1))
 raised_more start end old new order l raised page = elim (cases_eq page end) [
   | inl here ↦
       let before : get_or new end 0 ≡ once start end end + get_or old end 0 = raised end in
@@ -74,7 +74,7 @@ raised_more start end old new order l raised page = elim (cases_eq page end) [
       omega (arith, before, same, now)
 ]
 
-pub lowered_more : (start end x : ℕ) (old new : List ℕ) → start ≤ end → end < length new → x + 1 ≡ get_or new end 0 → AreRaised start end new old → AreRaised start (end + 1) (set new end x) old
+pub lowered_more : (start end x : ℕ) (old new : List ℕ) → start ≤ end → end < length new → x + 1 ≡ get_or new end 0 → AreCountsRaised start end new old → AreCountsRaised start (end + 1) (set new end x) old
 lowered_more start end x old new order l some raised page = elim (cases_eq page end) [
   | inl here ↦
       let before : get_or old end 0 ≡ once start end end + get_or new end 0 = raised end in
@@ -164,7 +164,7 @@ run_free taken counts page n extents is_length are run i d l =
     ]
 
 -- One more is taken, and one is given back.
-pub taken-more : (taken : List Extent) (e : Extent) (old new : List ℕ) (count : ℕ) → 2 ≤ e.page → IsLength e.length → AreTaken taken (record { counts = old; count = count }) → AreRaised e.page (end_page e) old new → AreTaken (e ∷ taken) (record { counts = new; count = count + 1 })
+pub taken-more : (taken : List Extent) (e : Extent) (old new : List ℕ) (count : ℕ) → 2 ≤ e.page → IsLength e.length → AreTaken taken (record { counts = old; count = count }) → AreCountsRaised e.page (end_page e) old new → AreTaken (e ∷ taken) (record { counts = new; count = count + 1 })
 taken-more taken e old new count behind is_length are raised = record {
   extents = each_cons taken e (behind, is_length) are.extents;
   count = (let old_count = are.count in omega (arith, old_count));
@@ -175,7 +175,7 @@ taken-more taken e old new count behind is_length are raised = record {
     each_cons xs e one all zero d l = one
     each_cons xs e one all (suc k) d l = all k d (omega (arith, l))
 
-pub taken-less : (rest : List Extent) (e : Extent) (old new : List ℕ) (count less : ℕ) → AreTaken (e ∷ rest) (record { counts = old; count = count }) → AreRaised e.page (end_page e) new old → less + 1 ≡ count → AreTaken rest (record { counts = new; count = less })
+pub taken-less : (rest : List Extent) (e : Extent) (old new : List ℕ) (count less : ℕ) → AreTaken (e ∷ rest) (record { counts = old; count = count }) → AreCountsRaised e.page (end_page e) new old → less + 1 ≡ count → AreTaken rest (record { counts = new; count = less })
 taken-less rest e old new count less are raised one = record {
   extents = λ k d l. are.extents (suc k) d (omega (arith, l));
   count = (let old_count = are.count in omega (arith, old_count, one));
@@ -243,17 +243,17 @@ run_fits taken counts count from n page few is_length are hint is =
     }
 
 -- Hints, when pages are taken and when they are given back.
-pub run_less : (start end n page : ℕ) (old new : List ℕ) → AreRaised start end old new → IsRun new n page → IsRun old n page
+pub run_less : (start end n page : ℕ) (old new : List ℕ) → AreCountsRaised start end old new → IsRun new n page → IsRun old n page
 run_less start end n page old new raised run k low high = (let is = raised k in let none = run k low high in omega (arith, is, none))
 
-pub hint-raised : (start end n hint : ℕ) (old new : List ℕ) → AreRaised start end old new → IsHint old n hint → IsHint new n hint
+pub hint-raised : (start end n hint : ℕ) (old new : List ℕ) → AreCountsRaised start end old new → IsHint old n hint → IsHint new n hint
 hint-raised start end n hint old new raised is = record {
   behind_slots = is.behind_slots;
   none = λ q low high run. is.none q low high (run_less start end n q old new raised run);
 }
 
 -- at least so many pages before the ones that are given back
-pub hint-lowered : (start end n hint lower : ℕ) (old new : List ℕ) → AreRaised start end new old → n ≤ 257 → 2 ≤ lower → ((lower ≡ 2) ⊎ (lower + 256 ≤ start)) → IsHint old n hint → IsHint new n (min hint lower)
+pub hint-lowered : (start end n hint lower : ℕ) (old new : List ℕ) → AreCountsRaised start end new old → n ≤ 257 → 2 ≤ lower → ((lower ≡ 2) ⊎ (lower + 256 ≤ start)) → IsHint old n hint → IsHint new n (min hint lower)
 hint-lowered start end n hint lower old new raised few low near is = record {
   behind_slots = (let behind = is.behind_slots in omega (arith, behind, low));
   none = λ q from before run. elim near [
@@ -266,13 +266,13 @@ hint-lowered start end n hint lower old new raised few low near is = record {
   ];
 }
 
-pub raised_from : (start end behind : ℕ) (old roomy view new : List ℕ) → ((page : ℕ) → get_or roomy page 0 ≡ get_or old page 0) → view ≡ roomy → behind ≡ end → AreRaised start behind view new → AreRaised start end old new
+pub raised_from : (start end behind : ℕ) (old roomy view new : List ℕ) → ((page : ℕ) → get_or roomy page 0 ≡ get_or old page 0) → view ≡ roomy → behind ≡ end → AreCountsRaised start behind view new → AreCountsRaised start end old new
 raised_from start end behind old roomy view new same is at raised page = (let to = raised page in let was = same page in subst (λ b. get_or new page 0 ≡ once start b page + get_or old page 0) at (to ∙ ap (λ n. once start behind page + n) (ap (λ xs. get_or xs page 0) is ∙ was)))
 
-pub lowered_from : (start end behind : ℕ) (old view new : List ℕ) → view ≡ old → behind ≡ end → AreRaised start behind new view → AreRaised start end new old
+pub lowered_from : (start end behind : ℕ) (old view new : List ℕ) → view ≡ old → behind ≡ end → AreCountsRaised start behind new view → AreCountsRaised start end new old
 lowered_from start end behind old view new is at raised page = subst (λ b. get_or old page 0 ≡ once start b page + get_or new page 0) at (sym (ap (λ xs. get_or xs page 0) is) ∙ raised page)
 
-pub sound-more : (old new hints : List ℕ) (count : ℕ) (e : Extent) → IsSpaceSound old hints count → 2 ≤ e.page → IsLength e.length → AreRaised e.page (end_page e) old new → IsSpaceSound new hints (count + 1)
+pub sound-more : (old new hints : List ℕ) (count : ℕ) (e : Extent) → IsSpaceSound old hints count → 2 ≤ e.page → IsLength e.length → AreCountsRaised e.page (end_page e) old new → IsSpaceSound new hints (count + 1)
 sound-more old new hints count e sound behind is_length raised = record {
   taken = e ∷ sound.taken;
   are = taken-more sound.taken e old new count behind is_length sound.are raised;
@@ -286,7 +286,7 @@ first_near page first is = elim (cases_lt 2 first) [
   | inr low ↦ inl (omega (arith, is, low))
 ]
 
-pub sound-less : (old new hints lowered : List ℕ) (count first : ℕ) (e : Extent) (rest : List Extent) → IsSpaceSound old hints count → AreTaken (e ∷ rest) (record { counts = old; count = count }) → AreRaised e.page (end_page e) new old → first ≡ max (e.page - 256) 2 → length lowered ≡ 258 → ((n : ℕ) → get_or lowered n 0 ≡ min (get_or hints n 0) first) → IsSpaceSound new lowered (count - 1)
+pub sound-less : (old new hints lowered : List ℕ) (count first : ℕ) (e : Extent) (rest : List Extent) → IsSpaceSound old hints count → AreTaken (e ∷ rest) (record { counts = old; count = count }) → AreCountsRaised e.page (end_page e) new old → first ≡ max (e.page - 256) 2 → length lowered ≡ 258 → ((n : ℕ) → get_or lowered n 0 ≡ min (get_or hints n 0) first) → IsSpaceSound new lowered (count - 1)
 sound-less old new hints lowered count first e rest sound are raised is long lower = record {
   taken = rest;
   are = taken-less rest e old new count (count - 1) are raised (let some = are.count in omega (arith, some));
@@ -295,7 +295,7 @@ sound-less old new hints lowered count first e rest sound are raised is long low
 }
 
 -- A hint that was found: those pages are taken now, and before them no others were free.
-pub sound-hinted : (old new hints : List ℕ) (from n page count : ℕ) → IsSpaceSound new hints count → AreRaised page (page + n) old new → IsHint old n from → IsFirstRun old from n page → 1 ≤ n → n < 258 → IsSpaceSound new (set hints n (page + n)) count
+pub sound-hinted : (old new hints : List ℕ) (from n page count : ℕ) → IsSpaceSound new hints count → AreCountsRaised page (page + n) old new → IsHint old n from → IsFirstRun old from n page → 1 ≤ n → n < 258 → IsSpaceSound new (set hints n (page + n)) count
 sound-hinted old new hints from n page count sound raised hint is some l = record {
   taken = sound.taken;
   are = sound.are;
@@ -335,7 +335,7 @@ sound-none = record {
 }
 
 -- what is taken before and behind one more says how the counts were raised
-pub taken-raised : (taken : List Extent) (e : Extent) (old new : List ℕ) (count more : ℕ) → AreTaken taken (record { counts = old; count = count }) → AreTaken (e ∷ taken) (record { counts = new; count = more }) → AreRaised e.page (end_page e) old new
+pub taken-raised : (taken : List Extent) (e : Extent) (old new : List ℕ) (count more : ℕ) → AreTaken taken (record { counts = old; count = count }) → AreTaken (e ∷ taken) (record { counts = new; count = more }) → AreCountsRaised e.page (end_page e) old new
 taken-raised taken e old new count more before behind page = behind.pages page ∙ count_cons (is_on page) e taken ∙ ap (λ n. once e.page (end_page e) page + n) (sym (before.pages page))
 
 -- What a search for so many bytes found.
@@ -359,7 +359,7 @@ hint_from counts hints count len pages from sound is_length many largest =
     subst (λ h. IsHint counts (pages_of len) h) (sym largest.one.2) (hint-more counts fewer (pages_of len) (get_or hints fewer 0) (omega (arith, most, many)) is)
 
 -- Where no page is free that wasn't, the hints stay.
-pub hint-kept : (start end n hint : ℕ) (old new : List ℕ) → AreRaised start end new old → ((page : ℕ) → start ≤ page → page < end → 1 ≤ get_or new page 0) → IsHint old n hint → IsHint new n hint
+pub hint-kept : (start end n hint : ℕ) (old new : List ℕ) → AreCountsRaised start end new old → ((page : ℕ) → start ≤ page → page < end → 1 ≤ get_or new page 0) → IsHint old n hint → IsHint new n hint
 hint-kept start end n hint old new raised held is = record {
   behind_slots = is.behind_slots;
   none = λ q low before run. is.none q low before (λ k from high. elim (cases_lt k start) [
@@ -374,7 +374,7 @@ hint-kept start end n hint old new raised held is = record {
     still : (k : ℕ) → get_or new k 0 ≡ 0 → (start ≤ k → k < end → ⊥) → get_or old k 0 ≡ 0
     still k none out = (let same = raised k in let no_more = once_no start end k out in omega (arith, none, same, no_more))
 
-pub sound-fewer : (old new hints : List ℕ) (count : ℕ) (e : Extent) (rest : List Extent) → IsSpaceSound old hints count → AreTaken (e ∷ rest) (record { counts = old; count = count }) → AreRaised e.page (end_page e) new old → ((page : ℕ) → e.page ≤ page → page < end_page e → 1 ≤ get_or new page 0) → IsSpaceSound new hints (count - 1)
+pub sound-fewer : (old new hints : List ℕ) (count : ℕ) (e : Extent) (rest : List Extent) → IsSpaceSound old hints count → AreTaken (e ∷ rest) (record { counts = old; count = count }) → AreCountsRaised e.page (end_page e) new old → ((page : ℕ) → e.page ≤ page → page < end_page e → 1 ≤ get_or new page 0) → IsSpaceSound new hints (count - 1)
 sound-fewer old new hints count e rest sound are raised held = record {
   taken = rest;
   are = taken-less rest e old new count (count - 1) are raised (let some = are.count in omega (arith, some));

@@ -57,6 +57,6 @@ pub record IsSpaceSound (counts hints : List ℕ) (count : ℕ) : Type 0 where
   pub hint : (n : ℕ) → n < 258 → IsHint counts n (slice_index hints n)
 
 -- each count with one more from a page on and before another
-abbrev pub AreRaised : ℕ → ℕ → List ℕ → List ℕ → Type 0
-AreRaised start end old new =
+abbrev pub AreCountsRaised : ℕ → ℕ → List ℕ → List ℕ → Type 0
+AreCountsRaised start end old new =
     (page : ℕ) → slice_index new page ≡ cond (is_within start end page) 1 0 + slice_index old page

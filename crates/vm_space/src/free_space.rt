@@ -3,7 +3,7 @@ ghost use Rattle.std.specs.Prelude.{◌≡◌, ◌∷◌, [], ◌+◌, ◌^◌, 
 ghost use Rattle.geos_model.specs.File.{end_page};
 ghost use Rattle.geos_model.specs.declared.file.Extent.{Extent};
 ghost use Rattle.vm_space.specs.Placing.{IsFirstFit, IsLength};
-ghost use Rattle.vm_space.specs.Space.{AreRaised, AreTaken, IsFirstRun, IsLargestHint, IsTaken};
+ghost use Rattle.vm_space.specs.Space.{AreCountsRaised, AreTaken, IsFirstRun, IsLargestHint, IsTaken};
 
 use crate::MOST_EXTENTS;
 use geos_model::Extent;
@@ -131,7 +131,7 @@ fn count_up(counts: &mut [u16], start: usize, end: usize)
     requires inside { end ≤ length counts.old }
     requires order { start ≤ end }
     requires few { (page : ℕ) → slice_index counts.old page < 65535 }
-    ensures { AreRaised start end counts.old counts.new }
+    ensures { AreCountsRaised start end counts.old counts.new }
 {
     for page in start..end {
         counts[page] += 1;
@@ -141,7 +141,7 @@ fn count_up(counts: &mut [u16], start: usize, end: usize)
 fn count_down(counts: &mut [u16], start: usize, end: usize)
     requires order { start ≤ end }
     requires some { (page : ℕ) → start ≤ page → page < end → 1 ≤ slice_index counts.old page }
-    ensures { AreRaised start end counts.new counts.old }
+    ensures { AreCountsRaised start end counts.new counts.old }
 {
     for page in start..end {
         counts[page] -= 1;

@@ -1,7 +1,7 @@
 //! Edits by name: those of `docs/SCRIPT.md`, with their names.
 ghost use Rattle.geos_model.specs.declared.command.Edit.TheVariants as edits;
-ghost use Rattle.geos_c.specs.Calls.{chunk as chunk_of, token as token_of, vm};
-ghost use Rattle.geos_c.specs.Handles.{Copies, CopiesAndTells, EditsOnHandle, MakesOnHandle};
+ghost use Rattle.geos_c.specs.Calls.{chunk_handle, token_numbered, vm};
+ghost use Rattle.geos_c.specs.Handles.{Copies, CopiesAndReports, EditsOnHandle, MakesOnHandle};
 
 use crate::calls;
 use crate::copying::{copied, uncopied};
@@ -148,7 +148,7 @@ pub extern "C" fn geosvm_alloc(
 
 #[unsafe(no_mangle)]
 pub extern "C" fn geosvm_free(handle: &mut Handle, alloc: Global, block: u16, chunk: u16) -> i32
-    ensures { EditsOnHandle (edits.Free (vm block) (chunk_of chunk)) handle.old handle.new result }
+    ensures { EditsOnHandle (edits.Free (vm block) (chunk_handle chunk)) handle.old handle.new result }
 {
     edit(
         handle,
@@ -165,7 +165,7 @@ pub extern "C" fn geosvm_resize(
     chunk: u16,
     size: u32,
 ) -> i32
-    ensures { EditsOnHandle (edits.Resize (vm block) (chunk_of chunk) size) handle.old handle.new result }
+    ensures { EditsOnHandle (edits.Resize (vm block) (chunk_handle chunk) size) handle.old handle.new result }
 {
     edit(
         handle,
@@ -184,7 +184,7 @@ pub extern "C" fn geosvm_insert(
     at: u32,
     size: u32,
 ) -> i32
-    ensures { EditsOnHandle (edits.Insert (vm block) (chunk_of chunk) at size) handle.old handle.new result }
+    ensures { EditsOnHandle (edits.Insert (vm block) (chunk_handle chunk) at size) handle.old handle.new result }
 {
     edit(
         handle,
@@ -203,7 +203,7 @@ pub extern "C" fn geosvm_delete(
     at: u32,
     size: u32,
 ) -> i32
-    ensures { EditsOnHandle (edits.Delete (vm block) (chunk_of chunk) at size) handle.old handle.new result }
+    ensures { EditsOnHandle (edits.Delete (vm block) (chunk_handle chunk) at size) handle.old handle.new result }
 {
     edit(
         handle,
@@ -222,7 +222,7 @@ pub extern "C" fn geosvm_write(
     at: u32,
     bytes: &[u8],
 ) -> i32
-    ensures { Copies (EditsOnHandle (edits.Write (vm block) (chunk_of chunk) at bytes.now))
+    ensures { Copies (EditsOnHandle (edits.Write (vm block) (chunk_handle chunk) at bytes.now))
         handle.old handle.new result }
 {
     let Ok(bytes) = copied(alloc, bytes) else {
@@ -267,7 +267,7 @@ pub extern "C" fn geosvm_ainsert(
     i: u32,
     bytes: &[u8],
 ) -> i32
-    ensures { Copies (EditsOnHandle (edits.InsertElement (vm block) (chunk_of chunk) i bytes.now))
+    ensures { Copies (EditsOnHandle (edits.InsertElement (vm block) (chunk_handle chunk) i bytes.now))
         handle.old handle.new result }
 {
     let Ok(bytes) = copied(alloc, bytes) else {
@@ -289,7 +289,7 @@ pub extern "C" fn geosvm_aset(
     i: u32,
     bytes: &[u8],
 ) -> i32
-    ensures { Copies (EditsOnHandle (edits.SetElement (vm block) (chunk_of chunk) i bytes.now))
+    ensures { Copies (EditsOnHandle (edits.SetElement (vm block) (chunk_handle chunk) i bytes.now))
         handle.old handle.new result }
 {
     let Ok(bytes) = copied(alloc, bytes) else {
@@ -311,7 +311,7 @@ pub extern "C" fn geosvm_aresize(
     i: u32,
     size: u32,
 ) -> i32
-    ensures { EditsOnHandle (edits.ResizeElement (vm block) (chunk_of chunk) i size) handle.old handle.new result }
+    ensures { EditsOnHandle (edits.ResizeElement (vm block) (chunk_handle chunk) i size) handle.old handle.new result }
 {
     edit(
         handle,
@@ -330,7 +330,7 @@ pub extern "C" fn geosvm_adelete(
     i: u32,
     count: u32,
 ) -> i32
-    ensures { EditsOnHandle (edits.DeleteElements (vm block) (chunk_of chunk) i count)
+    ensures { EditsOnHandle (edits.DeleteElements (vm block) (chunk_handle chunk) i count)
         handle.old handle.new result }
 {
     edit(
@@ -343,7 +343,7 @@ pub extern "C" fn geosvm_adelete(
 /// Deletes all elements.
 #[unsafe(no_mangle)]
 pub extern "C" fn geosvm_azero(handle: &mut Handle, alloc: Global, block: u16, chunk: u16) -> i32
-    ensures { EditsOnHandle (edits.ZeroArray (vm block) (chunk_of chunk)) handle.old handle.new result }
+    ensures { EditsOnHandle (edits.ZeroArray (vm block) (chunk_handle chunk)) handle.old handle.new result }
 {
     edit(
         handle,
@@ -383,8 +383,8 @@ pub extern "C" fn geosvm_eadd(
     bytes: &[u8],
     token: &mut u16,
 ) -> i32
-    ensures { CopiesAndTells token.new
-        (MakesOnHandle (edits.AddElement (vm block) (chunk_of chunk) bytes.now) token.new)
+    ensures { CopiesAndReports token.new
+        (MakesOnHandle (edits.AddElement (vm block) (chunk_handle chunk) bytes.now) token.new)
         handle.old handle.new result }
 {
     *token = 0;
@@ -407,7 +407,7 @@ pub extern "C" fn geosvm_eref(
     chunk: u16,
     token: u16,
 ) -> i32
-    ensures { EditsOnHandle (edits.AddReference (vm block) (chunk_of chunk) (token_of token))
+    ensures { EditsOnHandle (edits.AddReference (vm block) (chunk_handle chunk) (token_numbered token))
         handle.old handle.new result }
 {
     edit(
@@ -425,7 +425,7 @@ pub extern "C" fn geosvm_eunref(
     chunk: u16,
     token: u16,
 ) -> i32
-    ensures { EditsOnHandle (edits.RemoveReference (vm block) (chunk_of chunk) (token_of token))
+    ensures { EditsOnHandle (edits.RemoveReference (vm block) (chunk_handle chunk) (token_numbered token))
         handle.old handle.new result }
 {
     edit(
@@ -444,7 +444,7 @@ pub extern "C" fn geosvm_edelete(
     chunk: u16,
     token: u16,
 ) -> i32
-    ensures { EditsOnHandle (edits.DeleteElement (vm block) (chunk_of chunk) (token_of token))
+    ensures { EditsOnHandle (edits.DeleteElement (vm block) (chunk_handle chunk) (token_numbered token))
         handle.old handle.new result }
 {
     edit(
@@ -463,7 +463,8 @@ pub extern "C" fn geosvm_echange(
     token: u16,
     bytes: &[u8],
 ) -> i32
-    ensures { Copies (EditsOnHandle (edits.ChangeElement (vm block) (chunk_of chunk) (token_of token) bytes.now))
+    ensures { Copies (EditsOnHandle (edits.ChangeElement (vm block) (chunk_handle chunk)
+        (token_numbered token) bytes.now))
         handle.old handle.new result }
 {
     let Ok(bytes) = copied(alloc, bytes) else {
@@ -509,8 +510,8 @@ pub extern "C" fn geosvm_nadd(
     sets: bool,
     token: &mut u16,
 ) -> i32
-    ensures { CopiesAndTells token.new
-        (MakesOnHandle (edits.AddName (vm block) (chunk_of chunk) name.now part.now sets) token.new)
+    ensures { CopiesAndReports token.new
+        (MakesOnHandle (edits.AddName (vm block) (chunk_handle chunk) name.now part.now sets) token.new)
         handle.old handle.new result }
 {
     *token = 0;
@@ -537,7 +538,7 @@ pub extern "C" fn geosvm_nname(
     token: u16,
     name: &[u8],
 ) -> i32
-    ensures { Copies (EditsOnHandle (edits.ChangeName (vm block) (chunk_of chunk) (token_of token) name.now))
+    ensures { Copies (EditsOnHandle (edits.ChangeName (vm block) (chunk_handle chunk) (token_numbered token) name.now))
         handle.old handle.new result }
 {
     let Ok(name) = copied(alloc, name) else {
@@ -558,7 +559,7 @@ pub extern "C" fn geosvm_nunref(
     chunk: u16,
     token: u16,
 ) -> i32
-    ensures { EditsOnHandle (edits.RemoveName (vm block) (chunk_of chunk) (token_of token))
+    ensures { EditsOnHandle (edits.RemoveName (vm block) (chunk_handle chunk) (token_numbered token))
         handle.old handle.new result }
 {
     edit(

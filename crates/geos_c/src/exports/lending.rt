@@ -2,7 +2,7 @@
 ghost use Rattle.std.specs.Prelude.{◌≡◌, false};
 ghost use Rattle.std.specs.Ptr.{null_ptr};
 ghost use Rattle.geos_model.specs.declared.command.Command.TheVariants as commands;
-ghost use Rattle.geos_c.specs.Calls.{chunk as chunk_of, vm};
+ghost use Rattle.geos_c.specs.Calls.{chunk_handle, vm};
 ghost use Rattle.geos_c.specs.Handles.{OnHandle};
 ghost use Rattle.geos_c.specs.Lending.{Lends};
 
@@ -22,7 +22,7 @@ pub extern "C" fn geosvm_locked_chunk(
     bytes: &mut *const u8,
     length: &mut usize,
 ) -> i32
-    ensures told { OnHandle (Lends (commands.Read (vm block) (chunk_of chunk)) block bytes.new length.new)
+    ensures told { OnHandle (Lends (commands.Read (vm block) (chunk_handle chunk)) block bytes.new length.new)
         handle.old handle.new result }
     ensures none { handle.old.is_open ≡ false → (bytes.new ≡ null_ptr) × (length.new ≡ 0) }
 {

@@ -1,8 +1,8 @@
 //! Look-ups by name: those of `docs/SCRIPT.md`, with their names. What is refused hands out no bytes, and else 0.
 ghost use Rattle.std.specs.Prelude.{IsTrue};
 ghost use Rattle.geos_model.specs.declared.command.Command.TheVariants as commands;
-ghost use Rattle.geos_c.specs.Calls.{chunk as chunk_of, token as token_of, vm};
-ghost use Rattle.geos_c.specs.Handles.{CopiesAndTells, EqualOnHandle, HandsOutOnHandle, InfoOnHandle, NumberOnHandle};
+ghost use Rattle.geos_c.specs.Calls.{chunk_handle, token_numbered, vm};
+ghost use Rattle.geos_c.specs.Handles.{CopiesAndReports, EqualOnHandle, HandsOutOnHandle, InfoOnHandle, NumberOnHandle};
 ghost use Rattle.geos_c.specs.LookUps.{ReadsBytes, asks_bytes, asks_handles, asks_number, asks_word};
 ghost use Rattle.geos_c.specs.Stores.{facts};
 
@@ -217,7 +217,7 @@ pub extern "C" fn geosvm_read(
     buffer: &mut [u8],
     length: &mut usize,
 ) -> i32
-    ensures { HandsOutOnHandle (ReadsBytes facts (commands.Read (vm block) (chunk_of chunk)))
+    ensures { HandsOutOnHandle (ReadsBytes facts (commands.Read (vm block) (chunk_handle chunk)))
         handle.old handle.new buffer.old buffer.new length.new result }
 {
     bytes(
@@ -240,7 +240,7 @@ pub extern "C" fn geosvm_acount(
     chunk: u16,
     count: &mut usize,
 ) -> i32
-    ensures { NumberOnHandle (commands.ArrayCount (vm block) (chunk_of chunk)) count.new
+    ensures { NumberOnHandle (commands.ArrayCount (vm block) (chunk_handle chunk)) count.new
         handle.old handle.new result }
 {
     number(
@@ -262,7 +262,7 @@ pub extern "C" fn geosvm_aget(
     buffer: &mut [u8],
     length: &mut usize,
 ) -> i32
-    ensures { HandsOutOnHandle (ReadsBytes facts (commands.ArrayElement (vm block) (chunk_of chunk) i))
+    ensures { HandsOutOnHandle (ReadsBytes facts (commands.ArrayElement (vm block) (chunk_handle chunk) i))
         handle.old handle.new buffer.old buffer.new length.new result }
 {
     bytes(
@@ -286,7 +286,8 @@ pub extern "C" fn geosvm_ecount(
     token: u16,
     count: &mut usize,
 ) -> i32
-    ensures { NumberOnHandle (commands.ElementReferences (vm block) (chunk_of chunk) (token_of token)) count.new
+    ensures { NumberOnHandle (commands.ElementReferences (vm block) (chunk_handle chunk) (token_numbered token))
+        count.new
         handle.old handle.new result }
 {
     number(
@@ -308,7 +309,8 @@ pub extern "C" fn geosvm_edata(
     buffer: &mut [u8],
     length: &mut usize,
 ) -> i32
-    ensures { HandsOutOnHandle (ReadsBytes facts (commands.ElementBytes (vm block) (chunk_of chunk) (token_of token)))
+    ensures { HandsOutOnHandle (ReadsBytes facts
+        (commands.ElementBytes (vm block) (chunk_handle chunk) (token_numbered token)))
         handle.old handle.new buffer.old buffer.new length.new result }
 {
     bytes(
@@ -329,7 +331,7 @@ pub extern "C" fn geosvm_eused(
     chunk: u16,
     count: &mut usize,
 ) -> i32
-    ensures { NumberOnHandle (commands.ElementsUsed (vm block) (chunk_of chunk)) count.new
+    ensures { NumberOnHandle (commands.ElementsUsed (vm block) (chunk_handle chunk)) count.new
         handle.old handle.new result }
 {
     number(
@@ -350,7 +352,7 @@ pub extern "C" fn geosvm_etoken(
     k: u32,
     token: &mut u16,
 ) -> i32
-    ensures { NumberOnHandle (commands.TokenOfUsed (vm block) (chunk_of chunk) k) token.new
+    ensures { NumberOnHandle (commands.TokenOfUsed (vm block) (chunk_handle chunk) k) token.new
         handle.old handle.new result }
 {
     word(
@@ -371,7 +373,7 @@ pub extern "C" fn geosvm_eindex(
     token: u16,
     index: &mut usize,
 ) -> i32
-    ensures { NumberOnHandle (commands.UsedOfToken (vm block) (chunk_of chunk) (token_of token)) index.new
+    ensures { NumberOnHandle (commands.UsedOfToken (vm block) (chunk_handle chunk) (token_numbered token)) index.new
         handle.old handle.new result }
 {
     number(
@@ -394,8 +396,8 @@ pub extern "C" fn geosvm_nfind(
     name: &[u8],
     token: &mut u16,
 ) -> i32
-    ensures { CopiesAndTells token.new
-        (NumberOnHandle (commands.NameFind (vm block) (chunk_of chunk) name.now) token.new)
+    ensures { CopiesAndReports token.new
+        (NumberOnHandle (commands.NameFind (vm block) (chunk_handle chunk) name.now) token.new)
         handle.old handle.new result }
 {
     *token = 0;
@@ -420,7 +422,7 @@ pub extern "C" fn geosvm_ncount(
     token: u16,
     count: &mut usize,
 ) -> i32
-    ensures { NumberOnHandle (commands.NameReferences (vm block) (chunk_of chunk) (token_of token)) count.new
+    ensures { NumberOnHandle (commands.NameReferences (vm block) (chunk_handle chunk) (token_numbered token)) count.new
         handle.old handle.new result }
 {
     number(
@@ -442,7 +444,8 @@ pub extern "C" fn geosvm_ntext(
     buffer: &mut [u8],
     length: &mut usize,
 ) -> i32
-    ensures { HandsOutOnHandle (ReadsBytes facts (commands.NameText (vm block) (chunk_of chunk) (token_of token)))
+    ensures { HandsOutOnHandle (ReadsBytes facts
+        (commands.NameText (vm block) (chunk_handle chunk) (token_numbered token)))
         handle.old handle.new buffer.old buffer.new length.new result }
 {
     bytes(
@@ -465,7 +468,8 @@ pub extern "C" fn geosvm_ndata(
     buffer: &mut [u8],
     length: &mut usize,
 ) -> i32
-    ensures { HandsOutOnHandle (ReadsBytes facts (commands.NamePart (vm block) (chunk_of chunk) (token_of token)))
+    ensures { HandsOutOnHandle (ReadsBytes facts
+        (commands.NamePart (vm block) (chunk_handle chunk) (token_numbered token)))
         handle.old handle.new buffer.old buffer.new length.new result }
 {
     bytes(

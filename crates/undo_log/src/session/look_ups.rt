@@ -43,7 +43,7 @@ impl<S: Store> Session<S> {
             }
             LookUp::Plain(asked) => self.plain(asked),
             LookUp::InBlock(block, asked) => {
-                self.blocks.validity();
+                self.blocks.reveal_invariant();
                 let prepared = look_ups::prepare_in_block(
                     &mut self.blocks,
                     &mut self.lists,
@@ -53,7 +53,7 @@ impl<S: Store> Session<S> {
                 lend!(self, prepared)
             }
             LookUp::AlongChain(asked) => {
-                self.blocks.validity();
+                self.blocks.reveal_invariant();
                 let prepared = look_ups::prepare_along_chain(
                     self.alloc,
                     &mut self.blocks,
@@ -125,7 +125,7 @@ impl<S: Store> Session<S> {
     pub fn info(&mut self, block: VmHandle) -> Result<Info, Fault>
         ensures { AnswersLookUp S.facts self.old self.new (commands.Info block) (reply_by info_is result) }
     {
-        self.blocks.validity();
+        self.blocks.reveal_invariant();
         look_ups::info(&mut self.blocks, block)
     }
 
@@ -134,7 +134,7 @@ impl<S: Store> Session<S> {
         ensures* leaves { sem 𝓛 (AfterLoan (the_row S.row S.Store) self.entry (λ new. AnswersLookUp S.facts self.old new
             (commands.ReadRaw block) (reply_by (λ bytes. BytesAre bytes.now) result))) }
     {
-        self.blocks.validity();
+        self.blocks.reveal_invariant();
         look_ups::read_raw(&mut self.blocks, block)
     }
 
@@ -143,7 +143,7 @@ impl<S: Store> Session<S> {
         ensures { AnswersLookUp S.facts self.old self.new (commands.Chunks block)
             (reply_by (λ handles. chunks_are handles.items) result) }
     {
-        self.blocks.validity();
+        self.blocks.reveal_invariant();
         look_ups::chunks(&mut self.blocks, block)
     }
 
@@ -152,7 +152,7 @@ impl<S: Store> Session<S> {
         ensures* leaves { sem 𝓛 (AfterLoan (the_row S.row S.Store) self.entry (λ new. AnswersLookUp S.facts self.old new
             (commands.Read block chunk) (reply_by (λ bytes. BytesAre bytes.now) result))) }
     {
-        self.blocks.validity();
+        self.blocks.reveal_invariant();
         look_ups::read_chunk(&mut self.blocks, block, chunk)
     }
 
@@ -160,7 +160,7 @@ impl<S: Store> Session<S> {
     pub fn array_count(&mut self, block: VmHandle, chunk: ChunkHandle) -> Result<usize, Fault>
         ensures { AnswersLookUp S.facts self.old self.new (commands.ArrayCount block chunk) (reply_by NumberIs result) }
     {
-        self.blocks.validity();
+        self.blocks.reveal_invariant();
         look_ups::array_count(&mut self.blocks, block, chunk)
     }
 
@@ -174,7 +174,7 @@ impl<S: Store> Session<S> {
         ensures* leaves { sem 𝓛 (AfterLoan (the_row S.row S.Store) self.entry (λ new. AnswersLookUp S.facts self.old new
             (commands.ArrayElement block chunk i) (reply_by (λ bytes. BytesAre bytes.now) result))) }
     {
-        self.blocks.validity();
+        self.blocks.reveal_invariant();
         look_ups::array_element(&mut self.blocks, block, chunk, i)
     }
 
@@ -188,7 +188,7 @@ impl<S: Store> Session<S> {
         ensures { AnswersLookUp S.facts self.old self.new (commands.ElementReferences block chunk token)
             (reply_by NumberIs result) }
     {
-        self.blocks.validity();
+        self.blocks.reveal_invariant();
         look_ups::element_refs(&mut self.blocks, block, chunk, token)
     }
 
@@ -202,7 +202,7 @@ impl<S: Store> Session<S> {
         ensures* leaves { sem 𝓛 (AfterLoan (the_row S.row S.Store) self.entry (λ new. AnswersLookUp S.facts self.old new
             (commands.ElementBytes block chunk token) (reply_by (λ bytes. BytesAre bytes.now) result))) }
     {
-        self.blocks.validity();
+        self.blocks.reveal_invariant();
         look_ups::element_bytes(&mut self.blocks, block, chunk, token)
     }
 
@@ -211,7 +211,7 @@ impl<S: Store> Session<S> {
         ensures { AnswersLookUp S.facts self.old self.new (commands.ElementsUsed block chunk)
             (reply_by NumberIs result) }
     {
-        self.blocks.validity();
+        self.blocks.reveal_invariant();
         look_ups::elements_used(&mut self.blocks, block, chunk)
     }
 
@@ -225,7 +225,7 @@ impl<S: Store> Session<S> {
         ensures { AnswersLookUp S.facts self.old self.new (commands.TokenOfUsed block chunk k)
             (reply_by (λ token. TokenIs token.0) result) }
     {
-        self.blocks.validity();
+        self.blocks.reveal_invariant();
         look_ups::token_of_used(&mut self.blocks, block, chunk, k)
     }
 
@@ -239,7 +239,7 @@ impl<S: Store> Session<S> {
         ensures { AnswersLookUp S.facts self.old self.new (commands.UsedOfToken block chunk token)
             (reply_by NumberIs result) }
     {
-        self.blocks.validity();
+        self.blocks.reveal_invariant();
         look_ups::used_of_token(&mut self.blocks, block, chunk, token)
     }
 
@@ -253,7 +253,7 @@ impl<S: Store> Session<S> {
         ensures { AnswersLookUp S.facts self.old self.new (commands.NameFind block chunk name.now)
             (reply_by (λ token. TokenIs token.0) result) }
     {
-        self.blocks.validity();
+        self.blocks.reveal_invariant();
         look_ups::name_find(&mut self.blocks, block, chunk, name)
     }
 
@@ -267,7 +267,7 @@ impl<S: Store> Session<S> {
         ensures { AnswersLookUp S.facts self.old self.new (commands.NameReferences block chunk token)
             (reply_by NumberIs result) }
     {
-        self.blocks.validity();
+        self.blocks.reveal_invariant();
         look_ups::name_refs(&mut self.blocks, block, chunk, token)
     }
 
@@ -281,7 +281,7 @@ impl<S: Store> Session<S> {
         ensures* leaves { sem 𝓛 (AfterLoan (the_row S.row S.Store) self.entry (λ new. AnswersLookUp S.facts self.old new
             (commands.NameText block chunk token) (reply_by (λ bytes. BytesAre bytes.now) result))) }
     {
-        self.blocks.validity();
+        self.blocks.reveal_invariant();
         look_ups::name_text(&mut self.blocks, block, chunk, token)
     }
 
@@ -295,7 +295,7 @@ impl<S: Store> Session<S> {
         ensures* leaves { sem 𝓛 (AfterLoan (the_row S.row S.Store) self.entry (λ new. AnswersLookUp S.facts self.old new
             (commands.NamePart block chunk token) (reply_by (λ bytes. BytesAre bytes.now) result))) }
     {
-        self.blocks.validity();
+        self.blocks.reveal_invariant();
         look_ups::name_part(&mut self.blocks, block, chunk, token)
     }
 
@@ -304,7 +304,7 @@ impl<S: Store> Session<S> {
         ensures { AnswersAlongChain S.facts self.old self.new (commands.Walk root)
             (reply_by (λ handles. blocks_are handles.items) result) }
     {
-        self.blocks.validity();
+        self.blocks.reveal_invariant();
         look_ups::walk(self.alloc, &mut self.blocks, root)
     }
 
@@ -312,7 +312,7 @@ impl<S: Store> Session<S> {
     pub fn chain_size(&mut self, root: VmHandle) -> Result<u32, Fault>
         ensures { AnswersAlongChain S.facts self.old self.new (commands.ChainSize root) (reply_by NumberIs result) }
     {
-        self.blocks.validity();
+        self.blocks.reveal_invariant();
         look_ups::chain_size(self.alloc, &mut self.blocks, root)
     }
 
@@ -321,7 +321,7 @@ impl<S: Store> Session<S> {
         ensures { AnswersAlongChain S.facts self.old self.new (commands.ChainEqual first second)
             (reply_by AreEqual result) }
     {
-        self.blocks.validity();
+        self.blocks.reveal_invariant();
         look_ups::chain_equal(self.alloc, &mut self.blocks, first, second)
     }
 }

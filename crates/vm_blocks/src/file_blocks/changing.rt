@@ -7,9 +7,9 @@ ghost use Rattle.vm_file.specs.Effects.{Fails, NoFault};
 ghost use Rattle.vm_file.specs.Members.{imaged_blocks};
 ghost use Rattle.vm_blocks.specs.State.{locks_of, locked_count, KeepsDocument, KeepsLocks, Marks};
 ghost use Rattle.vm_blocks.specs.Changes.{attributes_for_kind, after_change, after_part, directed, directed_all, directed_part, incoming_blocks, AreFree};
-ghost use Rattle.vm_blocks.specs.Keeping.{KeepsBlocks, IsEnvironmentFault, is_loaded, is_shut_out};
+ghost use Rattle.vm_blocks.specs.Keeping.{KeepsBlocks, IsEnvironmentFault, is_loaded, has_no_frame_for};
 ghost use Rattle.vm_blocks.specs.Parts.{AllowsPart};
-ghost use Rattle.vm_blocks.specs.Preparing.{after_changes, CanRemoveByHandle, CanApplyAll, CanApplyByHandle, CanCarryOut, CanApplyAllByHandle, AreInMemory, NoneComesIn, AreUnlocked, AllowsChange, IsInMemory, IsShutOut, CantPrepare, CantPrepareAll, IsApplied, AreApplied, Turns};
+ghost use Rattle.vm_blocks.specs.Preparing.{after_changes, CanRemoveByHandle, CanApplyAll, CanApplyByHandle, CanCarryOut, CanApplyAllByHandle, AreInMemory, NoneComesIn, AreUnlocked, AllowsChange, IsInMemory, IsShutOut, CantPrepare, CantPrepareAll, IsApplied, AreApplied, AppliesChange};
 
 use super::FileBlocks;
 use crate::in_memory::{Obstacle, change_in_memory};
@@ -62,7 +62,7 @@ impl<S: Store> FileBlocks<S> {
         ensures sure { incoming_blocks change.now ≡ [] → IsOk result × (self.new.disk ≡ self.old.disk)
             × (self.new.document ≡ after_change change.now self.old.document) }
     {
-        self.validity();
+        self.reveal_invariant();
         match change {
             Change::Part(handle, part) => self.carry_out_loaded(*handle, part),
             _ => self.turn(change, Direction::Forwards),
@@ -111,7 +111,7 @@ impl<S: Store> FileBlocks<S> {
         ensures refusals { IfErr result
             (CantPrepareAll S.facts (directed_all direction changes.now) self.old self.new) }
     {
-        self.validity();
+        self.reveal_invariant();
         self.mark()?;
         match self.turn_all(changes, direction) {
             Ok(()) => {
@@ -174,7 +174,7 @@ impl<S: Store> FileBlocks<S> {
         ensures refusals { IfErr result
             (CantPrepareAll S.facts (directed_all direction changes.now) self.old self.new) }
     {
-        self.validity();
+        self.reveal_invariant();
         for change in changes.iter().rev() {
             self.turn(change, direction)?;
         }
@@ -185,7 +185,7 @@ impl<S: Store> FileBlocks<S> {
     fn turn(&mut self, change: &Change, direction: Direction) -> Result<(), Fault>
         requires listed { CanApplyByHandle (directed direction change.now) self.old.document }
         requires unlocked { AreUnlocked (directed direction change.now) self.old.resident }
-        ensures { Turns S.facts (directed direction change.now) self.old self.new result }
+        ensures { AppliesChange S.facts (directed direction change.now) self.old self.new result }
     {
         match change {
             Change::BlocksIn(members) => match direction {
@@ -211,10 +211,10 @@ impl<S: Store> FileBlocks<S> {
     /// Puts each of these blocks under its handle. Memory, File.
     pub(crate) fn put_in(&mut self, members: &Members) -> Result<(), Fault>
         requires { AreFree self.old.document (handles_of (imaged_blocks members.now.list.items)) }
-        ensures turns { Turns S.facts (Change.BlocksIn members.now) self.old self.new result }
+        ensures turns { AppliesChange S.facts (Change.BlocksIn members.now) self.old self.new result }
         ensures resident { self.new.resident ≡ self.old.resident }
     {
-        self.validity();
+        self.reveal_invariant();
         self.file.put_blocks(&members.list, &[])
     }
 
@@ -223,7 +223,7 @@ impl<S: Store> FileBlocks<S> {
         requires leave { CanRemoveByHandle self.old.document (handles_of (imaged_blocks members.now.list.items)) }
         requires unlocked { All
             (λ h. locks_of self.old.resident h ≡ 0) (handles_of (imaged_blocks members.now.list.items)) }
-        ensures { Turns S.facts (Change.BlocksOut members.now) self.old self.new result }
+        ensures { AppliesChange S.facts (Change.BlocksOut members.now) self.old self.new result }
     {
         self.take_all(members);
         Ok(())
@@ -253,7 +253,7 @@ impl<S: Store> FileBlocks<S> {
         ensures frames { self.new.frames ≡ self.old.frames }
         ensures locks { KeepsLocks self.old.resident self.new.resident }
     {
-        self.validity();
+        self.reveal_invariant();
         let _count = self.frames.len();
         self.frames.pop(&handle.0);
         let _removed = self.file.put_blocks(&[], &[handle]);
@@ -263,9 +263,9 @@ impl<S: Store> FileBlocks<S> {
     fn carry_out_loaded(&mut self, handle: VmHandle, part: &PartChange) -> Result<(), Fault>
         requires loaded { is_loaded self.old handle.0 ≡ true }
         requires takes { AllowsPart part.now (block_at self.old.document handle.0).body }
-        ensures { Turns S.facts (Change.Part handle part.now) self.old self.new result }
+        ensures { AppliesChange S.facts (Change.Part handle part.now) self.old self.new result }
     {
-        self.validity();
+        self.reveal_invariant();
         self.carry_out_part(handle, part, Direction::Forwards);
         Ok(())
     }
@@ -278,7 +278,8 @@ impl<S: Store> FileBlocks<S> {
         direction: Direction,
     ) -> Result<(), Fault>
         requires { is_live self.old.document handle.0 ≡ true }
-        ensures { Turns S.facts (Change.Part handle (directed_part direction part.now)) self.old self.new result }
+        ensures { AppliesChange S.facts (Change.Part handle (directed_part direction part.now)) self.old self.new
+            result }
     {
         self.ready_part(handle, part, direction)?;
         self.carry_out_part(handle, part, direction);
@@ -307,7 +308,8 @@ impl<S: Store> FileBlocks<S> {
         ensures sure { is_loaded self.old handle.0 ≡ true
             → AllowsPart (directed_part direction part.now) (block_at self.old.document handle.0).body
             → IsOk result × (self.new.disk ≡ self.old.disk) × (self.new.document ≡ self.old.document) }
-        ensures shut { is_shut_out self.old handle.0 ≡ true → (result ≡ Err Fault.CacheFull) × (self.new ≡ self.old) }
+        ensures shut { has_no_frame_for self.old handle.0 ≡ true → (result ≡ Err Fault.CacheFull)
+            × (self.new ≡ self.old) }
     {
         self.load_live(handle)?;
         if can_take(self.body(handle), part, direction) {
@@ -341,7 +343,7 @@ impl<S: Store> FileBlocks<S> {
         new: Attributes,
     ) -> Result<(), Fault>
         requires { is_live self.old.document handle.0 ≡ true }
-        ensures { Turns S.facts (Change.Attributes handle old new) self.old self.new result }
+        ensures { AppliesChange S.facts (Change.Attributes handle old new) self.old self.new result }
     {
         self.put_attributes(handle, new);
         Ok(())
@@ -362,7 +364,7 @@ impl<S: Store> FileBlocks<S> {
     // Makes another block the map block in place of the old one; 0 stands for none.
     fn set_map(&mut self, old: VmHandle, new: VmHandle) -> Result<(), Fault>
         requires { new.0 ≢ 0 → is_live self.old.document new.0 ≡ true }
-        ensures { Turns S.facts (Change.Map old new) self.old self.new result }
+        ensures { AppliesChange S.facts (Change.Map old new) self.old self.new result }
     {
         self.put_map(new);
         Ok(())

@@ -49,7 +49,7 @@ impl<S: Store> FileBlocks<S> {
         ensures err { OnErr result (self.new.resident ≡ self.old.resident) }
         ensures frames { self.new.frames ≡ self.old.frames }
     {
-        self.file.validity();
+        self.file.reveal_invariant();
         self.file.commit_revert()?;
         self.frames.clear();
         Ok(())
@@ -68,7 +68,7 @@ impl<S: Store> FileBlocks<S> {
             ↔ self.old.disk.sequence ≡ last_sequence }
         ensures resident { (self.new.resident ≡ self.old.resident) × (self.new.frames ≡ self.old.frames) }
     {
-        self.file.validity();
+        self.file.reveal_invariant();
         if self.file.is_worn() {
             return Err(Refused {
                 fault: Fault::Worn,
@@ -82,7 +82,7 @@ impl<S: Store> FileBlocks<S> {
             });
         }
         let copied = self.file.copy_to(target)?;
-        copied.validity();
+        copied.reveal_invariant();
         if let Err(fault) = self.file.commit_revert() {
             return Err(Refused {
                 fault,

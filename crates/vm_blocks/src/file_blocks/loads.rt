@@ -5,8 +5,8 @@ ghost use Rattle.geos_model.specs.Document.{chunks_of, is_heap, is_raw, is_live}
 ghost use Rattle.geos_model.specs.Heap.{chunk_bytes};
 ghost use Rattle.lmem_heap.specs.Known.{is_array_of};
 ghost use Rattle.vm_file.specs.Effects.{Fails, NoFault, IsDamage};
-ghost use Rattle.vm_blocks.specs.State.{is_resident, all_locked, after_load, evicted, victim, KeepsDocument};
-ghost use Rattle.vm_blocks.specs.Keeping.{KeepsBlocks, IsEnvironmentFault, IsCacheFull, is_loaded, is_shut_out};
+ghost use Rattle.vm_blocks.specs.State.{is_resident, all_frames_locked, after_load, evicted, victim, KeepsDocument};
+ghost use Rattle.vm_blocks.specs.Keeping.{KeepsBlocks, IsEnvironmentFault, IsCacheFull, is_loaded, has_no_frame_for};
 ghost use Rattle.vm_blocks.specs.Kinds.{IsWrongBlock};
 
 use super::FileBlocks;
@@ -32,7 +32,7 @@ impl<S: Store> FileBlocks<S> {
             → IsOk result × (self.new.disk ≡ self.old.disk) × (self.new.document ≡ self.old.document) }
         ensures dead { is_live self.old.document handle.0 ≡ false
             → (result ≡ Err Fault.NoBlock) × (self.new ≡ self.old) }
-        ensures shut { is_live self.old.document handle.0 ≡ true → is_shut_out self.old handle.0 ≡ true
+        ensures shut { is_live self.old.document handle.0 ≡ true → has_no_frame_for self.old handle.0 ≡ true
             → (result ≡ Err Fault.CacheFull) × (self.new ≡ self.old) }
     {
         if self.is_live(handle) {
@@ -53,7 +53,7 @@ impl<S: Store> FileBlocks<S> {
             → IsOk result × (self.new.disk ≡ self.old.disk) × (self.new.document ≡ self.old.document) }
         ensures early { (fault : Fault) → IsWrongBlock is_raw self.old.document handle.0 fault
             → (result ≡ Err fault) × (self.new ≡ self.old) }
-        ensures shut { is_raw self.old.document handle.0 ≡ true → is_shut_out self.old handle.0 ≡ true
+        ensures shut { is_raw self.old.document handle.0 ≡ true → has_no_frame_for self.old handle.0 ≡ true
             → (result ≡ Err Fault.CacheFull) × (self.new ≡ self.old) }
     {
         if !self.is_live(handle) {
@@ -76,7 +76,7 @@ impl<S: Store> FileBlocks<S> {
             → IsOk result × (self.new.disk ≡ self.old.disk) × (self.new.document ≡ self.old.document) }
         ensures early { (fault : Fault) → IsWrongBlock is_heap self.old.document handle.0 fault
             → (result ≡ Err fault) × (self.new ≡ self.old) }
-        ensures shut { is_heap self.old.document handle.0 ≡ true → is_shut_out self.old handle.0 ≡ true
+        ensures shut { is_heap self.old.document handle.0 ≡ true → has_no_frame_for self.old handle.0 ≡ true
             → (result ≡ Err Fault.CacheFull) × (self.new ≡ self.old) }
     {
         if !self.is_live(handle) {
@@ -99,13 +99,14 @@ impl<S: Store> FileBlocks<S> {
             → IsOk result × (self.new.disk ≡ self.old.disk) × (self.new.document ≡ self.old.document) }
         ensures stay { is_loaded self.old handle.0 ≡ true
             → (h : ℕ) → is_loaded self.old h ≡ true → is_loaded self.new h ≡ true }
-        ensures shut { is_shut_out self.old handle.0 ≡ true → (result ≡ Err Fault.CacheFull) × (self.new ≡ self.old) }
+        ensures shut { has_no_frame_for self.old handle.0 ≡ true → (result ≡ Err Fault.CacheFull)
+            × (self.new ≡ self.old) }
         // The order of use.
         ensures order { OnOk result (self.new.resident ≡ after_load self.old.frames handle.0 self.old.resident) }
         ensures less { OnErr result
             ((self.new.resident ≡ self.old.resident) ⊎ (self.new.resident ≡ evicted self.old.resident)) }
     {
-        self.validity();
+        self.reveal_invariant();
         let _count = self.frames.len();
         if use_again(&mut self.frames, handle.0) {
             return Ok(());
@@ -121,7 +122,7 @@ impl<S: Store> FileBlocks<S> {
         // Asked of the caller.
         requires live { is_live self.old.document handle.0 ≡ true }
         requires absent { is_resident self.old.resident handle.0 ≡ false }
-        requires room { all_locked self.old.frames self.old.resident ≡ false }
+        requires room { all_frames_locked self.old.frames self.old.resident ≡ false }
         // What is done.
         ensures stays { KeepsDocument S.facts self.old self.new }
         ensures ok { OnOk result (self.new.resident ≡ (handle.0, 0) ∷ cond
@@ -139,7 +140,7 @@ impl<S: Store> FileBlocks<S> {
     // Frees a frame, if each one is taken. The region for the block that comes is that of the block that goes, or else a
     // new one. Memory, File.
     fn make_room(&mut self) -> Result<Region, Fault>
-        requires { all_locked self.old.frames self.old.resident ≡ false }
+        requires { all_frames_locked self.old.frames self.old.resident ≡ false }
         ensures stays { KeepsDocument S.facts self.old self.new }
         ensures ok { OnOk result (self.new.resident ≡ cond
             (nat_lt (length self.old.resident) self.old.frames) self.old.resident (evicted self.old.resident)) }

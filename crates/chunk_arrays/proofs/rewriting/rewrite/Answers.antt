@@ -2,7 +2,7 @@ use Rattle.std.proofs.Common.{◌≡◌, ◌⊎◌, ◌≤◌, ◌<◌, ◌+◌,
 use Rattle.std.specs.List.{splice}
 use Rattle.geos_model.specs.Array.{Array, array_bytes, array_start, is_even, place_table}
 use Rattle.geos_model.proofs.Arrays.{joined, length-array_bytes}
-use Rattle.chunk_edits.specs.Patching.{Piece, PatchLeads}
+use Rattle.chunk_edits.specs.Patching.{PatchPiece, PatchLeads}
 use Rattle.chunk_arrays.specs.Rewriting.{elements_of, extra_after, rewritten}
 use Rattle.chunk_arrays.specs.declared.rewriting.NewElement.{NewElement}
 use Rattle.chunk_arrays.proofs.RewritingLemmas.{cut, head_room, length-extra_after, length-other_extra}
@@ -90,5 +90,5 @@ returns c =
     c.in_ok-draft_head.ensures c.in_ok-draft_table.ensures c.in_ok-draft_elements.ensures in
     record {
       accepted = accepted-short to (omega (arith, same));
-      leads = subst (λ (ps : List Piece). PatchLeads ps (array_bytes a) to) (sym c.in_ok-patch.ensures) leads;
+      leads = subst (λ (ps : List PatchPiece). PatchLeads ps (array_bytes a) to) (sym c.in_ok-patch.ensures) leads;
     }

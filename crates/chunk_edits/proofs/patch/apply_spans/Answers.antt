@@ -2,7 +2,7 @@ use Rattle.std.proofs.Common.{◌≡◌, ◌≤◌, ◌<◌, ◌+◌, ◌-◌, �
 use Rattle.std.proofs.lemmas.List.{take_rest}
 use Rattle.std.specs.FinMap.{insert, contains_key}
 use Rattle.geos_model.specs.Heap.{ChunkMap, chunk_bytes, fits_with}
-use Rattle.chunk_edits.specs.Patching.{Piece, taken, given, peak, directed_piece, directed_pieces, with_piece}
+use Rattle.chunk_edits.specs.Patching.{PatchPiece, taken, given, peak, directed_piece, directed_pieces, with_piece}
 use Rattle.chunk_edits.specs.Spans.{own, piece_of, pieces_of, total_own}
 use Rattle.chunk_edits.specs.declared.patch.Span.{Span}
 use Rattle.chunk_edits.specs.declared.patch.Span.TheVariants as spans
@@ -26,13 +26,13 @@ module _ (c : In-loop-span) where
   span : Span
   span = get_or c.args.spans.now c.loop-span.span-index (spans.Keep 0)
 
-  all : List Piece
+  all : List PatchPiece
   all = directed_pieces c.args.direction (pieces_of c.args.spans.now c.args.content.now)
 
-  behind : List Piece
+  behind : List PatchPiece
   behind = directed_pieces c.args.direction (pieces_of (drop (c.loop-span.span-index + 1) c.args.spans.now) (drop (own span) c.loop-span.row.now))
 
-  next : Piece
+  next : PatchPiece
   next = directed_piece c.args.direction (piece_of span c.loop-span.row.now)
 
   old : List ℕ
@@ -44,7 +44,7 @@ module _ (c : In-loop-span) where
   way : IsUnderWay all (next ∷ behind) old now c.loop-span.at
   unfolding span all behind next old now
   way =
-      subst (λ (l : List Piece). IsUnderWay all l old now c.loop-span.at)
+      subst (λ (l : List PatchPiece). IsUnderWay all l old now c.loop-span.at)
       (next_pieces c.args.spans.now c.loop-span.span-index less c.args.direction c.loop-span.row.now) c.loop-span.invariant.way
 
   whole : own span + total_own (drop (c.loop-span.span-index + 1) c.args.spans.now) ≡ length c.loop-span.row.now

@@ -5,7 +5,7 @@ use Rattle.geos_model.specs.declared.command.Command.TheVariants as commands
 use Rattle.geos_model.specs.declared.fault.Fault.{Fault}
 use Rattle.geos_model.specs.declared.fault.Fault.TheVariants.{Memory}
 use Rattle.geos_model.specs.declared.handle.VmHandle.{VmHandle}
-use Rattle.vm_blocks.specs.Keeping.{IsEnvironmentFault, is_shut_out}
+use Rattle.vm_blocks.specs.Keeping.{IsEnvironmentFault, has_no_frame_for}
 use Rattle.vm_blocks.proofs.KeepingLaws.{lacks-memory}
 use Rattle.doc_edits.specs.LookUps.{makes_list}
 use Rattle.doc_edits.proofs.LookUps.{answered_with_room, lacked, load_missed, load_rests, load_room, load_seen, refused_as}
@@ -27,11 +27,11 @@ returns-in_err-handles g c =
     let a = c.args.blocks.now in let loaded = c.load_heap.new.self in let b = c.args.block in let e = c.load_heap.ensures in
     let lacks = IsEnvironmentFault g.S.Store.facts a.disk.store loaded.disk.store in
     let lacks_list = λ (fault : Fault). (fault ≡ Memory) × (makes_list (commands.Chunks b) ≡ true) in
-    let room : is_shut_out a b.0 ≡ false = load_room g.S.Store.facts is_heap a loaded b.0 c.load_heap.result e.keeps e.early e.shut e.already (commands.Chunks b) (looks b) refl tt c.in_ok-load_heap.was in
+    let room : has_no_frame_for a b.0 ≡ false = load_room g.S.Store.facts is_heap a loaded b.0 c.load_heap.result e.keeps e.early e.shut e.already (commands.Chunks b) (looks b) refl tt c.in_ok-load_heap.was in
     record {
       keeps = e.keeps;
-      value = refused_as lacks (is_shut_out a b.0) (commands.Chunks b) loaded.document _ c.from_residual-in_err-handles.result Memory c.from_residual-in_err-handles.ensures.1
-          (lacked lacks (is_shut_out a b.0) room (commands.Chunks b) loaded.document Memory (lacks-memory g.S.Store.facts a.disk.store loaded.disk.store));
+      value = refused_as lacks (has_no_frame_for a b.0) (commands.Chunks b) loaded.document _ c.from_residual-in_err-handles.result Memory c.from_residual-in_err-handles.ensures.1
+          (lacked lacks (has_no_frame_for a b.0) room (commands.Chunks b) loaded.document Memory (lacks-memory g.S.Store.facts a.disk.store loaded.disk.store));
       already = λ nothing.
           let rest = load_rests g.S.Store.facts is_heap a loaded b.0 c.load_heap.result e.keeps e.early e.shut e.already (commands.Chunks b) (looks b) refl nothing in (
             rest.0,

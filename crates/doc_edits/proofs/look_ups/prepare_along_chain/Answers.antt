@@ -6,14 +6,14 @@ use Rattle.geos_model.specs.declared.command.Command.{Command}
 use Rattle.geos_model.specs.declared.command.Command.TheVariants as commands
 use Rattle.vm_blocks.specs.State.{CacheState}
 use Rattle.vm_store.specs.Facts.{StoreFacts}
-use Rattle.doc_edits.specs.LookUps.{SeesAlongChain}
+use Rattle.doc_edits.specs.LookUps.{AnswersChainFromBlocks}
 use Rattle.doc_edits.proofs.Forms.{by_form}
 use Rattle.doc_edits.proofs.LookUps.{shown_err, shown_ok}
 use Rattle.doc_edits.proofs.look_ups.prepare_along_chain.Goals as goal
 
 -- what is seen, in the form that is asked for
 abbrev SeesSo : {S : Type 0} → (S → StoreFacts) → CacheState S → CacheState S → Command → Reply → Type 0
-SeesSo facts old new command reply = SeesAlongChain facts old new command reply × (has_form reply (form_asked command) ≡ true)
+SeesSo facts old new command reply = AnswersChainFromBlocks facts old new command reply × (has_form reply (form_asked command) ≡ true)
 
 pub returns-in_err-lists-in-Walk-clause-sees : goal.returns-in_err-lists-in-Walk-clause-sees
 returns-in_err-lists-in-Walk-clause-sees g c =

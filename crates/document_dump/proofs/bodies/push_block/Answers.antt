@@ -5,7 +5,7 @@ use Rattle.geos_model.specs.declared.command.Body.TheVariants.{Raw}
 use Rattle.document_dump.specs.Lines.{text}
 use Rattle.document_dump.specs.Changes.{block_made}
 use Rattle.std.proofs.lemmas.Result.{IfErr-weaker}
-use Rattle.document_dump.specs.Faults.{IsHeapImage, IsImage, IsRefusalOf}
+use Rattle.document_dump.specs.Faults.{IsHeapBodyImage, IsBodyImage, IsRefusalOf}
 use Rattle.document_dump.proofs.Failing.{image-of_heap, part-narrower}
 use Rattle.vm_format.proofs.KindsLemmas.{told_raw, told_heap}
 use Rattle.file_report.proofs.HeapLemmas.{image-not_empty}
@@ -26,5 +26,5 @@ returns-then-is_empty-clause-err c = λ i.
 
 pub returns-then-is_heap-clause-err : goal.returns-then-is_heap-clause-err
 returns-then-is_heap-clause-err c =
-    IfErr-weaker c.push_heap_image.result (IsRefusalOf (IsHeapImage c.args.bytes.now)) (IsRefusalOf (IsImage c.args.bytes.now))
-    (λ fault is. part-narrower (IsHeapImage c.args.bytes.now) (IsImage c.args.bytes.now) fault (image-of_heap c.args.bytes.now (told_heap (slice_index c.args.bytes.now 0) c.of_byte.result c.is_heap.result c.of_byte.ensures c.is_heap.ensures c.if-is_heap.true)) is) c.push_heap_image.ensures.err
+    IfErr-weaker c.push_heap_image.result (IsRefusalOf (IsHeapBodyImage c.args.bytes.now)) (IsRefusalOf (IsBodyImage c.args.bytes.now))
+    (λ fault is. part-narrower (IsHeapBodyImage c.args.bytes.now) (IsBodyImage c.args.bytes.now) fault (image-of_heap c.args.bytes.now (told_heap (slice_index c.args.bytes.now 0) c.of_byte.result c.is_heap.result c.of_byte.ensures c.is_heap.ensures c.if-is_heap.true)) is) c.push_heap_image.ensures.err

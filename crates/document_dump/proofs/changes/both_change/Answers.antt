@@ -33,4 +33,4 @@ returns-clause-ok g c = λ so.
     let former = c.as_slice.ensures.value ∙ c.in_ok-former.ensures.image so in
     let image_is = c.in_ok-image.ensures.image still ∙ ap (λ (d : Document). image (block_at d h).body) (reads.updated.same so) in
     let made = made-both c.args.file.now.saved c.args.file.now.updated h _ _ _ c.requires.was c.requires.live former (c.as_slice-2.ensures.value ∙ image_is) c.is_same-same.ensures in
-    (made ∙ ap not c.if-same.false, sym c.requires.was, c.requires.after, c.validity.ensures.updated.bodies so h c.requires.live, image_is)
+    (made ∙ ap not c.if-same.false, sym c.requires.was, c.requires.after, c.reveal_invariant.ensures.updated.bodies so h c.requires.live, image_is)

@@ -16,4 +16,4 @@ pub returns-in_ok-image-in-Some-clause-ok : goal.returns-in_ok-image-in-Some-cla
 returns-in_ok-image-in-Some-clause-ok g c = λ so.
     let h = c.args.block.0 in
     let live = sym c.in-Some.ensures.live in
-    (made-new empty_document c.args.file.now.saved h (live-empty h) live, sym (live-empty h), c.in-Some.ensures.attributes, c.validity.ensures.saved.bodies so h live, c.in_ok-image-in-Some.ensures.image so)
+    (made-new empty_document c.args.file.now.saved h (live-empty h) live, sym (live-empty h), c.in-Some.ensures.attributes, c.reveal_invariant.ensures.saved.bodies so h live, c.in_ok-image-in-Some.ensures.image so)

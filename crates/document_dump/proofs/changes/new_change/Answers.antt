@@ -15,4 +15,4 @@ pub returns-in_ok-image-in-Some-clause-ok : goal.returns-in_ok-image-in-Some-cla
 returns-in_ok-image-in-Some-clause-ok g c = λ so.
     let h = c.args.block.0 in
     let live = sym c.in-Some.ensures.live in
-    (made-new c.args.file.now.saved c.args.file.now.updated h c.requires live, sym c.requires, c.in-Some.ensures.attributes, c.validity.ensures.updated.bodies so h live, c.in_ok-image-in-Some.ensures.image so)
+    (made-new c.args.file.now.saved c.args.file.now.updated h c.requires live, sym c.requires, c.in-Some.ensures.attributes, c.reveal_invariant.ensures.updated.bodies so h live, c.in_ok-image-in-Some.ensures.image so)

@@ -4,7 +4,7 @@ use Rattle.std.specs.Option.{option_and_then}
 use Rattle.geos_model.specs.Array.{Array, array_of}
 use Rattle.geos_model.specs.ElementArray.{element_array_of, slots_of}
 use Rattle.geos_model.specs.NameArray.{name_array_of, names_of}
-use Rattle.document_stat.specs.Arrays.{kind_of}
+use Rattle.document_stat.specs.Arrays.{kind_of_array}
 use Rattle.lmem_heap.specs.declared.known.ArrayKind.{ArrayKind}
 use Rattle.lmem_heap.specs.declared.known.ArrayKind.TheVariants as kinds
 use Rattle.document_stat.proofs.arrays.read_array.Goals as goal
@@ -16,7 +16,7 @@ kind_if o =
     else if is_some o then Some kinds.Chunk
     else None
 
-no_array : (bytes : List ℕ) → array_of bytes ≡ None → kind_of bytes ≡ None
+no_array : (bytes : List ℕ) → array_of bytes ≡ None → kind_of_array bytes ≡ None
 unfolding name_array_of element_array_of
 no_array bytes none = ap kind_if none
 

@@ -2,7 +2,7 @@ use Rattle.std.proofs.Common.{◌≡◌, Err, None, Some, ap}
 use Rattle.std.proofs.lemmas.Result.{err_from_is_err_and}
 use Rattle.vm_format.proofs.LooksLemmas.{OnlyReadsStore-trans, held_before}
 use Rattle.geos_model.specs.File.{directory_of}
-use Rattle.vm_format.specs.Listed.{shown}
+use Rattle.vm_format.specs.Listed.{as_directory}
 use Rattle.document_stat.proofs.Files.{directory_none, refused_by, refused_saved, refused_updated}
 use Rattle.document_stat.proofs.counting.read_counting_slot.Goals as goal
 
@@ -47,6 +47,6 @@ returns-clause-ok g c = λ so.
     let both = OnlyReadsStore-trans _ _ _ (λ so. g.met.S.Store.timely c.args.store.now so) first c.read_directory.ensures.looks in
     record {
       chosen = c.in_ok-slot.ensures.ok so;
-      updated = held_before (λ f. directory_of v f c.in_ok-slot.slot.working ≡ Some (shown c.in_ok-updated.updated)) _ _ first c.in_ok-updated.ensures.read so;
-      saved = held_before (λ f. directory_of v f c.in_ok-slot.slot.saved ≡ Some (shown c.in_ok-saved.saved)) _ _ both c.in_ok-saved.ensures.read so;
+      updated = held_before (λ f. directory_of v f c.in_ok-slot.slot.working ≡ Some (as_directory c.in_ok-updated.updated)) _ _ first c.in_ok-updated.ensures.read so;
+      saved = held_before (λ f. directory_of v f c.in_ok-slot.slot.saved ≡ Some (as_directory c.in_ok-saved.saved)) _ _ both c.in_ok-saved.ensures.read so;
     }

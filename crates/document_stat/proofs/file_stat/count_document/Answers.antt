@@ -1,7 +1,7 @@
 use Rattle.std.proofs.Common.{◌≤◌, length, refl, ap, subst, sym, ◌∙◌, arith}
 use Rattle.geos_model.specs.File.{blocks_of_entries}
 use Rattle.geos_model.proofs.Files.{is_directory-parts}
-use Rattle.vm_format.specs.Listed.{shown}
+use Rattle.vm_format.specs.Listed.{as_directory}
 use Rattle.document_stat.specs.Counted.{Blocks, IsBlockStat}
 use Rattle.document_stat.proofs.Files.{document_made, made_of}
 use Rattle.document_stat.proofs.ValidBlocks.{are_blocks, entries_made, few_rising, stat_of}
@@ -9,7 +9,7 @@ use Rattle.document_stat.proofs.file_stat.count_document.Goals as goal
 
 pub returns-clause-ok : goal.returns-clause-ok
 returns-clause-ok g c = λ so version n formed.
-    let d = shown c.args.directory.now in
+    let d = as_directory c.args.directory.now in
     let file = (g.S.Store.facts c.args.store.now).content in
     let stat = c.in_ok-blocks.blocks in
     let counted = c.in_ok-blocks.ensures.ok so in

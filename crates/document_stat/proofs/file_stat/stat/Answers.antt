@@ -6,7 +6,7 @@ use Rattle.vm_format.proofs.StoredDirectoryLemmas.{directory_formed}
 use Rattle.geos_model.specs.Document.{Document}
 use Rattle.geos_model.specs.File.{both, bytes_in, document_of, pages_of, stands}
 use Rattle.geos_model.proofs.FileDocuments.{directory_of-some}
-use Rattle.vm_format.specs.Listed.{shown}
+use Rattle.vm_format.specs.Listed.{as_directory}
 use Rattle.document_stat.specs.Files.{IsCountingSlot, IsDocumentStat, IsSavedStat, counting_usages}
 use Rattle.file_report.specs.Pages.{AreFreePages}
 use Rattle.file_report.specs.declared.pages.Usage.{Usage}
@@ -33,7 +33,7 @@ returns-in_err-updated-clause-err g c =
     let file = (g.S.Store.facts c.args.store.now).content in
     let slot = c.in_ok-slot.slot in
     let s = slot.slot in
-    let d = shown slot.updated in
+    let d = as_directory slot.updated in
     let p = err_from_is_err_and c.from_residual-in_err-updated.result c.from_residual-in_err-updated.ensures.1 in
     rw (p.1, p.2) (λ so.
     let counting = held_before (λ f. IsCountingSlot f slot) _ _ c.read_length.ensures.looks c.in_ok-slot.ensures.ok so in
@@ -50,7 +50,7 @@ returns-in_err-saved-clause-err g c =
     let file = (g.S.Store.facts c.args.store.now).content in
     let slot = c.in_ok-slot.slot in
     let s = slot.slot in
-    let d = shown slot.saved in
+    let d = as_directory slot.saved in
     let p = err_from_is_err_and c.from_residual-in_err-saved.result c.from_residual-in_err-saved.ensures.1 in
     rw (p.1, p.2) (λ so.
     let counting = held_before (λ f. IsCountingSlot f slot) _ _ c.read_length.ensures.looks c.in_ok-slot.ensures.ok so in
@@ -73,7 +73,7 @@ returns-clause-ok g c = λ so.
     let third = OnlyReadsStore-trans _ _ _ (λ so. g.met.S.Store.timely c.args.store.now so) second c.count_document.ensures.looks in
     let size = c.in_ok-file_length.ensures.length so in
     let counting = held_before (λ f. IsCountingSlot f slot) _ _ first c.in_ok-slot.ensures.ok so in
-    let d = shown slot.updated in
+    let d = as_directory slot.updated in
     let formed = directory_formed s.version (length file) (bytes_in file s.working) d (directory_of-some s.version file s.working d counting.updated).1 in
     let updated = held_before (λ f. (u : Document) × (document_of f d ≡ Some u) × IsDocumentStat u c.in_ok-updated.updated) _ _ second (λ so. c.in_ok-updated.ensures.ok so s.version (length file) formed) so in
     let there = document_there s.version file s.working d (Some updated.0) counting.updated updated.1 in

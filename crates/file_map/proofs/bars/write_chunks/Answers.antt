@@ -1,7 +1,7 @@
 use Rattle.std.proofs.Common.{◌+◌, false, List, ℕ, drop, get_or, arith, subst, sym, ap₂}
 use Rattle.std.specs.Io.KnownBytes.{Appends}
 use Rattle.file_map.specs.Bars.{chunk_drawn, chunks_drawn, flipped}
-use Rattle.file_map.specs.Heaps.{header, space}
+use Rattle.file_map.specs.Heaps.{header, chunk_space}
 use Rattle.file_map.proofs.TableLemmas.{chunks_more}
 use Rattle.file_map.proofs.TextLemmas.{Gone, filled_out, gone_more}
 use Rattle.file_map.proofs.bars.write_chunks.Goals as goal
@@ -17,7 +17,7 @@ loop-entry-preserved g c =
     let mid = g.W.Write.contents c.loop-entry.writer in
     let to = g.W.Write.contents c.send.new.writer in
     let whole = chunks_drawn false (header sizes) 0 sizes in
-    let rest = chunks_drawn (flipped dark size) (at + space size) (entry + 1) (drop (entry + 1) sizes) in
+    let rest = chunks_drawn (flipped dark size) (at + chunk_space size) (entry + 1) (drop (entry + 1) sizes) in
     let here : List ℕ = chunk_drawn dark at entry size in
     let sent : Appends mid to here = subst (Appends mid to) (filled_out _ _ _ here c.new-out.ensures.items c.in_ok-push_chunk_drawn.ensures c.deref.ensures.value) c.in_ok-send.ensures.text in
     record {

@@ -1,5 +1,5 @@
 use Rattle.vm_format.proofs.LooksLemmas.{OnlyReadsStore-trans}
-use Rattle.file_map.specs.Drawn.{text_of}
+use Rattle.file_map.specs.Drawn.{map_text}
 use Rattle.file_map.proofs.MapLemmas.{lacks_refuse, picture_drawn}
 use Rattle.file_map.proofs.drawing.draw_text.Goals as goal
 
@@ -7,7 +7,7 @@ pub returns-clause-looks : goal.returns-clause-looks
 returns-clause-looks g c = OnlyReadsStore-trans _ _ _ (λ so. g.met.S.Store.timely c.args.store.now so) c.read_map.ensures.looks c.write_text.ensures.looks
 
 pub returns-clause-text : goal.returns-clause-text
-returns-clause-text g c = picture_drawn text_of _ _ c.in_ok-map.map _ _ c.write_text.result c.read_map.ensures.looks c.in_ok-map.ensures.map c.write_text.ensures.text
+returns-clause-text g c = picture_drawn map_text _ _ c.in_ok-map.map _ _ c.write_text.result c.read_map.ensures.looks c.in_ok-map.ensures.map c.write_text.ensures.text
 
 pub returns-clause-refusals : goal.returns-clause-refusals
 returns-clause-refusals g c = lacks_refuse (g.S.Store.facts c.args.store.now) c.write_text.result c.write_text.ensures.refusals

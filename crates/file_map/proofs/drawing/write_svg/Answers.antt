@@ -3,7 +3,7 @@ use Rattle.std.specs.Prelude.{count_by}
 use Rattle.std.proofs.lemmas.Result.{on_ok_weaker}
 use Rattle.std.specs.Io.KnownBytes.{Appends}
 use Rattle.file_map.specs.Bars.{bars_drawn}
-use Rattle.file_map.specs.Parts.{drawn, is_heap}
+use Rattle.file_map.specs.Parts.{drawn_parts, is_heap_part}
 use Rattle.file_map.specs.Svg.{gaps, heaps_top, labels, parts_drawn, start_drawn}
 use Rattle.file_map.specs.declared.part.Part.{Part}
 use Rattle.file_map.proofs.TextLemmas.{sent5}
@@ -14,11 +14,11 @@ returns-clause-text g c =
     let file = (g.S.Store.facts c.args.store.now).content in
     let ps = c.args.map.now.parts.items in
     let pages = c.args.map.now.pages in
-    let once = drawn ps in
+    let once = drawn_parts ps in
     let top = heaps_top pages in
-    let height = top + 34 * count_by is_heap once in
-    let once_is = c.in_ok-once.ensures.parts ∙ ap drawn c.deref.ensures.value in
-    let height_is = c.height.ensures ∙ ap₂ (λ (t : ℕ) (l : List Part). t + 34 * count_by is_heap l) c.heaps_top-top.ensures.value (c.deref-2.ensures.value ∙ once_is) in
+    let height = top + 34 * count_by is_heap_part once in
+    let once_is = c.in_ok-once.ensures.parts ∙ ap drawn_parts c.deref.ensures.value in
+    let height_is = c.height.ensures ∙ ap₂ (λ (t : ℕ) (l : List Part). t + 34 * count_by is_heap_part l) c.heaps_top-top.ensures.value (c.deref-2.ensures.value ∙ once_is) in
     let w0 = g.W.Write.contents c.args.writer.now in
     let w1 = g.W.Write.contents c.write_start.new.writer in
     let w2 = g.W.Write.contents c.write_parts.new.writer in

@@ -3,7 +3,7 @@ use Rattle.std.proofs.lemmas.Result.{on_ok_weaker}
 use Rattle.std.specs.Io.KnownBytes.{Appends}
 use Rattle.file_map.specs.Heaps.{heap_lines}
 use Rattle.file_map.specs.Pages.{page_picture}
-use Rattle.file_map.specs.Parts.{drawn}
+use Rattle.file_map.specs.Parts.{drawn_parts}
 use Rattle.file_map.specs.declared.heaps.TheConstants.{HEADING}
 use Rattle.file_map.proofs.TextLemmas.{sent3}
 use Rattle.file_map.proofs.drawing.write_text.Goals as goal
@@ -18,7 +18,7 @@ returns-clause-text g c =
     let second = g.W.Write.contents c.write_heading.new.writer in
     let to = g.W.Write.contents c.write_heaps.new.writer in
     on_ok_weaker c.write_heaps.result
-    (λ sent so. sent3 from first second to (page_picture ps pages) HEADING.now (heap_lines file (drawn ps))
+    (λ sent so. sent3 from first second to (page_picture ps pages) HEADING.now (heap_lines file (drawn_parts ps))
     (subst (λ l. Appends from first (page_picture l pages)) c.deref.ensures.value c.in_ok-write_pages.ensures.text) c.in_ok-write_heading.ensures.text
-    (subst (λ l. Appends second to (heap_lines file l)) (c.deref-3.ensures.value ∙ c.in_ok-once.ensures.parts ∙ ap drawn c.deref-2.ensures.value) (sent so)))
+    (subst (λ l. Appends second to (heap_lines file l)) (c.deref-3.ensures.value ∙ c.in_ok-once.ensures.parts ∙ ap drawn_parts c.deref-2.ensures.value) (sent so)))
     c.write_heaps.ensures.text

@@ -1,5 +1,5 @@
 use Rattle.std.proofs.Common.{◌<◌, arith, ap, ◌∙◌}
-use Rattle.file_map.specs.Pages.{number}
+use Rattle.file_map.specs.Pages.{content_number}
 use Rattle.file_map.proofs.RowLemmas.{number_below, tally_more, tally_most}
 use Rattle.file_map.proofs.rows.push_page.Goals as goal
 
@@ -14,4 +14,4 @@ pub returns-clause-tally : goal.returns-clause-tally
 returns-clause-tally c =
     let few = number_below c.content_of-content.result in
     let below : c.number.result < 12 = omega (arith, few, c.number.ensures) in
-    tally_more c.args.parts.now c.args.page c.args.counts.now c.number.result c.requires.tally (c.number.ensures ∙ ap number c.content_of-content.ensures) below
+    tally_more c.args.parts.now c.args.page c.args.counts.now c.number.result c.requires.tally (c.number.ensures ∙ ap content_number c.content_of-content.ensures) below

@@ -1,7 +1,7 @@
 use Rattle.std.proofs.Common.{rules, ◌≡◌, ◌++◌, ◌∷◌, [], None, refl, sym, subst, ◌∙◌}
 use Rattle.geos_model.specs.File.{directory_of}
 use Rattle.file_report.specs.Findings.{IsSeen, directory_extent}
-use Rattle.vm_format.specs.Reading.{IsRead}
+use Rattle.vm_format.specs.Reading.{IsDirectoryRead}
 use Rattle.file_report.specs.Reading.{IsSoOf, IsSoOfRead}
 use Rattle.vm_format.specs.declared.stored_directory.ReadDirectory.TheVariants.{Misplaced, Wrong}
 use Rattle.file_report.specs.declared.finding.Finding.TheVariants as finding
@@ -18,7 +18,7 @@ returns-in_ok-note_place-in-Misplaced-clause-found c =
     finds_both so _ _ _
     (finds_one so _ _ (finding.NoDirectory c.args.name e) pushed (λ file size read. (
       c.directory_extent-extent.ensures,
-      subst (λ x. directory_of s.version file x ≡ None) (sym c.directory_extent-extent.ensures) (subst (λ r. IsRead s.version (directory_extent s c.args.name) r file) is read),
+      subst (λ x. directory_of s.version file x ≡ None) (sym c.directory_extent-extent.ensures) (subst (λ r. IsDirectoryRead s.version (directory_extent s c.args.name) r file) is read),
     )))
     (finds_as (IsSoOf c.args.file_length s) so _ _ (λ f true_of file size read. true_of file size) c.in_ok-note_place-in-Misplaced.ensures)
 
@@ -32,11 +32,11 @@ returns-in_ok-note_bytes-in-Wrong-clause-found c =
     finds_both so _ _ _
     (finds_one so _ _ (finding.NoDirectory c.args.name e) pushed (λ file size read. (
       c.directory_extent-extent.ensures,
-      subst (λ x. directory_of s.version file x ≡ None) (sym c.directory_extent-extent.ensures) (subst (λ r. IsRead s.version (directory_extent s c.args.name) r file) is read).1,
+      subst (λ x. directory_of s.version file x ≡ None) (sym c.directory_extent-extent.ensures) (subst (λ r. IsDirectoryRead s.version (directory_extent s c.args.name) r file) is read).1,
     )))
     (finds_as (IsSeen s.version c.args.file_length c.deref.result.now c.args.name) so _ _
     (λ f seen file size read. seen file s (record {
-      bytes_are = c.deref.ensures.value ∙ (subst (λ r. IsRead s.version (directory_extent s c.args.name) r file) is read).0;
+      bytes_are = c.deref.ensures.value ∙ (subst (λ r. IsDirectoryRead s.version (directory_extent s c.args.name) r file) is read).0;
       length_is = size;
       version_is = refl;
     })) c.in_ok-note_bytes-in-Wrong.ensures)

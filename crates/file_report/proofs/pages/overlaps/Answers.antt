@@ -1,5 +1,5 @@
 use Rattle.std.proofs.Common.{◌≤◌, ◌<◌, length, arith, subst, take_all}
-use Rattle.file_report.specs.Pages.{AreTold}
+use Rattle.file_report.specs.Pages.{AreReportedIn}
 use Rattle.file_report.proofs.OverlapLemmas.{swept_next}
 use Rattle.file_report.proofs.pages.overlaps.Goals as goal
 
@@ -15,4 +15,4 @@ loop-usage-preserved c =
 pub returns-clause-all : goal.returns-clause-all
 returns-clause-all c = λ order.
     let past : length c.args.usages.now ≤ c.loop-usage.usage-index = omega arith in
-    subst (λ us. AreTold us c.loop-usage.pairs.items) (take_all c.loop-usage.usage-index c.args.usages.now past) (c.loop-usage.invariant.swept order).told
+    subst (λ us. AreReportedIn us c.loop-usage.pairs.items) (take_all c.loop-usage.usage-index c.args.usages.now past) (c.loop-usage.invariant.swept order).told

@@ -17,7 +17,7 @@ change-requires-clause-unlocked g c = none_locked _ c.args.blocks.now.resident (
 pub returns-in-One-clause-refusals : goal.returns-in-One-clause-refusals
 returns-in-One-clause-refusals g c =
     subst (λ (e : LogEntry). IfErr c.change.result (CantApplyEntry g.S.Store.facts c.args.direction e c.args.blocks.now c.change.new.self)) (sym c.in-One.is)
-    (unready_refuses g.S.Store.facts (directed c.args.direction c.in-One.change) c.args.blocks.now c.change.new.self c.change.result (none-open c.args.blocks.now c.validity.ensures.some c.requires.unlocked) c.change.ensures.refusals)
+    (unready_refuses g.S.Store.facts (directed c.args.direction c.in-One.change) c.args.blocks.now c.change.new.self c.change.result (none-open c.args.blocks.now c.reveal_invariant.ensures.some c.requires.unlocked) c.change.ensures.refusals)
 
 pub returns-in-Group-clause-sure : goal.returns-in-Group-clause-sure
 returns-in-Group-clause-sure g c =

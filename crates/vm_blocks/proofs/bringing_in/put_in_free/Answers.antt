@@ -28,7 +28,7 @@ pub put_in-requires : goal.put_in-requires
 put_in-requires g c =
     let d = c.args.blocks.now.document in
     let hs = handles_of (imaged_blocks c.args.members.now.list.items) in
-    free_names (g.S.Store.facts c.args.blocks.now.disk.store).honest d c.validity.ensures.listed hs (record { handles = c.requires.handles; distinct = c.requires.distinct })
+    free_names (g.S.Store.facts c.args.blocks.now.disk.store).honest d c.reveal_invariant.ensures.listed hs (record { handles = c.requires.handles; distinct = c.requires.distinct })
     (none_live d hs (sym c.has_live.ensures ∙ c.if-has_live.false))
 
 pub returns-in_err-put_in-clause-err : goal.returns-in_err-put_in-clause-err
@@ -50,7 +50,7 @@ pub returns-clause-ok : goal.returns-clause-ok
 returns-clause-ok g c =
     let old = c.args.blocks.now in
     let hs = handles_of (imaged_blocks c.args.members.now.list.items) in
-    brought_by g.S.Store.facts old c.args.members.now c.put_in.new.self c.validity.ensures.listed (record { handles = c.requires.handles; distinct = c.requires.distinct })
+    brought_by g.S.Store.facts old c.args.members.now c.put_in.new.self c.reveal_invariant.ensures.listed (record { handles = c.requires.handles; distinct = c.requires.distinct })
     (none_live old.document hs (sym c.has_live.ensures ∙ c.if-has_live.false)) c.in_ok-put_in.ensures.turns.ok
 
 pub returns-clause-sure : goal.returns-clause-sure

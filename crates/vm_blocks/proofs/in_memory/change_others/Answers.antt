@@ -64,7 +64,7 @@ take_out_all-requires-clause-leave g c =
     let mid = c.load_all.new.blocks in
     let document = ap (λ (s : CacheState g.row.S.Denot). s.document) (c.carry_out_all.ensures.all c.if-not-carry_out_all.false) in
     let listed = listed_then g.S.Store.facts (others whole) c.args.blocks.now mid c.load_all.ensures.keeps c.requires.listed in
-    let can = subst (CanTakeOut (others whole)) (others_in_place whole mid.document) (all_can_go (others whole) mid.document listed (none_of_others whole) c.validity.ensures.listed.handles) in
+    let can = subst (CanTakeOut (others whole)) (others_in_place whole mid.document) (all_can_go (others whole) mid.document listed (none_of_others whole) c.reveal_invariant.ensures.listed.handles) in
     subst (CanTakeOut whole) (sym document) (others_leave whole (all_in_place whole mid.document) can)
 
 pub take_out_all-requires-clause-unlocked : goal.take_out_all-requires-clause-unlocked

@@ -7,7 +7,7 @@ pub returns-in-Part-clause-err : goal.returns-in-Part-clause-err
 returns-in-Part-clause-err g c =
     let old = c.args.blocks.now in
     err-open old c.in-Part.handle.0 (IsEnvironmentFault g.S.Store.facts old.disk.store c.load_live.new.self.disk.store) c.load_live.result
-    (open-shut old c.in-Part.handle.0 (none-open old c.validity.ensures.some (ap (nat_lt 0) c.requires.unlocked))) c.load_live.ensures.err
+    (open-shut old c.in-Part.handle.0 (none-open old c.reveal_invariant.ensures.some (ap (nat_lt 0) c.requires.unlocked))) c.load_live.ensures.err
 
 pub returns-in_default-clause-keeps : goal.returns-in_default-clause-keeps
 returns-in_default-clause-keeps g c = keeps-refl g.S.Store.facts c.args.blocks.now

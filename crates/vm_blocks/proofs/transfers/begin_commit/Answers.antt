@@ -17,7 +17,7 @@ returns-then-is_worn-clause-moves g c = moves_none g.S.Store.facts c.args.file.n
 
 pub returns-then-is_worn-clause-err : goal.returns-then-is_worn-clause-err
 returns-then-is_worn-clause-err g c =
-    λ pair behind. refused g.S.Store.facts (with_frames c.args.file.now c.args.frames.now.entries) pair behind Worn c.validity.ensures.crash_consistent (λ _. c.is_worn.ensures.0 c.if-is_worn.true, λ _. refl)
+    λ pair behind. refused g.S.Store.facts (with_frames c.args.file.now c.args.frames.now.entries) pair behind Worn c.reveal_invariant.ensures.crash_consistent (λ _. c.is_worn.ensures.0 c.if-is_worn.true, λ _. refl)
 
 pub returns-in_err-flush-clause-err : goal.returns-in_err-flush-clause-err
 returns-in_err-flush-clause-err g c =
@@ -26,7 +26,7 @@ returns-in_err-flush-clause-err g c =
     let es = c.args.frames.now.entries in let fs = c.flush.new.frames.entries in
     let fresh : a.disk.sequence ≢ last_sequence = λ last. absurd (cc (sym c.if-is_worn.false ∙ c.is_worn.ensures.1 last)) in
     subst (λ r. OnErr r ((pair : Documents) (behind : Document) → IsCommit g.S.Store.facts pair behind (with_frames a es) (with_frames b fs) r)) (sym (p.1 ∙ ap Err p.2))
-    (λ pair behind. not_committed g.S.Store.facts g.met.S.Store.timely a b es fs pair behind c.in_err-flush.field-0.0 c.flush.ensures.moves c.validity.ensures.crash_consistent fresh (unworn _ c.in_err-flush.ensures.fails.faults))
+    (λ pair behind. not_committed g.S.Store.facts g.met.S.Store.timely a b es fs pair behind c.in_err-flush.field-0.0 c.flush.ensures.moves c.reveal_invariant.ensures.crash_consistent fresh (unworn _ c.in_err-flush.ensures.fails.faults))
 
 pub returns-clause-ok : goal.returns-clause-ok
 returns-clause-ok g c = (λ last. absurd (cc (sym c.if-is_worn.false ∙ c.is_worn.ensures.1 last)), c.in_ok-flush.ensures.clean)

@@ -10,7 +10,7 @@ new-requires g c = λ raw.
     let h = c.args.block.0 in
     let attributes : c.unwrap-place.result.attributes ≡ attributes_of d h = rw c.unwrap-place.ensures at c.entry.ensures.attributes in
     let kind : is_heap d h ≡ is_heap_body c.in_ok-image.field-0 = sym c.requires.kind ∙ sym (ap is_heap_body c.in_ok-image.ensures) in
-    ap (λ (a : Attributes). a.heap_type) attributes ∙ c.validity.ensures.document.typed h (kind ∙ raw)
+    ap (λ (a : Attributes). a.heap_type) attributes ∙ c.reveal_invariant.ensures.document.typed h (kind ∙ raw)
 
 pub returns-clause-is : goal.returns-clause-is
 returns-clause-is g c =

@@ -10,7 +10,7 @@ pub returns-then-is_heap-clause-same : goal.returns-then-is_heap-clause-same
 returns-then-is_heap-clause-same g c = λ so.
     let d = c.args.file.now.document in
     let h = c.args.block.0 in
-    body_is (body_value c.in-Some.body) (block_at d h).body c.deref.result.now c.in-Some.ensures (c.deref.ensures.value ∙ c.in_ok-image.ensures.image so) (c.validity.ensures.document.bodies so h c.requires.live)
+    body_is (body_value c.in-Some.body) (block_at d h).body c.deref.result.now c.in-Some.ensures (c.deref.ensures.value ∙ c.in_ok-image.ensures.image so) (c.reveal_invariant.ensures.document.bodies so h c.requires.live)
 
 pub returns-in-Some-clause-fails : goal.returns-in-Some-clause-fails
 returns-in-Some-clause-fails g c =
@@ -18,7 +18,7 @@ returns-in-Some-clause-fails g c =
     let h = c.args.block.0 in
     let body = body_value c.in-Some.body in
     unread g.S.Store.facts _ _ _ _ refl (inr refl) (λ _ so.
-    let same : (block_at d h).body ≡ body = body_is body (block_at d h).body c.deref.result.now c.in-Some.ensures (c.deref.ensures.value ∙ c.in_ok-image.ensures.image so) (c.validity.ensures.document.bodies so h c.requires.live) in
+    let same : (block_at d h).body ≡ body = body_is body (block_at d h).body c.deref.result.now c.in-Some.ensures (c.deref.ensures.value ∙ c.in_ok-image.ensures.image so) (c.reveal_invariant.ensures.document.bodies so h c.requires.live) in
     let kind : c.unwrap-is_heap.result.is_heap ≡ is_heap d h = rw c.unwrap-is_heap.ensures at c.entry.ensures.kind in
     kinds_differ c.is_heap.result c.unwrap-is_heap.result.is_heap (c.is_heap.ensures ∙ sym (ap is_heap_body same) ∙ heap_body (get d.blocks h) ∙ sym kind) c.if-is_heap.false)
 
@@ -26,4 +26,4 @@ pub returns-clause-fails : goal.returns-clause-fails
 returns-clause-fails g c =
     let d = c.args.file.now.document in
     let h = c.args.block.0 in
-    unread g.S.Store.facts _ _ _ _ refl (inr refl) (λ _ so. no_image (block_at d h).body c.deref.result.now c.in-None.ensures (c.deref.ensures.value ∙ c.in_ok-image.ensures.image so) (c.validity.ensures.document.bodies so h c.requires.live))
+    unread g.S.Store.facts _ _ _ _ refl (inr refl) (λ _ so. no_image (block_at d h).body c.deref.result.now c.in-None.ensures (c.deref.ensures.value ∙ c.in_ok-image.ensures.image so) (c.reveal_invariant.ensures.document.bodies so h c.requires.live))

@@ -98,7 +98,7 @@ returns-clause-value g c = λ steady.
     let later = keeps-trans facts b u e c.finish.ensures.keeps c.finish-2.ensures.keeps in
     let compared = c.in_ok-same.ensures.value f s steady (both_at_root a.document f s c.in_ok-first.first c.in_ok-second.second c.in_ok-first.ensures c.in_ok-second.ensures) in
     let along = still_in facts b u c.finish.ensures.keeps (λ d. IsAlong d s c.are_alike.new.second) at_b compared.second_along in
-    let valid = still_in facts a e (keeps-trans facts a u e then c.finish-2.ensures.keeps) (λ d. IsValid d) steady (c.validity.ensures.document (steady-honest facts a.disk.store steady)) in
+    let valid = still_in facts a e (keeps-trans facts a u e then c.finish-2.ensures.keeps) (λ d. IsValid d) steady (c.reveal_invariant.ensures.document (steady-honest facts a.disk.store steady)) in
     equal_if e.document f s c.in_ok-same.same c.are_alike.new.first c.are_alike.new.second (numbers c.in_ok-finish.field-0.items) (numbers c.in_ok-finish-2.field-0.items) valid
     (still_in facts b e later (λ d. AreCompared d f s c.in_ok-same.same c.are_alike.new.first c.are_alike.new.second) at_b compared)
     (still_in facts u e c.finish-2.ensures.keeps (λ d. chain d f ≡ Some (numbers c.in_ok-finish.field-0.items)) at_u (c.in_ok-finish.ensures.value f at_b compared.first_along))

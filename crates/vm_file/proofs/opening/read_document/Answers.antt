@@ -2,7 +2,7 @@ use Rattle.std.proofs.Common.{◌≤◌, Some, All, length, ap, sym, subst, ◌�
 use Rattle.geos_model.specs.Document.{most_blocks}
 use Rattle.geos_model.specs.File.{longest_image}
 use Rattle.geos_model.proofs.Files.{directory-low}
-use Rattle.vm_format.specs.Listed.{shown}
+use Rattle.vm_format.specs.Listed.{as_directory}
 use Rattle.vm_file.specs.Documents.{entries_of, AreImaged}
 use Rattle.vm_file.specs.Sound.{ArePlaces}
 use Rattle.vm_format.proofs.LooksLemmas.{OnlyReadsStore-trans, held_before}
@@ -24,21 +24,21 @@ pub returns-clause-formed : goal.returns-clause-formed
 returns-clause-formed g c =
     let table = c.in_ok-table.ensures.ok in
     let places = ap (λ (t : BlockTable). t.places.items) table in
-    read_formed c.args.version c.args.file_length (shown c.in_ok-directory.directory) _ c.in_ok-directory.ensures.formed c.in_ok-directory.ensures.place
+    read_formed c.args.version c.args.file_length (as_directory c.in_ok-directory.directory) _ c.in_ok-directory.ensures.formed c.in_ok-directory.ensures.place
     (ap (entries_of 1) places ∙ c.in_ok-places.ensures.entries ∙ c.deref.ensures.value) (subst ArePlaces (sym places) c.in_ok-places.ensures.places)
     (subst (λ ps. length ps ≤ most_blocks) (sym places) c.in_ok-places.ensures.size) (ap (λ (t : BlockTable). t.map_block) table)
 
 pub read_places-requires-clause-handles : goal.read_places-requires-clause-handles
 read_places-requires-clause-handles g c =
-    subst (All (λ e. e.handle.0 ≤ most_blocks)) (sym c.deref.ensures.value) (directory-low c.args.version c.args.file_length (shown c.in_ok-directory.directory) c.in_ok-directory.ensures.formed)
+    subst (All (λ e. e.handle.0 ≤ most_blocks)) (sym c.deref.ensures.value) (directory-low c.args.version c.args.file_length (as_directory c.in_ok-directory.directory) c.in_ok-directory.ensures.formed)
 
 pub read_places-requires-clause-short : goal.read_places-requires-clause-short
 read_places-requires-clause-short g c =
-    subst (All (λ e. e.extent.length ≤ longest_image)) (sym c.deref.ensures.value) (images_short c.args.version c.args.file_length (shown c.in_ok-directory.directory) c.in_ok-directory.ensures.formed)
+    subst (All (λ e. e.extent.length ≤ longest_image)) (sym c.deref.ensures.value) (images_short c.args.version c.args.file_length (as_directory c.in_ok-directory.directory) c.in_ok-directory.ensures.formed)
 
 pub returns-clause-stored : goal.returns-clause-stored
 returns-clause-stored g c so =
-    let d = shown c.in_ok-directory.directory in
+    let d = as_directory c.in_ok-directory.directory in
     let stored : DocumentRef = record { directory = c.args.extent; table = c.in_ok-table.table } in
     let table = c.in_ok-table.ensures.ok in
     let places = ap (λ (t : BlockTable). t.places.items) table in

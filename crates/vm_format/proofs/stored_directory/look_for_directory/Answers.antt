@@ -1,5 +1,5 @@
 use Rattle.std.proofs.Common.{refl}
-use Rattle.vm_format.specs.Listed.{shown}
+use Rattle.vm_format.specs.Listed.{as_directory}
 use Rattle.vm_format.proofs.StoredDirectoryLemmas.{directory_formed, place_none}
 use Rattle.vm_format.proofs.stored_directory.look_for_directory.Goals as goal
 
@@ -9,6 +9,7 @@ returns-then-not-can_have_directory-clause-read g c so =
 
 pub returns-in-Ok-clause-formed : goal.returns-in-Ok-clause-formed
 returns-in-Ok-clause-formed g c = (
-  directory_formed c.args.version c.args.file_length c.deref.result.now (shown c.in-Ok.directory) c.in-Ok.ensures.read,
+  directory_formed c.args.version c.args.file_length c.deref.result.now
+      (as_directory c.in-Ok.directory) c.in-Ok.ensures.read,
   c.if-not-can_have_directory.ensures.0 refl,
 )

@@ -1,5 +1,5 @@
 use Rattle.std.proofs.Common.{◌∙◌, ◌++◌, ◌∷◌, [], List, ap, ap₂}
-use Rattle.chunk_edits.specs.Patching.{Piece, Keep}
+use Rattle.chunk_edits.specs.Patching.{PatchPiece, Keep}
 use Rattle.chunk_edits.specs.Spans.{pieces_of}
 use Rattle.chunk_edits.specs.declared.patch.Pieces.{Pieces}
 use Rattle.chunk_edits.specs.declared.patch.Span.TheVariants as spans
@@ -13,4 +13,4 @@ returns-clause-ok c =
     ap₂ pieces_of (c.in_ok-push.ensures.ok ∙ ap (λ (p : Pieces). p.spans.items ++ spans.Keep c.args.n ∷ []) was)
     (ap (λ (p : Pieces). p.content.items) was)
     ∙ (pieces_of-kept c.self.inside.pieces.value.spans.items (spans.Keep c.args.n) row c.self.invariant
-    ∙ ap (λ (ps : List Piece). ps ++ Keep c.args.n ∷ []) c.self.view_is)
+    ∙ ap (λ (ps : List PatchPiece). ps ++ Keep c.args.n ∷ []) c.self.view_is)

@@ -1,5 +1,5 @@
 use Rattle.std.proofs.Common.{◌≡◌, ◌∙◌, ◌++◌, ◌∷◌, [], ℕ, List, length, ap, ap₂, append_assoc}
-use Rattle.chunk_edits.specs.Patching.{Piece}
+use Rattle.chunk_edits.specs.Patching.{PatchPiece}
 use Rattle.chunk_edits.specs.Spans.{pieces_of}
 use Rattle.chunk_edits.specs.declared.patch.Pieces.{Pieces}
 use Rattle.chunk_edits.specs.declared.patch.Span.{Span}
@@ -23,4 +23,4 @@ returns-clause-ok c =
     ∙ append_assoc row old new) in
     ap₂ pieces_of pushed grown
     ∙ (pieces_of-pushed ss span row (old ++ new) c.self.invariant
-    ∙ ap₂ (λ (ps : List Piece) (p : Piece). ps ++ p ∷ []) c.self.view_is (piece_of-put old new))
+    ∙ ap₂ (λ (ps : List PatchPiece) (p : PatchPiece). ps ++ p ∷ []) c.self.view_is (piece_of-put old new))

@@ -1,7 +1,7 @@
 use Rattle.std.proofs.Common.{◌≡◌, ◌∙◌, ◌-◌, ◌^◌, ℕ, List, take, min, sym, ap, arith}
 use Rattle.std.proofs.lemmas.List.{take_all}
 use Rattle.std.specs.List.{sum_by}
-use Rattle.chunk_edits.specs.Patching.{Piece, total_taken, directed_pieces}
+use Rattle.chunk_edits.specs.Patching.{PatchPiece, total_taken, directed_pieces}
 use Rattle.chunk_edits.specs.Spans.{extent}
 use Rattle.chunk_edits.specs.declared.patch.Pieces.{Pieces}
 use Rattle.chunk_edits.proofs.SpanLemmas.{pieces-extent}
@@ -15,4 +15,4 @@ returns c =
     c.loop-span.invariant
     ∙ ap (λ (n : ℕ). min n (2 ^ 64 - 1)) (ap (sum_by (extent d)) all
     ∙ (sym (pieces-extent d c.self.inside.pieces.value.spans.items c.self.inside.pieces.value.content.items c.self.invariant)
-    ∙ ap (λ (ps : List Piece). total_taken (directed_pieces d ps)) c.self.view_is))
+    ∙ ap (λ (ps : List PatchPiece). total_taken (directed_pieces d ps)) c.self.view_is))

@@ -10,7 +10,7 @@ pub overflow_sub-bytes : goal.overflow_sub-bytes
 overflow_sub-bytes c = let long = image-not_empty c.args.image.now in let same = ap length c.as_slice-bytes.ensures in omega (arith, long, same)
 
 pub overflow_cast-bytes : goal.overflow_cast-bytes
-overflow_cast-bytes c = let short = length_image_body_le c.args.image.now c.validity.ensures in let same = ap length c.as_slice-bytes.ensures in omega (arith, short, same)
+overflow_cast-bytes c = let short = length_image_body_le c.args.image.now c.reveal_invariant.ensures in let same = ap length c.as_slice-bytes.ensures in omega (arith, short, same)
 
 pub returns-then-not-is_heap-clause-ok : goal.returns-then-not-is_heap-clause-ok
 returns-then-not-is_heap-clause-ok c =
@@ -21,4 +21,4 @@ pub returns-clause-ok : goal.returns-clause-ok
 returns-clause-ok c =
     let made = c.in_ok-heap.ensures.heap in
     subst (λ (body : Body). AddsBlocks ((c.args.block.0, record { attributes = c.args.attributes; body = body }) ∷ []) c.args.self.now c.add_heap.new.self)
-    (sym (heap_image c.args.image.now _ c.as_slice-bytes.result.now c.validity.ensures made.1 (sym c.as_slice-bytes.ensures) made.0)) (c.in_ok-add_heap.ensures c.args.attributes refl)
+    (sym (heap_image c.args.image.now _ c.as_slice-bytes.result.now c.reveal_invariant.ensures made.1 (sym c.as_slice-bytes.ensures) made.0)) (c.in_ok-add_heap.ensures c.args.attributes refl)

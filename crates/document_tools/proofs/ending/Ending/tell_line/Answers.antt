@@ -1,8 +1,8 @@
 use Rattle.std.proofs.Common.{ℕ, List, Some, subst}
-use Rattle.document_tools.specs.Endings.{TellsLine}
+use Rattle.document_tools.specs.Endings.{PrintsLine}
 use Rattle.document_tools.proofs.ending.Ending.tell_line.Goals as goal
 
 -- The line is written as it is.
 pub returns-in-Refused : goal.returns-in-Refused
 returns-in-Refused g c =
-    rw c.in-Refused.is (subst (λ (line : List ℕ). TellsLine g.E.Sink.writes (Some line) c.args.errors.now c.complain.new.errors) c.as_slice.ensures c.complain.ensures)
+    rw c.in-Refused.is (subst (λ (line : List ℕ). PrintsLine g.E.Sink.writes (Some line) c.args.errors.now c.complain.new.errors) c.as_slice.ensures c.complain.ensures)

@@ -1,7 +1,7 @@
 use Rattle.std.proofs.Common.{◌≡◌, rules, to_z, of_z, w32}
 use Rattle.geos_model.specs.declared.command.Command.TheVariants as commands
 use Rattle.geos_c.specs.Calls.{vm}
-use Rattle.geos_c.specs.LookUps.{TellsReply}
+use Rattle.geos_c.specs.LookUps.{ReportsReply}
 use Rattle.geos_c.specs.Stores.{facts}
 use Rattle.geos_c.specs.Telling.{HandsOutEqual}
 use Rattle.geos_c.proofs.HandleCalls.{tells}
@@ -11,5 +11,6 @@ pub returns-in-Some : goal.returns-in-Some
 returns-in-Some c =
     let code : to_z w32 (of_z w32 c.equal-code.result) ≡ c.equal-code.result = search rules in
     tells _ _ _ _ _ _ _ c.in-Some.ensures.was_open c.deref_mut.ensures.value c.put.ensures code
-    (TellsReply facts (commands.ChainEqual (vm c.args.block) (vm c.args.other)) (HandsOutEqual c.equal-code.new.equal))
+    (ReportsReply facts (commands.ChainEqual (vm c.args.block) (vm c.args.other))
+    (HandsOutEqual c.equal-code.new.equal))
     (c.equal-code.new.equal ≡ 0) c.equal-code.ensures

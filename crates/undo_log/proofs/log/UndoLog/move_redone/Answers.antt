@@ -1,7 +1,7 @@
 use Rattle.std.proofs.Common.{◌≡◌, List, length, vec_len, ap, subst, ◌∙◌, arith}
 use Rattle.std.proofs.lemmas.List.{with_items_is}
 use Rattle.chunk_edits.specs.declared.direction.Direction.TheVariants.{Forwards}
-use Rattle.undo_log.specs.Logging.{LogState, TurnsOverAt, next_moved}
+use Rattle.undo_log.specs.Logging.{LogState, ReversesAt, next_moved}
 use Rattle.undo_log.specs.declared.entry.LogEntry.{LogEntry}
 use Rattle.undo_log.proofs.Moving.{redone_at}
 use Rattle.undo_log.proofs.log.UndoLog.move_redone.Goals as goal
@@ -10,6 +10,6 @@ pub returns-then-self-len : goal.returns-then-self-len
 returns-then-self-len c =
     let old = c.self.inside.entries.items in let new = c.turn_over_at.new.entries in
     let many : length new ≡ vec_len c.self.inside.entries = omega (arith, c.turn_over_at.auto.entries, c.as_mut_slice.ensures.len) in
-    let turned : TurnsOverAt c.self.inside.done old new = subst (λ (es : List LogEntry). TurnsOverAt c.self.inside.done es new) c.as_mut_slice.ensures.value c.turn_over_at.ensures in
+    let turned : ReversesAt c.self.inside.done old new = subst (λ (es : List LogEntry). ReversesAt c.self.inside.done es new) c.as_mut_slice.ensures.value c.turn_over_at.ensures in
     rw (with_items_is c.self.inside.entries new many)
     (redone_at c.self.inside.done old new _ turned ∙ ap (λ (l : LogState). next_moved Forwards l.lists) c.self.view_is)

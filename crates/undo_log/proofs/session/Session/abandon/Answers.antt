@@ -11,7 +11,7 @@ use Rattle.vm_blocks.specs.declared.change.Change.{Change}
 use Rattle.chunk_edits.specs.declared.direction.Direction.TheVariants.{Backwards}
 use Rattle.vm_blocks.proofs.KeepingLaws.{keeps-passes}
 use Rattle.undo_log.specs.Logging.{after_all, before, open_changes}
-use Rattle.undo_log.specs.Sessions.{SessionState, cache_of, CanApplyAll, IsStep}
+use Rattle.undo_log.specs.Sessions.{SessionState, cache_of, CanApplyAllDirected, IsStep}
 use Rattle.undo_log.specs.Turning.{IsNotAbandoned, IsSureGroup, abandon_fault}
 use Rattle.undo_log.proofs.Groups.{abandoned_invariant, group_listed}
 use Rattle.undo_log.proofs.Keeping.{Holds, keeps_refl, kept_invariant}
@@ -40,7 +40,7 @@ invariant_of-self-2 g c =
     let facts = g.S.Store.facts in let log = c.self.inside.log.lists in
     let old = session_with c.self.inside.blocks log in
     subst (Holds c.take_back.new.blocks) (sym c.forget_group.ensures)
-    (abandoned_invariant facts c.self.inside.blocks c.take_back.new.blocks log (open_changes log.group) (abandon_free old (ap abandon_fault c.self.view_is ∙ sym c.in_default.ensures.is)).0 c.validity-2.ensures
+    (abandoned_invariant facts c.self.inside.blocks c.take_back.new.blocks log (open_changes log.group) (abandon_free old (ap abandon_fault c.self.view_is ∙ sym c.in_default.ensures.is)).0 c.reveal_invariant-2.ensures
     (subst (λ (cs : List Change). AreApplied facts (map (directed Backwards) cs) c.self.inside.blocks c.take_back.new.blocks) c.group.ensures c.in_ok-take_back.ensures.ok) c.self.invariant)
 
 pub returns-in_err-take_back-clause-step : goal.returns-in_err-take_back-clause-step
@@ -84,7 +84,7 @@ returns-clause-step g c =
     let new = session_with c.take_back.new.blocks c.forget_group.new.self.lists in
     let is_free = abandon_free old (ap abandon_fault c.self.view_is ∙ sym c.in_default.ensures.is) in
     subst (λ (s : SessionState g.row.S.Denot). IsStep facts s new commands.Abandon Accepted) c.self.view_is
-    (abandon_taken facts old new (open_changes log.group) is_free.0 is_free.1 c.validity-2.ensures c.forget_group.ensures
+    (abandon_taken facts old new (open_changes log.group) is_free.0 is_free.1 c.reveal_invariant-2.ensures c.forget_group.ensures
     (subst (λ (cs : List Change). AreApplied facts (map (directed Backwards) cs) c.self.inside.blocks c.take_back.new.blocks) c.group.ensures c.in_ok-take_back.ensures.ok))
 
 pub returns-in_err-take_back-clause-sure : goal.returns-in_err-take_back-clause-sure
@@ -97,7 +97,7 @@ returns-in_err-take_back-clause-sure g c =
     → IsOk c.from_residual.result × (new.disk ≡ s.disk) × (new.document ≡ before s.log.group s.document)) c.self.view_is
     (λ free sure.
     let can = group_can facts old new (open_changes log.group) (abandon_free old free).0 sure.exact in
-    let taken = subst (λ (xs : List Change). NoneComesIn (map (directed Backwards) xs) → AreInMemory (map (directed Backwards) xs) blocks → CanApplyAll Backwards xs blocks.document
+    let taken = subst (λ (xs : List Change). NoneComesIn (map (directed Backwards) xs) → AreInMemory (map (directed Backwards) xs) blocks → CanApplyAllDirected Backwards xs blocks.document
     → IsOk {T = Unit {0}} (Err e.field-0.0) × (c.take_back.new.blocks.disk ≡ blocks.disk) × (c.take_back.new.blocks.document ≡ after_all Backwards xs blocks.document)) c.group.ensures e.ensures.sure in
     absurd (cc (taken sure.none_comes_in sure.in_memory can).0))
 
@@ -111,6 +111,6 @@ returns-clause-sure g c =
     → IsOk {E = Fault} (Ok (tt {0})) × (new.disk ≡ s.disk) × (new.document ≡ before s.log.group s.document)) c.self.view_is
     (λ free sure.
     let can = group_can facts old new (open_changes log.group) (abandon_free old free).0 sure.exact in
-    let taken = subst (λ (xs : List Change). NoneComesIn (map (directed Backwards) xs) → AreInMemory (map (directed Backwards) xs) blocks → CanApplyAll Backwards xs blocks.document
+    let taken = subst (λ (xs : List Change). NoneComesIn (map (directed Backwards) xs) → AreInMemory (map (directed Backwards) xs) blocks → CanApplyAllDirected Backwards xs blocks.document
     → IsOk c.take_back.result × (c.take_back.new.blocks.disk ≡ blocks.disk) × (c.take_back.new.blocks.document ≡ after_all Backwards xs blocks.document)) c.group.ensures c.take_back.ensures.sure in
     let made = taken sure.none_comes_in sure.in_memory can in (refl, made.1, made.2))

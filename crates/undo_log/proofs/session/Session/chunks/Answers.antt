@@ -6,7 +6,7 @@ use Rattle.undo_log.proofs.session.Session.chunks.Goals as goal
 
 pub returns : goal.returns
 returns g c =
-    looked_at g.S.Store.facts _ _ c.self.inside.log.lists c.chunks.ensures.keeps _ c.self.view_is c.validity.ensures.distinct (commands.Chunks c.args.block) _
+    looked_at g.S.Store.facts _ _ c.self.inside.log.lists c.chunks.ensures.keeps _ c.self.view_is c.reveal_invariant.ensures.distinct (commands.Chunks c.args.block) _
     (record { takes = λ _. refl; calls = λ _. refl; refuses = λ _. refl; answers = λ _. refl }) c.chunks.ensures
 
 pub invariant_of-self : goal.invariant_of-self

@@ -14,7 +14,7 @@ use Rattle.vm_blocks.specs.Keeping.{IsEnvironmentFault}
 use Rattle.chunk_edits.specs.declared.direction.Direction.TheVariants.{Backwards}
 use Rattle.vm_blocks.proofs.KeepingLaws.{keeps-refl, keeps-passes, lacks-memory}
 use Rattle.doc_edits.specs.Planning.{IsChainEditFault, RefusesEdit}
-use Rattle.doc_edits.specs.Room.{has_no_room, ReadsNothing}
+use Rattle.doc_edits.specs.Room.{lacks_frames, ReadsNothing}
 use Rattle.undo_log.specs.Editing.{EditsInMemory}
 use Rattle.undo_log.specs.Locking.{IsBarred, bars}
 use Rattle.undo_log.specs.Logging.{Log, to_redo, to_undo, with_change}
@@ -31,7 +31,7 @@ returns-then-is_barred-clause-step g c =
     let facts = g.S.Store.facts in
     let old = session_with c.self.inside.blocks c.self.inside.log.lists in
     subst (λ (s : SessionState g.row.S.Denot). IsStep facts s s (commands.Edit c.args.edit.now) (reply_by reply_of_done (Err Locked))) c.self.view_is
-    (barred_step facts old c.args.edit.now c.validity.ensures.distinct (sym (c.is_barred.ensures ∙ ap (bars c.self.inside.blocks.resident) c.target-target.ensures) ∙ c.if-is_barred.true))
+    (barred_step facts old c.args.edit.now c.reveal_invariant.ensures.distinct (sym (c.is_barred.ensures ∙ ap (bars c.self.inside.blocks.resident) c.target-target.ensures) ∙ c.if-is_barred.true))
 
 pub returns-then-is_barred-clause-err : goal.returns-then-is_barred-clause-err
 returns-then-is_barred-clause-err g c = keeps_refl g.S.Store.facts c.args.self.now
@@ -40,20 +40,20 @@ pub returns-then-is_barred-clause-refusals : goal.returns-then-is_barred-clause-
 returns-then-is_barred-clause-refusals g c =
     let facts = g.S.Store.facts in
     let old = session_with c.self.inside.blocks c.self.inside.log.lists in
-    inl (subst (λ (s : SessionState g.row.S.Denot). IsBarred c.args.edit.now s Locked) c.self.view_is (barred_fault facts old c.args.edit.now c.validity.ensures.distinct (sym (c.is_barred.ensures ∙ ap (bars c.self.inside.blocks.resident) c.target-target.ensures) ∙ c.if-is_barred.true)))
+    inl (subst (λ (s : SessionState g.row.S.Denot). IsBarred c.args.edit.now s Locked) c.self.view_is (barred_fault facts old c.args.edit.now c.reveal_invariant.ensures.distinct (sym (c.is_barred.ensures ∙ ap (bars c.self.inside.blocks.resident) c.target-target.ensures) ∙ c.if-is_barred.true)))
 
 pub returns-then-is_barred-clause-already : goal.returns-then-is_barred-clause-already
 returns-then-is_barred-clause-already g c = λ other nothing.
     let facts = g.S.Store.facts in
     let old = session_with c.self.inside.blocks c.self.inside.log.lists in
     subst (λ (s : SessionState g.row.S.Denot). EditsInMemory c.args.edit.now s s (Err Locked)) c.self.view_is
-    (record { disk = refl; ok = tt; err = (refl, inl (barred_fault facts old c.args.edit.now c.validity.ensures.distinct (sym (c.is_barred.ensures ∙ ap (bars c.self.inside.blocks.resident) c.target-target.ensures) ∙ c.if-is_barred.true))) })
+    (record { disk = refl; ok = tt; err = (refl, inl (barred_fault facts old c.args.edit.now c.reveal_invariant.ensures.distinct (sym (c.is_barred.ensures ∙ ap (bars c.self.inside.blocks.resident) c.target-target.ensures) ∙ c.if-is_barred.true))) })
 
 pub returns-then-is_barred-clause-shut : goal.returns-then-is_barred-clause-shut
 returns-then-is_barred-clause-shut g c = λ out.
     let facts = g.S.Store.facts in
     let old = session_with c.self.inside.blocks c.self.inside.log.lists in
-    (refl, inl (subst (λ (s : SessionState g.row.S.Denot). IsBarred c.args.edit.now s Locked) c.self.view_is (barred_fault facts old c.args.edit.now c.validity.ensures.distinct (sym (c.is_barred.ensures ∙ ap (bars c.self.inside.blocks.resident) c.target-target.ensures) ∙ c.if-is_barred.true))))
+    (refl, inl (subst (λ (s : SessionState g.row.S.Denot). IsBarred c.args.edit.now s Locked) c.self.view_is (barred_fault facts old c.args.edit.now c.reveal_invariant.ensures.distinct (sym (c.is_barred.ensures ∙ ap (bars c.self.inside.blocks.resident) c.target-target.ensures) ∙ c.if-is_barred.true))))
 
 -- no lock does
 
@@ -61,19 +61,19 @@ pub returns-in_err-reserve-clause-locked : goal.returns-in_err-reserve-clause-lo
 returns-in_err-reserve-clause-locked g c = λ barred.
     let old = session_with c.self.inside.blocks c.self.inside.log.lists in
     absurd (subst (λ (s : SessionState g.row.S.Denot). ((target : Bool) → is_barred c.args.edit.now (machine_of target s) ≡ true) → ⊥) c.self.view_is
-    (not_barred old c.args.edit.now c.validity.ensures.distinct (sym (c.is_barred.ensures ∙ ap (bars c.self.inside.blocks.resident) c.target-target.ensures) ∙ c.if-is_barred.false)) barred)
+    (not_barred old c.args.edit.now c.reveal_invariant.ensures.distinct (sym (c.is_barred.ensures ∙ ap (bars c.self.inside.blocks.resident) c.target-target.ensures) ∙ c.if-is_barred.false)) barred)
 
 pub returns-in_err-change-clause-locked : goal.returns-in_err-change-clause-locked
 returns-in_err-change-clause-locked g c = λ barred.
     let old = session_with c.self.inside.blocks c.self.inside.log.lists in
     absurd (subst (λ (s : SessionState g.row.S.Denot). ((target : Bool) → is_barred c.args.edit.now (machine_of target s) ≡ true) → ⊥) c.self.view_is
-    (not_barred old c.args.edit.now c.validity.ensures.distinct (sym (c.is_barred.ensures ∙ ap (bars c.self.inside.blocks.resident) c.target-target.ensures) ∙ c.if-is_barred.false)) barred)
+    (not_barred old c.args.edit.now c.reveal_invariant.ensures.distinct (sym (c.is_barred.ensures ∙ ap (bars c.self.inside.blocks.resident) c.target-target.ensures) ∙ c.if-is_barred.false)) barred)
 
 pub returns-clause-locked : goal.returns-clause-locked
 returns-clause-locked g c = λ barred.
     let old = session_with c.self.inside.blocks c.self.inside.log.lists in
     absurd (subst (λ (s : SessionState g.row.S.Denot). ((target : Bool) → is_barred c.args.edit.now (machine_of target s) ≡ true) → ⊥) c.self.view_is
-    (not_barred old c.args.edit.now c.validity.ensures.distinct (sym (c.is_barred.ensures ∙ ap (bars c.self.inside.blocks.resident) c.target-target.ensures) ∙ c.if-is_barred.false)) barred)
+    (not_barred old c.args.edit.now c.reveal_invariant.ensures.distinct (sym (c.is_barred.ensures ∙ ap (bars c.self.inside.blocks.resident) c.target-target.ensures) ∙ c.if-is_barred.false)) barred)
 
 -- memory for the lists ran out
 pub returns-in_err-reserve-clause-step : goal.returns-in_err-reserve-clause-step
@@ -84,7 +84,7 @@ returns-in_err-reserve-clause-step g c =
     let p = err_from_is_err_and c.from_residual.result c.from_residual.ensures.1 in
     subst (λ (s : SessionState g.row.S.Denot). IsStep facts s new (commands.Edit c.args.edit.now) (reply_by reply_of_done c.from_residual.result)) c.self.view_is
     (subst (λ r. IsStep facts old new (commands.Edit c.args.edit.now) (reply_by reply_of_done r)) (sym (p.1 ∙ ap Err p.2))
-    (edit_refused facts old new c.args.edit.now c.validity.ensures.distinct (sym (c.is_barred.ensures ∙ ap (bars c.self.inside.blocks.resident) c.target-target.ensures) ∙ c.if-is_barred.false) Memory (record { blocks = keeps-refl facts c.self.inside.blocks; log = c.in_err-reserve.ensures.lists }) (λ _. inl (lacks-memory facts c.self.inside.blocks.disk.store c.self.inside.blocks.disk.store)) (λ _. inl refl)))
+    (edit_refused facts old new c.args.edit.now c.reveal_invariant.ensures.distinct (sym (c.is_barred.ensures ∙ ap (bars c.self.inside.blocks.resident) c.target-target.ensures) ∙ c.if-is_barred.false) Memory (record { blocks = keeps-refl facts c.self.inside.blocks; log = c.in_err-reserve.ensures.lists }) (λ _. inl (lacks-memory facts c.self.inside.blocks.disk.store c.self.inside.blocks.disk.store)) (λ _. inl refl)))
 
 pub returns-in_err-reserve-clause-err : goal.returns-in_err-reserve-clause-err
 returns-in_err-reserve-clause-err g c =
@@ -111,7 +111,7 @@ pub returns-in_err-reserve-clause-shut : goal.returns-in_err-reserve-clause-shut
 returns-in_err-reserve-clause-shut g c =
     let old = session_with c.self.inside.blocks c.self.inside.log.lists in
     let new = session_with c.self.inside.blocks c.reserve.new.self.lists in
-    subst (λ (s : SessionState g.row.S.Denot). has_no_room (cache_of s) (edit_needs c.args.edit.now) ≡ true → (new ≡ s) × IsErrAnd c.from_residual.result (λ fault. IsBarred c.args.edit.now s fault ⊎ RefusesEdit (λ f. f ≡ Memory) true c.args.edit.now s.document fault)) c.self.view_is
+    subst (λ (s : SessionState g.row.S.Denot). lacks_frames (cache_of s) (edit_needs c.args.edit.now) ≡ true → (new ≡ s) × IsErrAnd c.from_residual.result (λ fault. IsBarred c.args.edit.now s fault ⊎ RefusesEdit (λ f. f ≡ Memory) true c.args.edit.now s.document fault)) c.self.view_is
     (λ out. (same_session c.self.inside.blocks c.self.inside.blocks _ _ refl c.in_err-reserve.ensures.lists, carried_fault c.from_residual.result (λ fault. IsBarred c.args.edit.now old fault ⊎ RefusesEdit (λ f. f ≡ Memory) true c.args.edit.now old.document fault) Memory c.from_residual.ensures.1 (inr (inl refl))))
 
 -- the edit is refused
@@ -128,7 +128,7 @@ returns-in_err-change-clause-step g c =
     let p = err_from_is_err_and c.from_residual-in_err-change.result c.from_residual-in_err-change.ensures.1 in
     subst (λ (s : SessionState g.row.S.Denot). IsStep facts s new (commands.Edit c.args.edit.now) (reply_by reply_of_done c.from_residual-in_err-change.result)) c.self.view_is
     (subst (λ r. IsStep facts old new (commands.Edit c.args.edit.now) (reply_by reply_of_done r)) (sym (p.1 ∙ ap Err p.2))
-    (edit_refused facts old new c.args.edit.now c.validity.ensures.distinct (sym (c.is_barred.ensures ∙ ap (bars c.self.inside.blocks.resident) c.target-target.ensures) ∙ c.if-is_barred.false) c.in_err-change.field-0.0 (record { blocks = e.err; log = c.in_ok-reserve.ensures.lists }) e.rules (λ is. (e.plain is).1)))
+    (edit_refused facts old new c.args.edit.now c.reveal_invariant.ensures.distinct (sym (c.is_barred.ensures ∙ ap (bars c.self.inside.blocks.resident) c.target-target.ensures) ∙ c.if-is_barred.false) c.in_err-change.field-0.0 (record { blocks = e.err; log = c.in_ok-reserve.ensures.lists }) e.rules (λ is. (e.plain is).1)))
 
 pub returns-in_err-change-clause-err : goal.returns-in_err-change-clause-err
 returns-in_err-change-clause-err g c =
@@ -145,9 +145,9 @@ returns-in_err-change-clause-refusals g c =
     let old = session_with c.self.inside.blocks c.self.inside.log.lists in
     let p = err_from_is_err_and c.from_residual-in_err-change.result c.from_residual-in_err-change.ensures.1 in
     subst (λ (s : SessionState g.row.S.Denot). IfErr c.from_residual-in_err-change.result (λ fault. IsBarred c.args.edit.now s fault
-    ⊎ (RefusesEdit (IsEnvironmentFault facts s.disk.store new.disk.store) (has_no_room (cache_of s) (edit_needs c.args.edit.now)) c.args.edit.now new.document fault ⊎ IsChainEditFault c.args.edit.now s.document fault))) c.self.view_is
+    ⊎ (RefusesEdit (IsEnvironmentFault facts s.disk.store new.disk.store) (lacks_frames (cache_of s) (edit_needs c.args.edit.now)) c.args.edit.now new.document fault ⊎ IsChainEditFault c.args.edit.now s.document fault))) c.self.view_is
     (subst (λ r. IfErr r (λ fault. IsBarred c.args.edit.now old fault
-    ⊎ (RefusesEdit (IsEnvironmentFault facts c.self.inside.blocks.disk.store new.disk.store) (has_no_room c.self.inside.blocks (edit_needs c.args.edit.now)) c.args.edit.now new.document fault ⊎ IsChainEditFault c.args.edit.now c.self.inside.blocks.document fault)))
+    ⊎ (RefusesEdit (IsEnvironmentFault facts c.self.inside.blocks.disk.store new.disk.store) (lacks_frames c.self.inside.blocks (edit_needs c.args.edit.now)) c.args.edit.now new.document fault ⊎ IsChainEditFault c.args.edit.now c.self.inside.blocks.document fault)))
     (sym (p.1 ∙ ap Err p.2)) (inr (made_for c.target-target.ensures c.in_err-change.ensures).refusals))
 
 pub returns-in_err-change-clause-passes : goal.returns-in_err-change-clause-passes
@@ -167,7 +167,7 @@ pub returns-in_err-change-clause-shut : goal.returns-in_err-change-clause-shut
 returns-in_err-change-clause-shut g c =
     let old = session_with c.self.inside.blocks c.self.inside.log.lists in
     let new = session_with c.make.new.blocks c.reserve.new.self.lists in
-    subst (λ (s : SessionState g.row.S.Denot). has_no_room (cache_of s) (edit_needs c.args.edit.now) ≡ true → (new ≡ s) × IsErrAnd c.from_residual-in_err-change.result (λ fault. IsBarred c.args.edit.now s fault ⊎ RefusesEdit (λ f. f ≡ Memory) true c.args.edit.now s.document fault)) c.self.view_is
+    subst (λ (s : SessionState g.row.S.Denot). lacks_frames (cache_of s) (edit_needs c.args.edit.now) ≡ true → (new ≡ s) × IsErrAnd c.from_residual-in_err-change.result (λ fault. IsBarred c.args.edit.now s fault ⊎ RefusesEdit (λ f. f ≡ Memory) true c.args.edit.now s.document fault)) c.self.view_is
     (λ out.
     let kept = (made_for c.target-target.ensures c.in_err-change.ensures).shut out in
     (same_session c.self.inside.blocks c.make.new.blocks _ _ kept.0 c.in_ok-reserve.ensures.lists, carried_fault c.from_residual-in_err-change.result (λ fault. IsBarred c.args.edit.now old fault ⊎ RefusesEdit (λ f. f ≡ Memory) true c.args.edit.now old.document fault) c.in_err-change.field-0.0 c.from_residual-in_err-change.ensures.1 (inr (inr kept.1))))
@@ -181,7 +181,7 @@ invariant_of-self-2 g c =
     let is : c.add.new.self.lists ≡ with_change change log = c.add.ensures ∙ ap (λ (l : Log). with_change change l) c.in_ok-reserve.ensures.lists in (
       subst (λ (l : Log). CanApplyBothByHandle Backwards new.document (to_undo l) (to_redo l)) (sym is)
           (changed_listed log change new.document
-          (edited_listed honest c.self.inside.blocks.document new.document change (to_undo log) (to_redo log) c.validity.ensures.listed (drifted honest _ new.document made.makes.document) made.listed c.self.invariant.0)),
+          (edited_listed honest c.self.inside.blocks.document new.document change (to_undo log) (to_redo log) c.reveal_invariant.ensures.listed (drifted honest _ new.document made.makes.document) made.listed c.self.invariant.0)),
       none_marked _ c.self.inside.blocks.disk.marked new.disk.marked c.self.invariant.1 made.makes.passes.marked,
     )
 
@@ -191,7 +191,7 @@ returns-clause-step g c =
     let old = session_with c.self.inside.blocks c.self.inside.log.lists in
     let new = session_with c.make.new.blocks c.add.new.self.lists in
     subst (λ (s : SessionState g.row.S.Denot). IsStep facts s new (commands.Edit c.args.edit.now) (reply_of_done c.in_ok-change.done)) c.self.view_is
-    (edit_step facts old new c.args.edit.now c.validity.ensures.distinct (sym (c.is_barred.ensures ∙ ap (bars c.self.inside.blocks.resident) c.target-target.ensures) ∙ c.if-is_barred.false) change c.in_ok-change.done (made_for c.target-target.ensures c.in_ok-change.ensures).ok
+    (edit_step facts old new c.args.edit.now c.reveal_invariant.ensures.distinct (sym (c.is_barred.ensures ∙ ap (bars c.self.inside.blocks.resident) c.target-target.ensures) ∙ c.if-is_barred.false) change c.in_ok-change.done (made_for c.target-target.ensures c.in_ok-change.ensures).ok
     (c.add.ensures ∙ ap (λ (l : Log). with_change change l) c.in_ok-reserve.ensures.lists))
 
 pub returns-clause-ok : goal.returns-clause-ok
@@ -215,7 +215,7 @@ returns-clause-already g c =
 
 pub returns-clause-shut : goal.returns-clause-shut
 returns-clause-shut g c = λ out.
-    absurd ((made_for c.target-target.ensures c.in_ok-change.ensures).shut (subst (λ (s : SessionState g.row.S.Denot). has_no_room (cache_of s) (edit_needs c.args.edit.now) ≡ true) (sym c.self.view_is) out)).1
+    absurd ((made_for c.target-target.ensures c.in_ok-change.ensures).shut (subst (λ (s : SessionState g.row.S.Denot). lacks_frames (cache_of s) (edit_needs c.args.edit.now) ≡ true) (sym c.self.view_is) out)).1
 
 pub returns-then-is_barred-clause-passes : goal.returns-then-is_barred-clause-passes
 returns-then-is_barred-clause-passes g c = KeepsCommitted-refl g.S.Store.facts _

@@ -9,7 +9,7 @@ returns g c = (
   (
     refl,
     λ _. tt,
-    looked_at g.S.Store.facts _ _ c.self.inside.log.lists c.element_bytes.follows.holds-at-none.keeps _ c.self.view_is c.validity.ensures.distinct (commands.ElementBytes c.args.block c.args.chunk c.args.token) _
+    looked_at g.S.Store.facts _ _ c.self.inside.log.lists c.element_bytes.follows.holds-at-none.keeps _ c.self.view_is c.reveal_invariant.ensures.distinct (commands.ElementBytes c.args.block c.args.chunk c.args.token) _
         (record { takes = λ _. refl; calls = λ _. refl; refuses = λ _. refl; answers = λ _. refl }) c.element_bytes.follows.holds-at-none,
   ),
   record { leaves = tt },

@@ -15,7 +15,7 @@ returns-clause-step g c =
     let facts = g.S.Store.facts in let e = c.lock.ensures in let log = c.self.inside.log.lists in
     let new = session_with c.lock.new.self log in
     subst (λ (s : SessionState g.row.S.Denot). IsStep facts s new (commands.Lock c.args.block) (reply_by (λ _. Accepted) c.lock.result)) c.self.view_is
-    (lock_is facts (session_with c.self.inside.blocks log) new c.args.block c.validity.ensures.distinct c.lock.result e.ok (on_err_weaker c.lock.result (λ keeps. record { blocks = keeps; log = refl }) e.err) e.refusals
+    (lock_is facts (session_with c.self.inside.blocks log) new c.args.block c.reveal_invariant.ensures.distinct c.lock.result e.ok (on_err_weaker c.lock.result (λ keeps. record { blocks = keeps; log = refl }) e.err) e.refusals
     (λ fault cant. (e.early fault cant).0) refl)
 
 pub returns-clause-early : goal.returns-clause-early

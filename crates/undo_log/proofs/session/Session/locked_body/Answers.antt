@@ -6,4 +6,4 @@ use Rattle.undo_log.proofs.session.Session.locked_body.Goals as goal
 pub body-requires : goal.body-requires
 body-requires g c =
     let some : 0 < locks_of c.self.inside.blocks.resident c.args.block.0 = subst (λ n. 0 < n) c.locks.ensures c.if-locks-gt0.true in
-    locked-loaded c.self.inside.blocks c.args.block.0 c.validity.ensures.resident some
+    locked-loaded c.self.inside.blocks c.args.block.0 c.reveal_invariant.ensures.resident some

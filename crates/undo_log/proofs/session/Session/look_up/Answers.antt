@@ -14,8 +14,8 @@ returns-in_err-prepared-in-InBlock g c =
     let reply = reply_by reply_of c.from_residual-in_err-prepared-in-InBlock.result in
     let shows = shows_err new lists r _ c.from_residual-in_err-prepared-in-InBlock.result c.in_err-prepared-in-InBlock.was c.from_residual-in_err-prepared-in-InBlock.ensures.1 in
     rw c.in-InBlock.is (
-      (refl, (λ _. tt), in_block_looked g.S.Store.facts _ new c.self.inside.log.lists _ c.self.view_is c.validity.ensures.distinct lists r reply shows c.in-InBlock.block c.in-InBlock.asked c.prepare_in_block.ensures.sees),
-      record { leaves = tt; form = in_block_form g.S.Store.facts _ new c.self.inside.log.lists _ c.self.view_is c.validity.ensures.distinct lists r reply shows c.in-InBlock.block c.in-InBlock.asked c.prepare_in_block.ensures.sees },
+      (refl, (λ _. tt), in_block_looked g.S.Store.facts _ new c.self.inside.log.lists _ c.self.view_is c.reveal_invariant.ensures.distinct lists r reply shows c.in-InBlock.block c.in-InBlock.asked c.prepare_in_block.ensures.sees),
+      record { leaves = tt; form = in_block_form g.S.Store.facts _ new c.self.inside.log.lists _ c.self.view_is c.reveal_invariant.ensures.distinct lists r reply shows c.in-InBlock.block c.in-InBlock.asked c.prepare_in_block.ensures.sees },
     )
 
 pub returns-in-Blocks : goal.returns-in-Blocks
@@ -24,8 +24,8 @@ returns-in-Blocks g c =
     let reply = blocks_are c.deref-in-Blocks.result.now in
     let shows = shows_ok new lists r c.in_ok-prepared-in-InBlock.prepared reply c.in_ok-prepared-in-InBlock.was (rw c.in-Blocks.is (ap blocks_are c.deref-in-Blocks.ensures.value)) in
     rw c.in-InBlock.is (
-      (refl, (λ _. tt), in_block_looked g.S.Store.facts _ new c.self.inside.log.lists _ c.self.view_is c.validity.ensures.distinct lists r reply shows c.in-InBlock.block c.in-InBlock.asked c.prepare_in_block.ensures.sees),
-      record { leaves = tt; form = in_block_form g.S.Store.facts _ new c.self.inside.log.lists _ c.self.view_is c.validity.ensures.distinct lists r reply shows c.in-InBlock.block c.in-InBlock.asked c.prepare_in_block.ensures.sees },
+      (refl, (λ _. tt), in_block_looked g.S.Store.facts _ new c.self.inside.log.lists _ c.self.view_is c.reveal_invariant.ensures.distinct lists r reply shows c.in-InBlock.block c.in-InBlock.asked c.prepare_in_block.ensures.sees),
+      record { leaves = tt; form = in_block_form g.S.Store.facts _ new c.self.inside.log.lists _ c.self.view_is c.reveal_invariant.ensures.distinct lists r reply shows c.in-InBlock.block c.in-InBlock.asked c.prepare_in_block.ensures.sees },
     )
 
 pub returns-in-Chunks : goal.returns-in-Chunks
@@ -34,8 +34,8 @@ returns-in-Chunks g c =
     let reply = chunks_are c.deref-in-Chunks.result.now in
     let shows = shows_ok new lists r c.in_ok-prepared-in-InBlock.prepared reply c.in_ok-prepared-in-InBlock.was (rw c.in-Chunks.is (ap chunks_are c.deref-in-Chunks.ensures.value)) in
     rw c.in-InBlock.is (
-      (refl, (λ _. tt), in_block_looked g.S.Store.facts _ new c.self.inside.log.lists _ c.self.view_is c.validity.ensures.distinct lists r reply shows c.in-InBlock.block c.in-InBlock.asked c.prepare_in_block.ensures.sees),
-      record { leaves = tt; form = in_block_form g.S.Store.facts _ new c.self.inside.log.lists _ c.self.view_is c.validity.ensures.distinct lists r reply shows c.in-InBlock.block c.in-InBlock.asked c.prepare_in_block.ensures.sees },
+      (refl, (λ _. tt), in_block_looked g.S.Store.facts _ new c.self.inside.log.lists _ c.self.view_is c.reveal_invariant.ensures.distinct lists r reply shows c.in-InBlock.block c.in-InBlock.asked c.prepare_in_block.ensures.sees),
+      record { leaves = tt; form = in_block_form g.S.Store.facts _ new c.self.inside.log.lists _ c.self.view_is c.reveal_invariant.ensures.distinct lists r reply shows c.in-InBlock.block c.in-InBlock.asked c.prepare_in_block.ensures.sees },
     )
 
 pub returns-in_default : goal.returns-in_default
@@ -44,8 +44,8 @@ returns-in_default g c =
     let reply = reply_by reply_of c.answer.result in
     let shows = shows_ok new lists r c.in_ok-prepared-in-InBlock.prepared reply c.in_ok-prepared-in-InBlock.was (c.answer.ensures lists) in
     rw c.in-InBlock.is (
-      (refl, (λ _. tt), in_block_looked g.S.Store.facts _ new c.self.inside.log.lists _ c.self.view_is c.validity.ensures.distinct lists r reply shows c.in-InBlock.block c.in-InBlock.asked c.prepare_in_block.ensures.sees),
-      record { leaves = tt; form = in_block_form g.S.Store.facts _ new c.self.inside.log.lists _ c.self.view_is c.validity.ensures.distinct lists r reply shows c.in-InBlock.block c.in-InBlock.asked c.prepare_in_block.ensures.sees },
+      (refl, (λ _. tt), in_block_looked g.S.Store.facts _ new c.self.inside.log.lists _ c.self.view_is c.reveal_invariant.ensures.distinct lists r reply shows c.in-InBlock.block c.in-InBlock.asked c.prepare_in_block.ensures.sees),
+      record { leaves = tt; form = in_block_form g.S.Store.facts _ new c.self.inside.log.lists _ c.self.view_is c.reveal_invariant.ensures.distinct lists r reply shows c.in-InBlock.block c.in-InBlock.asked c.prepare_in_block.ensures.sees },
     )
 
 pub returns-in_err-prepared-in-AlongChain : goal.returns-in_err-prepared-in-AlongChain
@@ -54,8 +54,8 @@ returns-in_err-prepared-in-AlongChain g c =
     let reply = reply_by reply_of c.from_residual-in_err-prepared-in-AlongChain.result in
     let shows = shows_err new lists r _ c.from_residual-in_err-prepared-in-AlongChain.result c.in_err-prepared-in-AlongChain.was c.from_residual-in_err-prepared-in-AlongChain.ensures.1 in
     rw c.in-AlongChain.is (
-      (refl, (λ _. tt), along_chain_looked g.S.Store.facts _ new c.self.inside.log.lists _ c.self.view_is c.validity-in-AlongChain.ensures.distinct lists r reply shows c.in-AlongChain.asked c.prepare_along_chain.ensures.sees),
-      record { leaves = tt; form = along_chain_form g.S.Store.facts _ new c.self.inside.log.lists _ c.self.view_is c.validity-in-AlongChain.ensures.distinct lists r reply shows c.in-AlongChain.asked c.prepare_along_chain.ensures.sees },
+      (refl, (λ _. tt), along_chain_looked g.S.Store.facts _ new c.self.inside.log.lists _ c.self.view_is c.reveal_invariant-in-AlongChain.ensures.distinct lists r reply shows c.in-AlongChain.asked c.prepare_along_chain.ensures.sees),
+      record { leaves = tt; form = along_chain_form g.S.Store.facts _ new c.self.inside.log.lists _ c.self.view_is c.reveal_invariant-in-AlongChain.ensures.distinct lists r reply shows c.in-AlongChain.asked c.prepare_along_chain.ensures.sees },
     )
 
 pub returns-in-Blocks-prepared : goal.returns-in-Blocks-prepared
@@ -64,8 +64,8 @@ returns-in-Blocks-prepared g c =
     let reply = blocks_are c.deref-in-Blocks-prepared.result.now in
     let shows = shows_ok new lists r c.in_ok-prepared-in-AlongChain.prepared reply c.in_ok-prepared-in-AlongChain.was (rw c.in-Blocks-prepared.is (ap blocks_are c.deref-in-Blocks-prepared.ensures.value)) in
     rw c.in-AlongChain.is (
-      (refl, (λ _. tt), along_chain_looked g.S.Store.facts _ new c.self.inside.log.lists _ c.self.view_is c.validity-in-AlongChain.ensures.distinct lists r reply shows c.in-AlongChain.asked c.prepare_along_chain.ensures.sees),
-      record { leaves = tt; form = along_chain_form g.S.Store.facts _ new c.self.inside.log.lists _ c.self.view_is c.validity-in-AlongChain.ensures.distinct lists r reply shows c.in-AlongChain.asked c.prepare_along_chain.ensures.sees },
+      (refl, (λ _. tt), along_chain_looked g.S.Store.facts _ new c.self.inside.log.lists _ c.self.view_is c.reveal_invariant-in-AlongChain.ensures.distinct lists r reply shows c.in-AlongChain.asked c.prepare_along_chain.ensures.sees),
+      record { leaves = tt; form = along_chain_form g.S.Store.facts _ new c.self.inside.log.lists _ c.self.view_is c.reveal_invariant-in-AlongChain.ensures.distinct lists r reply shows c.in-AlongChain.asked c.prepare_along_chain.ensures.sees },
     )
 
 pub returns-in-Chunks-prepared : goal.returns-in-Chunks-prepared
@@ -74,8 +74,8 @@ returns-in-Chunks-prepared g c =
     let reply = chunks_are c.deref-in-Chunks-prepared.result.now in
     let shows = shows_ok new lists r c.in_ok-prepared-in-AlongChain.prepared reply c.in_ok-prepared-in-AlongChain.was (rw c.in-Chunks-prepared.is (ap chunks_are c.deref-in-Chunks-prepared.ensures.value)) in
     rw c.in-AlongChain.is (
-      (refl, (λ _. tt), along_chain_looked g.S.Store.facts _ new c.self.inside.log.lists _ c.self.view_is c.validity-in-AlongChain.ensures.distinct lists r reply shows c.in-AlongChain.asked c.prepare_along_chain.ensures.sees),
-      record { leaves = tt; form = along_chain_form g.S.Store.facts _ new c.self.inside.log.lists _ c.self.view_is c.validity-in-AlongChain.ensures.distinct lists r reply shows c.in-AlongChain.asked c.prepare_along_chain.ensures.sees },
+      (refl, (λ _. tt), along_chain_looked g.S.Store.facts _ new c.self.inside.log.lists _ c.self.view_is c.reveal_invariant-in-AlongChain.ensures.distinct lists r reply shows c.in-AlongChain.asked c.prepare_along_chain.ensures.sees),
+      record { leaves = tt; form = along_chain_form g.S.Store.facts _ new c.self.inside.log.lists _ c.self.view_is c.reveal_invariant-in-AlongChain.ensures.distinct lists r reply shows c.in-AlongChain.asked c.prepare_along_chain.ensures.sees },
     )
 
 pub returns-in_default-prepared : goal.returns-in_default-prepared
@@ -84,8 +84,8 @@ returns-in_default-prepared g c =
     let reply = reply_by reply_of c.answer-in_default-prepared.result in
     let shows = shows_ok new lists r c.in_ok-prepared-in-AlongChain.prepared reply c.in_ok-prepared-in-AlongChain.was (c.answer-in_default-prepared.ensures lists) in
     rw c.in-AlongChain.is (
-      (refl, (λ _. tt), along_chain_looked g.S.Store.facts _ new c.self.inside.log.lists _ c.self.view_is c.validity-in-AlongChain.ensures.distinct lists r reply shows c.in-AlongChain.asked c.prepare_along_chain.ensures.sees),
-      record { leaves = tt; form = along_chain_form g.S.Store.facts _ new c.self.inside.log.lists _ c.self.view_is c.validity-in-AlongChain.ensures.distinct lists r reply shows c.in-AlongChain.asked c.prepare_along_chain.ensures.sees },
+      (refl, (λ _. tt), along_chain_looked g.S.Store.facts _ new c.self.inside.log.lists _ c.self.view_is c.reveal_invariant-in-AlongChain.ensures.distinct lists r reply shows c.in-AlongChain.asked c.prepare_along_chain.ensures.sees),
+      record { leaves = tt; form = along_chain_form g.S.Store.facts _ new c.self.inside.log.lists _ c.self.view_is c.reveal_invariant-in-AlongChain.ensures.distinct lists r reply shows c.in-AlongChain.asked c.prepare_along_chain.ensures.sees },
     )
 
 -- the list of blocks, and what is answered by a value

@@ -9,7 +9,7 @@ returns g c = (
   (
     refl,
     λ _. tt,
-    looked_at g.S.Store.facts _ _ c.self.inside.log.lists c.name_text.follows.holds-at-none.keeps _ c.self.view_is c.validity.ensures.distinct (commands.NameText c.args.block c.args.chunk c.args.token) _
+    looked_at g.S.Store.facts _ _ c.self.inside.log.lists c.name_text.follows.holds-at-none.keeps _ c.self.view_is c.reveal_invariant.ensures.distinct (commands.NameText c.args.block c.args.chunk c.args.token) _
         (record { takes = λ _. refl; calls = λ _. refl; refuses = λ _. refl; answers = λ _. refl }) c.name_text.follows.holds-at-none,
   ),
   record { leaves = tt },

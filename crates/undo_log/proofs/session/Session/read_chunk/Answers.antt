@@ -9,7 +9,7 @@ returns g c = (
   (
     refl,
     λ _. tt,
-    looked_at g.S.Store.facts _ _ c.self.inside.log.lists c.read_chunk.follows.holds-at-none.keeps _ c.self.view_is c.validity.ensures.distinct (commands.Read c.args.block c.args.chunk) _
+    looked_at g.S.Store.facts _ _ c.self.inside.log.lists c.read_chunk.follows.holds-at-none.keeps _ c.self.view_is c.reveal_invariant.ensures.distinct (commands.Read c.args.block c.args.chunk) _
         (record { takes = λ _. refl; calls = λ _. refl; refuses = λ _. refl; answers = λ _. refl }) c.read_chunk.follows.holds-at-none,
   ),
   record { leaves = tt },

@@ -9,7 +9,7 @@ returns g c = (
   (
     refl,
     λ _. tt,
-    looked_at g.S.Store.facts _ _ c.self.inside.log.lists c.read_raw.follows.holds-at-none.keeps _ c.self.view_is c.validity.ensures.distinct (commands.ReadRaw c.args.block) _
+    looked_at g.S.Store.facts _ _ c.self.inside.log.lists c.read_raw.follows.holds-at-none.keeps _ c.self.view_is c.reveal_invariant.ensures.distinct (commands.ReadRaw c.args.block) _
         (record { takes = λ _. refl; calls = λ _. refl; refuses = λ _. refl; answers = λ _. refl }) c.read_raw.follows.holds-at-none,
   ),
   record { leaves = tt },

@@ -22,7 +22,7 @@ returns-in-Some-clause-commit g c =
     let facts = g.S.Store.facts in
     let old = session_with c.self.inside.blocks c.self.inside.log.lists in
     subst (λ (s : SessionState g.row.S.Denot). IsSessionCommit facts (s.disk.saved, s.disk.saved) s.disk.saved s s (Err c.in-Some.fault)) c.self.view_is
-    (commit_held facts old c.in-Some.fault (ap busy_fault c.self.view_is ∙ sym c.in-Some.ensures.is) (old.disk.saved, old.disk.saved) old.disk.saved c.validity.ensures.crash_consistent)
+    (commit_held facts old c.in-Some.fault (ap busy_fault c.self.view_is ∙ sym c.in-Some.ensures.is) (old.disk.saved, old.disk.saved) old.disk.saved c.reveal_invariant.ensures.crash_consistent)
 
 pub returns-in_err-revert-clause-step : goal.returns-in_err-revert-clause-step
 returns-in_err-revert-clause-step g c =
@@ -38,7 +38,7 @@ returns-clause-step g c =
     let facts = g.S.Store.facts in let e = c.in_ok-revert.ensures in let log = c.self.inside.log.lists in
     let new = session_with c.revert.new.self c.clear.new.self.lists in
     subst (λ (s : SessionState g.row.S.Denot). IsStep facts s new commands.Revert Accepted) c.self.view_is
-    (revert_is facts (session_with c.self.inside.blocks log) new (ap busy_fault c.self.view_is ∙ sym c.in_default.ensures.is) (Ok c.in_ok-revert.field-0) e.commit e.fails c.clear.ensures e.frames e.ok c.validity-2.ensures.document)
+    (revert_is facts (session_with c.self.inside.blocks log) new (ap busy_fault c.self.view_is ∙ sym c.in_default.ensures.is) (Ok c.in_ok-revert.field-0) e.commit e.fails c.clear.ensures e.frames e.ok c.reveal_invariant-2.ensures.document)
 
 pub returns-clause-commit : goal.returns-clause-commit
 returns-clause-commit g c =
@@ -53,7 +53,7 @@ returns-clause-exact g c =
     let facts = g.S.Store.facts in let honest = c.in_ok-revert.ensures.commit.commits.honest in
     let new = session_with c.revert.new.self c.clear.new.self.lists in
     subst (λ (s : SessionState g.row.S.Denot). IsTrue (facts s.disk.store).honest → IsExact facts new) c.self.view_is
-    (λ so. begun_exact facts new c.validity-2.ensures.document c.clear.ensures (subst IsTrue (sym honest) so))
+    (λ so. begun_exact facts new c.reveal_invariant-2.ensures.document c.clear.ensures (subst IsTrue (sym honest) so))
 
 pub invariant_of-self : goal.invariant_of-self
 invariant_of-self g c = refused_invariant g.S.Store.facts _ _ c.self.inside.blocks c.revert.new.self c.self.inside.log.lists _ c.in_err-revert.ensures.commit c.self.invariant

@@ -67,7 +67,7 @@ returns-in-Some-clause-saved_as g c =
     let facts = g.S.Store.facts in
     let old = session_with c.self.inside.blocks c.self.inside.log.lists in
     subst (λ (s : SessionState g.row.S.Denot). IsSaveAsRefused facts c.args.target c.args.target s s c.in-Some.fault) c.self.view_is
-    (not_moved facts old c.in-Some.fault (ap busy_fault c.self.view_is ∙ sym c.in-Some.ensures.is) c.args.target c.validity.ensures.crash_consistent)
+    (not_moved facts old c.in-Some.fault (ap busy_fault c.self.view_is ∙ sym c.in-Some.ensures.is) c.args.target c.reveal_invariant.ensures.crash_consistent)
 
 pub returns-in-Some-clause-worn : goal.returns-in-Some-clause-worn
 returns-in-Some-clause-worn g c = not_worn g.S.Store.facts c.args.self.now c.in-Some.fault (sym c.in-Some.ensures.is)

@@ -7,7 +7,7 @@ use Rattle.vm_file.specs.Disk.{KeepsCommitted}
 use Rattle.vm_blocks.proofs.KeepingLaws.{keeps-passes}
 use Rattle.undo_log.specs.Logging.{next_entries}
 use Rattle.undo_log.specs.Sessions.{SessionState, cache_of, IsStep}
-use Rattle.undo_log.specs.Turning.{IsRefusedUndoOrRedo, IsSure, newest_made, nothing_to_turn, turn_command, busy_fault}
+use Rattle.undo_log.specs.Turning.{IsRefusedUndoOrRedo, IsSure, newest_made, no_step_fault, step_command, busy_fault}
 use Rattle.undo_log.proofs.Groups.{moved_invariant, next_listed}
 use Rattle.undo_log.proofs.Keeping.{Holds, keeps_refl, kept_invariant}
 use Rattle.undo_log.proofs.LookUps.{session_with}
@@ -37,7 +37,7 @@ invariant_of-self-in-Some-next_entry g c =
     let old = session_with c.self.inside.blocks c.self.inside.log.lists in
     subst (Holds c.make_entry.new.blocks) (sym c.move_next.ensures)
     (moved_invariant g.S.Store.facts c.self.inside.blocks c.make_entry.new.blocks c.self.inside.log.lists c.args.direction c.in-Some-next_entry.entry.now (none_open old (ap busy_fault c.self.view_is ∙ sym c.in_default.ensures.is))
-    c.in-Some-next_entry.ensures c.validity.ensures.listed c.in_ok-make_entry-in-Some-next_entry.ensures.ok c.self.invariant)
+    c.in-Some-next_entry.ensures c.reveal_invariant.ensures.listed c.in_ok-make_entry-in-Some-next_entry.ensures.ok c.self.invariant)
 
 pub returns-in_err-make_entry-in-Some-next_entry-clause-step : goal.returns-in_err-make_entry-in-Some-next_entry-clause-step
 returns-in_err-make_entry-in-Some-next_entry-clause-step g c =
@@ -45,8 +45,8 @@ returns-in_err-make_entry-in-Some-next_entry-clause-step g c =
     let old = session_with c.self.inside.blocks c.self.inside.log.lists in
     let new = session_with c.make_entry.new.blocks c.self.inside.log.lists in
     let p = err_from_is_err_and c.from_residual.result c.from_residual.ensures.1 in
-    subst (λ (s : SessionState g.row.S.Denot). IsStep facts s new (turn_command c.args.direction) (reply_by (λ _. Accepted) c.from_residual.result)) c.self.view_is
-    (subst (λ r. IsStep facts old new (turn_command c.args.direction) (reply_by (λ _. Accepted) r)) (sym (p.1 ∙ ap Err p.2))
+    subst (λ (s : SessionState g.row.S.Denot). IsStep facts s new (step_command c.args.direction) (reply_by (λ _. Accepted) c.from_residual.result)) c.self.view_is
+    (subst (λ r. IsStep facts old new (step_command c.args.direction) (reply_by (λ _. Accepted) r)) (sym (p.1 ∙ ap Err p.2))
     (turn_refused facts old new c.args.direction entry first e.field-0.0 (record { blocks = e.ensures.err; log = refl }) (never_refused facts c.args.direction entry (cache_of old) (cache_of new) e.field-0.0 c.make_entry.result e.was c.make_entry.ensures.sure)
     (cant_take facts old new c.args.direction e.field-0.0 entry first.others (λ exact. newest_can facts c.args.direction entry (next_entries c.args.direction old.log) old.document first (next_can facts old c.args.direction (ap busy_fault c.self.view_is ∙ sym c.in_default.ensures.is) exact)) e.ensures.refusals)))
 
@@ -56,8 +56,8 @@ returns-in_err-make_entry-in-Some-next_entry-clause-refusals g c =
     let old = session_with c.self.inside.blocks c.self.inside.log.lists in
     let new = session_with c.make_entry.new.blocks c.self.inside.log.lists in
     let p = err_from_is_err_and c.from_residual.result c.from_residual.ensures.1 in
-    subst (λ (s : SessionState g.row.S.Denot). IfErr c.from_residual.result (IsRefusedUndoOrRedo facts (nothing_to_turn c.args.direction) (next_entries c.args.direction s.log) s new)) c.self.view_is
-    (subst (λ r. IfErr r (IsRefusedUndoOrRedo facts (nothing_to_turn c.args.direction) (next_entries c.args.direction old.log) old new)) (sym (p.1 ∙ ap Err p.2))
+    subst (λ (s : SessionState g.row.S.Denot). IfErr c.from_residual.result (IsRefusedUndoOrRedo facts (no_step_fault c.args.direction) (next_entries c.args.direction s.log) s new)) c.self.view_is
+    (subst (λ r. IfErr r (IsRefusedUndoOrRedo facts (no_step_fault c.args.direction) (next_entries c.args.direction old.log) old new)) (sym (p.1 ∙ ap Err p.2))
     (inr ((ap busy_fault c.self.view_is ∙ sym c.in_default.ensures.is), inr (some_newest entry (next_entries c.args.direction old.log) first, cant_take facts old new c.args.direction e.field-0.0 entry first.others (λ exact. newest_can facts c.args.direction entry (next_entries c.args.direction old.log) old.document first (next_can facts old c.args.direction (ap busy_fault c.self.view_is ∙ sym c.in_default.ensures.is) exact)) e.ensures.refusals))))
 
 pub returns-in_err-make_entry-in-Some-next_entry-clause-passes : goal.returns-in_err-make_entry-in-Some-next_entry-clause-passes
@@ -78,7 +78,7 @@ returns-in_ok-make_entry-in-Some-next_entry-clause-step g c =
     let facts = g.S.Store.facts in
     let old = session_with c.self.inside.blocks c.self.inside.log.lists in
     let new = session_with c.make_entry.new.blocks c.move_next.new.self.lists in
-    subst (λ (s : SessionState g.row.S.Denot). IsStep facts s new (turn_command c.args.direction) Accepted) c.self.view_is
+    subst (λ (s : SessionState g.row.S.Denot). IsStep facts s new (step_command c.args.direction) Accepted) c.self.view_is
     (turn_taken facts old new c.args.direction c.in-Some-next_entry.entry.now c.in-Some-next_entry.ensures (ap busy_fault c.self.view_is ∙ sym c.in_default.ensures.is) c.move_next.ensures c.in_ok-make_entry-in-Some-next_entry.ensures.ok)
 
 pub returns-in_ok-make_entry-in-Some-next_entry-clause-sure : goal.returns-in_ok-make_entry-in-Some-next_entry-clause-sure

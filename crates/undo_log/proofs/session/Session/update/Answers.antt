@@ -16,7 +16,7 @@ returns-in-Some-clause-commit g c =
     let facts = g.S.Store.facts in
     let old = session_with c.self.inside.blocks c.self.inside.log.lists in
     subst (λ (s : SessionState g.row.S.Denot). IsSessionCommit facts (s.document, s.disk.saved) s.document s s (Err c.in-Some.fault)) c.self.view_is
-    (commit_held facts old c.in-Some.fault (ap busy_fault c.self.view_is ∙ sym c.in-Some.ensures.is) (old.document, old.disk.saved) old.document c.validity.ensures.crash_consistent)
+    (commit_held facts old c.in-Some.fault (ap busy_fault c.self.view_is ∙ sym c.in-Some.ensures.is) (old.document, old.disk.saved) old.document c.reveal_invariant.ensures.crash_consistent)
 
 pub returns-clause-step : goal.returns-clause-step
 returns-clause-step g c =

@@ -18,4 +18,4 @@ returns-clause-typed g c = λ raw.
     let h = c.args.handle.0 in
     let attributes : c.unwrap.result.attributes ≡ attributes_of d h = rw c.unwrap.ensures at c.entry.ensures.attributes in
     let kind = sym (overlay_kind _ c.self.inside.frames.entries d h c.self.invariant.kept) ∙ ap (λ s. is_heap s.document h) c.self.view_is in
-    ap (λ (a : Attributes). a.heap_type) attributes ∙ c.validity.ensures.document.typed h (kind ∙ raw)
+    ap (λ (a : Attributes). a.heap_type) attributes ∙ c.reveal_invariant.ensures.document.typed h (kind ∙ raw)

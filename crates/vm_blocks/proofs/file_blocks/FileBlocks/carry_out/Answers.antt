@@ -7,6 +7,6 @@ returns-in_default g c =
     record {
       ok = turns.ok;
       err = turns.err;
-      refusals = carried_lacks g.S.Store.facts c.args.change.now c.args.self.now c.turn.new.self c.turn.result c.requires.ready c.validity.ensures.few turns.refusals;
+      refusals = carried_lacks g.S.Store.facts c.args.change.now c.args.self.now c.turn.new.self c.turn.result c.requires.ready c.reveal_invariant.ensures.few turns.refusals;
       sure = λ none. turns.sure none c.requires.ready.in_memory c.requires.ready.takes;
     }

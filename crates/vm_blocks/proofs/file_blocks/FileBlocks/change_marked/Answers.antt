@@ -58,7 +58,7 @@ returns-in-Ok-clause-ok g c =
 
 pub roll_back-requires-clause-valid : goal.roll_back-requires-clause-valid
 roll_back-requires-clause-valid g c =
-    valid_marked g.S.Store.facts (directed_all c.args.direction c.args.changes.now) c.args.self.now c.mark.new.self c.in_ok-mark.ensures.ok c.mark.ensures.resident c.turn_all.new.self c.in-Err.ensures.passes c.validity.ensures.document
+    valid_marked g.S.Store.facts (directed_all c.args.direction c.args.changes.now) c.args.self.now c.mark.new.self c.in_ok-mark.ensures.ok c.mark.ensures.resident c.turn_all.new.self c.in-Err.ensures.passes c.reveal_invariant.ensures.document
 
 pub returns-in-Err-clause-err : goal.returns-in-Err-clause-err
 returns-in-Err-clause-err g c =

@@ -3,7 +3,7 @@ use Rattle.std.specs.Prelude.{Result, Err}
 use Rattle.std.proofs.lemmas.Result.{err_from_is_err_and}
 use Rattle.geos_model.specs.declared.fault.Fault.{Fault}
 use Rattle.vm_blocks.specs.Changes.{directed_part}
-use Rattle.vm_blocks.specs.Preparing.{Turns}
+use Rattle.vm_blocks.specs.Preparing.{AppliesChange}
 use Rattle.vm_blocks.specs.declared.change.Change.TheVariants as changes
 use Rattle.vm_blocks.proofs.ChangeOutcomes.{turns_ready, turns_unready}
 use Rattle.vm_blocks.proofs.file_blocks.FileBlocks.change_part.Goals as goal
@@ -12,7 +12,7 @@ pub returns-in_err-ready_part : goal.returns-in_err-ready_part
 returns-in_err-ready_part g c =
     let change = changes.Part c.args.handle (directed_part c.args.direction c.args.part.now) in
     let p = err_from_is_err_and c.from_residual.result c.from_residual.ensures.1 in
-    subst (λ (r : Result (Unit {0}) Fault). Turns g.S.Store.facts change c.args.self.now c.ready_part.new.self r) (sym (p.1 ∙ ap Err p.2))
+    subst (λ (r : Result (Unit {0}) Fault). AppliesChange g.S.Store.facts change c.args.self.now c.ready_part.new.self r) (sym (p.1 ∙ ap Err p.2))
     (turns_unready g.S.Store.facts change c.args.self.now c.ready_part.new.self c.ready_part.ensures.keeps c.in_err-ready_part.field-0.0 c.in_err-ready_part.ensures.err
     (λ here takes. absurd (cc (c.in_err-ready_part.ensures.sure here takes).0)) (λ far. let shut = c.in_err-ready_part.ensures.shut far in (cc shut.0, shut.1)))
 

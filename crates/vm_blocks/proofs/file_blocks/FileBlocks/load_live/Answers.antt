@@ -82,7 +82,7 @@ returns-then-use_again-clause-shut g c = λ far.
     let es = c.self.inside.frames.entries in
     let h = c.args.handle.0 in
     let there : is_resident old.resident h ≡ true = ap (λ (t : CacheState g.row.S.Denot). is_resident t.resident h) (sym c.self.view_is) ∙ resident_is h es ∙ sym c.use_again.ensures.value ∙ c.if-use_again.true in
-    let wrong : true ≡ false = sym far ∙ resident-open old h c.validity.ensures.few there in
+    let wrong : true ≡ false = sym far ∙ resident-open old h c.reveal_invariant.ensures.few there in
     absurd (cc wrong)
 
 -- One that isn't there, and is shut out: nothing has changed.

@@ -3,7 +3,7 @@ use Rattle.std.specs.FinMap.{contains_key}
 use Rattle.geos_model.specs.Document.{chunks_of}
 use Rattle.geos_model.specs.Heap.{ChunkMap, chunk_bytes}
 use Rattle.lmem_heap.specs.Known.{is_array_of}
-use Rattle.vm_blocks.specs.Frames.{chunks_in, frame_of}
+use Rattle.vm_blocks.specs.Frames.{chunks_in_frames, frame_of}
 use Rattle.vm_blocks.specs.State.{CacheState, is_resident}
 use Rattle.vm_blocks.proofs.KeepingLaws.{loaded-resident}
 use Rattle.vm_blocks.proofs.OrderOfUse.{resident_is}
@@ -16,7 +16,7 @@ mark_array-requires-clause-live g c =
     let d = c.self.inside.file.document in
     let h = c.args.handle.0 in
     let there : is_some (frame_of es h) ≡ true = sym (resident_is h es) ∙ ap (λ s. is_resident s.resident h) c.self.view_is ∙ loaded-resident c.args.self.now h c.requires.loaded in
-    let same : chunks_of c.args.self.now.document h ≡ chunks_in es h = ap (λ (s : CacheState g.row.S.Denot). chunks_of s.document h) (sym c.self.view_is) ∙ chunks_under es d h there in
+    let same : chunks_of c.args.self.now.document h ≡ chunks_in_frames es h = ap (λ (s : CacheState g.row.S.Denot). chunks_of s.document h) (sym c.self.view_is) ∙ chunks_under es d h there in
     subst (λ (m : ChunkMap). contains_key m c.args.chunk.0 ≡ true) same c.requires.live
 
 pub mark_array-requires-clause-array : goal.mark_array-requires-clause-array
@@ -25,5 +25,5 @@ mark_array-requires-clause-array g c =
     let d = c.self.inside.file.document in
     let h = c.args.handle.0 in
     let there : is_some (frame_of es h) ≡ true = sym (resident_is h es) ∙ ap (λ s. is_resident s.resident h) c.self.view_is ∙ loaded-resident c.args.self.now h c.requires.loaded in
-    let same : chunks_of c.args.self.now.document h ≡ chunks_in es h = ap (λ (s : CacheState g.row.S.Denot). chunks_of s.document h) (sym c.self.view_is) ∙ chunks_under es d h there in
+    let same : chunks_of c.args.self.now.document h ≡ chunks_in_frames es h = ap (λ (s : CacheState g.row.S.Denot). chunks_of s.document h) (sym c.self.view_is) ∙ chunks_under es d h there in
     subst (λ (m : ChunkMap). is_array_of c.args.kind (chunk_bytes m c.args.chunk.0) ≡ true) same c.requires.array

@@ -26,4 +26,4 @@ pub invariant_of-result : goal.invariant_of-result
 invariant_of-result g c =
     let now = c.in_ok-file.ensures.document.0 in
     subst (λ (x : LruCache ℕ Frame). AreBlocksOf g.S.Store.facts c.in_ok-file.file x.entries x.cap) (sym c.in-Ok.ensures)
-    (blocks_bare g.S.Store.facts c.in_ok-file.file c.args.frames c.requires (λ so. subst IsValid (sym now) (c.validity.ensures.valid so).0))
+    (blocks_bare g.S.Store.facts c.in_ok-file.file c.args.frames c.requires (λ so. subst IsValid (sym now) (c.reveal_invariant.ensures.valid so).0))

@@ -7,7 +7,7 @@ use Rattle.vm_file.specs.Members.{imaged_blocks}
 use Rattle.vm_file.specs.declared.member.Member.{Member}
 use Rattle.vm_blocks.specs.Changes.{AreFree}
 use Rattle.vm_blocks.specs.Frames.{frame_of, shown}
-use Rattle.vm_blocks.specs.Preparing.{Turns}
+use Rattle.vm_blocks.specs.Preparing.{AppliesChange}
 use Rattle.vm_blocks.specs.State.{CacheState, is_resident}
 use Rattle.vm_blocks.specs.declared.change.Change.TheVariants as changes
 use Rattle.vm_blocks.proofs.Blocks.{IsAway}
@@ -31,7 +31,7 @@ invariant_of-self g c =
     let ms = c.args.members.now in
     let puts = c.deref.result.now in
     let old = shown s.file es s.frames.cap in
-    let out = subst (All (λ (m : Member). is_resident c.args.self.now.resident m.handle.0 ≡ false)) (sym c.deref.ensures.value) (away facts c.args.self.now ms.list.items c.requires c.validity.ensures.resident) in
+    let out = subst (All (λ (m : Member). is_resident c.args.self.now.resident m.handle.0 ≡ false)) (sym c.deref.ensures.value) (away facts c.args.self.now ms.list.items c.requires c.reveal_invariant.ensures.resident) in
     let far : All (IsAway es) puts = All-weaker _ (IsAway es) (λ p gone. none_held (frame_of es p.handle.0) (sym (resident_is p.handle.0 es) ∙ ap (λ t. is_resident t.resident p.handle.0) c.self.view_is ∙ gone)) puts out in
     let free = subst (λ (s : CacheState g.row.S.Denot). AreFree s.document (handles_of (imaged_blocks ms.list.items))) (sym c.self.view_is) c.requires in
     record {
@@ -49,9 +49,10 @@ returns-clause-turns g c =
     let ms = c.args.members.now in
     let puts = c.deref.result.now in
     let new = shown c.put_blocks.new.self es s.frames.cap in
-    let out = subst (All (λ (m : Member). is_resident c.args.self.now.resident m.handle.0 ≡ false)) (sym c.deref.ensures.value) (away facts c.args.self.now ms.list.items c.requires c.validity.ensures.resident) in
+    let out = subst (All (λ (m : Member). is_resident c.args.self.now.resident m.handle.0 ≡ false)) (sym c.deref.ensures.value) (away facts c.args.self.now ms.list.items c.requires c.reveal_invariant.ensures.resident) in
     let far : All (IsAway es) puts = All-weaker _ (IsAway es) (λ p gone. none_held (frame_of es p.handle.0) (sym (resident_is p.handle.0 es) ∙ ap (λ t. is_resident t.resident p.handle.0) c.self.view_is ∙ gone)) puts out in
-    subst (λ (t : CacheState g.row.S.Denot). Turns facts (changes.BlocksIn ms) t new c.put_blocks.result) c.self.view_is
+    subst (λ (t : CacheState g.row.S.Denot). AppliesChange facts (changes.BlocksIn ms) t new c.put_blocks.result)
+    c.self.view_is
     (put_in_turns facts ms puts (shown s.file es s.frames.cap) new c.deref.ensures.value (refl, refl) c.put_blocks.result
     (puts_under facts s.file c.put_blocks.new.self es puts c.put_blocks.result far c.self.invariant.kept c.put_blocks.ensures.keeps) c.put_blocks.ensures.fails
     (λ none. let alone = c.put_blocks.ensures.removals_alone none in (alone.0, ap (λ (x : FileState g.row.S.Denot). shown x es s.frames.cap) alone.1)))

@@ -21,7 +21,7 @@ invariant_of-self g c =
     let a = c.self.inside.file in let b = c.commit_revert.new.self in
     let es = c.self.inside.frames.entries in let cap = c.self.inside.frames.cap in
     let commit = c.in_err-commit_revert.ensures.commit in
-    blocks_commit facts a es cap b es cap (a.disk.saved, a.disk.saved) a.disk.saved (Err c.in_err-commit_revert.field-0.0) c.self.invariant (kept_after facts a b es commit.commits.honest commit.document c.self.invariant.kept) (λ so. (c.validity.ensures.valid so).1)
+    blocks_commit facts a es cap b es cap (a.disk.saved, a.disk.saved) a.disk.saved (Err c.in_err-commit_revert.field-0.0) c.self.invariant (kept_after facts a b es commit.commits.honest commit.document c.self.invariant.kept) (λ so. (c.reveal_invariant.ensures.valid so).1)
     (refused_under facts a b (a.disk.saved, a.disk.saved) a.disk.saved es c.in_err-commit_revert.field-0.0 c.self.invariant.kept commit) refl
 
 pub returns-in_err-commit_revert-clause-commit : goal.returns-in_err-commit_revert-clause-commit
@@ -46,7 +46,7 @@ invariant_of-self-2 g c =
     let a = c.self.inside.file in let b = c.commit_revert.new.self in
     let es = c.self.inside.frames.entries in let cap = c.self.inside.frames.cap in
     subst (λ (x : LruCache ℕ Frame). AreBlocksOf facts b x.entries x.cap) (sym c.clear.ensures)
-    (blocks_commit facts a es cap b [] cap (a.disk.saved, a.disk.saved) a.disk.saved (Ok tt) c.self.invariant (bare_kept (facts b.disk.store).honest b.document) (λ so. (c.validity.ensures.valid so).1)
+    (blocks_commit facts a es cap b [] cap (a.disk.saved, a.disk.saved) a.disk.saved (Ok tt) c.self.invariant (bare_kept (facts b.disk.store).honest b.document) (λ so. (c.reveal_invariant.ensures.valid so).1)
     (accepted_bare facts a b (a.disk.saved, a.disk.saved) a.disk.saved es c.in_ok-commit_revert.ensures.commit) refl)
 
 pub returns-clause-commit : goal.returns-clause-commit

@@ -23,7 +23,7 @@ pub returns-then-is_worn-clause-saved_as : goal.returns-then-is_worn-clause-save
 returns-then-is_worn-clause-saved_as g c =
     let a = c.self.inside.file in let es = c.self.inside.frames.entries in
     subst (λ (s : CacheState g.row.S.Denot). IsNotSavedAs g.S.Store.facts c.args.target c.args.target (as_file s) (as_file s) Worn) c.self.view_is
-    (refused_early g.S.Store.facts a es c.args.target c.validity.ensures.crash_consistent)
+    (refused_early g.S.Store.facts a es c.args.target c.reveal_invariant.ensures.crash_consistent)
 
 -- what is in memory couldn't be written
 
@@ -38,7 +38,7 @@ returns-in-Err-clause-saved_as g c =
     let a = c.self.inside.file in let es = c.self.inside.frames.entries in
     let new = c.flush.new in
     subst (λ (s : CacheState g.row.S.Denot). IsNotSavedAs g.S.Store.facts c.args.target c.args.target (as_file s) (with_frames new.file new.frames.entries) c.in-Err.fault) c.self.view_is
-    (not_flushed g.S.Store.facts g.met.S.Store.timely a new.file es new.frames.entries c.flush.ensures.moves c.validity.ensures.crash_consistent c.args.target c.in-Err.fault c.in-Err.ensures.fails)
+    (not_flushed g.S.Store.facts g.met.S.Store.timely a new.file es new.frames.entries c.flush.ensures.moves c.reveal_invariant.ensures.crash_consistent c.args.target c.in-Err.fault c.in-Err.ensures.fails)
 
 -- it couldn't be copied
 
@@ -60,7 +60,7 @@ returns-in_err-copied-clause-saved_as g c =
     let p = err_from_is_err_and c.from_residual.result c.from_residual.ensures.1 in
     let copy = c.in_err-copied.ensures in let refused = c.in_err-copied.field-0.0 in
     rw (p.1 ∙ ap Err p.2) (subst (λ (s : CacheState g.row.S.Denot). IsNotSavedAs facts c.args.target refused.store (as_file s) (with_frames d fs) refused.fault) c.self.view_is
-    (not_copied facts g.met.S.Store.timely a b es fs c.flush.ensures.moves c.validity.ensures.crash_consistent c.args.target d c.copy_to.ensures.reads refused.store refused.fault copy.target copy.file copy.damaged copy.refusals))
+    (not_copied facts g.met.S.Store.timely a b es fs c.flush.ensures.moves c.reveal_invariant.ensures.crash_consistent c.args.target d c.copy_to.ensures.reads refused.store refused.fault copy.target copy.file copy.damaged copy.refusals))
 
 -- the old file couldn't be reverted
 
@@ -86,7 +86,7 @@ returns-in-Err-commit_revert-clause-saved_as g c =
     let fresh : a.disk.sequence ≢ last_sequence = λ last. absurd (cc (sym c.if-is_worn.false ∙ c.is_worn.ensures.1 last)) in
     let revert = c.in-Err-commit_revert.ensures in
     subst (λ (s : CacheState g.row.S.Denot). IsNotSavedAs facts c.args.target c.close.result (as_file s) (with_frames e fs) c.in-Err-commit_revert.fault) c.self.view_is
-    (not_reverted facts g.met.S.Store.timely a b es fs c.flush.ensures.moves c.validity.ensures.crash_consistent c.args.target d c.copy_to.ensures.reads e c.close.result (subst (SameStore facts c.args.target) (sym c.close.ensures) c.in_ok-copied.ensures.target)
+    (not_reverted facts g.met.S.Store.timely a b es fs c.flush.ensures.moves c.reveal_invariant.ensures.crash_consistent c.args.target d c.copy_to.ensures.reads e c.close.result (subst (SameStore facts c.args.target) (sym c.close.ensures) c.in_ok-copied.ensures.target)
     c.in-Err-commit_revert.fault fresh revert.commit revert.fails)
 
 -- it was, and the two files change places
@@ -100,7 +100,7 @@ returns-clause-saved_as g c =
     let back : e.disk.store ≡ c.close-2.result = sym (c.close-2.ensures ∙ ap (λ (f : FileState g.row.S.Denot). f.disk.store) c.replace.ensures.value) in
     subst (λ (f : FileState g.row.S.Denot). IsSavedAs facts c.args.target c.close-2.result (as_file c.args.self.now) (with_frames f gs)) (sym c.replace.ensures.after)
     (subst (λ (s : CacheState g.row.S.Denot). IsSavedAs facts c.args.target c.close-2.result (as_file s) (with_frames n gs)) c.self.view_is
-    (saved facts g.met.S.Store.timely a b es fs c.flush.ensures.moves c.validity.ensures.crash_consistent c.args.target d c.copy_to.ensures.reads e n gs c.close-2.result c.in_default.ensures.clean.each copy.handles copy.copied
+    (saved facts g.met.S.Store.timely a b es fs c.flush.ensures.moves c.reveal_invariant.ensures.crash_consistent c.args.target d c.copy_to.ensures.reads e n gs c.close-2.result c.in_default.ensures.clean.each copy.handles copy.copied
     c.mark_all.ensures.shown copy.made copy.target back c.in_default-commit_revert.ensures.commit.commits))
 
 pub invariant_of-self-2 : goal.invariant_of-self-2
@@ -109,10 +109,10 @@ invariant_of-self-2 g c =
     let s = c.self.inside in
     let a = s.file in let b = c.flush.new.file in let n = c.in_ok-copied.copied in
     let es = s.frames.entries in let fs = c.flush.new.frames.entries in let gs = c.mark_all.new.frames in
-    let handles = copied_handles facts a b n es fs c.flush.ensures.moves c.self.invariant.kept c.in_ok-copied.ensures.handles c.validity.ensures.document.handles in
+    let handles = copied_handles facts a b n es fs c.flush.ensures.moves c.self.invariant.kept c.in_ok-copied.ensures.handles c.reveal_invariant.ensures.document.handles in
     let under = kept_for_none (facts b.disk.store).honest b.document n.document fs c.in_ok-copied.ensures.handles c.flush.ensures.moves.kept in
     let valid : IsTrue (facts n.disk.store).honest → IsValid (overlay gs.entries n.document) =
-    λ so. c.mark_all.ensures.valid n.document (subst IsValid c.in_ok-copied.ensures.made.updated (c.validity-2.ensures.valid so).0) (c.mark_all.ensures.kept false n.document handles under) in
+    λ so. c.mark_all.ensures.valid n.document (subst IsValid c.in_ok-copied.ensures.made.updated (c.reveal_invariant-2.ensures.valid so).0) (c.mark_all.ensures.kept false n.document handles under) in
     subst (λ (f : FileState g.row.S.Denot). AreBlocksOf facts f gs.entries gs.cap) (sym c.replace.ensures.after)
     (record {
       kept = c.mark_all.ensures.kept (facts n.disk.store).honest n.document handles under;

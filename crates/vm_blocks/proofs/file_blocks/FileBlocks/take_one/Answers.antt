@@ -51,5 +51,5 @@ returns g c =
       disk = ap (λ (t : CacheState g.row.S.Denot). t.disk) is;
       document = ap (λ (t : CacheState g.row.S.Denot). t.document) is;
       frames = ap (λ (t : CacheState g.row.S.Denot). t.frames) is;
-      locks = subst (λ (t : CacheState g.row.S.Denot). KeepsLocks old.resident t.resident) (sym is) (keeps_removed h old.resident c.validity.ensures.distinct c.requires.unlocked);
+      locks = subst (λ (t : CacheState g.row.S.Denot). KeepsLocks old.resident t.resident) (sym is) (keeps_removed h old.resident c.reveal_invariant.ensures.distinct c.requires.unlocked);
     }

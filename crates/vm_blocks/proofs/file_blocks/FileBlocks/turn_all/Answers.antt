@@ -49,7 +49,7 @@ returns-in_err-turn-clause-refusals g c =
     let change = directed c.args.direction c.in-Some.change.now in
     let t = YieldsList-turn (YieldsList-from_rev_slice c.args.changes.now cc) l.yielded _ l.yielded_by _ _ c.in-Some.change c.in-Some.is c.next.ensures.steps in
     let p = subst (λ (rest : List Change). Carries facts all rest c.args.self.now l.self) (left_more c.args.direction c.args.changes.now n c.in-Some.change.now t) l.invariant in
-    let near = in_reach l.self (l.invariant.locks.count ∙ c.requires.unlocked) (subst (λ k. 1 ≤ k) (sym l.invariant.frames) c.validity.ensures.some) change in
+    let near = in_reach l.self (l.invariant.locks.count ∙ c.requires.unlocked) (subst (λ k. 1 ≤ k) (sym l.invariant.frames) c.reveal_invariant.ensures.some) change in
     let e = err_from_is_err_and c.from_residual.result c.from_residual.ensures.1 in
     subst (λ (r : Result (Unit {0}) Fault). IfErr r (CantPrepareAll facts all c.args.self.now c.turn.new.self)) (sym (e.1 ∙ ap Err e.2))
     (carries_unready facts all change (left c.args.direction c.args.changes.now (n + 1)) c.args.self.now l.self c.turn.new.self p c.in_err-turn.field-0.0 near c.in_err-turn.ensures.refusals)

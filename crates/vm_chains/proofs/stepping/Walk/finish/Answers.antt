@@ -41,5 +41,5 @@ returns-clause-met g c = λ root has.
     let a = c.args.blocks.now in let e = c.step.new.blocks in
     let keeps = keeps-trans g.S.Store.facts a c.loop-self.blocks e c.loop-self.invariant.keeps c.step.ensures.keeps in
     goes-met_all g.S.Store.facts a c.loop-self.blocks e c.args.self c.loop-self.self c.loop-self.invariant c.step.ensures.keeps c.step.new.self c.into_handles.result.items
-    (λ h live. c.validity.ensures.listed.handles h (sym ((keeps-unless_corrupt g.S.Store.facts a e keeps).live h) ∙ live))
+    (λ h live. c.reveal_invariant.ensures.listed.handles h (sym ((keeps-unless_corrupt g.S.Store.facts a e keeps).live h) ∙ live))
     (ended c.step.new.blocks.document c.loop-self.self c.step.new.self c.in_ok-_next.field-0 c.in_default.not-Some c.in_ok-_next.ensures.value) c.into_handles.ensures root has

@@ -30,7 +30,7 @@ returns-in_err-follow-clause-value g c =
 
 pub add-requires : goal.add-requires
 add-requires g c =
-    c.validity.ensures.listed.handles c.in-Some.handle.0
+    c.reveal_invariant.ensures.listed.handles c.in-Some.handle.0
     (sym ((keeps-unless_corrupt g.S.Store.facts c.args.blocks.now c.follow.new.blocks c.follow.ensures.keeps).live c.in-Some.handle.0) ∙ member_live c.follow.new.blocks.document c.in-Some.handle.0 c.in_ok-follow.ensures.value.member)
 
 pub returns-in_err-add-clause-value : goal.returns-in_err-add-clause-value

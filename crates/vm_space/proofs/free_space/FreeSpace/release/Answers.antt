@@ -2,13 +2,13 @@ use Rattle.std.proofs.Common.{◌≡◌, ℕ, ◌-◌, ◌<◌, ◌≤◌, max, 
 use Rattle.std.proofs.lemmas.List.{with_items_is}
 use Rattle.geos_model.specs.File.{end_page}
 use Rattle.geos_model.specs.declared.file.Extent.{Extent}
-use Rattle.vm_space.specs.Space.{Space, AreRaised, AreTaken, IsSpaceSound}
+use Rattle.vm_space.specs.Space.{Space, AreCountsRaised, AreTaken, IsSpaceSound}
 use Rattle.vm_space.proofs.SpaceLemmas.{lowered_from, taken-less, sound-less, sound-fewer, taken_there}
 use Rattle.vm_space.proofs.free_space.FreeSpace.release.Goals.{After-count_down}
 use Rattle.vm_space.proofs.free_space.FreeSpace.release.Goals as goal
 
 -- the counts, and the extents that are left
-lowered : (c : After-count_down) → AreRaised c.args.extent.page (end_page c.args.extent) c.count_down.new.counts c.self.inside.counts.items
+lowered : (c : After-count_down) → AreCountsRaised c.args.extent.page (end_page c.args.extent) c.count_down.new.counts c.self.inside.counts.items
 lowered c =
     let e : Extent = c.args.extent in
     lowered_from e.page (end_page e) c.page_behind-end.result c.self.inside.counts.items c.deref_mut.result.now c.count_down.new.counts c.deref_mut.ensures.value c.page_behind-end.ensures c.count_down.ensures

@@ -2,7 +2,7 @@ use Rattle.std.proofs.Common.{◌≡◌, ℕ, ◌+◌, ◌*◌, ◌<◌, ◌≤�
 use Rattle.geos_model.specs.File.{pages_of, end_page}
 use Rattle.geos_model.specs.declared.file.Extent.{Extent}
 use Rattle.vm_space.specs.declared.placing.TheConstants.{MOST_EXTENTS}
-use Rattle.vm_space.specs.Space.{Space, AreRaised, AreTaken, IsFirstRun, IsHint, IsSpaceSound}
+use Rattle.vm_space.specs.Space.{Space, AreCountsRaised, AreTaken, IsFirstRun, IsHint, IsSpaceSound}
 use Rattle.vm_space.proofs.PlacingLemmas.{pages_few, pages_some}
 use Rattle.vm_space.proofs.SpaceLemmas.{found_from, hint_from, run_near, run_fits, taken-raised, sound-hinted}
 use Rattle.vm_space.proofs.free_space.FreeSpace.take.Goals.{After-first_run-page}
@@ -44,7 +44,7 @@ invariant_of-self c =
     let new : List ℕ = c.self-2.inside.counts.items in
     let before : AreTaken taken c.args.self.now = subst (λ (s : Space). AreTaken taken s) c.self.view_is c.self.invariant.are in
     let behind : AreTaken (e ∷ taken) (record { counts = new; count = c.self-2.inside.count }) = subst (λ (s : Space). AreTaken (e ∷ taken) s) (sym c.self-2.view_is) (c.in_ok-hold.ensures.held taken before) in
-    let raised : AreRaised page (end_page e) counts new = taken-raised taken e counts new c.self.inside.count c.self-2.inside.count c.self.invariant.are behind in
+    let raised : AreCountsRaised page (end_page e) counts new = taken-raised taken e counts new c.self.inside.count c.self-2.inside.count c.self.invariant.are behind in
     let some = pages_some c.args.len c.requires.in_range in
     let wanted = pages_few c.args.len c.requires.in_range in
     subst (λ (m : ℕ). IsSpaceSound new (set c.self-2.inside.hints m (page + m)) c.self-2.inside.count) (sym (pages (goal.at.invariant_of-self c).After-first_run-page))

@@ -7,10 +7,10 @@ use Rattle.vm_blocks.proofs.Locks.{seats_apart, few_locks}
 use Rattle.vm_blocks.specs.Frames.{overlay}
 use Rattle.vm_blocks.proofs.DocumentUnderFrames.{listed_under}
 use Rattle.vm_blocks.proofs.StateValidity.{listed_valid, seen_live}
-use Rattle.vm_blocks.proofs.file_blocks.FileBlocks.validity.Goals as goal
+use Rattle.vm_blocks.proofs.file_blocks.FileBlocks.reveal_invariant.Goals as goal
 
 pub returns-clause-crash_consistent : goal.returns-clause-crash_consistent
-returns-clause-crash_consistent g c = subst (λ (s : CacheState g.row.S.Denot). IsCrashConsistent g.S.Store.facts s.disk) c.self.view_is c.validity.ensures.crash_consistent
+returns-clause-crash_consistent g c = subst (λ (s : CacheState g.row.S.Denot). IsCrashConsistent g.S.Store.facts s.disk) c.self.view_is c.reveal_invariant.ensures.crash_consistent
 
 pub returns-clause-document : goal.returns-clause-document
 returns-clause-document g c = subst (λ (s : CacheState g.row.S.Denot). IsTrue (g.S.Store.facts s.disk.store).honest → IsValid s.document) c.self.view_is c.self.invariant.state.valid
@@ -20,7 +20,7 @@ returns-clause-some g c = subst (λ (s : CacheState g.row.S.Denot). 1 ≤ s.fram
 
 pub returns-clause-valid : goal.returns-clause-valid
 returns-clause-valid g c =
-    subst (λ (s : CacheState g.row.S.Denot). IsTrue (g.S.Store.facts s.disk.store).honest → IsValid s.disk.updated × IsValid s.disk.saved) c.self.view_is c.validity.ensures.valid
+    subst (λ (s : CacheState g.row.S.Denot). IsTrue (g.S.Store.facts s.disk.store).honest → IsValid s.disk.updated × IsValid s.disk.saved) c.self.view_is c.reveal_invariant.ensures.valid
 
 pub returns-clause-listed : goal.returns-clause-listed
 returns-clause-listed g c =
@@ -28,7 +28,7 @@ returns-clause-listed g c =
     let es = c.self.inside.frames.entries in
     let d = c.self.inside.file.document in
     subst (λ (s : CacheState g.row.S.Denot). IsFileDocument (g.S.Store.facts s.disk.store).honest s.document) c.self.view_is
-    (listed_valid honest (overlay es d) (listed_under honest es d c.self.invariant.kept c.validity.ensures.document) c.self.invariant.state.valid)
+    (listed_valid honest (overlay es d) (listed_under honest es d c.self.invariant.kept c.reveal_invariant.ensures.document) c.self.invariant.state.valid)
 
 pub returns-clause-resident : goal.returns-clause-resident
 returns-clause-resident g c =
