@@ -5,7 +5,7 @@ use Rattle.geos_model.specs.Reply.{Reply}
 use Rattle.geos_model.specs.declared.command.Command.{Command}
 use Rattle.geos_model.specs.declared.look_up.LookUp.{LookUp}
 use Rattle.vm_store.specs.Facts.{StoreFacts}
-use Rattle.undo_log.specs.Sessions.{SessionState, Answers}
+use Rattle.undo_log.specs.Sessions.{SessionState, AnswersAsked}
 use Rattle.c_sessions.specs.Codes.{HandsOutReply}
 
 -- The command is seen as a look-up, and what that answers is handed out so.
@@ -13,7 +13,7 @@ abbrev pub TellsReply : {S : Type 0} → (S → StoreFacts) → Command → (Rep
     → SessionState S → SessionState S → ℤ → Type 0
 TellsReply facts command hands_out old new code =
     (look_up : LookUp) × (command_of look_up ≡ command)
-    × (reply : Reply) × Answers facts old new look_up reply × hands_out reply code
+    × (reply : Reply) × AnswersAsked facts old new look_up reply × hands_out reply code
 
 -- The bytes or the handles that a look-up answers are handed out, or it is refused.
 abbrev pub ReadsBytes : {S : Type 0} → (S → StoreFacts) → Command → SessionState S → SessionState S
