@@ -1,8 +1,7 @@
 //! The codes by which calls from C are answered, and the names of those that are faults.
 ghost use Rattle.std.specs.Prelude.{◌≡◌, ◌⊎◌, ◌≤◌, ◌≤ℤ◌, pos, IfSome, None, is_some, true};
 ghost use Rattle.geos_model.specs.Refusal.{number_of_fault, name_of_fault};
-ghost use Rattle.geos_model.specs.Reply.{BytesAre, reply_by};
-ghost use Rattle.c_sessions.specs.Codes.{HandsOut, HandsOutReply, IsNamed, code_of as code_told};
+ghost use Rattle.c_sessions.specs.Codes.{HandsOut, IsNamed, code_of as code_told};
 
 use crate::files::ProgramFiles;
 use geos_model::Fault;
@@ -79,20 +78,6 @@ pub fn hand_out(bytes: &[u8], buffer: &mut [u8], length: &mut usize) -> i32
     buffer[..most].copy_from_slice(&bytes[..most]);
     *length = bytes.len();
     if most == bytes.len() { 0 } else { CUT_OFF }
-}
-
-/// Hands out the bytes that were asked for, or nothing, where they are refused.
-pub fn hand_out_answer(answer: Result<&[u8], Fault>, buffer: &mut [u8], length: &mut usize) -> i32
-    ensures { HandsOutReply (reply_by (λ bytes. BytesAre bytes.now) answer.entry)
-        buffer.old buffer.new length.new result }
-{
-    match answer {
-        Ok(bytes) => hand_out(bytes, buffer, length),
-        Err(fault) => {
-            *length = 0;
-            i32::from(fault.number())
-        }
-    }
 }
 
 /// Hands out the name of the fault that has this number.

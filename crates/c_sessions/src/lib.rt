@@ -7,7 +7,6 @@ mod kept;
 
 pub use codes::{
     BAD_ARGUMENT, CUT_OFF, NOT_OPEN, OPEN_ALREADY, UNTOLD, code_of, fault_name, hand_out,
-    hand_out_answer,
 };
 pub use files::{FileNumber, ProgramFiles};
 pub use kept::{Kept, close, create, open, save_as};

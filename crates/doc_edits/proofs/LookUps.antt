@@ -203,12 +203,6 @@ module _ (lacks : Fault → Type 0) (no_room : Bool) (d : Document) (b : VmHandl
     chunk_or_refusal room found = MatchResult-weaker r found (λ x there. (room, there)) (λ fault refuses. chunk_refuses room fault refuses)
 
     module _ (found : MatchResult r IsFound (RefusesChunk lacks no_room d b c)) where
-      -- so is a look-up into it refused
-      pub refused_so : {T : Type 0} (command : Command) (f : T → Reply) (s : Result T Fault) (fault : Fault) → r ≡ Err fault → chunk_asked command ≡ Some (b, c) → IsErrAnd s (λ e. e ≡ fault) → LooksUp lacks no_room command d (reply_by f s)
-      refused_so command f s fault was asked is =
-          let refuses : RefusesChunk lacks no_room d b c fault = subst (λ (r : Result X Fault). MatchResult r IsFound (RefusesChunk lacks no_room d b c)) was found in
-          refused_as lacks no_room command d f s fault is (refuses command asked)
-
       found_at : (x : X) → r ≡ Ok x → IsFound x
       found_at x was = subst (λ (r : Result X Fault). MatchResult r IsFound (RefusesChunk lacks no_room d b c)) was found
 
@@ -331,27 +325,6 @@ module _ {S X : Type 0} (facts : S → StoreFacts) (a e : CacheState S) (b : VmH
     pub chunk_seen : (reply : Reply) → ((lacks : Fault → Type 0) (no_room : Bool) → no_room ≡ false → IsChunkAt e.document b.0 c.0 (now x) → LooksUp lacks no_room command e.document reply) → AnswersFromBlocks facts a e command reply
     chunk_seen reply answers =
         answer_seen facts a e keeps command reply (ap (lacks_frames a) needs ∙ is_there.0) (λ lacks no_room room. answers lacks no_room room is_there.1) (λ nothing. let rest = near nothing in (rest.0, rest.1))
-
-    pub own_seen : {V T : Type 0} (own : List ℕ → Conditions) (value : List ℕ → V) (g : V → Reply) (s : Result T Fault) (v : T → V)
-        → look_up_conditions command e.document ≡ on_chunk e.document b.0 c.0 ++ own (chunk_at e.document b.0 c.0) → look_up command e.document ≡ Some (g (value (chunk_at e.document b.0 c.0)))
-        → MatchResult s (λ y. IsAnswered (own (now x)) (value (now x)) (v y)) (IsRefused (own (now x))) → AnswersFromBlocks facts a e command (reply_by (λ y. g (v y)) s)
-    own_seen own value g s v conditions does answered =
-        chunk_seen (reply_by (λ y. g (v y)) s) (λ lacks no_room room there. own_answered lacks no_room room e.document b c (now x) there command own value g s v conditions does answered)
-
-    -- so are bytes that are the chunk's
-    pub own_seen_at : (bytes : List ℕ) → bytes ≡ now x → {V T : Type 0} (own : List ℕ → Conditions) (value : List ℕ → V) (g : V → Reply) (s : Result T Fault) (v : T → V)
-        → look_up_conditions command e.document ≡ on_chunk e.document b.0 c.0 ++ own (chunk_at e.document b.0 c.0) → look_up command e.document ≡ Some (g (value (chunk_at e.document b.0 c.0)))
-        → MatchResult s (λ y. IsAnswered (own bytes) (value bytes) (v y)) (IsRefused (own bytes)) → AnswersFromBlocks facts a e command (reply_by (λ y. g (v y)) s)
-    own_seen_at bytes is own value g s v conditions does answered =
-        own_seen own value g s v conditions does (subst (λ (z : List ℕ). MatchResult s (λ y. IsAnswered (own z) (value z) (v y)) (IsRefused (own z))) is answered)
-
--- the bytes of a chunk are answered as they are
-pub read_seen : {S X : Type 0} (facts : S → StoreFacts) (a e : CacheState S) (b : VmHandle) (c : ChunkHandle) (now : X → List ℕ) (r : Result X Fault) → KeepsBlocks facts a e
-    → MatchResult r (λ x. (has_no_frame_for a b.0 ≡ false) × IsChunkAt e.document b.0 c.0 (now x)) (RefusesChunk (IsEnvironmentFault facts a.disk.store e.disk.store) (has_no_frame_for a b.0) e.document b c)
-    → FindsInMemory a e b c r → AnswersFromBlocks facts a e (commands.Read b c) (reply_by (λ x. BytesAre (now x)) r)
-read_seen facts a e b c now (Err fault) keeps found in_memory = chunk_missed facts a e b c now (Err fault) keeps found in_memory (commands.Read b c) refl refl (λ x. BytesAre (now x)) (Err fault) fault refl refl
-read_seen facts a e b c now (Ok x) keeps found in_memory = chunk_seen facts a e b c now (Ok x) keeps found in_memory (commands.Read b c) refl refl x refl (BytesAre (now x))
-    (λ lacks no_room room there. bytes_answered lacks no_room e.document b c now (Ok x) (room, there))
 
 -- what is answered where there is room
 pub with_room : (lacks : Fault → Type 0) (no_room : Bool) → no_room ≡ false → (command : Command) (d : Document) (reply : Reply) → answer_of false command d ≡ Some reply → LooksUp lacks no_room command d reply

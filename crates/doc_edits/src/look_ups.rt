@@ -1,24 +1,21 @@
 //! What is looked up of a document.
 ghost use Rattle.std.specs.Prelude.{◌≡◌, [], true, false, IfOk, MatchResult, OnOk, get_or, length};
-ghost use Rattle.std.specs.Borrow.{sem};
 ghost use Rattle.geos_model.specs.ArrayEdits.{array_in, on_array, on_element};
 ghost use Rattle.geos_model.specs.Forms.{form_asked, has_form};
 ghost use Rattle.geos_model.specs.LookUps.{array_look_up, block_look_up, chain_look_up, chunk_array_look_up, chunk_look_up, element_array_look_up, name_array_look_up};
-ghost use Rattle.geos_model.specs.Reply.{Reply as Answer, AreEqual, BytesAre, NumberIs, TokenIs, reply_by, reply_of, info_is, blocks_are, chunks_are};
+ghost use Rattle.geos_model.specs.Reply.{Reply as Answer, AreEqual, NumberIs, reply_by, reply_of, info_is, blocks_are, chunks_are};
 ghost use Rattle.geos_model.specs.declared.command.Command.TheVariants as commands;
-ghost use Rattle.vm_blocks.specs.contracts.file_blocks.FileBlocks.{the_row};
-ghost use Rattle.vm_blocks.specs.Keeping.{KeepsBlocks, IsEnvironmentFault, is_loaded, has_no_frame_for};
+ghost use Rattle.vm_blocks.specs.Keeping.{KeepsBlocks, is_loaded};
 ghost use Rattle.element_arrays.specs.Answering.{IsAnswered, IsRefused};
-ghost use Rattle.doc_edits.specs.Found.{IsChunkAt};
 ghost use Rattle.doc_edits.specs.declared.look_ups.Lists.{Lists};
-ghost use Rattle.doc_edits.specs.LookUps.{AfterLoan, AnswersInChunk, FindsChunk, FindsInMemory, IsPreparedLookUp, RefusesChunk, AnswersFromBlocks, AnswersChainFromBlocks, Shows, ShowsOrRefuses, is_list};
+ghost use Rattle.doc_edits.specs.LookUps.{AnswersInChunk, FindsChunk, IsPreparedLookUp, AnswersFromBlocks, AnswersChainFromBlocks, Shows, ShowsOrRefuses, is_list};
 
 use crate::found::{bytes_in, heap_at, known_at, raw_at};
 use crate::marking::test_array;
 use crate::room::{test_chain, test_chains};
 use geos_model::{
-    ArrayLookUp, BlockLookUp, Bytes, ChainLookUp, ChunkArrayLookUp, ChunkHandle, ChunkLookUp,
-    ElementArrayLookUp, Fault, Info, NameArrayLookUp, Reply, Token, VmHandle,
+    ArrayLookUp, BlockLookUp, ChainLookUp, ChunkArrayLookUp, ChunkHandle, ChunkLookUp,
+    ElementArrayLookUp, Fault, Info, NameArrayLookUp, Reply, VmHandle,
 };
 use lmem_heap::{ArrayKind, KnownBytes};
 use std::alloc::Global;
@@ -26,7 +23,7 @@ use vm_blocks::{BlockBody, FileBlocks};
 use vm_store::Store;
 
 /// A block's user ID and size.
-pub fn info<S: Store>(blocks: &mut FileBlocks<S>, block: VmHandle) -> Result<Info, Fault>
+fn info<S: Store>(blocks: &mut FileBlocks<S>, block: VmHandle) -> Result<Info, Fault>
     ensures { AnswersFromBlocks S.facts blocks.old blocks.new (commands.Info block) (reply_by info_is result) }
 {
     blocks.load(block)?;
@@ -37,59 +34,13 @@ pub fn info<S: Store>(blocks: &mut FileBlocks<S>, block: VmHandle) -> Result<Inf
     }
 }
 
-/// The bytes of a raw block.
-pub fn read_raw<S: Store>(blocks: &mut FileBlocks<S>, block: VmHandle) -> Result<&[u8], Fault>
-    ensures* leaves { sem 𝓛
-        (AfterLoan (the_row S.row S.Store) blocks.entry
-        (λ loaded. AnswersFromBlocks S.facts blocks.old loaded (commands.ReadRaw block)
-        (reply_by (λ bytes. BytesAre bytes.now) result))) }
-{
-    blocks.load_raw(block)?;
-    Ok(raw_at(blocks, block).bytes())
-}
-
 /// The live chunks of a heap, rising.
-pub fn chunks<S: Store>(
-    blocks: &mut FileBlocks<S>,
-    block: VmHandle,
-) -> Result<Vec<ChunkHandle>, Fault>
+fn chunks<S: Store>(blocks: &mut FileBlocks<S>, block: VmHandle) -> Result<Vec<ChunkHandle>, Fault>
     ensures { AnswersFromBlocks S.facts blocks.old blocks.new (commands.Chunks block)
         (reply_by (λ handles. chunks_are handles.items) result) }
 {
     blocks.load_heap(block)?;
     Ok(heap_at(blocks, block).handles()?)
-}
-
-/// The bytes of a chunk, or why each look-up into it is refused.
-fn chunk_at<S: Store>(
-    blocks: &mut FileBlocks<S>,
-    block: VmHandle,
-    chunk: ChunkHandle,
-) -> Result<&[u8], Fault>
-    ensures* leaves { sem 𝓛
-        (AfterLoan (the_row S.row S.Store) blocks.entry (λ loaded. KeepsBlocks S.facts blocks.old loaded
-        × MatchResult result (λ bytes. (has_no_frame_for blocks.old block.0 ≡ false)
-        × IsChunkAt loaded.document block.0 chunk.0 bytes.now)
-        (RefusesChunk (IsEnvironmentFault S.facts blocks.old.disk.store loaded.disk.store)
-        (has_no_frame_for blocks.old block.0) loaded.document block chunk)
-        × FindsInMemory blocks.old loaded block chunk result)) }
-{
-    blocks.load_heap(block)?;
-    bytes_in(heap_at(blocks, block), chunk)
-}
-
-/// The bytes of a chunk.
-pub fn read_chunk<S: Store>(
-    blocks: &mut FileBlocks<S>,
-    block: VmHandle,
-    chunk: ChunkHandle,
-) -> Result<&[u8], Fault>
-    ensures* leaves { sem 𝓛
-        (AfterLoan (the_row S.row S.Store) blocks.entry
-        (λ loaded. AnswersFromBlocks S.facts blocks.old loaded (commands.Read block chunk)
-        (reply_by (λ bytes. BytesAre bytes.now) result))) }
-{
-    chunk_at(blocks, block, chunk)
 }
 
 /// Brings the block of a chunk into memory, and tests the chunk to be an array of a kind, unless it is known to be one;
@@ -107,19 +58,6 @@ fn load_chunk<S: Store>(
     test_array(blocks, block, chunk, kind)
 }
 
-/// How many elements the array in a chunk has.
-pub fn array_count<S: Store>(
-    blocks: &mut FileBlocks<S>,
-    block: VmHandle,
-    chunk: ChunkHandle,
-) -> Result<usize, Fault>
-    ensures { AnswersFromBlocks S.facts blocks.old blocks.new (commands.ArrayCount block chunk)
-        (reply_by NumberIs result) }
-{
-    load_chunk(blocks, block, chunk, ArrayKind::Chunk)?;
-    count_in(&known_at(blocks, block, chunk))
-}
-
 // How many elements the array has that these bytes are. NotArray.
 fn count_in(bytes: &KnownBytes<'_>) -> Result<usize, Fault>
     ensures { MatchResult result (λ n. IsAnswered (on_array bytes.now) (length (array_in bytes.now).elements) n)
@@ -127,22 +65,6 @@ fn count_in(bytes: &KnownBytes<'_>) -> Result<usize, Fault>
 {
     let view = chunk_arrays::check(bytes)?;
     Ok(view.count())
-}
-
-/// The bytes of an element of the array in a chunk.
-pub fn array_element<S: Store>(
-    blocks: &mut FileBlocks<S>,
-    block: VmHandle,
-    chunk: ChunkHandle,
-    i: u32,
-) -> Result<&[u8], Fault>
-    ensures* leaves { sem 𝓛
-        (AfterLoan (the_row S.row S.Store) blocks.entry
-        (λ loaded. AnswersFromBlocks S.facts blocks.old loaded (commands.ArrayElement block chunk i)
-        (reply_by (λ bytes. BytesAre bytes.now) result))) }
-{
-    load_chunk(blocks, block, chunk, ArrayKind::Chunk)?;
-    element_in(&known_at(blocks, block, chunk), i)
 }
 
 // The bytes of an element of the array that these bytes are. NotArray, NoElement.
@@ -159,139 +81,8 @@ fn element_in<'a>(bytes: &KnownBytes<'a>, i: u32) -> Result<&'a [u8], Fault>
     Ok(view.element(i))
 }
 
-/// How many references an element of the element array in a chunk has.
-pub fn element_refs<S: Store>(
-    blocks: &mut FileBlocks<S>,
-    block: VmHandle,
-    chunk: ChunkHandle,
-    token: Token,
-) -> Result<u32, Fault>
-    ensures { AnswersFromBlocks S.facts blocks.old blocks.new (commands.ElementReferences block chunk token)
-        (reply_by NumberIs result) }
-{
-    load_chunk(blocks, block, chunk, ArrayKind::Element)?;
-    element_arrays::count_of(&known_at(blocks, block, chunk), token)
-}
-
-/// The bytes of an element of the element array in a chunk.
-pub fn element_bytes<S: Store>(
-    blocks: &mut FileBlocks<S>,
-    block: VmHandle,
-    chunk: ChunkHandle,
-    token: Token,
-) -> Result<&[u8], Fault>
-    ensures* leaves { sem 𝓛
-        (AfterLoan (the_row S.row S.Store) blocks.entry
-        (λ loaded. AnswersFromBlocks S.facts blocks.old loaded (commands.ElementBytes block chunk token)
-        (reply_by (λ bytes. BytesAre bytes.now) result))) }
-{
-    load_chunk(blocks, block, chunk, ArrayKind::Element)?;
-    element_arrays::data_of(&known_at(blocks, block, chunk), token)
-}
-
-/// How many elements of the element array in a chunk are used.
-pub fn elements_used<S: Store>(
-    blocks: &mut FileBlocks<S>,
-    block: VmHandle,
-    chunk: ChunkHandle,
-) -> Result<usize, Fault>
-    ensures { AnswersFromBlocks S.facts blocks.old blocks.new (commands.ElementsUsed block chunk)
-        (reply_by NumberIs result) }
-{
-    load_chunk(blocks, block, chunk, ArrayKind::Element)?;
-    element_arrays::used_count(&known_at(blocks, block, chunk))
-}
-
-/// The token of the used element that has this number, from 0 on, in the element array in a chunk.
-pub fn token_of_used<S: Store>(
-    blocks: &mut FileBlocks<S>,
-    block: VmHandle,
-    chunk: ChunkHandle,
-    k: u32,
-) -> Result<Token, Fault>
-    ensures { AnswersFromBlocks S.facts blocks.old blocks.new (commands.TokenOfUsed block chunk k)
-        (reply_by (λ token. TokenIs token.0) result) }
-{
-    load_chunk(blocks, block, chunk, ArrayKind::Element)?;
-    element_arrays::token_of_used(&known_at(blocks, block, chunk), k)
-}
-
-/// How many used tokens of the element array in a chunk are lower than this one.
-pub fn used_of_token<S: Store>(
-    blocks: &mut FileBlocks<S>,
-    block: VmHandle,
-    chunk: ChunkHandle,
-    token: Token,
-) -> Result<usize, Fault>
-    ensures { AnswersFromBlocks S.facts blocks.old blocks.new (commands.UsedOfToken block chunk token)
-        (reply_by NumberIs result) }
-{
-    load_chunk(blocks, block, chunk, ArrayKind::Element)?;
-    element_arrays::used_of_token(&known_at(blocks, block, chunk), token)
-}
-
-/// The token of a name in the name array in a chunk, the lowest that has it.
-pub fn name_find<S: Store>(
-    blocks: &mut FileBlocks<S>,
-    block: VmHandle,
-    chunk: ChunkHandle,
-    name: &Bytes,
-) -> Result<Token, Fault>
-    ensures { AnswersFromBlocks S.facts blocks.old blocks.new (commands.NameFind block chunk name.now)
-        (reply_by (λ token. TokenIs token.0) result) }
-{
-    load_chunk(blocks, block, chunk, ArrayKind::Name)?;
-    name_arrays::find(&known_at(blocks, block, chunk), name.as_slice())
-}
-
-/// How many references a name of the name array in a chunk has.
-pub fn name_refs<S: Store>(
-    blocks: &mut FileBlocks<S>,
-    block: VmHandle,
-    chunk: ChunkHandle,
-    token: Token,
-) -> Result<u32, Fault>
-    ensures { AnswersFromBlocks S.facts blocks.old blocks.new (commands.NameReferences block chunk token)
-        (reply_by NumberIs result) }
-{
-    load_chunk(blocks, block, chunk, ArrayKind::Name)?;
-    name_arrays::count_of(&known_at(blocks, block, chunk), token)
-}
-
-/// The name of a token of the name array in a chunk.
-pub fn name_text<S: Store>(
-    blocks: &mut FileBlocks<S>,
-    block: VmHandle,
-    chunk: ChunkHandle,
-    token: Token,
-) -> Result<&[u8], Fault>
-    ensures* leaves { sem 𝓛
-        (AfterLoan (the_row S.row S.Store) blocks.entry
-        (λ loaded. AnswersFromBlocks S.facts blocks.old loaded (commands.NameText block chunk token)
-        (reply_by (λ bytes. BytesAre bytes.now) result))) }
-{
-    load_chunk(blocks, block, chunk, ArrayKind::Name)?;
-    name_arrays::name_of(&known_at(blocks, block, chunk), token)
-}
-
-/// What stands before the name of a token of the name array in a chunk.
-pub fn name_part<S: Store>(
-    blocks: &mut FileBlocks<S>,
-    block: VmHandle,
-    chunk: ChunkHandle,
-    token: Token,
-) -> Result<&[u8], Fault>
-    ensures* leaves { sem 𝓛
-        (AfterLoan (the_row S.row S.Store) blocks.entry
-        (λ loaded. AnswersFromBlocks S.facts blocks.old loaded (commands.NamePart block chunk token)
-        (reply_by (λ bytes. BytesAre bytes.now) result))) }
-{
-    load_chunk(blocks, block, chunk, ArrayKind::Name)?;
-    name_arrays::data_of(&known_at(blocks, block, chunk), token)
-}
-
 /// The blocks of a chain, each before those that it links to, branches in order.
-pub fn walk<S: Store>(
+fn walk<S: Store>(
     alloc: Global,
     blocks: &mut FileBlocks<S>,
     root: VmHandle,
@@ -304,7 +95,7 @@ pub fn walk<S: Store>(
 }
 
 /// How many bytes the blocks of a chain have.
-pub fn chain_size<S: Store>(
+fn chain_size<S: Store>(
     alloc: Global,
     blocks: &mut FileBlocks<S>,
     root: VmHandle,
@@ -317,7 +108,7 @@ pub fn chain_size<S: Store>(
 }
 
 /// Whether two chains are equal, but for handles and user IDs.
-pub fn chain_equal<S: Store>(
+fn chain_equal<S: Store>(
     alloc: Global,
     blocks: &mut FileBlocks<S>,
     first: VmHandle,

@@ -4,3 +4,4 @@ pub mod HandleCalls
 pub mod LendingLemmas
 pub mod Opening
 pub mod Given
+pub mod LookUps

@@ -1,43 +1,51 @@
 //! What look-ups answer, handed out through references; 0 where they are refused.
-ghost use Rattle.std.specs.Prelude.{◌≡◌, if◌then◌else◌, length, nat_le, pos, slice_index};
-ghost use Rattle.geos_model.specs.Reply.{AreEqual, NumberIs, TokenIs, blocks_are, chunks_are, info_is, reply_by};
+ghost use Rattle.std.specs.Prelude.{◌≡◌, true, if◌then◌else◌, length, nat_le, pos, slice_index};
+ghost use Rattle.geos_model.specs.Forms.{has_form};
+ghost use Rattle.geos_model.specs.Forms as forms;
+ghost use Rattle.geos_model.specs.Reply.{NumberIs, reply_by, reply_of};
 ghost use Rattle.c_sessions.specs.Codes.{HandsOut, HandsOutReply, cut_off};
 ghost use Rattle.geos_c.specs.Telling.{HandsOutEqual, HandsOutInfo, HandsOutNumber, numbers_of};
 
-use c_sessions::CUT_OFF;
-use geos_model::{ChunkHandle, Fault, Info, Token, VmHandle};
+use c_sessions::{CUT_OFF, hand_out};
+use geos_model::{ChunkHandle, Fault, Info, Reply, VmHandle};
 
-pub(crate) fn tell_size(answer: Result<usize, Fault>, number: &mut usize) -> i32
-    ensures { HandsOutNumber number.new (reply_by NumberIs answer) result }
+/// How many, or how large.
+pub(crate) fn tell_number(answer: Result<Reply<'_>, Fault>, number: &mut usize) -> i32
+    requires { has_form (reply_by reply_of answer) forms.Number ≡ true }
+    ensures { HandsOutNumber number.new (reply_by reply_of answer.entry) result }
 {
+    *number = 0;
     match answer {
-        Ok(n) => {
-            *number = n;
+        Ok(Reply::Number(n)) => {
+            *number = n as usize;
             0
         }
-        Err(fault) => {
-            *number = 0;
-            i32::from(fault.number())
-        }
+        Ok(_) => unreachable!(),
+        Err(fault) => i32::from(fault.number()),
     }
 }
 
-// The same answer, as wide as a number is handed out.
-fn widened(answer: Result<u32, Fault>) -> Result<usize, Fault>
-    ensures { reply_by NumberIs result ≡ reply_by NumberIs answer }
+/// A block or a token.
+pub(crate) fn tell_word(answer: Result<Reply<'_>, Fault>, word: &mut u16) -> i32
+    requires { has_form (reply_by reply_of answer) forms.Name ≡ true }
+    ensures { HandsOutNumber word.new (reply_by reply_of answer.entry) result }
 {
+    *word = 0;
     match answer {
-        Ok(n) => Ok(n as usize),
-        Err(fault) => Err(fault),
+        Ok(Reply::Block(block)) => {
+            *word = block.0;
+            0
+        }
+        Ok(Reply::Token(token)) => {
+            *word = token.0;
+            0
+        }
+        Ok(_) => unreachable!(),
+        Err(fault) => i32::from(fault.number()),
     }
 }
 
-pub(crate) fn tell_count(answer: Result<u32, Fault>, number: &mut usize) -> i32
-    ensures { HandsOutNumber number.new (reply_by NumberIs answer) result }
-{
-    tell_size(widened(answer), number)
-}
-
+/// The type of a heap.
 pub(crate) fn tell_type(answer: Result<u16, Fault>, word: &mut u16) -> i32
     ensures { HandsOutNumber word.new (reply_by NumberIs answer) result }
 {
@@ -53,60 +61,68 @@ pub(crate) fn tell_type(answer: Result<u16, Fault>, word: &mut u16) -> i32
     }
 }
 
-pub(crate) fn tell_token(answer: Result<Token, Fault>, word: &mut u16) -> i32
-    ensures { HandsOutNumber word.new (reply_by (λ token. TokenIs token.0) answer) result }
+/// 1 where two chains are equal.
+pub(crate) fn tell_equal(answer: Result<Reply<'_>, Fault>, equal: &mut u8) -> i32
+    requires { has_form (reply_by reply_of answer) forms.Equal ≡ true }
+    ensures { HandsOutEqual equal.new (reply_by reply_of answer.entry) result }
 {
+    *equal = 0;
     match answer {
-        Ok(token) => {
-            *word = token.0;
-            0
-        }
-        Err(fault) => {
-            *word = 0;
-            i32::from(fault.number())
-        }
-    }
-}
-
-pub(crate) fn tell_equal(answer: Result<bool, Fault>, equal: &mut u8) -> i32
-    ensures { HandsOutEqual equal.new (reply_by AreEqual answer) result }
-{
-    match answer {
-        Ok(are_equal) => {
+        Ok(Reply::Equal(are_equal)) => {
             *equal = if are_equal { 1 } else { 0 };
             0
         }
-        Err(fault) => {
-            *equal = 0;
-            i32::from(fault.number())
-        }
+        Ok(_) => unreachable!(),
+        Err(fault) => i32::from(fault.number()),
     }
 }
 
+/// Whether a block is a heap, its user ID and its size.
 pub(crate) fn tell_info(
-    answer: Result<Info, Fault>,
+    answer: Result<Reply<'_>, Fault>,
     is_heap: &mut u8,
     user_id: &mut u16,
     size: &mut u32,
 ) -> i32
-    ensures { HandsOutInfo is_heap.new user_id.new size.new (reply_by info_is answer) result }
+    requires { has_form (reply_by reply_of answer) forms.Info ≡ true }
+    ensures { HandsOutInfo is_heap.new user_id.new size.new (reply_by reply_of answer.entry) result }
 {
     *is_heap = 0;
     *user_id = 0;
     *size = 0;
     match answer {
-        Ok(Info::Raw(uid, n)) => {
+        Ok(Reply::Info(Info::Raw(uid, n))) => {
             *user_id = uid;
             *size = n;
             0
         }
-        Ok(Info::Heap(uid, n)) => {
+        Ok(Reply::Info(Info::Heap(uid, n))) => {
             *is_heap = 1;
             *user_id = uid;
             *size = n;
             0
         }
+        Ok(_) => unreachable!(),
         Err(fault) => i32::from(fault.number()),
+    }
+}
+
+/// The bytes that were asked for.
+pub(crate) fn tell_bytes(
+    answer: Result<Reply<'_>, Fault>,
+    buffer: &mut [u8],
+    length: &mut usize,
+) -> i32
+    requires { has_form (reply_by reply_of answer) forms.Bytes ≡ true }
+    ensures { HandsOutReply (reply_by reply_of answer.entry) buffer.old buffer.new length.new result }
+{
+    match answer {
+        Ok(Reply::Bytes(bytes)) => hand_out(bytes, buffer, length),
+        Ok(_) => unreachable!(),
+        Err(fault) => {
+            *length = 0;
+            i32::from(fault.number())
+        }
     }
 }
 
@@ -163,33 +179,19 @@ fn put_handles(handles: Handles, buffer: &mut [u16], length: &mut usize) -> i32
     tell_length(handles.len(), buffer.len(), length)
 }
 
-pub(crate) fn tell_blocks(
-    answer: Result<Vec<VmHandle>, Fault>,
+/// The handles of blocks or of chunks.
+pub(crate) fn tell_handles(
+    answer: Result<Reply<'_>, Fault>,
     buffer: &mut [u16],
     length: &mut usize,
 ) -> i32
-    ensures { HandsOutReply (reply_by (λ handles. blocks_are handles.items) answer)
-        buffer.old buffer.new length.new result }
+    requires { has_form (reply_by reply_of answer) forms.Names ≡ true }
+    ensures { HandsOutReply (reply_by reply_of answer.entry) buffer.old buffer.new length.new result }
 {
     match answer {
-        Ok(handles) => put_handles(Handles::Blocks(&handles), buffer, length),
-        Err(fault) => {
-            *length = 0;
-            i32::from(fault.number())
-        }
-    }
-}
-
-pub(crate) fn tell_chunks(
-    answer: Result<Vec<ChunkHandle>, Fault>,
-    buffer: &mut [u16],
-    length: &mut usize,
-) -> i32
-    ensures { HandsOutReply (reply_by (λ handles. chunks_are handles.items) answer)
-        buffer.old buffer.new length.new result }
-{
-    match answer {
-        Ok(handles) => put_handles(Handles::Chunks(&handles), buffer, length),
+        Ok(Reply::Blocks(handles)) => put_handles(Handles::Blocks(handles), buffer, length),
+        Ok(Reply::Chunks(handles)) => put_handles(Handles::Chunks(handles), buffer, length),
+        Ok(_) => unreachable!(),
         Err(fault) => {
             *length = 0;
             i32::from(fault.number())

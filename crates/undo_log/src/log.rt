@@ -85,8 +85,10 @@ impl UndoLog {
         requires { self.old.room ≡ true }
         ensures { self.new.lists ≡ with_change change self.old.lists }
     {
-        // Nothing is left to make again, in a group too.
-        self.entries.truncate(self.done);
+        // Nothing is left to make again, in a group too. Where nothing was, the vector needn't be asked.
+        if self.done < self.entries.len() {
+            self.entries.truncate(self.done);
+        }
         match &mut self.group {
             Some(changes) => changes.push_reserved(change),
             None => {

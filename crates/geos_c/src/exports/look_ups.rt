@@ -1,9 +1,11 @@
 //! Look-ups by name: those of `docs/SCRIPT.md`, with their names. What is refused hands out no bytes, and else 0.
-ghost use Rattle.std.specs.Prelude.{IsTrue};
+ghost use Rattle.std.specs.Prelude.{◌≡◌};
+ghost use Rattle.geos_model.specs.Forms.{form_asked};
+ghost use Rattle.geos_model.specs.Forms as forms;
 ghost use Rattle.geos_model.specs.declared.command.Command.TheVariants as commands;
 ghost use Rattle.geos_c.specs.Calls.{chunk_handle, token_numbered, vm};
 ghost use Rattle.geos_c.specs.Handles.{CopiesAndReports, EqualOnHandle, HandsOutOnHandle, InfoOnHandle, NumberOnHandle};
-ghost use Rattle.geos_c.specs.LookUps.{ReadsBytes, asks_bytes, asks_handles, asks_number, asks_word};
+ghost use Rattle.geos_c.specs.LookUps.{ReadsBytes};
 ghost use Rattle.geos_c.specs.Stores.{facts};
 
 use crate::copying::{copied, uncopied};
@@ -15,7 +17,7 @@ use std::alloc::Global;
 
 // Asks the session behind a handle for a number.
 fn number(handle: &mut Handle, alloc: Global, asked: &Command, number: &mut usize) -> i32
-    requires { IsTrue (asks_number asked.now) }
+    requires { form_asked asked.now ≡ forms.Number }
     ensures { NumberOnHandle asked.now number.new handle.old handle.new result }
 {
     *number = 0;
@@ -26,9 +28,9 @@ fn number(handle: &mut Handle, alloc: Global, asked: &Command, number: &mut usiz
     )
 }
 
-// Asks it for a handle, a token or a type.
+// Asks it for a block or a token.
 fn word(handle: &mut Handle, alloc: Global, asked: &Command, word: &mut u16) -> i32
-    requires { IsTrue (asks_word asked.now) }
+    requires { form_asked asked.now ≡ forms.Name }
     ensures { NumberOnHandle asked.now word.new handle.old handle.new result }
 {
     *word = 0;
@@ -47,7 +49,7 @@ fn bytes(
     buffer: &mut [u8],
     length: &mut usize,
 ) -> i32
-    requires { IsTrue (asks_bytes asked.now) }
+    requires { form_asked asked.now ≡ forms.Bytes }
     ensures { HandsOutOnHandle (ReadsBytes facts asked.now)
         handle.old handle.new buffer.old buffer.new length.new result }
 {
@@ -67,7 +69,7 @@ fn handles(
     buffer: &mut [u16],
     length: &mut usize,
 ) -> i32
-    requires { IsTrue (asks_handles asked.now) }
+    requires { form_asked asked.now ≡ forms.Names }
     ensures { HandsOutOnHandle (ReadsBytes facts asked.now)
         handle.old handle.new buffer.old buffer.new length.new result }
 {
@@ -114,11 +116,11 @@ pub extern "C" fn geosvm_gettype(
 ) -> i32
     ensures { NumberOnHandle (commands.HeapType (vm block)) heap_type.new handle.old handle.new result }
 {
-    word(
+    *heap_type = 0;
+    answer!(
         handle,
         alloc,
-        &Command::HeapType(VmHandle(block)),
-        heap_type,
+        |session| look_ups::heap_type(session, VmHandle(block), heap_type)
     )
 }
 

@@ -1,21 +1,14 @@
 use Rattle.std.proofs.Common.{rules}
-use Rattle.geos_model.specs.Reply.{BytesAre, reply_by}
+use Rattle.geos_model.specs.Forms as forms
+use Rattle.geos_model.specs.Reply.{reply_by, reply_of}
+use Rattle.geos_c.proofs.LookUps.{is_seen, seen_as, told_form}
 use Rattle.geos_c.proofs.look_ups.bytes.Goals as goal
 
-pub returns-in-ReadRaw : goal.returns-in-ReadRaw
-returns-in-ReadRaw g c = rw c.in-ReadRaw.is (reply_by (λ bytes. BytesAre bytes.now) c.read_raw.result, c.read_raw.follows.holds-at-none, search rules)
+pub unwrap-look_up-requires : goal.unwrap-look_up-requires
+unwrap-look_up-requires g c = is_seen c.args.asked.now c.look_up.result c.look_up.ensures forms.Bytes c.requires (λ is. cc is)
 
-pub returns-in-Read : goal.returns-in-Read
-returns-in-Read g c = rw c.in-Read.is (reply_by (λ bytes. BytesAre bytes.now) c.read_chunk.result, c.read_chunk.follows.holds-at-none, search rules)
+pub tell_bytes-requires : goal.tell_bytes-requires
+tell_bytes-requires g c = told_form c.args.asked.now c.look_up.result c.look_up.ensures forms.Bytes c.requires c.unwrap-look_up.result c.unwrap-look_up.ensures _ c.look_up-2.ensures.form
 
-pub returns-in-ArrayElement : goal.returns-in-ArrayElement
-returns-in-ArrayElement g c = rw c.in-ArrayElement.is (reply_by (λ bytes. BytesAre bytes.now) c.array_element.result, c.array_element.follows.holds-at-none, search rules)
-
-pub returns-in-ElementBytes : goal.returns-in-ElementBytes
-returns-in-ElementBytes g c = rw c.in-ElementBytes.is (reply_by (λ bytes. BytesAre bytes.now) c.element_bytes.result, c.element_bytes.follows.holds-at-none, search rules)
-
-pub returns-in-NameText : goal.returns-in-NameText
-returns-in-NameText g c = rw c.in-NameText.is (reply_by (λ bytes. BytesAre bytes.now) c.name_text.result, c.name_text.follows.holds-at-none, search rules)
-
-pub returns-in-NamePart : goal.returns-in-NamePart
-returns-in-NamePart g c = rw c.in-NamePart.is (reply_by (λ bytes. BytesAre bytes.now) c.name_part.result, c.name_part.follows.holds-at-none, search rules)
+pub returns : goal.returns
+returns g c = (c.unwrap-look_up.result, seen_as c.args.asked.now c.look_up.result c.look_up.ensures c.unwrap-look_up.result c.unwrap-look_up.ensures, reply_by reply_of c.look_up-2.result, c.look_up-2.follows.holds-at-none, search rules)

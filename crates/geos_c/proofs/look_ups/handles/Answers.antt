@@ -1,13 +1,14 @@
-use Rattle.std.proofs.Common.{refl, rules}
-use Rattle.geos_model.specs.Reply.{blocks_are, chunks_are, reply_by}
+use Rattle.std.proofs.Common.{rules}
+use Rattle.geos_model.specs.Forms as forms
+use Rattle.geos_model.specs.Reply.{reply_by, reply_of}
+use Rattle.geos_c.proofs.LookUps.{is_seen, seen_as, told_form}
 use Rattle.geos_c.proofs.look_ups.handles.Goals as goal
 
-pub returns-in-List : goal.returns-in-List
-returns-in-List g c = rw c.in-List.is (reply_by (λ handles. blocks_are handles.items) c.list.result, (c.list.ensures, refl), search rules)
+pub unwrap-look_up-requires : goal.unwrap-look_up-requires
+unwrap-look_up-requires g c = is_seen c.args.asked.now c.look_up.result c.look_up.ensures forms.Names c.requires (λ is. cc is)
 
-pub returns-in-Chunks : goal.returns-in-Chunks
-returns-in-Chunks g c = rw c.in-Chunks.is (reply_by (λ handles. chunks_are handles.items) c.chunks.result, c.chunks.ensures, search rules)
+pub tell_handles-requires : goal.tell_handles-requires
+tell_handles-requires g c = told_form c.args.asked.now c.look_up.result c.look_up.ensures forms.Names c.requires c.unwrap-look_up.result c.unwrap-look_up.ensures _ c.look_up-2.ensures.form
 
-pub returns-in-Walk : goal.returns-in-Walk
-returns-in-Walk g c =
-    rw c.in-Walk.is (reply_by (λ handles. blocks_are handles.items) c.walk.result, c.walk.ensures, search rules)
+pub returns : goal.returns
+returns g c = (c.unwrap-look_up.result, seen_as c.args.asked.now c.look_up.result c.look_up.ensures c.unwrap-look_up.result c.unwrap-look_up.ensures, reply_by reply_of c.look_up-2.result, c.look_up-2.follows.holds-at-none, search rules)
