@@ -174,11 +174,13 @@ each_of() {
 
 echo "-- each request: the replies to the first lines and the document that these lead to, or all but of the line that is refused"
 total=0
-for name in first_path chunk_edits arrays chains contents locks small_document files_made; do
+for name in first_path chunk_edits arrays chains contents joined_steps locks small_document files_made; do
     each_of "$data/$name" --new ""
 done
 "$geosvm" --new saved <"$data/files_made.script" >replies
 each_of "$data/files_opened" "" saved
+"$geosvm" --new letter <"$data/tutorial_letter.script" >replies
+each_of "$data/tutorial_letter_opened" "--undo 2" letter
 
 # The cases, each opening as a script with its replies: `case_3.0` is that of the new file, and `case_3.1` of the file that it leaves. In
 # `case_3.options` is how the first is run, in `case_3.files` on which file each other one is.

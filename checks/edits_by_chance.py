@@ -1,11 +1,12 @@
 # Needs: python3
-"""Makes edits, groups, undos, redos, abandons and commits as they come, the same each time, and compares the document with those that are
-kept here: the one before each step, the one before the group that is open, and those that were committed.
+"""Makes edits, groups, undos, redos, joins, forgets, abandons and commits as they come, the same each time, and compares the document with
+those that are kept here: the one before each step, the one before the group that is open, and those that were committed.
 
     python3 checks/edits_by_chance.py GEOSVM [COUNT]
 
 A step is refused as docs/SCRIPT.md says, and a refused one changes nothing. It is done COUNT times, each time with other steps, with 1, 2
-and 8 frames. At the end the file is opened again, and has what was committed last, whether a group was open or not.
+and 8 frames, and in half of the runs with a limit of steps. Whether it is saved is asked behind each step. At the end the file is opened
+again, and has what was committed last, whether a group was open or not.
 """
 import os
 import random
@@ -46,8 +47,8 @@ class Program:
         assert self.process.wait(60) == 0 and self.process.stdout.read() == "", "a run ends otherwise"
 
     def document(self):
-        """All that there is of it, and how much can be undone and made again."""
-        listed, mapped, undos, redos = self.ask(["list", "mapblock", "undos", "redos"])
+        """All that there is of it, how much can be undone and made again, and whether it is as it was committed."""
+        listed, mapped, undos, redos, modified = self.ask(["list", "mapblock", "undos", "redos", "modified"])
         blocks = listed.split()[1:]
         shown = [listed, mapped]
         infos = self.ask([f"info {block}" for block in blocks])
@@ -57,7 +58,7 @@ class Program:
         chunks = self.ask([f"chunks {block}" for block in heaps])
         shown += chunks
         shown += self.ask([f"read {block} {chunk}" for block, told in zip(heaps, chunks) for chunk in told.split()[1:]])
-        return shown, int(undos.split()[1]), int(redos.split()[1])
+        return shown, int(undos.split()[1]), int(redos.split()[1]), int(modified.split()[1])
 
 
 class Chance(random.Random):
@@ -112,95 +113,148 @@ class Chance(random.Random):
     def step(self):
         edit = self.choice([self.edit_of_blocks, self.edit_of_bytes, self.edit_of_arrays, self.edit_of_elements])()
         commit = self.choice(["revert"] + ["update"] * 3 + ["save"] * 4)
-        return self.choice(["begin"] * 3 + ["end"] * 2 + ["abandon"] + ["undo"] * 3 + ["redo"] * 2 + [commit] + [edit] * 12)
+        forget = f"forget {self.choice([0, 1, 2, 4, 8, 12, 16, 20])}"
+        turns = ["undo"] * 3 + ["redo"] * 2 + ["join"] * 2 + [forget]
+        return self.choice(["begin"] * 3 + ["end"] * 2 + ["abandon"] + turns + [commit] + [edit] * 12)
+
+
+class State:
+    """A document as a step left it. That of another step is another state, also where the documents are equal."""
+
+    def __init__(self, document):
+        self.document = document
 
 
 class Kept:
-    """The documents that there must be."""
+    """The documents that there must be. One that no undo and no redo leads to is in no list any more, so that it never comes to be now."""
 
-    def __init__(self, document):
-        self.now = self.updated = self.saved = document
-        self.past, self.future, self.group, self.has_edit = [], [], None, False
-        self.groups = self.abandons = self.turns = 0
+    def __init__(self, document, limit):
+        self.now = self.updated = self.saved = State(document)
+        self.past, self.future, self.group, self.has_edit, self.limit = [], [], None, False, limit
+        # Whether the file has one directory for both documents.
+        self.is_one = True
+        self.groups = self.abandons = self.turns = self.joins = self.forgets = self.stars = 0
 
     def fault(self, step):
         if step in ("end", "abandon"):
             return "no 29 NoGroup" if self.group is None else None
-        if step not in ("begin", "undo", "redo", "update", "save", "revert"):
+        if step not in ("begin", "undo", "redo", "join", "update", "save", "revert"):
             return None
         if self.group is not None:
             return "no 28 GroupOpen"
-        if step == "undo" and not self.past:
+        if step == "undo" and not self.past or step == "join" and len(self.past) < 2:
             return "no 22 NothingToUndo"
         return "no 23 NothingToRedo" if step == "redo" and not self.future else None
+
+    def modified(self):
+        """Which of the committed states this one is."""
+        stands = not (self.group and self.has_edit)
+        return stands * ((self.now is self.saved) + 2 * (self.now is self.updated))
+
+    def forget(self, most):
+        self.past = self.past[max(0, len(self.past) - most):]
+
+    def step_from(self, state):
+        self.past.append(state)
+        if self.limit:
+            self.forget(self.limit)
+
+    def turn(self, undone, made):
+        made.append(self.now)
+        self.now = undone.pop()
+        self.turns += 1
+
+    def close_group(self, step):
+        if step == "abandon":
+            self.now = self.group
+            self.abandons += self.has_edit
+        elif self.has_edit:
+            self.step_from(self.group)
+            self.groups += 1
+        self.group = None
+
+    def commit(self, step):
+        if step == "revert":
+            self.now = self.saved
+            self.past, self.future = [], []
+        elif step == "save":
+            self.saved = self.now
+        self.updated = self.now
+        self.is_one = step != "update"
+
+    def edit(self, document):
+        self.future, self.has_edit = [], True
+        if self.group is None:
+            self.step_from(self.now)
+        self.now = State(document)
 
     def accept(self, step, document):
         if step == "begin":
             self.group, self.has_edit = self.now, False
-        elif step == "end":
-            if self.has_edit:
-                self.past.append(self.group)
-                self.groups += 1
-            self.group = None
-        elif step == "abandon":
-            self.now, self.group = self.group, None
-            self.abandons += self.has_edit
+        elif step in ("end", "abandon"):
+            self.close_group(step)
         elif step == "undo":
-            self.future.append(self.now)
-            self.now = self.past.pop()
-            self.turns += 1
+            self.turn(self.past, self.future)
         elif step == "redo":
-            self.past.append(self.now)
-            self.now = self.future.pop()
-            self.turns += 1
-        elif step == "update":
-            self.updated = self.now
-        elif step == "save":
-            self.updated = self.saved = self.now
-        elif step == "revert":
-            self.now = self.updated = self.saved
-            self.past, self.future = [], []
+            self.turn(self.future, self.past)
+        elif step == "join":
+            # The document between the two steps.
+            self.past.pop()
+            self.joins += 1
+        elif step.startswith("forget "):
+            before = len(self.past)
+            self.forget(int(step.split()[1]))
+            self.forgets += len(self.past) < before
+        elif step in ("update", "save", "revert"):
+            self.commit(step)
         else:
-            self.future, self.has_edit = [], True
-            if self.group is None:
-                self.past.append(self.now)
-            self.now = document
+            self.edit(document)
+        self.stars += self.modified() in (1, 2)
+
+    def tally(self):
+        return [self.groups, self.abandons, self.turns, self.joins, self.forgets, self.stars]
 
 
 def take(program, kept, step):
     [reply] = program.ask([step])
-    document, undos, redos = program.document()
+    document, undos, redos, modified = program.document()
     fault = kept.fault(step)
     if fault:
         assert reply == fault, f"{step}: wanted {fault}, got {reply}"
     elif not reply.startswith("no "):
         kept.accept(step, document)
     else:
-        assert " " in step and reply not in ("no 1 Memory", "no 2 File"), f"{step}: {reply}"
-    assert document == kept.now, f"another document behind {step}"
+        refusable = " " in step and not step.startswith("forget ")
+        assert refusable and reply not in ("no 1 Memory", "no 2 File"), f"{step}: {reply}"
+    assert document == kept.now.document, f"another document behind {step}"
     assert (undos, redos) == (len(kept.past), len(kept.future)), f"something else can be undone or redone behind {step}"
+    assert modified == kept.modified(), f"modified is {modified} and not {kept.modified()} behind {step}"
 
 
 def go(geosvm, path, frames, seed):
     chance = Chance(seed)
-    with Program([geosvm, "--new", "--cache", str(frames), path]) as program:
-        kept = Kept(program.document()[0])
+    limit = [None, 1, None, 2, None, 7][seed % 6]
+    with Program([geosvm, "--new", "--cache", str(frames), *(["--undo", str(limit)] if limit else []), path]) as program:
+        kept = Kept(program.document()[0], limit)
         for step in FIRST + [chance.step() for _ in range(STEPS)]:
             take(program, kept, step)
         program.end()
     with Program([geosvm, path]) as program:
-        assert program.document()[0] == kept.updated, "another updated document"
+        document, undos, redos, modified = program.document()
+        assert document == kept.updated.document, "another updated document"
+        assert (undos, redos, modified) == (0, 0, 3 if kept.is_one else 2), "something else is said of a file that was opened"
         program.ask(["revert"])
-        assert program.document()[0] == kept.saved, "another saved document"
+        document, _, _, modified = program.document()
+        assert (document, modified) == (kept.saved.document, 3), "another saved document"
         program.end()
-    return kept.groups, kept.abandons, kept.turns
+    return kept.tally()
 
 
 def main():
     geosvm = os.path.abspath(sys.argv[1])
     count = int(sys.argv[2]) if len(sys.argv) > 2 else 20
     passed = failed = 0
-    tally = [0, 0, 0]
+    tally = [0] * 6
     with tempfile.TemporaryDirectory() as folder:
         for frames in (1, 2, 8):
             for seed in range(count):
@@ -210,9 +264,11 @@ def main():
                 except AssertionError as wrong:
                     failed += 1
                     print(f"FAILED  {frames} frames, the steps of {seed}: {wrong}")
-    print(f"        {tally[0]} groups, {tally[1]} that were abandoned, {tally[2]} undos and redos")
+    groups, abandons, turns, joins, forgets, stars = tally
+    print(f"        {groups} groups, {abandons} that were abandoned, {turns} undos and redos, {joins} joins, {forgets} times something was "
+          f"forgotten; {stars} times saved and not updated, or the reverse")
     # They aren't a few.
-    often = tally[0] > 3 * count and tally[1] > count and tally[2] > 12 * count
+    often = abandons > count and turns > 12 * count and min(groups, joins, forgets, stars) > 2 * count
     print(f"{passed + often} passed, {failed + (not often)} failed")
     sys.exit(failed != 0 or not often)
 

@@ -18,13 +18,17 @@ EXAMPLES = [
     ["chains"],
     ["contents"],
     ["groups"],
+    ["joined_steps"],
     ["locks"],
     ["files_made", "files_opened"],
     ["small_document"],
     ["tutorial_book", "tutorial_book_opened"],
     ["tutorial_drawing"],
     ["tutorial_table", "tutorial_table_opened", "tutorial_table_copied"],
+    ["tutorial_letter", "tutorial_letter_opened"],
 ]
+# What some are run with besides.
+OPTIONS = {"tutorial_letter_opened": ["--undo", "2"]}
 
 
 def text_of(name, kind):
@@ -47,8 +51,8 @@ def play(geosvm, names, frames, folder):
     for number, name in enumerate(names):
         copy = os.path.join(folder, f"copy{number}")
         words = ["--new", document] if number == 0 else ["--as", copy, document]
-        cache = [] if frames == 8 else ["--cache", str(frames)]
-        ran = subprocess.run([geosvm, *cache, *words], input=text_of(name, "script"), capture_output=True, check=False)
+        options = OPTIONS.get(name, []) + ([] if frames == 8 else ["--cache", str(frames)])
+        ran = subprocess.run([geosvm, *options, *words], input=text_of(name, "script"), capture_output=True, check=False)
         wanted = text_of(name, "replies")
         if ran.returncode != 0 or ran.stdout != wanted:
             print(f"{name}, {frames} frames: status {ran.returncode}; {first_difference(wanted, ran.stdout)}; {ran.stderr.decode()}")

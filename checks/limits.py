@@ -5,6 +5,7 @@
 
 Each commit waits for the disk, so there are fewer of them but for `--long`.
 """
+import itertools
 import json
 import os
 import subprocess
@@ -15,6 +16,9 @@ import time
 COMMITS = 10_000 if "--long" in sys.argv else 2_000
 STEPS = 327_520
 GROUP = 20_000
+LIMITED = 3_000_000 if "--long" in sys.argv else 100_000
+LIMIT = 1000
+JOINED = 100_000
 BLOCKS = 660
 BLOCK_BYTES = 65_520
 READS = 80
@@ -80,6 +84,70 @@ def many_steps(geosvm, geosdoc, path):
     script.ask("list", "blocks")
     script.run(geosvm, "--new", path)
     return f"{STEPS + 1} steps undone"
+
+
+def steps_within_limit(count):
+    """The lines of so many steps, of which the newest are kept, and their replies: all of these are undone and made again."""
+    yield "newraw 7 32", "block 0001"
+    for number in range(1, count + 1):
+        if number % 10 == 0:
+            yield from [("begin", "ok"), (f"vwrite 0001 0 {word(0) * 8}", "ok")]
+        yield f"vwrite 0001 0 {word(number) * 8}", "ok"
+        if number % 10 == 0:
+            yield "end", "ok"
+    yield "undos", f"number {LIMIT}"
+    for number in range(count - 1, count - 1 - LIMIT, -1):
+        yield from [("undo", "ok"), ("vread 0001", f"bytes {word(number) * 8}")]
+    yield from [("undo", "no 22 NothingToUndo"), ("redos", f"number {LIMIT}")]
+    yield from [("redo", "ok")] * LIMIT
+    yield "vread 0001", f"bytes {word(count) * 8}"
+
+
+def most_memory(geosvm, path, count):
+    """The kB that a run of so many steps had at most."""
+    with open(path + ".script", "w", encoding="ascii") as file:
+        file.writelines(line + "\n" for line, _ in steps_within_limit(count))
+    with open(path + ".script", encoding="ascii") as file, open(path + ".replies", "w", encoding="ascii") as replies:
+        started = subprocess.Popen([geosvm, "--new", "--undo", str(LIMIT), path], stdin=file, stdout=replies)
+        _, status, usage = os.wait4(started.pid, 0)
+        started.returncode = os.waitstatus_to_exitcode(status)
+    assert started.returncode == 0, started.returncode
+    with open(path + ".replies", encoding="ascii") as replies:
+        for got, (line, wanted) in itertools.zip_longest(replies, steps_within_limit(count), fillvalue=("none", "none")):
+            assert got == wanted + "\n", f"{line[:60]} is answered {got[:60]} and not {wanted[:60]}"
+    return usage.ru_maxrss
+
+
+def limited_steps(geosvm, geosdoc, path):
+    """Of any number of steps no more are kept than the limit says, and they take no more memory than a few more do."""
+    few, many = most_memory(geosvm, path, 3 * LIMIT), most_memory(geosvm, path, LIMITED)
+    # Each step has 64 bytes of content, before and behind, beside its entry: 100,000 of them take 12,000 kB.
+    assert many < few + 2000, f"{many} kB, and {few} for {3 * LIMIT} steps"
+    return f"{LIMITED} steps of which {LIMIT} are kept, in {many} kB, and {3 * LIMIT} in {few}"
+
+
+def joined_steps(geosvm, geosdoc, path):
+    """Edits that are joined to the step before, each when it comes, so that they are one step."""
+    script = Script()
+    script.ask("newraw 7 4", "block 0001")
+    script.ask("newheap 7", "block 0002")
+    script.ask("alloc 0002 4", "chunk 0010")
+    for number in range(1, JOINED // 2 + 1):
+        script.ask(f"vwrite 0001 0 {word(number)}")
+        if number > 1:
+            script.ask("join")
+        script.ask(f"write 0002 0010 0 {word(number)}")
+        script.ask("join")
+    script.ask("undos", "number 4")
+    for turn, value in (("undo", 0), ("redo", JOINED // 2), ("join", JOINED // 2), ("undo", None), ("redo", JOINED // 2)):
+        script.ask(turn)
+        script.ask("vread 0001", f"bytes {word(value or 0)}")
+        script.ask("read 0002 0010", "no 6 NoChunk" if value is None else f"bytes {word(value)}")
+    began = time.monotonic()
+    script.run(geosvm, "--new", path)
+    # A join that went over the older step again would take the square of that.
+    assert time.monotonic() - began < 60, f"{time.monotonic() - began:.0f} s for {JOINED} joins"
+    return f"{JOINED} edits in one step"
 
 
 def large_groups(geosvm, geosdoc, path):
@@ -162,7 +230,7 @@ def long_replies(geosvm, geosdoc, path):
     return f"{sum(map(len, script.replies))} bytes of replies to one read"
 
 
-TRIED = {it.__name__: it for it in (many_commits, many_steps, large_groups, large_file, long_replies)}
+TRIED = {it.__name__: it for it in (many_commits, many_steps, limited_steps, joined_steps, large_groups, large_file, long_replies)}
 
 
 def main():

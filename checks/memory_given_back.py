@@ -19,6 +19,9 @@ ROUNDS = [
     ("a full heap is copied and the copy undone", FULL_HEAP, ["vcopy 0001", "undo"], "list", "blocks 0001"),
     ("a chunk grows to the greatest size and back", ["newheap 0", "alloc 0001 0"], ["insert 0001 0010 0 65498", "undo"], "info 0001",
      "heap 0 20"),
+    ("a full heap is made, freed and forgotten", [], FULL_HEAP + ["vfree 0001", "forget 0"], "undos", "number 0"),
+    ("one is made and freed in one step, undone, made again and forgotten", [],
+     FULL_HEAP + ["vfree 0001", "join", "join", "undo", "redo", "forget 0"], "undos", "number 0"),
 ]
 # In kB. A round that keeps a block adds 64 to it.
 MORE = 16000

@@ -116,12 +116,15 @@ if [ -n "$program" ]; then
     drawing=$folder/drawing.document
     table=$folder/table.document
     copy=$folder/copy.document
+    letter=$folder/letter.document
     run tutorial_book --new "$book"
     run tutorial_book_opened "$book"
     run tutorial_drawing --new "$drawing"
     run tutorial_table --new "$table"
     run tutorial_table_opened --as "$copy" "$table"
     run tutorial_table_copied "$copy"
+    run tutorial_letter --new "$letter"
+    run tutorial_letter_opened --undo 2 "$letter"
     told "the table is the saved one again" "bytes 6e61696c0a000000 blocks 0001 0002" \
         "$(printf 'aget 0002 0010 0\nlist\n' | "$program" "$table" | tr '\n' ' ' | sed 's/ $//')"
     told "a file that isn't there" "geosvm: open 2 File" "$("$program" "$folder/missing" </dev/null 2>&1)"
@@ -135,7 +138,7 @@ if [ -n "$program" ]; then
     awk '/^writes this, and ends with status 1:$/ { found = 1 } found && $0 == "```" { if (on) exit; on = 1; next } on' docs/SCRIPT.md >"$folder/wanted"
     same "it writes what SCRIPT.md shows"
     if there file; then
-        for made in "$book" "$drawing" "$table" "$copy"; do
+        for made in "$book" "$drawing" "$table" "$copy" "$letter"; do
             told "${made##*/} is a document" "GEOS VM document" "$(file -b -m "$magic" "$made" | cut -d , -f 1)"
         done
     fi

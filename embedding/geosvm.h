@@ -141,9 +141,17 @@ int32_t geosvm_command(geosvm_session *s, const uint8_t *line, size_t size, uint
 ** CAPI: Undo and redo
 **
 ** geosvm_undo takes back the newest step, an edit or a group of edits, and geosvm_redo makes it again.
+**
+** geosvm_join makes the newest two steps to be undone one, as letters that are typed are a word; GEOSVM_NOTHING_TO_UNDO where there are
+** fewer than two, GEOSVM_GROUP_OPEN, or GEOSVM_MEMORY. geosvm_forget keeps the newest `most` of them, and gives the memory of the others
+** back. geosvm_limit_undo has that done behind each step that comes, from 1 on; with 0 all are kept, as in a session that has just begun.
+** What can be redone stays in each case. The last two are never refused, and none of the three calls a function on files.
 */
 int32_t geosvm_undo(geosvm_session *s);
 int32_t geosvm_redo(geosvm_session *s);
+int32_t geosvm_join(geosvm_session *s);
+int32_t geosvm_forget(geosvm_session *s, uint32_t most);
+int32_t geosvm_limit_undo(geosvm_session *s, uint32_t most);
 
 /*
 ** CAPI: Groups
@@ -188,8 +196,8 @@ int32_t geosvm_save_as(geosvm_session *s, int32_t number);
 **   - geosvm_close.
 **
 ** A command by geosvm_command that does the same ends it likewise. All other calls leave the bytes as they are, and where they are:
-** look-ups, edits of other blocks, other locks, geosvm_dirty, begin and end, and what is refused, as undo, redo, abandon and commits are
-** while any block is locked.
+** look-ups, edits of other blocks, other locks, geosvm_dirty, begin, end, join and forget, and what is refused, as undo, redo, abandon
+** and commits are while any block is locked.
 */
 int32_t geosvm_lock(geosvm_session *s, uint16_t block);
 int32_t geosvm_unlock(geosvm_session *s, uint16_t block);
@@ -374,9 +382,15 @@ int32_t geosvm_chequal(geosvm_session *s, uint16_t block, uint16_t other, uint8_
 ** CAPI: Steps
 **
 ** How many steps can be undone, and redone. The open group is none yet.
+**
+** geosvm_modified tells whether the document is as it was saved, GEOSVM_AS_SAVED, and as it was updated, GEOSVM_AS_UPDATED: *modified
+** becomes the sum of what is so, 0 to 3. It goes by steps, and compares nothing; docs/SCRIPT.md has it under "Files". It takes no memory.
 */
+#define GEOSVM_AS_SAVED   1
+#define GEOSVM_AS_UPDATED 2
 int32_t geosvm_undos(geosvm_session *s, size_t *count);
 int32_t geosvm_redos(geosvm_session *s, size_t *count);
+int32_t geosvm_modified(geosvm_session *s, size_t *modified);
 
 /*
 ** CAPI: Files of the program's own

@@ -333,6 +333,65 @@ static void named_chains(geosvm_session *s) {
   printf("%zu blocks\n", n);
 }
 
+/* Steps that are joined, forgotten and limited, and whether the document is as it was saved and as it was updated. */
+static void steps(void) {
+  geosvm_session s = GEOSVM_CLOSED, closed = GEOSVM_CLOSED;
+  int fd = file("steps.document");
+  uint16_t block = 77;
+  size_t n = 77;
+  puts("-- steps");
+  TELL(geosvm_create(&s, fd, 8));
+  GIVES(geosvm_modified(&s, &n), n);
+  GIVES(geosvm_newraw(&s, 1, 4, &block), block);
+  TELL(geosvm_join(&s));
+  TELL(geosvm_save(&s));
+  TELL(geosvm_vwrite(&s, 1, 0, TEXT("a")));
+  GIVES(geosvm_modified(&s, &n), n);
+  TELL(geosvm_update(&s));
+  GIVES(geosvm_modified(&s, &n), n);
+  TELL(geosvm_undo(&s));
+  GIVES(geosvm_modified(&s, &n), n);
+  TELL(geosvm_redo(&s));
+  TELL(geosvm_vwrite(&s, 1, 1, TEXT("b")));
+  TELL(geosvm_vwrite(&s, 1, 2, TEXT("c")));
+  TELL(geosvm_join(&s));
+  GIVES(geosvm_undos(&s, &n), n);
+  TELL(geosvm_undo(&s));
+  show(&s, "vread 0001");
+  GIVES(geosvm_modified(&s, &n), n);
+  TELL(geosvm_redo(&s));
+  show(&s, "vread 0001");
+  TELL(geosvm_join(&s));
+  TELL(geosvm_undo(&s));
+  show(&s, "vread 0001");
+  GIVES(geosvm_modified(&s, &n), n);
+  TELL(geosvm_redo(&s));
+  GIVES(geosvm_modified(&s, &n), n);
+  TELL(geosvm_begin(&s));
+  TELL(geosvm_join(&s));
+  TELL(geosvm_forget(&s, 1));
+  TELL(geosvm_abandon(&s));
+  GIVES(geosvm_undos(&s, &n), n);
+  TELL(geosvm_forget(&s, 0));
+  TELL(geosvm_undo(&s));
+  TELL(geosvm_limit_undo(&s, 2));
+  for (int i = 0; i < 3; i++) TELL(geosvm_vwrite(&s, 1, 3, TEXT("d")));
+  GIVES(geosvm_undos(&s, &n), n);
+  TELL(geosvm_limit_undo(&s, 0));
+  TELL(geosvm_vwrite(&s, 1, 3, TEXT("e")));
+  GIVES(geosvm_undos(&s, &n), n);
+  TELL(geosvm_close(&s));
+  TELL(geosvm_open(&s, fd, 8));
+  show(&s, "vread 0001");
+  GIVES(geosvm_modified(&s, &n), n);
+  TELL(geosvm_close(&s));
+  TELL(geosvm_join(&closed));
+  TELL(geosvm_forget(&closed, 1));
+  TELL(geosvm_limit_undo(&closed, 1));
+  GIVES(geosvm_modified(&closed, &n), n);
+  close(fd);
+}
+
 /* The longest reply is that of a whole raw block. */
 static void longest(geosvm_session *s) {
   static uint8_t reply[GEOSVM_REPLY_MOST];
@@ -394,6 +453,7 @@ int main(void) {
   named_blocks(&s);
   named_arrays(&s);
   named_chains(&s);
+  steps();
   pthread_t thread[4];
   long bad = 0;
   void *result;

@@ -1,1 +1,2 @@
 pub mod Keepings
+pub mod Openings

@@ -1,33 +1,41 @@
 -- How a session is begun that is kept, and how it moves into another file of the program's.
-use Rattle.std.specs.Prelude.{◌≡◌, ◌≢◌, ◌⊎◌, ◌||◌, ℕ, ℤ, true, false, IsTrue, Some, Result, Ok, IfOk, MatchResult}
+use Rattle.std.specs.Prelude.{◌≡◌, ◌≢◌, ◌⊎◌, ◌||◌, ℕ, ℤ, Bool, true, false, IsTrue, Some, Result, Ok, IfOk, MatchResult}
 use Rattle.geos_model.specs.Machine.{Step}
 use Rattle.geos_model.specs.Reply.{Accepted, Refused}
 use Rattle.geos_model.specs.declared.command.Command.TheVariants as commands
 use Rattle.geos_model.specs.declared.fault.Fault.{Fault}
 use Rattle.vm_store.specs.Facts.{StoreFacts}
+use Rattle.vm_file.specs.Documents.{has_one_directory}
 use Rattle.vm_blocks.specs.SavingAs.{IsSavedAs}
 use Rattle.vm_blocks.specs.Opening.{IsOpenedFrom, IsNotOpened, IsMadeIn, IsNotMade}
 use Rattle.undo_log.specs.Committing.{IsBusy, IsSaveAsRefused}
-use Rattle.undo_log.specs.Logging.{empty_log}
+use Rattle.undo_log.specs.Logging.{Log, fresh_log, saved_log}
 use Rattle.undo_log.specs.Sessions.{SessionState, IsExact, failed_since, file_of, machine_of}
 use Rattle.c_sessions.specs.Codes.{ReportsAnswer, bad_argument}
 use Rattle.c_sessions.specs.Files.{BeginsOn, Begun, FileCalls, IsNotBegun, IsShut}
 use Rattle.c_sessions.specs.declared.files.FileNumber.{FileNumber}
 use Rattle.c_sessions.specs.declared.kept.Kept.{Kept}
 
+-- The log of a session that begins on a store, whose file has one directory for both documents or not: over an honest
+-- one as the bytes say.
+pub record IsFresh (facts : StoreFacts) (log : Log) : Type 0 where
+  pub one : Bool
+  pub log_is : log ≡ fresh_log one
+  pub one_is : IsTrue facts.honest → one ≡ has_one_directory facts.content
+
 -- a session on what a store has, with so many frames and nothing to undo, or why there is none
 abbrev pub IsOpening : {S : Type 0} → (S → StoreFacts) → ℕ → S → Begun S → Type 0
 IsOpening facts frames store begun =
     MatchResult begun (λ session. IsOpenedFrom facts store (file_of session))
     (λ refused. IsNotOpened facts store refused.store refused.fault)
-    × IfOk begun (λ session. (session.log ≡ empty_log) × (session.frames ≡ frames))
+    × IfOk begun (λ session. IsFresh (facts store) session.log × (session.frames ≡ frames))
 
 -- likewise one on an empty document that a store was made
 abbrev pub IsCreation : {S : Type 0} → (S → StoreFacts) → ℕ → S → Begun S → Type 0
 IsCreation facts frames store begun =
     MatchResult begun (λ session. IsMadeIn facts store (file_of session))
     (λ refused. IsNotMade facts store refused.store refused.fault)
-    × IfOk begun (λ session. (session.log ≡ empty_log) × (session.frames ≡ frames))
+    × IfOk begun (λ session. (session.log ≡ fresh_log true) × (session.frames ≡ frames))
 
 -- What is kept, or why nothing is, and what was called for that: the file with this number is opened, and its store is
 -- the session's or is closed as it was left.
@@ -43,7 +51,7 @@ pub record IsMovedTo {S : Type 0} (facts : S → StoreFacts) (target former : S)
   pub saved : IsSavedAs facts target former (file_of old) (file_of new)
   pub step : IsExact facts old → IsTrue (facts target).honest
       → IsExact facts new × Step false (machine_of true old) (Some commands.SaveAs) Accepted (machine_of false new)
-  pub lists : new.log ≡ old.log
+  pub lists : new.log ≡ saved_log old.log
   pub resident : new.resident ≡ old.resident
 
 -- one that was refused: the session stays where it is, and the target is left so

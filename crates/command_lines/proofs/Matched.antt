@@ -28,7 +28,7 @@ use Rattle.clap.specs.declared.builder.value_parser.ValueParser.{ValueParser}
 use Rattle.clap.specs.declared.builder.value_parser.ValueParser.TheVariants as parsers
 use Rattle.clap.specs.declared.parser.matches.ArgMatches.{ArgMatches}
 use Rattle.clap.specs.declared.parser.matches.MatchedArg.{MatchedArg}
-use Rattle.command_lines.specs.Options.{IsFlag, IsMatched, as_option, cache_option, file_operand, flag, geosvm}
+use Rattle.command_lines.specs.Options.{IsFlag, IsMatched, as_option, cache_option, file_operand, flag, geosvm, undo_option}
 
 -- ---- the arguments of a command with these rules
 
@@ -189,7 +189,7 @@ reads old m p plain globals k d lt unique named own q parser t is =
 -- ---- the command line's own
 
 abbrev rules : List Rule
-rules = flag (codes "new") ∷ flag (codes "bail") ∷ flag (codes "echo") ∷ cache_option ∷ as_option ∷ file_operand ∷ []
+rules = flag (codes "new") ∷ flag (codes "bail") ∷ flag (codes "echo") ∷ cache_option ∷ undo_option ∷ as_option ∷ file_operand ∷ []
 
 -- the k-th of them
 abbrev rule_at : ℕ → Rule
@@ -237,7 +237,7 @@ module _ (c : Command) (m : ArgMatches) (same : app_of c ≡ geosvm) (p : IsPars
   are : map rule_of (args_of c) ≡ rules
   are = ap (λ (a : App). a.top.rules) same
 
-  count : length (args_of c) ≡ 6
+  count : length (args_of c) ≡ 7
   count = sym (length-map (args_of c) rule_of) ∙ ap length are
 
   is_at : (k : ℕ) (d : Arg) → k < length (args_of c) → rule_of (slice_index_or (args_of c) k d) ≡ rule_at k
@@ -256,7 +256,7 @@ module _ (c : Command) (m : ArgMatches) (same : app_of c ≡ geosvm) (p : IsPars
   )
 
   -- the k-th argument has this id, which no other has
-  module _ (k : ℕ) (id : List ℕ) (low : k < 6) (own : is_own k id ≡ true) (named : (rule_at k).id ≡ id) where
+  module _ (k : ℕ) (id : List ℕ) (low : k < 7) (own : is_own k id ≡ true) (named : (rule_at k).id ≡ id) where
     lt : k < length (args_of c)
     lt = omega (arith, count, low)
 
@@ -307,7 +307,7 @@ module _ (c : Command) (m : ArgMatches) (same : app_of c ≡ geosvm) (p : IsPars
         let has = required_has_value c m p is_plain no_globals negates k arg lt (ap (λ (r : Rule). r.required) rule ∙ required) (ap (λ (r : Rule). r.action) rule ∙ action) delimiter least unique not_empty not_auto in
         subst (λ (w : List ℕ). is_some (first_value (found_of m) w) ≡ true) key has
 
-  flag_read : (k : ℕ) (id : List ℕ) → k < 6 → is_own k id ≡ true → (rule_at k).id ≡ id → (rule_at k).parser ≡ Some parsers.Bool → IsFlag (found_of m) id
+  flag_read : (k : ℕ) (id : List ℕ) → k < 7 → is_own k id ≡ true → (rule_at k).id ≡ id → (rule_at k).parser ≡ Some parsers.Bool → IsFlag (found_of m) id
   flag_read k id low own named parser t is =
       let got = read_of_own k id low own named parsers.Bool parser t is in
       rw got.1 got.2
@@ -318,5 +318,6 @@ module _ (c : Command) (m : ArgMatches) (same : app_of c ≡ geosvm) (p : IsPars
     bail = flag_read 1 (codes "bail") (omega arith) refl refl refl;
     echo = flag_read 2 (codes "echo") (omega arith) refl refl refl;
     number = read_of_own 3 (codes "cache") (omega arith) refl refl (parsers.Signed (pos 1) (pos 64)) refl;
-    file = has_value 5 (codes "file") (omega arith) refl refl refl refl refl refl;
+    limit = read_of_own 4 (codes "undo") (omega arith) refl refl (parsers.Signed (pos 1) (pos 4294967295)) refl;
+    file = has_value 6 (codes "file") (omega arith) refl refl refl refl refl refl;
   }

@@ -210,7 +210,7 @@ abbrev rules : List Rule
 rules = (built geosvm).top.rules
 
 others : Others (drop 1 rules)
-others = (refl, (refl, (refl, (refl, (refl, (refl, (refl, tt)))))))
+others = (refl, (refl, (refl, (refl, (refl, (refl, (refl, (refl, tt))))))))
 
 short_other : (x : ℕ) (a : Rule) → arg_by_short rules x ≡ Some a → is_new a.id ≡ false
 short_other x a e = found_other (λ (b : Rule). not (is_some b.index) && has_short b x) (drop 1 rules) a others e

@@ -1,7 +1,7 @@
 -- What the options tell of a match, and what an error of one comes to.
 use Rattle.std.proofs.Common.{◌||◌, ◌≡◌, ◌∙◌, ◌≤◌, ap, ℕ, Bool, true, false, List, [], Option, Some, None, Result, Ok, refl, sym, subst, inl, inr, arith, codes, pos}
 use Rattle.std.specs.Option.{option_eq, option_map, option_map_or, unwrap_or}
-use Rattle.std.specs.Prelude.{◌⊎◌}
+use Rattle.std.specs.Prelude.{◌⊎◌, IfSome}
 use Rattle.std.specs.Borrow.{Bor}
 use Rattle.std.specs.Str.{bytes_eq}
 use Rattle.std.specs.Str.Parse.{ParsesUnsigned}
@@ -17,7 +17,7 @@ use Rattle.clap.specs.declared.error.kind.ErrorKind.TheVariants.{DisplayHelp, Di
 use Rattle.clap.specs.declared.parser.matches.Found.{Found}
 use Rattle.clap.proofs.CallerReads.{signed_reads}
 use Rattle.clap.proofs.WalkLemmas.{first_value-rows, one_text-rows}
-use Rattle.command_lines.specs.Options.{CommandLine, IsFlag, IsMatched, RefusesWords, TurnsInto, command_line, geosvm, has_flag, read_number, said}
+use Rattle.command_lines.specs.Options.{CommandLine, IsFlag, IsLimit, IsMatched, RefusesWords, TurnsInto, command_line, geosvm, has_flag, read_number, said}
 use Rattle.command_lines.specs.declared.asked.NoOptions.{NoOptions}
 use Rattle.command_lines.specs.declared.asked.NoOptions.TheVariants as no_options
 
@@ -44,17 +44,17 @@ pub flag_told : (f : Found) (name : Text) (b : Bool) → IsFlag f name → (one_
     → b ≡ has_flag name (rows_of f)
 flag_told f name b h none on off = flag_at _ b h none on off ∙ ap is_set (one_text-rows f name)
 
--- the number, as its getter reads it
+-- the number of frames, as its getter reads it
 pub record IsFrames (o : Option Text) (n : ℕ) : Type 0 where
   pub is : n ≡ number_in o
   pub low : 1 ≤ n
   pub high : n ≤ 64
 
-number_at : {E : Type 0} (G : Text → Result ℕ E → Type 0) (only : (u : Text) (x : Result ℕ E) → G u x → ParsesUnsigned 8 10 u x)
+frames_at : {E : Type 0} (G : Text → Result ℕ E → Type 0) (only : (u : Text) (x : Result ℕ E) → G u x → ParsesUnsigned 8 10 u x)
     (o : Option Text) (r : Option ℕ) → ((t : Text) → o ≡ Some t → (raw : Text) × (t ≡ without_minus raw) × IsSignedIn (pos 1) (pos 64) raw)
     → (o ≡ None → r ≡ None) → ((t : Text) → o ≡ Some t → ReadsOne G t r) → IsFrames o (unwrap_or r 8)
-number_at G only None r test none some = rw (none refl) (record { is = refl; low = omega arith; high = omega arith })
-number_at {E} G only (Some t) r test none some =
+frames_at G only None r test none some = rw (none refl) (record { is = refl; low = omega arith; high = omega arith })
+frames_at {E} G only (Some t) r test none some =
     let raw = test t refl in
     let got = signed_reads E G 8 1 64 raw.0 r (subst (λ (u : Text). ReadsOne G u r) raw.1 (some t refl)) only (omega arith) raw.2 in
     let read : ReadsOne G t (Some got.0) = subst (λ (x : Option ℕ). ReadsOne G t x) got.1 (some t refl) in
@@ -63,23 +63,46 @@ number_at {E} G only (Some t) r test none some =
     let high : got.0 ≤ 64 = got.3 in
     rw got.1 (record { is = value; low = low; high = high })
 
-pub number_told : {E : Type 0} (G : Text → Result ℕ E → Type 0) (only : (u : Text) (x : Result ℕ E) → G u x → ParsesUnsigned 8 10 u x)
+pub frames_told : {E : Type 0} (G : Text → Result ℕ E → Type 0) (only : (u : Text) (x : Result ℕ E) → G u x → ParsesUnsigned 8 10 u x)
     (f : Found) (r : Option ℕ) → IsMatched f → (one_text f (codes "cache") ≡ None → r ≡ None)
     → ((t : Text) → one_text f (codes "cache") ≡ Some t → ReadsOne G t r)
     → IsFrames (one_of (codes "cache") (rows_of f)) (unwrap_or r 8)
-number_told G only f r h none some =
-    subst (λ (o : Option Text). IsFrames o (unwrap_or r 8)) (one_text-rows f (codes "cache")) (number_at G only _ r h.number none some)
+frames_told G only f r h none some =
+    subst (λ (o : Option Text). IsFrames o (unwrap_or r 8)) (one_text-rows f (codes "cache")) (frames_at G only _ r h.number none some)
+
+-- the limit of steps, as its getter reads it
+pub record IsTold (o : Option Text) (r : Option ℕ) : Type 0 where
+  pub is : r ≡ option_map read_number o
+  pub limit : IfSome r IsLimit
+
+limit_at : {E : Type 0} (G : Text → Result ℕ E → Type 0) (only : (u : Text) (x : Result ℕ E) → G u x → ParsesUnsigned 32 10 u x)
+    (o : Option Text) (r : Option ℕ) → ((t : Text) → o ≡ Some t → (raw : Text) × (t ≡ without_minus raw) × IsSignedIn (pos 1) (pos 4294967295) raw)
+    → (o ≡ None → r ≡ None) → ((t : Text) → o ≡ Some t → ReadsOne G t r) → IsTold o r
+limit_at G only None r test none some = rw (none refl) (record { is = refl; limit = tt })
+limit_at {E} G only (Some t) r test none some =
+    let raw = test t refl in
+    let got = signed_reads E G 32 1 4294967295 raw.0 r (subst (λ (u : Text). ReadsOne G u r) raw.1 (some t refl)) only (omega arith) raw.2 in
+    let read : ReadsOne G t (Some got.0) = subst (λ (x : Option ℕ). ReadsOne G t x) got.1 (some t refl) in
+    let value : got.0 ≡ read_number t = (only t (Ok got.0) read).1 in
+    rw got.1 (record { is = ap Some value; limit = (got.2, got.3) })
+
+pub limit_told : {E : Type 0} (G : Text → Result ℕ E → Type 0) (only : (u : Text) (x : Result ℕ E) → G u x → ParsesUnsigned 32 10 u x)
+    (f : Found) (r : Option ℕ) → IsMatched f → (one_text f (codes "undo") ≡ None → r ≡ None)
+    → ((t : Text) → one_text f (codes "undo") ≡ Some t → ReadsOne G t r)
+    → IsTold (one_of (codes "undo") (rows_of f)) r
+limit_told G only f r h none some =
+    subst (λ (o : Option Text). IsTold o r) (one_text-rows f (codes "undo")) (limit_at G only _ r h.limit none some)
 
 -- all of them
-pub told_is : (f : Found) (is_new bails echoes : Bool) (cache : ℕ) (target : Option Text) (file : Text) → is_new ≡ has_flag (codes "new") (rows_of f)
+pub told_is : (f : Found) (is_new bails echoes : Bool) (cache : ℕ) (undo_limit : Option ℕ) (target : Option Text) (file : Text) → is_new ≡ has_flag (codes "new") (rows_of f)
     → bails ≡ has_flag (codes "bail") (rows_of f) → echoes ≡ has_flag (codes "echo") (rows_of f)
-    → cache ≡ number_in (one_of (codes "cache") (rows_of f)) → target ≡ first_value f (codes "as") → Some file ≡ first_value f (codes "file")
-    → ◌≡◌ {A = CommandLine} (record { is_new = is_new; bails = bails; echoes = echoes; cache = cache; target = target; file = file }) (said (rows_of f))
-told_is f is_new bails echoes cache target file n b e c t w =
+    → cache ≡ number_in (one_of (codes "cache") (rows_of f)) → undo_limit ≡ option_map read_number (one_of (codes "undo") (rows_of f)) → target ≡ first_value f (codes "as") → Some file ≡ first_value f (codes "file")
+    → ◌≡◌ {A = CommandLine} (record { is_new = is_new; bails = bails; echoes = echoes; cache = cache; undo_limit = undo_limit; target = target; file = file }) (said (rows_of f))
+told_is f is_new bails echoes cache undo_limit target file n b e c u t w =
     let target_is : target ≡ first_of (codes "as") (rows_of f) = t ∙ first_value-rows f (codes "as") in
     let file_is : file ≡ unwrap_or (first_of (codes "file") (rows_of f)) [] =
     ap (λ (o : Option Text). unwrap_or o []) (w ∙ first_value-rows f (codes "file")) in
-    λ i. record { is_new = n i; bails = b i; echoes = e i; cache = c i; target = target_is i; file = file_is i }
+    λ i. record { is_new = n i; bails = b i; echoes = e i; cache = c i; undo_limit = u i; target = target_is i; file = file_is i }
 
 -- ---- what an error comes to
 

@@ -1,5 +1,5 @@
 -- The command line of `geosvm`.
-use Rattle.std.specs.Prelude.{◌≡◌, ◌≢◌, ◌≤◌, ◌||◌, false, ℕ, Bool, true, List, [], Option, Some, None, codes, is_some, option_map, unwrap_or, if◌then◌else◌, pos, ⊤}
+use Rattle.std.specs.Prelude.{◌≡◌, ◌≢◌, ◌≤◌, ◌||◌, false, ℕ, Bool, true, List, [], Option, Some, None, IfSome, codes, is_some, option_map, unwrap_or, if◌then◌else◌, pos, ⊤}
 use Rattle.std.specs.Option.{option_map_or}
 use Rattle.std.specs.Str.{bytes_eq}
 use Rattle.std.specs.Str.Parse.{digits_value, without_leading_plus}
@@ -9,6 +9,7 @@ pub use Rattle.clap.specs.Words.{Text}
 use Rattle.clap.specs.Words.{App, IsAmong, IsSignedIn, first_value, one_text, without_minus, Row, Rule, fault_of, first_of, matches_of, new_app, new_rule, one_of, with_rule}
 use Rattle.clap.specs.Simple.{on_top}
 use Rattle.clap.specs.declared.builder.action.ArgAction.TheVariants.{Set, SetTrue}
+use Rattle.clap.specs.declared.builder.value_parser.ValueParser.{ValueParser}
 use Rattle.clap.specs.declared.builder.value_parser.ValueParser.TheVariants as parsers
 use Rattle.clap.specs.declared.error.kind.ErrorKind.{ErrorKind}
 use Rattle.clap.specs.declared.error.kind.ErrorKind.TheVariants.{DisplayHelp, DisplayVersion, OutOfMemory}
@@ -16,7 +17,7 @@ use Rattle.command_lines.specs.declared.asked.Options.{Options}
 use Rattle.command_lines.specs.declared.asked.NoOptions.{NoOptions}
 use Rattle.command_lines.specs.declared.asked.NoOptions.TheVariants as no_options
 
--- ---- what the program takes: [--new] [--bail] [--echo] [--cache N] [--as FILE2] FILE
+-- ---- what the program takes: [--new] [--bail] [--echo] [--cache N] [--undo N] [--as FILE2] FILE
 
 abbrev pub flag : Text → Rule
 flag name = record (new_rule name) {
@@ -25,14 +26,21 @@ flag name = record (new_rule name) {
   parser = Some parsers.Bool;
 }
 
--- N is 1 to 64
-abbrev pub cache_option : Rule
-cache_option = record (new_rule (codes "cache")) {
-  long = Some (codes "cache");
+abbrev pub number_option : Text → ValueParser → Rule
+number_option name parser = record (new_rule name) {
+  long = Some name;
   action = Some Set;
   value_names = 1;
-  parser = Some (parsers.Signed (pos 1) (pos 64));
+  parser = Some parser;
 }
+
+-- N is 1 to 64
+abbrev pub cache_option : Rule
+cache_option = number_option (codes "cache") (parsers.Signed (pos 1) (pos 64))
+
+-- N is 1 or more
+abbrev pub undo_option : Rule
+undo_option = number_option (codes "undo") (parsers.Signed (pos 1) (pos 4294967295))
 
 abbrev pub as_option : Rule
 as_option = record (new_rule (codes "as")) {
@@ -57,7 +65,7 @@ geosvm =
     let flags = with_rule (
     with_rule (with_rule (with_version (new_app (codes "geosvm"))) (flag (codes "new"))) (flag (codes "bail")))
     (flag (codes "echo")) in
-    with_rule (with_rule (with_rule flags cache_option) as_option) file_operand
+    with_rule (with_rule (with_rule (with_rule flags cache_option) undo_option) as_option) file_operand
 
 -- ---- what a command line says
 
@@ -66,6 +74,7 @@ pub record CommandLine : Type 0 where
   pub bails : Bool
   pub echoes : Bool
   pub cache : ℕ
+  pub undo_limit : Option ℕ  -- None where all steps are kept
   pub target : Option Text
   pub file : Text
 
@@ -76,13 +85,14 @@ read_number text = digits_value 10 (without_leading_plus text)
 abbrev pub has_flag : Text → List Row → Bool
 has_flag name rows = option_map_or (λ t. bytes_eq t (codes "true")) (one_of name rows) false
 
--- of what the words give: 8 frames where they have no number
+-- of what the words give: 8 frames where they have no number of them, and no limit where they have none
 abbrev pub said : List Row → CommandLine
 said rows = record {
   is_new = has_flag (codes "new") rows;
   bails = has_flag (codes "bail") rows;
   echoes = has_flag (codes "echo") rows;
   cache = option_map_or read_number (one_of (codes "cache") rows) 8;
+  undo_limit = option_map read_number (one_of (codes "undo") rows);
   target = first_of (codes "as") rows;
   file = unwrap_or (first_of (codes "file") rows) [];
 }
@@ -91,9 +101,14 @@ said rows = record {
 abbrev pub command_line : List Text → Option CommandLine
 command_line words = if is_empty (fault_of geosvm words) then Some (said (matches_of geosvm words)) else None
 
--- the cache has 1 to 64 frames, and the target isn't the file
+-- a step is kept, or more, as many as a `u32` counts
+abbrev pub IsLimit : ℕ → Type 0
+IsLimit most = (1 ≤ most) × (most ≤ 4294967295)
+
+-- The cache has 1 to 64 frames, a limit of steps to be undone leaves one or more, and the target isn't the file.
 abbrev pub IsUsable : CommandLine → Type 0
-IsUsable line = (1 ≤ line.cache) × (line.cache ≤ 64) × (line.target ≡ Some line.file → ⊥)
+IsUsable line =
+    (1 ≤ line.cache) × (line.cache ≤ 64) × IfSome line.undo_limit IsLimit × (line.target ≡ Some line.file → ⊥)
 
 -- what the options say
 abbrev pub line_of_options : Options → CommandLine
@@ -103,6 +118,7 @@ line_of_options o =
       bails = o.bail;
       echoes = o.echo;
       cache = o.cache;
+      undo_limit = o.undo_limit;
       target = option_map (λ t. t.now) o.target;
       file = o.file.now;
     }
@@ -112,14 +128,16 @@ abbrev pub IsFlag : Found → Text → Type 0
 IsFlag found name =
     (t : Text) → one_text found name ≡ Some t → (bytes_eq t (codes "true") || bytes_eq t (codes "false")) ≡ true
 
--- What a match of the command line gives: the flags read as truth values, the number is in its range, and the file is
--- there.
+-- What a match of the command line gives: the flags read as truth values, the numbers are in their ranges, and the file
+-- is there.
 pub record IsMatched (found : Found) : Type 0 where
   pub new : IsFlag found (codes "new")
   pub bail : IsFlag found (codes "bail")
   pub echo : IsFlag found (codes "echo")
   pub number : (t : Text) → one_text found (codes "cache") ≡ Some t
       → (raw : Text) × (t ≡ without_minus raw) × IsSignedIn (pos 1) (pos 64) raw
+  pub limit : (t : Text) → one_text found (codes "undo") ≡ Some t
+      → (raw : Text) × (t ≡ without_minus raw) × IsSignedIn (pos 1) (pos 4294967295) raw
   pub file : is_some (first_value found (codes "file")) ≡ true
 
 -- ---- why there are no options

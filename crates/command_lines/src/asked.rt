@@ -12,6 +12,8 @@ pub struct Options<'a> {
     pub echo: bool,
     /// How many frames the cache has, 1 to 64.
     pub cache: u8,
+    /// How many steps are kept to be undone, 1 or more; where there is none, all are.
+    pub undo_limit: Option<u32>,
     /// The file that a save-as writes, if there is one.
     pub target: Option<&'a str>,
     /// The file of the document.

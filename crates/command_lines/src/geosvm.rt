@@ -1,10 +1,11 @@
-//! The words of `geosvm [--new] [--bail] [--echo] [--cache N] [--as FILE2] FILE`.
-ghost use Rattle.std.specs.Prelude.{◌≡◌, ◌≤◌, codes, drop, true, false, IfOk, IfErr, map};
+//! The words of `geosvm [--new] [--bail] [--echo] [--cache N] [--undo N] [--as FILE2] FILE`.
+ghost use Rattle.std.specs.Prelude.{◌≡◌, ◌≤◌, codes, drop, true, false, IfOk, IfErr, IfSome, map};
 ghost use Rattle.std.specs.List.{Contains};
 ghost use Rattle.clap.specs.Words.{FailsBy, app_of, fault_of, found_of, kind_of, matches_of, rows_of, rule_of};
-ghost use Rattle.command_lines.specs.Options.{IsMatched, IsUsable, RefusesWords, TurnsInto, command_line, flag, geosvm, said, line_of_options};
+ghost use Rattle.command_lines.specs.Options.{IsLimit, IsMatched, IsUsable, RefusesWords, TurnsInto, cache_option, command_line, flag, geosvm, number_option, said, line_of_options, undo_option};
 
 use crate::asked::{NoOptions, Options};
+use clap::builder::ValueParser;
 use clap::error::ErrorKind;
 use clap::{Arg, ArgAction, ArgMatches, Command, Error, value_parser};
 use geos_model::Bytes;
@@ -66,14 +67,8 @@ fn command<'a>(alloc: Global) -> Result<Command<'a>, AllocError>
         ))?
         .arg(flag(alloc, "bail", "End at the first refusal, with status 1"))?
         .arg(flag(alloc, "echo", "Write each line before its reply"))?
-        .arg(
-            Arg::new(alloc, "cache")
-                .long("cache")
-                .action(ArgAction::Set)
-                .value_name("N")
-                .value_parser(value_parser!(u8).range(1..=64))
-                .help("Keep at most N blocks in memory, 1 to 64 [default: 8]"),
-        )?
+        .arg(cache_option(alloc))?
+        .arg(undo_option(alloc))?
         .arg(
             Arg::new(alloc, "as")
                 .long("as")
@@ -100,17 +95,53 @@ fn flag<'a>(alloc: Global, name: &'a str, help: &'a str) -> Arg<'a>
         .help(help)
 }
 
+fn cache_option<'a>(alloc: Global) -> Arg<'a>
+    ensures { (rule_of result ≡ cache_option) × (result.global ≡ false) }
+{
+    number(
+        alloc,
+        "cache",
+        value_parser!(u8).range(1..=64),
+        "Keep at most N blocks in memory, 1 to 64 [default: 8]",
+    )
+}
+
+fn undo_option<'a>(alloc: Global) -> Arg<'a>
+    ensures { (rule_of result ≡ undo_option) × (result.global ≡ false) }
+{
+    number(
+        alloc,
+        "undo",
+        value_parser!(u32).range(1..),
+        "Keep at most N steps to be undone, 1 or more [default: all]",
+    )
+}
+
+/// An option with a number.
+fn number<'a>(alloc: Global, name: &'a str, parser: ValueParser<'a>, help: &'a str) -> Arg<'a>
+    ensures { (rule_of result ≡ number_option name.entry.now parser.entry) × (result.global ≡ false) }
+{
+    Arg::new(alloc, name)
+        .long(name)
+        .action(ArgAction::Set)
+        .value_name("N")
+        .value_parser(parser)
+        .help(help)
+}
+
 /// The options that were matched.
 fn told<'a>(matches: &ArgMatches<'a>) -> Options<'a>
     requires { IsMatched (found_of matches.now) }
     ensures said { line_of_options result ≡ said (rows_of (found_of matches.now)) }
     ensures cache { (1 ≤ result.cache) × (result.cache ≤ 64) }
+    ensures undo { IfSome result.undo_limit IsLimit }
 {
     Options {
         new: matches.get_flag("new"),
         bail: matches.get_flag("bail"),
         echo: matches.get_flag("echo"),
         cache: matches.get_one::<u8>("cache").unwrap_or(FRAMES),
+        undo_limit: matches.get_one::<u32>("undo"),
         target: matches.get_str("as"),
         file: matches.get_str("file").unwrap(),
     }

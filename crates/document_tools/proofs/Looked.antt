@@ -35,7 +35,7 @@ use Rattle.document_tools.specs.declared.ending.Ending.{Ending}
 use Rattle.document_tools.specs.declared.ending.Ending.TheVariants as endings
 use Rattle.document_commands.specs.declared.requested.MapFormat.{MapFormat}
 use Rattle.document_tools.specs.declared.obstacle.Obstacle.{Obstacle}
-use Rattle.document_tools.specs.declared.obstacle.Obstacle.TheVariants.{Unopened, Unread}
+use Rattle.document_tools.specs.declared.obstacle.Obstacle.TheVariants.{Changed, Unopened, Unread}
 use Rattle.document_commands.specs.declared.requested.Form.{Form}
 
 -- a refusal is told by its line, or there is no memory for it
@@ -128,24 +128,24 @@ dump_caused A dumped (Err dump_faults.Damaged) failed cause ends = tt
 dump_caused A dumped (Err dump_faults.Write) failed cause ends = ∥∥₁_map cause (λ so. so ends)
 
 -- documents that are open, and their dump, or why there is none
-pub dumped_open : {S W : Type 0} (facts : S → StoreFacts) (contents : W → Option (List ℕ)) (writes : WriteCalls W) (name : List ℕ) (which : Which) (damaged : Obstacle) (from to : StoredState S) (old new : W)
+pub dumped_open : {S W : Type 0} (facts : S → StoreFacts) (contents : W → Option (List ℕ)) (writes : WriteCalls W) (name : List ℕ) (which : Which) (from to : StoredState S) (old new : W)
     (dumped : Result (Unit {0}) DumpFault) (ending : Ending)
     → OnOk dumped (IsTrue (facts from.store).honest → Appends (contents old) (contents new) (dump_text which from.updated from.saved))
-    → IfErr dumped (IsDumpRefusal (facts from.store) (facts to.store)) → IfErr dumped (λ fault. HasDumpCause fault (∥ StopsWriting writes new ∥₁)) → EndsDump name damaged dumped ending
-    → DumpsOpen facts contents writes name which damaged from to old new ending
-dumped_open facts contents writes name which damaged from to old new (Ok v) ending text refusal cause ends = rw ends text
-dumped_open facts contents writes name which damaged from to old new (Err dump_faults.Memory) ending text refusal cause ends = rw ends tt
-dumped_open facts contents writes name which damaged from to old new (Err dump_faults.File) ending text refusal cause ends =
-    refused_or_memory (DumpsOpen facts contents writes name which damaged from to old new) name Unread (λ line is. inl (is, refusal)) tt ending ends
-dumped_open facts contents writes name which damaged from to old new (Err dump_faults.Damaged) ending text refusal cause ends =
-    refused_or_memory (DumpsOpen facts contents writes name which damaged from to old new) name damaged (λ line is. inr (is, refusal)) tt ending ends
-dumped_open facts contents writes name which damaged from to old new (Err dump_faults.Write) ending text refusal cause ends = rw ends cause
+    → IfErr dumped (IsDumpRefusal (facts from.store) (facts to.store)) → IfErr dumped (λ fault. HasDumpCause fault (∥ StopsWriting writes new ∥₁)) → EndsDump name dumped ending
+    → DumpsOpen facts contents writes name which from to old new ending
+dumped_open facts contents writes name which from to old new (Ok v) ending text refusal cause ends = rw ends text
+dumped_open facts contents writes name which from to old new (Err dump_faults.Memory) ending text refusal cause ends = rw ends tt
+dumped_open facts contents writes name which from to old new (Err dump_faults.File) ending text refusal cause ends =
+    refused_or_memory (DumpsOpen facts contents writes name which from to old new) name Unread (λ line is. inl (is, refusal)) tt ending ends
+dumped_open facts contents writes name which from to old new (Err dump_faults.Damaged) ending text refusal cause ends =
+    refused_or_memory (DumpsOpen facts contents writes name which from to old new) name Changed (λ line is. inr (is, refusal)) tt ending ends
+dumped_open facts contents writes name which from to old new (Err dump_faults.Write) ending text refusal cause ends = rw ends cause
 
 -- a store that was opened, and then dumped
 pub dumped_stood : {S W : Type 0} (facts : S → StoreFacts) (contents : W → Option (List ℕ)) (writes : WriteCalls W) (name : List ℕ) (which : Which) (stood : List ℕ → Result (Document × Document) Fault) (told : Fault → Obstacle)
     (store : S) (from to : StoredState S) (old new : W) (ending : Ending)
     → OnlyReadsStore (facts store) (facts from.store) → (IsTrue (facts store).honest → stood (facts store).content ≡ Ok (from.updated, from.saved))
-    → DumpsOpen facts contents writes name which (told faults.Damaged) from to old new ending
+    → DumpsOpen facts contents writes name which from to old new ending
     → DumpsStood contents writes name which stood told (facts store) (facts to.store) old new ending
 dumped_stood facts contents writes name which stood told store from to old new endings.Done opened so dumps = λ honest. (
   from.updated,
@@ -157,7 +157,7 @@ dumped_stood facts contents writes name which stood told store from to old new e
 dumped_stood facts contents writes name which stood told store from to old new (endings.Refused line) opened so (inl dumps) =
     inl (dumps.0, raised_later (facts store) (facts from.store) (facts to.store) opened dumps.1)
 dumped_stood facts contents writes name which stood told store from to old new (endings.Refused line) opened so (inr dumps) =
-    inr (faults.Damaged, dumps.0, λ honest. absurd (dumps.1 (still (facts store) (facts from.store) opened honest)))
+    inr (inr (dumps.0, λ honest. dumps.1 (still (facts store) (facts from.store) opened honest)))
 dumped_stood facts contents writes name which stood told store from to old new endings.Memory opened so dumps = tt
 dumped_stood facts contents writes name which stood told store from to old new endings.ReadFault opened so dumps = absurd dumps
 dumped_stood facts contents writes name which stood told store from to old new endings.WriteFault opened so dumps = dumps

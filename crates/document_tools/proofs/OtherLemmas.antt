@@ -38,7 +38,8 @@ slot_before contents writes file slot a b c old new endings.Done reads dumps = �
     (d.0, d.1, subst (λ bytes. slot_stands bytes slot ≡ Ok (d.0, d.1)) (same_bytes_then a b reads so) d.2, d.3)
 slot_before contents writes file slot a b c old new endings.Unsound reads dumps = absurd dumps
 slot_before contents writes file slot a b c old new (endings.Refused line) reads (inl dumps) = inl (dumps.0, raised_later a b c reads dumps.1)
-slot_before contents writes file slot a b c old new (endings.Refused line) reads (inr dumps) = inr (dumps.0, dumps.1, held_before (λ (bytes : List ℕ). slot_stands bytes slot ≡ Err dumps.0) a b reads dumps.2)
+slot_before contents writes file slot a b c old new (endings.Refused line) reads (inr (inl dumps)) = inr (inl (dumps.0, dumps.1, held_before (λ (bytes : List ℕ). slot_stands bytes slot ≡ Err dumps.0) a b reads dumps.2))
+slot_before contents writes file slot a b c old new (endings.Refused line) reads (inr (inr dumps)) = inr (inr (dumps.0, λ so. dumps.1 (still a b reads so)))
 slot_before contents writes file slot a b c old new endings.Memory reads dumps = tt
 slot_before contents writes file slot a b c old new endings.ReadFault reads dumps = absurd dumps
 slot_before contents writes file slot a b c old new endings.WriteFault reads dumps = dumps

@@ -18,7 +18,7 @@ use Rattle.document_tools.specs.Views.{LooksAt, Views}
 use Rattle.document_tools.specs.declared.ending.Ending.{Ending}
 use Rattle.document_tools.specs.declared.ending.Ending.TheVariants as endings
 use Rattle.document_tools.specs.declared.obstacle.Obstacle.{Obstacle}
-use Rattle.document_tools.specs.declared.obstacle.Obstacle.TheVariants.{Unopened, Unread, Unviewed}
+use Rattle.document_tools.specs.declared.obstacle.Obstacle.TheVariants.{Changed, Unopened, Unread, Unviewed}
 
 -- How a dump ends whose pieces were gathered, by how the dump itself did and whether the last write failed: well only
 -- where both went well, as a write fault only where that write failed, and by no other fault than the dump's.
@@ -33,16 +33,17 @@ abbrev pub HasDumpCause : DumpFault → Type 0 → Type 0
 HasDumpCause dump_faults.Write writing = writing
 HasDumpCause fault writing = ⊤
 
--- What comes of a dump: it is written, or it isn't, or not whole. What is damaged is told as this obstacle.
-abbrev pub EndsDump : List ℕ → Obstacle → Result (Unit {0}) DumpFault → Ending → Type 0
-EndsDump file damaged (Ok v) ending = ending ≡ endings.Done
-EndsDump file damaged (Err dump_faults.Memory) ending = ending ≡ endings.Memory
-EndsDump file damaged (Err dump_faults.File) ending = IsRefusedFor file Unread ending
-EndsDump file damaged (Err dump_faults.Damaged) ending = IsRefusedFor file damaged ending
-EndsDump file damaged (Err dump_faults.Write) ending = ending ≡ endings.WriteFault
+-- What comes of a dump: it is written, or it isn't, or not whole.
+abbrev pub EndsDump : List ℕ → Result (Unit {0}) DumpFault → Ending → Type 0
+EndsDump file (Ok v) ending = ending ≡ endings.Done
+EndsDump file (Err dump_faults.Memory) ending = ending ≡ endings.Memory
+EndsDump file (Err dump_faults.File) ending = IsRefusedFor file Unread ending
+EndsDump file (Err dump_faults.Damaged) ending = IsRefusedFor file Changed ending
+EndsDump file (Err dump_faults.Write) ending = ending ≡ endings.WriteFault
 
 -- What comes of the dump of a store, by what its bytes stand for and how a refusal of that is told: the script of these
--- documents is written, or it isn't, or not whole. A write fault is told only where the last write failed.
+-- documents is written, or it isn't, or not whole. A write fault is told only where the last write failed, and that a
+-- block has changed since it was opened only of a store that isn't honest.
 abbrev pub DumpsStood : {W : Type 0} → (W → Option (List ℕ)) → WriteCalls W → List ℕ → Which
     → (List ℕ → Result (Document × Document) Fault) → (Fault → Obstacle) → StoreFacts → StoreFacts → W → W → Ending
     → Type 0
@@ -52,6 +53,7 @@ DumpsStood contents writes file which stood told from to old new endings.Done =
 DumpsStood contents writes file which stood told from to old new (endings.Refused line) =
     ((line ≡ refusal_line file Unread) × FailedSince from to)
     ⊎ ((fault : Fault) × (line ≡ refusal_line file (told fault)) × (IsTrue from.honest → stood from.content ≡ Err fault))
+    ⊎ ((line ≡ refusal_line file Changed) × (IsTrue from.honest → ⊥))
 DumpsStood contents writes file which stood told from to old new endings.Memory = ⊤
 DumpsStood contents writes file which stood told from to old new endings.WriteFault = ∥ StopsWriting writes new ∥₁
 DumpsStood contents writes file which stood told from to old new ending = ⊥
@@ -63,18 +65,18 @@ abbrev pub DumpsStore : {W : Type 0} → (W → Option (List ℕ)) → WriteCall
 DumpsStore contents writes file which from to old new ending =
     DumpsStood contents writes file which stands Unopened from to old new ending
 
--- The same of documents that are open. They are told as damaged only where the store isn't honest.
+-- The same of documents that are open.
 abbrev pub DumpsOpen : {S W : Type 0} → (S → StoreFacts) → (W → Option (List ℕ)) → WriteCalls W → List ℕ → Which
-    → Obstacle → StoredState S → StoredState S → W → W → Ending → Type 0
-DumpsOpen facts contents writes name which damaged from to old new endings.Done =
+    → StoredState S → StoredState S → W → W → Ending → Type 0
+DumpsOpen facts contents writes name which from to old new endings.Done =
     IsTrue (facts from.store).honest
     → Appends (contents old) (contents new) (dump_text which from.updated from.saved)
-DumpsOpen facts contents writes name which damaged from to old new (endings.Refused line) =
+DumpsOpen facts contents writes name which from to old new (endings.Refused line) =
     ((line ≡ refusal_line name Unread) × FailedSince (facts from.store) (facts to.store))
-    ⊎ ((line ≡ refusal_line name damaged) × (IsTrue (facts from.store).honest → ⊥))
-DumpsOpen facts contents writes name which damaged from to old new endings.Memory = ⊤
-DumpsOpen facts contents writes name which damaged from to old new endings.WriteFault = ∥ StopsWriting writes new ∥₁
-DumpsOpen facts contents writes name which damaged from to old new ending = ⊥
+    ⊎ ((line ≡ refusal_line name Changed) × (IsTrue (facts from.store).honest → ⊥))
+DumpsOpen facts contents writes name which from to old new endings.Memory = ⊤
+DumpsOpen facts contents writes name which from to old new endings.WriteFault = ∥ StopsWriting writes new ∥₁
+DumpsOpen facts contents writes name which from to old new ending = ⊥
 
 -- What comes of it for the file of a name: it is opened to be read alone, and dumped, and nothing is written to it.
 abbrev pub DumpsFile : {V S W : Type 0} → Views V S → (S → StoreFacts) → (W → Option (List ℕ)) → WriteCalls W → List ℕ

@@ -24,6 +24,7 @@ make_fault_text make_faults.Failed = codes "it can't be made"
 abbrev pub obstacle_text : Obstacle → List ℕ
 obstacle_text (obstacles.Unviewed cause) = cause_text cause
 obstacle_text obstacles.Unread = codes "it can't be read"
+obstacle_text obstacles.Changed = codes "a block of it has other bytes than when it was opened"
 obstacle_text (obstacles.Unopened fault) = codes "it doesn't open, " ++ name_of_fault fault
 obstacle_text (obstacles.NoOther fault) = codes "the other slot doesn't open, " ++ name_of_fault fault
 obstacle_text (obstacles.Unmade fault) = make_fault_text fault

@@ -14,7 +14,6 @@ use crate::obstacle::Obstacle;
 use crate::pieces::{Pieces, Watched};
 use crate::viewer::Viewer;
 use document_dump::{DumpFault, Which, dump};
-use geos_model::Fault;
 use geos_shell::Sink;
 use std::alloc::Global;
 use vm_file::{StoredDocuments, VmFile};
@@ -51,40 +50,32 @@ fn write_dump<S: Store, W: Sink + Drop>(
     (sink, dump_end(dumped, failed))
 }
 
-// What comes of a dump, by how it ended; `damaged` is told where a store gave back other bytes than it had.
-fn dump_ending(
-    alloc: Global,
-    name: &str,
-    damaged: Obstacle,
-    dumped: Result<(), DumpFault>,
-) -> Ending
-    ensures { EndsDump name.now damaged dumped result }
+// What comes of a dump, by how it ended.
+fn dump_ending(alloc: Global, name: &str, dumped: Result<(), DumpFault>) -> Ending
+    ensures { EndsDump name.now dumped result }
 {
     match dumped {
         Ok(()) => Ending::Done,
         Err(DumpFault::Memory) => Ending::Memory,
         Err(DumpFault::File) => refused(alloc, name, Obstacle::Unread),
-        Err(DumpFault::Damaged) => refused(alloc, name, damaged),
+        Err(DumpFault::Damaged) => refused(alloc, name, Obstacle::Changed),
         Err(DumpFault::Write) => Ending::WriteFault,
     }
 }
 
-/// Writes the script that makes documents again that are open, and gives the writer back. `damaged` is told
-/// where the store gave back other bytes than it had.
+/// Writes the script that makes documents again that are open, and gives the writer back.
 pub(crate) fn dump_open<S: Store, W: Sink + Drop>(
     alloc: Global,
     file: &mut StoredDocuments<S>,
     name: &str,
     which: Which,
-    damaged: Obstacle,
     writer: W,
 ) -> (W, Ending)
     ensures reads { OnlyReadsDocuments S.facts file.old file.new }
-    ensures told { DumpsOpen S.facts W.contents W.writes name.now which damaged file.old file.new writer
-        result.0 result.1 }
+    ensures told { DumpsOpen S.facts W.contents W.writes name.now which file.old file.new writer result.0 result.1 }
 {
     let (left, dumped) = write_dump(alloc, file, which, writer);
-    (left, dump_ending(alloc, name, damaged, dumped))
+    (left, dump_ending(alloc, name, dumped))
 }
 
 fn dump_store<S: Store, W: Sink + Drop>(
@@ -100,8 +91,7 @@ fn dump_store<S: Store, W: Sink + Drop>(
     match VmFile::open(alloc, store) {
         Ok(file) => {
             let mut documents = file.into_documents();
-            let damaged = Obstacle::Unopened(Fault::Damaged);
-            dump_open(alloc, &mut documents, name, which, damaged, writer)
+            dump_open(alloc, &mut documents, name, which, writer)
         }
         Err(refused) => {
             let obstacle = Obstacle::Unopened(refused.fault);

@@ -41,6 +41,8 @@ pub enum Obstacle {
     Unviewed(Cause),
     /// Reading it failed.
     Unread,
+    /// A block of it has other bytes than when it was opened.
+    Changed,
     /// It doesn't open, for what an opening answers.
     Unopened(Fault),
     /// What the slot leads to that doesn't count doesn't open, or there is no such slot.
@@ -90,6 +92,9 @@ fn push_obstacle(out: &mut Vec<u8>, obstacle: Obstacle) -> Result<(), AllocError
     match obstacle {
         Obstacle::Unviewed(cause) => out.extend_from_slice(cause.text().as_bytes()),
         Obstacle::Unread => out.extend_from_slice(b"it can't be read"),
+        Obstacle::Changed => {
+            out.extend_from_slice(b"a block of it has other bytes than when it was opened")
+        }
         Obstacle::Unopened(fault) => push_named(out, b"it doesn't open, ", fault),
         Obstacle::NoOther(fault) => push_named(out, b"the other slot doesn't open, ", fault),
         Obstacle::Unmade(fault) => out.extend_from_slice(fault.text().as_bytes()),

@@ -48,10 +48,7 @@ fn dump_slot<S: Store, W: Sink + Drop>(
         result.0 result.1 }
 {
     match StoredDocuments::open_slot(alloc, store, second) {
-        Ok(mut documents) => {
-            let damaged = Obstacle::NoOther(Fault::Damaged);
-            dump_open(alloc, &mut documents, name, Which::Both, damaged, writer)
-        }
+        Ok(mut documents) => { dump_open(alloc, &mut documents, name, Which::Both, writer) }
         Err(refused) => {
             let obstacle = Obstacle::NoOther(refused.fault);
             (writer, unopened(alloc, name, refused.fault, obstacle))

@@ -17,6 +17,7 @@ asks_nothing commands.MapBlock isnt = cc isnt
 asks_nothing (commands.Locks b) isnt = cc isnt
 asks_nothing commands.Undos isnt = cc isnt
 asks_nothing commands.Redos isnt = cc isnt
+asks_nothing commands.Modified isnt = cc isnt
 asks_nothing (commands.Info b) isnt = cc isnt
 asks_nothing (commands.ReadRaw b) isnt = cc isnt
 asks_nothing (commands.Chunks b) isnt = cc isnt

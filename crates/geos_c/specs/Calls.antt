@@ -1,5 +1,5 @@
 -- What calls of a session do, over any store, by what they are answered.
-use Rattle.std.specs.Prelude.{◌≡◌, ◌⊎◌, ℕ, Bool, false, [], Some, Result, OnOk, OnErr, IfErr, MatchResult}
+use Rattle.std.specs.Prelude.{◌≡◌, ◌⊎◌, ℕ, ◌==◌, if◌then◌else◌, Bool, false, [], Option, Some, None, Result, OnOk, OnErr, IfErr, MatchResult}
 use Rattle.std.specs.Result.{result_unwrap_or}
 use Rattle.geos_model.specs.Machine.{Step}
 use Rattle.geos_model.specs.Reply.{Reply, Accepted, NumberIs, reply_by}
@@ -9,15 +9,15 @@ use Rattle.geos_model.specs.declared.handle.ChunkHandle.{ChunkHandle}
 use Rattle.geos_model.specs.declared.handle.Token.{Token}
 use Rattle.geos_model.specs.declared.handle.VmHandle.{VmHandle}
 use Rattle.geos_model.specs.declared.fault.Fault.{Fault}
-use Rattle.geos_model.specs.declared.fault.Fault.TheVariants.{NothingToUndo, NothingToRedo}
+use Rattle.geos_model.specs.declared.fault.Fault.TheVariants.{Memory, NothingToUndo, NothingToRedo}
 use Rattle.chunk_edits.specs.declared.direction.Direction.TheVariants.{Forwards, Backwards}
 use Rattle.vm_store.specs.Facts.{StoreFacts}
 use Rattle.vm_file.specs.Effects.{Fails, IsWorn}
 use Rattle.vm_blocks.specs.Locking.{GainsLock, LosesLock}
 use Rattle.undo_log.specs.Committing.{IsBusy, IsSessionCommit}
-use Rattle.undo_log.specs.Logging.{empty_log, with_group_closed}
+use Rattle.undo_log.specs.Logging.{forgotten_log, joined_log, next_moved, reverted_log, saved_log, updated_log, with_group_closed}
 use Rattle.undo_log.specs.Sessions.{SessionState, IsStep, KeepsSession, cache_of, machine_of}
-use Rattle.undo_log.specs.Turning.{Abandons, IsNotAbandoned, IsRefusedUndoOrRedo, MovesEntry}
+use Rattle.undo_log.specs.Turning.{Abandons, IsNotAbandoned, IsRefusedUndoOrRedo, MovesEntry, join_fault}
 
 abbrev pub Answer : Type 0
 Answer = Result (Unit {0}) Fault
@@ -30,6 +30,7 @@ abbrev pub Undoes : {S : Type 0} → (S → StoreFacts) → SessionState S → S
 Undoes facts old new answer = Steps facts commands.Undo old new answer
     × OnOk answer
     (MovesEntry facts Backwards (cache_of old) (cache_of new) old.log.undo old.log.redo new.log.undo new.log.redo)
+    × OnOk answer (new.log ≡ next_moved Backwards old.log)
     × OnErr answer (KeepsSession facts old new)
     × IfErr answer (IsRefusedUndoOrRedo facts NothingToUndo old.log.undo old new)
 
@@ -37,8 +38,31 @@ abbrev pub Redoes : {S : Type 0} → (S → StoreFacts) → SessionState S → S
 Redoes facts old new answer = Steps facts commands.Redo old new answer
     × OnOk answer
     (MovesEntry facts Forwards (cache_of old) (cache_of new) old.log.redo old.log.undo new.log.redo new.log.undo)
+    × OnOk answer (new.log ≡ next_moved Forwards old.log)
     × OnErr answer (KeepsSession facts old new)
     × IfErr answer (IsRefusedUndoOrRedo facts NothingToRedo old.log.redo old new)
+
+-- Steps that are joined, forgotten and limited.
+
+abbrev pub Joins : {S : Type 0} → (S → StoreFacts) → SessionState S → SessionState S → Answer → Type 0
+Joins facts old new answer = Steps facts commands.Join old new answer
+    × MatchResult answer (λ _. new ≡ record old { log = joined_log old.log }) (λ _. new ≡ old)
+    × IfErr answer (λ fault. (join_fault old ≡ Some fault) ⊎ ((join_fault old ≡ None) × (fault ≡ Memory)))
+
+-- it is never refused
+abbrev pub Forgets : {S : Type 0} → (S → StoreFacts) → ℕ → SessionState S → SessionState S → Answer → Type 0
+Forgets facts most old new answer = IsStep facts old new (commands.Forget most) Accepted
+    × (new ≡ record old { log = forgotten_log most old.log })
+    × OnErr answer ⊥
+
+-- how many steps are kept by this number, all by 0
+abbrev pub limit_by : ℕ → Option ℕ
+limit_by most = if most == 0 then None else Some most
+
+-- so is this
+abbrev pub LimitsUndo : {S : Type 0} → ℕ → SessionState S → SessionState S → Answer → Type 0
+LimitsUndo most old new answer =
+    (new ≡ record old { log = record old.log { limit = limit_by most } }) × OnErr answer ⊥
 
 -- why a commit is refused, but for what the store does
 abbrev pub FailsCommit : {S : Type 0} → (S → StoreFacts) → SessionState S → SessionState S → Answer → Type 0
@@ -49,19 +73,19 @@ abbrev pub Updates : {S : Type 0} → (S → StoreFacts) → SessionState S → 
 Updates facts old new answer = Steps facts commands.Update old new answer
     × IsSessionCommit facts (old.document, old.disk.saved) old.document old new answer
     × FailsCommit facts old new answer
-    × (new.log ≡ old.log)
+    × MatchResult answer (λ _. new.log ≡ updated_log old.log) (λ _. new.log ≡ old.log)
 
 abbrev pub Saves : {S : Type 0} → (S → StoreFacts) → SessionState S → SessionState S → Answer → Type 0
 Saves facts old new answer = Steps facts commands.Save old new answer
     × IsSessionCommit facts (old.document, old.document) old.document old new answer
     × FailsCommit facts old new answer
-    × (new.log ≡ old.log)
+    × MatchResult answer (λ _. new.log ≡ saved_log old.log) (λ _. new.log ≡ old.log)
 
 abbrev pub Reverts : {S : Type 0} → (S → StoreFacts) → SessionState S → SessionState S → Answer → Type 0
 Reverts facts old new answer = Steps facts commands.Revert old new answer
     × IsSessionCommit facts (old.disk.saved, old.disk.saved) old.disk.saved old new answer
     × FailsCommit facts old new answer
-    × MatchResult answer (λ _. new.log ≡ empty_log) (λ _. new.log ≡ old.log)
+    × MatchResult answer (λ _. new.log ≡ reverted_log old.log) (λ _. new.log ≡ old.log)
 
 -- Groups.
 

@@ -1,6 +1,6 @@
 //! Calls on a session over any store, answered by codes.
 ghost use Rattle.std.specs.Prelude.{◌≡◌};
-ghost use Rattle.geos_c.specs.Calls.{AbandonsGroup, BeginsGroup, CountsLocks, Dirties, EndsGroup, LocksBlock, Redoes, Reverts, Saves, Undoes, UnlocksBlock, Updates};
+ghost use Rattle.geos_c.specs.Calls.{AbandonsGroup, BeginsGroup, CountsLocks, Dirties, EndsGroup, Forgets, Joins, LimitsUndo, LocksBlock, Redoes, Reverts, Saves, Undoes, UnlocksBlock, Updates};
 ghost use Rattle.c_sessions.specs.Codes.{ReportsAnswer};
 ghost use Rattle.geos_c.specs.Edits.{Makes, number_of as number_done};
 
@@ -21,6 +21,29 @@ pub(crate) fn redo<S: Store>(session: &mut Session<S>) -> i32
 {
     let answer = session.redo();
     code_of(answer)
+}
+
+pub(crate) fn join<S: Store>(session: &mut Session<S>) -> i32
+    ensures { ReportsAnswer (Joins S.facts session.old session.new) result }
+{
+    let answer = session.join();
+    code_of(answer)
+}
+
+pub(crate) fn forget<S: Store>(session: &mut Session<S>, most: u32) -> i32
+    ensures { ReportsAnswer (Forgets S.facts most session.old session.new) result }
+{
+    session.forget(most);
+    code_of(Ok(()))
+}
+
+/// Limits the steps that are kept to be undone, or takes the limit away by 0.
+pub(crate) fn limit_undo<S: Store>(session: &mut Session<S>, most: u32) -> i32
+    ensures { ReportsAnswer (LimitsUndo most session.old session.new) result }
+{
+    let limit = if most == 0 { None } else { Some(most) };
+    session.limit_undo(limit);
+    code_of(Ok(()))
 }
 
 pub(crate) fn update<S: Store>(session: &mut Session<S>) -> i32

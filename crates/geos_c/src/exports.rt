@@ -1,7 +1,7 @@
 //! What C calls. Each call answers 0, the number of a fault of the document, 1 to 29, or a code of its own from 100 on.
 ghost use Rattle.std.specs.Prelude.{◌≡◌, false, pos, true, MatchResult};
 ghost use Rattle.geos_model.specs.Refusal.{number_of_fault};
-ghost use Rattle.geos_c.specs.Calls.{AbandonsGroup, BeginsGroup, CountsLocks, Dirties, EndsGroup, LocksBlock, Redoes, Reverts, Saves, Undoes, UnlocksBlock, Updates};
+ghost use Rattle.geos_c.specs.Calls.{AbandonsGroup, BeginsGroup, CountsLocks, Dirties, EndsGroup, Forgets, Joins, LimitsUndo, LocksBlock, Redoes, Reverts, Saves, Undoes, UnlocksBlock, Updates};
 ghost use Rattle.c_sessions.specs.Codes.{IsNamed};
 ghost use Rattle.geos_c.specs.Handles.{Begins, ClosesHandle, HandsOutOnHandle, OnHandle, SavesOnHandle};
 ghost use Rattle.c_sessions.specs.Keeping.{IsCreation, IsOpening};
@@ -9,8 +9,8 @@ ghost use Rattle.geos_c.specs.Lines.{AnswersLine};
 ghost use Rattle.geos_c.specs.Stores.{facts};
 
 use crate::calls::{
-    abandon, begin as begin_group, dirty, end, lock, locks, redo, revert, save, undo, unlock,
-    update,
+    abandon, begin as begin_group, dirty, end, forget, join, limit_undo, lock, locks, redo, revert,
+    save, undo, unlock, update,
 };
 use crate::channel::{Channel, ChannelFile};
 use crate::handle::{Handle, put, take};
@@ -147,6 +147,29 @@ pub extern "C" fn geosvm_redo(handle: &mut Handle, alloc: Global) -> i32
     ensures { OnHandle (Redoes facts) handle.old handle.new result }
 {
     answer!(handle, alloc, |session| redo(session))
+}
+
+#[unsafe(no_mangle)]
+pub extern "C" fn geosvm_join(handle: &mut Handle, alloc: Global) -> i32
+    ensures { OnHandle (Joins facts) handle.old handle.new result }
+{
+    answer!(handle, alloc, |session| join(session))
+}
+
+/// Keeps the newest `most` steps to be undone.
+#[unsafe(no_mangle)]
+pub extern "C" fn geosvm_forget(handle: &mut Handle, alloc: Global, most: u32) -> i32
+    ensures { OnHandle (Forgets facts most) handle.old handle.new result }
+{
+    answer!(handle, alloc, |session| forget(session, most))
+}
+
+/// Keeps no more than `most` steps to be undone from the next one on; all where that is 0.
+#[unsafe(no_mangle)]
+pub extern "C" fn geosvm_limit_undo(handle: &mut Handle, alloc: Global, most: u32) -> i32
+    ensures { OnHandle (LimitsUndo most) handle.old handle.new result }
+{
+    answer!(handle, alloc, |session| limit_undo(session, most))
 }
 
 #[unsafe(no_mangle)]

@@ -1,12 +1,12 @@
 -- No rule of the document answers lack of memory or a file fault.
-use Rattle.std.proofs.Common.{◌≡◌, ◌≢◌, ◌⊎◌, List, [], ◌∷◌, Bool, true, false, not, ◌==◌, length, Option, Some, None, is_some, find, refl, sym, ap, subst, ◌∙◌, inl, inr, arith}
+use Rattle.std.proofs.Common.{◌≡◌, ◌≢◌, ◌⊎◌, List, [], ◌∷◌, Bool, true, false, not, ◌==◌, length, Option, Some, None, is_some, find, refl, sym, ap, subst, ◌∙◌, inl, inr, arith, ℕ, ◌&&◌}
 use Rattle.std.proofs.lemmas.Bool.{cases_Bool}
 use Rattle.std.proofs.lemmas.Bool.Decides.{nat_tests}
 use Rattle.std.specs.List.{list_all}
 use Rattle.std.specs.Option.{option_map, option_map_or}
 use Rattle.geos_model.specs.Refusal.{one_order, applies, first_refusal}
 use Rattle.geos_model.specs.Reply.{Reply, Accepted, Refused}
-use Rattle.geos_model.specs.Machine.{Machine, Request, UndoStep, OpenGroup, Step, Answers, GivesUp, command_conditions, done_by, undone, redone, abandoned, takes_memory, calls_store, may_give_up, has_locks, in_group}
+use Rattle.geos_model.specs.Machine.{Machine, Request, UndoStep, OpenGroup, Step, Answers, GivesUp, command_conditions, done_by, undone, redone, abandoned, takes_memory, calls_store, may_give_up, has_locks, in_group, after_join, has_no_two}
 use Rattle.geos_model.specs.Undoing.{is_refused}
 use Rattle.geos_model.specs.Failing.{FailingLaw, IsTakenOrGivenUp}
 use Rattle.geos_model.specs.declared.fault.Fault.{Fault}
@@ -144,6 +144,40 @@ abandon-taken : (failed : Bool) (old new : Machine) (reply : Reply) → old.grou
 abandon-taken failed old new reply some free (inl is) = inl (abandoned-accepted old new (has_locks old) old.group reply free some is)
 abandon-taken failed old new reply some free (inr out) = given_up failed old new commands.Abandon reply out
 
+joined-accepted : (m new : Machine) (inside few : Bool) (reply : Reply) → inside ≡ false → few ≡ false
+    → option_map_or {U = Option (Reply × Machine)} (λ fault. Some (Refused fault, m))
+    (first_refusal ((NothingToUndo, few) ∷ (GroupOpen, inside) ∷ []))
+    (Some (Accepted, after_join m)) ≡ Some (reply, new)
+    → reply ≡ Accepted
+joined-accepted m new true few reply rest two is = absurd (cc rest)
+joined-accepted m new false true reply rest two is = absurd (cc two)
+joined-accepted m new false false reply rest two is = sym (same_reply is)
+
+-- it gives up for lack of memory alone
+join-gives_up : (failed : Bool) (old : Machine) (fault : Fault) → may_give_up failed commands.Join old fault ≡ true → fault ≡ Memory
+join-gives_up failed old Memory may = refl
+join-gives_up failed old File may = let none : false ≡ true = sym (and_false failed) ∙ may in absurd (cc none)
+  where
+    and_false : (b : Bool) → (b && false) ≡ false
+    and_false true = refl
+    and_false false = refl
+join-gives_up failed old _ may = absurd (cc may)
+
+join-taken : (failed : Bool) (old new : Machine) (reply : Reply) → old.group ≡ None → has_no_two old ≡ false
+    → Step failed old (Some commands.Join) reply new → (reply ≡ Accepted) ⊎ ((new ≡ old) × (reply ≡ Refused Memory))
+join-taken failed old new reply none two (inl is) = inl (joined-accepted old new (in_group old) (has_no_two old) reply (none_open old none) two is)
+join-taken failed old new reply none two (inr out) = inr (out.stays, out.says ∙ ap Refused (join-gives_up failed old out.fault out.may))
+
+-- nothing refuses forgetting
+forget-gives_up : (failed : Bool) (old : Machine) (most : ℕ) (fault : Fault) → may_give_up failed (commands.Forget most) old fault ≡ true → false ≡ true
+forget-gives_up failed old most Memory may = may
+forget-gives_up failed old most File may = (both_true failed false may).1
+forget-gives_up failed old most _ may = absurd (cc may)
+
+forget-taken : (failed : Bool) (old new : Machine) (most : ℕ) (reply : Reply) → Step failed old (Some (commands.Forget most)) reply new → reply ≡ Accepted
+forget-taken failed old new most reply (inl is) = sym (same_reply is)
+forget-taken failed old new most reply (inr out) = absurd (cc (forget-gives_up failed old most out.fault out.may))
+
 pub failing_law : FailingLaw
 failing_law = record {
   stays = λ failed old new request reply step h. refused request reply step h;
@@ -152,4 +186,6 @@ failing_law = record {
   undo = undo-taken;
   redo = redo-taken;
   abandon = abandon-taken;
+  join = join-taken;
+  forget = forget-taken;
 }

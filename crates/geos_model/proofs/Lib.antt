@@ -25,8 +25,10 @@ pub mod NameEdits
 pub mod Undoing
 mod UndoLaw
 mod RedoLaw
+mod DepthLaw
 mod Saving
 mod Failing
+mod Steps
 pub mod Validity
 pub mod ChunkEdits
 pub mod Chains
@@ -38,3 +40,4 @@ mod ChainShapes
 pub mod ChainEdits
 pub mod Locks
 pub mod ValidSteps
+mod Standing

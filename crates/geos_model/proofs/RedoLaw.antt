@@ -4,7 +4,7 @@ use Rattle.std.specs.Option.{option_map}
 use Rattle.std.specs.Fn.{iterate}
 use Rattle.geos_model.specs.Document.{Document}
 use Rattle.geos_model.specs.Reply.{Reply, Accepted}
-use Rattle.geos_model.specs.Machine.{Machine, Request, UndoStep, OpenGroup, Call, Step, Run, empty_machine, command_conditions, done_by, undone, redone, ended, abandoned}
+use Rattle.geos_model.specs.Machine.{Machine, Request, UndoStep, OpenGroup, Call, Step, Run, command_conditions, done_by, undone, redone, ended, abandoned}
 use Rattle.geos_model.specs.Undoing.{RedoLaw, is_refused, is_undo, is_redo, moves, is_accepted, stays, only, accepted}
 use Rattle.geos_model.specs.declared.fault.Fault.TheVariants.{GroupOpen}
 use Rattle.geos_model.specs.declared.command.Command.{Command}
@@ -12,9 +12,14 @@ use Rattle.geos_model.specs.declared.command.Command.TheVariants as commands
 use Rattle.geos_model.proofs.Refusals.{none_applies, or_none}
 use Rattle.geos_model.proofs.Undoing.{OnDone, IsAt, on_done, done_by-stays, refused, bad_line-refused, answered, none_refuses, not_in_group, both_true}
 
--- the machine with its document and its two lists alone
-abbrev lists_of : Machine → Machine
-lists_of m = record (empty_machine 0 false) { document = m.document; past = m.past; future = m.future }
+-- a document and the two lists around it
+record Lists : Type 0 where
+  document : Document
+  past : List UndoStep
+  future : List UndoStep
+
+abbrev lists_of : Machine → Lists
+lists_of m = record { document = m.document; past = m.past; future = m.future }
 
 -- a group that is empty, with this document
 record IsEmpty (d : Document) (g : OpenGroup) : Type 0 where
@@ -53,6 +58,8 @@ done_by-leaves (commands.Edit e) m h bare = absurd (cc h)
 done_by-leaves commands.Undo m h bare = absurd (cc h)
 done_by-leaves commands.Redo m h bare = absurd (cc h)
 done_by-leaves commands.Revert m h bare = absurd (cc h)
+done_by-leaves commands.Join m h bare = absurd (cc h)
+done_by-leaves (commands.Forget most) m h bare = absurd (cc h)
 done_by-leaves commands.Begin m h bare = record { same = refl; bare = record { edits = refl; before = refl } }
 done_by-leaves commands.End m h bare = ended-leaves m m.group bare
 done_by-leaves commands.Abandon m h bare = abandoned-leaves m m.group bare
@@ -109,9 +116,13 @@ first_by false kind c is h = inr (record { stays = h; counts = is })
 first : (kind : Request → Bool) (c : Call) → (is_accepted kind c || stays c) ≡ true → Taken kind c ⊎ Left kind c
 first kind c h = first_by (is_accepted kind c) kind c refl h
 
--- what a redo does
-abbrev one_redone : Machine → Machine
-one_redone m = unwrap_or (redone m m.future) m
+-- what a redo does to them
+abbrev redone_in : List UndoStep → Lists → Lists
+redone_in [] l = l
+redone_in (s ∷ future) l = record { document = s.document; past = record s { document = l.document } ∷ l.past; future = future }
+
+abbrev one_redone : Lists → Lists
+one_redone l = redone_in l.future l
 
 -- A redo of the new one comes to the old one, or the new one is the old one redone; both leave no group open.
 record IsUndone (old new : Machine) : Type 0 where
@@ -148,7 +159,7 @@ redo-on old new failed (Some commands.Redo) reply step h k =
 redo-on old new failed _ reply step h k = absurd (cc k)
 
 -- going on once more can come last
-iterate-last : (on : Machine → Machine) (n : ℕ) (m : Machine) → iterate on (suc n) m ≡ on (iterate on n m)
+iterate-last : (on : Lists → Lists) (n : ℕ) (m : Lists) → iterate on (suc n) m ≡ on (iterate on n m)
 iterate-last on zero m = refl
 iterate-last on (suc n) m = iterate-last on n (on m)
 

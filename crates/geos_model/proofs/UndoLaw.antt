@@ -1,5 +1,5 @@
 -- Undoing as many steps as calls made, with groups among the calls.
-use Rattle.std.proofs.Common.{◌≡◌, ◌≤◌, ℕ, ◌==◌, List, [], ◌∷◌, Bool, true, false, Option, Some, None, IfSome, refl, sym, ap, subst, ◌∙◌, inl, inr, arith, add-one}
+use Rattle.std.proofs.Common.{◌||◌, ◌≡◌, ◌≤◌, ℕ, ◌==◌, List, [], ◌∷◌, Bool, true, false, Option, Some, None, IfSome, refl, sym, ap, subst, ◌∙◌, inl, inr, arith, add-one, ◌+◌, if◌then◌else◌}
 use Rattle.std.proofs.lemmas.Bool.{cases_Bool, eqb-true}
 use Rattle.std.specs.Option.{option_map}
 use Rattle.std.specs.Fn.{iterate}
@@ -9,7 +9,7 @@ use Rattle.geos_model.specs.Meaning.{effect}
 use Rattle.geos_model.specs.Cost.{cost}
 use Rattle.geos_model.specs.Reply.{Reply, Accepted}
 use Rattle.geos_model.specs.Machine.{Machine, Request, UndoStep, OpenGroup, Call, Step, Run, command_conditions, done_by, recorded, undone, begun, ended, abandoned, kind_of}
-use Rattle.geos_model.specs.Undoing.{Tally, UndoLaw, is_refused, is_undo, is_undo_or_redo, redoes_or_reverts, accepted, with_edit, with_end, after_request, after_calls, tally}
+use Rattle.geos_model.specs.Undoing.{Tally, UndoLaw, is_refused, is_undo, turns, replaces_steps, accepted, with_edit, with_end, after_request, after_calls, tally}
 use Rattle.geos_model.specs.declared.fault.Fault.TheVariants.{GroupOpen}
 use Rattle.geos_model.specs.declared.command.Kind.{Kind}
 use Rattle.geos_model.specs.declared.command.Command.{Command}
@@ -18,129 +18,175 @@ use Rattle.geos_model.proofs.Refusals.{none_applies, or_none}
 use Rattle.geos_model.proofs.Undoing.{OnDone, IsAt, on_done, done_by-stays, refused, bad_line-refused, answered, none_refuses, not_in_group}
 
 -- What undos go by: a document and the past below it.
-abbrev Standing : Type 0
-Standing = Document × List UndoStep
+abbrev pub Past : Type 0
+Past = Document × List UndoStep
 
 -- the document before the group that is open, else this one
-abbrev before_group : Option OpenGroup → Document → Document
+abbrev pub before_group : Option OpenGroup → Document → Document
 before_group None d = d
 before_group (Some g) d = g.before
 
 -- what the machine stands on outside of its group
-abbrev outside : Machine → Standing
+abbrev pub outside : Machine → Past
 outside m = (before_group m.group m.document, m.past)
 
 -- an undo goes to the newest document of the past
-abbrev back : Standing → Standing
+abbrev pub back : Past → Past
 back (d, []) = (d, [])
 back (d, s ∷ past) = (s.document, past)
 
 -- how many edits the group has that is open
-abbrev edits_of : Option OpenGroup → Option ℕ
+abbrev pub edits_of : Option OpenGroup → Option ℕ
 edits_of group = option_map (λ g. g.edits) group
 
--- Calls with this tally came to the machine from this standing: undoing the steps that they made goes back there. A group without an
--- edit has left the document.
-record Counted (start : Standing) (t : Tally) (m : Machine) : Type 0 where
-  group : t.group ≡ edits_of m.group
-  whole : IfSome m.group (λ g. g.edits ≡ 0 → m.document ≡ g.before)
-  goes : iterate back t.steps (outside m) ≡ start
+-- Calls with this tally came to the machine with this limit from this past: undoing the steps that they made goes back there. A group
+-- without an edit has left the document.
+pub record Counted (limit : Option ℕ) (start : Past) (t : Tally) (m : Machine) : Type 0 where
+  pub group : t.group ≡ edits_of m.group
+  pub whole : IfSome m.group (λ g. g.edits ≡ 0 → m.document ≡ g.before)
+  pub bound : m.undo_limit ≡ limit
+  pub goes : iterate back t.steps (outside m) ≡ start
 
 -- at first, where no group is open
-counted-first : (m : Machine) → m.group ≡ None → Counted (outside m) (tally []) m
+pub counted-first : (m : Machine) → m.group ≡ None → Counted m.undo_limit (outside m) (record { steps = 0; group = None }) m
 counted-first m none = record {
   group = sym (ap edits_of none);
   whole = subst (λ group. IfSome group (λ g. g.edits ≡ 0 → m.document ≡ g.before)) (sym none) tt;
+  bound = refl;
   goes = refl;
 }
 
--- Each request but an undo, a redo and a revert carries that on.
+-- Each request that replaces no steps carries that on.
 
 -- with the same group, document and past
-counted-same : (start : Standing) (t : Tally) (m new : Machine) → Counted start t m → new ≡ m → Counted start t new
-counted-same start t m new counted is = subst (Counted start t) (sym is) counted
+pub counted-same : (limit : Option ℕ) (start : Past) (t : Tally) (m new : Machine) → Counted limit start t m → new ≡ m → Counted limit start t new
+counted-same limit start t m new counted is = subst (Counted limit start t) (sym is) counted
 
-counted-at : (start : Standing) (t : Tally) (m : Machine) (o : Option (Reply × Machine)) → Counted start t m → OnDone (IsAt m) o → OnDone (λ reply new. Counted start t new) o
-counted-at start t m None counted at = tt
-counted-at start t m (Some (reply, new)) counted at = counted-same start t m new counted at
+counted-at : (limit : Option ℕ) (start : Past) (t : Tally) (m : Machine) (o : Option (Reply × Machine)) → Counted limit start t m → OnDone (IsAt m) o
+    → OnDone (λ reply new. Counted limit start t new) o
+counted-at limit start t m None counted at = tt
+counted-at limit start t m (Some (reply, new)) counted at = counted-same limit start t m new counted at
+
+-- an edit in a group is one more there
+pub counted-in : (start : Past) (t : Tally) (m : Machine) (g : OpenGroup) (kind : Kind) (n : ℕ) (d : Document) → Some g ≡ m.group
+    → (limit : Option ℕ) → Counted limit start t m → Counted limit start (record t { group = Some (g.edits + 1) }) (recorded (Some g) kind n d m)
+counted-in start t m g kind n d is limit counted = record {
+  group = refl;
+  whole = λ none. absurd (omega (arith, none));
+  bound = counted.bound;
+  goes = rw (← is) at counted.goes;
+}
 
 -- what an edit does in no group is one step more, and in a group one edit more
-counted-edit : (start : Standing) (t : Tally) (m : Machine) (group : Option OpenGroup) (kind : Kind) (n : ℕ) (d : Document)
-    → group ≡ m.group → t.group ≡ edits_of group → Counted start t m → Counted start (with_edit t.group t) (recorded group kind n d m)
+counted-edit : (start : Past) (t : Tally) (m : Machine) (group : Option OpenGroup) (kind : Kind) (n : ℕ) (d : Document)
+    → group ≡ m.group → t.group ≡ edits_of group → Counted None start t m → Counted None start (with_edit t.group t) (recorded group kind n d m)
 counted-edit start t m None kind n d is same counted = rw same (record {
   group = ap edits_of is;
   whole = subst (λ group. IfSome group (λ g. g.edits ≡ 0 → d ≡ g.before)) is tt;
-  goes = rw (add-one, ← is) (rw (← is) at counted.goes);
+  bound = counted.bound;
+  goes = rw (counted.bound, add-one, ← is) (rw (← is) at counted.goes);
 })
-counted-edit start t m (Some g) kind n d is same counted = rw same (record {
-  group = refl;
-  whole = λ none. absurd (omega (arith, none));
-  goes = rw (← is) at counted.goes;
-})
+counted-edit start t m (Some g) kind n d is same counted = rw same (counted-in start t m g kind n d is None counted)
 
 -- a group that begins has no edit
-counted-begin : (start : Standing) (t : Tally) (m : Machine) → m.group ≡ None → Counted start t m → Counted start (record t { group = Some 0 }) (begun m)
-counted-begin start t m none counted = record {
+counted-begin : (limit : Option ℕ) (start : Past) (t : Tally) (m : Machine) → m.group ≡ None → Counted limit start t m
+    → Counted limit start (record t { group = Some 0 }) (begun m)
+counted-begin limit start t m none counted = record {
   group = refl;
   whole = λ empty. refl;
+  bound = counted.bound;
   goes = rw none at counted.goes;
 }
 
--- one that ends is a step where it has edits
-counted-end : (start : Standing) (t : Tally) (m : Machine) (group : Option OpenGroup) → group ≡ m.group → t.group ≡ edits_of group → Counted start t m
-    → OnDone (λ reply new. Counted start (with_end t.group t) new) (option_map (λ g. (Accepted, ended g m)) group)
-counted-end start t m None is same counted = tt
-counted-end start t m (Some g) is same counted =
+-- one that ends without an edit leaves all
+pub counted-empty : (limit : Option ℕ) (start : Past) (t : Tally) (m : Machine) (g : OpenGroup) → Some g ≡ m.group → (g.edits == 0) ≡ true
+    → Counted limit start t m → Counted limit start (record t { group = None }) (ended g m)
+counted-empty limit start t m g is none counted =
     let whole : g.edits ≡ 0 → m.document ≡ g.before = subst (λ group. IfSome group (λ g. g.edits ≡ 0 → m.document ≡ g.before)) (sym is) counted.whole in
     let goes : iterate back t.steps (g.before, m.past) ≡ start = rw (← is) at counted.goes in
+    record { group = refl; whole = tt; bound = counted.bound; goes = rw (none, whole (eqb-true g.edits 0 none)) goes }
+
+-- one that ends is a step where it has edits
+counted-end : (start : Past) (t : Tally) (m : Machine) (group : Option OpenGroup) → group ≡ m.group → t.group ≡ edits_of group → Counted None start t m
+    → OnDone (λ reply new. Counted None start (with_end t.group t) new) (option_map (λ g. (Accepted, ended g m)) group)
+counted-end start t m None is same counted = tt
+counted-end start t m (Some g) is same counted =
+    let goes : iterate back t.steps (g.before, m.past) ≡ start = rw (← is) at counted.goes in
     rw same (elim (cases_Bool (g.edits == 0)) [
-      | inl none ↦ record { group = refl; whole = tt; goes = rw (none, whole (eqb-true g.edits 0 none)) goes }
-      | inr some ↦ record { group = refl; whole = tt; goes = rw (some, add-one) goes }
+      | inl none ↦ subst (λ b. Counted None start (record { steps = if b then t.steps else t.steps + 1; group = None }) (ended g m)) (sym none) (counted-empty None start t m g is none counted)
+      | inr some ↦ record { group = refl; whole = tt; bound = counted.bound; goes = rw (some, counted.bound, add-one) goes }
     ])
 
 -- one that is abandoned leaves the document that was before it
-counted-abandon : (start : Standing) (t : Tally) (m : Machine) (group : Option OpenGroup) → group ≡ m.group → Counted start t m
-    → OnDone (λ reply new. Counted start (record t { group = None }) new) (option_map (λ g. (Accepted, abandoned g m)) group)
-counted-abandon start t m None is counted = tt
-counted-abandon start t m (Some g) is counted = record { group = refl; whole = tt; goes = rw (← is) at counted.goes }
+counted-abandon : (limit : Option ℕ) (start : Past) (t : Tally) (m : Machine) (group : Option OpenGroup) → group ≡ m.group → Counted limit start t m
+    → OnDone (λ reply new. Counted limit start (record t { group = None }) new) (option_map (λ g. (Accepted, abandoned g m)) group)
+counted-abandon limit start t m None is counted = tt
+counted-abandon limit start t m (Some g) is counted = record { group = refl; whole = tt; bound = counted.bound; goes = rw (← is) at counted.goes }
 
--- so a command that nothing refuses
-done_by-counted : (start : Standing) (t : Tally) (c : Command) (m : Machine) → is_undo_or_redo (Some c) ≡ false → first_refusal (command_conditions c m) ≡ None → Counted start t m
-    → OnDone (λ reply new. Counted start (after_request (Some c) t) new) (done_by c m)
+-- an edit, and the end of a group, by which a step is made
+abbrev pub makes_step : Command → Bool
+makes_step (commands.Edit e) = true
+makes_step commands.End = true
+makes_step c = false
+
+-- so a command by which no step is made, and that nothing refuses, whatever the limit
+done_by-even : (limit : Option ℕ) (start : Past) (t : Tally) (c : Command) (m : Machine) → (turns (Some c) || makes_step c) ≡ false → first_refusal (command_conditions c m) ≡ None
+    → Counted limit start t m → OnDone (λ reply new. Counted limit start (after_request (Some c) t) new) (done_by c m)
+done_by-even limit start t (commands.Edit e) m h none counted = absurd (cc h)
+done_by-even limit start t commands.End m h none counted = absurd (cc h)
+done_by-even limit start t commands.Undo m h none counted = absurd (cc h)
+done_by-even limit start t commands.Redo m h none counted = absurd (cc h)
+done_by-even limit start t commands.Revert m h none counted = absurd (cc h)
+done_by-even limit start t commands.Join m h none counted = absurd (cc h)
+done_by-even limit start t (commands.Forget most) m h none counted = absurd (cc h)
+done_by-even limit start t commands.Begin m h none counted =
+    counted-begin limit start t m (not_in_group m (or_none (none_applies (command_conditions commands.Begin m) none GroupOpen refl)).0) counted
+done_by-even limit start t commands.Abandon m h none counted = counted-abandon limit start t m m.group refl counted
+done_by-even limit start t commands.Update m h none counted = record { group = counted.group; whole = counted.whole; bound = counted.bound; goes = counted.goes }
+done_by-even limit start t commands.Save m h none counted = record { group = counted.group; whole = counted.whole; bound = counted.bound; goes = counted.goes }
+done_by-even limit start t commands.SaveAs m h none counted = record { group = counted.group; whole = counted.whole; bound = counted.bound; goes = counted.goes }
+done_by-even limit start t (commands.Lock b) m h none counted = record { group = counted.group; whole = counted.whole; bound = counted.bound; goes = counted.goes }
+done_by-even limit start t (commands.Unlock b) m h none counted = record { group = counted.group; whole = counted.whole; bound = counted.bound; goes = counted.goes }
+done_by-even limit start t c m h none counted = counted-at limit start t m (done_by c m) counted (done_by-stays c m refl)
+
+-- and an accepted request
+pub even-on : (limit : Option ℕ) (start : Past) (t : Tally) (failed : Bool) (old new : Machine) (c : Command) (reply : Reply) → Step failed old (Some c) reply new → is_refused reply ≡ false
+    → (turns (Some c) || makes_step c) ≡ false → Counted limit start t old → Counted limit start (after_request (Some c) t) new
+even-on limit start t failed old new c reply step h k counted =
+    on_done (λ reply new. Counted limit start (after_request (Some c) t) new) (done_by c old) reply new
+    (done_by-even limit start t c old k (none_refuses c reply step h) counted) (answered c reply step h)
+
+-- so where there is no limit each command that nothing refuses
+done_by-counted : (start : Past) (t : Tally) (c : Command) (m : Machine) → turns (Some c) ≡ false → first_refusal (command_conditions c m) ≡ None → Counted None start t m
+    → OnDone (λ reply new. Counted None start (after_request (Some c) t) new) (done_by c m)
 done_by-counted start t (commands.Edit e) m h none counted =
     let after : Document = (effect e m.document).0 in
     counted-edit start t m m.group (kind_of e) (cost e m.document after) after refl counted.group counted
+done_by-counted start t commands.End m h none counted = counted-end start t m m.group refl counted.group counted
 done_by-counted start t commands.Undo m h none counted = absurd (cc h)
 done_by-counted start t commands.Redo m h none counted = absurd (cc h)
 done_by-counted start t commands.Revert m h none counted = absurd (cc h)
-done_by-counted start t commands.Begin m h none counted =
-    counted-begin start t m (not_in_group m (or_none (none_applies (command_conditions commands.Begin m) none GroupOpen refl)).0) counted
-done_by-counted start t commands.End m h none counted = counted-end start t m m.group refl counted.group counted
-done_by-counted start t commands.Abandon m h none counted = counted-abandon start t m m.group refl counted
-done_by-counted start t commands.Update m h none counted = record { group = counted.group; whole = counted.whole; goes = counted.goes }
-done_by-counted start t commands.Save m h none counted = record { group = counted.group; whole = counted.whole; goes = counted.goes }
-done_by-counted start t commands.SaveAs m h none counted = record { group = counted.group; whole = counted.whole; goes = counted.goes }
-done_by-counted start t (commands.Lock b) m h none counted = record { group = counted.group; whole = counted.whole; goes = counted.goes }
-done_by-counted start t (commands.Unlock b) m h none counted = record { group = counted.group; whole = counted.whole; goes = counted.goes }
-done_by-counted start t c m h none counted = counted-at start t m (done_by c m) counted (done_by-stays c m refl)
+done_by-counted start t commands.Join m h none counted = absurd (cc h)
+done_by-counted start t (commands.Forget most) m h none counted = absurd (cc h)
+done_by-counted start t c m h none counted = done_by-even None start t c m refl none counted
 
 -- so an accepted request
-counted-on : (start : Standing) (t : Tally) (failed : Bool) (old new : Machine) (request : Request) (reply : Reply) → Step failed old request reply new → is_refused reply ≡ false
-    → is_undo_or_redo request ≡ false → Counted start t old → Counted start (after_request request t) new
+counted-on : (start : Past) (t : Tally) (failed : Bool) (old new : Machine) (request : Request) (reply : Reply) → Step failed old request reply new → is_refused reply ≡ false
+    → turns request ≡ false → Counted None start t old → Counted None start (after_request request t) new
 counted-on start t failed old new None reply step h k counted = absurd (bad_line-refused reply step h)
 counted-on start t failed old new (Some c) reply step h k counted =
-    on_done (λ reply new. Counted start (after_request (Some c) t) new) (done_by c old) reply new
+    on_done (λ reply new. Counted None start (after_request (Some c) t) new) (done_by c old) reply new
     (done_by-counted start t c old k (none_refuses c reply step h) counted) (answered c reply step h)
 
 -- Calls.
 
--- those among which no undo, no redo and no revert is accepted
-calls-counted : (start : Standing) (calls : List Call) (t : Tally) (old new : Machine) → accepted is_undo_or_redo calls ≡ 0 → Run old calls new
-    → Counted start t old → Counted start (after_calls calls t) new
-calls-counted start [] t old new none run counted = counted-same start t old new counted run
+-- those among which no undo and nothing that replaces steps is accepted
+calls-counted : (start : Past) (calls : List Call) (t : Tally) (old new : Machine) → accepted turns calls ≡ 0 → Run old calls new
+    → Counted None start t old → Counted None start (after_calls calls t) new
+calls-counted start [] t old new none run counted = counted-same None start t old new counted run
 calls-counted start (c ∷ cs) t old new none run counted = elim (cases_Bool (is_refused c.reply)) [
-  | inl out ↦ rw out (calls-counted start cs t run.0 new (rw out at none) run.2 (counted-same start t old run.0 counted (refused c.request c.reply run.1 out)))
-  | inr taken ↦ elim (cases_Bool (is_undo_or_redo c.request)) [
+  | inl out ↦ rw out (calls-counted start cs t run.0 new (rw out at none) run.2 (counted-same None start t old run.0 counted (refused c.request c.reply run.1 out)))
+  | inr taken ↦ elim (cases_Bool (turns c.request)) [
     | inl turn ↦ absurd (cc (rw (taken, turn) at none))
     | inr on ↦
         let next = counted-on start t c.failed old run.0 c.request c.reply run.1 taken on counted in
@@ -180,16 +226,17 @@ more-calls (c ∷ cs) t = elim (cases_Bool (is_refused c.reply)) [
 -- Undos.
 
 -- an undo goes from no group to none, and to the newest document of the past
-record IsBack (old new : Machine) : Type 0 where
-  was : old.group ≡ None
-  stays : new.group ≡ None
-  goes : outside new ≡ back (outside old)
+pub record IsBack (old new : Machine) : Type 0 where
+  pub was : old.group ≡ None
+  pub stays : new.group ≡ None
+  pub limit : new.undo_limit ≡ old.undo_limit
+  pub goes : outside new ≡ back (outside old)
 
 undone-back : (m : Machine) (past : List UndoStep) → m.past ≡ past → m.group ≡ None → OnDone (λ reply new. IsBack m new) (option_map (λ new. (Accepted, new)) (undone m past))
 undone-back m [] is none = tt
-undone-back m (s ∷ past) is none = record { was = none; stays = none; goes = rw (none, is) refl }
+undone-back m (s ∷ past) is none = record { was = none; stays = none; limit = refl; goes = rw (none, is) refl }
 
-undo-back : (failed : Bool) (old new : Machine) (request : Request) (reply : Reply)
+pub undo-back : (failed : Bool) (old new : Machine) (request : Request) (reply : Reply)
     → Step failed old request reply new → is_refused reply ≡ false → is_undo request ≡ true → IsBack old new
 undo-back failed old new (Some commands.Undo) reply step h k =
     let free = not_in_group old (or_none (none_applies (command_conditions commands.Undo old) (none_refuses commands.Undo reply step h) GroupOpen refl)).0 in
@@ -202,24 +249,24 @@ undo-tally (Some commands.Undo) t k = refl
 undo-tally _ t k = absurd (cc k)
 
 -- calls that made no step may be counted from where the machine stands now
-counted-here : (t : Tally) (m : Machine) → t.steps ≡ 0 → t.group ≡ edits_of m.group → IfSome m.group (λ g. g.edits ≡ 0 → m.document ≡ g.before) → Counted (outside m) t m
-counted-here t m none group whole = record { group = group; whole = whole; goes = rw none refl }
+counted-here : (t : Tally) (m : Machine) → m.undo_limit ≡ None → t.steps ≡ 0 → t.group ≡ edits_of m.group → IfSome m.group (λ g. g.edits ≡ 0 → m.document ≡ g.before) → Counted None (outside m) t m
+counted-here t m unlimited none group whole = record { group = group; whole = whole; bound = unlimited; goes = rw none refl }
 
-counted-back : (t : Tally) (old new : Machine) → t.steps ≡ 0 → IsBack old new → Counted (outside old) t old → Counted (outside new) t new
+counted-back : (t : Tally) (old new : Machine) → t.steps ≡ 0 → IsBack old new → Counted None (outside old) t old → Counted None (outside new) t new
 counted-back t old new none undo counted =
-    counted-here t new none (counted.group ∙ ap edits_of (undo.was ∙ sym undo.stays))
+    counted-here t new (undo.limit ∙ counted.bound) none (counted.group ∙ ap edits_of (undo.was ∙ sym undo.stays))
     (subst (λ group. IfSome group (λ g. g.edits ≡ 0 → new.document ≡ g.before)) (sym undo.stays) tt)
 
--- Among calls that make no step each undo goes back once, and what else is accepted but a redo and a revert stands where it stood.
-calls-undone : (calls : List Call) (t : Tally) (old new : Machine) → accepted redoes_or_reverts calls ≡ 0 → (after_calls calls t).steps ≡ 0
-    → Run old calls new → Counted (outside old) t old → outside new ≡ iterate back (accepted is_undo calls) (outside old)
+-- Among calls that make no step each undo goes back once, and what else is accepted but what replaces steps stands where it stood.
+calls-undone : (calls : List Call) (t : Tally) (old new : Machine) → accepted replaces_steps calls ≡ 0 → (after_calls calls t).steps ≡ 0
+    → Run old calls new → Counted None (outside old) t old → outside new ≡ iterate back (accepted is_undo calls) (outside old)
 calls-undone [] t old new none no_steps run counted = ap outside run
 calls-undone (c ∷ cs) t old new none no_steps run counted = elim (cases_Bool (is_refused c.reply)) [
   | inl out ↦
       let same = refused c.request c.reply run.1 out in
-      let rest = calls-undone cs t run.0 new (rw out at none) (rw (out, after_calls) at no_steps) run.2 (subst (λ m. Counted (outside m) t m) (sym same) counted) in
+      let rest = calls-undone cs t run.0 new (rw out at none) (rw (out, after_calls) at no_steps) run.2 (subst (λ m. Counted None (outside m) t m) (sym same) counted) in
       rw out (rest ∙ ap (λ m. iterate back (accepted is_undo cs) (outside m)) same)
-  | inr taken ↦ elim (cases_Bool (redoes_or_reverts c.request)) [
+  | inr taken ↦ elim (cases_Bool (replaces_steps c.request)) [
     | inl turn ↦ absurd (cc (rw (taken, turn) at none))
     | inr on ↦
         let after : Tally = after_request c.request t in
@@ -230,13 +277,13 @@ calls-undone (c ∷ cs) t old new none no_steps run counted = elim (cases_Bool (
           | inl undo ↦
               let goes = undo-back c.failed old run.0 c.request c.reply run.1 taken undo in
               let is = undo-tally c.request t undo in
-              let next = counted-back after old run.0 bare goes (subst (λ s. Counted (outside old) s old) (sym is) counted) in
+              let next = counted-back after old run.0 bare goes (subst (λ s. Counted None (outside old) s old) (sym is) counted) in
               let rest = calls-undone cs after run.0 new (rw (taken, on) at none) fewer run.2 next in
               rw (taken, undo) (rest ∙ ap (iterate back (accepted is_undo cs)) goes.goes)
           | inr other ↦
               let next = counted-on (outside old) t c.failed old run.0 c.request c.reply run.1 taken (rw other on) counted in
               let same : outside run.0 ≡ outside old = rw bare at next.goes in
-              let rest = calls-undone cs after run.0 new (rw (taken, on) at none) fewer run.2 (counted-here after run.0 bare next.group next.whole) in
+              let rest = calls-undone cs after run.0 new (rw (taken, on) at none) fewer run.2 (counted-here after run.0 next.bound bare next.group next.whole) in
               rw (taken, other) (rest ∙ ap (iterate back (accepted is_undo cs)) same)
         ]
   ]
@@ -244,9 +291,11 @@ calls-undone (c ∷ cs) t old new none no_steps run counted = elim (cases_Bool (
 
 -- where no group is open, the document and the past are those of the standing
 pub undo_law : UndoLaw
-undo_law old mid new edits undos free no_turns no_others no_steps as_many edited_to undone_to between after =
-    let there = calls-counted (outside old) edits (tally []) old mid no_turns edited_to (counted-first old free) in
-    let gone = calls-undone undos (tally []) mid new no_others no_steps undone_to (counted-first mid between) in
+undo_law old mid new edits undos free unlimited no_turns no_others no_steps as_many edited_to undone_to between after =
+    let first : Counted None (outside old) (tally []) old = subst (λ limit. Counted limit (outside old) (tally []) old) unlimited (counted-first old free) in
+    let there = calls-counted (outside old) edits (tally []) old mid no_turns edited_to first in
+    let later : Counted None (outside mid) (tally []) mid = subst (λ limit. Counted limit (outside mid) (tally []) mid) there.bound (counted-first mid between) in
+    let gone = calls-undone undos (tally []) mid new no_others no_steps undone_to later in
     let start : outside new ≡ outside old = gone ∙ ap (λ n. iterate back n (outside mid)) (sym as_many) ∙ there.goes in
     let same : (new.document, new.past) ≡ (old.document, old.past) = rw (free, after) at start in
     record { document = ap (λ s. s.0) same; past = ap (λ s. s.1) same }

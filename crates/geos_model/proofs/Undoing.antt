@@ -68,6 +68,8 @@ done_by-answers commands.Redo m = moved-answers (redone m m.future)
 done_by-answers commands.Begin m = refl
 done_by-answers commands.End m = closed-answers (λ g. ended g m) m.group
 done_by-answers commands.Abandon m = closed-answers (λ g. abandoned g m) m.group
+done_by-answers commands.Join m = refl
+done_by-answers (commands.Forget most) m = refl
 done_by-answers commands.Update m = refl
 done_by-answers commands.Save m = refl
 done_by-answers commands.Revert m = refl
@@ -99,6 +101,7 @@ done_by-answers (commands.Dirty b) m = refl
 done_by-answers (commands.Locks b) m = refl
 done_by-answers commands.Undos m = refl
 done_by-answers commands.Redos m = refl
+done_by-answers commands.Modified m = refl
 
 -- The machine is this one.
 abbrev pub IsAt : Machine → Reply → Machine → Type 0
@@ -133,6 +136,8 @@ pub done_by-stays : (c : Command) (m : Machine) → (moves (Some c) || stores c 
 done_by-stays (commands.Edit e) m h = absurd (cc h)
 done_by-stays commands.Undo m h = absurd (cc h)
 done_by-stays commands.Redo m h = absurd (cc h)
+done_by-stays commands.Join m h = absurd (cc h)
+done_by-stays (commands.Forget most) m h = absurd (cc h)
 done_by-stays commands.Update m h = absurd (cc h)
 done_by-stays commands.Save m h = absurd (cc h)
 done_by-stays commands.Revert m h = absurd (cc h)
@@ -169,6 +174,7 @@ done_by-stays (commands.ChainSize b) m h = refl
 done_by-stays (commands.ChainEqual b other) m h = refl
 done_by-stays commands.Undos m h = refl
 done_by-stays commands.Redos m h = refl
+done_by-stays commands.Modified m h = refl
 
 -- a reply and the machine after it
 abbrev pub answer : Reply → Machine → Option (Reply × Machine)

@@ -1,5 +1,5 @@
 -- Every step of the machine keeps validity: edits, then the machine.
-use Rattle.std.proofs.Common.{◌≡◌, ℕ, zero, suc, ◌+◌, ◌<◌, ◌≤◌, Bool, true, false, List, [], ◌∷◌, length, replicate, Option, Some, None, IfSome, unwrap_or, refl, sym, ap, subst, ◌∙◌, ◌==◌, inl, inr, arith, le-leb, ltb-false}
+use Rattle.std.proofs.Common.{◌≡◌, ℕ, zero, suc, ◌+◌, ◌<◌, ◌≤◌, Bool, true, false, List, [], ◌∷◌, length, replicate, Option, Some, None, IfSome, unwrap_or, refl, sym, ap, subst, ◌∙◌, ◌==◌, inl, inr, arith, le-leb, ltb-false, take}
 use Rattle.std.proofs.lemmas.Bool.{cases_Bool, eqb-false, true≢false}
 use Rattle.std.proofs.lemmas.List.{length-replicate}
 use Rattle.std.specs.List.{All}
@@ -17,7 +17,7 @@ use Rattle.geos_model.specs.Cost.{cost}
 use Rattle.geos_model.specs.Document.{Block, Document, empty_document, is_valid_body, is_live, is_heap, is_heap_body, is_raw, raw_bytes_of, block_at, IsValid, attributes_of, no_block, FitAttributes, IsTyped}
 use Rattle.geos_model.specs.Meaning.{chunk_at, past_end, conditions, effect}
 use Rattle.geos_model.specs.Reply.{Reply, Accepted, Refused}
-use Rattle.geos_model.specs.Machine.{UndoStep, OpenGroup, Machine, Request, Call, IsValidGroup, IsValidMachine, AreValidLocks, Step, Run, opened_machine, has_locks, is_barred, command_conditions, done_by, recorded, edited, undone, redone, begun, ended, abandoned, after_lock, after_unlock, after_update, after_save, after_revert, after_save_as, kind_of}
+use Rattle.geos_model.specs.Machine.{UndoStep, OpenGroup, Machine, Request, Call, IsValidGroup, IsValidMachine, AreValidLocks, Step, Run, opened_machine, has_locks, is_barred, command_conditions, done_by, recorded, edited, undone, redone, begun, ended, abandoned, after_lock, after_unlock, after_update, after_save, after_revert, after_save_as, kind_of, limited, joined_steps, after_join, after_forget}
 use Rattle.geos_model.specs.Validity.{word_given, word_asked, ValidityLaw}
 use Rattle.geos_model.specs.declared.fault.Fault.{Fault}
 use Rattle.geos_model.specs.declared.fault.Fault.TheVariants.{Locked, GroupOpen, NoBlock, TooBig, NoHandles, Range, IsMap, WrongKind}
@@ -142,6 +142,24 @@ valid-first s steps all = all 0 s (omega arith)
 pub valid-rest : (s : UndoStep) (steps : List UndoStep) → AreValid (s ∷ steps) → AreValid steps
 valid-rest s steps all k d l = all (suc k) d (omega arith)
 
+-- the newest ones of them
+pub valid-taken : (most : ℕ) (steps : List UndoStep) → AreValid steps → AreValid (take most steps)
+valid-taken zero steps all = λ k d l. absurd (omega (arith, l))
+valid-taken (suc most) [] all = all
+valid-taken (suc most) (s ∷ steps) all = valid-push s (take most steps) (valid-first s steps all) (valid-taken most steps (valid-rest s steps all))
+
+pub valid-limited : (limit : Option ℕ) (steps : List UndoStep) → AreValid steps → AreValid (limited limit steps)
+valid-limited None steps all = all
+valid-limited (Some most) steps all = valid-taken most steps all
+
+-- the newest two of them as one
+valid-joined : (steps : List UndoStep) → AreValid steps → AreValid (joined_steps steps)
+valid-joined [] all = all
+valid-joined (s ∷ []) all = all
+valid-joined (s ∷ r ∷ steps) all =
+    let older = valid-rest s (r ∷ steps) all in
+    valid-push (record { kind = Group; cost = s.cost + r.cost; document = r.document }) steps (valid-first r steps older) (valid-rest r steps older)
+
 pub valid-none : AreValid []
 valid-none k d l = absurd (omega arith)
 
@@ -198,7 +216,7 @@ recorded-valid : (group : Option OpenGroup) (kind : Kind) (n : ℕ) (d : Documen
     → ((new : Machine) → new.locks ≡ m.locks → new.frames ≡ m.frames → new.document ≡ d → AreValidLocks new) → IsValidMachine (recorded group kind n d m)
 recorded-valid None kind n d m valid is good locks = record {
   document = good;
-  past = valid-push (record { kind = kind; cost = n; document = m.document }) m.past valid.document valid.past;
+  past = valid-limited m.undo_limit (record { kind = kind; cost = n; document = m.document } ∷ m.past) (valid-push (record { kind = kind; cost = n; document = m.document }) m.past valid.document valid.past);
   future = valid-none;
   group = no_group-valid (recorded None kind n d m) (sym is);
   updated = valid.updated;
@@ -233,7 +251,7 @@ ended-valid (Some g) m valid held = record {
   document = valid.document;
   past = elim (cases_Bool (g.edits == 0)) [
     | inl none ↦ rw none valid.past
-    | inr some ↦ rw some (valid-push (record { kind = Group; cost = g.cost; document = g.before }) m.past held.before valid.past)
+    | inr some ↦ rw some (valid-limited m.undo_limit (record { kind = Group; cost = g.cost; document = g.before } ∷ m.past) (valid-push (record { kind = Group; cost = g.cost; document = g.before }) m.past held.before valid.past))
   ];
   future = valid.future;
   group = tt;
@@ -281,6 +299,24 @@ done_by-valid commands.Begin m low valid none = record {
 }
 done_by-valid commands.End m low valid none = ended-valid m.group m valid valid.group
 done_by-valid commands.Abandon m low valid none = abandoned-valid m.group m (or_none (none_applies (command_conditions commands.Abandon m) none Locked refl)).0 valid valid.group
+done_by-valid commands.Join m low valid none = record {
+  document = valid.document;
+  past = valid-joined m.past valid.past;
+  future = valid.future;
+  group = kept_group-valid m (after_join m) m.group refl refl valid.group;
+  updated = valid.updated;
+  saved = valid.saved;
+  locks = kept_locks-valid m (after_join m) valid.locks refl refl (λ b locked live. live);
+}
+done_by-valid (commands.Forget most) m low valid none = record {
+  document = valid.document;
+  past = valid-taken most m.past valid.past;
+  future = valid.future;
+  group = kept_group-valid m (after_forget most m) m.group refl refl valid.group;
+  updated = valid.updated;
+  saved = valid.saved;
+  locks = kept_locks-valid m (after_forget most m) valid.locks refl refl (λ b locked live. live);
+}
 done_by-valid commands.Update m low valid none = record {
   document = valid.document;
   past = valid.past;
@@ -353,20 +389,20 @@ run-valid old new [] low valid run = subst IsValidMachine (sym run) valid
 run-valid old new (c ∷ cs) low valid run =
     run-valid run.0 new cs (λ k d l. low (suc k) d (omega arith)) (step-valid old run.0 c.request c.reply c.failed (low 0 c (omega arith)) valid run.1) run.2
 
-opened-valid : (updated saved : Document) (sequence frames : ℕ) (target : Bool) → IsValid updated → IsValid saved → IsValidMachine (opened_machine updated saved sequence frames target)
-opened-valid updated saved sequence frames target good was = record {
+opened-valid : (updated saved : Document) (one : Bool) (sequence frames : ℕ) (target : Bool) → IsValid updated → IsValid saved → IsValidMachine (opened_machine updated saved one sequence frames target)
+opened-valid updated saved one sequence frames target good was = record {
   document = good;
   past = valid-none;
   future = valid-none;
   group = tt;
   updated = good;
   saved = was;
-  locks = empty_locks-valid (opened_machine updated saved sequence frames target) refl;
+  locks = empty_locks-valid (opened_machine updated saved one sequence frames target) refl;
 }
 
 pub validity_law : ValidityLaw
 validity_law = record {
-  start = λ frames target. opened-valid empty_document empty_document 1 frames target empty_document-valid empty_document-valid;
+  start = λ frames target. opened-valid empty_document empty_document true 1 frames target empty_document-valid empty_document-valid;
   opened = opened-valid;
   edit = effect-valid;
   step = step-valid;

@@ -1,7 +1,7 @@
 -- When a call may fail in place of its answer.
-use Rattle.std.specs.Prelude.{◌≡◌, ◌≢◌, ◌⊎◌, Bool, true, false, [], Some, None}
+use Rattle.std.specs.Prelude.{◌≡◌, ◌≢◌, ◌⊎◌, ℕ, Bool, true, false, [], Some, None}
 use Rattle.geos_model.specs.Reply.{Reply, Accepted, Refused}
-use Rattle.geos_model.specs.Machine.{Machine, Request, Step, takes_memory, calls_store, has_locks}
+use Rattle.geos_model.specs.Machine.{Machine, Request, Step, takes_memory, calls_store, has_locks, has_no_two}
 use Rattle.geos_model.specs.Undoing.{is_refused}
 use Rattle.geos_model.specs.declared.command.Command.{Command}
 use Rattle.geos_model.specs.declared.command.Command.TheVariants as commands
@@ -30,3 +30,9 @@ pub record FailingLaw : Type 0 where
       → old.future ≢ [] → Step failed old (Some commands.Redo) reply new → IsTakenOrGivenUp failed old reply new
   pub abandon : (failed : Bool) (old new : Machine) (reply : Reply) → old.group ≢ None → has_locks old ≡ false
       → Step failed old (Some commands.Abandon) reply new → IsTakenOrGivenUp failed old reply new
+  -- A join of two steps, where no group is open, is refused for lack of memory alone, and forgetting never.
+  pub join : (failed : Bool) (old new : Machine) (reply : Reply) → old.group ≡ None → has_no_two old ≡ false
+      → Step failed old (Some commands.Join) reply new
+      → (reply ≡ Accepted) ⊎ ((new ≡ old) × (reply ≡ Refused Memory))
+  pub forget : (failed : Bool) (old new : Machine) (most : ℕ) (reply : Reply)
+      → Step failed old (Some (commands.Forget most)) reply new → reply ≡ Accepted

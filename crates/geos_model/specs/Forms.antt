@@ -22,6 +22,7 @@ form_asked commands.MapBlock = Name
 form_asked (commands.Locks b) = Number
 form_asked commands.Undos = Number
 form_asked commands.Redos = Number
+form_asked commands.Modified = Number
 form_asked (commands.Info b) = Info
 form_asked (commands.ReadRaw b) = Bytes
 form_asked (commands.Chunks b) = Names

@@ -20,12 +20,16 @@ pub mod Forms
 pub mod Scope
 pub mod Targets
 pub mod LookUps
+pub mod Position
 pub mod Machine
 pub mod Laws
 pub mod EditLaws
 pub mod ChainLaws
 pub mod Undoing
+pub mod Depth
+pub mod Steps
 pub mod Saving
 pub mod Failing
 pub mod Validity
+pub mod Standing
 pub mod Script

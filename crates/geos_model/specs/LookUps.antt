@@ -55,6 +55,7 @@ is_look_up (commands.ChainSize b) = true
 is_look_up (commands.ChainEqual b other) = true
 is_look_up commands.Undos = true
 is_look_up commands.Redos = true
+is_look_up commands.Modified = true
 is_look_up command = asks_chunk command
 
 abbrev pub plain_look_up : PlainLookUp → Command
@@ -64,6 +65,7 @@ plain_look_up plain_look_ups.MapBlock = commands.MapBlock
 plain_look_up (plain_look_ups.Locks b) = commands.Locks b
 plain_look_up plain_look_ups.Undos = commands.Undos
 plain_look_up plain_look_ups.Redos = commands.Redos
+plain_look_up plain_look_ups.Modified = commands.Modified
 
 abbrev pub chunk_array_look_up : VmHandle → ChunkHandle → ChunkArrayLookUp → Command
 chunk_array_look_up b c chunk_array_look_ups.Count = commands.ArrayCount b c

@@ -1,5 +1,5 @@
 -- The machine: a document with its past and its future, the group of edits that is open, and what the file has of it.
-use Rattle.std.specs.Prelude.{◌≡◌, ◌≢◌, ◌⊎◌, ◌≤◌, ℕ, ◌+◌, ◌-◌, List, [], ◌∷◌, Bool, true, false, not, ◌==◌, ◌&&◌, nat_le, nat_lt, if◌then◌else◌, length, count_by, All, Option, Some, None, IfSome, is_some, unwrap_or}
+use Rattle.std.specs.Prelude.{◌≡◌, ◌≢◌, ◌⊎◌, ◌≤◌, ℕ, ◌+◌, ◌-◌, List, [], ◌∷◌, Bool, true, false, not, ◌==◌, ◌&&◌, nat_le, nat_lt, if◌then◌else◌, length, take, count_by, All, Option, Some, None, IfSome, is_some, unwrap_or}
 use Rattle.std.specs.Ordering.{nat_cmp}
 use Rattle.std.specs.FinMap.{FinMap, empty, get, insert, remove, contains_key, len}
 use Rattle.std.specs.Option.{option_map, option_map_or}
@@ -9,6 +9,7 @@ use Rattle.geos_model.specs.Meaning.{conditions, effect, on_block}
 use Rattle.geos_model.specs.Cost.{cost}
 use Rattle.geos_model.specs.Scope.{Scope, scope_of}
 use Rattle.geos_model.specs.Scope as scopes
+use Rattle.geos_model.specs.Position.{Position, Back, Nowhere, is_here, position_stepped, position_within, position_in_group, position_after_undo, position_after_redo, position_after_join}
 use Rattle.geos_model.specs.Reply.{Reply, Accepted, Refused, NumberIs, reply_of_done, look_up_conditions, look_up}
 use Rattle.geos_model.specs.declared.fault.Fault.{Fault}
 use Rattle.geos_model.specs.declared.fault.Fault.TheVariants.{Memory, File, BadCommand, Locked, NotLocked, LockLimit, CacheFull, NothingToUndo, NothingToRedo, NoTarget, Worn, GroupOpen, NoGroup}
@@ -38,21 +39,27 @@ pub record Machine : Type 0 where
   pub group : Option OpenGroup  -- None where none is open
   pub updated : Document  -- what opening the file gives
   pub saved : Document  -- what a revert gives
+  pub updated_at : Position  -- where the updated document stands, from the one before the open group
+  pub saved_at : Position  -- and the saved one
+  pub undo_limit : Option ℕ  -- how many steps an edit or a group leaves to be undone; None where all are left
   pub locks : FinMap nat_cmp ℕ  -- how often each locked block is locked
   pub frames : ℕ  -- how many blocks may be held in memory
   pub target : Bool  -- whether a target for a save-as is left
   pub sequence : ℕ  -- of the last acknowledged commit
 
--- That of a session on a file that was opened: its updated document and its saved one, the sequence number of that
--- commit, the number of frames, and whether a target is left.
-abbrev pub opened_machine : Document → Document → ℕ → ℕ → Bool → Machine
-opened_machine updated saved sequence frames target = record {
+-- That of a session on a file that was opened: its updated document and its saved one, whether the file has one
+-- directory for both, the sequence number of that commit, the number of frames, and whether a target is left.
+abbrev pub opened_machine : Document → Document → Bool → ℕ → ℕ → Bool → Machine
+opened_machine updated saved one sequence frames target = record {
   document = updated;
   past = [];
   future = [];
   group = None;
   updated = updated;
   saved = saved;
+  updated_at = Back 0;
+  saved_at = if one then Back 0 else Nowhere;
+  undo_limit = None;
   locks = empty;
   frames = frames;
   target = target;
@@ -61,7 +68,11 @@ opened_machine updated saved sequence frames target = record {
 
 -- that of a session on a new file
 abbrev pub empty_machine : ℕ → Bool → Machine
-empty_machine frames target = opened_machine empty_document empty_document 1 frames target
+empty_machine frames target = opened_machine empty_document empty_document true 1 frames target
+
+-- the machine with another limit of steps to be undone, which counts from the next edit or group on
+abbrev pub with_undo_limit : Option ℕ → Machine → Machine
+with_undo_limit limit m = record m { undo_limit = limit }
 
 -- how often a block can be locked
 abbrev pub most_locks : ℕ
@@ -217,20 +228,58 @@ in_group m = is_some m.group
 abbrev pub is_empty_group : OpenGroup → Bool
 is_empty_group g = g.edits == 0
 
+-- whether a group is open that has edits, so that they are to be taken back where it is abandoned
+abbrev pub has_edits : Machine → Bool
+has_edits m = option_map_or (λ g. not (is_empty_group g)) m.group false
+
 -- a group is open that has no edit yet
 abbrev pub begun : Machine → Machine
 begun m = record m { group = Some (record { before = m.document; edits = 0; cost = 0 }) }
 
--- The group is one step of the past, if it has edits. One without leaves both lists.
+-- no more steps than the limit allows, the newest
+abbrev pub limited : Option ℕ → List UndoStep → List UndoStep
+limited None steps = steps
+limited (Some most) steps = take most steps
+
+-- No more than so many steps are left to be undone, the newest.
+abbrev pub after_forget : ℕ → Machine → Machine
+after_forget most m = record m {
+  past = limited (Some most) m.past;
+  updated_at = position_within (Some most) m.updated_at;
+  saved_at = position_within (Some most) m.saved_at;
+}
+
+-- The group is one step of the past, if it has edits; the limit may take the oldest. One without leaves both lists.
 abbrev pub ended : OpenGroup → Machine → Machine
 ended g m =
     let undo : UndoStep = record { kind = Group; cost = g.cost; document = g.before } in
-    record m { past = if is_empty_group g then m.past else undo ∷ m.past; group = None }
+    record m {
+      past = if is_empty_group g then m.past else limited m.undo_limit (undo ∷ m.past);
+      group = None;
+      updated_at = if is_empty_group g then m.updated_at else position_stepped m.undo_limit m.updated_at;
+      saved_at = if is_empty_group g then m.saved_at else position_stepped m.undo_limit m.saved_at;
+    }
 
 -- The document is again the one when the group began. The future stays: edits of the group, if there were any, have
 -- emptied it.
 abbrev pub abandoned : OpenGroup → Machine → Machine
 abandoned g m = record m { document = g.before; group = None }
+
+-- The newest two steps are one, a group that is charged for both.
+abbrev pub joined_steps : List UndoStep → List UndoStep
+joined_steps (s ∷ r ∷ past) = record { kind = Group; cost = s.cost + r.cost; document = r.document } ∷ past
+joined_steps past = past
+
+abbrev pub after_join : Machine → Machine
+after_join m = record m {
+  past = joined_steps m.past;
+  updated_at = position_after_join m.updated_at;
+  saved_at = position_after_join m.saved_at;
+}
+
+-- there are no two steps to be joined
+abbrev pub has_no_two : Machine → Bool
+has_no_two m = nat_lt (length m.past) 2
 
 -- the last sequence number, 2^64 - 1
 abbrev pub last_sequence : ℕ
@@ -253,6 +302,8 @@ command_conditions commands.Redo m = (NothingToRedo, length m.future == 0) ∷ a
 command_conditions commands.Begin m = (GroupOpen, in_group m) ∷ []
 command_conditions commands.End m = (NoGroup, not (in_group m)) ∷ []
 command_conditions commands.Abandon m = (NoGroup, not (in_group m)) ∷ (Locked, has_locks m) ∷ []
+command_conditions commands.Join m = (NothingToUndo, has_no_two m) ∷ (GroupOpen, in_group m) ∷ []
+command_conditions (commands.Forget most) m = []
 command_conditions commands.Update m = on_commit m
 command_conditions commands.Save m = on_commit m
 command_conditions commands.Revert m = on_commit m
@@ -264,13 +315,24 @@ command_conditions (commands.Dirty b) m = (NotLocked, not (is_locked m b.0)) ∷
 command_conditions c m = (CacheFull, has_no_room m (look_up_needs c)) ∷ look_up_conditions c m.document
 
 -- The document becomes this one by an edit of this kind and cost, which empties the future. Where no group is open the
--- old document goes on the past; in a group the edit is counted there.
+-- old document goes on the past, of which the limit may take the oldest; in a group the edit is counted there.
 abbrev pub recorded : Option OpenGroup → Kind → ℕ → Document → Machine → Machine
 recorded None kind cost d m =
     let undo : UndoStep = record { kind = kind; cost = cost; document = m.document } in
-    record m { document = d; past = undo ∷ m.past; future = [] }
-recorded (Some g) kind cost d m =
-    record m { document = d; future = []; group = Some (record g { edits = g.edits + 1; cost = g.cost + cost }) }
+    record m {
+      document = d;
+      past = limited m.undo_limit (undo ∷ m.past);
+      future = [];
+      updated_at = position_stepped m.undo_limit m.updated_at;
+      saved_at = position_stepped m.undo_limit m.saved_at;
+    }
+recorded (Some g) kind cost d m = record m {
+  document = d;
+  future = [];
+  group = Some (record g { edits = g.edits + 1; cost = g.cost + cost });
+  updated_at = position_in_group m.updated_at;
+  saved_at = position_in_group m.saved_at;
+}
 
 abbrev pub edited : Edit → Machine → Reply × Machine
 edited e m =
@@ -281,29 +343,70 @@ edited e m =
 abbrev pub undone : Machine → List UndoStep → Option Machine
 undone m [] = None
 undone m (s ∷ past) =
-    Some (record m { document = s.document; past = past; future = record s { document = m.document } ∷ m.future })
+    Some (record m {
+      document = s.document;
+      past = past;
+      future = record s { document = m.document } ∷ m.future;
+      updated_at = position_after_undo m.updated_at;
+      saved_at = position_after_undo m.saved_at;
+    })
 
 -- the next document of the future is the document again, and the old one is the newest of the past
 abbrev pub redone : Machine → List UndoStep → Option Machine
 redone m [] = None
 redone m (s ∷ future) =
-    Some (record m { document = s.document; past = record s { document = m.document } ∷ m.past; future = future })
+    Some (record m {
+      document = s.document;
+      past = record s { document = m.document } ∷ m.past;
+      future = future;
+      updated_at = position_after_redo m.updated_at;
+      saved_at = position_after_redo m.saved_at;
+    })
 
 -- the document becomes the updated one
 abbrev pub after_update : Machine → Machine
-after_update m = record m { updated = m.document; sequence = m.sequence + 1 }
+after_update m = record m { updated = m.document; updated_at = Back 0; sequence = m.sequence + 1 }
 
 -- the document becomes the updated and the saved one
 abbrev pub after_save : Machine → Machine
-after_save m = record m { updated = m.document; saved = m.document; sequence = m.sequence + 1 }
+after_save m = record m {
+  updated = m.document;
+  saved = m.document;
+  updated_at = Back 0;
+  saved_at = Back 0;
+  sequence = m.sequence + 1;
+}
 
 -- the saved document becomes the document and the updated one, and there is nothing left to undo or to redo
 abbrev pub after_revert : Machine → Machine
-after_revert m = record m { document = m.saved; past = []; future = []; updated = m.saved; sequence = m.sequence + 1 }
+after_revert m = record m {
+  document = m.saved;
+  past = [];
+  future = [];
+  updated = m.saved;
+  updated_at = Back 0;
+  saved_at = Back 0;
+  sequence = m.sequence + 1;
+}
 
 -- the document becomes the updated and the saved one of the target, which is a new file and is used up as a target
 abbrev pub after_save_as : Machine → Machine
-after_save_as m = record m { updated = m.document; saved = m.document; target = false; sequence = 1 }
+after_save_as m = record m {
+  updated = m.document;
+  saved = m.document;
+  updated_at = Back 0;
+  saved_at = Back 0;
+  target = false;
+  sequence = 1;
+}
+
+-- Whether the document is the committed one that stands there: no step lies between, nor an edit of the open group.
+abbrev pub is_committed : Position → Machine → Bool
+is_committed p m = is_here p && not (has_edits m)
+
+-- 1 where the document is as it was saved, and 2 more where it is as it was updated
+abbrev pub stands_as : Machine → ℕ
+stands_as m = (if is_committed m.saved_at m then 1 else 0) + (if is_committed m.updated_at m then 2 else 0)
 
 -- What a command that nothing refuses answers, and the machine after it. A look-up leaves the machine; a blank line
 -- gets no answer.
@@ -314,6 +417,8 @@ done_by commands.Redo m = option_map (λ new. (Accepted, new)) (redone m m.futur
 done_by commands.Begin m = Some (Accepted, begun m)
 done_by commands.End m = option_map (λ g. (Accepted, ended g m)) m.group
 done_by commands.Abandon m = option_map (λ g. (Accepted, abandoned g m)) m.group
+done_by commands.Join m = Some (Accepted, after_join m)
+done_by (commands.Forget most) m = Some (Accepted, after_forget most m)
 done_by commands.Update m = Some (Accepted, after_update m)
 done_by commands.Save m = Some (Accepted, after_save m)
 done_by commands.Revert m = Some (Accepted, after_revert m)
@@ -324,6 +429,7 @@ done_by (commands.Dirty b) m = Some (Accepted, m)
 done_by (commands.Locks b) m = Some (NumberIs (lock_count m b.0), m)
 done_by commands.Undos m = Some (NumberIs (length m.past), m)
 done_by commands.Redos m = Some (NumberIs (length m.future), m)
+done_by commands.Modified m = Some (NumberIs (stands_as m), m)
 done_by c m = option_map (λ reply. (reply, m)) (look_up c m.document)
 
 -- the first refusal, which leaves the machine as it was, or what the request does
@@ -355,10 +461,6 @@ abbrev pub newest_takes : (Kind → Bool) → List UndoStep → Bool
 newest_takes takes [] = false
 newest_takes takes (s ∷ steps) = takes s.kind
 
--- whether a group is open that has edits, so that they are to be taken back where it is abandoned
-abbrev pub has_edits : Machine → Bool
-has_edits m = option_map_or (λ g. not (is_empty_group g)) m.group false
-
 -- What may take memory, so that want of it may stand in place of the answer. Of all else the rules alone decide.
 abbrev pub takes_memory : Command → Machine → Bool
 takes_memory commands.Blank m = false
@@ -368,6 +470,8 @@ takes_memory commands.Redo m = newest_takes redo_takes m.future
 takes_memory commands.Begin m = false
 takes_memory commands.End m = false
 takes_memory commands.Abandon m = has_edits m
+takes_memory commands.Join m = not (in_group m) && not (has_no_two m)
+takes_memory (commands.Forget most) m = false
 takes_memory commands.Update m = true
 takes_memory commands.Save m = true
 takes_memory commands.Revert m = true
@@ -400,6 +504,7 @@ takes_memory (commands.ChainSize b) m = true
 takes_memory (commands.ChainEqual b other) m = true
 takes_memory commands.Undos m = false
 takes_memory commands.Redos m = false
+takes_memory commands.Modified m = false
 
 -- whether a step is of a user ID, a type or the map block, so that no body is looked into
 abbrev pub is_of_no_body : Kind → Bool
@@ -408,9 +513,10 @@ is_of_no_body kind = false
 
 -- What calls the store, or the target of a save-as: the commits, and all that may have to bring a block into memory, or
 -- another one out of it. The list of blocks is known without, and so is what an edit of a user ID, a type or the map
--- block changes.
+-- block changes; a join makes one step of two where they are kept.
 abbrev pub calls_store : Command → Machine → Bool
 calls_store commands.List m = false
+calls_store commands.Join m = false
 calls_store (commands.Edit e) m = not (is_of_no_body (kind_of e))
 calls_store c m = takes_memory c m
 

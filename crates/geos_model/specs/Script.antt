@@ -174,6 +174,8 @@ commands_by_name =
     ∷ (codes "begin", with_none commands.Begin)
     ∷ (codes "end", with_none commands.End)
     ∷ (codes "abandon", with_none commands.Abandon)
+    ∷ (codes "join", with_none commands.Join)
+    ∷ (codes "forget", with_1 number (λ n. commands.Forget n))
     ∷ (codes "update", with_none commands.Update)
     ∷ (codes "save", with_none commands.Save)
     ∷ (codes "revert", with_none commands.Revert)
@@ -206,6 +208,7 @@ commands_by_name =
     ∷ (codes "locks", with_1 block (λ b. commands.Locks b))
     ∷ (codes "undos", with_none commands.Undos)
     ∷ (codes "redos", with_none commands.Redos)
+    ∷ (codes "modified", with_none commands.Modified)
     ∷ []
 
 abbrev pub by_name : List ℕ → List (List ℕ) → List (List ℕ × (List (List ℕ) → Option Command)) → Option Command

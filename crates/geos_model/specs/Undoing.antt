@@ -24,17 +24,23 @@ abbrev pub is_revert : Request → Bool
 is_revert (Some commands.Revert) = true
 is_revert request = false
 
--- a redo or a revert
-abbrev pub redoes_or_reverts : Request → Bool
-redoes_or_reverts request = is_redo request || is_revert request
+-- a join, or forgetting, by which other steps are left to be undone
+abbrev pub joins_or_forgets : Request → Bool
+joins_or_forgets (Some commands.Join) = true
+joins_or_forgets (Some (commands.Forget most)) = true
+joins_or_forgets request = false
 
--- an undo, a redo or a revert
-abbrev pub is_undo_or_redo : Request → Bool
-is_undo_or_redo request = is_undo request || redoes_or_reverts request
+-- what puts other steps in the place of those to be undone: a redo, a revert, a join or forgetting
+abbrev pub replaces_steps : Request → Bool
+replaces_steps request = is_redo request || (is_revert request || joins_or_forgets request)
 
--- an edit, an undo, a redo or a revert
+-- an undo, or what replaces steps
+abbrev pub turns : Request → Bool
+turns request = is_undo request || replaces_steps request
+
+-- an edit, an undo or what replaces steps: what may change the document or the steps
 abbrev pub moves : Request → Bool
-moves request = is_edit request || is_undo_or_redo request
+moves request = is_edit request || turns request
 
 abbrev pub is_accepted : (Request → Bool) → Call → Bool
 is_accepted kind c = not (is_refused c.reply) && kind c.request
@@ -95,13 +101,14 @@ tally cs = after_calls cs (record { steps = 0; group = None })
 abbrev pub steps_made : List Call → ℕ
 steps_made cs = (tally cs).steps
 
--- Where no group is open at the start, after the edits and after the undos: undoing as many steps as the edits made
--- gives back the document and the past of the start. Groups may be abandoned among the edits; with no step and no undo
--- it says what an abandoned group leaves. No step is made among the undos, so that groups there are empty or abandoned.
+-- Where no group is open at the start, after the edits and after the undos, and no limit forgets steps: undoing as many
+-- steps as the edits made gives back the document and the past of the start. Groups may be abandoned among the edits;
+-- with no step and no undo it says what an abandoned group leaves. No step is made among the undos, so that groups there
+-- are empty or abandoned.
 abbrev pub UndoLaw : Type 0
 UndoLaw =
-    (old mid new : Machine) (edits undos : List Call) → old.group ≡ None
-    → accepted is_undo_or_redo edits ≡ 0 → accepted redoes_or_reverts undos ≡ 0 → steps_made undos ≡ 0
+    (old mid new : Machine) (edits undos : List Call) → old.group ≡ None → old.undo_limit ≡ None
+    → accepted turns edits ≡ 0 → accepted replaces_steps undos ≡ 0 → steps_made undos ≡ 0
     → steps_made edits ≡ accepted is_undo undos → Run old edits mid → Run mid undos new
     → mid.group ≡ None → new.group ≡ None → SamePast old new
 

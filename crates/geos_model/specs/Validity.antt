@@ -26,8 +26,8 @@ word_asked request = 0
 -- and each run keep validity.
 pub record ValidityLaw : Type 0 where
   pub start : (frames : ℕ) (target : Bool) → IsValidMachine (empty_machine frames target)
-  pub opened : (updated saved : Document) (sequence frames : ℕ) (target : Bool) → IsValid updated → IsValid saved
-      → IsValidMachine (opened_machine updated saved sequence frames target)
+  pub opened : (updated saved : Document) (one : Bool) (sequence frames : ℕ) (target : Bool) → IsValid updated
+      → IsValid saved → IsValidMachine (opened_machine updated saved one sequence frames target)
   pub edit : (e : Edit) (d : Document) → word_given e < 65536 → IsValid d → first_refusal (conditions e d) ≡ None
       → IsValid (effect e d).0
   pub step : (old new : Machine) (request : Request) (reply : Reply) (failed : Bool) → word_asked request < 65536

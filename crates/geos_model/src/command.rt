@@ -118,6 +118,10 @@ pub enum Command {
     End,
     /// The group ends, and its edits are taken back.
     Abandon,
+    /// The newest two steps to be undone become one.
+    Join,
+    /// No more than so many steps are left to be undone, the newest.
+    Forget(u32),
     /// The document becomes the updated one of the file.
     Update,
     /// The document becomes the updated and the saved one of the file.
@@ -176,6 +180,8 @@ pub enum Command {
     Undos,
     /// How many steps can be redone.
     Redos,
+    /// Whether the document is a committed one: 1 where it is as it was saved, and 2 more where it is as it was updated.
+    Modified,
 }
 
 /// A block's user ID, and the bytes of a raw body or those that a heap needs.

@@ -4,6 +4,9 @@ ghost use Rattle.geos_model.specs.EditLaws.{ChunkEditsLaw, ArrayEditsLaw, Elemen
 ghost use Rattle.geos_model.specs.ChainLaws.{ChainLaw, ChainEditsLaw};
 ghost use Rattle.geos_model.specs.FileLaws.{FileLaw};
 ghost use Rattle.geos_model.specs.Undoing.{UndoLaw, RedoLaw};
+ghost use Rattle.geos_model.specs.Depth.{DepthLaw};
+ghost use Rattle.geos_model.specs.Steps.{StepsLaw};
+ghost use Rattle.geos_model.specs.Standing.{StandingLaw};
 ghost use Rattle.geos_model.specs.Saving.{SaveLaw};
 ghost use Rattle.geos_model.specs.Failing.{FailingLaw};
 ghost use Rattle.geos_model.specs.Validity.{ValidityLaw};
@@ -72,10 +75,10 @@ pub fn name_edits_law()
     ensures { NameEditsLaw }
 {}
 
-/// Where no group is open at the start, after the edits and after the undos, undoing as many steps as the edits made
-/// gives back the document and the past. A step is an accepted edit outside of a group, or a group that ends with
-/// edits, and none is made among the undos. With no step and no undo this says what an abandoned group leaves: the
-/// document when it began.
+/// Where no group is open at the start, after the edits and after the undos, and no limit forgets steps, undoing as
+/// many steps as the edits made gives back the document and the past. A step is an accepted edit outside of a group, or
+/// a group that ends with edits, and none is made among the undos. With no step and no undo this says what an abandoned
+/// group leaves: the document when it began.
 pub fn undo_law()
     ensures { UndoLaw }
 {}
@@ -84,6 +87,26 @@ pub fn undo_law()
 /// undos. Empty groups may stand between.
 pub fn redo_law()
     ensures { RedoLaw }
+{}
+
+/// Edits, undos, redos, joins and forgetting as they come: where no group is open before and behind, never more steps
+/// were undone than were made so far, and as many in the end, the document is that of the start, and of its past the
+/// newest steps are left, all of them where nothing was forgotten. A join makes one step less; it must join steps that
+/// were made since the start, and none of these may be forgotten.
+pub fn depth_law()
+    ensures { DepthLaw }
+{}
+
+/// Where the machine says that its document is as it was saved, or as it was updated, it is; and it says so right after
+/// the commit, after an undo past it and back, and after opening a file that has one directory for both documents.
+pub fn standing_law()
+    ensures { StandingLaw }
+{}
+
+/// A join and forgetting change only what can be undone, by a limit no step is made that goes beyond it, and nothing
+/// but the call that sets the limit changes it.
+pub fn steps_law()
+    ensures { StepsLaw }
 {}
 
 /// A save keeps the document, and a revert gives back what was saved last.

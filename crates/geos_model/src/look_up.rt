@@ -13,6 +13,7 @@ pub enum PlainLookUp {
     Locks(VmHandle),
     Undos,
     Redos,
+    Modified,
 }
 
 /// What is asked of a chunk array, by the numbers of its elements.
@@ -105,6 +106,7 @@ impl Command {
             Command::Locks(block) => LookUp::Plain(PlainLookUp::Locks(*block)),
             Command::Undos => LookUp::Plain(PlainLookUp::Undos),
             Command::Redos => LookUp::Plain(PlainLookUp::Redos),
+            Command::Modified => LookUp::Plain(PlainLookUp::Modified),
             Command::Info(block) => LookUp::InBlock(*block, BlockLookUp::Info),
             Command::ReadRaw(block) => LookUp::InBlock(*block, BlockLookUp::ReadRaw),
             Command::Chunks(block) => LookUp::InBlock(*block, BlockLookUp::Chunks),

@@ -1,6 +1,6 @@
 -- A file fault is answered only where a store failed in that very call, over any store.
 use Rattle.std.proofs.Common.{◌≡◌, ◌⊎◌, ℕ, ◌∷◌, List, [], Bool, true, false, Option, Some, None, Result, Ok, Err, IsTrue, IfErr, find, is_some, refl, sym, ap, subst, ◌∙◌, inl, inr}
-use Rattle.std.specs.Prelude.{IsErrOf, if◌then◌else◌}
+use Rattle.std.specs.Prelude.{IsErrOf, if◌then◌else◌, length, nat_lt}
 use Rattle.std.specs.FinMap.{get}
 use Rattle.std.specs.List.{list_all}
 use Rattle.std.specs.Option.{option_map, option_map_or}
@@ -33,7 +33,7 @@ use Rattle.doc_edits.specs.Room.{lacks_frames}
 use Rattle.undo_log.specs.Committing.{IsSaveAsRefused}
 use Rattle.undo_log.specs.Locking.{IsBarred}
 use Rattle.undo_log.specs.Sessions.{SessionState, cache_of, failed_since, has_locked_blocks}
-use Rattle.undo_log.specs.Turning.{CantApplyLog, IsNotAbandoned, IsRefusedUndoOrRedo, busy_fault}
+use Rattle.undo_log.specs.Turning.{CantApplyLog, IsNotAbandoned, IsRefusedUndoOrRedo, busy_fault, join_fault}
 use Rattle.undo_log.specs.declared.entry.LogEntry.{LogEntry}
 use Rattle.undo_log.proofs.Keeping.{failed_true}
 use Rattle.geos_replies.specs.Holdings.{failed_since_in, failed_with, holding}
@@ -132,6 +132,12 @@ closed_other true true fault held is = cc (held, is)
 closed_other true false fault held is = cc held
 closed_other false locked fault held is = cc (held, is)
 
+-- of what keeps steps from being joined
+joined_other : (group few : Bool) (fault : Fault) → (if group then Some faults.GroupOpen else if few then Some faults.NothingToUndo else None) ≡ Some fault → fault ≡ faults.File → ⊥
+joined_other true few fault held is = cc (held, is)
+joined_other false true fault held is = cc (held, is)
+joined_other false false fault held is = cc held
+
 lock_other : {S : Type 0} (state : CacheState S) (h : ℕ) (fault : Fault) → CantLock state h fault → fault ≡ faults.File → ⊥
 lock_other state h fault (inl none) is = cc (none.0, is)
 lock_other state h fault (inr (inl most)) is = cc (most.0, is)
@@ -199,6 +205,13 @@ module _ {S : Type 0} (facts : S → StoreFacts) where
   file_abandon old new (Ok x) refusals = tt
   file_abandon old new (Err fault) (inl held) = λ is. absurd (closed_other (is_some old.log.group) (has_locked_blocks old) fault held.0 is)
   file_abandon old new (Err fault) (inr cant) = cant_apply old new fault cant.2
+
+  -- of a join
+  pub file_join : {A : Type 0} (old new : SessionState S) (r : Result A Fault) → IfErr r (λ fault. (join_fault old ≡ Some fault) ⊎ ((join_fault old ≡ None) × (fault ≡ faults.Memory)))
+      → IfErr r (IsFailure facts old.disk.store new.disk.store)
+  file_join old new (Ok x) refusals = tt
+  file_join old new (Err fault) (inl held) = λ is. absurd (joined_other (is_some old.log.group) (nat_lt (length old.log.undo) 2) fault held is)
+  file_join old new (Err fault) (inr memory) = λ is. cc (memory.1, is)
 
   -- of a lock, and of what uses one
   pub file_lock : {A : Type 0} (h : ℕ) (old new : SessionState S) (r : Result A Fault)

@@ -1,5 +1,6 @@
 -- A call leaves as many frames as there were, over any store.
 use Rattle.std.proofs.Common.{◌≡◌, ℕ, List, Result, Ok, Err, IfOk, IfErr, OnOk, OnErr, ap}
+use Rattle.std.specs.Prelude.{MatchResult}
 use Rattle.geos_model.specs.declared.command.Done.{Done}
 use Rattle.geos_model.specs.declared.command.Edit.{Edit}
 use Rattle.geos_model.specs.declared.fault.Fault.{Fault}
@@ -46,6 +47,11 @@ module _ {S : Type 0} (facts : S → StoreFacts) where
         → new.frames ≡ old.frames
     frames_log P Q wrong log (Ok x) ok err = ap (λ (s : SessionState S). s.frames) ok.1
     frames_log P Q wrong log (Err fault) ok err = ap (λ (s : SessionState S). s.frames) err.2
+
+    -- of a join
+    pub frames_join : (log : Log) (r : Result (Unit {0}) Fault) → MatchResult r (λ _. new ≡ record old { log = log }) (λ _. new ≡ old) → new.frames ≡ old.frames
+    frames_join log (Ok x) done = ap (λ (s : SessionState S). s.frames) done
+    frames_join log (Err fault) done = ap (λ (s : SessionState S). s.frames) done
 
 -- of what changes nothing but which blocks are in memory
 pub frames_same : {S : Type 0} (old new : SessionState S) → new ≡ record old { resident = new.resident } → new.frames ≡ old.frames

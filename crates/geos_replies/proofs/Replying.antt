@@ -107,6 +107,8 @@ module _ {S : Type 0} (facts : S → StoreFacts) where
   leaves commands.SaveAs old new reply asks stays nothing = cc asks
   leaves commands.Begin old new reply asks stays nothing = cc asks
   leaves commands.End old new reply asks stays nothing = cc asks
+  leaves commands.Join old new reply asks stays nothing = cc asks
+  leaves (commands.Forget most) old new reply asks stays nothing = cc asks
   leaves (commands.Unlock b) old new reply asks stays nothing = cc asks
   leaves (commands.Dirty b) old new reply asks stays nothing = cc asks
   leaves (commands.HeapType b) old new reply asks stays nothing = stays refl
@@ -116,13 +118,15 @@ module _ {S : Type 0} (facts : S → StoreFacts) where
   leaves (commands.Locks b) old new reply asks stays nothing = stays refl
   leaves commands.Undos old new reply asks stays nothing = stays refl
   leaves commands.Redos old new reply asks stays nothing = stays refl
+  leaves commands.Modified old new reply asks stays nothing = stays refl
   leaves c old new reply asks stays nothing = nothing
 
-  -- and is no undo, redo or abandon, which alone are sure
+  -- and is no undo, redo, abandon or forgetting, which alone are sure
   unsure : (c : Command) (old new : SessionState S) (reply : Reply) → is_look_up c ≡ true → IsTakenIfSure facts old (Some c) reply new
   unsure commands.Undo old new reply asks = cc asks
   unsure commands.Redo old new reply asks = cc asks
   unsure commands.Abandon old new reply asks = cc asks
+  unsure (commands.Forget most) old new reply asks = cc asks
   unsure c old new reply asks = tt
 
   -- nor any other command of which it is said what is in memory afterwards

@@ -1,6 +1,6 @@
 -- How what is held serves a command.
 use Rattle.std.proofs.Common.{◌≡◌, ◌≢◌, ◌||◌, ℕ, Bool, true, false, Option, Some, None, is_some, IsTrue, Result, Ok, Err, IfErr, refl, sym, ap, subst, inl, inr}
-use Rattle.std.specs.Prelude.{IsErrOf, IsOk, OnOk, OnErr}
+use Rattle.std.specs.Prelude.{IsErrOf, IsOk, MatchResult, OnOk, OnErr}
 use Rattle.std.specs.Option.{option_map_or}
 use Rattle.geos_model.specs.Reply.{Reply, Accepted, Refused, reply_by}
 use Rattle.geos_model.specs.Machine.{Machine, Request, Step, may_give_up}
@@ -89,6 +89,20 @@ module _ {S : Type 0} (facts : S → StoreFacts) where
         sure = sure;
       }
 
+  -- one that is a step where the session is exact, and leaves it so
+  pub serves_logging : (old new : SessionState S) (target former : Option S) (c : Command) (reply : Reply) → new.disk ≡ old.disk → IsStep facts old new c reply
+      → (SameFiles (holding old target former) (holding new target former) → LeavesFiles facts (holding old target former) (Some c) reply (holding new target former))
+      → IsTakenIfSure facts old (Some c) reply new
+      → AreExact facts (holding old target former) → ServesRequest facts (holding old target former) (Some c) reply (holding new target former)
+  serves_logging old new target former c reply same step leaves sure exact =
+      let went = step exact.0 in
+      record {
+        exact = (went.0, exact.1);
+        step = step_kept facts target (failed_since (facts old.disk.store) (facts new.disk.store)) _ _ (Some c) reply (went.1 (is_some target));
+        files = leaves (record { disk = same; target = refl; former = refl });
+        sure = sure;
+      }
+
   -- one that changes nothing but locks
   pub serves_at_rest : (old new : SessionState S) (target former : Option S) (c : Command) (reply : Reply) → new ≡ record old { resident = new.resident }
       → ((left : Bool) → Step false (machine_of left old) (Some c) reply (machine_of left new))
@@ -103,6 +117,10 @@ module _ {S : Type 0} (facts : S → StoreFacts) where
       → OnOk result (P × (new ≡ record old { log = log })) → IfErr result (λ fault. (fault ≡ wrong) × Q × (new ≡ old)) → new.disk ≡ old.disk
   disk_kept P Q wrong old new log (Ok x) ok err = ap (λ (s : SessionState S). s.disk) ok.1
   disk_kept P Q wrong old new log (Err fault) ok err = ap (λ (s : SessionState S). s.disk) err.2
+
+  pub disk_joined : (old new : SessionState S) (log : Log) (result : Result (Unit {0}) Fault) → MatchResult result (λ _. new ≡ record old { log = log }) (λ _. new ≡ old) → new.disk ≡ old.disk
+  disk_joined old new log (Ok x) done = ap (λ (s : SessionState S). s.disk) done
+  disk_joined old new log (Err fault) done = ap (λ (s : SessionState S). s.disk) done
 
   -- how a commit tries a pair, in the words of its reply
   tries : (pair : Documents) (old new : Disk S) (result : Result (Unit {0}) Fault) → MayCommit facts pair old new result

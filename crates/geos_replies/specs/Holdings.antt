@@ -123,6 +123,8 @@ LeavesFiles facts old (Some commands.Revert) reply new =
 LeavesFiles facts old (Some commands.SaveAs) reply new = SavesAs facts old old.target reply new
 LeavesFiles facts old (Some commands.Begin) reply new = SameFiles old new
 LeavesFiles facts old (Some commands.End) reply new = SameFiles old new
+LeavesFiles facts old (Some commands.Join) reply new = SameFiles old new
+LeavesFiles facts old (Some (commands.Forget most)) reply new = SameFiles old new
 LeavesFiles facts old (Some (commands.HeapType b)) reply new = SameFiles old new
 LeavesFiles facts old (Some commands.List) reply new = SameFiles old new
 LeavesFiles facts old (Some (commands.Find uid start)) reply new = SameFiles old new
@@ -132,6 +134,7 @@ LeavesFiles facts old (Some (commands.Dirty b)) reply new = SameFiles old new
 LeavesFiles facts old (Some (commands.Locks b)) reply new = SameFiles old new
 LeavesFiles facts old (Some commands.Undos) reply new = SameFiles old new
 LeavesFiles facts old (Some commands.Redos) reply new = SameFiles old new
+LeavesFiles facts old (Some commands.Modified) reply new = SameFiles old new
 LeavesFiles facts old (Some command) reply new = CommitsNothing facts old new
 LeavesFiles facts old None reply new = SameFiles old new
 
@@ -139,6 +142,7 @@ LeavesFiles facts old None reply new = SameFiles old new
 
 -- An undo or a redo that is sure, as a session says which are, is accepted and calls no store, where no group is open
 -- and no block is locked. So is an abandon of a group whose changes are sure to be taken back, where no block is locked.
+-- Forgetting always is.
 abbrev pub IsTakenIfSure : {S : Type 0} → (S → StoreFacts) → SessionState S → Request → Reply → SessionState S → Type 0
 IsTakenIfSure facts old (Some commands.Undo) reply new =
     busy_fault old ≡ None → IsSure facts old Backwards old.log.undo → (reply ≡ Accepted) × (new.disk ≡ old.disk)
@@ -147,6 +151,7 @@ IsTakenIfSure facts old (Some commands.Redo) reply new =
 IsTakenIfSure facts old (Some commands.Abandon) reply new =
     abandon_fault old ≡ None → IsSureGroup facts old Backwards (open_changes old.log.group)
     → (reply ≡ Accepted) × (new.disk ≡ old.disk)
+IsTakenIfSure facts old (Some (commands.Forget most)) reply new = (reply ≡ Accepted) × (new.disk ≡ old.disk)
 IsTakenIfSure facts old request reply new = Unit {0}
 
 -- The request is answered so where all is exact: by the machine, with a file fault in place of its answer only where a

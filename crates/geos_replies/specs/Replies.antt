@@ -22,6 +22,7 @@ asks_no_body commands.MapBlock = true
 asks_no_body (commands.Locks b) = true
 asks_no_body commands.Undos = true
 asks_no_body commands.Redos = true
+asks_no_body commands.Modified = true
 asks_no_body _ = false
 
 -- The machine answers a command so, and over any store the session is kept, and a file fault answered only where the

@@ -94,6 +94,11 @@ fn push_response<S: Store>(
         Command::Begin => push_accepted(out, session.begin()),
         Command::End => push_accepted(out, session.end()),
         Command::Abandon => push_accepted(out, session.abandon()),
+        Command::Join => push_accepted(out, session.join()),
+        Command::Forget(most) => {
+            session.forget(*most);
+            push_accepted(out, Ok(()))
+        }
         Command::Update => push_accepted(out, session.update()),
         Command::Save => push_accepted(out, session.save()),
         Command::Revert => push_accepted(out, session.revert()),

@@ -138,70 +138,79 @@ commands_few = (
                                                                           (
                                                                             few 0 _ (omega arith) (none_taken commands.Abandon),
                                                                             (
-                                                                              few 0 _ (omega arith) (none_taken commands.Update),
+                                                                              few 0 _ (omega arith) (none_taken commands.Join),
                                                                               (
-                                                                                few 0 _ (omega arith) (none_taken commands.Save),
+                                                                                few 1 _ (omega arith) (one_taken number (λ n. commands.Forget n)),
                                                                                 (
-                                                                                  few 0 _ (omega arith) (none_taken commands.Revert),
+                                                                                  few 0 _ (omega arith) (none_taken commands.Update),
                                                                                   (
-                                                                                    few 0 _ (omega arith) (none_taken commands.SaveAs),
+                                                                                    few 0 _ (omega arith) (none_taken commands.Save),
                                                                                     (
-                                                                                      few 1 _ (omega arith) (one_taken block (λ b. commands.Info b)),
+                                                                                      few 0 _ (omega arith) (none_taken commands.Revert),
                                                                                       (
-                                                                                        few 1 _ (omega arith) (one_taken block (λ b. commands.HeapType b)),
+                                                                                        few 0 _ (omega arith) (none_taken commands.SaveAs),
                                                                                         (
-                                                                                          few 0 _ (omega arith) (none_taken commands.List),
+                                                                                          few 1 _ (omega arith) (one_taken block (λ b. commands.Info b)),
                                                                                           (
-                                                                                            few 2 _ (omega arith) (two_taken user_id block (λ u b. commands.Find u b)),
+                                                                                            few 1 _ (omega arith) (one_taken block (λ b. commands.HeapType b)),
                                                                                             (
-                                                                                              few 0 _ (omega arith) (none_taken commands.MapBlock),
+                                                                                              few 0 _ (omega arith) (none_taken commands.List),
                                                                                               (
-                                                                                                few 1 _ (omega arith) (one_taken block (λ b. commands.ReadRaw b)),
+                                                                                                few 2 _ (omega arith) (two_taken user_id block (λ u b. commands.Find u b)),
                                                                                                 (
-                                                                                                  few 1 _ (omega arith) (one_taken block (λ b. commands.Chunks b)),
+                                                                                                  few 0 _ (omega arith) (none_taken commands.MapBlock),
                                                                                                   (
-                                                                                                    few 2 _ (omega arith) (two_taken block chunk (λ b c. commands.Read b c)),
+                                                                                                    few 1 _ (omega arith) (one_taken block (λ b. commands.ReadRaw b)),
                                                                                                     (
-                                                                                                      few 2 _ (omega arith) (two_taken block chunk (λ b c. commands.ArrayCount b c)),
+                                                                                                      few 1 _ (omega arith) (one_taken block (λ b. commands.Chunks b)),
                                                                                                       (
-                                                                                                        few 3 _ (omega arith) (three_taken block chunk number (λ b c i. commands.ArrayElement b c i)),
+                                                                                                        few 2 _ (omega arith) (two_taken block chunk (λ b c. commands.Read b c)),
                                                                                                         (
-                                                                                                          few 3 _ (omega arith) (three_taken block chunk token (λ b c t. commands.ElementReferences b c t)),
+                                                                                                          few 2 _ (omega arith) (two_taken block chunk (λ b c. commands.ArrayCount b c)),
                                                                                                           (
-                                                                                                            few 3 _ (omega arith) (three_taken block chunk token (λ b c t. commands.ElementBytes b c t)),
+                                                                                                            few 3 _ (omega arith) (three_taken block chunk number (λ b c i. commands.ArrayElement b c i)),
                                                                                                             (
-                                                                                                              few 2 _ (omega arith) (two_taken block chunk (λ b c. commands.ElementsUsed b c)),
+                                                                                                              few 3 _ (omega arith) (three_taken block chunk token (λ b c t. commands.ElementReferences b c t)),
                                                                                                               (
-                                                                                                                few 3 _ (omega arith) (three_taken block chunk number (λ b c k. commands.TokenOfUsed b c k)),
+                                                                                                                few 3 _ (omega arith) (three_taken block chunk token (λ b c t. commands.ElementBytes b c t)),
                                                                                                                 (
-                                                                                                                  few 3 _ (omega arith) (three_taken block chunk token (λ b c t. commands.UsedOfToken b c t)),
+                                                                                                                  few 2 _ (omega arith) (two_taken block chunk (λ b c. commands.ElementsUsed b c)),
                                                                                                                   (
-                                                                                                                    few 3 _ (omega arith) (three_taken block chunk bytes (λ b c name. commands.NameFind b c name)),
+                                                                                                                    few 3 _ (omega arith) (three_taken block chunk number (λ b c k. commands.TokenOfUsed b c k)),
                                                                                                                     (
-                                                                                                                      few 3 _ (omega arith) (three_taken block chunk token (λ b c t. commands.NameReferences b c t)),
+                                                                                                                      few 3 _ (omega arith) (three_taken block chunk token (λ b c t. commands.UsedOfToken b c t)),
                                                                                                                       (
-                                                                                                                        few 3 _ (omega arith) (three_taken block chunk token (λ b c t. commands.NameText b c t)),
+                                                                                                                        few 3 _ (omega arith) (three_taken block chunk bytes (λ b c name. commands.NameFind b c name)),
                                                                                                                         (
-                                                                                                                          few 3 _ (omega arith) (three_taken block chunk token (λ b c t. commands.NamePart b c t)),
+                                                                                                                          few 3 _ (omega arith) (three_taken block chunk token (λ b c t. commands.NameReferences b c t)),
                                                                                                                           (
-                                                                                                                            few 1 _ (omega arith) (one_taken block (λ b. commands.Walk b)),
+                                                                                                                            few 3 _ (omega arith) (three_taken block chunk token (λ b c t. commands.NameText b c t)),
                                                                                                                             (
-                                                                                                                              few 1 _ (omega arith) (one_taken block (λ b. commands.ChainSize b)),
+                                                                                                                              few 3 _ (omega arith) (three_taken block chunk token (λ b c t. commands.NamePart b c t)),
                                                                                                                               (
-                                                                                                                                few 2 _ (omega arith) (two_taken block block (λ b other. commands.ChainEqual b other)),
+                                                                                                                                few 1 _ (omega arith) (one_taken block (λ b. commands.Walk b)),
                                                                                                                                 (
-                                                                                                                                  few 1 _ (omega arith) (one_taken block (λ b. commands.Lock b)),
+                                                                                                                                  few 1 _ (omega arith) (one_taken block (λ b. commands.ChainSize b)),
                                                                                                                                   (
-                                                                                                                                    few 1 _ (omega arith) (one_taken block (λ b. commands.Unlock b)),
+                                                                                                                                    few 2 _ (omega arith) (two_taken block block (λ b other. commands.ChainEqual b other)),
                                                                                                                                     (
-                                                                                                                                      few 1 _ (omega arith) (one_taken block (λ b. commands.Dirty b)),
+                                                                                                                                      few 1 _ (omega arith) (one_taken block (λ b. commands.Lock b)),
                                                                                                                                       (
-                                                                                                                                        few 1 _ (omega arith) (one_taken block (λ b. commands.Locks b)),
+                                                                                                                                        few 1 _ (omega arith) (one_taken block (λ b. commands.Unlock b)),
                                                                                                                                         (
-                                                                                                                                          few 0 _ (omega arith) (none_taken commands.Undos),
+                                                                                                                                          few 1 _ (omega arith) (one_taken block (λ b. commands.Dirty b)),
                                                                                                                                           (
-                                                                                                                                            few 0 _ (omega arith) (none_taken commands.Redos),
-                                                                                                                                            tt,
+                                                                                                                                            few 1 _ (omega arith) (one_taken block (λ b. commands.Locks b)),
+                                                                                                                                            (
+                                                                                                                                              few 0 _ (omega arith) (none_taken commands.Undos),
+                                                                                                                                              (
+                                                                                                                                                few 0 _ (omega arith) (none_taken commands.Redos),
+                                                                                                                                                (
+                                                                                                                                                  few 0 _ (omega arith) (none_taken commands.Modified),
+                                                                                                                                                  tt,
+                                                                                                                                                ),
+                                                                                                                                              ),
+                                                                                                                                            ),
                                                                                                                                           ),
                                                                                                                                         ),
                                                                                                                                       ),

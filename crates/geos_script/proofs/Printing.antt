@@ -218,6 +218,10 @@ command_read commands.End h =
     read_by (command_spelling commands.End) commands.End (word refl, λ h. refl) h
 command_read commands.Abandon h =
     read_by (command_spelling commands.Abandon) commands.Abandon (word refl, λ h. refl) h
+command_read commands.Join h =
+    read_by (command_spelling commands.Join) commands.Join (word refl, λ h. refl) h
+command_read (commands.Forget most) h =
+    read_by (command_spelling (commands.Forget most)) (commands.Forget most) (word refl, λ h. rw (number_read most h.0) refl) h
 command_read commands.Update h =
     read_by (command_spelling commands.Update) commands.Update (word refl, λ h. refl) h
 command_read commands.Save h =
@@ -282,6 +286,8 @@ command_read commands.Undos h =
     read_by (command_spelling commands.Undos) commands.Undos (word refl, λ h. refl) h
 command_read commands.Redos h =
     read_by (command_spelling commands.Redos) commands.Redos (word refl, λ h. refl) h
+command_read commands.Modified h =
+    read_by (command_spelling commands.Modified) commands.Modified (word refl, λ h. refl) h
 
 -- what some line spells is what its text is parsed as
 pub command_of_text : (c : Command) → IsSpellable c → command (command_text c) ≡ Some c

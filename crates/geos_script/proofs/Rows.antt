@@ -92,7 +92,7 @@ made_4 p q r s is_kept made_by to ws result m same has =
     rw means (made is_kept made_by (λ t. to t.0 t.1.0 t.1.1.0 t.1.1.1.0) _ result m (λ t. same t.0 t.1.0 t.1.1.0 t.1.1.1.0) (λ t. has t.0 t.1.0 t.1.1.0 t.1.1.1.0))
 
 -- behind the last row there is none
-pub none_behind : (from : ℕ) (name : List ℕ) (operands : List (List ℕ)) → named_from from name operands ≡ named_from 70 name operands
+pub none_behind : (from : ℕ) (name : List ℕ) (operands : List (List ℕ)) → named_from from name operands ≡ named_from 73 name operands
     → ReadsAs command_has_bytes (named_from from name operands) (Err faults.BadCommand)
 unfolding named_from
 none_behind from name operands none = inl (refl, none)

@@ -94,6 +94,8 @@ command_spelling commands.Redo = spelled (codes "redo") []
 command_spelling commands.Begin = spelled (codes "begin") []
 command_spelling commands.End = spelled (codes "end") []
 command_spelling commands.Abandon = spelled (codes "abandon") []
+command_spelling commands.Join = spelled (codes "join") []
+command_spelling (commands.Forget most) = spelled (codes "forget") (Number most ∷ [])
 command_spelling commands.Update = spelled (codes "update") []
 command_spelling commands.Save = spelled (codes "save") []
 command_spelling commands.Revert = spelled (codes "revert") []
@@ -126,6 +128,7 @@ command_spelling (commands.Dirty b) = spelled (codes "dirty") (Handle b.0 ∷ []
 command_spelling (commands.Locks b) = spelled (codes "locks") (Handle b.0 ∷ [])
 command_spelling commands.Undos = spelled (codes "undos") []
 command_spelling commands.Redos = spelled (codes "redos") []
+command_spelling commands.Modified = spelled (codes "modified") []
 
 unfoldable pub edit_text : Edit → List ℕ
 edit_text e = spelling_text (edit_spelling e)

@@ -65,6 +65,8 @@ macro_rules! commands {
                 "begin" => none Begin,
                 "end" => none End,
                 "abandon" => none Abandon,
+                "join" => none Join,
+                "forget" "n" => one Forget(n),
                 "update" => none Update,
                 "save" => none Save,
                 "revert" => none Revert,
@@ -98,6 +100,7 @@ macro_rules! commands {
                 "locks" "b" => one Locks(b),
                 "undos" => none Undos,
                 "redos" => none Redos,
+                "modified" => none Modified,
             }
         }
     };

@@ -84,6 +84,8 @@ module _ {S : Type 0} (facts : S → StoreFacts) where
   after_files old new (Some commands.SaveAs) reply files so = after_save_as old new old.target reply refl files so
   after_files old new (Some commands.Begin) reply files so = after_passes old new (nothing_of old new files) so
   after_files old new (Some commands.End) reply files so = after_passes old new (nothing_of old new files) so
+  after_files old new (Some commands.Join) reply files so = after_passes old new (nothing_of old new files) so
+  after_files old new (Some (commands.Forget most)) reply files so = after_passes old new (nothing_of old new files) so
   after_files old new (Some (commands.HeapType b)) reply files so = after_passes old new (nothing_of old new files) so
   after_files old new (Some commands.List) reply files so = after_passes old new (nothing_of old new files) so
   after_files old new (Some (commands.Find uid start)) reply files so = after_passes old new (nothing_of old new files) so
@@ -93,6 +95,7 @@ module _ {S : Type 0} (facts : S → StoreFacts) where
   after_files old new (Some (commands.Locks b)) reply files so = after_passes old new (nothing_of old new files) so
   after_files old new (Some commands.Undos) reply files so = after_passes old new (nothing_of old new files) so
   after_files old new (Some commands.Redos) reply files so = after_passes old new (nothing_of old new files) so
+  after_files old new (Some commands.Modified) reply files so = after_passes old new (nothing_of old new files) so
   after_files old new (Some command) reply files so = after_passes old new files so
   after_files old new None reply files so = after_passes old new (nothing_of old new files) so
 

@@ -159,7 +159,10 @@ fn create<F: Files>(
         return Err(Outcome::Target);
     };
     match Session::create(alloc, store, usize::from(options.cache)) {
-        Ok(session) => Ok((session, target)),
+        Ok(mut session) => {
+            session.limit_undo(options.undo_limit);
+            Ok((session, target))
+        }
         Err(refused) => {
             files.close(refused.store);
             close_any(files, target);
@@ -183,13 +186,14 @@ fn open<F: Files>(
     ensures err { IfErr result (IsGivenUp F.calls F.Opened.facts
         (line_of_options options.entry) store files.old files.new) }
 {
-    let session = match Session::open(alloc, store, usize::from(options.cache)) {
+    let mut session = match Session::open(alloc, store, usize::from(options.cache)) {
         Ok(session) => session,
         Err(refused) => {
             files.close(refused.store);
             return Err(Outcome::Open(refused.fault));
         }
     };
+    session.limit_undo(options.undo_limit);
     let Ok(target) = open_target(files, options) else {
         files.close(session.close());
         return Err(Outcome::Target);

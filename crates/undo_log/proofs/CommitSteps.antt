@@ -21,10 +21,10 @@ use Rattle.vm_file.specs.Documents.{Documents}
 use Rattle.vm_blocks.specs.State.{CacheState, as_file}
 use Rattle.chunk_edits.specs.declared.direction.Direction.TheVariants.{Backwards}
 use Rattle.undo_log.specs.Committing.{IsBusy, IsSessionCommit}
-use Rattle.undo_log.specs.Logging.{Log, empty_log, group_of, to_redo, to_undo}
+use Rattle.undo_log.specs.Logging.{Log, group_of, reverted_log, saved_log, to_redo, to_undo, updated_log}
 use Rattle.undo_log.specs.Sessions.{SessionState, file_of, has_locked_blocks, locks_in, machine_of, failed_since, AreSteps, IsStep}
 use Rattle.undo_log.specs.Turning.{busy_fault}
-use Rattle.undo_log.proofs.Keeping.{Holds, drifted_listed, failed_true, machine_is, none_marked, same_exact}
+use Rattle.undo_log.proofs.Keeping.{Holds, drifted_listed, failed_true, machine_is, none_marked, same_changes, same_exact}
 use Rattle.undo_log.proofs.Locks.{no_locks}
 use Rattle.undo_log.proofs.Turns.{at_rest, group_open, none_open}
 
@@ -62,37 +62,37 @@ module _ {S : Type 0} (facts : S → StoreFacts) (target : Bool) (old new : Sess
 
   -- an update
   pub update_step : (result : Result (Unit {0}) Fault) → IsCommit facts (old.document, old.disk.saved) old.document (file_of old) (file_of new) result → Fails facts IsWorn old.disk.store new.disk.store result
-      → (new.log ≡ old.log) × (new.frames ≡ old.frames)
+      → MatchResult result (λ _. new.log ≡ updated_log old.log) (λ _. new.log ≡ old.log) → new.frames ≡ old.frames
       → Step (failed_since (facts old.disk.store) (facts new.disk.store)) (machine_of target old) (Some commands.Update) (reply_by (λ _. Accepted) result) (machine_of target new)
-  update_step (Ok x) commit fails lists =
+  update_step (Ok x) commit fails lists frames =
       let is = commit.commits.ok so in
       let fresh = not_worn (Ok x) commit.worn refl in
-      inl (rw (outside, none, fresh, ← machine_is target old.document old.document old.disk.saved old.log (locks_in old.resident) old.frames (old.disk.sequence + 1) new (sym (commit.document.same so)) (sym lists.0) (sym (ap (λ p. p.0) is.0)) (sym (ap (λ p. p.1) is.0)) (sym locks) (sym lists.1) (sym commit.commits.sequence)) refl)
-  update_step (Err fault) commit fails lists =
-      refused_commit _ (machine_of target old) (machine_of target new) commands.Update fault (stays fault _ commit.commits (commit.document.same so) lists.0 lists.1) refl outside none refl refl
+      inl (rw (outside, none, fresh, ← machine_is target old.document old.document old.disk.saved (updated_log old.log) (locks_in old.resident) old.frames (old.disk.sequence + 1) new (sym (commit.document.same so)) (sym lists) (sym (ap (λ p. p.0) is.0)) (sym (ap (λ p. p.1) is.0)) (sym locks) (sym frames) (sym commit.commits.sequence)) refl)
+  update_step (Err fault) commit fails lists frames =
+      refused_commit _ (machine_of target old) (machine_of target new) commands.Update fault (stays fault _ commit.commits (commit.document.same so) lists frames) refl outside none refl refl
       (λ is. commit.worn.0 (ap Err is)) (λ is. failed_true (facts old.disk.store) (facts new.disk.store) (fails.file (ap Err is))) fails.faults
 
   -- a save
   pub save_step : (result : Result (Unit {0}) Fault) → IsCommit facts (old.document, old.document) old.document (file_of old) (file_of new) result → Fails facts IsWorn old.disk.store new.disk.store result
-      → (new.log ≡ old.log) × (new.frames ≡ old.frames)
+      → MatchResult result (λ _. new.log ≡ saved_log old.log) (λ _. new.log ≡ old.log) → new.frames ≡ old.frames
       → Step (failed_since (facts old.disk.store) (facts new.disk.store)) (machine_of target old) (Some commands.Save) (reply_by (λ _. Accepted) result) (machine_of target new)
-  save_step (Ok x) commit fails lists =
+  save_step (Ok x) commit fails lists frames =
       let is = commit.commits.ok so in
       let fresh = not_worn (Ok x) commit.worn refl in
-      inl (rw (outside, none, fresh, ← machine_is target old.document old.document old.document old.log (locks_in old.resident) old.frames (old.disk.sequence + 1) new (sym (commit.document.same so)) (sym lists.0) (sym (ap (λ p. p.0) is.0)) (sym (ap (λ p. p.1) is.0)) (sym locks) (sym lists.1) (sym commit.commits.sequence)) refl)
-  save_step (Err fault) commit fails lists =
-      refused_commit _ (machine_of target old) (machine_of target new) commands.Save fault (stays fault _ commit.commits (commit.document.same so) lists.0 lists.1) refl outside none refl refl
+      inl (rw (outside, none, fresh, ← machine_is target old.document old.document old.document (saved_log old.log) (locks_in old.resident) old.frames (old.disk.sequence + 1) new (sym (commit.document.same so)) (sym lists) (sym (ap (λ p. p.0) is.0)) (sym (ap (λ p. p.1) is.0)) (sym locks) (sym frames) (sym commit.commits.sequence)) refl)
+  save_step (Err fault) commit fails lists frames =
+      refused_commit _ (machine_of target old) (machine_of target new) commands.Save fault (stays fault _ commit.commits (commit.document.same so) lists frames) refl outside none refl refl
       (λ is. commit.worn.0 (ap Err is)) (λ is. failed_true (facts old.disk.store) (facts new.disk.store) (fails.file (ap Err is))) fails.faults
 
   -- a revert
   pub revert_step : (result : Result (Unit {0}) Fault) → IsCommit facts (old.disk.saved, old.disk.saved) old.disk.saved (file_of old) (file_of new) result
       → Fails facts IsWorn old.disk.store new.disk.store result
-      → MatchResult result (λ _. new.log ≡ empty_log) (λ _. new.log ≡ old.log) → new.frames ≡ old.frames
+      → MatchResult result (λ _. new.log ≡ reverted_log old.log) (λ _. new.log ≡ old.log) → new.frames ≡ old.frames
       → Step (failed_since (facts old.disk.store) (facts new.disk.store)) (machine_of target old) (Some commands.Revert) (reply_by (λ _. Accepted) result) (machine_of target new)
   revert_step (Ok x) commit fails lists frames =
       let is = commit.commits.ok so in
       let fresh = not_worn (Ok x) commit.worn refl in
-      inl (rw (ap (option_map (group_of old.document)) (none_open old free), none, fresh, ← machine_is target old.disk.saved old.disk.saved old.disk.saved empty_log (locks_in old.resident) old.frames (old.disk.sequence + 1) new (sym (commit.document.same so)) (sym lists) (sym (ap (λ p. p.0) is.0)) (sym (ap (λ p. p.1) is.0)) (sym locks) (sym frames) (sym commit.commits.sequence)) refl)
+      inl (rw (ap (option_map (group_of old.document)) (none_open old free), none, fresh, ← machine_is target old.disk.saved old.disk.saved old.disk.saved (reverted_log old.log) (locks_in old.resident) old.frames (old.disk.sequence + 1) new (sym (commit.document.same so)) (sym lists) (sym (ap (λ p. p.0) is.0)) (sym (ap (λ p. p.1) is.0)) (sym locks) (sym frames) (sym commit.commits.sequence)) refl)
   revert_step (Err fault) commit fails lists frames =
       refused_commit _ (machine_of target old) (machine_of target new) commands.Revert fault (stays fault _ commit.commits (commit.document.same so) lists frames) refl outside none refl refl
       (λ is. commit.worn.0 (ap Err is)) (λ is. failed_true (facts old.disk.store) (facts new.disk.store) (fails.file (ap Err is))) fails.faults
@@ -102,25 +102,30 @@ kept_document : (honest : Bool) (a b : Document) (result : Result (Unit {0}) Fau
 kept_document honest a b (Ok x) unless_corrupt = unless_corrupt
 kept_document honest a b (Err fault) unless_corrupt = unless_corrupt
 
+-- so do the lists of the log
+pub same_lists : {A E : Type 0} (moved old new : Log) (result : Result A E) → to_undo moved ≡ to_undo old → to_redo moved ≡ to_redo old → MatchResult result (λ _. new ≡ moved) (λ _. new ≡ old) → (to_undo new ≡ to_undo old) × (to_redo new ≡ to_redo old)
+same_lists moved old new (Ok x) undo redo is = (ap to_undo is ∙ undo, ap to_redo is ∙ redo)
+same_lists moved old new (Err e) undo redo is = (ap to_undo is, ap to_redo is)
+
 -- So it is of sessions, which stay exact.
 module _ {S : Type 0} (facts : S → StoreFacts) (old new : SessionState S) (free : busy_fault old ≡ None) where
   pub update_is : (result : Result (Unit {0}) Fault) → IsCommit facts (old.document, old.disk.saved) old.document (file_of old) (file_of new) result → Fails facts IsWorn old.disk.store new.disk.store result
-      → (new.log ≡ old.log) × (new.frames ≡ old.frames) → new.resident ≡ old.resident → IsStep facts old new commands.Update (reply_by (λ _. Accepted) result)
-  update_is result commit fails lists resident = λ exact. (
-    same_exact facts old new commit.commits.honest ((kept_document (facts old.disk.store).honest old.document new.document result commit.document).same exact.honest) lists.0 exact,
-    λ target. update_step facts target old new exact.honest free (ap locks_in resident) result commit fails lists,
+      → MatchResult result (λ _. new.log ≡ updated_log old.log) (λ _. new.log ≡ old.log) → new.frames ≡ old.frames → new.resident ≡ old.resident → IsStep facts old new commands.Update (reply_by (λ _. Accepted) result)
+  update_is result commit fails lists frames resident = λ exact. (
+    same_changes facts old new commit.commits.honest ((kept_document (facts old.disk.store).honest old.document new.document result commit.document).same exact.honest) (same_lists (updated_log old.log) old.log new.log result refl refl lists) exact,
+    λ target. update_step facts target old new exact.honest free (ap locks_in resident) result commit fails lists frames,
   )
 
   pub save_is : (result : Result (Unit {0}) Fault) → IsCommit facts (old.document, old.document) old.document (file_of old) (file_of new) result → Fails facts IsWorn old.disk.store new.disk.store result
-      → (new.log ≡ old.log) × (new.frames ≡ old.frames) → new.resident ≡ old.resident → IsStep facts old new commands.Save (reply_by (λ _. Accepted) result)
-  save_is result commit fails lists resident = λ exact. (
-    same_exact facts old new commit.commits.honest ((kept_document (facts old.disk.store).honest old.document new.document result commit.document).same exact.honest) lists.0 exact,
-    λ target. save_step facts target old new exact.honest free (ap locks_in resident) result commit fails lists,
+      → MatchResult result (λ _. new.log ≡ saved_log old.log) (λ _. new.log ≡ old.log) → new.frames ≡ old.frames → new.resident ≡ old.resident → IsStep facts old new commands.Save (reply_by (λ _. Accepted) result)
+  save_is result commit fails lists frames resident = λ exact. (
+    same_changes facts old new commit.commits.honest ((kept_document (facts old.disk.store).honest old.document new.document result commit.document).same exact.honest) (same_lists (saved_log old.log) old.log new.log result refl refl lists) exact,
+    λ target. save_step facts target old new exact.honest free (ap locks_in resident) result commit fails lists frames,
   )
 
   pub revert_is : (result : Result (Unit {0}) Fault) → IsCommit facts (old.disk.saved, old.disk.saved) old.disk.saved (file_of old) (file_of new) result
       → Fails facts IsWorn old.disk.store new.disk.store result
-      → MatchResult result (λ _. new.log ≡ empty_log) (λ _. new.log ≡ old.log) → new.frames ≡ old.frames
+      → MatchResult result (λ _. new.log ≡ reverted_log old.log) (λ _. new.log ≡ old.log) → new.frames ≡ old.frames
       → MatchResult result (λ _. new.resident ≡ []) (λ _. new.resident ≡ old.resident)
       → IfOk result (λ _. IsTrue (facts new.disk.store).honest → IsValid new.document) → IsStep facts old new commands.Revert (reply_by (λ _. Accepted) result)
   revert_is (Ok x) commit fails lists frames resident valid = λ exact.

@@ -1,6 +1,7 @@
 -- A log in which no group is open, by the direction that is taken.
 use Rattle.std.proofs.Common.{◌≡◌, List, ◌∷◌, ◌++◌, Option, None, refl, subst}
 use Rattle.geos_model.specs.Document.{Document}
+use Rattle.geos_model.specs.Position.{Position, position_after_redo, position_after_undo}
 use Rattle.vm_blocks.specs.declared.change.Change.{Change}
 use Rattle.chunk_edits.specs.declared.direction.Direction.{Direction}
 use Rattle.chunk_edits.specs.declared.direction.Direction.TheVariants.{Forwards, Backwards}
@@ -8,30 +9,39 @@ use Rattle.undo_log.specs.Logging.{IsHead, Log, all_changes, next_entries, next_
 use Rattle.undo_log.specs.Sessions.{opposite, AreSteps, CanApplyBothByHandle}
 use Rattle.undo_log.specs.declared.entry.LogEntry.{LogEntry}
 
--- the log of which these entries can be made in a direction, and these in the opposite one
-abbrev pub log_by : Direction → List LogEntry → List LogEntry → Log
-log_by Backwards from to = record { undo = from; redo = to; group = None }
-log_by Forwards from to = record { undo = to; redo = from; group = None }
+-- where a document stands once the next entry in a direction is made
+abbrev pub position_turned : Direction → Position → Position
+position_turned Backwards p = position_after_undo p
+position_turned Forwards p = position_after_redo p
 
-pub next_of : (direction : Direction) (from to : List LogEntry) → next_entries direction (log_by direction from to) ≡ from
-next_of Backwards from to = refl
-next_of Forwards from to = refl
+-- the log in which the committed documents stand there
+abbrev pub turned : Direction → Log → Log
+turned direction log = record log { updated_at = position_turned direction log.updated_at; saved_at = position_turned direction log.saved_at }
 
-pub opposite_of : (direction : Direction) (from to : List LogEntry) → next_entries (opposite direction) (log_by direction from to) ≡ to
-opposite_of Backwards from to = refl
-opposite_of Forwards from to = refl
+-- the log of which these entries can be made in a direction, and these in the opposite one, otherwise as this one
+abbrev pub log_by : Direction → Log → List LogEntry → List LogEntry → Log
+log_by Backwards log from to = record log { undo = from; redo = to; group = None }
+log_by Forwards log from to = record log { undo = to; redo = from; group = None }
 
-pub none_of : (direction : Direction) (from to : List LogEntry) → (log_by direction from to).group ≡ None
-none_of Backwards from to = refl
-none_of Forwards from to = refl
+pub next_of : (direction : Direction) (log : Log) (from to : List LogEntry) → next_entries direction (log_by direction log from to) ≡ from
+next_of Backwards log from to = refl
+next_of Forwards log from to = refl
+
+pub opposite_of : (direction : Direction) (log : Log) (from to : List LogEntry) → next_entries (opposite direction) (log_by direction log from to) ≡ to
+opposite_of Backwards log from to = refl
+opposite_of Forwards log from to = refl
+
+pub none_of : (direction : Direction) (log : Log) (from to : List LogEntry) → (log_by direction log from to).group ≡ None
+none_of Backwards log from to = refl
+none_of Forwards log from to = refl
 
 -- a log, and it once its next entry is made
 module _ (e : LogEntry) (log : Log) (none : log.group ≡ None) where
-  pub log_was : (direction : Direction) (first : IsHead e (next_entries direction log)) → log ≡ log_by direction (e ∷ first.others) (next_entries (opposite direction) log)
-  log_was Backwards first = λ i. record { undo = first.are i; redo = log.redo; group = none i }
-  log_was Forwards first = λ i. record { undo = log.undo; redo = first.are i; group = none i }
+  pub log_was : (direction : Direction) (first : IsHead e (next_entries direction log)) → log ≡ log_by direction log (e ∷ first.others) (next_entries (opposite direction) log)
+  log_was Backwards first = λ i. record log { undo = first.are i; group = none i }
+  log_was Forwards first = λ i. record log { redo = first.are i; group = none i }
 
-  pub log_moved : (direction : Direction) (first : IsHead e (next_entries direction log)) → next_moved direction log ≡ log_by direction first.others (reversed_entry e ∷ next_entries (opposite direction) log)
+  pub log_moved : (direction : Direction) (first : IsHead e (next_entries direction log)) → next_moved direction log ≡ log_by direction (turned direction log) first.others (reversed_entry e ∷ next_entries (opposite direction) log)
   log_moved Backwards first = let are : log.undo ≡ e ∷ first.others = first.are in rw (are, none) refl
   log_moved Forwards first = let are : log.redo ≡ e ∷ first.others = first.are in rw (are, none) refl
 
@@ -49,17 +59,17 @@ pub steps_by : (direction : Direction) (d : Document) (log : Log) → log.group 
 steps_by Backwards d log none are = steps_closed d log none are
 steps_by Forwards d log none are = let back = steps_closed d log none are in record { valid = back.valid; first = back.second; second = back.first }
 
-pub steps_of : (direction : Direction) (d : Document) (from to : List LogEntry) → AreSteps direction d (all_changes from) (all_changes to)
-    → AreSteps Backwards d (to_undo (log_by direction from to)) (to_redo (log_by direction from to))
-steps_of Backwards d from to are = are
-steps_of Forwards d from to are = record { valid = are.valid; first = are.second; second = are.first }
+pub steps_of : (direction : Direction) (d : Document) (log : Log) (from to : List LogEntry) → AreSteps direction d (all_changes from) (all_changes to)
+    → AreSteps Backwards d (to_undo (log_by direction log from to)) (to_redo (log_by direction log from to))
+steps_of Backwards d log from to are = are
+steps_of Forwards d log from to are = record { valid = are.valid; first = are.second; second = are.first }
 
 pub listed_by : (direction : Direction) (d : Document) (log : Log) → log.group ≡ None → CanApplyBothByHandle Backwards d (to_undo log) (to_redo log)
     → CanApplyBothByHandle direction d (all_changes (next_entries direction log)) (all_changes (next_entries (opposite direction) log))
 listed_by Backwards d log none are = listed_closed d log none are
 listed_by Forwards d log none are = let back = listed_closed d log none are in record { first = back.second; second = back.first }
 
-pub listed_of : (direction : Direction) (d : Document) (from to : List LogEntry) → CanApplyBothByHandle direction d (all_changes from) (all_changes to)
-    → CanApplyBothByHandle Backwards d (to_undo (log_by direction from to)) (to_redo (log_by direction from to))
-listed_of Backwards d from to are = are
-listed_of Forwards d from to are = record { first = are.second; second = are.first }
+pub listed_of : (direction : Direction) (d : Document) (log : Log) (from to : List LogEntry) → CanApplyBothByHandle direction d (all_changes from) (all_changes to)
+    → CanApplyBothByHandle Backwards d (to_undo (log_by direction log from to)) (to_redo (log_by direction log from to))
+listed_of Backwards d log from to are = are
+listed_of Forwards d log from to are = record { first = are.second; second = are.first }

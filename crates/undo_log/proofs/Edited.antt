@@ -44,9 +44,10 @@ use Rattle.doc_edits.proofs.Targets.{array_scope}
 use Rattle.undo_log.specs.Locking.{IsBarred, bars}
 use Rattle.undo_log.specs.Editing.{EditsInMemory}
 use Rattle.undo_log.specs.Making.{IsEditApplied, MakesEdit}
-use Rattle.undo_log.specs.Logging.{Log, added_to, all_changes, open_changes, to_redo, to_undo, with_change}
-use Rattle.undo_log.specs.Sessions.{SessionState, cache_of, machine_of, failed_since, CanApplyBothByHandle, AreSteps, IsStep, KeepsSession}
+use Rattle.undo_log.specs.Logging.{Log, to_redo, to_undo, with_change}
+use Rattle.undo_log.specs.Sessions.{SessionState, cache_of, machine_of, failed_since, AreSteps, IsStep, KeepsSession}
 use Rattle.undo_log.proofs.Answers.{edit_answers}
+use Rattle.undo_log.proofs.Forgetting.{changed_steps}
 use Rattle.undo_log.proofs.Keeping.{gives_up, kept_exact, kept_machine, kept_document, machine_with, passed_machine}
 use Rattle.undo_log.proofs.Listing.{listed_before}
 use Rattle.undo_log.proofs.Locks.{has_no_room-is, is_barred-is, none_of_count}
@@ -109,30 +110,6 @@ never_refused edit c mid new fault result was kind other sure =
     not_both : (r : Result (Unit {0}) Fault) → r ≡ Err fault → IsOk r → ⊥
     not_both (Ok u) is accepted = cc is
     not_both (Err e) is accepted = cc accepted
-
--- The change of an edit is the newest of all that can be taken back, in a group or not.
-
-to_undo-is : (log : Log) (c : Change) → to_undo (with_change c log) ≡ c ∷ to_undo log
-to_undo-is log c = by_group log.group
-  where
-    by_group : (group : Option (List Change)) → to_undo (added_to group c (record log { group = group })) ≡ c ∷ (open_changes group ++ all_changes log.undo)
-    by_group None = refl
-    by_group (Some cs) = refl
-
-to_redo-is : (log : Log) (c : Change) → to_redo (with_change c log) ≡ []
-to_redo-is log c = by_group log.group
-  where
-    by_group : (group : Option (List Change)) → to_redo (added_to group c (record log { group = group })) ≡ []
-    by_group None = refl
-    by_group (Some cs) = refl
-
-changed_steps : (log : Log) (c : Change) (d : Document) → AreSteps Backwards d (c ∷ to_undo log) [] → AreSteps Backwards d (to_undo (with_change c log)) (to_redo (with_change c log))
-changed_steps log c d are =
-    subst (λ (cs : List Change). AreSteps Backwards d cs (to_redo (with_change c log))) (sym (to_undo-is log c)) (subst (λ (cs : List Change). AreSteps Backwards d (c ∷ to_undo log) cs) (sym (to_redo-is log c)) are)
-
-pub changed_listed : (log : Log) (c : Change) (d : Document) → CanApplyBothByHandle Backwards d (c ∷ to_undo log) [] → CanApplyBothByHandle Backwards d (to_undo (with_change c log)) (to_redo (with_change c log))
-changed_listed log c d are =
-    subst (λ (cs : List Change). CanApplyBothByHandle Backwards d cs (to_redo (with_change c log))) (sym (to_undo-is log c)) (subst (λ (cs : List Change). CanApplyBothByHandle Backwards d (c ∷ to_undo log) cs) (sym (to_redo-is log c)) are)
 
 module _ {S : Type 0} (facts : S → StoreFacts) where
   -- A change that is made after its block was brought into memory.

@@ -1,5 +1,5 @@
 -- A group that begins, ends or is abandoned, and what stays known of a log as its entries are made.
-use Rattle.std.proofs.Common.{◌≡◌, Bool, false, List, [], ◌∷◌, ◌++◌, map, Option, Some, None, refl, sym, ap, subst, inl}
+use Rattle.std.proofs.Common.{◌≡◌, Bool, true, false, is_some, List, [], ◌∷◌, ◌++◌, map, Option, Some, None, refl, sym, ap, subst, inl}
 use Rattle.std.specs.Prelude.{IfSome}
 use Rattle.std.specs.Option.{option_map}
 use Rattle.geos_model.specs.Document.{IsValid}
@@ -18,16 +18,13 @@ use Rattle.undo_log.specs.Logging.{AreExclusive, IsHead, Log, after_all, all_cha
 use Rattle.undo_log.specs.Sessions.{SessionState, machine_of, opposite, CanApplyBothByHandle, AreSteps, IsExact}
 use Rattle.undo_log.specs.Turning.{IsEntryApplied}
 use Rattle.undo_log.specs.declared.entry.LogEntry.{LogEntry}
-use Rattle.undo_log.proofs.Answers.{begin_moved, end_moved}
-use Rattle.undo_log.proofs.Directions.{listed_by, listed_of, log_moved}
+use Rattle.undo_log.proofs.Answers.{begin_moved, end_moved, log_of}
+use Rattle.undo_log.proofs.Directions.{listed_by, listed_of, log_moved, turned}
+use Rattle.undo_log.proofs.Forgetting.{closed_listed, closed_steps}
 use Rattle.undo_log.proofs.Keeping.{Holds, answers_on, machine_with, none_marked}
 use Rattle.undo_log.proofs.Listing.{are_listed_alike, drifted, entry_listed, listed_behind, listed_front, moved_listed}
 use Rattle.undo_log.proofs.Steps.{before-valid}
 use Rattle.undo_log.proofs.Turns.{entry_document, entry_passes}
-
--- a log of these
-abbrev log_of : List LogEntry → List LogEntry → Option (List Change) → Log
-log_of undo redo group = record { undo = undo; redo = redo; group = group }
 
 -- The group that is open is valid.
 pub group_valid : {S : Type 0} (facts : S → StoreFacts) (s : SessionState S) (target : Bool) → IsExact facts s → AreExclusive (open_changes s.log.group) s.log.redo
@@ -39,24 +36,6 @@ group_valid facts s target exact apart = by_group s.log.group (before-valid s.do
     by_group (Some []) valid apart = record { before = valid; none = λ _. (refl, refl); some = λ other. absurd (other refl) }
     by_group (Some (c ∷ cs)) valid apart = record { before = valid; none = λ none. absurd (cc none); some = λ _. ap (λ (es : List LogEntry). steps Forwards es s.document) apart }
 
--- A group that is closed leaves the same changes.
-
-pub closed_undo : (log : Log) → to_undo (with_group_closed log) ≡ to_undo log
-closed_undo log = by_group log.group
-  where
-    by_group : (group : Option (List Change)) → to_undo (closed_with group (log_of log.undo log.redo group)) ≡ open_changes group ++ all_changes log.undo
-    by_group None = refl
-    by_group (Some []) = refl
-    by_group (Some (c ∷ cs)) = refl
-
-pub closed_redo : (log : Log) → to_redo (with_group_closed log) ≡ to_redo log
-closed_redo log = by_group log.group
-  where
-    by_group : (group : Option (List Change)) → to_redo (closed_with group (log_of log.undo log.redo group)) ≡ all_changes log.redo
-    by_group None = refl
-    by_group (Some []) = refl
-    by_group (Some (c ∷ cs)) = refl
-
 pub opened_undo : (log : Log) → log.group ≡ None → to_undo (record log { group = Some [] }) ≡ to_undo log
 opened_undo log none = sym (ap (λ (g : Option (List Change)). open_changes g ++ all_changes log.undo) none)
 
@@ -67,8 +46,11 @@ same_holds blocks old new undo redo holds = (
   holds.1,
 )
 
+pub closed_holds : {S : Type 0} (blocks : CacheState S) (log : Log) → Holds blocks log → Holds blocks (with_group_closed log)
+closed_holds blocks log holds = (closed_listed log blocks.document holds.0, holds.1)
+
 module _ {S : Type 0} (s : SessionState S) where
-  same_steps : (facts : S → StoreFacts) (log : Log) → to_undo log ≡ to_undo s.log → to_redo log ≡ to_redo s.log → IsExact facts s → IsExact facts (record s { log = log })
+  pub same_steps : (facts : S → StoreFacts) (log : Log) → to_undo log ≡ to_undo s.log → to_redo log ≡ to_redo s.log → IsExact facts s → IsExact facts (record s { log = log })
   same_steps facts log undo redo exact = record {
     honest = exact.honest;
     steps = subst (λ (cs : List Change). AreSteps Backwards s.document cs (to_redo log)) (sym undo) (subst (λ (cs : List Change). AreSteps Backwards s.document (to_undo s.log) cs) (sym redo) exact.steps);
@@ -81,18 +63,26 @@ module _ {S : Type 0} (s : SessionState S) where
     pub begin_step : (target : Bool) → Step false (machine_of target s) (Some commands.Begin) Accepted (machine_of target (record s { log = record s.log { group = Some [] } }))
     begin_step target =
         let m = machine_of target s in
-        inl (answers_on m (machine_with m s.document (log_of s.log.undo s.log.redo None)) _ _ (Some commands.Begin) Accepted
-        (ap (λ (g : Option (List Change)). machine_with m s.document (log_of s.log.undo s.log.redo g)) none) refl (begin_moved m s.document s.log.undo s.log.redo))
+        inl (answers_on m (machine_with m s.document (log_of s.log s.log.undo s.log.redo None)) _ _ (Some commands.Begin) Accepted
+        (ap (λ (g : Option (List Change)). machine_with m s.document (log_of s.log s.log.undo s.log.redo g)) none) refl (begin_moved m s.document s.log s.log.undo s.log.redo))
 
   pub end_exact : (facts : S → StoreFacts) → IsExact facts s → IsExact facts (record s { log = with_group_closed s.log })
-  end_exact facts exact = same_steps facts (with_group_closed s.log) (closed_undo s.log) (closed_redo s.log) exact
+  end_exact facts exact = record { honest = exact.honest; steps = closed_steps s.log s.document exact.steps }
 
   pub end_step : (cs : List Change) → s.log.group ≡ Some cs → (target : Bool) → Step false (machine_of target s) (Some commands.End) Accepted (machine_of target (record s { log = with_group_closed s.log }))
   end_step cs is_open target =
       let m = machine_of target s in
-      inl (answers_on m (machine_with m s.document (log_of s.log.undo s.log.redo (Some cs))) _ (machine_with m s.document (closed_with (Some cs) (log_of s.log.undo s.log.redo (Some cs)))) (Some commands.End) Accepted
-      (ap (λ (g : Option (List Change)). machine_with m s.document (log_of s.log.undo s.log.redo g)) is_open)
-      (ap (λ (g : Option (List Change)). machine_with m s.document (closed_with g (log_of s.log.undo s.log.redo g))) is_open) (end_moved m s.document s.log.undo s.log.redo cs))
+      inl (answers_on m (machine_with m s.document (log_of s.log s.log.undo s.log.redo (Some cs))) _ (machine_with m s.document (closed_with (Some cs) (log_of s.log s.log.undo s.log.redo (Some cs)))) (Some commands.End) Accepted
+      (ap (λ (g : Option (List Change)). machine_with m s.document (log_of s.log s.log.undo s.log.redo g)) is_open)
+      (ap (λ (g : Option (List Change)). machine_with m s.document (closed_with g (log_of s.log s.log.undo s.log.redo g))) is_open) (end_moved m s.document s.log s.log.undo s.log.redo cs))
+
+  -- whatever its changes are
+  pub end_open : is_some s.log.group ≡ true → (target : Bool) → Step false (machine_of target s) (Some commands.End) Accepted (machine_of target (record s { log = with_group_closed s.log }))
+  end_open is_open target = by_group s.log.group refl is_open
+    where
+      by_group : (group : Option (List Change)) → s.log.group ≡ group → is_some group ≡ true → Step false (machine_of target s) (Some commands.End) Accepted (machine_of target (record s { log = with_group_closed s.log }))
+      by_group None is never = absurd (cc never)
+      by_group (Some cs) is some = end_step cs is target
 
 module _ {S : Type 0} (facts : S → StoreFacts) (old new : CacheState S) (log : Log) where
   -- The next entry in a direction was made.
@@ -110,7 +100,7 @@ module _ {S : Type 0} (facts : S → StoreFacts) (old new : CacheState S) (log :
         let honest = (facts old.disk.store).honest in
         let others = next_entries (opposite direction) log in (
           subst (λ (l : Log). CanApplyBothByHandle Backwards new.document (to_undo l) (to_redo l)) (sym (log_moved e log none direction first))
-              (listed_of direction new.document first.others (reversed_entry e ∷ others)
+              (listed_of direction new.document (turned direction log) first.others (reversed_entry e ∷ others)
               (moved_listed honest direction old.document new.document e first.others others known (drifted honest _ new.document (entry_document facts direction e old new makes)) (next_known holds))),
           none_marked honest old.disk.marked new.disk.marked holds.1 (entry_passes facts direction e old new makes).marked,
         )

@@ -1,5 +1,5 @@
 -- What a call that keeps a session leaves, and when it gives up.
-use Rattle.std.proofs.Common.{◌≡◌, ℕ, Bool, true, IsTrue, Option, Some, None, inl, inr, refl, sym, ap, subst, ◌∙◌}
+use Rattle.std.proofs.Common.{◌≡◌, ℕ, Bool, true, IsTrue, List, Option, Some, None, inl, inr, refl, sym, ap, subst, ◌∙◌}
 use Rattle.std.specs.Ordering.{nat_cmp}
 use Rattle.std.specs.FinMap.{FinMap}
 use Rattle.std.specs.Option.{option_map}
@@ -14,6 +14,7 @@ use Rattle.vm_store.specs.Facts.{StoreFacts, FailedSince, raised}
 use Rattle.vm_file.specs.Disk.{SameUnlessCorrupt, MarkSameUnlessCorrupt, KeepsCommitted}
 use Rattle.vm_blocks.specs.State.{CacheState, KeepsLocks}
 use Rattle.vm_blocks.specs.Keeping.{KeepsBlocks, IsEnvironmentFault}
+use Rattle.vm_blocks.specs.declared.change.Change.{Change}
 use Rattle.chunk_edits.specs.declared.direction.Direction.TheVariants.{Forwards, Backwards}
 use Rattle.vm_blocks.proofs.KeepingLaws.{keeps-refl, keeps-passes, keeps-unless_corrupt, keeps-frames, keeps-locks, lacks-cases}
 use Rattle.undo_log.specs.Logging.{Log, before, group_of, steps, to_redo, to_undo}
@@ -31,6 +32,9 @@ pub machine_is : {S : Type 0} (target : Bool) (d updated saved : Document) (log 
       group = option_map (group_of d) log.group;
       updated = updated;
       saved = saved;
+      updated_at = log.updated_at;
+      saved_at = log.saved_at;
+      undo_limit = log.limit;
       locks = locks;
       frames = frames;
       target = target;
@@ -43,6 +47,9 @@ machine_is target d updated saved log locks frames sequence new p q u v l f n = 
   group = option_map (group_of (p i)) (q i).group;
   updated = u i;
   saved = v i;
+  updated_at = (q i).updated_at;
+  saved_at = (q i).saved_at;
+  undo_limit = (q i).limit;
   locks = l i;
   frames = f i;
   target = target;
@@ -51,7 +58,15 @@ machine_is target d updated saved log locks frames sequence new p q u v l f n = 
 
 -- the machine with this document and this log
 abbrev pub machine_with : Machine → Document → Log → Machine
-machine_with m d log = record m { document = d; past = steps Backwards log.undo (before log.group d); future = steps Forwards log.redo d; group = option_map (group_of d) log.group }
+machine_with m d log = record m {
+  document = d;
+  past = steps Backwards log.undo (before log.group d);
+  future = steps Forwards log.redo d;
+  group = option_map (group_of d) log.group;
+  updated_at = log.updated_at;
+  saved_at = log.saved_at;
+  undo_limit = log.limit;
+}
 
 -- An answer between machines that are the same.
 pub answers_on : (m m' n n' : Machine) (request : Request) (reply : Reply) → m ≡ m' → n ≡ n' → Answers m' request reply n' → Answers m request reply n
@@ -72,6 +87,14 @@ module _ {S : Type 0} (facts : S → StoreFacts) where
 
   module _ (old new : SessionState S) where
     -- Over an honest store, with the same document and log.
+    -- or a log of the same changes
+    pub same_changes : (facts new.disk.store).honest ≡ (facts old.disk.store).honest → new.document ≡ old.document → (to_undo new.log ≡ to_undo old.log) × (to_redo new.log ≡ to_redo old.log) → IsExact facts old → IsExact facts new
+    same_changes honest document lists exact = record {
+      honest = subst IsTrue (sym honest) exact.honest;
+      steps = subst (λ (d : Document). AreSteps Backwards d (to_undo new.log) (to_redo new.log)) (sym document)
+          (subst (λ (cs : List Change). AreSteps Backwards old.document cs (to_redo new.log)) (sym lists.0) (subst (λ (cs : List Change). AreSteps Backwards old.document (to_undo old.log) cs) (sym lists.1) exact.steps));
+    }
+
     pub same_exact : (facts new.disk.store).honest ≡ (facts old.disk.store).honest → new.document ≡ old.document → new.log ≡ old.log → IsExact facts old → IsExact facts new
     same_exact honest document log exact = record {
       honest = subst IsTrue (sym honest) exact.honest;

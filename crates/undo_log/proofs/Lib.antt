@@ -4,6 +4,8 @@ pub mod Lists
 pub mod Keeping
 pub mod Locking
 pub mod Steps
+pub mod Forgetting
+pub mod JoinSteps
 pub mod Directions
 pub mod Answers
 pub mod Edited
@@ -16,3 +18,7 @@ pub mod Beginnings
 pub mod Groups
 pub mod Moving
 pub mod RoomLemmas
+pub mod MarkLemmas
+pub mod Entries
+pub mod Segments
+pub mod LogViews

@@ -132,6 +132,10 @@ undos_step m count e = inl (rw e refl)
 pub redos_step : (m : Machine) (count : ℕ) → count ≡ length m.future → Step false m (Some commands.Redos) (NumberIs count) m
 redos_step m count e = inl (rw e refl)
 
+-- how the document stands to the committed ones
+pub modified_step : (m : Machine) (stands : ℕ) → stands ≡ machine.stands_as m → Step false m (Some commands.Modified) (NumberIs stands) m
+modified_step m stands e = inl (rw e refl)
+
 -- Each look-up into a body asks of the document alone.
 
 block_is : (b : VmHandle) (asked : BlockLookUp) → IsLookUp (block_look_up b asked)

@@ -1,26 +1,40 @@
--- There is room for the entry that the open group becomes.
-use Rattle.std.proofs.Common.{◌≡◌, ◌+◌, ◌<◌, ◌≤◌, ℕ, Vec, Global, List, [], ◌∷◌, length, reverse, drop, vec_len, vec_capacity, Option, Some, ap, arith}
+-- There is room for an entry, also for the one that the open group becomes.
+use Rattle.std.proofs.Common.{◌≡◌, ◌+◌, ◌<◌, ◌≤◌, ◌&&◌, ℕ, Bool, true, false, Vec, Global, List, [], ◌∷◌, length, reverse, drop, vec_len, vec_capacity, Option, None, Some, refl, ap, arith, ltb-true}
 use Rattle.std.specs.Option.{option_map}
+use Rattle.std.specs.Prelude.{nat_lt}
+use Rattle.std.proofs.lemmas.Bool.{lt-ltb}
 use Rattle.std.proofs.lemmas.List.{length-drop, length-reverse}
 use Rattle.vm_blocks.specs.declared.change.Change.{Change}
 use Rattle.undo_log.specs.Logging.{AreExclusive, open_changes}
-use Rattle.undo_log.specs.Rooms.{waiting}
+use Rattle.undo_log.specs.Rooms.{has_room, waiting}
 use Rattle.undo_log.specs.declared.entry.LogEntry.{LogEntry}
 
--- where the group has changes nothing is left to make again
-none_left : (cs : List Change) (es : List LogEntry) → 0 < length cs → AreExclusive cs es → length es ≡ 0
-none_left [] es some apart = absurd (omega (arith, some))
-none_left (c ∷ cs) es some apart = ap length apart
+has_place : (done capacity : ℕ) (group : Option (ℕ × ℕ)) → has_room done capacity group ≡ true → done < capacity
+has_place done capacity None room = ltb-true done capacity room
+has_place done capacity (Some (count, most)) room = ltb-true done capacity (first_true (nat_lt done capacity) (nat_lt count most) room)
+  where
+    first_true : (x y : Bool) → (x && y) ≡ true → x ≡ true
+    first_true true y both = refl
+    first_true false y both = both
 
-pub room_for_group : (group : Option (Vec Change Global)) (changes : Vec Change Global) (entries : Vec LogEntry Global) (done : ℕ) → group ≡ Some changes → 0 < vec_len changes
-    → (done ≤ vec_len entries) × (done + waiting (option_map (λ changes. (vec_len changes, vec_capacity changes)) group) ≤ vec_capacity entries)
-    × AreExclusive (open_changes (option_map (λ changes. reverse changes.items) group)) (drop done entries.items)
-    → vec_len entries < vec_capacity entries
-room_for_group group changes entries done is some holds =
-    let with_changes = rw is at holds in
-    let many = length-reverse changes.items in
-    let first : 0 < length (reverse changes.items) = omega (arith, many, some) in
-    let none = none_left (reverse changes.items) (drop done entries.items) first with_changes.2 in
-    let left = length-drop done entries.items in
-    let room = with_changes.1 in
-    omega (arith, none, left, room, some)
+-- where nothing is left to make again
+pub room_for_entry : (done : ℕ) (entries : Vec LogEntry Global) (group : Option (ℕ × ℕ)) → has_room done (vec_capacity entries) group ≡ true → drop done entries.items ≡ [] → vec_len entries < vec_capacity entries
+room_for_entry done entries group room none =
+    let place = has_place done (vec_capacity entries) group room in let left = length-drop done entries.items in let no = ap length none in omega (arith, place, left, no)
+
+-- where the group has changes nothing is left to make again
+none_left : (cs : List Change) (es : List LogEntry) → 0 < length cs → AreExclusive cs es → es ≡ []
+none_left [] es some apart = absurd (omega (arith, some))
+none_left (c ∷ cs) es some apart = apart
+
+-- and none is open once it is closed
+pub room_for_group : (group : Option (Vec Change Global)) (changes : Vec Change Global) (done capacity : ℕ) → group ≡ Some changes → 0 < vec_len changes
+    → done + waiting (option_map (λ changes. (vec_len changes, vec_capacity changes)) group) ≤ capacity → has_room done capacity None ≡ true
+room_for_group group changes done capacity is some holds =
+    let with_changes = rw is at holds in lt-ltb done capacity (omega (arith, with_changes, some))
+
+pub nothing_behind : (group : Option (Vec Change Global)) (changes : Vec Change Global) (es : List LogEntry) → group ≡ Some changes → 0 < vec_len changes
+    → AreExclusive (open_changes (option_map (λ changes. reverse changes.items) group)) es → es ≡ []
+nothing_behind group changes es is some apart =
+    let with_changes = rw is at apart in let many = length-reverse changes.items in
+    none_left (reverse changes.items) es (omega (arith, many, some)) with_changes

@@ -19,10 +19,10 @@ use Rattle.vm_file.specs.Documents.{Documents}
 use Rattle.vm_blocks.specs.SavingAs.{IsSavedAs, IsNotSavedAs}
 use Rattle.vm_blocks.specs.State.{CacheState, as_file}
 use Rattle.undo_log.specs.Committing.{IsBusy, IsSaveAsRefused}
-use Rattle.undo_log.specs.Logging.{Log, group_of}
+use Rattle.undo_log.specs.Logging.{Log, group_of, saved_log, to_redo, to_undo}
 use Rattle.undo_log.specs.Sessions.{SessionState, file_of, has_locked_blocks, locks_in, machine_of, failed_since, IsExact}
 use Rattle.undo_log.specs.Turning.{busy_fault}
-use Rattle.undo_log.proofs.Keeping.{Holds, drifted_listed, machine_is, none_marked, same_exact}
+use Rattle.undo_log.proofs.Keeping.{Holds, drifted_listed, machine_is, none_marked, same_changes, same_exact}
 use Rattle.undo_log.proofs.Turns.{at_rest, group_open}
 
 -- one of two stores failed
@@ -39,23 +39,23 @@ is_worn is_open locked worn outside none so = rw (outside, none, so) refl
 both_true : (a b : Bool) → a ≡ true → b ≡ true → (a && b) ≡ true
 both_true a b p q = rw (p, q) refl
 
--- the log, the frames and the blocks in memory stay
-pub record Keeps {S : Type 0} (old new : SessionState S) : Type 0 where
-  pub log : new.log ≡ old.log
+-- the log stays but for where the documents stand, and so do the frames and the blocks in memory
+pub record Keeps {S T E : Type 0} (old new : SessionState S) (result : Result T E) : Type 0 where
+  pub log : MatchResult result (λ _. new.log ≡ saved_log old.log) (λ _. new.log ≡ old.log)
   pub frames : new.frames ≡ old.frames
   pub resident : new.resident ≡ old.resident
 
-module _ {S : Type 0} (facts : S → StoreFacts) (old new : SessionState S) (keeps : Keeps old new) (free : busy_fault old ≡ None) where
+module _ {S : Type 0} (facts : S → StoreFacts) (old new : SessionState S) (free : busy_fault old ≡ None) where
   none : has_locked_blocks old ≡ false
   none = (at_rest old free).1
 
   outside : is_some (option_map (group_of old.document) old.log.group) ≡ false
   outside = group_open (group_of old.document) old.log.group ∙ (at_rest old free).0
 
-  same_machine : (pair : Documents) (fault : Fault) → MayCommit facts pair old.disk new.disk (Err fault) → new.document ≡ old.document → IsTrue (facts old.disk.store).honest → machine_of true new ≡ machine_of true old
-  same_machine pair fault commits document so =
+  same_machine : new.log ≡ old.log → new.frames ≡ old.frames → new.resident ≡ old.resident → (pair : Documents) (fault : Fault) → MayCommit facts pair old.disk new.disk (Err fault) → new.document ≡ old.document → IsTrue (facts old.disk.store).honest → machine_of true new ≡ machine_of true old
+  same_machine log frames resident pair fault commits document so =
       let was = commits.err so in
-      sym (machine_is true old.document old.disk.updated old.disk.saved old.log (locks_in old.resident) old.frames old.disk.sequence new (sym document) (sym keeps.log) (sym was.0) (sym was.1) (sym (ap locks_in keeps.resident)) (sym keeps.frames) (sym commits.sequence))
+      sym (machine_is true old.document old.disk.updated old.disk.saved old.log (locks_in old.resident) old.frames old.disk.sequence new (sym document) (sym log) (sym was.0) (sym was.1) (sym (ap locks_in resident)) (sym frames) (sym commits.sequence))
 
   refusal : (fault : Fault) (failed : Bool) → machine_of true new ≡ machine_of true old → (fault ≡ Worn → old.disk.sequence ≡ last_sequence) → (fault ≡ File → failed ≡ true) → (fault ≡ Damaged → ⊥)
       → IsCommitRefusal fault ⊎ (fault ≡ Damaged) → Step failed (machine_of true old) (Some commands.SaveAs) (Refused fault) (machine_of true new)
@@ -66,34 +66,34 @@ module _ {S : Type 0} (facts : S → StoreFacts) (old new : SessionState S) (kee
     | inr other ↦ absurd (damaged other)
   ]
 
-  pub refused : {T E : Type 0} (fault : E → Fault) (store : E → S) (target : S) (P : T → Type 0) (r : Result T E)
+  pub refused : {T E : Type 0} (fault : E → Fault) (store : E → S) (target : S) (P : T → Type 0) (r : Result T E) → Keeps old new r
       → MatchResult r P (λ e. IsNotSavedAs facts target (store e) (file_of old) (file_of new) (fault e))
       → (IsErrAnd r (λ e. fault e ≡ Worn) ↔ (old.disk.sequence ≡ last_sequence))
       → IfErr r (λ e. IsExact facts old → IsExact facts new
       × Step (failed_since (facts old.disk.store) (facts new.disk.store) || failed_since (facts target) (facts (store e))) (machine_of true old) (Some commands.SaveAs) (Refused (fault e)) (machine_of true new))
-  refused fault store target P (Ok x) given worn = tt
-  refused fault store target P (Err e) given worn = λ exact.
+  refused fault store target P (Ok x) keeps given worn = tt
+  refused fault store target P (Err e) keeps given worn = λ exact.
       let so = exact.honest in let document = given.document.same so in (
         same_exact facts old new given.commits.honest document keeps.log exact,
-        refusal (fault e) (failed_since (facts old.disk.store) (facts new.disk.store) || failed_since (facts target) (facts (store e))) (same_machine (old.disk.saved, old.disk.saved) (fault e) given.commits document so) worn.0
+        refusal (fault e) (failed_since (facts old.disk.store) (facts new.disk.store) || failed_since (facts target) (facts (store e))) (same_machine keeps.log keeps.frames keeps.resident (old.disk.saved, old.disk.saved) (fault e) given.commits document so) worn.0
             (λ failing. one_failed (facts old.disk.store) (facts new.disk.store) (facts target) (facts (store e)) (given.file failing)) (λ is_damaged. given.damaged is_damaged so) given.faults,
       )
 
   -- where it is accepted the session is in the new file
-  pub accepted : {E : Type 0} (fault : E → Fault) (target : S) (Q : E → Type 0) (r : Result S E)
+  pub accepted : {E : Type 0} (fault : E → Fault) (target : S) (Q : E → Type 0) (r : Result S E) → Keeps old new r
       → MatchResult r (λ store. IsSavedAs facts target store (file_of old) (file_of new)) Q
       → (IsErrAnd r (λ e. fault e ≡ Worn) ↔ (old.disk.sequence ≡ last_sequence))
       → IfOk r (λ _. IsExact facts old → IsTrue (facts target).honest → IsExact facts new × Step false (machine_of true old) (Some commands.SaveAs) Accepted (machine_of false new))
-  accepted fault target Q (Ok x) saved worn = λ exact also.
+  accepted fault target Q (Ok x) keeps saved worn = λ exact also.
       let so = exact.honest in
       let documents = saved.made so also in
       let fresh : (old.disk.sequence == last_sequence) ≡ false = ne_eqb old.disk.sequence last_sequence (λ last. absurd (worn.1 last)) in
       let document : new.document ≡ old.document = saved.document.same (both_true (facts old.disk.store).honest (facts target).honest so also) in
       let honest : (facts new.disk.store).honest ≡ (facts old.disk.store).honest = saved.follows.honest ∙ also ∙ sym so in (
-        same_exact facts old new honest document keeps.log exact,
-        inl (rw (outside, none, fresh, ← machine_is false old.document old.document old.document old.log (locks_in old.resident) old.frames 1 new (sym document) (sym keeps.log) (sym documents.0) (sym documents.1) (sym (ap locks_in keeps.resident)) (sym keeps.frames) (sym saved.new_file.sequence)) refl),
+        same_changes facts old new honest document (ap to_undo keeps.log, ap to_redo keeps.log) exact,
+        inl (rw (outside, none, fresh, ← machine_is false old.document old.document old.document (saved_log old.log) (locks_in old.resident) old.frames 1 new (sym document) (sym keeps.log) (sym documents.0) (sym documents.1) (sym (ap locks_in keeps.resident)) (sym keeps.frames) (sym saved.new_file.sequence)) refl),
       )
-  accepted fault target Q (Err e) saved worn = tt
+  accepted fault target Q (Err e) keeps saved worn = tt
 
   -- the words of a session for it
   pub saved_or_not : {E : Type 0} (fault : E → Fault) (store : E → S) (target : S) (r : Result S E)

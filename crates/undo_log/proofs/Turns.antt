@@ -33,7 +33,7 @@ use Rattle.undo_log.specs.Turning.{IsEntryApplied, MovesEntry, CanApplyEntry, Ca
 use Rattle.undo_log.specs.declared.entry.LogEntry.{LogEntry}
 use Rattle.undo_log.specs.declared.entry.LogEntry.TheVariants as entries
 use Rattle.undo_log.proofs.Answers.{abandon_moved, some_steps, turn_answers}
-use Rattle.undo_log.proofs.Directions.{log_by, log_moved, log_was, next_of, none_of, opposite_of, steps_by, steps_of}
+use Rattle.undo_log.proofs.Directions.{log_by, log_moved, log_was, next_of, none_of, opposite_of, steps_by, steps_of, turned}
 use Rattle.undo_log.proofs.Keeping.{answers_on, gives_up, kept_exact, kept_machine, machine_with, passed_machine}
 use Rattle.undo_log.proofs.Steps.{all_back, can_split, moved_entry}
 
@@ -252,19 +252,22 @@ module _ {S : Type 0} (facts : S → StoreFacts) where
         abbrev others : List LogEntry
         others = next_entries (opposite direction) old.log
 
-        log_is : new.log ≡ log_by direction first.others (reversed_entry e ∷ others)
+        abbrev after : Log
+        after = turned direction old.log
+
+        log_is : new.log ≡ log_by direction after first.others (reversed_entry e ∷ others)
         log_is = log ∙ log_moved e old.log (none_open old free) direction first
 
         pub turn_moves : MovesEntry facts direction (cache_of old) (cache_of new) (next_entries direction old.log) others (next_entries direction new.log) (next_entries (opposite direction) new.log)
         turn_moves = record {
           entry = e;
           makes = makes;
-          from_was = first.are ∙ ap (λ (es : List LogEntry). e ∷ es) (sym (ap (next_entries direction) log_is ∙ next_of direction first.others (reversed_entry e ∷ others)));
-          to_is = ap (next_entries (opposite direction)) log_is ∙ opposite_of direction first.others (reversed_entry e ∷ others);
+          from_was = first.are ∙ ap (λ (es : List LogEntry). e ∷ es) (sym (ap (next_entries direction) log_is ∙ next_of direction after first.others (reversed_entry e ∷ others)));
+          to_is = ap (next_entries (opposite direction)) log_is ∙ opposite_of direction after first.others (reversed_entry e ∷ others);
         }
 
         pub turn_group : new.log.group ≡ old.log.group
-        turn_group = ap (λ (l : Log). l.group) log_is ∙ none_of direction first.others (reversed_entry e ∷ others) ∙ sym (none_open old free)
+        turn_group = ap (λ (l : Log). l.group) log_is ∙ none_of direction after first.others (reversed_entry e ∷ others) ∙ sym (none_open old free)
 
         pub turn_taken : IsStep facts old new (step_command direction) Accepted
         turn_taken = λ exact.
@@ -273,7 +276,7 @@ module _ {S : Type 0} (facts : S → StoreFacts) where
             let document : new.document ≡ after_entry direction e old.document = (entry_document direction e (cache_of old) (cache_of new) makes).same so in
             let are : AreSteps direction old.document (all_changes (e ∷ first.others)) (all_changes others) =
             subst (λ (es : List LogEntry). AreSteps direction old.document (all_changes es) (all_changes others)) first.are (steps_by direction old.document old.log (none_open old free) exact.steps) in
-            let moved = steps_of direction (after_entry direction e old.document) first.others (reversed_entry e ∷ others) (moved_entry direction old.document e first.others others are) in (
+            let moved = steps_of direction (after_entry direction e old.document) after first.others (reversed_entry e ∷ others) (moved_entry direction old.document e first.others others are) in (
               record {
                 honest = subst IsTrue (sym passes.honest) so;
                 steps = subst (λ (d : Document). AreSteps Backwards d (to_undo new.log) (to_redo new.log)) (sym document)
@@ -284,7 +287,7 @@ module _ {S : Type 0} (facts : S → StoreFacts) where
                   let is = passed_machine facts old new target so passes (entry_frames direction e (cache_of old) (cache_of new) makes) (entry_locks direction e (cache_of old) (cache_of new) makes)
                   ∙ ap (λ (d : Document). machine_with m d new.log) document ∙ ap (λ (l : Log). machine_with m (after_entry direction e old.document) l) log_is in
                   inl (answers_on m _ (machine_of target new) _ (Some (step_command direction)) Accepted (ap (λ (l : Log). machine_with m old.document l) (log_was e old.log (none_open old free) direction first)) is
-                  (turn_answers direction m old.document e first.others others (at_rest old free).1 are)),
+                  (turn_answers direction m old.document old.log e first.others others (at_rest old free).1 are)),
             )
 
   -- It is refused before all else.
@@ -382,7 +385,7 @@ module _ {S : Type 0} (facts : S → StoreFacts) where
               let is = passed_machine facts old new target so makes.passes makes.frames makes.locks
               ∙ ap (λ (d : Document). machine_with m d new.log) document ∙ ap (λ (l : Log). machine_with m (after_all Backwards cs old.document) l) log in
               inl (answers_on m _ (machine_of target new) _ (Some commands.Abandon) Accepted (ap (λ (l : Log). machine_with m old.document l) was_log) is
-              (abandon_moved m old.document old.log.undo old.log.redo cs none apart)),
+              (abandon_moved m old.document old.log old.log.undo old.log.redo cs none apart)),
         )
       where
         -- what can be made again can be in the document before the group, which is the same or has nothing to make again

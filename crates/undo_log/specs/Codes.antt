@@ -1,6 +1,8 @@
 -- The code of a session's value, by which a proof tells two apart.
-use Rattle.std.specs.Prelude.{List, Bool, Option, refl}
-use Rattle.std.specs.Coded.{Coded, code_by, coded×, coded_list, coded_option, coded_bool}
+use Rattle.std.specs.Prelude.{ℕ, List, Bool, Option, refl}
+use Rattle.std.specs.Coded.{Coded, code_by, coded×, coded_list, coded_option, coded_bool, coded_ℕ}
+use Rattle.geos_model.specs.Position.{Position}
+use Rattle.geos_model.proofs.Codes.{position_code}
 use Rattle.vm_blocks.specs.State.{CacheState, cache_state_code}
 use Rattle.vm_blocks.specs.declared.change.Change.{Change}
 use Rattle.vm_blocks.specs.contracts.change.Change as change_type
@@ -9,12 +11,24 @@ use Rattle.undo_log.specs.Sessions.{SessionState, cache_of}
 use Rattle.undo_log.specs.declared.entry.LogEntry.{LogEntry}
 use Rattle.undo_log.specs.contracts.entry.LogEntry as entry_type
 
+-- a log by what can be undone and made again, and by where it stands and what it keeps
 abbrev pub log_code : Coded Log
 log_code =
-    code_by (List LogEntry × (List LogEntry × Option (List Change)))
+    code_by ((List LogEntry × (List LogEntry × Option (List Change))) × (Position × (Position × Option ℕ)))
+    (coded×
     (coded× (coded_list entry_type.the_row.coded) (
     coded× (coded_list entry_type.the_row.coded) (coded_option (coded_list change_type.the_row.coded))))
-    (λ l. (l.undo, (l.redo, l.group))) (λ p. record { undo = p.0; redo = p.1.0; group = p.1.1 }) (λ _. refl)
+    (coded× position_code (coded× position_code (coded_option coded_ℕ))))
+    (λ l. ((l.undo, (l.redo, l.group)), (l.updated_at, (l.saved_at, l.limit))))
+    (λ p. record {
+      undo = p.0.0;
+      redo = p.0.1.0;
+      group = p.0.1.1;
+      updated_at = p.1.0;
+      saved_at = p.1.1.0;
+      limit = p.1.1.1;
+    })
+    (λ _. refl)
 
 abbrev pub log_state_code : Coded LogState
 log_state_code =

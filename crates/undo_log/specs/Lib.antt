@@ -1,5 +1,7 @@
 pub mod Logging
 pub mod Rooms
+pub mod Marks
+pub mod Joining
 pub mod Sessions
 pub mod Making
 pub mod Turning

@@ -1,8 +1,10 @@
 -- What is kept of steps that can be undone or made again, and what a call makes of it.
-use Rattle.std.specs.Prelude.{◌≡◌, ℕ, Bool, List, [], ◌∷◌, ◌++◌, drop, length, reverse, map, take, Option, Some, None}
+use Rattle.std.specs.Prelude.{◌≡◌, ℕ, Bool, true, ◌&&◌, ◌==◌, if◌then◌else◌, List, [], ◌∷◌, ◌++◌, drop, length, reverse, map, take, Option, Some, None}
 use Rattle.std.specs.List.{sum_by}
+use Rattle.std.specs.Option.{option_map_or}
 use Rattle.geos_model.specs.Document.{Document}
 use Rattle.geos_model.specs.Machine.{OpenGroup, UndoStep}
+use Rattle.geos_model.specs.Position.{Position, Back, Nowhere, is_here, position_stepped, position_within, position_in_group, position_after_undo, position_after_redo, position_after_join}
 use Rattle.geos_model.specs.declared.command.Kind.{Kind}
 use Rattle.geos_model.specs.declared.command.Kind.TheVariants.{Group}
 use Rattle.vm_blocks.specs.Changes.{after_directed, directed, weight}
@@ -73,15 +75,27 @@ abbrev pub steps : Direction → List LogEntry → Document → List UndoStep
 steps direction [] d = []
 steps direction (e ∷ es) d = step direction e d ∷ steps direction es (after_entry direction e d)
 
--- What can be undone and what can be made again, of both the next entry first, and the changes of the group that is
--- open, the newest first; None where none is open.
+-- What can be undone and what can be made again, of both the next entry first; the changes of the group that is open, the
+-- newest first, None where none is open; where the committed documents stand; and how many entries are kept to be undone,
+-- None where all are.
 pub record Log : Type 0 where
   pub undo : List LogEntry
   pub redo : List LogEntry
   pub group : Option (List Change)
+  pub updated_at : Position
+  pub saved_at : Position
+  pub limit : Option ℕ
 
-abbrev pub empty_log : Log
-empty_log = record { undo = []; redo = []; group = None }
+-- that of a session that begins, on a file that has one directory for both documents or doesn't
+abbrev pub fresh_log : Bool → Log
+fresh_log one = record {
+  undo = [];
+  redo = [];
+  group = None;
+  updated_at = Back 0;
+  saved_at = if one then Back 0 else Nowhere;
+  limit = None;
+}
 
 -- an entry is the first of these
 pub record IsHead (e : LogEntry) (es : List LogEntry) : Type 0 where
@@ -118,12 +132,37 @@ before group d = after_all Backwards (open_changes group) d
 abbrev pub group_of : Document → List Change → OpenGroup
 group_of d cs = record { before = after_all Backwards cs d; edits = length cs; cost = changes_cost cs }
 
+-- Whether the document is the committed one that stands there: no step lies between, nor a change of the open group.
+abbrev pub is_at : Position → Log → Bool
+is_at p log = is_here p && option_map_or (λ cs. length cs == 0) log.group true
+
 -- What calls make of the log.
+
+-- no more entries than the limit allows, the newest
+abbrev pub kept_entries : Option ℕ → List LogEntry → List LogEntry
+kept_entries None es = es
+kept_entries (Some most) es = take most es
+
+-- An entry is the newest, and the limit may take the oldest.
+abbrev pub with_entry : LogEntry → Log → Log
+with_entry e log = record log {
+  undo = kept_entries log.limit (e ∷ log.undo);
+  updated_at = position_stepped log.limit log.updated_at;
+  saved_at = position_stepped log.limit log.saved_at;
+}
+
+-- nothing is left to make again
+abbrev pub without_redo : Log → Log
+without_redo log = record log {
+  redo = [];
+  updated_at = position_in_group log.updated_at;
+  saved_at = position_in_group log.saved_at;
+}
 
 -- An edit's change is the newest: of the group that is open, or as an entry. Nothing is left to make again.
 abbrev pub added_to : Option (List Change) → Change → Log → Log
-added_to None c log = record log { undo = entries.One c ∷ log.undo; redo = [] }
-added_to (Some cs) c log = record log { redo = []; group = Some (c ∷ cs) }
+added_to None c log = record (with_entry (entries.One c) log) { redo = [] }
+added_to (Some cs) c log = record (without_redo log) { group = Some (c ∷ cs) }
 
 abbrev pub with_change : Change → Log → Log
 with_change c log = added_to log.group c log
@@ -132,7 +171,7 @@ with_change c log = added_to log.group c log
 abbrev pub closed_with : Option (List Change) → Log → Log
 closed_with None log = log
 closed_with (Some []) log = record log { group = None }
-closed_with (Some (c ∷ cs)) log = record log { undo = entries.Group (c ∷ cs) ∷ log.undo; group = None }
+closed_with (Some (c ∷ cs)) log = record (with_entry (entries.Group (c ∷ cs)) log) { group = None }
 
 abbrev pub with_group_closed : Log → Log
 with_group_closed log = closed_with log.group log
@@ -140,11 +179,52 @@ with_group_closed log = closed_with log.group log
 -- the next entry in a direction is the next in the opposite one
 abbrev pub moved_from : Direction → List LogEntry → Log → Log
 moved_from direction [] log = log
-moved_from Backwards (e ∷ es) log = record log { undo = es; redo = reversed_entry e ∷ log.redo }
-moved_from Forwards (e ∷ es) log = record log { undo = reversed_entry e ∷ log.undo; redo = es }
+moved_from Backwards (e ∷ es) log = record log {
+  undo = es;
+  redo = reversed_entry e ∷ log.redo;
+  updated_at = position_after_undo log.updated_at;
+  saved_at = position_after_undo log.saved_at;
+}
+moved_from Forwards (e ∷ es) log = record log {
+  undo = reversed_entry e ∷ log.undo;
+  redo = es;
+  updated_at = position_after_redo log.updated_at;
+  saved_at = position_after_redo log.saved_at;
+}
 
 abbrev pub next_moved : Direction → Log → Log
 next_moved direction log = moved_from direction (next_entries direction log) log
+
+-- The newest two entries are one group, of which the changes of the newer one are made first.
+abbrev pub joined_entries : List LogEntry → List LogEntry
+joined_entries (e ∷ f ∷ es) = entries.Group (changes_in e ++ changes_in f) ∷ es
+joined_entries es = es
+
+abbrev pub joined_log : Log → Log
+joined_log log = record log {
+  undo = joined_entries log.undo;
+  updated_at = position_after_join log.updated_at;
+  saved_at = position_after_join log.saved_at;
+}
+
+-- no more than so many entries are left to be undone, the newest
+abbrev pub forgotten_log : ℕ → Log → Log
+forgotten_log most log = record log {
+  undo = kept_entries (Some most) log.undo;
+  updated_at = position_within (Some most) log.updated_at;
+  saved_at = position_within (Some most) log.saved_at;
+}
+
+-- the document becomes the updated one, or both
+abbrev pub updated_log : Log → Log
+updated_log log = record log { updated_at = Back 0 }
+
+abbrev pub saved_log : Log → Log
+saved_log log = record log { updated_at = Back 0; saved_at = Back 0 }
+
+-- after a revert nothing is left to undo or to make again, and the limit stays
+abbrev pub reverted_log : Log → Log
+reverted_log log = record (fresh_log true) { limit = log.limit }
 
 -- A log, and whether there is room for one change more.
 pub record LogState : Type 0 where

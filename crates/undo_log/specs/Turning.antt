@@ -1,5 +1,5 @@
 -- A step from one list of the log to the other, and taking back the group that is open.
-use Rattle.std.specs.Prelude.{◌≡◌, ◌≢◌, ◌⊎◌, true, List, [], ◌∷◌, map, Option, Some, None, is_some, if◌then◌else◌}
+use Rattle.std.specs.Prelude.{◌≡◌, ◌≢◌, ◌⊎◌, true, nat_lt, List, [], ◌∷◌, length, map, Option, Some, None, is_some, if◌then◌else◌}
 use Rattle.geos_model.specs.Document.{Document}
 use Rattle.geos_model.specs.declared.command.Command.{Command}
 use Rattle.geos_model.specs.declared.command.Command.TheVariants as commands
@@ -81,6 +81,11 @@ busy_fault s = if is_some s.log.group then Some GroupOpen else if has_locked_blo
 -- so where a group is to be open
 abbrev pub abandon_fault : {S : Type 0} → SessionState S → Option Fault
 abandon_fault s = if is_some s.log.group then (if has_locked_blocks s then Some Locked else None) else Some NoGroup
+
+-- What keeps two steps from being joined, for want of memory aside: an open group, or that there are fewer.
+abbrev pub join_fault : {S : Type 0} → SessionState S → Option Fault
+join_fault s =
+    if is_some s.log.group then Some GroupOpen else if nat_lt (length s.log.undo) 2 then Some NothingToUndo else None
 
 -- Why what the log has can't be made: for a fault of what the call may lack; or, in a session that isn't exact, a body
 -- that doesn't take a change.

@@ -1,8 +1,9 @@
 //! What is kept of one step: the change of an edit, or the changes of a group.
-ghost use Rattle.std.specs.Prelude.{◌≡◌, ◌-◌, ◌^◌, min, reverse};
-ghost use Rattle.undo_log.specs.Logging.{entry_weight, reversed_entry};
+ghost use Rattle.std.specs.Prelude.{◌≡◌, ◌-◌, ◌^◌, [], ◌∷◌, ◌++◌, min, reverse, MatchResult};
+ghost use Rattle.undo_log.specs.Logging.{changes_in, entry_weight, reversed_entry};
 
 use crate::weighing::total_weight;
+use std::alloc::{AllocError, AllocFailed, Global};
 use std::marker::Model;
 use std::mem::size_of;
 use vm_blocks::Change;
@@ -48,6 +49,33 @@ impl Changes {
     {
         self.stack.as_mut_slice().reverse();
     }
+
+    /// A change is the next one, if there is memory for it.
+    pub(crate) fn push(&mut self, change: Change) -> Result<(), AllocFailed<Change>>
+        ensures { MatchResult result
+            (λ _. self.new ≡ change ∷ self.old)
+            (λ failed. (self.new ≡ self.old) × (failed.value ≡ change)) }
+    {
+        self.stack.push(change)
+    }
+
+    /// A change is made after the others, if there is memory for it.
+    pub(crate) fn put_last(&mut self, change: Change) -> Result<(), AllocFailed<Change>>
+        ensures { MatchResult result
+            (λ _. self.new ≡ self.old ++ change ∷ [])
+            (λ failed. (self.new ≡ self.old) × (failed.value ≡ change)) }
+    {
+        self.stack.insert(0, change)
+    }
+
+    /// Newer changes are made before these, if there is memory for them.
+    pub(crate) fn append(&mut self, newer: &mut Changes) -> Result<(), AllocError>
+        ensures { MatchResult result
+            (λ _. self.new ≡ newer.old ++ self.old)
+            (λ _. (self.new ≡ self.old) × (newer.new ≡ newer.old)) }
+    {
+        self.stack.append(&mut newer.stack)
+    }
 }
 
 /// What is kept of a step that can be undone or made again.
@@ -63,6 +91,13 @@ pub enum LogEntry {
 const _: () = prove!(size_of::<LogEntry>() <= 56);
 
 impl LogEntry {
+    /// One of no change, which takes no memory.
+    pub(crate) fn empty(alloc: Global) -> LogEntry
+        ensures { changes_in result ≡ [] }
+    {
+        LogEntry::Group(Changes::new(Vec::new(alloc)))
+    }
+
     /// How many content bytes its changes hold, 2^64 - 1 where these are more.
     pub(crate) fn weight(&self) -> u64
         ensures { result ≡ min (entry_weight self.now) (2 ^ 64 - 1) }

@@ -3,8 +3,10 @@
 
 mod entry;
 mod growing;
+mod joining;
 mod log;
 mod making;
+mod marks;
 mod session;
 mod turning;
 mod weighing;

@@ -1,11 +1,13 @@
-//! The log: what can be undone, what can be made again, and the group that is open.
-ghost use Rattle.std.specs.Prelude.{◌≡◌, ◌<◌, ◌+◌, ◌-◌, ◌^◌, [], true, Some, None, OnOk, MatchOption, is_some, length, min, reverse};
+//! The log: what can be undone, what can be made again, the group that is open, and where the committed documents stand.
+ghost use Rattle.std.specs.Prelude.{◌≡◌, ◌<◌, ◌≤◌, ◌+◌, ◌-◌, ◌^◌, [], true, Some, None, OnOk, MatchOption, MatchResult, is_some, length, min, reverse};
 ghost use Rattle.std.specs.Option.{option_map};
 ghost use Rattle.chunk_edits.specs.declared.direction.Direction.TheVariants.{Backwards, Forwards};
-ghost use Rattle.undo_log.specs.Logging.{AreExclusive, IsHead, ReversesAt, empty_log, open_changes, next_entries, next_moved, to_redo, to_undo, total_weight, with_change, with_group_closed};
+ghost use Rattle.undo_log.specs.Logging.{AreExclusive, IsHead, ReversesAt, forgotten_log, fresh_log, is_at, joined_log, open_changes, next_entries, next_moved, reverted_log, saved_log, to_redo, to_undo, total_weight, updated_log, with_change, with_entry, with_group_closed, without_redo};
 
 use crate::entry::{Changes, LogEntry};
 use crate::growing::reserve_one;
+use crate::joining::{empty_entries, join_at};
+use crate::marks::Marks;
 use crate::weighing::{entries_weight, total_weight};
 use std::alloc::{AllocError, Global};
 use std::marker::Model;
@@ -14,19 +16,26 @@ use vm_blocks::{Change, Direction};
 /// What is kept of the steps that can be undone or made again, and of the group that is open.
 #[derive(Drop)]
 pub struct UndoLog {
-    // Those that can be undone, the newest last, and then those that can be made again, the next first. There is room
-    // for the group that is open behind the first ones.
+    // Those that are forgotten, each without a change; those that can be undone, the newest last; and those that can be
+    // made again, the next first. There is room for the group that is open behind the ones that can be undone.
     entries: Vec<LogEntry>,
-    // How many of them can be undone.
+    // How many of them are forgotten. They are fewer than the others, or a part of them is taken away.
+    dead: usize,
+    // How many of them can't be made again: those that are forgotten, and those that can be undone.
     done: usize,
     // The newest change of the open group is the last. While it has some, nothing is left to make again.
     group: Option<Vec<Change>>,
+    // Where the committed documents stand among the entries, so that an undo or a redo needn't say.
+    marks: Marks,
+    // How many entries are kept to be undone.
+    limit: Option<u32>,
 }
 
 impl Model for UndoLog {
     ghost use Rattle.undo_log.specs.Logging.{LogState};
     ghost use Rattle.undo_log.specs.Codes.{log_state_code};
     ghost use Rattle.undo_log.specs.Logging.{AreExclusive, open_changes};
+    ghost use Rattle.undo_log.specs.Marks.{AreMarksWithin, position_of};
     ghost use Rattle.undo_log.specs.Rooms.{has_room, waiting};
 
     ghost Value = { LogState };
@@ -38,15 +47,19 @@ impl Model for UndoLog {
 
     ghost view = { λ l. record {
       lists = record {
-        undo = reverse (take l.done l.entries.items);
+        undo = reverse (drop l.dead (take l.done l.entries.items));
         redo = drop l.done l.entries.items;
         group = option_map (λ changes. reverse changes.items) l.group;
+        updated_at = position_of l.done l.marks.updated;
+        saved_at = position_of l.done l.marks.saved;
+        limit = l.limit;
       };
       room = has_room l.done (vec_capacity l.entries)
           (option_map (λ changes. (vec_len changes, vec_capacity changes)) l.group);
     } };
 
-    ghost invariant = { λ l. (l.done ≤ vec_len l.entries)
+    ghost invariant = { λ l. (l.dead ≤ l.done) × (l.done ≤ vec_len l.entries)
+        × AreMarksWithin l.dead (vec_len l.entries) l.marks
         × (l.done + waiting (option_map (λ changes. (vec_len changes, vec_capacity changes)) l.group)
         ≤ vec_capacity l.entries)
         × AreExclusive (open_changes (option_map (λ changes. reverse changes.items) l.group))
@@ -54,14 +67,20 @@ impl Model for UndoLog {
 }
 
 impl UndoLog {
-    /// A log of nothing.
-    pub(crate) fn new(alloc: Global) -> UndoLog
-        ensures { result.lists ≡ empty_log }
+    /// A log of nothing, of a file with one directory for both documents or with two.
+    pub(crate) fn new(alloc: Global, one: bool) -> UndoLog
+        ensures { result.lists ≡ fresh_log one }
     {
         UndoLog {
             entries: Vec::new(alloc),
+            dead: 0,
             done: 0,
             group: None,
+            marks: Marks {
+                updated: Some(0),
+                saved: if one { Some(0) } else { None },
+            },
+            limit: None,
         }
     }
 
@@ -81,21 +100,88 @@ impl UndoLog {
     }
 
     /// The change of an edit that was made is the newest.
-    pub(crate) fn add(&mut self, change: Change)
+    pub(crate) fn add(&mut self, alloc: Global, change: Change)
         requires { self.old.room ≡ true }
         ensures { self.new.lists ≡ with_change change self.old.lists }
     {
-        // Nothing is left to make again, in a group too. Where nothing was, the vector needn't be asked.
+        // In a group too.
+        self.cut_undone();
+        if let Some(changes) = &mut self.group {
+            changes.push_reserved(change);
+            return;
+        }
+        self.push(alloc, LogEntry::One(change));
+    }
+
+    // Nothing is left to make again.
+    fn cut_undone(&mut self)
+        ensures lists { self.new.lists ≡ without_redo self.old.lists }
+        ensures room { self.new.room ≡ self.old.room }
+    {
+        // Where nothing was, the vector needn't be asked.
         if self.done < self.entries.len() {
             self.entries.truncate(self.done);
+            self.marks.cut_behind(self.done);
         }
-        match &mut self.group {
-            Some(changes) => changes.push_reserved(change),
-            None => {
-                self.entries.push_reserved(LogEntry::One(change));
-                self.done = self.entries.len();
-            }
+    }
+
+    // An entry is the newest, and the limit may take the oldest.
+    fn push(&mut self, alloc: Global, entry: LogEntry)
+        requires room { self.old.room ≡ true }
+        requires closed { self.old.lists.group ≡ None }
+        requires none { self.old.lists.redo ≡ [] }
+        ensures { self.new.lists ≡ with_entry entry self.old.lists }
+    {
+        self.entries.push_reserved(entry);
+        self.done = self.entries.len();
+        if let Some(most) = self.limit {
+            self.forget(alloc, most);
         }
+    }
+
+    /// No more than so many entries are left to be undone, the newest.
+    pub(crate) fn forget(&mut self, alloc: Global, most: u32)
+        ensures { self.new.lists ≡ forgotten_log most self.old.lists }
+    {
+        let most = most as usize;
+        if self.done - self.dead > most {
+            let first = self.done - most;
+            empty_entries(alloc, self.entries.as_mut_slice(), self.dead, first);
+            self.marks.cut_before(first);
+            self.dead = first;
+            self.take_dead_away();
+        }
+    }
+
+    // Where as many entries are forgotten as aren't, the others are moved down: the mean time of a call stays the same.
+    fn take_dead_away(&mut self)
+        ensures { self.new.lists ≡ self.old.lists }
+    {
+        let dead = self.dead;
+        let live = self.entries.len() - dead;
+        if dead >= live {
+            self.entries.rotate_left(dead);
+            self.entries.truncate(live);
+            self.marks.lower(dead);
+            self.done -= dead;
+            self.dead = 0;
+        }
+    }
+
+    /// The newest two entries are one, if there is memory for it. No time goes by but for the changes of the newest and
+    /// for what can be made again.
+    pub(crate) fn join(&mut self, alloc: Global) -> Result<(), AllocError>
+        requires { 2 ≤ length self.old.lists.undo }
+        ensures { MatchResult result
+            (λ _. self.new.lists ≡ joined_log self.old.lists)
+            (λ _. self.new.lists ≡ self.old.lists) }
+    {
+        let newest = self.done - 1;
+        join_at(alloc, self.entries.as_mut_slice(), newest - 1)?;
+        let _emptied = self.entries.remove(newest);
+        self.marks.join_at(newest);
+        self.done = newest;
+        Ok(())
     }
 
     /// The next entry in a direction: to go backwards is to undo.
@@ -125,7 +211,7 @@ impl UndoLog {
         requires { self.old.lists.group ≡ None }
         ensures { self.new.lists ≡ next_moved Backwards self.old.lists }
     {
-        if self.done > 0 {
+        if self.done > self.dead {
             self.done -= 1;
             turn_over_at(self.entries.as_mut_slice(), self.done);
         }
@@ -151,14 +237,12 @@ impl UndoLog {
     }
 
     /// Closes the group, if one is open: its changes are the newest entry, if it has some.
-    pub(crate) fn close_group(&mut self)
+    pub(crate) fn close_group(&mut self, alloc: Global)
         ensures { self.new.lists ≡ with_group_closed self.old.lists }
     {
         if let Some(changes) = self.group.take() {
             if !changes.is_empty() {
-                self.entries
-                    .push_reserved(LogEntry::Group(Changes::new(changes)));
-                self.done = self.entries.len();
+                self.push(alloc, LogEntry::Group(Changes::new(changes)));
             }
         }
     }
@@ -170,13 +254,54 @@ impl UndoLog {
         self.group = None;
     }
 
-    /// Forgets all.
+    /// Forgets all, after a revert. The limit stays.
     pub(crate) fn clear(&mut self)
-        ensures { self.new.lists ≡ empty_log }
+        ensures { self.new.lists ≡ reverted_log self.old.lists }
     {
         self.entries.clear();
+        self.dead = 0;
         self.done = 0;
         self.group = None;
+        self.marks = Marks {
+            updated: Some(0),
+            saved: Some(0),
+        };
+    }
+
+    /// Keeps so many entries to be undone from the next one on, or all.
+    pub(crate) fn set_limit(&mut self, limit: Option<u32>)
+        ensures { self.new.lists ≡ record self.old.lists { limit = limit } }
+    {
+        self.limit = limit;
+    }
+
+    /// The document became the updated one.
+    pub(crate) fn mark_updated(&mut self)
+        ensures { self.new.lists ≡ updated_log self.old.lists }
+    {
+        self.marks.updated = Some(self.done);
+    }
+
+    /// The document became the updated and the saved one.
+    pub(crate) fn mark_saved(&mut self)
+        ensures { self.new.lists ≡ saved_log self.old.lists }
+    {
+        self.marks.updated = Some(self.done);
+        self.marks.saved = Some(self.done);
+    }
+
+    /// Whether the document is the updated one.
+    pub(crate) fn is_updated(&self) -> bool
+        ensures { result ≡ is_at self.now.lists.updated_at self.now.lists }
+    {
+        self.marks.updated == Some(self.done) && self.group().is_empty()
+    }
+
+    /// Whether the document is the saved one.
+    pub(crate) fn is_saved(&self) -> bool
+        ensures { result ≡ is_at self.now.lists.saved_at self.now.lists }
+    {
+        self.marks.saved == Some(self.done) && self.group().is_empty()
     }
 
     /// The changes of the group that is open, the newest last; none where none is.
@@ -234,7 +359,7 @@ impl UndoLog {
     fn made(&self) -> &[LogEntry]
         ensures { reverse result.now ≡ self.now.lists.undo }
     {
-        &self.entries.as_slice()[..self.done]
+        &self.entries.as_slice()[self.dead..self.done]
     }
 
     // The entries that can be made again, the next first.

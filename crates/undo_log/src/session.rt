@@ -12,7 +12,7 @@ ghost use Rattle.geos_model.specs.declared.command.Command.TheVariants as comman
 ghost use Rattle.geos_model.specs.declared.command.Kind.TheVariants.{In, Made};
 ghost use Rattle.vm_file.specs.Calls.{last_sequence};
 ghost use Rattle.vm_file.specs.Disk.{IsFileDocument, IsCrashConsistent, KeepsCommitted};
-ghost use Rattle.vm_file.specs.Documents.{sequence_in};
+ghost use Rattle.vm_file.specs.Documents.{has_one_directory, sequence_in};
 ghost use Rattle.vm_file.specs.Effects.{Fails, IsWorn};
 ghost use Rattle.vm_blocks.specs.Bodies.{body_value};
 ghost use Rattle.vm_blocks.specs.State.{locks_of, locked_count};
@@ -26,11 +26,12 @@ ghost use Rattle.doc_edits.specs.Room.{lacks_frames, ReadsNothing};
 ghost use Rattle.undo_log.specs.Editing.{EditsInMemory};
 ghost use Rattle.undo_log.specs.Locking.{IsBarred};
 ghost use Rattle.undo_log.specs.Committing.{IsBusy, IsSaveAsRefused, IsSessionCommit};
-ghost use Rattle.undo_log.specs.Logging.{AreExclusive, before, empty_log, next_entries, open_changes, to_redo, to_undo, total_weight, with_group_closed};
+ghost use Rattle.undo_log.specs.Logging.{AreExclusive, before, fresh_log, next_entries, next_moved, open_changes, reverted_log, saved_log, to_redo, to_undo, total_weight, updated_log, with_group_closed};
 ghost use Rattle.undo_log.specs.Sessions.{cache_of, file_of, has_locked_blocks, machine_of, opposite, failed_since, total_cost, IsExact, IsStep, KeepsSession, PushesEdit};
 ghost use Rattle.undo_log.specs.Turning.{Abandons, IsNotAbandoned, IsRefusedUndoOrRedo, IsSure, IsSureGroup, MovesEntry, abandon_fault, newest_made, busy_fault, no_step_fault, step_command};
 
 mod look_ups;
+mod steps;
 
 use crate::log::UndoLog;
 use crate::making::{is_barred, make};
@@ -81,18 +82,19 @@ impl<S: Store> Model for Session<S> {
 }
 
 impl<S: Store> Session<S> {
-    // A session of blocks of a file, none of which is in memory, with nothing to undo.
-    fn start(alloc: Global, blocks: FileBlocks<S>) -> Session<S>
+    // A session of blocks of a file, none of which is in memory, with nothing to undo. The file has one directory for
+    // both documents, or two.
+    fn start(alloc: Global, blocks: FileBlocks<S>, one: bool) -> Session<S>
         requires { blocks.disk.marked ≡ None }
         ensures blocks { cache_of result ≡ blocks }
-        ensures log { result.log ≡ empty_log }
+        ensures log { result.log ≡ fresh_log one }
         ensures exact { IsTrue (S.facts blocks.disk.store).honest → IsExact S.facts result }
     {
         blocks.reveal_invariant();
         Session {
             alloc,
             blocks,
-            log: UndoLog::new(alloc),
+            log: UndoLog::new(alloc, one),
             lists: Lists::new(alloc),
         }
     }
@@ -104,13 +106,13 @@ impl<S: Store> Session<S> {
         ensures made { MatchResult result
             (λ session. IsMadeIn S.facts store (file_of session))
             (λ refused. IsNotMade S.facts store refused.store refused.fault) }
-        ensures new { IfOk result (λ session. (session.log ≡ empty_log) × (session.frames ≡ frames)) }
+        ensures new { IfOk result (λ session. (session.log ≡ fresh_log true) × (session.frames ≡ frames)) }
         ensures exact { IfOk result (λ session. IsTrue (S.facts store).honest → IsExact S.facts session) }
         ensures machine { IfOk result
             (λ session. (target : Bool) → machine_of target session ≡ empty_machine frames target) }
     {
         match FileBlocks::create(alloc, store, frames) {
-            Ok(blocks) => Ok(Session::start(alloc, blocks)),
+            Ok(blocks) => Ok(Session::start(alloc, blocks, true)),
             Err(refused) => Err(refused),
         }
     }
@@ -123,15 +125,20 @@ impl<S: Store> Session<S> {
         ensures opened { MatchResult result
             (λ session. IsOpenedFrom S.facts store (file_of session))
             (λ refused. IsNotOpened S.facts store refused.store refused.fault) }
-        ensures new { IfOk result (λ session. (session.log ≡ empty_log) × (session.frames ≡ frames)) }
+        ensures new { IfOk result
+            (λ session. ((one : Bool) × (session.log ≡ fresh_log one)) × (session.frames ≡ frames)) }
         ensures exact { IfOk result (λ session. IsTrue (S.facts store).honest → IsExact S.facts session) }
         ensures machine { IfOk result
             (λ session. IsTrue (S.facts store).honest → (updated saved : Document) (sequence : ℕ) (target : Bool)
             → stands (S.facts store).content ≡ Ok (updated, saved) → sequence_in (S.facts store).content ≡ Some sequence
-            → machine_of target session ≡ opened_machine updated saved sequence frames target) }
+            → machine_of target session ≡ opened_machine updated saved (has_one_directory (S.facts store).content)
+            sequence frames target) }
     {
         match FileBlocks::open(alloc, store, frames) {
-            Ok(blocks) => Ok(Session::start(alloc, blocks)),
+            Ok(blocks) => {
+                let one = blocks.has_one_directory();
+                Ok(Session::start(alloc, blocks, one))
+            }
             Err(refused) => Err(refused),
         }
     }
@@ -152,14 +159,18 @@ impl<S: Store> Session<S> {
             (self.old.document, self.old.disk.saved) self.old.document self.old self.new result }
         ensures fails { Fails S.facts
             (λ fault. IsWorn fault ⊎ IsBusy self.old fault) self.old.disk.store self.new.disk.store result }
-        ensures lists { (self.new.log ≡ self.old.log) × (self.new.frames ≡ self.old.frames) }
+        ensures lists { MatchResult result
+            (λ _. self.new.log ≡ updated_log self.old.log)
+            (λ _. self.new.log ≡ self.old.log) × (self.new.frames ≡ self.old.frames) }
         ensures resident { self.new.resident ≡ self.old.resident }
     {
         self.blocks.reveal_invariant();
         if let Some(fault) = self.busy_fault() {
             return Err(fault);
         }
-        self.blocks.update()
+        self.blocks.update()?;
+        self.log.mark_updated();
+        Ok(())
     }
 
     /// Makes the document as it is now the updated and the saved one. Refused as an update is.
@@ -169,7 +180,9 @@ impl<S: Store> Session<S> {
             (self.old.document, self.old.document) self.old.document self.old self.new result }
         ensures fails { Fails S.facts
             (λ fault. IsWorn fault ⊎ IsBusy self.old fault) self.old.disk.store self.new.disk.store result }
-        ensures lists { (self.new.log ≡ self.old.log) × (self.new.frames ≡ self.old.frames) }
+        ensures lists { MatchResult result
+            (λ _. self.new.log ≡ saved_log self.old.log)
+            (λ _. self.new.log ≡ self.old.log) × (self.new.frames ≡ self.old.frames) }
         ensures resident { self.new.resident ≡ self.old.resident }
     {
         self.blocks.reveal_invariant();
@@ -177,7 +190,9 @@ impl<S: Store> Session<S> {
             // Before the sequence number is looked at.
             return Err(fault);
         }
-        self.blocks.save()
+        self.blocks.save()?;
+        self.log.mark_saved();
+        Ok(())
     }
 
     /// Makes the saved document the updated one and the document as it is now, with nothing to undo. Where it is
@@ -190,7 +205,7 @@ impl<S: Store> Session<S> {
             (λ fault. IsWorn fault ⊎ IsBusy self.old fault) self.old.disk.store self.new.disk.store result }
         ensures exact { OnOk result (IsTrue (S.facts self.old.disk.store).honest → IsExact S.facts self.new) }
         ensures lists { MatchResult result
-            (λ _. self.new.log ≡ empty_log)
+            (λ _. self.new.log ≡ reverted_log self.old.log)
             (λ _. self.new.log ≡ self.old.log) × (self.new.frames ≡ self.old.frames) }
         ensures resident { MatchResult result
             (λ _. self.new.resident ≡ [])
@@ -232,7 +247,9 @@ impl<S: Store> Session<S> {
         ensures reverted { IfOk result (λ store. IsTrue (S.facts self.old.disk.store).honest
             → stands (S.facts store).content ≡ Ok (self.old.disk.saved, self.old.disk.saved)) }
         // What stays.
-        ensures lists { (self.new.log ≡ self.old.log) × (self.new.frames ≡ self.old.frames) }
+        ensures lists { MatchResult result
+            (λ _. self.new.log ≡ saved_log self.old.log)
+            (λ _. self.new.log ≡ self.old.log) × (self.new.frames ≡ self.old.frames) }
         ensures resident { self.new.resident ≡ self.old.resident }
         // Refusals: Worn.
         ensures worn { IsErrAnd result (λ refused. refused.fault ≡ Fault.Worn)
@@ -245,7 +262,13 @@ impl<S: Store> Session<S> {
                 store: target,
             });
         }
-        self.blocks.save_as(target)
+        match self.blocks.save_as(target) {
+            Ok(store) => {
+                self.log.mark_saved();
+                Ok(store)
+            }
+            Err(refused) => Err(refused),
+        }
     }
 
     /// Makes an edit, after which nothing is left to redo. Outside of a group it is the newest step; in one it is a
@@ -285,7 +308,7 @@ impl<S: Store> Session<S> {
         }
         self.log.reserve()?;
         let (change, done) = make(self.alloc, &mut self.blocks, target)?;
-        self.log.add(change);
+        self.log.add(self.alloc, change);
         Ok(done)
     }
 
@@ -300,6 +323,7 @@ impl<S: Store> Session<S> {
         ensures step { IsStep S.facts self.old self.new commands.Undo (reply_by (λ _. Accepted) result) }
         ensures ok { OnOk result (MovesEntry S.facts Backwards (cache_of self.old)
             (cache_of self.new) self.old.log.undo self.old.log.redo self.new.log.undo self.new.log.redo) }
+        ensures moved { OnOk result (self.new.log ≡ next_moved Backwards self.old.log) }
         ensures err { OnErr result (KeepsSession S.facts self.old self.new) }
         // Refusals.
         ensures refusals { IfErr result
@@ -323,6 +347,7 @@ impl<S: Store> Session<S> {
         ensures step { IsStep S.facts self.old self.new commands.Redo (reply_by (λ _. Accepted) result) }
         ensures ok { OnOk result (MovesEntry S.facts Forwards (cache_of self.old)
             (cache_of self.new) self.old.log.redo self.old.log.undo self.new.log.redo self.new.log.undo) }
+        ensures moved { OnOk result (self.new.log ≡ next_moved Forwards self.old.log) }
         ensures err { OnErr result (KeepsSession S.facts self.old self.new) }
         // Refusals.
         ensures refusals { IfErr result
@@ -347,6 +372,7 @@ impl<S: Store> Session<S> {
         ensures ok { OnOk result (MovesEntry S.facts direction (cache_of self.old) (cache_of self.new)
             (next_entries direction self.old.log) (next_entries (opposite direction) self.old.log)
             (next_entries direction self.new.log) (next_entries (opposite direction) self.new.log)) }
+        ensures moved { OnOk result (self.new.log ≡ next_moved direction self.old.log) }
         ensures err { OnErr result (KeepsSession S.facts self.old self.new) }
         // Refusals.
         ensures refusals { IfErr result (IsRefusedUndoOrRedo S.facts (no_step_fault direction)
@@ -409,7 +435,7 @@ impl<S: Store> Session<S> {
         if !self.log.in_group() {
             return Err(Fault::NoGroup);
         }
-        self.log.close_group();
+        self.log.close_group(self.alloc);
         Ok(())
     }
 

@@ -1,19 +1,19 @@
 -- Locks of blocks, counted one by one.
 use Rattle.std.proofs.Common.{◌≡◌, ◌≢◌, ◌⊎◌, ◌<◌, ◌+◌, ◌-◌, ℕ, ◌==◌, true, false, cond, nat_eq, List, Some, is_some, unwrap_or, inl, inr, refl, sym, ap, subst, ◌∙◌, arith, eq-eqb}
-use Rattle.std.specs.Prelude.{Result, Ok, Err, IfErr, ◌&&◌}
+use Rattle.std.specs.Prelude.{Result, Ok, Err, IfErr}
 use Rattle.std.specs.Cmp.{nat_eq_equiv}
 use Rattle.std.specs.Map.{lookup, set_value}
-use Rattle.std.proofs.lemmas.Bool.{cases_Bool, cases_eq, ne_eqb}
+use Rattle.std.proofs.lemmas.Bool.{cases_eq, ne_eqb}
 use Rattle.std.proofs.lemmas.Map.{lookup-set_value}
 use Rattle.vm_store.specs.Facts.{StoreFacts}
 use Rattle.geos_model.specs.Document.{is_live}
 use Rattle.geos_model.specs.declared.fault.Fault.{Fault}
 use Rattle.geos_model.specs.declared.fault.Fault.TheVariants.{LockLimit}
-use Rattle.vm_blocks.specs.State.{CacheState, ResidentBlock, all_frames_locked, is_resident, locks_of}
+use Rattle.vm_blocks.specs.State.{CacheState, ResidentBlock, is_resident, locks_of}
 use Rattle.vm_blocks.proofs.OrderOfUse.{locked_there}
-use Rattle.vm_blocks.specs.Keeping.{KeepsBlocks, is_full, is_loaded, has_no_frame_for}
+use Rattle.vm_blocks.specs.Keeping.{KeepsBlocks, is_loaded}
 use Rattle.vm_blocks.specs.Locking.{GainsLock, LosesLock, CantLock}
-use Rattle.vm_blocks.proofs.KeepingLaws.{full-is, keeps-locks, keeps-stays, loaded-by, loaded-live, loaded-resident, shut-is, shut-unlocked}
+use Rattle.vm_blocks.proofs.KeepingLaws.{keeps-locks, keeps-stays, loaded-by, loaded-live, loaded-resident, shut-unlocked}
 
 pub some_locks : (n : ℕ) → (n == 0) ≡ false → 0 < n
 some_locks n some = elim (cases_eq n 0) as (λ _. 0 < n) [

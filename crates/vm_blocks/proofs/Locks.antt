@@ -1,14 +1,14 @@
 -- What stays locked, where blocks come into memory and go out of it.
-use Rattle.std.proofs.Common.{◌≡◌, ◌⊎◌, ℕ, ◌+◌, ◌≤◌, ◌==◌, Bool, true, false, not, cond, nat_eq, List, [], ◌∷◌, map, Option, None, Some, unwrap_or, Result, Ok, Err, OnOk, OnErr, inl, inr, refl, sym, ap, subst, ◌∙◌, arith, is_some, eq-eqb, eqb-true, leb-true}
-use Rattle.std.specs.Prelude.{◌&&◌, ◌||◌, ◌<◌, length}
-use Rattle.std.proofs.lemmas.Bool.{and_parts, cases_eq, ne_eqb}
+use Rattle.std.proofs.Common.{◌≡◌, ◌⊎◌, ℕ, ◌+◌, ◌-◌, ◌≤◌, ◌==◌, Bool, true, false, not, cond, nat_eq, List, [], ◌∷◌, map, Option, None, Some, unwrap_or, Result, Ok, Err, OnOk, OnErr, inl, inr, refl, sym, ap, subst, ◌∙◌, arith, is_some, eq-eqb, eqb-true, leb-true}
+use Rattle.std.specs.Prelude.{◌&&◌, ◌||◌, ◌<◌, if◌then◌else◌, length}
+use Rattle.std.proofs.lemmas.Bool.{and_parts, cases_eq, cond-true, cond-false, ne_eqb}
 use Rattle.std.proofs.lemmas.List.Sums.{sum_by-cons}
 use Rattle.std.proofs.lemmas.Map.{lookup-none, lookup-remove_entry}
 use Rattle.std.proofs.lemmas.Map.Entries.{none_past_head}
 use Rattle.std.proofs.lemmas.Map.Keys.{IsDistinct-head, IsDistinct-tail}
 use Rattle.std.specs.Cmp.{nat_eq_equiv}
 use Rattle.std.specs.List.{AllByRecursion, IsDistinct, list_any}
-use Rattle.std.specs.Map.{lookup, lookup_entry, remove_entry, keys_of}
+use Rattle.std.specs.Map.{lookup, lookup_entry, remove_entry, set_value, keys_of}
 use Rattle.std.specs.Option.{option_map, option_map_or}
 use Rattle.geos_model.specs.Document.{Document}
 use Rattle.geos_model.specs.ElementArray.{all_distinct}
@@ -17,7 +17,7 @@ use Rattle.lru.specs.LruCache.{promoted}
 use Rattle.vm_blocks.specs.State.{ResidentBlock, is_resident, is_block_locked, locks_of, locked_count, all_frames_locked, victim, evicted, KeepsLocks}
 use Rattle.vm_blocks.specs.Frames.{frame_of, residents, IsFrameOf, AreFramesOf}
 use Rattle.vm_blocks.specs.declared.frame.Frame.{Frame}
-use Rattle.vm_blocks.proofs.OrderOfUse.{lookup-residents, fewer_locked}
+use Rattle.vm_blocks.proofs.OrderOfUse.{lookup-residents, residents-remove, fewer_locked}
 
 pub keys-residents : (es : List (ℕ × Frame)) → keys_of (residents es) ≡ keys_of es
 keys-residents [] = refl
@@ -241,3 +241,79 @@ all_held h (s ∷ ss) all there =
 
 pub each_locked : (frames : ℕ) (ss : List ResidentBlock) (h : ℕ) → length ss ≤ frames → all_frames_locked frames ss ≡ true → is_resident ss h ≡ true → 0 < locks_of ss h
 each_locked frames ss h few full there = let most = leb-true frames (locked_count ss) full in all_held h ss (omega (arith, few, most)) there
+
+-- How many blocks are locked, kept from call to call.
+
+-- a block that isn't locked comes in
+pub free_counted : (h : ℕ) (ss : List ResidentBlock) → locked_count ((h, 0) ∷ ss) ≡ locked_count ss
+free_counted h ss =
+    let none : ◌≡◌ {A = ℕ} (one (h, 0)) 0 = refl in
+    let sum = counts (h, 0) ss in
+    omega (arith, none, sum)
+
+-- one that isn't goes
+pub evicted_count : (h : ℕ) (es fs gs : List (ℕ × Frame)) → IsDistinct nat_eq (keys_of fs) → residents fs ≡ residents es → victim (residents es) ≡ Some h → gs ≡ remove_entry (nat_eq h) fs → locked_count (residents gs) ≡ locked_count (residents es)
+evicted_count h es fs gs distinct same at is =
+    let free = victim_unlocked (residents fs) h (subst (IsDistinct nat_eq) (sym (keys-residents fs)) distinct) (ap victim same ∙ at) in
+    ap (λ (xs : List (ℕ × Frame)). locked_count (residents xs)) is ∙ ap locked_count (residents-remove h fs) ∙ count_removed h (residents fs) free ∙ ap locked_count same
+
+-- where a block is locked, some are
+pub some_locked : (h : ℕ) (ss : List ResidentBlock) → 0 < locks_of ss h → 0 < locked_count ss
+some_locked h ss some = elim (cases_eq (locked_count ss) 0) as (λ _. 0 < locked_count ss) [
+  | inl none ↦ let free = none_locked ss none h in absurd (omega (arith, free, some))
+  | inr more ↦ omega (arith, more)
+]
+
+-- a block has another number of locks
+count_set : (h n k : ℕ) (ss : List ResidentBlock) → lookup (nat_eq h) ss ≡ Some k → locked_count (set_value (nat_eq h) ss n) + one (h, k) ≡ locked_count ss + one (h, n)
+count_set h n k [] is = absurd (cc is)
+count_set h n k (s ∷ ss) is = (elim (nat_eq h s.0) as (λ b. cond b (Some s.1) (lookup (nat_eq h) ss) ≡ Some k → locked_count (cond b ((s.0, n) ∷ ss) (s ∷ set_value (nat_eq h) ss n)) + one (h, k) ≡ locked_count (s ∷ ss) + one (h, n)) [
+  | true ↦ λ here.
+      let same : s.1 ≡ k = ap (λ (o : Option ℕ). unwrap_or o k) here in
+      let was : ◌≡◌ {A = ℕ} (one s) (one (h, k)) = ap (λ m. cond (not (m == 0)) 1 0) same in
+      let now : ◌≡◌ {A = ℕ} (one (s.0, n)) (one (h, n)) = refl in
+      let a = counts s ss in
+      let b = counts (s.0, n) ss in
+      omega (arith, was, now, a, b)
+  | false ↦ λ on.
+      let more = count_set h n k ss on in
+      let a = counts s ss in
+      let b = counts s (set_value (nat_eq h) ss n) in
+      omega (arith, more, a, b)
+]) is
+
+module _ (h : ℕ) (ss : List ResidentBlock) (there : is_resident ss h ≡ true) where
+  found : lookup (nat_eq h) ss ≡ Some (locks_of ss h)
+  found = by (lookup (nat_eq h) ss) there
+    where
+      by : (o : Option ℕ) → is_some o ≡ true → o ≡ Some (unwrap_or o 0)
+      by None out = absurd (cc out)
+      by (Some n) some = refl
+
+  pub lock_counted : locked_count (set_value (nat_eq h) ss (locks_of ss h + 1)) ≡ (if locks_of ss h == 0 then locked_count ss + 1 else locked_count ss)
+  lock_counted =
+      let n = locks_of ss h in
+      let sum = count_set h (n + 1) n ss found in
+      let now : ◌≡◌ {A = ℕ} (one (h, n + 1)) 1 = ap (λ b. cond (not b) 1 0) (ne_eqb (n + 1) 0 (λ none. omega (arith, none))) in
+      elim (cases_eq n 0) as (λ _. locked_count (set_value (nat_eq h) ss (n + 1)) ≡ (if n == 0 then locked_count ss + 1 else locked_count ss)) [
+        | inl none ↦
+            let was : ◌≡◌ {A = ℕ} (one (h, n)) 0 = ap (λ b. cond (not b) 1 0) (eq-eqb n 0 none) in
+            omega (arith, sum, now, was) ∙ sym (cond-true _ _ _ (eq-eqb n 0 none))
+        | inr some ↦
+            let was : ◌≡◌ {A = ℕ} (one (h, n)) 1 = ap (λ b. cond (not b) 1 0) (ne_eqb n 0 some) in
+            omega (arith, sum, now, was) ∙ sym (cond-false _ _ _ (ne_eqb n 0 some))
+      ]
+
+  pub unlock_counted : 0 < locks_of ss h → locked_count (set_value (nat_eq h) ss (locks_of ss h - 1)) ≡ (if locks_of ss h == 1 then locked_count ss - 1 else locked_count ss)
+  unlock_counted locked =
+      let n = locks_of ss h in
+      let sum = count_set h (n - 1) n ss found in
+      let was : ◌≡◌ {A = ℕ} (one (h, n)) 1 = ap (λ b. cond (not b) 1 0) (ne_eqb n 0 (λ none. omega (arith, none, locked))) in
+      elim (cases_eq n 1) as (λ _. locked_count (set_value (nat_eq h) ss (n - 1)) ≡ (if n == 1 then locked_count ss - 1 else locked_count ss)) [
+        | inl last ↦
+            let now : ◌≡◌ {A = ℕ} (one (h, n - 1)) 0 = ap (λ b. cond (not b) 1 0) (eq-eqb (n - 1) 0 (omega (arith, last))) in
+            omega (arith, sum, now, was) ∙ sym (cond-true _ _ _ (eq-eqb n 1 last))
+        | inr more ↦
+            let now : ◌≡◌ {A = ℕ} (one (h, n - 1)) 1 = ap (λ b. cond (not b) 1 0) (ne_eqb (n - 1) 0 (λ none. omega (arith, none, more, locked))) in
+            omega (arith, sum, now, was) ∙ sym (cond-false _ _ _ (ne_eqb n 1 more))
+      ]

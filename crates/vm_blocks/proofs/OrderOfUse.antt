@@ -1,5 +1,5 @@
 -- The order of use.
-use Rattle.std.proofs.Common.{◌≡◌, ◌⊎◌, ℕ, suc, ◌-◌, ◌<◌, ◌≤◌, ◌==◌, nat_eq, nat_le, nat_lt, Bool, true, false, cond, not, List, [], ◌∷◌, length, take, Option, None, Some, is_some, refl, sym, ap, subst, ◌∙◌, arith, inl, inr, unwrap_or, le-leb, reverse, eq-eqb, eqb-true, leb-true, lt-ltb}
+use Rattle.std.proofs.Common.{◌≡◌, ◌⊎◌, ℕ, suc, ◌-◌, ◌<◌, ◌≤◌, ◌==◌, nat_eq, nat_le, Bool, true, false, cond, not, List, [], ◌∷◌, length, take, Option, None, Some, is_some, refl, sym, ap, subst, ◌∙◌, arith, inl, inr, unwrap_or, le-leb, reverse, eq-eqb, eqb-true, leb-true}
 use Rattle.std.specs.Prelude.{◌||◌, find, slice_get, MatchOption}
 use Rattle.std.specs.List.{IsDistinct, filter, list_any}
 use Rattle.std.specs.Cmp.{nat_eq_equiv}
@@ -319,17 +319,3 @@ some_free frames ss below =
 
 pub none_free : (frames : ℕ) (ss : List ResidentBlock) → length ss ≤ frames → frames ≤ length ss → victim ss ≡ None → all_frames_locked frames ss ≡ true
 none_free frames ss most least is = let all = no_victim ss is in le-leb frames (locked_count ss) (omega (arith, all, most, least))
-
-pub locks_found : (es : List (ℕ × Frame)) → nat_lt 0 (locked_count (residents es)) ≡ is_some (find (λ (e : ℕ × Frame). not (e.1.locks == 0)) es)
-locks_found [] = refl
-locks_found (e ∷ es) = (elim (not (e.1.locks == 0)) as (λ b. not (e.1.locks == 0) ≡ b → nat_lt 0 (locked_count (residents (e ∷ es))) ≡ is_some (cond b (Some e) (find (λ (e : ℕ × Frame). not (e.1.locks == 0)) es))) [
-  | true ↦ λ at.
-      let one : ◌≡◌ {A = ℕ} (cond (not (e.1.locks == 0)) 1 0) 1 = ap (λ b. cond b 1 0) at in
-      let sum = sum_by-cons (λ (x : ResidentBlock). cond (is_block_locked x) 1 0) (e.0, e.1.locks) (residents es) in
-      lt-ltb 0 (locked_count (residents (e ∷ es))) (omega (arith, one, sum))
-  | false ↦ λ at.
-      let zero : ◌≡◌ {A = ℕ} (cond (not (e.1.locks == 0)) 1 0) 0 = ap (λ b. cond b 1 0) at in
-      let sum = sum_by-cons (λ (x : ResidentBlock). cond (is_block_locked x) 1 0) (e.0, e.1.locks) (residents es) in
-      let same : locked_count (residents (e ∷ es)) ≡ locked_count (residents es) = omega (arith, zero, sum) in
-      ap (nat_lt 0) same ∙ locks_found es
-]) refl

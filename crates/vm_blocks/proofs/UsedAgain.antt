@@ -32,6 +32,9 @@ module _ {S : Type 0} (facts : S → StoreFacts) (a : FileState S) (es : List (�
   pub used_after : is_resident (residents es) h ≡ true → residents fs.entries ≡ after_load cap h (residents es)
   used_after there = used_order ∙ sym (ap (λ b. cond b (promoted (nat_eq h) (residents es)) ((h, 0) ∷ cond (nat_lt (length (residents es)) cap) (residents es) (evicted (residents es)))) there)
 
+  pub used_count : locked_count (residents fs.entries) ≡ locked_count (residents es)
+  used_count = ap locked_count used_order ∙ count_promoted h (residents es)
+
   used_cap : fs.cap ≡ cap
   used_cap = ap (λ (x : LruCache ℕ Frame). x.cap) is
 
@@ -45,5 +48,5 @@ module _ {S : Type 0} (facts : S → StoreFacts) (a : FileState S) (es : List (�
       keeps-by facts (shown a es cap) (shown a fs.entries fs.cap) (stays_by facts a es cap a fs.entries fs.cap (moves_frames facts a es fs.entries used_blocks.kept same) used_cap)
       (record {
         each = λ q. ap (λ o. unwrap_or o 0) (lookup-residents q fs.entries ∙ ap (option_map (λ (f : Frame). f.locks)) (now q) ∙ sym (lookup-residents q es));
-        count = ap locked_count used_order ∙ count_promoted h (residents es);
+        count = used_count;
       })

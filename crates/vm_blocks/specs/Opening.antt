@@ -1,5 +1,5 @@
 -- What opening a document file gives, and making a new one.
-use Rattle.std.specs.Prelude.{◌≡◌, ◌≢◌, ◌⊎◌, IsTrue, [], None, Some, Ok, Err, length}
+use Rattle.std.specs.Prelude.{◌≡◌, ◌≢◌, ◌⊎◌, IsTrue, [], None, Some, Ok, Err, true, length}
 use Rattle.geos_model.specs.Document.{empty_document}
 use Rattle.geos_model.specs.File.{stands}
 use Rattle.geos_model.specs.declared.fault.Fault.{Fault}
@@ -7,7 +7,7 @@ use Rattle.geos_model.specs.declared.fault.Fault.TheVariants.{File}
 use Rattle.vm_store.specs.Facts.{StoreFacts, FailedSince, IsUnchanged}
 use Rattle.vm_file.specs.Calls.{IsResourceFault, IsOpenRefusal}
 use Rattle.vm_file.specs.Disk.{FileState, IsCrashConsistent, HasSequence}
-use Rattle.vm_file.specs.Documents.{sequence_in}
+use Rattle.vm_file.specs.Documents.{has_one_directory, sequence_in}
 use Rattle.vm_file.specs.Effects.{SameStore, IsNewFile}
 use Rattle.vm_file.specs.Making.{first_file}
 
@@ -33,13 +33,15 @@ pub record IsNotOpened {S : Type 0} (facts : S → StoreFacts) (store back : S) 
   pub file : fault ≡ File → FailedSince (facts store) (facts back)
   pub faults : IsOpenRefusal fault
 
--- A new file of the empty document, in an honest store just the slots and a directory of no block.
+-- A new file of the empty document, in an honest store just the slots and a directory of no block, which serves the
+-- updated and the saved document.
 pub record IsMadeIn {S : Type 0} (facts : S → StoreFacts) (store : S) (file : FileState S) : Type 0 where
   pub follows : SameStore facts store file.disk.store
   pub document : file.document ≡ empty_document
   pub new_file : IsNewFile facts empty_document file.disk
   pub bytes : IsTrue (facts store).honest → (facts file.disk.store).content ≡ first_file
   pub size : IsTrue (facts store).honest → length (facts file.disk.store).content ≡ 1040
+  pub one_directory : IsTrue (facts store).honest → has_one_directory (facts file.disk.store).content ≡ true
 
 -- None was made, and the store comes back: as it was where memory ran out.
 pub record IsNotMade {S : Type 0} (facts : S → StoreFacts) (store back : S) (fault : Fault) : Type 0 where

@@ -6,6 +6,7 @@ ghost use Rattle.geos_model.specs.Document.{IsValid, is_heap, next_handle, is_li
 ghost use Rattle.geos_model.specs.ElementArray.{all_distinct};
 ghost use Rattle.geos_model.specs.Reply.{found};
 ghost use Rattle.vm_file.specs.Disk.{IsFileDocument, IsCrashConsistent};
+ghost use Rattle.vm_file.specs.Documents.{has_one_directory};
 ghost use Rattle.vm_blocks.specs.Bodies.{body_value};
 ghost use Rattle.vm_blocks.specs.State.{is_resident, locks_of, locked_count, as_file};
 ghost use Rattle.vm_blocks.specs.Keeping.{is_full, is_loaded};
@@ -18,7 +19,7 @@ mod loads;
 mod locking;
 
 use crate::BlockBody;
-use crate::frame::{Frame, all_locked, body_in, has_locks, locks_of};
+use crate::frame::{Frame, all_locked, body_in, locks_of};
 use geos_model::{Attributes, Fault, VmHandle};
 use lru::LruCache;
 use std::alloc::{AllocError, Global};
@@ -35,21 +36,25 @@ pub struct FileBlocks<S: Store> {
     alloc: Global,
     file: VmFile<S>,
     frames: LruCache<u16, Frame>,
+    // How many of the frames have a locked block.
+    locked: usize,
 }
 
 impl<S: Store> Model for FileBlocks<S> {
-    ghost use Rattle.vm_blocks.specs.State.{CacheState, cache_state_code};
+    ghost use Rattle.vm_blocks.specs.State.{CacheState, cache_state_code, locked_count};
 
     ghost Value = { CacheState S };
 
     ghost coded = { cache_state_code S.code };
 
-    ghost use Rattle.vm_blocks.specs.Frames.{shown};
+    ghost use Rattle.std.specs.Prelude.{◌≡◌};
+    ghost use Rattle.vm_blocks.specs.Frames.{residents, shown};
     ghost use Rattle.vm_blocks.specs.Sound.{AreBlocksOf};
 
     ghost view = { λ b. shown b.file b.frames.entries b.frames.cap };
 
-    ghost invariant = { λ b. AreBlocksOf S.facts b.file b.frames.entries b.frames.cap };
+    ghost invariant = { λ b. AreBlocksOf S.facts b.file b.frames.entries b.frames.cap
+        × (b.locked ≡ locked_count (residents b.frames.entries)) };
 }
 
 impl<S: Store> FileBlocks<S> {
@@ -74,6 +79,7 @@ impl<S: Store> FileBlocks<S> {
             alloc,
             file,
             frames,
+            locked: 0,
         })
     }
 
@@ -100,6 +106,7 @@ impl<S: Store> FileBlocks<S> {
             alloc,
             file,
             frames,
+            locked: 0,
         })
     }
 
@@ -130,6 +137,16 @@ impl<S: Store> FileBlocks<S> {
         self.file.reveal_invariant();
     }
 
+    /// Whether one directory serves the updated and the saved document. They may be the same where each has its own.
+    pub fn has_one_directory(&self) -> bool
+        ensures content { IsTrue (S.facts self.now.disk.store).honest → self.now.disk.in_doubt ≡ []
+            → result ≡ has_one_directory (S.facts self.now.disk.store).content }
+        ensures same { IsTrue (S.facts self.now.disk.store).honest → result ≡ true
+            → self.now.disk.saved ≡ self.now.disk.updated }
+    {
+        self.file.has_one_directory()
+    }
+
     /// How often a block is locked, 0 where it isn't in memory.
     pub fn locks(&self, handle: VmHandle) -> u8
         ensures { result ≡ locks_of self.now.resident handle.0 }
@@ -141,7 +158,7 @@ impl<S: Store> FileBlocks<S> {
     pub fn has_locks(&self) -> bool
         ensures { result ≡ nat_lt 0 (locked_count self.now.resident) }
     {
-        has_locks(&self.frames)
+        self.locked > 0
     }
 
     /// Whether each frame has a locked block, so that no other one can be brought into memory.

@@ -1,5 +1,5 @@
 //! The blocks in memory, in the order of their use.
-ghost use Rattle.std.specs.Prelude.{◌≡◌, ◌<◌, ◌+◌, ◌-◌, ℕ, Bool, true, false, nat_eq, nat_lt, is_some, Some, IfSome, MatchOption};
+ghost use Rattle.std.specs.Prelude.{◌≡◌, ◌<◌, ◌+◌, ◌-◌, ℕ, Bool, true, false, nat_eq, is_some, Some, IfSome, MatchOption};
 ghost use Rattle.std.specs.FinMap.{contains_key};
 ghost use Rattle.std.specs.Option.{option_copied, option_map};
 ghost use Rattle.geos_model.specs.Document.{Document, IsValid, is_live, is_valid_body, is_vm_handle};
@@ -10,7 +10,7 @@ ghost use Rattle.vm_blocks.specs.Bodies.{body_value};
 ghost use Rattle.vm_blocks.specs.Changes.{directed_part};
 ghost use Rattle.vm_blocks.specs.Frames.{chunks_in_frames, frame_of, overlay, residents, with_frame, AreFramesOf};
 ghost use Rattle.vm_blocks.specs.Parts.{AllowsPart, body_after_part};
-ghost use Rattle.vm_blocks.specs.State.{locks_of, locked_count, all_frames_locked, is_first, victim};
+ghost use Rattle.vm_blocks.specs.State.{locks_of, all_frames_locked, is_first, victim};
 
 use crate::body::BlockBody;
 use crate::part::{carry_out_heap, carry_out_raw};
@@ -179,16 +179,6 @@ pub fn locks_of(frames: &LruCache<u16, Frame>, block: u16) -> u8
     match frame_in(frames, block) {
         Some(frame) => frame.locks,
         None => 0,
-    }
-}
-
-/// Whether a block in memory is locked.
-pub fn has_locks(frames: &LruCache<u16, Frame>) -> bool
-    ensures { result ≡ nat_lt 0 (locked_count (residents frames.now.entries)) }
-{
-    match frames.iter().find(|(_, frame)| frame.locks != 0) {
-        Some(_) => true,
-        None => false,
     }
 }
 

@@ -1,5 +1,5 @@
 //! Changes of a part of a body: whether a body takes one, and its carrying out in place.
-ghost use Rattle.std.specs.Prelude.{◌≡◌, ◌+◌, ◌≤◌, ◌↔◌, ℕ, List, IsTrue, None, Some, true, length, replicate, take};
+ghost use Rattle.std.specs.Prelude.{◌≡◌, ◌+◌, ◌-◌, ◌≤◌, ◌↔◌, ℕ, List, IsTrue, None, Some, true, length, replicate, take};
 ghost use Rattle.std.specs.FinMap.{get, insert, contains_key};
 ghost use Rattle.geos_model.specs.Document.{is_valid_body};
 ghost use Rattle.geos_model.specs.Heap.{chunk_bytes, fits_with, is_chunk_handle, is_heap_map};
@@ -210,7 +210,7 @@ fn chunk_allows(heap: &Heap, chunk: ChunkHandle, at: u32, old: &[u8], new: &[u8]
         Some(bytes) => {
             let size = bytes.len();
             is_within(size, at as usize, old.len())
-                && has_room(heap, chunk, size - old.len(), new.len())
+                && has_room(heap, chunk, size, old.len(), new.len())
         }
         None => false,
     }
@@ -222,22 +222,29 @@ fn patch_allows(heap: &Heap, chunk: ChunkHandle, patch: &Patch, direction: Direc
 {
     match heap.chunk(chunk) {
         Some(bytes) => {
-            let is_sized = bytes.len() == patch.size_before(direction);
-            is_sized && has_room(heap, chunk, 0, patch.peak())
+            let size = bytes.len();
+            let is_sized = size == patch.size_before(direction);
+            is_sized && has_room(heap, chunk, size, size, patch.peak())
         }
         None => false,
     }
 }
 
-/// Whether a heap has room for a live chunk with `new` bytes beside `rest` of its own.
-fn has_room(heap: &Heap, chunk: ChunkHandle, rest: usize, new: usize) -> bool
+/// Whether a heap has room for a live chunk of `size` bytes with `new` ones in place of `old` of them.
+fn has_room(heap: &Heap, chunk: ChunkHandle, size: usize, old: usize, new: usize) -> bool
     requires live { IsTrue (contains_key heap.now.chunks chunk.0) }
     requires valid { IsTrue (is_heap_map heap.now.chunks) }
-    requires rest { rest ≤ length (chunk_bytes heap.now.chunks chunk.0) }
-    ensures { (bytes : List ℕ) → length bytes ≡ rest + new → result ≡ fits_with heap.now.chunks chunk.0 bytes }
+    requires size { size ≡ length (chunk_bytes heap.now.chunks chunk.0) }
+    requires old { old ≤ size }
+    ensures { (bytes : List ℕ) → length bytes ≡ size - old + new
+        → result ≡ fits_with heap.now.chunks chunk.0 bytes }
 {
+    // As many bytes as go, or fewer, have the room that those had.
+    if new <= old {
+        return true;
+    }
     // No heap has room for more, whatever else is in it.
-    new <= SIZE && heap.fits_resize(chunk, (rest + new) as u32)
+    new <= SIZE && heap.fits_resize(chunk, (size - old + new) as u32)
 }
 
 /// Whether a heap takes a new chunk of this content: its handle can be one and is free, and there is room.

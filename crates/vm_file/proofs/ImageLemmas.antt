@@ -1,5 +1,5 @@
 -- Bytes that are the image of a body that a document can have.
-use Rattle.std.proofs.Common.{◌≡◌, ℕ, ◌+◌, ◌<◌, ◌≤◌, List, [], ◌∷◌, length, slice_index, replicate, Bool, true, false, not, ◌==◌, Some, refl, ap, sym, ◌∙◌, arith, add-one, le-leb, ◌≢◌, ◌&&◌, Option, None}
+use Rattle.std.proofs.Common.{◌≡◌, ℕ, ◌+◌, ◌<◌, ◌≤◌, List, [], ◌∷◌, length, slice_index, replicate, Bool, true, false, not, ◌==◌, Some, refl, ap, sym, ◌∙◌, arith, add-one, le-leb, ◌≢◌, ◌&&◌, None}
 use Rattle.std.specs.Prelude.{if◌then◌else◌}
 use Rattle.std.specs.FinMap.{empty}
 use Rattle.geos_model.specs.Document.{is_valid_body, is_heap_body}

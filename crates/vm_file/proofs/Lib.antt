@@ -13,6 +13,7 @@ pub mod ImageLemmas
 pub mod LaidOutLemmas
 pub mod ListingLemmas
 pub mod MakingLemmas
+pub mod OneDirectoryLemmas
 pub mod OpenedDirectoryLemmas
 pub mod OpenedLemmas
 pub mod PassingLemmas

@@ -1,13 +1,12 @@
 -- The directory in an extent of a file that was read.
-use Rattle.std.proofs.Common.{◌≡◌, ℕ, ◌*◌, true, List, length, drop, Option, None, Some, sym, ap, ap₂, subst, ◌∙◌, arith, length-take, length-drop, ◌⊎◌, zero, suc, ◌+◌, ◌-◌, ◌<◌, ◌≤◌, [], ◌∷◌, ◌++◌, set, get_or, take, Err, is_some, All, refl, inl, inr, ltb-true, length-set, eqb-true}
-use Rattle.std.proofs.lemmas.Bool.{cond-true, and_parts, cases_Bool, cases_lt}
-use Rattle.geos_model.specs.File.{Directory, bytes_in, is_in_file, is_directory, directory_in, directory_of, document_at, document_of, both, is_rising, is_entry, is_map_block, blocks_of_entries, block_of, prepended, longest_image}
+use Rattle.std.proofs.Common.{◌≡◌, ℕ, true, List, length, Option, None, Some, sym, ap, ap₂, subst, ◌∙◌, arith, ◌⊎◌, zero, suc, ◌+◌, ◌-◌, ◌<◌, ◌≤◌, [], ◌∷◌, ◌++◌, set, get_or, take, Err, is_some, All, refl, inl, inr, ltb-true, length-set, eqb-true}
+use Rattle.std.proofs.lemmas.Bool.{and_parts, cases_Bool, cases_lt}
+use Rattle.geos_model.specs.File.{Directory, is_directory, directory_of, document_at, document_of, both, is_rising, is_entry, is_map_block, blocks_of_entries, block_of, prepended, longest_image}
 use Rattle.geos_model.specs.declared.file.Extent.{Extent}
 use Rattle.geos_model.proofs.Files.{length-directory, directory_in-some}
-use Rattle.geos_model.proofs.FileDocuments.{directory_of-some, is_in_file-parts}
+use Rattle.geos_model.proofs.FileDocuments.{is_in_file-parts}
 use Rattle.vm_format.specs.Reading.{IsDirectoryPlace}
 use Rattle.vm_file.specs.Opened.{IsReadDocument}
-use Rattle.vm_format.proofs.StoredDirectoryLemmas.{none_if}
 use Rattle.std.specs.Prelude.{IfSome, ◌==◌, nat_lt}
 use Rattle.std.specs.Option.{option_map, option_and_then}
 use Rattle.std.specs.List.{list_any, list_all}

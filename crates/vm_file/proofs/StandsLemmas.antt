@@ -329,12 +329,16 @@ sound_numbered facts store live slots sound honest none c left =
     outcome_numbered slots (facts store).content c (sound_readable (facts store) live slots sound.formed whole) none (whole.leaves c left)
 
 -- of what an honest store has now
-pub sound_versioned : {S : Type 0} (facts : S → StoreFacts) (store : S) (live : BlockTable) (slots : Slots) → (IsTrue (facts store).honest → IsTimely (facts store)) → IsSound (facts store) live slots
-    → attempted_in (facts store).content slots.spare ≡ [] → slots.version ≡ 2 → IsTrue (facts store).honest → version_in (facts store).content ≡ Some 2
-sound_versioned facts store live slots timely sound none two honest =
+pub sound_counted : {S : Type 0} (facts : S → StoreFacts) (store : S) (live : BlockTable) (slots : Slots) → (IsTrue (facts store).honest → IsTimely (facts store)) → IsSound (facts store) live slots → IsTrue (facts store).honest
+    → attempted_in (facts store).content slots.spare ≡ [] → counting_slot (open_slot (facts store).content 0) (open_slot (facts store).content 1) ≡ Ok (slot_value slots.version slots.sequence slots.committed)
+sound_counted facts store live slots timely sound honest none =
     let whole = sound.whole honest in
     let content = (facts store).content in
-    ap version_of (outcome_counted slots content content (sound_readable (facts store) live slots sound.formed whole) none (whole.leaves content (timely honest).now)) ∙ ap Some two
+    outcome_counted slots content content (sound_readable (facts store) live slots sound.formed whole) none (whole.leaves content (timely honest).now)
+
+pub sound_versioned : {S : Type 0} (facts : S → StoreFacts) (store : S) (live : BlockTable) (slots : Slots) → (IsTrue (facts store).honest → IsTimely (facts store)) → IsSound (facts store) live slots
+    → attempted_in (facts store).content slots.spare ≡ [] → slots.version ≡ 2 → IsTrue (facts store).honest → version_in (facts store).content ≡ Some 2
+sound_versioned facts store live slots timely sound none two honest = ap version_of (sound_counted facts store live slots timely sound honest none) ∙ ap Some two
 
 -- after a commit that was acknowledged
 pub turned_versioned : {S : Type 0} (facts : S → StoreFacts) (store : S) (live : BlockTable) (old : Slots) (pair : Pair) (slots : Slots) → (IsTrue (facts store).honest → IsTimely (facts store)) → IsSound (facts store) live slots

@@ -1,5 +1,5 @@
 -- The documents that tables of places stand for.
-use Rattle.std.specs.Prelude.{◌≡◌, ℕ, ◌+◌, List, [], ◌∷◌, Bool, true, false, map, Option, None, Some, Result, Ok, Err, All, IfSome}
+use Rattle.std.specs.Prelude.{◌≡◌, ℕ, ◌+◌, ◌==◌, ◌&&◌, List, [], ◌∷◌, Bool, true, false, map, Option, None, Some, Result, Ok, Err, All, IfSome}
 use Rattle.std.specs.FinMap.{empty}
 use Rattle.std.specs.Option.{option_map}
 use Rattle.geos_model.specs.Document.{Block, Document, is_heap_body}
@@ -105,3 +105,11 @@ version_of (Err fault) = None
 -- its version, which is the file's
 abbrev pub version_in : List ℕ → Option ℕ
 version_in file = version_of (counting_slot (open_slot file 0) (open_slot file 1))
+
+abbrev pub is_for_both : Result Slot Fault → Bool
+is_for_both (Ok s) = s.working.page == s.saved.page && s.working.length == s.saved.length
+is_for_both (Err fault) = false
+
+-- whether the slot that counts has one directory for both documents
+abbrev pub has_one_directory : List ℕ → Bool
+has_one_directory file = is_for_both (counting_slot (open_slot file 0) (open_slot file 1))

@@ -9,7 +9,7 @@ ghost use Rattle.geos_model.specs.Reply.{found};
 ghost use Rattle.geos_model.specs.File.{bytes_in, directory_text, open_slot, stands};
 ghost use Rattle.vm_file.specs.Disk.{FileState, ContentStands, SameUnlessCorrupt, KeepsCommitted, IsCrashConsistent, HasSequence, unmarked};
 ghost use Rattle.vm_file.specs.Effects.{IsFile, IsNewFile, SameStore, OnlyReads, LeavesDocument, IsCommit, Fails, NoFault, IsWorn};
-ghost use Rattle.vm_file.specs.Documents.{sequence_in, version_in};
+ghost use Rattle.vm_file.specs.Documents.{has_one_directory, sequence_in, version_in};
 ghost use Rattle.vm_file.specs.Making.{first_directory, first_file, first_open, no_blocks};
 ghost use Rattle.vm_format.specs.Reading.{IsResourceFault, IsOpenRefusal};
 ghost use Rattle.vm_file.specs.Calls.{IsPut, put_all, remove_all, IsImageLength, last_sequence};
@@ -467,6 +467,17 @@ impl<S: Store> VmFile<S> {
         ensures { IsTrue result ↔ (self.now.disk.sequence ≡ last_sequence) }
     {
         self.slots.sequence == u64::MAX
+    }
+
+    /// Whether one directory serves the updated and the saved document. They may be the same where each has its own.
+    pub fn has_one_directory(&self) -> bool
+        ensures content { IsTrue (S.facts self.now.disk.store).honest → self.now.disk.in_doubt ≡ []
+            → result ≡ has_one_directory (S.facts self.now.disk.store).content }
+        ensures same { IsTrue (S.facts self.now.disk.store).honest → result ≡ true
+            → self.now.disk.saved ≡ self.now.disk.updated }
+    {
+        let committed = &self.slots.committed;
+        committed.updated.directory == committed.saved.directory
     }
 
     /// The updated and the saved document, to be read from now on.

@@ -89,7 +89,7 @@ fn space_around(
     requires kept { All IsPlaced (referenced_extents slots.now) }
     ensures { IfOk result (AreTaken (block_extents live.now ++ referenced_extents slots.now)) }
 {
-    let mut space = FreeSpace::new(alloc);
+    let mut space = FreeSpace::new(alloc)?;
     hold_kept(&mut space, slots)?;
     hold_blocks(&mut space, live)?;
     Ok(space)

@@ -23,8 +23,9 @@ pub struct FreeSpace {
     // For each page, how many of the extents that are taken lie on it: extents of a file may overlap. A page behind the
     // last one is free.
     counts: Vec<u16>,
-    // For each number of pages, one before which so many are free nowhere.
-    hints: [u32; SIZES],
+    // For each number of pages, one before which so many are free nowhere. Kept apart, so that little is moved where the
+    // space is.
+    hints: Vec<u32>,
     count: usize,
 }
 
@@ -35,19 +36,19 @@ impl Model for FreeSpace {
 
     ghost view = { λ f. record { counts = f.counts.items; count = f.count } };
 
-    ghost invariant = { λ f. IsSpaceSound f.counts.items f.hints f.count };
+    ghost invariant = { λ f. IsSpaceSound f.counts.items f.hints.items f.count };
 }
 
 impl FreeSpace {
-    /// Nothing is taken. It takes no memory.
-    pub fn new(alloc: Global) -> FreeSpace
-        ensures { AreTaken [] result }
+    /// Nothing is taken.
+    pub fn new(alloc: Global) -> Result<FreeSpace, AllocError>
+        ensures { IfOk result (AreTaken []) }
     {
-        FreeSpace {
+        Ok(FreeSpace {
             counts: Vec::new(alloc),
-            hints: first_hints(),
+            hints: first_hints(alloc)?,
             count: 0,
-        }
+        })
     }
 
     /// One more extent is taken, of 1 to 257 pages; others may lie there too. Memory goes to pages behind all that were
@@ -108,10 +109,10 @@ impl FreeSpace {
 }
 
 // Before the first page behind the slots nothing is free.
-fn first_hints() -> [u32; SIZES]
-    ensures { result ≡ replicate 258 2 }
+fn first_hints(alloc: Global) -> Result<Vec<u32>, AllocError>
+    ensures { IfOk result (λ hints. hints.items ≡ replicate 258 2) }
 {
-    [FIRST_PAGE; SIZES]
+    vec![in alloc; FIRST_PAGE; SIZES]
 }
 
 // Counts of pages before `end` are there.

@@ -555,3 +555,11 @@ pub extern "C" fn geosvm_redos(handle: &mut Handle, alloc: Global, count: &mut u
 {
     number(handle, alloc, &Command::Redos, count)
 }
+
+/// Whether the document is as it was saved, 1, and as it was updated, 2 more.
+#[unsafe(no_mangle)]
+pub extern "C" fn geosvm_modified(handle: &mut Handle, alloc: Global, modified: &mut usize) -> i32
+    ensures { NumberOnHandle commands.Modified modified.new handle.old handle.new result }
+{
+    number(handle, alloc, &Command::Modified, modified)
+}

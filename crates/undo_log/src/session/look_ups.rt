@@ -82,6 +82,7 @@ impl<S: Store> Session<S> {
             PlainLookUp::Locks(block) => self.locks(block).map(|n| Reply::Number(u64::from(n))),
             PlainLookUp::Undos => Ok(Reply::Number(self.undo_count() as u64)),
             PlainLookUp::Redos => Ok(Reply::Number(self.redo_count() as u64)),
+            PlainLookUp::Modified => Ok(Reply::Number(self.stands_as())),
         }
     }
 

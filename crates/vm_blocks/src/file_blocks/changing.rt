@@ -149,6 +149,7 @@ impl<S: Store> FileBlocks<S> {
         ensures empty { (self.new.resident ≡ []) × (self.new.frames ≡ self.old.frames) }
     {
         self.frames.clear();
+        self.locked = 0;
         self.file.roll_back();
     }
 

@@ -52,6 +52,7 @@ impl<S: Store> FileBlocks<S> {
         self.file.reveal_invariant();
         self.file.commit_revert()?;
         self.frames.clear();
+        self.locked = 0;
         Ok(())
     }
 

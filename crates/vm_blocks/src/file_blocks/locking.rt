@@ -1,12 +1,12 @@
 //! Locks of blocks, which keep them in memory.
-ghost use Rattle.std.specs.Prelude.{◌≡◌, ◌⊎◌, ◌<◌, ◌+◌, Err, true, IsOk, IfErr, OnOk, OnErr, nat_eq};
+ghost use Rattle.std.specs.Prelude.{◌≡◌, ◌⊎◌, ◌<◌, ◌+◌, ◌-◌, ◌^◌, ◌==◌, if◌then◌else◌, Err, true, IsOk, IfErr, OnOk, OnErr, nat_eq};
 ghost use Rattle.std.specs.Map.{set_value};
 ghost use Rattle.vm_blocks.specs.State.{locks_of};
 ghost use Rattle.vm_blocks.specs.Keeping.{KeepsBlocks, IsEnvironmentFault, is_loaded};
 ghost use Rattle.vm_blocks.specs.Locking.{GainsLock, LosesLock, CantLock, HasNoLock};
 
 use super::FileBlocks;
-use crate::frame::{lock, mark, unlock};
+use crate::frame::{lock, locks_of, mark, unlock};
 use geos_model::{Fault, VmHandle};
 use vm_store::Store;
 
@@ -45,6 +45,8 @@ impl<S: Store> FileBlocks<S> {
               (locks_of self.old.resident handle.0 + 1);
         } }
     {
+        let _count = self.frames.len();
+        self.locked = count_with_lock(self.locked, locks_of(&self.frames, handle.0));
         lock(&mut self.frames, handle.0);
     }
 
@@ -57,6 +59,7 @@ impl<S: Store> FileBlocks<S> {
         ensures early { (fault : Fault) → HasNoLock self.old handle.0 fault → result ≡ Err fault }
     {
         self.check_lock(handle)?;
+        self.locked = count_without_lock(self.locked, locks_of(&self.frames, handle.0));
         unlock(&mut self.frames, handle.0);
         Ok(())
     }
@@ -89,4 +92,20 @@ impl<S: Store> FileBlocks<S> {
         }
         Ok(())
     }
+}
+
+// How many blocks are locked once one that has so many locks gets one more.
+fn count_with_lock(locked: usize, locks: u8) -> usize
+    requires { locked < 2 ^ 63 }
+    ensures { result ≡ (if locks == 0 then locked + 1 else locked) }
+{
+    if locks == 0 { locked + 1 } else { locked }
+}
+
+// How many blocks are locked once one that has so many locks loses one.
+fn count_without_lock(locked: usize, locks: u8) -> usize
+    requires { 0 < locked }
+    ensures { result ≡ (if locks == 1 then locked - 1 else locked) }
+{
+    if locks == 1 { locked - 1 } else { locked }
 }

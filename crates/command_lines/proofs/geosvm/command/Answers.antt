@@ -1,9 +1,9 @@
-use Rattle.std.proofs.Common.{◌≡◌, ◌∙◌, Some, ap, ap₂, codes, false, rules, true}
+use Rattle.std.proofs.Common.{◌≡◌, ◌∙◌, Some, ap, ap₂, codes, false, true}
 use Rattle.std.proofs.lemmas.Result.{IfOk-weaker}
 use Rattle.clap.specs.Simple.{app_of_fields}
 use Rattle.clap.specs.Words.{Rule, app_of, new_app, with_rule, rule_of}
 use Rattle.clap.specs.declared.builder.action.ArgAction.TheVariants.{Set}
-use Rattle.command_lines.specs.Options.{as_option, cache_option, file_operand, flag, with_version}
+use Rattle.command_lines.specs.Options.{as_option, file_operand, flag, with_version}
 use Rattle.command_lines.proofs.geosvm.command.Goals as goal
 
 -- Texts are no part of what a parse reads, but for whether there is a version.
@@ -15,11 +15,11 @@ returns c =
     let first : app_of c.in_ok-arg.field-0 ≡ with_rule start (flag (codes "new")) = c.in_ok-arg.ensures.shape c.flag.ensures.1 ∙ ap₂ with_rule told c.flag.ensures.0 in
     let second = c.in_ok-arg-2.ensures.shape c.flag-2.ensures.1 ∙ ap₂ with_rule first c.flag-2.ensures.0 in
     let third = c.in_ok-arg-3.ensures.shape c.flag-3.ensures.1 ∙ ap₂ with_rule second c.flag-3.ensures.0 in
-    let cache : (rule_of c.help.result ≡ cache_option) × (c.help.result.global ≡ false) = search rules in
-    let fourth = c.in_ok-arg-4.ensures.shape cache.1 ∙ ap₂ with_rule third cache.0 in
-    let target : (rule_of c.help-2.result ≡ as_option) × (c.help-2.result.global ≡ false) = rw (c.help-2.ensures, c.value_name-2.ensures, c.action-2.ensures, c.long-2.ensures)
-    (ap (λ (r : Rule). record r { long = Some (codes "as"); action = Some Set; value_names = 1 }) c.new-4.ensures.rule, c.new-4.ensures.optional.1) in
-    let fifth = c.in_ok-arg-5.ensures.shape target.1 ∙ ap₂ with_rule fourth target.0 in
-    let file : (rule_of c.help-3.result ≡ file_operand) × (c.help-3.result.global ≡ false) = rw (c.help-3.ensures, c.required.ensures, c.value_name-3.ensures, c.action-3.ensures)
-    (ap (λ (r : Rule). record r { action = Some Set; value_names = 1; required = true }) c.new-5.ensures.rule, c.new-5.ensures.optional.1) in
-    IfOk-weaker c.arg-6.result _ _ (λ r h. h.shape file.1 ∙ ap₂ with_rule fifth file.0) c.arg-6.ensures
+    let fourth = c.in_ok-arg-4.ensures.shape c.cache_option.ensures.1 ∙ ap₂ with_rule third c.cache_option.ensures.0 in
+    let fifth = c.in_ok-arg-5.ensures.shape c.undo_option.ensures.1 ∙ ap₂ with_rule fourth c.undo_option.ensures.0 in
+    let target : (rule_of c.help.result ≡ as_option) × (c.help.result.global ≡ false) = rw (c.help.ensures, c.value_name.ensures, c.action.ensures, c.long.ensures)
+    (ap (λ (r : Rule). record r { long = Some (codes "as"); action = Some Set; value_names = 1 }) c.new-2.ensures.rule, c.new-2.ensures.optional.1) in
+    let sixth = c.in_ok-arg-6.ensures.shape target.1 ∙ ap₂ with_rule fifth target.0 in
+    let file : (rule_of c.help-2.result ≡ file_operand) × (c.help-2.result.global ≡ false) = rw (c.help-2.ensures, c.required.ensures, c.value_name-2.ensures, c.action-2.ensures)
+    (ap (λ (r : Rule). record r { action = Some Set; value_names = 1; required = true }) c.new-3.ensures.rule, c.new-3.ensures.optional.1) in
+    IfOk-weaker c.arg-7.result _ _ (λ r h. h.shape file.1 ∙ ap₂ with_rule sixth file.0) c.arg-7.ensures

@@ -27,5 +27,5 @@ returns-in-Err g c =
       refused.store,
       record { honest = none.store.honest; failures = none.store.failures; unchanged = none.unchanged },
       unlooked_at stands (DumpsStore g.W.Sink.contents g.W.Sink.writes c.args.name.now c.args.which (facts store) (facts refused.store) c.args.writer c.args.writer) c.args.name.now (facts store) (facts refused.store) refused.fault
-          (Unopened refused.fault) c.unopened.result (λ line is failed. inl (is, failed)) (λ line is so. inr (refused.fault, is, so)) tt none.file none.refused c.unopened.ensures,
+          (Unopened refused.fault) c.unopened.result (λ line is failed. inl (is, failed)) (λ line is so. inr (inl (refused.fault, is, so))) tt none.file none.refused c.unopened.ensures,
     )

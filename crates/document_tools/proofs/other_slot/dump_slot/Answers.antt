@@ -28,5 +28,5 @@ returns-in-Err g c =
       refused.store,
       record { honest = none.store.honest; failures = none.store.failures; unchanged = none.unchanged },
       unlooked_at (λ bytes. slot_stands bytes slot) (DumpsSlot g.W.Sink.contents g.W.Sink.writes c.args.name.now slot (facts store) (facts refused.store) c.args.writer c.args.writer) c.args.name.now (facts store) (facts refused.store)
-          refused.fault (NoOther refused.fault) c.unopened.result (λ line is failed. inl (is, failed)) (λ line is so. inr (refused.fault, is, so)) tt none.file none.refused c.unopened.ensures,
+          refused.fault (NoOther refused.fault) c.unopened.result (λ line is failed. inl (is, failed)) (λ line is so. inr (inl (refused.fault, is, so))) tt none.file none.refused c.unopened.ensures,
     )

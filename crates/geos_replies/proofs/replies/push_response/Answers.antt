@@ -1,4 +1,4 @@
-use Rattle.std.proofs.Common.{◌≡◌, true, refl, rules, subst}
+use Rattle.std.proofs.Common.{◌≡◌, Ok, true, refl, rules, subst}
 use Rattle.std.proofs.lemmas.Result.{on_err_weaker}
 use Rattle.geos_model.specs.LookUps.{command_of, is_look_up}
 use Rattle.geos_model.specs.Reply.{Accepted, reply_of_done}
@@ -6,12 +6,12 @@ use Rattle.geos_model.specs.declared.command.Command.{Command}
 use Rattle.geos_model.specs.declared.fault.Fault.TheVariants as faults
 use Rattle.geos_replies.specs.Replies.{asks_no_body}
 use Rattle.geos_replies.proofs.Calls.{on_err_always, was_ok}
-use Rattle.geos_replies.proofs.FileFaults.{file_abandon, file_commit, file_edit, file_lock, file_turn, file_unlock, file_wrong}
-use Rattle.geos_replies.proofs.Frames.{frames_abandon, frames_edit, frames_lock, frames_log, frames_same, frames_turn}
+use Rattle.geos_replies.proofs.FileFaults.{file_abandon, file_commit, file_edit, file_join, file_lock, file_turn, file_unlock, file_wrong}
+use Rattle.geos_replies.proofs.Frames.{frames_abandon, frames_edit, frames_join, frames_lock, frames_log, frames_same, frames_turn}
 use Rattle.geos_replies.proofs.InMemory.{lock_in_memory, turn_in_memory}
 use Rattle.geos_replies.proofs.Refusals.{keeps_commit, keeps_if_same, keeps_same, keeps_with, on_err_of}
 use Rattle.geos_replies.proofs.Replying.{done_is_other, extends_told, replied, replied_accepted, replied_mapped, replied_told, seen_as, told_of}
-use Rattle.geos_replies.proofs.Serving.{disk_kept, lock_passes, serves_at_rest, serves_commit, serves_passing, serves_staying, told_as_accepted}
+use Rattle.geos_replies.proofs.Serving.{disk_joined, disk_kept, lock_passes, serves_at_rest, serves_commit, serves_logging, serves_passing, serves_staying, told_as_accepted}
 use Rattle.geos_replies.proofs.replies.push_response.Goals as goal
 
 -- Edits, and undo and redo, commit nothing.
@@ -98,6 +98,33 @@ returns-in-Abandon-clause-replied g c =
     (serves_passing facts _ _ _ _ _ _ done.passes done.step (λ nothing. nothing) (λ free sure. let taken = done.sure free sure in (told_as_accepted _ taken.0, taken.1)))
     (λ well. tt) c.push_accepted-in-Abandon.ensures.ok)
 
+-- To join two steps or to forget some calls no store.
+
+pub returns-in-Join-clause-replied : goal.returns-in-Join-clause-replied
+returns-in-Join-clause-replied g c =
+    let facts = g.S.Store.facts in
+    let old = c.args.session.now in
+    let new = c.join.new.self in
+    let done = c.join.ensures in
+    rw c.in-Join.is (replied_accepted facts old new _ _ c.push_accepted-in-Join.result c.join.result _ _ _
+    (on_err_weaker c.join.result (keeps_same facts _ _ old new) (on_err_of _ _ c.join.result done.done))
+    (file_join facts old new c.join.result done.refusals)
+    (frames_join facts old new _ c.join.result done.done)
+    (serves_logging facts _ _ _ _ _ _ (disk_joined facts old new _ c.join.result done.done) done.step (λ stays. stays) tt)
+    (λ well. tt) c.push_accepted-in-Join.ensures.ok)
+
+pub returns-in-Forget-clause-replied : goal.returns-in-Forget-clause-replied
+returns-in-Forget-clause-replied g c =
+    let facts = g.S.Store.facts in
+    let old = c.args.session.now in
+    let new = c.forget.new.self in
+    let done = c.forget.ensures in
+    let disk : new.disk ≡ old.disk = rw done.done refl in
+    rw c.in-Forget.is (replied_accepted facts old new _ _ c.push_accepted-in-Forget.result (Ok tt) _ _ _
+    tt tt (rw done.done refl)
+    (serves_logging facts _ _ _ _ _ _ disk done.step (λ stays. stays) (refl, disk))
+    (λ well. tt) c.push_accepted-in-Forget.ensures.ok)
+
 -- Commits.
 
 pub returns-in-Update-clause-replied : goal.returns-in-Update-clause-replied
@@ -107,7 +134,7 @@ returns-in-Update-clause-replied g c =
     let new = c.update.new.self in
     let done = c.update.ensures in
     rw c.in-Update.is (replied_accepted facts old new _ _ c.push_accepted-in-Update.result c.update.result _ _ _
-    (keeps_commit facts _ _ old new _ _ c.update.result done.commit (on_err_always c.update.result done.lists.0) done.lists.1 (on_err_always c.update.result done.resident))
+    (keeps_commit facts _ _ old new _ _ c.update.result done.commit (on_err_of _ _ c.update.result done.lists.0) done.lists.1 (on_err_always c.update.result done.resident))
     (file_commit facts old new c.update.result done.fails.file)
     done.lists.1
     (serves_commit facts _ _ _ _ _ _ _ done.commit.commits done.commit.passes done.fails.file done.step (λ settles. settles) tt)
@@ -120,7 +147,7 @@ returns-in-Save-clause-replied g c =
     let new = c.save.new.self in
     let done = c.save.ensures in
     rw c.in-Save.is (replied_accepted facts old new _ _ c.push_accepted-in-Save.result c.save.result _ _ _
-    (keeps_commit facts _ _ old new _ _ c.save.result done.commit (on_err_always c.save.result done.lists.0) done.lists.1 (on_err_always c.save.result done.resident))
+    (keeps_commit facts _ _ old new _ _ c.save.result done.commit (on_err_of _ _ c.save.result done.lists.0) done.lists.1 (on_err_always c.save.result done.resident))
     (file_commit facts old new c.save.result done.fails.file)
     done.lists.1
     (serves_commit facts _ _ _ _ _ _ _ done.commit.commits done.commit.passes done.fails.file done.step (λ settles. settles) tt)

@@ -23,7 +23,7 @@ pub returns-in-Err-clause-stays : goal.returns-in-Err-clause-stays
 returns-in-Err-clause-stays g c =
     let was = sym c.take.ensures.value ∙ c.in-Some.is in
     let refused = c.in-Err.ensures in
-    rw was (keeps_target g.S.Store.facts c.args.session.now c.save_as.new.self c.in-Some.store c.in-Err.refused.store c.args.former.now c.in-Err.refused.fault refused.saved_as (λ f is. (c.save_as.ensures.held f is).1) c.save_as.ensures.lists c.save_as.ensures.resident)
+    rw was (keeps_target g.S.Store.facts c.args.session.now c.save_as.new.self c.in-Some.store c.in-Err.refused.store c.args.former.now c.in-Err.refused.fault refused.saved_as (λ f is. (c.save_as.ensures.held f is).1) refused.lists c.save_as.ensures.resident)
 
 -- A store failed where the fault is the file's.
 pub returns-in-Err-clause-file : goal.returns-in-Err-clause-file

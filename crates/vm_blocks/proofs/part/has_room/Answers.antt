@@ -3,17 +3,21 @@ use Rattle.std.proofs.lemmas.Bool.{lt-leb}
 use Rattle.std.proofs.lemmas.List.{length-replicate}
 use Rattle.geos_model.specs.Bytes.{resized}
 use Rattle.geos_model.specs.Heap.{ChunkMap, chunk_bytes, capacity}
-use Rattle.geos_model.proofs.HeapTables.{chunk_bytes_le, fits_with-same, fits_with-many}
+use Rattle.geos_model.proofs.HeapTables.{chunk_bytes_le, fits_with-fewer, fits_with-same, fits_with-many}
 use Rattle.vm_blocks.proofs.part.has_room.Goals as goal
 
 length-resized : (bytes : List ℕ) (n : ℕ) → length (resized bytes n) ≡ n
 length-resized bytes n = omega (arith, length-append (take n bytes) (replicate (n - length bytes) 0), length-take n bytes, length-replicate {A = ℕ} (n - length bytes) 0)
 
-pub overflow_add-rest : goal.overflow_add-rest
-overflow_add-rest c = let few = chunk_bytes_le c.args.heap.now.chunks c.args.chunk.0 c.requires.valid c.requires.live in omega (arith, few)
+pub overflow_add-size : goal.overflow_add-size
+overflow_add-size c = let few = chunk_bytes_le c.args.heap.now.chunks c.args.chunk.0 c.requires.valid c.requires.live in omega (arith, few, c.requires.size)
 
-pub overflow_cast-rest : goal.overflow_cast-rest
-overflow_cast-rest c = let few = chunk_bytes_le c.args.heap.now.chunks c.args.chunk.0 c.requires.valid c.requires.live in omega (arith, few)
+pub overflow_cast-size : goal.overflow_cast-size
+overflow_cast-size c = let few = chunk_bytes_le c.args.heap.now.chunks c.args.chunk.0 c.requires.valid c.requires.live in omega (arith, few, c.requires.size)
+
+pub returns-then-new-old : goal.returns-then-new-old
+returns-then-new-old c = λ bytes long.
+    sym (fits_with-fewer c.args.heap.now.chunks c.args.chunk.0 bytes c.requires.valid c.requires.live (omega (arith, long, c.requires.size, c.requires.old, c.if-new-old.true)))
 
 pub returns-then-new-le-SIZE : goal.returns-then-new-le-SIZE
 returns-then-new-le-SIZE c = λ bytes long.

@@ -32,6 +32,6 @@ returns-then-is_sized c =
     let size : total_taken ps ≡ length (chunk_bytes m h) =
     size_cut m h c.in-Some.ensures.valid live c.size_before.result (total_taken ps) c.size_before.ensures (ap length bytes ∙ c.if-is_sized.true) in
     let room : c.has_room.result ≡ fits_with m h (replicate (peak ps) 0) =
-    room_cut m h c.in-Some.ensures.valid live c.peak.result (peak c.args.patch.now) c.peak.ensures c.has_room.result c.has_room.ensures
+    room_cut m h c.in-Some.ensures.valid live c.peak.result (peak c.args.patch.now) c.peak.ensures c.has_room.result (λ bs long. c.has_room.ensures bs (omega (arith, long)))
     ∙ ap (λ (k : ℕ). fits_with m h (replicate k 0)) (sym (directed_peak c.args.direction c.args.patch.now)) in
     (λ fit. record { live = live; size = size; fits = sym room ∙ fit }, λ allows. room ∙ allows.fits)

@@ -1,6 +1,6 @@
 -- `closed` moves what is owned from one form to the other.
 use Rattle.std.proofs.Common.{◌≡◌, List, [], ◌∷◌, ◌++◌, refl, sym, subst}
-use mathlib.Core.Bool.{false}
+use mathlib.Core.Bool.{false, true}
 use mir.Val.{Val}
 use base.Logic.{SProp, ent, emp, id⊢}
 use base.Fml.{ftrue}
@@ -24,7 +24,7 @@ use Rattle.core.proofs.atomic.Steps.{Ptr-Good}
 use Rattle.std.proofs.raw_atomic.Walks.{proved_at, leaves}
 use Rattle.std.specs.Prelude.{None, pos}
 use Rattle.geos_model.specs.Document.{empty_document}
-use Rattle.undo_log.specs.Logging.{empty_log}
+use Rattle.undo_log.specs.Logging.{fresh_log}
 use Rattle.geos_c.specs.Stores.{file_number, store_on}
 use Rattle.geos_c.proofs.Handles.{R, two, two_good, handle_in}
 use Rattle.geos_c.specs.contracts.handle.Handle.closed.{ended, clauses}
@@ -41,7 +41,7 @@ closed_kept = record {
     document = empty_document;
     resident = [];
     frames = 0;
-    log = empty_log;
+    log = fresh_log true;
   };
 }
 

@@ -3,7 +3,7 @@ use Rattle.std.proofs.lemmas.List.{with_items_is}
 use Rattle.chunk_edits.specs.declared.direction.Direction.TheVariants.{Forwards}
 use Rattle.undo_log.specs.Logging.{LogState, ReversesAt, next_moved}
 use Rattle.undo_log.specs.declared.entry.LogEntry.{LogEntry}
-use Rattle.undo_log.proofs.Moving.{redone_at}
+use Rattle.undo_log.proofs.LogViews.{redone_at, open_group}
 use Rattle.undo_log.proofs.log.UndoLog.move_redone.Goals as goal
 
 pub returns-then-self-len : goal.returns-then-self-len
@@ -12,4 +12,4 @@ returns-then-self-len c =
     let many : length new ≡ vec_len c.self.inside.entries = omega (arith, c.turn_over_at.auto.entries, c.as_mut_slice.ensures.len) in
     let turned : ReversesAt c.self.inside.done old new = subst (λ (es : List LogEntry). ReversesAt c.self.inside.done es new) c.as_mut_slice.ensures.value c.turn_over_at.ensures in
     rw (with_items_is c.self.inside.entries new many)
-    (redone_at c.self.inside.done old new _ turned ∙ ap (λ (l : LogState). next_moved Forwards l.lists) c.self.view_is)
+    (redone_at (open_group c.self.inside.group) c.self.inside.marks c.self.inside.limit c.self.inside.dead c.self.inside.done old new c.self.invariant.0 turned ∙ ap (λ (l : LogState). next_moved Forwards l.lists) c.self.view_is)

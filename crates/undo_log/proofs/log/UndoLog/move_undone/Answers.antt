@@ -1,17 +1,18 @@
-use Rattle.std.proofs.Common.{◌≡◌, ◌+◌, ◌-◌, List, length, vec_len, ap, subst, ◌∙◌, arith}
+use Rattle.std.proofs.Common.{◌≡◌, ◌≤◌, ◌+◌, ◌-◌, List, length, vec_len, ap, subst, ◌∙◌, arith}
 use Rattle.std.proofs.lemmas.List.{with_items_is}
 use Rattle.chunk_edits.specs.declared.direction.Direction.TheVariants.{Backwards}
 use Rattle.undo_log.specs.Logging.{LogState, ReversesAt, next_moved}
 use Rattle.undo_log.specs.declared.entry.LogEntry.{LogEntry}
-use Rattle.undo_log.proofs.Moving.{undone_at}
+use Rattle.undo_log.proofs.LogViews.{undone_at, open_group}
 use Rattle.undo_log.proofs.log.UndoLog.move_undone.Goals as goal
 
-pub returns-then-self-gt0 : goal.returns-then-self-gt0
-returns-then-self-gt0 c =
+pub returns-then-self : goal.returns-then-self
+returns-then-self c =
     let old = c.self.inside.entries.items in let new = c.turn_over_at.new.entries in
     let place = c.self.inside.done - 1 in
     let many : length new ≡ vec_len c.self.inside.entries = omega (arith, c.turn_over_at.auto.entries, c.as_mut_slice.ensures.len) in
     let turned : ReversesAt place old new = subst (λ (es : List LogEntry). ReversesAt place es new) c.as_mut_slice.ensures.value c.turn_over_at.ensures in
-    let next : place + 1 ≡ c.self.inside.done = omega (arith, c.if-self-gt0.true) in
+    let next : place + 1 ≡ c.self.inside.done = omega (arith, c.if-self.true) in
+    let before : c.self.inside.dead ≤ place = omega (arith, c.if-self.true) in
     rw (with_items_is c.self.inside.entries new many)
-    (undone_at place c.self.inside.done old new _ next turned ∙ ap (λ (l : LogState). next_moved Backwards l.lists) c.self.view_is)
+    (undone_at (open_group c.self.inside.group) c.self.inside.marks c.self.inside.limit c.self.inside.dead place c.self.inside.done old new next before turned ∙ ap (λ (l : LogState). next_moved Backwards l.lists) c.self.view_is)

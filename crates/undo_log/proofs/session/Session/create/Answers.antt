@@ -1,4 +1,4 @@
-use Rattle.std.proofs.Common.{IsTrue, ap, subst, sym, ◌∙◌}
+use Rattle.std.proofs.Common.{IsTrue, true, ap, subst, sym, ◌∙◌}
 use Rattle.geos_model.specs.Document.{empty_document}
 use Rattle.vm_blocks.specs.State.{CacheState, as_file}
 use Rattle.vm_blocks.specs.Opening.{IsMadeIn}
@@ -18,7 +18,7 @@ pub returns-in-Ok-clause-machine : goal.returns-in-Ok-clause-machine
 returns-in-Ok-clause-machine g c target =
     let is = c.start.ensures.blocks in
     let made = c.in-Ok.ensures.made in
-    begun c.start.result empty_document empty_document 1 c.args.frames target
+    begun c.start.result empty_document empty_document true 1 c.args.frames target
     (ap (λ (b : CacheState g.row.S.Denot). b.document) is ∙ made.document)
     (ap (λ (b : CacheState g.row.S.Denot). b.disk.updated) is ∙ made.new_file.updated)
     (ap (λ (b : CacheState g.row.S.Denot). b.disk.saved) is ∙ made.new_file.saved)

@@ -19,7 +19,8 @@ use Rattle.undo_log.specs.Editing.{EditsInMemory}
 use Rattle.undo_log.specs.Locking.{IsBarred, bars}
 use Rattle.undo_log.specs.Logging.{Log, to_redo, to_undo, with_change}
 use Rattle.undo_log.specs.Sessions.{SessionState, cache_of, machine_of, CanApplyBothByHandle, IsStep, KeepsSession, PushesEdit}
-use Rattle.undo_log.proofs.Edited.{barred_fault, barred_step, changed_listed, edit_step, edit_refused, carried_fault, made_at_hand, made_for, not_barred, refused_at_hand}
+use Rattle.undo_log.proofs.Edited.{barred_fault, barred_step, edit_step, edit_refused, carried_fault, made_at_hand, made_for, not_barred, refused_at_hand}
+use Rattle.undo_log.proofs.Forgetting.{changed_listed}
 use Rattle.undo_log.proofs.Keeping.{Holds, keeps_refl, kept_invariant, none_marked}
 use Rattle.undo_log.proofs.Listing.{drifted, edited_listed}
 use Rattle.undo_log.proofs.LookUps.{same_session, session_with}

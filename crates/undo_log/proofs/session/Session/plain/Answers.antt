@@ -5,7 +5,7 @@ use Rattle.geos_model.specs.declared.command.Command.TheVariants as commands
 use Rattle.doc_edits.proofs.Forms.{by_form}
 use Rattle.doc_edits.proofs.LookUps.{mapped}
 use Rattle.undo_log.specs.Sessions.{machine_of}
-use Rattle.undo_log.proofs.LookUps.{StepsSo, find_step, map_block_step, redos_step, undos_step}
+use Rattle.undo_log.proofs.LookUps.{StepsSo, find_step, map_block_step, modified_step, redos_step, undos_step}
 use Rattle.undo_log.proofs.session.Session.plain.Goals as goal
 
 pub returns-in-HeapType : goal.returns-in-HeapType
@@ -27,3 +27,6 @@ returns-in-Undos g c = rw c.in-Undos.is ((λ target. undos_step (machine_of targ
 
 pub returns-in-Redos : goal.returns-in-Redos
 returns-in-Redos g c = rw c.in-Redos.is ((λ target. redos_step (machine_of target c.args.self.now) _ (c.redo_count.ensures.future target)), refl)
+
+pub returns-in-Modified : goal.returns-in-Modified
+returns-in-Modified g c = rw c.in-Modified.is ((λ target. modified_step (machine_of target c.args.self.now) _ (c.stands_as.ensures target)), refl)

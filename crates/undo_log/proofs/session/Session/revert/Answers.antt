@@ -7,7 +7,7 @@ use Rattle.undo_log.specs.Logging.{Log, to_redo, to_undo}
 use Rattle.chunk_edits.specs.declared.direction.Direction.TheVariants.{Backwards}
 use Rattle.undo_log.specs.Sessions.{SessionState, CanApplyBothByHandle, IsExact, IsStep}
 use Rattle.undo_log.specs.Turning.{busy_fault}
-use Rattle.undo_log.proofs.Beginnings.{begun_exact}
+use Rattle.undo_log.proofs.Beginnings.{cleared_exact}
 use Rattle.undo_log.proofs.CommitSteps.{commit_held, refused_invariant, revert_held, revert_is, tries_free}
 use Rattle.undo_log.proofs.Keeping.{none_marked}
 use Rattle.undo_log.proofs.Listing.{none_listed}
@@ -53,7 +53,7 @@ returns-clause-exact g c =
     let facts = g.S.Store.facts in let honest = c.in_ok-revert.ensures.commit.commits.honest in
     let new = session_with c.revert.new.self c.clear.new.self.lists in
     subst (λ (s : SessionState g.row.S.Denot). IsTrue (facts s.disk.store).honest → IsExact facts new) c.self.view_is
-    (λ so. begun_exact facts new c.reveal_invariant-2.ensures.document c.clear.ensures (subst IsTrue (sym honest) so))
+    (λ so. cleared_exact facts new c.self.inside.log.lists c.reveal_invariant-2.ensures.document c.clear.ensures (subst IsTrue (sym honest) so))
 
 pub invariant_of-self : goal.invariant_of-self
 invariant_of-self g c = refused_invariant g.S.Store.facts _ _ c.self.inside.blocks c.revert.new.self c.self.inside.log.lists _ c.in_err-revert.ensures.commit c.self.invariant

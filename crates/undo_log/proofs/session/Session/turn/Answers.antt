@@ -5,7 +5,7 @@ use Rattle.geos_model.specs.Reply.{Accepted, reply_by}
 use Rattle.geos_model.specs.declared.fault.Fault.{Fault}
 use Rattle.vm_file.specs.Disk.{KeepsCommitted}
 use Rattle.vm_blocks.proofs.KeepingLaws.{keeps-passes}
-use Rattle.undo_log.specs.Logging.{next_entries}
+use Rattle.undo_log.specs.Logging.{next_entries, next_moved}
 use Rattle.undo_log.specs.Sessions.{SessionState, cache_of, IsStep}
 use Rattle.undo_log.specs.Turning.{IsRefusedUndoOrRedo, IsSure, newest_made, no_step_fault, step_command, busy_fault}
 use Rattle.undo_log.proofs.Groups.{moved_invariant, next_listed}
@@ -90,3 +90,6 @@ returns-in_ok-make_entry-in-Some-next_entry-clause-sure g c =
     (λ free sure.
     let made = c.make_entry.ensures.sure (sure_turns facts old c.args.direction entry (next_entries c.args.direction old.log) first (next_can facts old c.args.direction free) sure) in
     (refl, made.1, made.2 ∙ newest_is facts c.args.direction entry (next_entries c.args.direction old.log) old.document first))
+
+pub returns-in_ok-make_entry-in-Some-next_entry-clause-moved : goal.returns-in_ok-make_entry-in-Some-next_entry-clause-moved
+returns-in_ok-make_entry-in-Some-next_entry-clause-moved g c = c.move_next.ensures ∙ ap (λ (s : SessionState g.row.S.Denot). next_moved c.args.direction s.log) c.self.view_is

@@ -5,7 +5,7 @@ use Rattle.vm_blocks.proofs.DocumentUnderFrames.{overlay_live, overlay_kind, ove
 use Rattle.vm_blocks.proofs.file_blocks.FileBlocks.attributes.Goals as goal
 
 pub unwrap-requires : goal.unwrap-requires
-unwrap-requires g c = c.entry.ensures.live ∙ sym (overlay_live _ c.self.inside.frames.entries c.self.inside.file.document c.args.handle.0 c.self.invariant.kept) ∙ ap (λ s. is_live s.document c.args.handle.0) c.self.view_is ∙ c.requires
+unwrap-requires g c = c.entry.ensures.live ∙ sym (overlay_live _ c.self.inside.frames.entries c.self.inside.file.document c.args.handle.0 c.self.invariant.0.kept) ∙ ap (λ s. is_live s.document c.args.handle.0) c.self.view_is ∙ c.requires
 
 pub returns-clause-value : goal.returns-clause-value
 returns-clause-value g c =
@@ -17,5 +17,5 @@ returns-clause-typed g c = λ raw.
     let d = c.self.inside.file.document in
     let h = c.args.handle.0 in
     let attributes : c.unwrap.result.attributes ≡ attributes_of d h = rw c.unwrap.ensures at c.entry.ensures.attributes in
-    let kind = sym (overlay_kind _ c.self.inside.frames.entries d h c.self.invariant.kept) ∙ ap (λ s. is_heap s.document h) c.self.view_is in
+    let kind = sym (overlay_kind _ c.self.inside.frames.entries d h c.self.invariant.0.kept) ∙ ap (λ s. is_heap s.document h) c.self.view_is in
     ap (λ (a : Attributes). a.heap_type) attributes ∙ c.reveal_invariant.ensures.document.typed h (kind ∙ raw)

@@ -1,4 +1,4 @@
-use Rattle.std.proofs.Common.{◌≡◌, Some, true, is_some, refl, sym, ap, subst, ◌∙◌}
+use Rattle.std.proofs.Common.{◌≡◌, Some, is_some, refl, sym, ap, subst, ◌∙◌}
 use Rattle.std.specs.FinMap.{get}
 use Rattle.std.specs.Option.{option_copied_mut, option_map}
 use Rattle.geos_model.specs.Document.{Block, Document, block_at, is_heap_body, is_live, with_body}
@@ -7,12 +7,12 @@ use Rattle.vm_blocks.specs.Changes.{directed_part}
 use Rattle.vm_blocks.specs.Frames.{frame_of, overlay, shown}
 use Rattle.vm_blocks.specs.Parts.{AllowsPart}
 use Rattle.vm_blocks.specs.Sound.{IsValidState}
-use Rattle.vm_blocks.specs.State.{CacheState, is_resident}
+use Rattle.vm_blocks.specs.State.{CacheState, is_resident, locked_count}
 use Rattle.vm_blocks.specs.declared.frame.Frame.{Frame}
 use Rattle.vm_blocks.proofs.ChangeOutcomes.{part_as_body}
 use Rattle.vm_blocks.proofs.KeepingLaws.{loaded-live, loaded-resident}
 use Rattle.vm_blocks.proofs.ChangedBodies.{is_lent, state_lent, kept_lent}
-use Rattle.vm_blocks.proofs.OrderOfUse.{resident_is}
+use Rattle.vm_blocks.proofs.OrderOfUse.{resident_is, seats_kept}
 use Rattle.vm_blocks.proofs.PartLemmas.{part_kind}
 use Rattle.vm_blocks.proofs.Preparing.{takes_body}
 use Rattle.vm_blocks.proofs.StateValidity.{sound_part}
@@ -52,12 +52,14 @@ invariant_of-self g c =
     let there = body_under es d h f.body (ap (option_map (λ (x : Frame). x.body)) here) in
     let takes = subst (λ (s : CacheState g.row.S.Denot). AllowsPart p (block_at s.document h).body) (sym c.self.view_is) c.requires.takes in
     let live = ap (λ (s : CacheState g.row.S.Denot). is_live s.document h) c.self.view_is ∙ loaded-live c.args.self.now h c.requires.loaded in
-    let kind : is_heap_body (body_value new.body) ≡ is_heap_body (body_value f.body) = ap is_heap_body c.carry_out.ensures.body ∙ part_kind p (body_value f.body) (takes_body (overlay es d) h p (body_value f.body) there takes) in
-    record {
-      kept = kept_lent es h f here d new (facts file.disk.store).honest c.carry_out.ensures.marks.1 c.carry_out.ensures.marks.0 kind c.self.invariant.kept;
-      state = subst (IsValidState facts) (sym (state_lent es h f here d new file.disk cap (shown file es cap) c.carry_out.ensures.marks.1 refl))
-          (sound_part facts (shown file es cap) h p (body_value f.body) (body_value new.body) there takes c.carry_out.ensures.body live c.self.invariant.state);
-    }
+    let kind : is_heap_body (body_value new.body) ≡ is_heap_body (body_value f.body) = ap is_heap_body c.carry_out.ensures.body ∙ part_kind p (body_value f.body) (takes_body (overlay es d) h p (body_value f.body) there takes) in (
+      record {
+        kept = kept_lent es h f here d new (facts file.disk.store).honest c.carry_out.ensures.marks.1 c.carry_out.ensures.marks.0 kind c.self.invariant.0.kept;
+        state = subst (IsValidState facts) (sym (state_lent es h f here d new file.disk cap (shown file es cap) c.carry_out.ensures.marks.1 refl))
+            (sound_part facts (shown file es cap) h p (body_value f.body) (body_value new.body) there takes c.carry_out.ensures.body live c.self.invariant.0.state);
+      },
+      c.self.invariant.1 ∙ sym (ap locked_count (seats_kept h es f new here c.carry_out.ensures.marks.1)),
+    )
 
 pub returns : goal.returns
 returns g c =

@@ -6,7 +6,6 @@ use Rattle.vm_file.specs.Disk.{unmarked}
 use Rattle.vm_blocks.specs.State.{CacheState}
 use Rattle.vm_blocks.proofs.Marking.{on_err_always}
 use Rattle.vm_blocks.specs.Changes.{directed_all}
-use Rattle.vm_blocks.specs.Keeping.{KeepsBlocks}
 use Rattle.vm_blocks.specs.Preparing.{AreApplied, CantPrepareAll}
 use Rattle.vm_blocks.proofs.ChangingAll.{not_marked, listed_marked, made_through, unready_through, valid_marked, keeps_back}
 use Rattle.vm_blocks.proofs.KeepingLaws.{keeps-by}

@@ -6,6 +6,7 @@ use Rattle.vm_blocks.specs.declared.frame.Frame.{Frame}
 use Rattle.vm_blocks.proofs.OrderOfUse.{seats_same}
 use Rattle.vm_blocks.proofs.DocumentUnderFrames.{overlay_with_frame, kept_with_frame}
 use Rattle.vm_blocks.proofs.StateValidity.{blocks_shown}
+use Rattle.vm_blocks.specs.State.{locked_count}
 use Rattle.vm_blocks.proofs.file_blocks.FileBlocks.dirty.Goals as goal
 
 pub invariant_of-self : goal.invariant_of-self
@@ -14,9 +15,11 @@ invariant_of-self g c =
     let es = c.self.inside.frames.entries in
     let h = c.args.handle.0 in
     let g' = λ (f : Frame). record f { changed = true } in
-    let kept = kept_with_frame es h g' (λ f. refl) (g.S.Store.facts file.disk.store).honest file.document (λ f is few. few) (λ f wrong. absurd (cc wrong)) c.self.invariant.kept in
-    subst (λ (x : LruCache ℕ Frame). AreBlocksOf g.S.Store.facts file x.entries x.cap) (sym c.mark.ensures)
-    (blocks_shown g.S.Store.facts file es c.self.inside.frames.cap (with_frame es h g') c.self.inside.frames.cap c.self.invariant kept (overlay_with_frame es h g' (λ f. refl) file.document) refl)
+    let kept = kept_with_frame es h g' (λ f. refl) (g.S.Store.facts file.disk.store).honest file.document (λ f is few. few) (λ f wrong. absurd (cc wrong)) c.self.invariant.0.kept in (
+      subst (λ (x : LruCache ℕ Frame). AreBlocksOf g.S.Store.facts file x.entries x.cap) (sym c.mark.ensures)
+          (blocks_shown g.S.Store.facts file es c.self.inside.frames.cap (with_frame es h g') c.self.inside.frames.cap c.self.invariant.0 kept (overlay_with_frame es h g' (λ f. refl) file.document) refl),
+      c.self.invariant.1 ∙ sym (ap (λ (x : LruCache ℕ Frame). locked_count (residents x.entries)) (c.mark.ensures) ∙ ap locked_count (seats_same h es g' (λ f. refl))),
+    )
 
 pub returns-clause-same : goal.returns-clause-same
 returns-clause-same g c =

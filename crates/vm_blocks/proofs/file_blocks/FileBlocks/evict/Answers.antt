@@ -5,12 +5,13 @@ use Rattle.std.specs.Cmp.{nat_eq_equiv}
 use Rattle.std.proofs.lemmas.Map.{lookup-remove_entry}
 use Rattle.lru.specs.LruCache.{LruCache}
 use Rattle.vm_blocks.specs.Frames.{frame_of, residents, shown}
-use Rattle.vm_blocks.specs.State.{CacheState, KeepsDocument, evicted, victim}
+use Rattle.vm_blocks.specs.State.{CacheState, KeepsDocument, evicted, victim, locked_count}
 use Rattle.vm_blocks.specs.declared.frame.Frame.{Frame}
 use Rattle.vm_blocks.proofs.OrderOfUse.{residents-remove, residents-length, resident_is, victim_there, length-removed}
 use Rattle.vm_blocks.proofs.CallAfterCall.{moves_frames, moves_both, stays_by}
 use Rattle.vm_blocks.proofs.DocumentUnderFrames.{dropped, dropped_kept}
 use Rattle.vm_blocks.proofs.StateValidity.{blocks_drift}
+use Rattle.vm_blocks.proofs.Locks.{evicted_count}
 use Rattle.vm_blocks.proofs.file_blocks.FileBlocks.evict.Goals as goal
 
 pub unwrap-block-requires : goal.unwrap-block-requires
@@ -22,7 +23,7 @@ pub invariant_of-self : goal.invariant_of-self
 invariant_of-self g c =
     let s = c.self.inside in
     let new = c.write_back.new in
-    blocks_drift g.S.Store.facts s.file s.frames.entries s.frames.cap new.file new.frames.entries new.frames.cap c.self.invariant c.write_back.ensures.moves c.write_back.ensures.cap
+    (blocks_drift g.S.Store.facts s.file s.frames.entries s.frames.cap new.file new.frames.entries new.frames.cap c.self.invariant.0 c.write_back.ensures.moves c.write_back.ensures.cap, c.self.invariant.1 ∙ sym (ap locked_count c.write_back.ensures.residents))
 
 pub returns-in_err-write_back-clause-stays : goal.returns-in_err-write_back-clause-stays
 returns-in_err-write_back-clause-stays g c =
@@ -56,7 +57,7 @@ invariant_of-self-2 g c =
     let clean = c.in_ok-write_back.ensures.clean in
     let honest = (facts b.disk.store).honest in
     let cap = ap (λ (x : LruCache ℕ Frame). x.cap) c.pop.ensures.entries ∙ c.write_back.ensures.cap in
-    blocks_drift facts s.file s.frames.entries s.frames.cap b gs c.pop.new.self.cap c.self.invariant (moves_both facts s.file s.frames.entries b fs b gs moves (moves_frames facts b fs gs (dropped_kept honest fs b.document h gs moves.kept clean now) (dropped honest fs b.document h gs moves.kept clean now))) cap
+    (blocks_drift facts s.file s.frames.entries s.frames.cap b gs c.pop.new.self.cap c.self.invariant.0 (moves_both facts s.file s.frames.entries b fs b gs moves (moves_frames facts b fs gs (dropped_kept honest fs b.document h gs moves.kept clean now) (dropped honest fs b.document h gs moves.kept clean now))) cap, c.self.invariant.1 ∙ sym (evicted_count h s.frames.entries fs gs c.len-count.ensures.valid.0 c.write_back.ensures.residents (sym c.victim.ensures ∙ c.unwrap-block.ensures) (ap (λ (x : LruCache ℕ Frame). x.entries) c.pop.ensures.entries)))
 
 pub returns-clause-stays : goal.returns-clause-stays
 returns-clause-stays g c =

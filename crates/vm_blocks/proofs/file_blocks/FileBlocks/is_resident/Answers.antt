@@ -15,4 +15,4 @@ returns g c =
     let es = c.self.inside.frames.entries in
     let d = c.self.inside.file.document in
     subst (λ (s : CacheState g.row.S.Denot). c.contains.result ≡ is_loaded s h) c.self.view_is
-    (c.contains.ensures ∙ sym (resident_is h es) ∙ first_of_both (is_resident (residents es) h) (is_live (overlay es d) h) (seen_live _ es d c.self.invariant.kept h))
+    (c.contains.ensures ∙ sym (resident_is h es) ∙ first_of_both (is_resident (residents es) h) (is_live (overlay es d) h) (seen_live _ es d c.self.invariant.0.kept h))

@@ -8,7 +8,7 @@ use Rattle.lru.specs.LruCache.{LruCache, promoted}
 use Rattle.vm_blocks.specs.Frames.{residents, shown}
 use Rattle.vm_blocks.specs.Keeping.{KeepsBlocks, IsEnvironmentFault, IsCacheFull, is_full}
 use Rattle.vm_blocks.specs.Sound.{AreBlocksOf}
-use Rattle.vm_blocks.specs.State.{CacheState, KeepsDocument, after_load, is_resident, evicted}
+use Rattle.vm_blocks.specs.State.{CacheState, KeepsDocument, after_load, is_resident, evicted, locked_count}
 use Rattle.vm_blocks.specs.declared.frame.Frame.{Frame}
 use Rattle.vm_blocks.proofs.ChangeOutcomes.{lacks_of, loaded_there}
 use Rattle.vm_blocks.proofs.KeepingLaws.{full-is, full-shut, keeps-by, keeps-is, loaded-by, loaded-live, loaded-resident, open-shut, resident-open}
@@ -16,7 +16,7 @@ use Rattle.vm_blocks.proofs.Locking.{one_of}
 use Rattle.vm_blocks.proofs.Locks.{keys-residents, keeps_either}
 use Rattle.vm_blocks.proofs.OrderOfUse.{none_held, resident_is}
 use Rattle.vm_blocks.proofs.Residents.{seated_there, seated_stays}
-use Rattle.vm_blocks.proofs.UsedAgain.{used_after, used_blocks, used_document, used_keeps}
+use Rattle.vm_blocks.proofs.UsedAgain.{used_after, used_blocks, used_document, used_keeps, used_count}
 use Rattle.vm_blocks.proofs.file_blocks.FileBlocks.load_live.Goals as goal
 
 -- A block in memory.
@@ -24,14 +24,14 @@ use Rattle.vm_blocks.proofs.file_blocks.FileBlocks.load_live.Goals as goal
 pub invariant_of-self : goal.invariant_of-self
 invariant_of-self g c =
     let s = c.self.inside in
-    used_blocks g.S.Store.facts s.file s.frames.entries s.frames.cap c.args.handle.0 c.use_again.new.frames c.use_again.ensures.moves c.len-count.ensures.valid.0 c.self.invariant
+    (used_blocks g.S.Store.facts s.file s.frames.entries s.frames.cap c.args.handle.0 c.use_again.new.frames c.use_again.ensures.moves c.len-count.ensures.valid.0 c.self.invariant.0, c.self.invariant.1 ∙ sym (used_count g.S.Store.facts s.file s.frames.entries s.frames.cap c.args.handle.0 c.use_again.new.frames c.use_again.ensures.moves c.len-count.ensures.valid.0 c.self.invariant.0))
 
 pub returns-then-use_again-clause-keeps : goal.returns-then-use_again-clause-keeps
 returns-then-use_again-clause-keeps g c =
     let s = c.self.inside in
     let fs = c.use_again.new.frames in
     subst (λ (t : CacheState g.row.S.Denot). KeepsBlocks g.S.Store.facts t (shown s.file fs.entries fs.cap)) c.self.view_is
-    (used_keeps g.S.Store.facts s.file s.frames.entries s.frames.cap c.args.handle.0 fs c.use_again.ensures.moves c.len-count.ensures.valid.0 c.self.invariant)
+    (used_keeps g.S.Store.facts s.file s.frames.entries s.frames.cap c.args.handle.0 fs c.use_again.ensures.moves c.len-count.ensures.valid.0 c.self.invariant.0)
 
 pub returns-then-use_again-clause-order : goal.returns-then-use_again-clause-order
 returns-then-use_again-clause-order g c =
@@ -41,7 +41,7 @@ returns-then-use_again-clause-order g c =
     let fs = c.use_again.new.frames in
     let there : is_resident (residents es) h ≡ true = resident_is h es ∙ sym c.use_again.ensures.value ∙ c.if-use_again.true in
     subst (λ (t : CacheState g.row.S.Denot). residents fs.entries ≡ after_load t.frames h t.resident) c.self.view_is
-    (used_after g.S.Store.facts s.file es s.frames.cap h fs c.use_again.ensures.moves c.len-count.ensures.valid.0 c.self.invariant there)
+    (used_after g.S.Store.facts s.file es s.frames.cap h fs c.use_again.ensures.moves c.len-count.ensures.valid.0 c.self.invariant.0 there)
 
 pub returns-then-use_again-clause-ok : goal.returns-then-use_again-clause-ok
 returns-then-use_again-clause-ok g c =
@@ -52,15 +52,15 @@ returns-then-use_again-clause-ok g c =
     let fs = c.use_again.new.frames in
     let there : is_resident (residents es) h ≡ true = resident_is h es ∙ sym c.use_again.ensures.value ∙ c.if-use_again.true in
     loaded-by (shown s.file fs.entries fs.cap) h
-    (ap (λ ss. is_resident ss h) (used_after facts s.file es s.frames.cap h fs c.use_again.ensures.moves c.len-count.ensures.valid.0 c.self.invariant there) ∙ seated_there s.frames.cap h (residents es))
-    (ap (λ d. is_live d h) (used_document facts s.file es s.frames.cap h fs c.use_again.ensures.moves c.len-count.ensures.valid.0 c.self.invariant) ∙ ap (λ (t : CacheState g.row.S.Denot). is_live t.document h) c.self.view_is ∙ c.requires)
+    (ap (λ ss. is_resident ss h) (used_after facts s.file es s.frames.cap h fs c.use_again.ensures.moves c.len-count.ensures.valid.0 c.self.invariant.0 there) ∙ seated_there s.frames.cap h (residents es))
+    (ap (λ d. is_live d h) (used_document facts s.file es s.frames.cap h fs c.use_again.ensures.moves c.len-count.ensures.valid.0 c.self.invariant.0) ∙ ap (λ (t : CacheState g.row.S.Denot). is_live t.document h) c.self.view_is ∙ c.requires)
 
 pub returns-then-use_again-clause-already : goal.returns-then-use_again-clause-already
 returns-then-use_again-clause-already g c = λ loaded.
     let s = c.self.inside in (
       refl,
       ap (λ (t : CacheState g.row.S.Denot). t.disk) c.self.view_is,
-      used_document g.S.Store.facts s.file s.frames.entries s.frames.cap c.args.handle.0 c.use_again.new.frames c.use_again.ensures.moves c.len-count.ensures.valid.0 c.self.invariant ∙ ap (λ (t : CacheState g.row.S.Denot). t.document) c.self.view_is,
+      used_document g.S.Store.facts s.file s.frames.entries s.frames.cap c.args.handle.0 c.use_again.new.frames c.use_again.ensures.moves c.len-count.ensures.valid.0 c.self.invariant.0 ∙ ap (λ (t : CacheState g.row.S.Denot). t.document) c.self.view_is,
     )
 
 pub returns-then-use_again-clause-stay : goal.returns-then-use_again-clause-stay
@@ -73,8 +73,8 @@ returns-then-use_again-clause-stay g c = λ loaded k there.
     let there' : is_resident (residents es) h ≡ true = resident_is h es ∙ sym c.use_again.ensures.value ∙ c.if-use_again.true in
     let was : is_resident (residents es) k ≡ true = ap (λ (t : CacheState g.row.S.Denot). is_resident t.resident k) c.self.view_is ∙ loaded-resident c.args.self.now k there in
     loaded-by (shown s.file fs.entries fs.cap) k
-    (ap (λ ss. is_resident ss k) (used_after facts s.file es s.frames.cap h fs c.use_again.ensures.moves c.len-count.ensures.valid.0 c.self.invariant there') ∙ seated_stays s.frames.cap h k (residents es) there' was)
-    (ap (λ d. is_live d k) (used_document facts s.file es s.frames.cap h fs c.use_again.ensures.moves c.len-count.ensures.valid.0 c.self.invariant) ∙ ap (λ (t : CacheState g.row.S.Denot). is_live t.document k) c.self.view_is ∙ loaded-live c.args.self.now k there)
+    (ap (λ ss. is_resident ss k) (used_after facts s.file es s.frames.cap h fs c.use_again.ensures.moves c.len-count.ensures.valid.0 c.self.invariant.0 there') ∙ seated_stays s.frames.cap h k (residents es) there' was)
+    (ap (λ d. is_live d k) (used_document facts s.file es s.frames.cap h fs c.use_again.ensures.moves c.len-count.ensures.valid.0 c.self.invariant.0) ∙ ap (λ (t : CacheState g.row.S.Denot). is_live t.document k) c.self.view_is ∙ loaded-live c.args.self.now k there)
 
 pub returns-then-use_again-clause-shut : goal.returns-then-use_again-clause-shut
 returns-then-use_again-clause-shut g c = λ far.
@@ -89,7 +89,7 @@ returns-then-use_again-clause-shut g c = λ far.
 
 pub invariant_of-self-2 : goal.invariant_of-self-2
 invariant_of-self-2 g c =
-    subst (λ (x : LruCache ℕ Frame). AreBlocksOf g.S.Store.facts c.self.inside.file x.entries x.cap) (sym (c.use_again.ensures.absent c.if-use_again.false)) c.self.invariant
+    (subst (λ (x : LruCache ℕ Frame). AreBlocksOf g.S.Store.facts c.self.inside.file x.entries x.cap) (sym (c.use_again.ensures.absent c.if-use_again.false)) c.self.invariant.0, c.self.invariant.1 ∙ sym (ap (λ (x : LruCache ℕ Frame). locked_count (residents x.entries)) (c.use_again.ensures.absent c.if-use_again.false)))
 
 pub returns-then-all_locked-clause-keeps : goal.returns-then-all_locked-clause-keeps
 returns-then-all_locked-clause-keeps g c =

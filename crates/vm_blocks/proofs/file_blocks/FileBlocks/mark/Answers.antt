@@ -1,7 +1,7 @@
 use Rattle.std.proofs.Common.{◌≡◌, None, ap, sym, subst, ◌∙◌}
 use Rattle.vm_file.specs.Disk.{FileState}
 use Rattle.vm_blocks.specs.Frames.{shown}
-use Rattle.vm_blocks.specs.State.{CacheState, Marks, KeepsDocument}
+use Rattle.vm_blocks.specs.State.{CacheState, Marks, KeepsDocument, locked_count}
 use Rattle.vm_blocks.proofs.Marking.{marks_by, on_err_always}
 use Rattle.vm_blocks.proofs.CallAfterCall.{stays_by}
 use Rattle.vm_blocks.proofs.StateValidity.{blocks_drift}
@@ -42,4 +42,4 @@ pub invariant_of-self : goal.invariant_of-self
 invariant_of-self g c =
     let s = c.self.inside in
     let new = c.flush.new in
-    blocks_drift g.S.Store.facts s.file s.frames.entries s.frames.cap new.file new.frames.entries new.frames.cap c.self.invariant c.flush.ensures.moves c.flush.ensures.cap
+    (blocks_drift g.S.Store.facts s.file s.frames.entries s.frames.cap new.file new.frames.entries new.frames.cap c.self.invariant.0 c.flush.ensures.moves c.flush.ensures.cap, c.self.invariant.1 ∙ sym (ap locked_count c.flush.ensures.residents))

@@ -1,11 +1,12 @@
-use Rattle.std.proofs.Common.{ℕ, sym, subst}
+use Rattle.std.proofs.Common.{ℕ, sym, subst, ap}
 use Rattle.geos_model.specs.Document.{IsValid}
 use Rattle.lru.specs.LruCache.{LruCache}
-use Rattle.vm_blocks.specs.Frames.{with_frames}
+use Rattle.vm_blocks.specs.Frames.{with_frames, residents}
 use Rattle.vm_blocks.specs.Sound.{AreBlocksOf}
 use Rattle.vm_blocks.specs.Opening.{IsOpenedFrom}
 use Rattle.vm_blocks.specs.declared.frame.Frame.{Frame}
 use Rattle.vm_blocks.proofs.StateValidity.{blocks_bare}
+use Rattle.vm_blocks.specs.State.{locked_count}
 use Rattle.vm_blocks.proofs.file_blocks.FileBlocks.open.Goals as goal
 
 pub returns-clause-opened : goal.returns-clause-opened
@@ -24,6 +25,8 @@ returns-clause-opened g c =
 
 pub invariant_of-result : goal.invariant_of-result
 invariant_of-result g c =
-    let now = c.in_ok-file.ensures.document.0 in
-    subst (λ (x : LruCache ℕ Frame). AreBlocksOf g.S.Store.facts c.in_ok-file.file x.entries x.cap) (sym c.in-Ok.ensures)
-    (blocks_bare g.S.Store.facts c.in_ok-file.file c.args.frames c.requires (λ so. subst IsValid (sym now) (c.reveal_invariant.ensures.valid so).0))
+    let now = c.in_ok-file.ensures.document.0 in (
+      subst (λ (x : LruCache ℕ Frame). AreBlocksOf g.S.Store.facts c.in_ok-file.file x.entries x.cap) (sym c.in-Ok.ensures)
+          (blocks_bare g.S.Store.facts c.in_ok-file.file c.args.frames c.requires (λ so. subst IsValid (sym now) (c.reveal_invariant.ensures.valid so).0)),
+      sym (ap (λ (x : LruCache ℕ Frame). locked_count (residents x.entries)) (c.in-Ok.ensures)),
+    )

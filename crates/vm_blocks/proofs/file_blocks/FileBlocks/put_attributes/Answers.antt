@@ -19,8 +19,8 @@ set_attributes-requires g c =
     let now = is_heap c.args.self.now.document h in
     let given : c.attributes_for_kind-given.result ≡ attributes_for_kind now c.args.attributes = c.attributes_for_kind-given.ensures ∙ ap (λ (k : Bool). attributes_for_kind k c.args.attributes) c.is_heap.ensures in
     record {
-      live = sym (overlay_live _ es d h c.self.invariant.kept) ∙ ap (λ s. is_live s.document h) c.self.view_is ∙ c.requires;
-      typed = λ raw. subst (IsTyped now) (sym given) (attributes_for_kind-typed now c.args.attributes) (sym (ap (λ s. is_heap s.document h) c.self.view_is) ∙ overlay_kind _ es d h c.self.invariant.kept ∙ raw);
+      live = sym (overlay_live _ es d h c.self.invariant.0.kept) ∙ ap (λ s. is_live s.document h) c.self.view_is ∙ c.requires;
+      typed = λ raw. subst (IsTyped now) (sym given) (attributes_for_kind-typed now c.args.attributes) (sym (ap (λ s. is_heap s.document h) c.self.view_is) ∙ overlay_kind _ es d h c.self.invariant.0.kept ∙ raw);
     }
 
 pub invariant_of-self : goal.invariant_of-self
@@ -35,13 +35,15 @@ invariant_of-self g c =
     let given : u ≡ attributes_for_kind now c.args.attributes = c.attributes_for_kind-given.ensures ∙ ap (λ (k : Bool). attributes_for_kind k c.args.attributes) c.is_heap.ensures in
     let typed : IsTyped (is_heap (overlay es file.document) h) u = λ raw. subst (IsTyped now) (sym given) (attributes_for_kind-typed now c.args.attributes) (sym (ap (λ s. is_heap s.document h) c.self.view_is) ∙ raw) in
     let shows : is_live (overlay es file.document) h ≡ true = ap (λ s. is_live s.document h) c.self.view_is ∙ c.requires in
-    let live : is_live file.document h ≡ true = sym (overlay_live _ es file.document h c.self.invariant.kept) ∙ shows in
-    let new : FileState g.row.S.Denot = record file { document = with_attributes file.document h u } in
-    subst (λ (x : FileState g.row.S.Denot). AreBlocksOf facts x es cap) (sym c.set_attributes.ensures) (record {
-      kept = kept_set_attributes u es file.document h live (facts file.disk.store).honest c.self.invariant.kept;
-      state = subst (λ (d : Document). IsValidState facts (record (shown new es cap) { document = d })) (sym (overlay_set_attributes u es file.document h live shows))
-          (sound_attributes facts (shown file es cap) h u (record { user_id = omega arith; heap_type = omega arith }) typed c.self.invariant.state);
-    })
+    let live : is_live file.document h ≡ true = sym (overlay_live _ es file.document h c.self.invariant.0.kept) ∙ shows in
+    let new : FileState g.row.S.Denot = record file { document = with_attributes file.document h u } in (
+      subst (λ (x : FileState g.row.S.Denot). AreBlocksOf facts x es cap) (sym c.set_attributes.ensures) (record {
+        kept = kept_set_attributes u es file.document h live (facts file.disk.store).honest c.self.invariant.0.kept;
+        state = subst (λ (d : Document). IsValidState facts (record (shown new es cap) { document = d })) (sym (overlay_set_attributes u es file.document h live shows))
+            (sound_attributes facts (shown file es cap) h u (record { user_id = omega arith; heap_type = omega arith }) typed c.self.invariant.0.state);
+      }),
+      c.self.invariant.1,
+    )
 
 pub returns : goal.returns
 returns g c =
@@ -54,7 +56,7 @@ returns g c =
     let now = is_heap old.document h in
     let given : u ≡ attributes_for_kind now c.args.attributes = c.attributes_for_kind-given.ensures ∙ ap (λ (k : Bool). attributes_for_kind k c.args.attributes) c.is_heap.ensures in
     let shows : is_live (overlay es file.document) h ≡ true = ap (λ s. is_live s.document h) c.self.view_is ∙ c.requires in
-    let live : is_live file.document h ≡ true = sym (overlay_live _ es file.document h c.self.invariant.kept) ∙ shows in
+    let live : is_live file.document h ≡ true = sym (overlay_live _ es file.document h c.self.invariant.0.kept) ∙ shows in
     ap (λ (x : FileState g.row.S.Denot). shown x es cap) c.set_attributes.ensures
     ∙ ap (λ (x : Document). record (shown file es cap) { document = x }) (overlay_set_attributes u es file.document h live shows)
     ∙ ap (λ (s : CacheState g.row.S.Denot). record s { document = with_attributes s.document h u }) c.self.view_is

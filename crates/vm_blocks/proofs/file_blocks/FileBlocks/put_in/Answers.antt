@@ -33,13 +33,15 @@ invariant_of-self g c =
     let old = shown s.file es s.frames.cap in
     let out = subst (All (λ (m : Member). is_resident c.args.self.now.resident m.handle.0 ≡ false)) (sym c.deref.ensures.value) (away facts c.args.self.now ms.list.items c.requires c.reveal_invariant.ensures.resident) in
     let far : All (IsAway es) puts = All-weaker _ (IsAway es) (λ p gone. none_held (frame_of es p.handle.0) (sym (resident_is p.handle.0 es) ∙ ap (λ t. is_resident t.resident p.handle.0) c.self.view_is ∙ gone)) puts out in
-    let free = subst (λ (s : CacheState g.row.S.Denot). AreFree s.document (handles_of (imaged_blocks ms.list.items))) (sym c.self.view_is) c.requires in
-    record {
-      kept = puts_kept facts s.file c.put_blocks.new.self es puts c.put_blocks.result far c.self.invariant.kept c.put_blocks.ensures.keeps;
-      state = sound_put facts old (shown c.put_blocks.new.self es s.frames.cap) (put_all puts old.document) c.put_blocks.result c.self.invariant.state
-          (λ valid. subst (λ (xs : List Member). IsValid (put_all xs old.document)) (sym c.deref.ensures.value) (change_back (changes.BlocksIn ms) old.document valid free).0)
-          (puts_under facts s.file c.put_blocks.new.self es puts c.put_blocks.result far c.self.invariant.kept c.put_blocks.ensures.keeps) (refl, refl);
-    }
+    let free = subst (λ (s : CacheState g.row.S.Denot). AreFree s.document (handles_of (imaged_blocks ms.list.items))) (sym c.self.view_is) c.requires in (
+      record {
+        kept = puts_kept facts s.file c.put_blocks.new.self es puts c.put_blocks.result far c.self.invariant.0.kept c.put_blocks.ensures.keeps;
+        state = sound_put facts old (shown c.put_blocks.new.self es s.frames.cap) (put_all puts old.document) c.put_blocks.result c.self.invariant.0.state
+            (λ valid. subst (λ (xs : List Member). IsValid (put_all xs old.document)) (sym c.deref.ensures.value) (change_back (changes.BlocksIn ms) old.document valid free).0)
+            (puts_under facts s.file c.put_blocks.new.self es puts c.put_blocks.result far c.self.invariant.0.kept c.put_blocks.ensures.keeps) (refl, refl);
+      },
+      c.self.invariant.1,
+    )
 
 pub returns-clause-turns : goal.returns-clause-turns
 returns-clause-turns g c =
@@ -54,7 +56,7 @@ returns-clause-turns g c =
     subst (λ (t : CacheState g.row.S.Denot). AppliesChange facts (changes.BlocksIn ms) t new c.put_blocks.result)
     c.self.view_is
     (put_in_turns facts ms puts (shown s.file es s.frames.cap) new c.deref.ensures.value (refl, refl) c.put_blocks.result
-    (puts_under facts s.file c.put_blocks.new.self es puts c.put_blocks.result far c.self.invariant.kept c.put_blocks.ensures.keeps) c.put_blocks.ensures.fails
+    (puts_under facts s.file c.put_blocks.new.self es puts c.put_blocks.result far c.self.invariant.0.kept c.put_blocks.ensures.keeps) c.put_blocks.ensures.fails
     (λ none. let alone = c.put_blocks.ensures.removals_alone none in (alone.0, ap (λ (x : FileState g.row.S.Denot). shown x es s.frames.cap) alone.1)))
 
 pub returns-clause-resident : goal.returns-clause-resident

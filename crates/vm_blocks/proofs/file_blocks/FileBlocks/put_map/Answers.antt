@@ -16,7 +16,7 @@ set_map-requires g c =
     let h = c.args.block.0 in
     elim (cases_eq h 0) as (λ _. (h ≡ 0) ⊎ (is_live file.document h ≡ true)) [
       | inl none ↦ inl none
-      | inr some ↦ inr (sym (overlay_live _ c.self.inside.frames.entries file.document h c.self.invariant.kept) ∙ ap (λ s. is_live s.document h) c.self.view_is ∙ c.requires some)
+      | inr some ↦ inr (sym (overlay_live _ c.self.inside.frames.entries file.document h c.self.invariant.0.kept) ∙ ap (λ s. is_live s.document h) c.self.view_is ∙ c.requires some)
     ]
 
 pub invariant_of-self : goal.invariant_of-self
@@ -27,11 +27,13 @@ invariant_of-self g c =
     let cap = c.self.inside.frames.cap in
     let h = c.args.block.0 in
     let live : h ≢ 0 → is_live (overlay es file.document) h ≡ true = λ some. ap (λ s. is_live s.document h) c.self.view_is ∙ c.requires some in
-    let new : FileState g.row.S.Denot = record file { document = record file.document { map_block = h } } in
-    subst (λ (x : FileState g.row.S.Denot). AreBlocksOf facts x es cap) (sym c.set_map.ensures) (record {
-      kept = kept_set_map (facts file.disk.store).honest es file.document h c.self.invariant.kept;
-      state = subst (λ (d : Document). IsValidState facts (record (shown new es cap) { document = d })) (sym (overlay_set_map es file.document h)) (sound_map facts (shown file es cap) h live c.self.invariant.state);
-    })
+    let new : FileState g.row.S.Denot = record file { document = record file.document { map_block = h } } in (
+      subst (λ (x : FileState g.row.S.Denot). AreBlocksOf facts x es cap) (sym c.set_map.ensures) (record {
+        kept = kept_set_map (facts file.disk.store).honest es file.document h c.self.invariant.0.kept;
+        state = subst (λ (d : Document). IsValidState facts (record (shown new es cap) { document = d })) (sym (overlay_set_map es file.document h)) (sound_map facts (shown file es cap) h live c.self.invariant.0.state);
+      }),
+      c.self.invariant.1,
+    )
 
 pub returns : goal.returns
 returns g c =

@@ -9,7 +9,7 @@ use Rattle.vm_file.specs.Effects.{SameStore}
 use Rattle.vm_blocks.specs.SavingAs.{IsSavedAs, IsNotSavedAs}
 use Rattle.vm_blocks.specs.Frames.{overlay, shown, with_frames}
 use Rattle.vm_blocks.specs.Sound.{AreBlocksOf}
-use Rattle.vm_blocks.specs.State.{CacheState, as_file}
+use Rattle.vm_blocks.specs.State.{CacheState, as_file, locked_count}
 use Rattle.vm_blocks.proofs.CallAfterCall.{moves_drift}
 use Rattle.vm_blocks.proofs.Commits.{kept_after}
 use Rattle.vm_blocks.proofs.DocumentUnderFrames.{overlay_drifts}
@@ -31,7 +31,7 @@ pub invariant_of-self : goal.invariant_of-self
 invariant_of-self g c =
     let s = c.self.inside in
     let new = c.flush.new in
-    blocks_drift g.S.Store.facts s.file s.frames.entries s.frames.cap new.file new.frames.entries new.frames.cap c.self.invariant c.flush.ensures.moves c.flush.ensures.cap
+    (blocks_drift g.S.Store.facts s.file s.frames.entries s.frames.cap new.file new.frames.entries new.frames.cap c.self.invariant.0 c.flush.ensures.moves c.flush.ensures.cap, c.self.invariant.1 ∙ sym (ap locked_count c.flush.ensures.residents))
 
 pub returns-in-Err-clause-saved_as : goal.returns-in-Err-clause-saved_as
 returns-in-Err-clause-saved_as g c =
@@ -47,10 +47,12 @@ invariant_of-self-in_err-copied g c =
     let facts = g.S.Store.facts in
     let s = c.self.inside in
     let new = c.flush.new in
-    let reads = c.copy_to.ensures.reads in
-    blocks_drift facts new.file new.frames.entries new.frames.cap c.copy_to.new.self new.frames.entries new.frames.cap
-    (blocks_drift facts s.file s.frames.entries s.frames.cap new.file new.frames.entries new.frames.cap c.self.invariant c.flush.ensures.moves c.flush.ensures.cap)
-    (moves_drift facts new.file c.copy_to.new.self new.frames.entries c.flush.ensures.moves.kept reads.passes reads.document) refl
+    let reads = c.copy_to.ensures.reads in (
+      blocks_drift facts new.file new.frames.entries new.frames.cap c.copy_to.new.self new.frames.entries new.frames.cap
+          (blocks_drift facts s.file s.frames.entries s.frames.cap new.file new.frames.entries new.frames.cap c.self.invariant.0 c.flush.ensures.moves c.flush.ensures.cap)
+          (moves_drift facts new.file c.copy_to.new.self new.frames.entries c.flush.ensures.moves.kept reads.passes reads.document) refl,
+      c.self.invariant.1 ∙ sym (ap locked_count c.flush.ensures.residents),
+    )
 
 pub returns-in_err-copied-clause-saved_as : goal.returns-in_err-copied-clause-saved_as
 returns-in_err-copied-clause-saved_as g c =
@@ -72,11 +74,13 @@ invariant_of-self-in-Err-commit_revert g c =
     let fs = c.flush.new.frames.entries in let cap = c.flush.new.frames.cap in
     let reads = c.copy_to.ensures.reads in
     let revert = c.in-Err-commit_revert.ensures.commit in
-    let before = blocks_drift facts b fs cap d fs cap (blocks_drift facts s.file s.frames.entries s.frames.cap b fs cap c.self.invariant c.flush.ensures.moves c.flush.ensures.cap) (moves_drift facts b d fs c.flush.ensures.moves.kept reads.passes reads.document) refl in
-    record {
-      kept = kept_after facts d e fs revert.commits.honest revert.document before.kept;
-      state = sound_drifts facts (shown d fs cap) (shown e fs cap) before.state revert.commits.honest (overlay_drifts (facts d.disk.store).honest fs d.document e.document revert.document before.kept) refl;
-    }
+    let before = blocks_drift facts b fs cap d fs cap (blocks_drift facts s.file s.frames.entries s.frames.cap b fs cap c.self.invariant.0 c.flush.ensures.moves c.flush.ensures.cap) (moves_drift facts b d fs c.flush.ensures.moves.kept reads.passes reads.document) refl in (
+      record {
+        kept = kept_after facts d e fs revert.commits.honest revert.document before.kept;
+        state = sound_drifts facts (shown d fs cap) (shown e fs cap) before.state revert.commits.honest (overlay_drifts (facts d.disk.store).honest fs d.document e.document revert.document before.kept) refl;
+      },
+      c.self.invariant.1 ∙ sym (ap locked_count c.flush.ensures.residents),
+    )
 
 pub returns-in-Err-commit_revert-clause-saved_as : goal.returns-in-Err-commit_revert-clause-saved_as
 returns-in-Err-commit_revert-clause-saved_as g c =
@@ -109,12 +113,14 @@ invariant_of-self-2 g c =
     let s = c.self.inside in
     let a = s.file in let b = c.flush.new.file in let n = c.in_ok-copied.copied in
     let es = s.frames.entries in let fs = c.flush.new.frames.entries in let gs = c.mark_all.new.frames in
-    let handles = copied_handles facts a b n es fs c.flush.ensures.moves c.self.invariant.kept c.in_ok-copied.ensures.handles c.reveal_invariant.ensures.document.handles in
+    let handles = copied_handles facts a b n es fs c.flush.ensures.moves c.self.invariant.0.kept c.in_ok-copied.ensures.handles c.reveal_invariant.ensures.document.handles in
     let under = kept_for_none (facts b.disk.store).honest b.document n.document fs c.in_ok-copied.ensures.handles c.flush.ensures.moves.kept in
     let valid : IsTrue (facts n.disk.store).honest → IsValid (overlay gs.entries n.document) =
-    λ so. c.mark_all.ensures.valid n.document (subst IsValid c.in_ok-copied.ensures.made.updated (c.reveal_invariant-2.ensures.valid so).0) (c.mark_all.ensures.kept false n.document handles under) in
-    subst (λ (f : FileState g.row.S.Denot). AreBlocksOf facts f gs.entries gs.cap) (sym c.replace.ensures.after)
-    (record {
-      kept = c.mark_all.ensures.kept (facts n.disk.store).honest n.document handles under;
-      state = record { valid = valid; room = subst (λ k. 1 ≤ k) (sym (c.mark_all.ensures.cap ∙ c.flush.ensures.cap)) c.self.invariant.state.room };
-    })
+    λ so. c.mark_all.ensures.valid n.document (subst IsValid c.in_ok-copied.ensures.made.updated (c.reveal_invariant-2.ensures.valid so).0) (c.mark_all.ensures.kept false n.document handles under) in (
+      subst (λ (f : FileState g.row.S.Denot). AreBlocksOf facts f gs.entries gs.cap) (sym c.replace.ensures.after)
+          (record {
+            kept = c.mark_all.ensures.kept (facts n.disk.store).honest n.document handles under;
+            state = record { valid = valid; room = subst (λ k. 1 ≤ k) (sym (c.mark_all.ensures.cap ∙ c.flush.ensures.cap)) c.self.invariant.0.state.room };
+          }),
+      c.self.invariant.1 ∙ sym (ap locked_count (c.mark_all.ensures.residents ∙ c.flush.ensures.residents)),
+    )

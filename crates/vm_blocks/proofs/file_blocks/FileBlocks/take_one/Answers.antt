@@ -4,13 +4,13 @@ use Rattle.geos_model.specs.Document.{without_block}
 use Rattle.geos_model.specs.declared.handle.VmHandle.{VmHandle}
 use Rattle.lru.specs.LruCache.{LruCache}
 use Rattle.vm_file.specs.Disk.{FileState}
-use Rattle.vm_blocks.specs.Frames.{shown, AreFramesOf}
+use Rattle.vm_blocks.specs.Frames.{shown, AreFramesOf, residents}
 use Rattle.vm_blocks.specs.Sound.{IsValidState}
-use Rattle.vm_blocks.specs.State.{CacheState, KeepsLocks}
+use Rattle.vm_blocks.specs.State.{CacheState, KeepsLocks, locked_count, locks_of}
 use Rattle.vm_blocks.specs.declared.frame.Frame.{Frame}
 use Rattle.vm_blocks.proofs.Blocks.{kept_gone, shown_gone}
 use Rattle.vm_blocks.proofs.DocumentUnderFrames.{overlay_map}
-use Rattle.vm_blocks.proofs.Locks.{keeps_removed}
+use Rattle.vm_blocks.proofs.Locks.{keeps_removed, seats_apart}
 use Rattle.vm_blocks.proofs.StateValidity.{sound_taken}
 use Rattle.vm_blocks.proofs.file_blocks.FileBlocks.take_one.Goals as goal
 
@@ -30,12 +30,14 @@ invariant_of-self g c =
     let h = c.args.handle.0 in
     let distinct = c.len-count.ensures.valid.0 in
     let file = (c.put_blocks-removed.ensures.removals_alone refl).1 in
-    let is = shown_gone es d h distinct s.file c.put_blocks-removed.new.self s.frames.cap c.pop.new.self file c.pop.ensures.entries in
-    record {
-      kept = subst (λ (x : FileState g.row.S.Denot). AreFramesOf (facts x.disk.store).honest x.document c.pop.new.self.entries) (sym file)
-          (subst (λ (x : LruCache ℕ Frame). AreFramesOf (facts s.file.disk.store).honest (without_block d h) x.entries) (sym c.pop.ensures.entries) (kept_gone es d h distinct (facts s.file.disk.store).honest c.self.invariant.kept));
-      state = subst (IsValidState facts) (sym is) (sound_taken facts (shown s.file es s.frames.cap) h (λ same. c.requires.other (sym (ap (λ (s : CacheState g.row.S.Denot). s.document.map_block) c.self.view_is) ∙ same)) c.self.invariant.state);
-    }
+    let is = shown_gone es d h distinct s.file c.put_blocks-removed.new.self s.frames.cap c.pop.new.self file c.pop.ensures.entries in (
+      record {
+        kept = subst (λ (x : FileState g.row.S.Denot). AreFramesOf (facts x.disk.store).honest x.document c.pop.new.self.entries) (sym file)
+            (subst (λ (x : LruCache ℕ Frame). AreFramesOf (facts s.file.disk.store).honest (without_block d h) x.entries) (sym c.pop.ensures.entries) (kept_gone es d h distinct (facts s.file.disk.store).honest c.self.invariant.0.kept));
+        state = subst (IsValidState facts) (sym is) (sound_taken facts (shown s.file es s.frames.cap) h (λ same. c.requires.other (sym (ap (λ (s : CacheState g.row.S.Denot). s.document.map_block) c.self.view_is) ∙ same)) c.self.invariant.0.state);
+      },
+      c.self.invariant.1 ∙ sym (subst (λ (t : CacheState g.row.S.Denot). locked_count t.resident ≡ locked_count (residents es)) (sym is) (keeps_removed h (residents es) (seats_apart es distinct) (ap (λ (t : CacheState g.row.S.Denot). locks_of t.resident h) c.self.view_is ∙ c.requires.unlocked)).count),
+    )
 
 pub returns : goal.returns
 returns g c =

@@ -5,7 +5,7 @@ use Rattle.vm_file.specs.Effects.{IsCommit, Fails, IsWorn}
 use Rattle.vm_file.proofs.EffectsLemmas.{Fails-after, Fails-as}
 use Rattle.vm_file.proofs.ResultLemmas.{any_way}
 use Rattle.vm_blocks.specs.Frames.{overlay, with_frames}
-use Rattle.vm_blocks.specs.State.{CacheState, as_file}
+use Rattle.vm_blocks.specs.State.{CacheState, as_file, locked_count}
 use Rattle.vm_blocks.proofs.Commits.{kept_after, committed_under}
 use Rattle.vm_blocks.proofs.DocumentUnderFrames.{clean_overlay}
 use Rattle.vm_blocks.proofs.StateValidity.{blocks_drift, blocks_commit}
@@ -17,7 +17,7 @@ pub invariant_of-self : goal.invariant_of-self
 invariant_of-self g c =
     let s = c.self.inside in
     let new = c.begin_commit.new in
-    blocks_drift g.S.Store.facts s.file s.frames.entries s.frames.cap new.file new.frames.entries new.frames.cap c.self.invariant c.begin_commit.ensures.moves c.begin_commit.ensures.cap
+    (blocks_drift g.S.Store.facts s.file s.frames.entries s.frames.cap new.file new.frames.entries new.frames.cap c.self.invariant.0 c.begin_commit.ensures.moves c.begin_commit.ensures.cap, c.self.invariant.1 ∙ sym (ap locked_count c.begin_commit.ensures.residents))
 
 pub returns-in_err-begin_commit-clause-commit : goal.returns-in_err-begin_commit-clause-commit
 returns-in_err-begin_commit-clause-commit g c =
@@ -55,10 +55,12 @@ invariant_of-self-2 g c =
     let commit = c.commit_update.ensures.commit in
     let document : IsTrue (facts a.disk.store).honest → b.document ≡ overlay es a.document =
     λ so. sym (clean_overlay (facts b.disk.store).honest fs b.document (subst IsTrue (sym moves.passes.honest) so) moves.kept c.in_ok-begin_commit.ensures.ok.1.each) ∙ moves.unless_corrupt.same so in
-    let kept = kept_after facts b d fs commit.commits.honest (any_way c.commit_update.result _ commit.document) moves.kept in
-    blocks_commit facts a es c.self.inside.frames.cap d fs c.begin_commit.new.frames.cap (overlay es a.document, a.disk.saved) (overlay es a.document) c.commit_update.result c.self.invariant kept c.self.invariant.state.valid
-    (committed_under facts g.met.S.Store.timely a b d es fs (overlay es a.document, a.disk.saved) (b.document, b.disk.saved) c.commit_update.result moves
-    (λ so i. (document so i, moves.passes.saved so i)) c.in_ok-begin_commit.ensures.ok.0 commit) c.begin_commit.ensures.cap
+    let kept = kept_after facts b d fs commit.commits.honest (any_way c.commit_update.result _ commit.document) moves.kept in (
+      blocks_commit facts a es c.self.inside.frames.cap d fs c.begin_commit.new.frames.cap (overlay es a.document, a.disk.saved) (overlay es a.document) c.commit_update.result c.self.invariant.0 kept c.self.invariant.0.state.valid
+          (committed_under facts g.met.S.Store.timely a b d es fs (overlay es a.document, a.disk.saved) (b.document, b.disk.saved) c.commit_update.result moves
+          (λ so i. (document so i, moves.passes.saved so i)) c.in_ok-begin_commit.ensures.ok.0 commit) c.begin_commit.ensures.cap,
+      c.self.invariant.1 ∙ sym (ap locked_count c.begin_commit.ensures.residents),
+    )
 
 pub returns-clause-fails : goal.returns-clause-fails
 returns-clause-fails g c =

@@ -12,8 +12,8 @@ invariant_of-self-2 c =
     let old : List ℕ = c.self.inside.counts.items in
     let new : List ℕ = c.count_up.new.counts in
     let raised : AreCountsRaised e.page (end_page e) old new = raised_from e.page (end_page e) c.page_behind-end.result old c.make_room.new.counts.items c.deref_mut.result.now new c.make_room.ensures.same c.deref_mut.ensures.value c.page_behind-end.ensures c.count_up.ensures in
-    subst (λ (counts : List ℕ). IsSpaceSound counts c.self.inside.hints (c.self.inside.count + 1)) (sym (with_items_is c.make_room.new.counts new (c.count_up.auto.counts ∙ c.deref_mut.ensures.len)))
-    (sound-more old new c.self.inside.hints c.self.inside.count e c.self.invariant c.requires.behind_slots c.requires.in_range raised)
+    subst (λ (counts : List ℕ). IsSpaceSound counts c.self.inside.hints.items (c.self.inside.count + 1)) (sym (with_items_is c.make_room.new.counts new (c.count_up.auto.counts ∙ c.deref_mut.ensures.len)))
+    (sound-more old new c.self.inside.hints.items c.self.inside.count e c.self.invariant c.requires.behind_slots c.requires.in_range raised)
 
 pub returns-clause-held : goal.returns-clause-held
 returns-clause-held c = λ taken are.

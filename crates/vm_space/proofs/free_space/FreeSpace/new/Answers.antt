@@ -4,4 +4,6 @@ use Rattle.vm_space.proofs.SpaceLemmas.{sound-none}
 use Rattle.vm_space.proofs.free_space.FreeSpace.new.Goals as goal
 
 pub invariant_of-result : goal.invariant_of-result
-invariant_of-result c = subst (λ (counts : List ℕ). IsSpaceSound counts c.first_hints.result 0) (sym c.new.ensures.items) (subst (λ (hints : List ℕ). IsSpaceSound [] hints 0) (sym c.first_hints.ensures) sound-none)
+invariant_of-result c =
+    subst (λ (counts : List ℕ). IsSpaceSound counts c.in_ok-first_hints.field-0.items 0) (sym c.new.ensures.items)
+    (subst (λ (hints : List ℕ). IsSpaceSound [] hints 0) (sym c.in_ok-first_hints.ensures) sound-none)

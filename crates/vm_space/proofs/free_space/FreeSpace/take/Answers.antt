@@ -2,7 +2,7 @@ use Rattle.std.proofs.Common.{◌≡◌, ℕ, ◌+◌, ◌*◌, ◌<◌, ◌≤�
 use Rattle.geos_model.specs.File.{pages_of, end_page}
 use Rattle.geos_model.specs.declared.file.Extent.{Extent}
 use Rattle.vm_space.specs.declared.placing.TheConstants.{MOST_EXTENTS}
-use Rattle.vm_space.specs.Space.{Space, AreCountsRaised, AreTaken, IsFirstRun, IsHint, IsSpaceSound}
+use Rattle.vm_space.specs.Space.{Space, AreCountsRaised, AreTaken, IsFirstRun, IsHint, IsLargestHint, IsSpaceSound}
 use Rattle.vm_space.proofs.PlacingLemmas.{pages_few, pages_some}
 use Rattle.vm_space.proofs.SpaceLemmas.{found_from, hint_from, run_near, run_fits, taken-raised, sound-hinted}
 use Rattle.vm_space.proofs.free_space.FreeSpace.take.Goals.{After-first_run-page}
@@ -13,10 +13,12 @@ pages c = c.page_count-pages.ensures ∙ ap pages_of c.from.ensures
 
 -- where the search begins, what it finds, and that it lies near
 hint : (c : After-first_run-page) → IsHint c.self.inside.counts.items (pages_of c.args.len) c.largest_hint-from.result
-hint c = hint_from c.self.inside.counts.items c.self.inside.hints c.self.inside.count c.args.len c.page_count-pages.result c.largest_hint-from.result c.self.invariant c.requires.in_range (pages c) c.largest_hint-from.ensures
+hint c =
+    hint_from c.self.inside.counts.items c.self.inside.hints.items c.self.inside.count c.args.len c.page_count-pages.result c.largest_hint-from.result c.self.invariant c.requires.in_range (pages c)
+    (subst (λ (hints : List ℕ). IsLargestHint hints c.page_count-pages.result c.largest_hint-from.result) c.deref.ensures.value c.largest_hint-from.ensures)
 
 found : (c : After-first_run-page) → IsFirstRun c.self.inside.counts.items c.largest_hint-from.result (pages_of c.args.len) c.first_run-page.result
-found c = found_from c.self.inside.counts.items c.deref.result.now c.args.len c.largest_hint-from.result c.page_count-pages.result c.first_run-page.result c.deref.ensures.value (pages c) c.first_run-page.ensures
+found c = found_from c.self.inside.counts.items c.deref-2.result.now c.args.len c.largest_hint-from.result c.page_count-pages.result c.first_run-page.result c.deref-2.ensures.value (pages c) c.first_run-page.ensures
 
 few : (c : After-first_run-page) → c.self.inside.count < MOST_EXTENTS
 few c = subst (λ (s : Space). s.count < MOST_EXTENTS) (sym c.self.view_is) c.requires.few
@@ -27,10 +29,10 @@ near c = run_near c.self.invariant.taken c.self.inside.counts.items c.self.insid
 pub overflow_cast-page : goal.overflow_cast-page
 overflow_cast-page c = (let at = near (goal.at.overflow_cast-page c).After-first_run-page in let most = few (goal.at.overflow_cast-page c).After-first_run-page in omega (arith, at, most))
 
-pub overflow_add-self : goal.overflow_add-self
-overflow_add-self c =
-    let at = near (goal.at.overflow_add-self c).After-first_run-page in
-    let most = few (goal.at.overflow_add-self c).After-first_run-page in
+pub overflow_add-page : goal.overflow_add-page
+overflow_add-page c =
+    let at = near (goal.at.overflow_add-page c).After-first_run-page in
+    let most = few (goal.at.overflow_add-page c).After-first_run-page in
     let wanted = pages_few c.args.len c.requires.in_range in
     omega (arith, at, most, wanted, c.page_count-pages.ensures)
 
@@ -47,8 +49,8 @@ invariant_of-self c =
     let raised : AreCountsRaised page (end_page e) counts new = taken-raised taken e counts new c.self.inside.count c.self-2.inside.count c.self.invariant.are behind in
     let some = pages_some c.args.len c.requires.in_range in
     let wanted = pages_few c.args.len c.requires.in_range in
-    subst (λ (m : ℕ). IsSpaceSound new (set c.self-2.inside.hints m (page + m)) c.self-2.inside.count) (sym (pages (goal.at.invariant_of-self c).After-first_run-page))
-    (sound-hinted counts new c.self-2.inside.hints c.largest_hint-from.result n page c.self-2.inside.count c.self-2.invariant raised (hint (goal.at.invariant_of-self c).After-first_run-page) (found (goal.at.invariant_of-self c).After-first_run-page) some (omega (arith, wanted)))
+    subst (λ (m : ℕ). IsSpaceSound new (set c.self-2.inside.hints.items m (page + m)) c.self-2.inside.count) (sym (pages (goal.at.invariant_of-self c).After-first_run-page))
+    (sound-hinted counts new c.self-2.inside.hints.items c.largest_hint-from.result n page c.self-2.inside.count c.self-2.invariant raised (hint (goal.at.invariant_of-self c).After-first_run-page) (found (goal.at.invariant_of-self c).After-first_run-page) some (omega (arith, wanted)))
 
 pub returns-clause-placed : goal.returns-clause-placed
 returns-clause-placed c = λ taken are.

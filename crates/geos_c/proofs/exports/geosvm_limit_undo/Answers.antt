@@ -1,0 +1,10 @@
+use Rattle.std.proofs.Common.{◌≡◌, rules, to_z, of_z, w32}
+use Rattle.geos_c.specs.Calls.{LimitsUndo}
+use Rattle.geos_c.proofs.HandleCalls.{served}
+use Rattle.geos_c.proofs.exports.geosvm_limit_undo.Goals as goal
+
+pub returns-in-Some : goal.returns-in-Some
+returns-in-Some c =
+    let code : to_z w32 (of_z w32 c.limit_undo-code.result) ≡ c.limit_undo-code.result = search rules in
+    served _ _ _ _ _ _ _ c.in-Some.ensures.was_open c.deref_mut.ensures.value c.put.ensures code
+    (LimitsUndo c.args.most) c.limit_undo-code.ensures

@@ -1,0 +1,50 @@
+use Rattle.std.proofs.Common.{◌≡◌, ◌≤◌, ◌+◌, ◌-◌, ◌++◌, ℕ, List, length, reverse, take, drop, vec_len, sym, ap, subst, ◌∙◌, arith}
+use Rattle.std.proofs.lemmas.List.{with_items_is}
+use Rattle.undo_log.specs.Joining.{JoinsAt}
+use Rattle.undo_log.specs.Logging.{AreExclusive, Log, LogState, joined_log, open_changes}
+use Rattle.undo_log.specs.Marks.{AreMarksWithin}
+use Rattle.undo_log.specs.declared.entry.LogEntry.{LogEntry}
+use Rattle.undo_log.specs.declared.marks.Marks.{Marks}
+use Rattle.undo_log.proofs.LogViews.{joined_at, log_at, open_group}
+use Rattle.undo_log.proofs.MarkLemmas.{marks_joined}
+use Rattle.undo_log.proofs.Segments.{many_between}
+use Rattle.undo_log.proofs.log.UndoLog.join.Goals as goal
+
+pub returns : goal.returns
+returns c =
+    let dead = c.self.inside.dead in let done = c.self.inside.done in
+    let next = done - 1 in let at = done - 1 - 1 in
+    let old = c.self.inside.entries.items in let mid = c.join_at.new.entries in let new = c.remove-emptied.new.self.items in
+    let many : length mid ≡ vec_len c.self.inside.entries = omega (arith, c.join_at.auto.entries, c.as_mut_slice.ensures.len) in
+    let joins : JoinsAt at old mid = subst (λ (es : List LogEntry). JoinsAt at es mid) c.as_mut_slice.ensures.value c.in_ok-join_at.ensures in
+    let left : new ≡ take next mid ++ drop (next + 1) mid = c.remove-emptied.ensures.by_index.2 ∙ ap (λ (es : List LogEntry). take next es ++ drop (next + 1) es) (with_items_is c.self.inside.entries mid many) in
+    let two : 2 ≤ length (reverse (drop dead (take done old))) = subst (λ (l : LogState). 2 ≤ length l.lists.undo) (sym c.self.view_is) c.requires in
+    let inside : done ≤ length old = omega (arith, c.self.invariant.1) in
+    let count = many_between dead done old inside in
+    let some : dead + 2 ≤ done = omega (arith, two, count) in
+    ap (λ (m : Marks). log_at dead next new (open_group c.self.inside.group) m c.self.inside.limit) c.join_at-2.ensures
+    ∙ joined_at (open_group c.self.inside.group) c.self.inside.marks c.self.inside.limit dead at next done old mid new (omega (arith, some)) (omega (arith, some)) (omega (arith, some)) inside joins left
+    ∙ ap (λ (l : LogState). joined_log l.lists) c.self.view_is
+
+pub invariant_of-self-2 : goal.invariant_of-self-2
+invariant_of-self-2 c =
+    let dead = c.self.inside.dead in let done = c.self.inside.done in
+    let next = done - 1 in let at = done - 1 - 1 in
+    let old = c.self.inside.entries.items in let mid = c.join_at.new.entries in let new = c.remove-emptied.new.self.items in
+    let many : length mid ≡ vec_len c.self.inside.entries = omega (arith, c.join_at.auto.entries, c.as_mut_slice.ensures.len) in
+    let joins : JoinsAt at old mid = subst (λ (es : List LogEntry). JoinsAt at es mid) c.as_mut_slice.ensures.value c.in_ok-join_at.ensures in
+    let left : new ≡ take next mid ++ drop (next + 1) mid = c.remove-emptied.ensures.by_index.2 ∙ ap (λ (es : List LogEntry). take next es ++ drop (next + 1) es) (with_items_is c.self.inside.entries mid many) in
+    let two : 2 ≤ length (reverse (drop dead (take done old))) = subst (λ (l : LogState). 2 ≤ length l.lists.undo) (sym c.self.view_is) c.requires in
+    let inside : done ≤ length old = omega (arith, c.self.invariant.1) in
+    let count = many_between dead done old inside in
+    let some : dead + 2 ≤ done = omega (arith, two, count) in
+    let moved = joined_at (open_group c.self.inside.group) c.self.inside.marks c.self.inside.limit dead at next done old mid new (omega (arith, some)) (omega (arith, some)) (omega (arith, some)) inside joins left in
+    let fewer : vec_len c.remove-emptied.new.self + 1 ≡ vec_len c.self.inside.entries = c.remove-emptied.ensures.len in (
+      omega (arith, some),
+      omega (arith, some, fewer, c.self.invariant.1),
+      subst (AreMarksWithin dead (vec_len c.remove-emptied.new.self)) (sym c.join_at-2.ensures)
+          (marks_joined dead next (vec_len c.remove-emptied.new.self) c.self.inside.marks (omega (arith, some)) (omega (arith, some, fewer, c.self.invariant.1))
+          (subst (λ (n : ℕ). AreMarksWithin dead n c.self.inside.marks) (sym fewer) c.self.invariant.2)),
+      omega (arith, some, c.self.invariant.3, c.remove-emptied.ensures.capacity),
+      subst (λ (es : List LogEntry). AreExclusive (open_changes (open_group c.self.inside.group)) es) (sym (ap (λ (l : Log). l.redo) moved)) c.self.invariant.4,
+    )
