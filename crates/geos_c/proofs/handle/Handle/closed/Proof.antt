@@ -1,6 +1,6 @@
 -- `closed` moves what is owned from one form to the other.
 use Rattle.std.proofs.Common.{◌≡◌, List, [], ◌∷◌, ◌++◌, refl, sym, subst}
-use mathlib.Core.Bool.{false, true}
+use mathlib.Core.Bool.{true, false}
 use mir.Val.{Val}
 use base.Logic.{SProp, ent, emp, id⊢}
 use base.Fml.{ftrue}
