@@ -32,7 +32,7 @@ fi
 # check NAME: runs it.
 check() {
     case $1 in
-    embedding) OVER_CI=yes sh embedding/build.sh ;;
+    embedding) OVER_CI=yes sh embedding/build.sh $long ;;
     each_request) sh checks/each_request.sh "$geosvm" $requests ;;
     failing_calls) python3 checks/failing_calls.py "$geosvm" "$geosdoc" ;;
     dumped_documents) python3 checks/dumped_documents.py "$geosvm" "$geosdoc" $documents ;;

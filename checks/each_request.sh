@@ -174,7 +174,7 @@ each_of() {
 
 echo "-- each request: the replies to the first lines and the document that these lead to, or all but of the line that is refused"
 total=0
-for name in first_path chunk_edits arrays chains contents joined_steps locks small_document files_made; do
+for name in first_path chunk_edits arrays chains contents joined_steps places locks small_document files_made; do
     each_of "$data/$name" --new ""
 done
 "$geosvm" --new saved <"$data/files_made.script" >replies

@@ -19,6 +19,7 @@ EXAMPLES = [
     ["contents"],
     ["groups"],
     ["joined_steps"],
+    ["places"],
     ["locks"],
     ["files_made", "files_opened"],
     ["small_document"],

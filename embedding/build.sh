@@ -2,7 +2,8 @@
 # Needs: rt gcc g++ ar objcopy rustc python3 valgrind
 # Proves and builds the library, builds the examples, runs these in a folder of their own, and compares what they print with *.output
 # beside this script. By hand it can be run without the last two of these: with valgrind it also looks for leaks and bad accesses, and
-# with python3 it compares the prototypes of geosvm.h with the exports. `--keep` writes *.output.
+# with python3 it compares the prototypes of geosvm.h with the exports. `--keep` writes *.output. Behind them view_c is run once more, by
+# other chances and longer: 10,000 steps, and with `--long` 100,000.
 # KIT is the folder of the Rattle kit, found by `rt doc` where it isn't set. With OVER_CI set the library is built over those that the last
 # `rt ci` left, in some minutes; `rt lib` would prove all of these once more.
 set -e
@@ -15,6 +16,15 @@ work=$(mktemp -d)
 trap 'rm -rf "$work"' EXIT
 cd "$work"
 strict="-O2 -Wall -Wextra -Werror"
+keeps=
+steps=10000
+for word in "$@"; do
+    case $word in
+    --keep) keeps=yes ;;
+    --long) steps=100000 ;;
+    *) echo "usage: sh embedding/build.sh [--keep] [--long]" >&2; exit 2 ;;
+    esac
+done
 # The library's reads and writes go to channel.c, which hands them to the program; and a program that doesn't define the functions on
 # its files gets those of files.c.
 objcopy --redefine-sym read=geosvm_channel_read --redefine-sym write=geosvm_channel_write "$crate/out/libgeos_c.a" libgeosvm.a
@@ -24,12 +34,12 @@ ar rs libgeosvm.a channel.o files.o 2> /dev/null
 heap=$kit/c/liblibc_c.a
 gcc -std=c99 -pedantic $strict -fsyntax-only -x c "$here/geosvm.h"
 g++ -std=c++11 -pedantic $strict -fsyntax-only -x c++ "$here/geosvm.h"
-for name in try container misuse; do gcc -std=c11 $strict "$here/$name.c" libgeosvm.a "$heap" -lpthread -o ${name}_c; done
+for name in try container misuse view; do gcc -std=c11 $strict "$here/$name.c" libgeosvm.a "$heap" -lpthread -o ${name}_c; done
 rustc --edition 2024 -O "$here/try.rs" -C link-arg=libgeosvm.a -C link-arg="$heap" -o try_rs
-for name in try_c try_rs container_c misuse_c; do
+for name in try_c try_rs container_c misuse_c view_c; do
     rm -f ./*.document
     ./$name > $name.output
-    if [ "$1" = --keep ]; then cp $name.output "$here/"; fi
+    if [ "$keeps" ]; then cp $name.output "$here/"; fi
     diff "$here/$name.output" $name.output
     echo "$name: as before"
     if command -v valgrind > /dev/null; then
@@ -39,5 +49,11 @@ for name in try_c try_rs container_c misuse_c; do
         echo "$name: as before, by valgrind"
     fi
 done
+rm -f ./*.document
+if ! ./view_c $steps 2 > view_c.output; then
+    cat view_c.output
+    exit 1
+fi
+echo "view_c: $(tail -n 1 view_c.output), in $steps steps"
 mkdir -p "$here/out"
 cp libgeosvm.a "$here/out/"

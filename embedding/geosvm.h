@@ -131,8 +131,9 @@ int32_t geosvm_close(geosvm_session *s);
 ** Carries out one command of docs/SCRIPT.md, without a line feed, and puts its reply line into the buffer, with a line feed and no
 ** zero behind it. *length becomes how many bytes that line has; none for a blank line or a note. The code is GEOSVM_OK also where
 ** the reply is a refusal, which begins with "no ". GEOSVM_CUT_OFF where the line doesn't fit: the command was carried out all the
-** same, and as much of the line as fits is there. No line has more than GEOSVM_REPLY_MOST bytes. GEOSVM_UNTOLD where there was no
-** memory for the command or for the text of its reply: it may have been carried out.
+** same, and as much of the line as fits is there. No line has more than GEOSVM_REPLY_MOST bytes, but for one that tells the places of
+** many edits, for which geosvm_touched and its like have a window. GEOSVM_UNTOLD where there was no memory for the command or for the
+** text of its reply: it may have been carried out, so who keeps a copy of the document has to look at all of it.
 */
 #define GEOSVM_REPLY_MOST 131072
 int32_t geosvm_command(geosvm_session *s, const uint8_t *line, size_t size, uint8_t *reply, size_t room, size_t *length);
@@ -142,10 +143,12 @@ int32_t geosvm_command(geosvm_session *s, const uint8_t *line, size_t size, uint
 **
 ** geosvm_undo takes back the newest step, an edit or a group of edits, and geosvm_redo makes it again.
 **
-** geosvm_join makes the newest two steps to be undone one, as letters that are typed are a word; GEOSVM_NOTHING_TO_UNDO where there are
-** fewer than two, GEOSVM_GROUP_OPEN, or GEOSVM_MEMORY. geosvm_forget keeps the newest `most` of them, and gives the memory of the others
-** back. geosvm_limit_undo has that done behind each step that comes, from 1 on; with 0 all are kept, as in a session that has just begun.
-** What can be redone stays in each case. The last two are never refused, and none of the three calls a function on files.
+** geosvm_join makes the newest two steps to be undone one, as letters that are typed are a word; GEOSVM_NOTHING_TO_UNDO
+** where there are fewer than two, GEOSVM_GROUP_OPEN, or GEOSVM_MEMORY. geosvm_forget keeps the newest `most` of them,
+** and gives the memory of the others back, but for the changes of which geosvm_touched still tells: after 0 those of the
+** newest step, as those of an abandoned group, until the next edit, undo, redo, abandon or revert. geosvm_limit_undo has that done
+** behind each step that comes, from 1 on; with 0 all are kept, as in a session that has just begun. What can be redone
+** stays in each case. The last two are never refused, and none of the three calls a function on files.
 */
 int32_t geosvm_undo(geosvm_session *s);
 int32_t geosvm_redo(geosvm_session *s);
@@ -223,8 +226,8 @@ int32_t geosvm_locked_raw(geosvm_session *s, uint16_t block, const uint8_t **byt
 ** CAPI: Edits of blocks
 **
 ** geosvm_newraw makes a raw block of `size` zeros, geosvm_newheap a block with an empty heap, geosvm_vcopy a block like another one.
-** geosvm_vwrite writes over the bytes of a raw block from `at` on, and geosvm_attach puts these in their place. geosvm_map makes a block
-** the map block; 0 leaves none.
+** geosvm_vwrite writes over the bytes of a raw block from `at` on, geosvm_vsplice puts these in the place of `count` from there on, and
+** geosvm_attach in the place of all. geosvm_map makes a block the map block; 0 leaves none.
 */
 int32_t geosvm_newraw(geosvm_session *s, uint16_t user_id, uint32_t size, uint16_t *block); /* TOO_BIG, NO_HANDLES */
 int32_t geosvm_newheap(geosvm_session *s, uint16_t user_id, uint16_t *block);               /* NO_HANDLES */
@@ -232,6 +235,8 @@ int32_t geosvm_vfree(geosvm_session *s, uint16_t block);                        
 int32_t geosvm_vcopy(geosvm_session *s, uint16_t block, uint16_t *copy);                    /* NO_BLOCK, NO_HANDLES */
 int32_t geosvm_vwrite(geosvm_session *s, uint16_t block, uint32_t at, const uint8_t *bytes,
                       size_t size);                                                         /* NO_BLOCK, WRONG_KIND, RANGE */
+int32_t geosvm_vsplice(geosvm_session *s, uint16_t block, uint32_t at, uint32_t count, const uint8_t *bytes,
+                       size_t size);                                              /* NO_BLOCK, WRONG_KIND, RANGE, TOO_BIG */
 int32_t geosvm_attach(geosvm_session *s, uint16_t block, const uint8_t *bytes, size_t size); /* NO_BLOCK, WRONG_KIND, TOO_BIG */
 int32_t geosvm_uid(geosvm_session *s, uint16_t block, uint16_t user_id);                    /* NO_BLOCK */
 int32_t geosvm_settype(geosvm_session *s, uint16_t block, uint16_t heap_type);              /* NO_BLOCK, WRONG_KIND */
@@ -241,8 +246,9 @@ int32_t geosvm_map(geosvm_session *s, uint16_t block);                          
 ** CAPI: Edits of chunks
 **
 ** geosvm_alloc makes a chunk of `size` zeros. geosvm_resize cuts it at its end, or adds zeros there; geosvm_insert puts `size` zeros in
-** before the byte at `at`, geosvm_delete takes `size` bytes out from there on, and geosvm_write writes over those from there on. Each is
-** NO_BLOCK, WRONG_KIND, NO_CHUNK, and then what stands there; geosvm_alloc names no chunk.
+** before the byte at `at`, geosvm_delete takes `size` bytes out from there on, geosvm_write writes over those from there on, and
+** geosvm_splice puts these in the place of `count` from there on. Each is NO_BLOCK, WRONG_KIND, NO_CHUNK, and then what stands there;
+** geosvm_alloc names no chunk.
 */
 int32_t geosvm_alloc(geosvm_session *s, uint16_t block, uint32_t size, uint16_t *chunk);            /* FULL */
 int32_t geosvm_free(geosvm_session *s, uint16_t block, uint16_t chunk);
@@ -251,6 +257,8 @@ int32_t geosvm_insert(geosvm_session *s, uint16_t block, uint16_t chunk, uint32_
 int32_t geosvm_delete(geosvm_session *s, uint16_t block, uint16_t chunk, uint32_t at, uint32_t size); /* RANGE */
 int32_t geosvm_write(geosvm_session *s, uint16_t block, uint16_t chunk, uint32_t at, const uint8_t *bytes,
                      size_t size);                                                                  /* RANGE */
+int32_t geosvm_splice(geosvm_session *s, uint16_t block, uint16_t chunk, uint32_t at, uint32_t count, const uint8_t *bytes,
+                      size_t size);                                                                 /* RANGE, FULL */
 
 /*
 ** CAPI: Edits of chunk arrays
@@ -290,14 +298,16 @@ int32_t geosvm_echange(geosvm_session *s, uint16_t block, uint16_t chunk, uint16
 ** CAPI: Edits of name arrays
 **
 ** geosvm_ncreate makes a chunk with a name array of parts of `size` bytes. geosvm_nadd gives a name that is there one more reference, and
-** this part where `sets`, or makes it with this part. geosvm_nname gives a token another name, and geosvm_nunref takes a reference, and
-** frees the name with the last one. Refused as edits of chunk arrays are.
+** this part where `sets`, or makes it with this part. geosvm_nname gives a token another name, geosvm_nset the name of a token this part,
+** and geosvm_nunref takes a reference, and frees the name with the last one. Refused as edits of chunk arrays are.
 */
 int32_t geosvm_ncreate(geosvm_session *s, uint16_t block, uint32_t size, uint16_t *chunk);          /* RANGE */
 int32_t geosvm_nadd(geosvm_session *s, uint16_t block, uint16_t chunk, const uint8_t *name, size_t size, const uint8_t *part,
                     size_t part_size, bool sets, uint16_t *token);                                  /* COUNT_FULL, RANGE */
 int32_t geosvm_nname(geosvm_session *s, uint16_t block, uint16_t chunk, uint16_t token, const uint8_t *name,
                      size_t size);                                                                  /* NO_ELEMENT, NAME_IN_USE, RANGE */
+int32_t geosvm_nset(geosvm_session *s, uint16_t block, uint16_t chunk, uint16_t token, const uint8_t *part,
+                    size_t part_size);                                                              /* NO_ELEMENT, RANGE */
 int32_t geosvm_nunref(geosvm_session *s, uint16_t block, uint16_t chunk, uint16_t token);           /* NO_ELEMENT */
 
 /*
@@ -391,6 +401,50 @@ int32_t geosvm_chequal(geosvm_session *s, uint16_t block, uint16_t other, uint8_
 int32_t geosvm_undos(geosvm_session *s, size_t *count);
 int32_t geosvm_redos(geosvm_session *s, size_t *count);
 int32_t geosvm_modified(geosvm_session *s, size_t *modified);
+
+/*
+** CAPI: Places
+**
+** Where the document was changed, for a program that shows it, or keeps a copy of it: that looks again at the places that are told, and at
+** nothing else, and has the document. embedding/view.c does so.
+**
+** geosvm_touched tells where the last accepted edit, undo, redo, abandon or revert changed the document. It is to be
+** asked after each of these, before the next one, and gone by once: after any other call, geosvm_end and geosvm_join
+** too, the answer is still the old one, so of a group's last edit alone. The other three tell where an undo, a redo and
+** an abandon would change it, as geosvm_touched does after that.
+**
+** Where geosvm_touched is GEOSVM_MEMORY, ask again before the next edit, or look at the whole document. That is to be
+** looked at after a geosvm_command that was GEOSVM_UNTOLD too: nothing says whether the answer is a new one.
+**
+** Places are told in order, a later one in the coordinates after the earlier ones, so that what is to be looked at again is moved by later
+** runs of the same bytes: the document is looked at when all have been told. A run in what is to be looked at anew as a whole says nothing
+** more.
+**
+** The places from number `first` on, the first one being 0, are put into a buffer with room for `room` of them; none,
+** where there are no more. *count becomes how many there are in all; GEOSVM_CUT_OFF where not all of those from `first`
+** on fit. Each call makes all of them anew, in the time and the memory of all. So ask with the room that there is, or
+** with none, and where it is cut off make room for *count of them, and ask once more: a few at a time would take the
+** square of that time. None calls a function on files; any may be GEOSVM_MEMORY.
+*/
+enum {
+  GEOSVM_PLACE_ALL        = 0, /* the whole document */
+  GEOSVM_PLACE_MAP_BLOCK  = 1, /* which block is the map block */
+  GEOSVM_PLACE_ATTRIBUTES = 2, /* the user ID or the type of `block` */
+  GEOSVM_PLACE_BLOCK      = 3, /* `block`, which came or went, or is another one now */
+  GEOSVM_PLACE_CHUNK      = 4, /* `chunk` of `block`, likewise */
+  GEOSVM_PLACE_RUN        = 5  /* bytes of `chunk` or, where that is 0, of the raw block: from `at` on `after` are in the place of `before` */
+};
+typedef struct geosvm_place {
+  uint8_t kind;
+  uint16_t block, chunk;      /* 0 where the kind has no use for them, as for what comes next */
+  uint32_t at, before, after;
+} geosvm_place;
+int32_t geosvm_touched(geosvm_session *s, size_t first, geosvm_place *places, size_t room, size_t *count);
+int32_t geosvm_undo_places(geosvm_session *s, size_t first, geosvm_place *places, size_t room,
+                           size_t *count);                                                          /* GROUP_OPEN, NOTHING_TO_UNDO */
+int32_t geosvm_redo_places(geosvm_session *s, size_t first, geosvm_place *places, size_t room,
+                           size_t *count);                                                          /* GROUP_OPEN, NOTHING_TO_REDO */
+int32_t geosvm_abandon_places(geosvm_session *s, size_t first, geosvm_place *places, size_t room, size_t *count); /* NO_GROUP */
 
 /*
 ** CAPI: Files of the program's own

@@ -1,4 +1,5 @@
-"""Compares the prototypes of geosvm.h with the exports of crates/geos_c: the same names, and the same parameters in the same order.
+"""Compares the prototypes of geosvm.h with the exports of crates/geos_c: the same names, and the same parameters in the same order; and
+the struct of a place, which calls are passed: the same fields of the same types in the same order.
 No proof reads C, and a program that is compiled by a wrong prototype links all the same. Run it anywhere; build.sh does."""
 import re
 import sys
@@ -8,10 +9,11 @@ HERE = Path(__file__).resolve().parent
 # What C passes for a parameter. A slice is a pointer and a size, whose name is C's own; the allocator is nothing.
 IN_C = {
     "&mut Handle": ["geosvm_session *"], "Global": [], "bool": ["bool"], "i32": ["int32_t"],
-    "u16": ["uint16_t"], "u32": ["uint32_t"], "usize": ["size_t"],
+    "u8": ["uint8_t"], "u16": ["uint16_t"], "u32": ["uint32_t"], "usize": ["size_t"],
     "&mut u8": ["uint8_t *"], "&mut u16": ["uint16_t *"], "&mut u32": ["uint32_t *"], "&mut usize": ["size_t *"],
     "&mut *const u8": ["const uint8_t **"],
     "&[u8]": ["const uint8_t *", "size_t"], "&mut [u8]": ["uint8_t *", "size_t"], "&mut [u16]": ["uint16_t *", "size_t"],
+    "&mut [ToldPlace]": ["geosvm_place *", "size_t"],
 }
 
 
@@ -33,14 +35,29 @@ def exported(source):
     return exports
 
 
+def struct_in_c(header):
+    """The fields of geosvm_place, as pairs of a type and a name."""
+    body = re.search(r"typedef struct geosvm_place \{(.*?)\}", re.sub(r"/\*.*?\*/", "", header, flags=re.S), flags=re.S)[1]
+    lines = [line.split(None, 1) for line in body.split(";") if line.strip()]
+    return [(kind, name.strip()) for kind, names in lines for name in names.split(",")]
+
+
+def struct_in_rattle(source):
+    body = re.search(r"#\[repr\(C\)\][^{]*pub struct ToldPlace \{(.*?)\}", source, flags=re.S)[1]
+    return [(IN_C[kind][0], name) for name, kind in re.findall(r"pub (\w+): (\w+),", body)]
+
+
 def agree(in_c, in_rattle):
     def same(a, b):
         return a[0].split() == b[0].split() and b[1] in (None, "handle", a[1])
     return len(in_c) == len(in_rattle) and all(map(same, in_c, in_rattle))
 
 
-c = declared((HERE / "geosvm.h").read_text())
-rattle = exported("".join(p.read_text() for p in sorted((HERE / "../crates/geos_c/src").glob("**/*.rt"))))
+header = (HERE / "geosvm.h").read_text()
+source = "".join(p.read_text() for p in sorted((HERE / "../crates/geos_c/src").glob("**/*.rt")))
+c, rattle = declared(header), exported(source)
 wrong = sorted(name for name in c.keys() | rattle.keys() if name not in c or name not in rattle or not agree(c[name], rattle[name]))
+if struct_in_c(header) != struct_in_rattle(source):
+    wrong.append("geosvm_place")
 print(f"prototypes: {len(c)}, " + (f"wrong: {' '.join(wrong)}" if wrong else "as exported"))
 sys.exit(1 if wrong else 0)

@@ -392,6 +392,92 @@ static void steps(void) {
   close(fd);
 }
 
+static void show_places(const geosvm_place *places, size_t room, size_t first, size_t count) {
+  static const char *const kinds[] = {"all", "map", "attributes", "block", "chunk", "run"};
+  printf("  gives %zu:", count);
+  for (size_t i = 0; i < room && first + i < count; i++) {
+    const geosvm_place *p = &places[i];
+    printf(" %s %04x %04x %u %u %u;", kinds[p->kind], p->block, p->chunk, p->at, p->before, p->after);
+  }
+  puts("");
+}
+#define PLACES(call) (TELL(call), show_places(told, 4, 0, n))
+
+/* Where edits, undos, groups and a revert change the document, and where an undo, a redo and an abandon would. */
+static void places(void) {
+  geosvm_session s = GEOSVM_CLOSED, closed = GEOSVM_CLOSED;
+  geosvm_place told[4];
+  uint8_t bytes[16];
+  int fd = file("places.document");
+  uint16_t block = 77, chunk = 77, token = 77;
+  size_t n = 77;
+  puts("-- places");
+  TELL(geosvm_create(&s, fd, 8));
+  PLACES(geosvm_touched(&s, 0, told, 4, &n));
+  PLACES(geosvm_undo_places(&s, 0, told, 4, &n));
+  GIVES(geosvm_newheap(&s, 7, &block), block);
+  PLACES(geosvm_touched(&s, 0, told, 4, &n));
+  GIVES(geosvm_alloc(&s, 1, 9, &chunk), chunk);
+  PLACES(geosvm_touched(&s, 0, told, 4, &n));
+  TELL(geosvm_splice(&s, 1, 16, 2, 3, TEXT("abcde")));
+  PLACES(geosvm_touched(&s, 0, told, 4, &n));
+  TELL(geosvm_read(&s, 1, 16, bytes, sizeof bytes, &n));
+  show_bytes(bytes, n);
+  TELL(geosvm_splice(&s, 1, 16, 9, 3, TEXT("xyz")));
+  PLACES(geosvm_touched(&s, 0, told, 4, &n));
+  PLACES(geosvm_undo_places(&s, 0, told, 4, &n));
+  TELL(geosvm_undo(&s));
+  PLACES(geosvm_touched(&s, 0, told, 4, &n));
+  PLACES(geosvm_redo_places(&s, 0, told, 4, &n));
+  GIVES(geosvm_newraw(&s, 9, 4, &block), block);
+  TELL(geosvm_vsplice(&s, 2, 1, 2, TEXT("x")));
+  PLACES(geosvm_touched(&s, 0, told, 4, &n));
+  TELL(geosvm_vread(&s, 2, bytes, sizeof bytes, &n));
+  show_bytes(bytes, n);
+  TELL(geosvm_vsplice(&s, 2, 4, 0, TEXT("x")));
+  TELL(geosvm_uid(&s, 2, 5));
+  PLACES(geosvm_touched(&s, 0, told, 4, &n));
+  TELL(geosvm_map(&s, 2));
+  PLACES(geosvm_touched(&s, 0, told, 4, &n));
+  GIVES(geosvm_ncreate(&s, 1, 1, &chunk), chunk);
+  GIVES(geosvm_nadd(&s, 1, chunk, TEXT("left"), TEXT("\1"), false, &token), token);
+  PLACES(geosvm_touched(&s, 0, told, 4, &n));
+  TELL(geosvm_nset(&s, 1, chunk, token, TEXT("\2")));
+  PLACES(geosvm_touched(&s, 0, told, 4, &n));
+  TELL(geosvm_ndata(&s, 1, chunk, token, bytes, sizeof bytes, &n));
+  show_bytes(bytes, n);
+  TELL(geosvm_nset(&s, 1, chunk, 5, TEXT("\2")));
+  TELL(geosvm_nset(&s, 1, chunk, token, TEXT("\2\3")));
+  PLACES(geosvm_abandon_places(&s, 0, told, 4, &n));
+  TELL(geosvm_begin(&s));
+  for (uint32_t i = 0; i < 6; i++) TELL(geosvm_insert(&s, 1, 16, i, 1));
+  PLACES(geosvm_undo_places(&s, 0, told, 4, &n));
+  TELL(geosvm_end(&s));
+  PLACES(geosvm_touched(&s, 0, told, 4, &n));
+  for (size_t first = 0; first < 9; first += 4) {
+    printf("from %zu on: ", first);
+    TELL(geosvm_undo_places(&s, first, told, 4, &n));
+    show_places(told, 4, first, n);
+  }
+  TELL(geosvm_undo_places(&s, 6, told, 0, &n));
+  TELL(geosvm_undo_places(&s, 5, told, 0, &n));
+  told[0].kind = 77;
+  TELL(geosvm_undo_places(&s, 7, told, 4, &n));
+  TELL(geosvm_undo_places(&s, SIZE_MAX, told, 4, &n));
+  printf("  gives %zu, and puts %s\n", n, told[0].kind == 77 ? "none" : "some");
+  TELL(geosvm_begin(&s));
+  TELL(geosvm_resize(&s, 1, 16, 4));
+  PLACES(geosvm_abandon_places(&s, 0, told, 4, &n));
+  TELL(geosvm_abandon(&s));
+  PLACES(geosvm_touched(&s, 0, told, 4, &n));
+  TELL(geosvm_save(&s));
+  TELL(geosvm_revert(&s));
+  PLACES(geosvm_touched(&s, 0, told, 4, &n));
+  TELL(geosvm_close(&s));
+  PLACES(geosvm_touched(&closed, 0, told, 4, &n));
+  close(fd);
+}
+
 /* The longest reply is that of a whole raw block. */
 static void longest(geosvm_session *s) {
   static uint8_t reply[GEOSVM_REPLY_MOST];
@@ -454,6 +540,7 @@ int main(void) {
   named_arrays(&s);
   named_chains(&s);
   steps();
+  places();
   pthread_t thread[4];
   long bad = 0;
   void *result;

@@ -6,3 +6,4 @@ pub mod ReplacingLemmas
 pub mod CutLemmas
 pub mod PartsLemmas
 pub mod PlaceLemmas
+pub mod RunsLemmas

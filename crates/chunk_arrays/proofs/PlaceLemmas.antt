@@ -22,10 +22,10 @@ length-parts : (xs : List (List ℕ)) (k : ℕ) → length (joined (take k xs)) 
 length-parts xs k = sym (length-append (joined (take k xs)) (joined (drop k xs))) ∙ ap length (joined_parts xs k)
 
 -- what lies before the elements
-abbrev front_of : Array → List ℕ
+abbrev pub front_of : Array → List ℕ
 front_of a = head_of a ++ a.extra ++ table_of a
 
-length-front : (a : Array) → length (front_of a) ≡ elements_start a
+pub length-front : (a : Array) → length (front_of a) ≡ elements_start a
 length-front a =
     let parts = length-append a.extra (table_of a) in
     elim (cases_Bool (a.size == 0)) [
@@ -39,7 +39,7 @@ length-front a =
           omega (arith, parts, table, is)
     ]
 
-bytes-front : (a : Array) → array_bytes a ≡ front_of a ++ joined a.elements
+pub bytes-front : (a : Array) → array_bytes a ≡ front_of a ++ joined a.elements
 bytes-front a = array_bytes-spelled a ∙ ap (λ (l : List ℕ). head_of a ++ l) (sym (append_assoc a.extra (table_of a) (joined a.elements)))
 
 -- the bytes from an element on

@@ -1,6 +1,6 @@
 -- Which refusal of an edit of an array is the first, and what a patch of the whole array leads to.
 use Rattle.std.proofs.Common.{◌≡◌, ℕ, ◌+◌, ◌<◌, ◌≤◌, List, [], ◌∷◌, ◌++◌, length, Some, None, Ok, Err, Result, MatchResult, Bool, inl, inr, nat_lt, true, false, refl, sym, ap, ap₂, subst, ◌∙◌, arith, lt-ltb, le-ltb, not, ◌||◌, ◌==◌, nat_le}
-use Rattle.std.proofs.lemmas.Bool.{lt-leb}
+use Rattle.std.proofs.lemmas.Bool.{lt-leb, cases_lt}
 use Rattle.std.proofs.lemmas.List.{drop_all}
 use Rattle.std.specs.Option.{unwrap_or, is_none}
 use Rattle.geos_model.specs.Refusal.{Conditions, first_refusal}
@@ -8,8 +8,10 @@ use Rattle.geos_model.specs.Array.{Array, array_of, array_bytes}
 use Rattle.geos_model.specs.ArrayEdits.{too_long, array_in, new_array, with_elements, array_zeroed, on_array, insert_conditions, set_conditions, resize_conditions, delete_conditions, is_missized}
 use Rattle.geos_model.specs.declared.fault.Fault.{Fault}
 use Rattle.geos_model.specs.declared.fault.Fault.TheVariants.{Full, NotArray, NoElement, Range}
-use Rattle.chunk_edits.specs.Patching.{PatchPiece, PatchLeads, BuildsPatch}
-use Rattle.chunk_edits.specs.Splicing.{RefusesToBuild}
+use Rattle.chunk_edits.specs.Patching.{PatchLeads}
+use Rattle.chunk_edits.specs.Runs.{AreRuns}
+use Rattle.chunk_edits.specs.declared.runs.ArrayPatch.{ArrayPatch}
+use Rattle.chunk_arrays.specs.Replacing.{ReplacesAt, RefusesToReplace}
 use Rattle.geos_model.proofs.Arrays.{array_bytes-of}
 
 pub refused-long : (bytes : List ℕ) → 65498 < length bytes → first_refusal (too_long bytes) ≡ Some Full
@@ -17,6 +19,12 @@ refused-long bytes long = let so : nat_lt 65498 (length bytes) ≡ true = lt-ltb
 
 pub accepted-short : (bytes : List ℕ) → length bytes ≤ 65498 → first_refusal (too_long bytes) ≡ None
 accepted-short bytes short = let so : nat_lt 65498 (length bytes) ≡ false = le-ltb 65498 (length bytes) short in rw so refl
+
+pub short-accepted : (bytes : List ℕ) → first_refusal (too_long bytes) ≡ None → length bytes ≤ 65498
+short-accepted bytes accepted = elim (cases_lt 65498 (length bytes)) [
+  | inl long ↦ (let odd : None ≡ Some Full = sym accepted ∙ refused-long bytes long in absurd (cc))
+  | inr short ↦ short
+]
 
 -- the array in bytes that are one
 pub array_in-is : (bytes : List ℕ) (a : Array) → array_of bytes ≡ Some a → array_in bytes ≡ a
@@ -67,17 +75,19 @@ pub zero_decides : (bytes : List ℕ) (a : Array) (to : List ℕ) → array_of b
 zero_decides bytes a to is = ap (λ (x : Bool). first_refusal ((NotArray, x) ∷ too_long to)) (is_array bytes a is)
 
 -- what a rewritten array is answered by, where only its length decides
-pub handed_on : (r : Result (List PatchPiece) Fault) (conditions : Conditions) (from from′ to to′ : List ℕ) → first_refusal conditions ≡ first_refusal (too_long to) → from′ ≡ from → to′ ≡ to
-    → MatchResult r (λ p. BuildsPatch (too_long to′) p from′ to′) (RefusesToBuild (too_long to′))
-    → MatchResult r (λ p. BuildsPatch conditions p from to) (RefusesToBuild conditions)
-handed_on (Ok p) conditions from from′ to to′ decides from_is to_is built = record {
-  accepted = decides ∙ ap (λ (l : List ℕ). first_refusal (too_long l)) (sym to_is) ∙ built.accepted;
-  leads = subst (λ (l : List ℕ). PatchLeads p l to) from_is (subst (λ (l : List ℕ). PatchLeads p from′ l) to_is built.leads);
-}
-handed_on (Err fault) conditions from from′ to to′ decides from_is to_is refused = elim refused [
-  | inl memory ↦ inl memory
-  | inr first ↦ inr (decides ∙ ap (λ (l : List ℕ). first_refusal (too_long l)) (sym to_is) ∙ first)
-]
+module _ (own : Conditions) (old old′ new new′ : List ℕ) (from to others : ℕ) (decides : first_refusal (own ++ too_long new) ≡ first_refusal (too_long new)) (old_is : old′ ≡ old) (new_is : new′ ≡ new) where
+  pub handed_on : (r : Result ArrayPatch Fault) → MatchResult r (ReplacesAt [] old′ new′ from to others) (RefusesToReplace [] new′) → MatchResult r (ReplacesAt own old new from to others) (RefusesToReplace own new)
+  handed_on (Ok p) made = record {
+    replaces = record {
+      accepted = decides ∙ ap (λ (l : List ℕ). first_refusal (too_long l)) (sym new_is) ∙ made.replaces.accepted;
+      leads = subst (λ (l : List ℕ). PatchLeads p.patch l new) old_is (subst (λ (l : List ℕ). PatchLeads p.patch old′ l) new_is made.replaces.leads);
+    };
+    runs = subst (λ (l : List ℕ). length l < 65536 → AreRuns l new from to others p.runs) old_is (subst (λ (l : List ℕ). length old′ < 65536 → AreRuns old′ l from to others p.runs) new_is made.runs);
+  }
+  handed_on (Err fault) refused = elim refused [
+    | inl memory ↦ inl memory
+    | inr first ↦ inr (decides ∙ ap (λ (l : List ℕ). first_refusal (too_long l)) (sym new_is) ∙ first)
+  ]
 
 -- the bytes that a rewriting makes are those that an edit means
 made : (bytes : List ℕ) (a : Array) (from to : ℕ) (xs ys : List (List ℕ)) → array_of bytes ≡ Some a → xs ≡ ys
@@ -93,11 +103,11 @@ module _ (bytes : List ℕ) (a : Array) (from to : ℕ) (xs ys : List (List ℕ)
   abbrev rewritten : List ℕ
   rewritten = array_bytes (with_elements a from to xs)
 
-  pub elements_handed_on : (r : Result (List PatchPiece) Fault) → first_refusal (own ++ too_long meant) ≡ first_refusal (too_long meant)
-      → MatchResult r (λ p. BuildsPatch (too_long rewritten) p (array_bytes a) rewritten) (RefusesToBuild (too_long rewritten))
-      → MatchResult r (λ p. BuildsPatch (own ++ too_long meant) p bytes meant) (RefusesToBuild (own ++ too_long meant))
-  elements_handed_on r decides =
-      handed_on r (own ++ too_long meant) bytes (array_bytes a) meant rewritten decides (array_bytes-of bytes a is).1 (made bytes a from to xs ys is xs_is)
+  pub elements_handed_on : (r : Result ArrayPatch Fault) (others : ℕ) → first_refusal (own ++ too_long meant) ≡ first_refusal (too_long meant)
+      → MatchResult r (ReplacesAt [] (array_bytes a) rewritten from to others) (RefusesToReplace [] rewritten)
+      → MatchResult r (ReplacesAt own bytes meant from to others) (RefusesToReplace own meant)
+  elements_handed_on r others decides =
+      handed_on own bytes (array_bytes a) meant rewritten from to others decides (array_bytes-of bytes a is).1 (made bytes a from to xs ys is xs_is) r
 
 pub made-zeroed : (bytes : List ℕ) (a : Array) (count : ℕ) → array_of bytes ≡ Some a → count ≡ length a.elements
     → array_bytes (with_elements a 0 count []) ≡ array_zeroed bytes

@@ -1,5 +1,5 @@
 -- The elements, the header and all bytes of an array, as a patch rewrites them a part at a time.
-use Rattle.std.proofs.Common.{◌≡◌, ◌⊎◌, ℕ, ◌+◌, ◌-◌, ◌≤◌, ◌==◌, List, [], ◌++◌, length, take, drop, max, inl, inr, subst, sym, ap, ap₂, refl, ◌∙◌, arith, length-append, length-drop, length-take-le, append_assoc, take-append-drop, take_at}
+use Rattle.std.proofs.Common.{◌≡◌, ◌⊎◌, ℕ, ◌+◌, ◌-◌, ◌≤◌, ◌==◌, List, [], ◌++◌, Option, Some, None, IsSome, length, take, drop, max, inl, inr, subst, sym, ap, ap₂, refl, ◌∙◌, arith, length-append, length-drop, length-take-le, append_assoc, take-append-drop, take_at}
 use Rattle.std.proofs.lemmas.Bool.{cases_Bool, cases_eq, cases_lt, cond-true, cond-false}
 use Rattle.std.specs.List.{splice}
 use Rattle.geos_model.specs.Words.{word}
@@ -7,9 +7,10 @@ use Rattle.geos_model.specs.Array.{Array, place_table, array_start, array_bytes}
 use Rattle.geos_model.proofs.Arrays.{joined, head_of, table_of, array_bytes-spelled, length-array_bytes, behind_extra}
 use Rattle.chunk_edits.specs.Patching.{PatchLeads}
 use Rattle.chunk_arrays.specs.Drafting.{Adds, settled}
-use Rattle.chunk_arrays.specs.Rewriting.{extra_after}
+use Rattle.chunk_arrays.specs.Rewriting.{elements_of, extra_after, rewritten}
+use Rattle.chunk_arrays.specs.declared.rewriting.NewElement.{NewElement}
 use Rattle.chunk_arrays.specs.declared.draft.Draft.{Draft}
-use Rattle.chunk_arrays.proofs.RewritingLemmas.{joined-splice, length_joined-splice, length-spliced, length-extra_after, length-place_table, run_back}
+use Rattle.chunk_arrays.proofs.RewritingLemmas.{joined-splice, length_joined-splice, length-spliced, length-extra_after, length-other_extra, length-place_table, run_back}
 use Rattle.chunk_arrays.proofs.DraftingLemmas.{adds-as, adds-around, adds-then, drawn_leads}
 use Rattle.chunk_arrays.proofs.TableLemmas.{three_parts}
 
@@ -165,3 +166,13 @@ rewritten_leads a first from to count ys short order within few count_is d e f g
     (adds-then d e f head head′ table table′ one two (omega (arith, front, front′)))
     three
     (omega (arith, both, both′, front, front′, level))))
+
+-- The new bytes are as many as with the old extra bytes.
+pub as_long : (a : Array) (first : List ℕ) (from to : ℕ) (new : Option NewElement) → length first ≤ length a.extra
+    → length (array_bytes (rewritten a (extra_after a first) from to new)) ≡ length (array_bytes (rewritten a a.extra from to new))
+as_long a first from to new short = length-other_extra (rewritten a a.extra from to new) (extra_after a first) (length-extra_after a first short)
+
+-- one element at most comes, and in the place of one at most
+pub few_elements : (new : Option NewElement) (from to : ℕ) → (IsSome new → to ≤ from + 1) → (elements_of new ≡ []) ⊎ ((to ≤ from + 1) × (length (elements_of new) ≡ 1))
+few_elements None from to one = inl refl
+few_elements (Some element) from to one = inr (one refl, refl)

@@ -36,7 +36,7 @@ module _ (a : Array) (any : a.size ≡ 0) where
   pub is_zero : (a.size == 0) ≡ true
   is_zero = ap (λ (n : ℕ). n == 0) any
 
-  place-of : (i : ℕ) → element_place a i ≡ array_start a + 2 * length a.elements + length (joined (take i a.elements))
+  pub place-of : (i : ℕ) → element_place a i ≡ array_start a + 2 * length a.elements + length (joined (take i a.elements))
   place-of i = ap (λ (n : ℕ). array_start a + n + length (joined (take i a.elements))) (cond-true (a.size == 0) _ _ is_zero)
 
   -- the words of all places, those of some in the middle apart

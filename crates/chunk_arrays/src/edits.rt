@@ -1,16 +1,16 @@
-//! Edits of an array, each as a patch of all bytes of a chunk.
+//! Edits of an array, each as a patch of all bytes of a chunk, and where it changes them.
 ghost use Rattle.std.specs.Prelude.{◌≡◌, ◌+◌, ◌++◌, None, MatchResult, length};
 ghost use Rattle.geos_model.specs.Refusal.{first_refusal};
 ghost use Rattle.geos_model.specs.Array.{array_bytes};
-ghost use Rattle.geos_model.specs.ArrayEdits.{new_array, element_inserted, element_set, element_resized, elements_deleted, array_zeroed, on_array, create_conditions, insert_conditions, set_conditions, resize_conditions, delete_conditions, too_long, is_missized};
+ghost use Rattle.geos_model.specs.ArrayEdits.{array_in, new_array, element_inserted, element_set, element_resized, elements_deleted, array_zeroed, on_array, create_conditions, insert_conditions, set_conditions, resize_conditions, delete_conditions, too_long, is_missized};
 ghost use Rattle.geos_model.specs.Bytes.{resized};
 ghost use Rattle.chunk_arrays.specs.Rewriting.{bytes_of};
 ghost use Rattle.chunk_edits.specs.Splicing.{RefusesToBuild};
-ghost use Rattle.chunk_arrays.specs.Replacing.{Replaces, RefusesToReplace};
+ghost use Rattle.chunk_arrays.specs.Replacing.{ReplacesAt, RefusesToReplace};
 
 use crate::rewriting::{NewElement, push_header, rewrite};
 use crate::view::check;
-use chunk_edits::Patch;
+use chunk_edits::ArrayPatch;
 use geos_model::Fault;
 use lmem_heap::KnownBytes;
 use std::alloc::Global;
@@ -41,9 +41,15 @@ pub fn create_bytes(alloc: Global, size: u32, extra: u32) -> Result<Vec<u8>, Fau
 
 /// The patch that makes these bytes an element before element `i`. NotArray; Range where `i` is past the count, or the
 /// array has elements of another size; Full where the array would be longer than any chunk.
-pub fn insert(alloc: Global, bytes: &KnownBytes<'_>, i: u32, element: &[u8]) -> Result<Patch, Fault>
+pub fn insert(
+    alloc: Global,
+    bytes: &KnownBytes<'_>,
+    i: u32,
+    element: &[u8],
+) -> Result<ArrayPatch, Fault>
     ensures { MatchResult result
-        (Replaces (insert_conditions bytes.now i element.now) bytes.now (element_inserted bytes.now i element.now))
+        (ReplacesAt (insert_conditions bytes.now i element.now) bytes.now
+        (element_inserted bytes.now i element.now) i i 1)
         (RefusesToReplace (insert_conditions bytes.now i element.now) (element_inserted bytes.now i element.now)) }
 {
     let view = check(bytes)?;
@@ -56,9 +62,15 @@ pub fn insert(alloc: Global, bytes: &KnownBytes<'_>, i: u32, element: &[u8]) -> 
 
 /// The patch that gives element `i` these bytes in place of its own. NotArray, NoElement; Range where the array has
 /// elements of another size; Full where the array would be longer than any chunk.
-pub fn set(alloc: Global, bytes: &KnownBytes<'_>, i: u32, element: &[u8]) -> Result<Patch, Fault>
+pub fn set(
+    alloc: Global,
+    bytes: &KnownBytes<'_>,
+    i: u32,
+    element: &[u8],
+) -> Result<ArrayPatch, Fault>
     ensures { MatchResult result
-        (Replaces (set_conditions bytes.now i element.now) bytes.now (element_set bytes.now i element.now))
+        (ReplacesAt (set_conditions bytes.now i element.now) bytes.now
+        (element_set bytes.now i element.now) i (i + 1) 1)
         (RefusesToReplace (set_conditions bytes.now i element.now) (element_set bytes.now i element.now)) }
 {
     let view = check(bytes)?;
@@ -74,9 +86,9 @@ pub fn set(alloc: Global, bytes: &KnownBytes<'_>, i: u32, element: &[u8]) -> Res
 
 /// The patch that cuts element `i` at its end, or adds zeros there, so that it has `n` bytes. NotArray, NoElement;
 /// Range where the array has elements of one size; Full where the array would be longer than any chunk.
-pub fn resize(alloc: Global, bytes: &KnownBytes<'_>, i: u32, n: u32) -> Result<Patch, Fault>
+pub fn resize(alloc: Global, bytes: &KnownBytes<'_>, i: u32, n: u32) -> Result<ArrayPatch, Fault>
     ensures { MatchResult result
-        (Replaces (resize_conditions bytes.now i) bytes.now (element_resized bytes.now i n))
+        (ReplacesAt (resize_conditions bytes.now i) bytes.now (element_resized bytes.now i n) i (i + 1) 1)
         (RefusesToReplace (resize_conditions bytes.now i) (element_resized bytes.now i n)) }
 {
     let view = check(bytes)?;
@@ -93,9 +105,9 @@ pub fn resize(alloc: Global, bytes: &KnownBytes<'_>, i: u32, n: u32) -> Result<P
 
 /// The patch that deletes `k` elements from element `i` on. NotArray; NoElement where there are not so many; Full where
 /// what is left is longer than any chunk.
-pub fn delete(alloc: Global, bytes: &KnownBytes<'_>, i: u32, k: u32) -> Result<Patch, Fault>
+pub fn delete(alloc: Global, bytes: &KnownBytes<'_>, i: u32, k: u32) -> Result<ArrayPatch, Fault>
     ensures { MatchResult result
-        (Replaces (delete_conditions bytes.now i k) bytes.now (elements_deleted bytes.now i k))
+        (ReplacesAt (delete_conditions bytes.now i k) bytes.now (elements_deleted bytes.now i k) i (i + k) 0)
         (RefusesToReplace (delete_conditions bytes.now i k) (elements_deleted bytes.now i k)) }
 {
     let view = check(bytes)?;
@@ -108,9 +120,10 @@ pub fn delete(alloc: Global, bytes: &KnownBytes<'_>, i: u32, k: u32) -> Result<P
 }
 
 /// The patch that deletes all elements. NotArray; Full where the extra bytes are longer than any chunk.
-pub fn zero(alloc: Global, bytes: &KnownBytes<'_>) -> Result<Patch, Fault>
+pub fn zero(alloc: Global, bytes: &KnownBytes<'_>) -> Result<ArrayPatch, Fault>
     ensures { MatchResult result
-        (Replaces (on_array bytes.now) bytes.now (array_zeroed bytes.now))
+        (ReplacesAt (on_array bytes.now) bytes.now (array_zeroed bytes.now) 0
+        (length (array_in bytes.now).elements) 0)
         (RefusesToReplace (on_array bytes.now) (array_zeroed bytes.now)) }
 {
     let view = check(bytes)?;

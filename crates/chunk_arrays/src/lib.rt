@@ -5,6 +5,7 @@ mod draft;
 mod edits;
 mod empty;
 mod rewriting;
+mod runs;
 mod view;
 
 pub use edits::{GREATEST_SIZE, create_bytes, delete, insert, is_missized, resize, set, zero};

@@ -7,11 +7,12 @@ ghost use Rattle.geos_model.specs.Heap.{longest_chunk};
 ghost use Rattle.chunk_arrays.specs.Drafting.{Adds};
 ghost use Rattle.chunk_arrays.specs.Reading.{element_place, words_from};
 ghost use Rattle.chunk_arrays.specs.Rewriting.{elements_after, elements_of, extra_after, rewritten};
-ghost use Rattle.chunk_arrays.specs.Replacing.{Replaces, RefusesToReplace};
+ghost use Rattle.chunk_arrays.specs.Replacing.{Replaces, ReplacesAt, RefusesToReplace};
 
 use crate::View;
 use crate::draft::Draft;
-use chunk_edits::Patch;
+use crate::runs::runs_of;
+use chunk_edits::{ArrayPatch, Patch};
 use geos_model::{Fault, LONGEST_CHUNK};
 use std::alloc::{AllocError, Global};
 
@@ -26,9 +27,38 @@ pub struct NewElement<'a> {
 
 /// The patch that leaves an array with these bytes as the first of its extra bytes, of which it has as many as before,
 /// and with an element or none in the place of those from `from` to `to`, of which there is one at most where one
-/// comes. Full where its bytes would be more than any chunk has. What the patch holds is in proportion to the elements
-/// that change.
+/// comes; and where it changes the array's bytes. Full where these would be more than any chunk has. What the patch
+/// holds is in proportion to the elements that change.
 pub fn rewrite(
+    alloc: Global,
+    view: &View<'_>,
+    first: &[u8],
+    from: usize,
+    to: usize,
+    new: Option<NewElement<'_>>,
+) -> Result<ArrayPatch, Fault>
+    // Which elements go.
+    requires order { from ≤ to }
+    requires within { to ≤ length view.now.array.elements }
+    requires one { IsSome new → to ≤ from + 1 }
+    // What comes.
+    requires extra { length first.now ≤ length view.now.array.extra }
+    requires even { is_even (rewritten view.now.array (extra_after view.now.array first.now) from to new) ≡ true }
+    // What the bytes become, and where they change.
+    ensures { MatchResult result
+        (ReplacesAt [] (array_bytes view.now.array)
+        (array_bytes (rewritten view.now.array (extra_after view.now.array first.now) from to new.entry))
+        from to (length (elements_of new.entry)))
+        (RefusesToReplace []
+        (array_bytes (rewritten view.now.array (extra_after view.now.array first.now) from to new.entry))) }
+{
+    let patch = patch_of(alloc, view, first, from, to, new)?;
+    let runs = runs_of(view, first, from, to, new);
+    Ok(ArrayPatch { patch, runs })
+}
+
+/// The patch alone.
+fn patch_of(
     alloc: Global,
     view: &View<'_>,
     first: &[u8],
@@ -78,7 +108,12 @@ fn length_after(view: &View<'_>, from: usize, to: usize, new: Option<NewElement<
 }
 
 /// How many elements the array has then; the greatest number where they are more.
-fn count_after(view: &View<'_>, from: usize, to: usize, new: Option<NewElement<'_>>) -> usize
+pub(crate) fn count_after(
+    view: &View<'_>,
+    from: usize,
+    to: usize,
+    new: Option<NewElement<'_>>,
+) -> usize
     requires order { from ≤ to }
     requires within { to ≤ length view.now.array.elements }
     ensures { result ≡ min (length (elements_after view.now.array from to new.entry)) (2 ^ 64 - 1) }
@@ -91,7 +126,7 @@ fn count_after(view: &View<'_>, from: usize, to: usize, new: Option<NewElement<'
 }
 
 /// How many bytes the table of places of so many elements has; the greatest number where they are more.
-fn table_len(view: &View<'_>, count: usize) -> usize
+pub(crate) fn table_len(view: &View<'_>, count: usize) -> usize
     ensures { result ≡ min (if view.now.array.size == 0 then 2 * count else 0) (2 ^ 64 - 1) }
 {
     if view.element_size() == 0 {
@@ -102,7 +137,7 @@ fn table_len(view: &View<'_>, count: usize) -> usize
 }
 
 /// How many bytes the new element has; the greatest number where they are more.
-fn new_len(new: Option<NewElement<'_>>) -> usize
+pub(crate) fn new_len(new: Option<NewElement<'_>>) -> usize
     ensures { result ≡ min (length (flat_map (λ x. x) (elements_of new.entry))) (2 ^ 64 - 1) }
 {
     match new {

@@ -1,5 +1,6 @@
 pub mod Directions
 pub mod Holding
 pub mod Patching
+pub mod Runs
 pub mod Spans
 pub mod Splicing

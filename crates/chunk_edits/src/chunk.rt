@@ -1,14 +1,15 @@
 //! Edits of a heap's chunk: the splice that each makes, and how a splice is applied and taken back.
-ghost use Rattle.std.specs.Prelude.{◌≡◌, ◌≤◌, ◌<◌, ◌+◌, ◌*◌, ◌++◌, ℕ, List, true, IsTrue, IfOk, MatchResult, length, take, drop};
+ghost use Rattle.std.specs.Prelude.{◌≡◌, ◌≤◌, ◌<◌, ◌+◌, ◌-◌, ◌*◌, ◌++◌, ℕ, List, true, IsTrue, IfOk, MatchResult, length, take, drop, min};
 ghost use Rattle.std.specs.List.{splice};
 ghost use Rattle.std.specs.FinMap.{insert, contains_key};
-ghost use Rattle.geos_model.specs.Bytes.{written, resized, inserted, deleted};
+ghost use Rattle.geos_model.specs.Bytes.{written, spliced, resized, inserted, deleted};
 ghost use Rattle.geos_model.specs.Cost.{difference};
 ghost use Rattle.geos_model.specs.Heap.{chunk_bytes, fits_with, is_heap_map, capacity};
 ghost use Rattle.geos_model.specs.Meaning.{past_end, no_room};
+ghost use Rattle.chunk_edits.specs.Runs.{LiesAt};
 ghost use Rattle.chunk_edits.specs.Splicing.{Builds, RefusesToBuild, forwards, backwards};
 
-use crate::splice::Splice;
+use crate::parts::{Splice, part};
 use geos_model::{ChunkHandle, Fault};
 use lmem_heap::Heap;
 use std::alloc::Global;
@@ -67,8 +68,42 @@ pub fn write(
         (RefusesToBuild (past_end (chunk_bytes heap.now.chunks h.0) (at + length bytes.now))) }
     ensures fits { IfOk result
         (λ s. IsTrue (fits_with heap.now.chunks h.0 (written (chunk_bytes heap.now.chunks h.0) at bytes.now))) }
+    ensures run { IfOk result (λ s. LiesAt s at (length bytes.now) (length bytes.now)) }
 {
-    let old = part(heap, h, at as usize, bytes.len())?;
+    let old = part(chunk_of(heap, h), at as usize, bytes.len())?;
+    Ok(Splice::of(alloc, at, old, bytes)?)
+}
+
+/// The splice that puts bytes in the place of the `n` bytes at `at` of a chunk. Range where these reach past the chunk's
+/// end, Full where the heap has no room for the new ones.
+pub fn splice(
+    alloc: Global,
+    heap: &Heap,
+    h: ChunkHandle,
+    at: u32,
+    n: u32,
+    bytes: &[u8],
+) -> Result<Splice, Fault>
+    requires { IsTrue (contains_key heap.now.chunks h.0) }
+    ensures built { MatchResult result
+        (λ s. Builds
+        (past_end (chunk_bytes heap.now.chunks h.0) (at + n) ++ no_room heap.now.chunks h.0
+        (spliced (chunk_bytes heap.now.chunks h.0) at n bytes.now)) s
+        (chunk_bytes heap.now.chunks h.0) (spliced (chunk_bytes heap.now.chunks h.0) at n bytes.now)
+        (n + length bytes.now))
+        (RefusesToBuild
+        (past_end (chunk_bytes heap.now.chunks h.0) (at + n) ++ no_room heap.now.chunks h.0
+        (spliced (chunk_bytes heap.now.chunks h.0) at n bytes.now))) }
+    ensures fits { IfOk result
+        (λ s. IsTrue (fits_with heap.now.chunks h.0 (spliced (chunk_bytes heap.now.chunks h.0) at n bytes.now))) }
+    ensures run { IfOk result (λ s. LiesAt s at n (length bytes.now)) }
+{
+    let all = chunk_of(heap, h);
+    let old = part(all, at as usize, n as usize)?;
+    let others = all.len() - old.len();
+    if !fits_size(heap, h, others + bytes.len()) {
+        return Err(Fault::Full);
+    }
     Ok(Splice::of(alloc, at, old, bytes)?)
 }
 
@@ -86,11 +121,13 @@ pub fn insert(alloc: Global, heap: &Heap, h: ChunkHandle, at: u32, n: u32) -> Re
         (inserted (chunk_bytes heap.now.chunks h.0) at n))) }
     ensures fits { IfOk result
         (λ s. IsTrue (fits_with heap.now.chunks h.0 (inserted (chunk_bytes heap.now.chunks h.0) at n))) }
+    ensures run { IfOk result (λ s. LiesAt s at 0 n) }
 {
-    if at as usize > chunk_of(heap, h).len() {
+    let size = chunk_of(heap, h).len();
+    if at as usize > size {
         return Err(Fault::Range);
     }
-    if !fits_longer(heap, h, n) {
+    if !fits_size(heap, h, size + n as usize) {
         return Err(Fault::Full);
     }
     Ok(Splice::of_zeros(alloc, at, &[], n)?)
@@ -105,8 +142,9 @@ pub fn delete(alloc: Global, heap: &Heap, h: ChunkHandle, at: u32, n: u32) -> Re
         (RefusesToBuild (past_end (chunk_bytes heap.now.chunks h.0) (at + n))) }
     ensures fits { IfOk result
         (λ s. IsTrue (fits_with heap.now.chunks h.0 (deleted (chunk_bytes heap.now.chunks h.0) at n))) }
+    ensures run { IfOk result (λ s. LiesAt s at n 0) }
 {
-    let old = part(heap, h, at as usize, n as usize)?;
+    let old = part(chunk_of(heap, h), at as usize, n as usize)?;
     Ok(Splice::of(alloc, at, old, &[])?)
 }
 
@@ -121,6 +159,9 @@ pub fn resize(alloc: Global, heap: &Heap, h: ChunkHandle, n: u32) -> Result<Spli
         (RefusesToBuild (no_room heap.now.chunks h.0 (resized (chunk_bytes heap.now.chunks h.0) n))) }
     ensures fits { IfOk result
         (λ s. IsTrue (fits_with heap.now.chunks h.0 (resized (chunk_bytes heap.now.chunks h.0) n))) }
+    ensures run { IfOk result
+        (λ s. LiesAt s (min n (length (chunk_bytes heap.now.chunks h.0)))
+        (length (chunk_bytes heap.now.chunks h.0) - n) (n - length (chunk_bytes heap.now.chunks h.0))) }
 {
     if !heap.fits_resize(h, n) {
         return Err(Fault::Full);
@@ -143,30 +184,12 @@ pub(crate) fn chunk_of(heap: &Heap, h: ChunkHandle) -> &[u8]
     }
 }
 
-/// Whether the heap has room for a live chunk with `n` more bytes.
-fn fits_longer(heap: &Heap, h: ChunkHandle, n: u32) -> bool
-    requires { IsTrue (contains_key heap.now.chunks h.0) }
-    ensures { (bytes : List ℕ) → length bytes ≡ length (chunk_bytes heap.now.chunks h.0) + n →
-        result ≡ fits_with heap.now.chunks h.0 bytes }
+/// Whether the heap has room for a live chunk with a size of `n` bytes.
+fn fits_size(heap: &Heap, h: ChunkHandle, n: usize) -> bool
+    requires live { IsTrue (contains_key heap.now.chunks h.0) }
+    requires valid { is_heap_map heap.now.chunks ≡ true }
+    ensures { (bytes : List ℕ) → length bytes ≡ n → result ≡ fits_with heap.now.chunks h.0 bytes }
 {
-    let size = chunk_of(heap, h).len();
-    // No heap has room for as many bytes as the greatest `u32`, at which the sum is cut.
-    heap.fits_resize(h, n.saturating_add(size as u32))
-}
-
-/// The `n` bytes of a live chunk from `at` on; Range where it has not so many.
-fn part(heap: &Heap, h: ChunkHandle, at: usize, n: usize) -> Result<&[u8], Fault>
-    requires { IsTrue (contains_key heap.now.chunks h.0) }
-    ensures value { MatchResult result
-        (λ bytes. (at + n ≤ length (chunk_bytes heap.now.chunks h.0)) ×
-        (bytes.now ≡ take n (drop at (chunk_bytes heap.now.chunks h.0))))
-        (λ fault. (length (chunk_bytes heap.now.chunks h.0) < at + n) × (fault ≡ Fault.Range)) }
-    ensures short { length (chunk_bytes heap.now.chunks h.0) ≤ capacity }
-    ensures valid { is_heap_map heap.now.chunks ≡ true }
-{
-    let bytes = chunk_of(heap, h);
-    if bytes.len() < at || bytes.len() - at < n {
-        return Err(Fault::Range);
-    }
-    Ok(&bytes[at..at + n])
+    // No heap has room for as many bytes as the greatest `u32`, at which the size is cut.
+    heap.fits_resize(h, n.min(u32::MAX as usize) as u32)
 }

@@ -4,13 +4,15 @@
 mod chunk;
 mod direction;
 mod law;
+mod parts;
 mod patch;
 mod raw;
-mod splice;
+mod runs;
 
-pub use chunk::{apply, apply_back, delete, insert, resize, write};
+pub use chunk::{apply, apply_back, delete, insert, resize, splice, write};
 pub use direction::Direction;
 pub use law::{patch_law, splice_law};
+pub use parts::{Splice, copied};
 pub use patch::{Patch, apply_patch};
-pub use raw::{apply_raw, apply_raw_back, raw_replace, raw_write};
-pub use splice::{Splice, copied};
+pub use raw::{apply_raw, apply_raw_back, raw_replace, raw_splice, raw_write};
+pub use runs::{ArrayPatch, ArrayRuns};

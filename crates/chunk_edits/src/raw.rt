@@ -1,12 +1,13 @@
 //! Edits of a raw body: the splice that each makes, and how a splice is applied and taken back.
-ghost use Rattle.std.specs.Prelude.{◌≡◌, ◌≤◌, ◌+◌, ◌*◌, IfOk, MatchResult, length};
+ghost use Rattle.std.specs.Prelude.{◌≡◌, ◌≤◌, ◌+◌, ◌*◌, ◌++◌, IfOk, MatchResult, length};
 ghost use Rattle.std.specs.List.{splice};
-ghost use Rattle.geos_model.specs.Bytes.{written};
+ghost use Rattle.geos_model.specs.Bytes.{written, spliced};
 ghost use Rattle.geos_model.specs.Heap.{capacity};
 ghost use Rattle.geos_model.specs.Meaning.{past_end, too_big};
+ghost use Rattle.chunk_edits.specs.Runs.{LiesAt};
 ghost use Rattle.chunk_edits.specs.Splicing.{Builds, RefusesToBuild, forwards, backwards};
 
-use crate::splice::Splice;
+use crate::parts::{Splice, part};
 use geos_model::Fault;
 use raw_region::{RawBody, SIZE};
 use std::alloc::Global;
@@ -51,21 +52,42 @@ pub fn raw_write(alloc: Global, body: &RawBody, at: u32, bytes: &[u8]) -> Result
         (2 * length bytes.now))
         (RefusesToBuild (past_end body.now (at + length bytes.now))) }
     ensures room { IfOk result (λ s. length (written body.now at bytes.now) ≤ capacity) }
+    ensures run { IfOk result (λ s. LiesAt s at (length bytes.now) (length bytes.now)) }
+{
+    let old = part(body.bytes(), at as usize, bytes.len())?;
+    Ok(Splice::of(alloc, at, old, bytes)?)
+}
+
+/// The splice that puts bytes in the place of the `n` bytes at `at` of a raw body. Range where these reach past its end,
+/// TooBig where a raw body can't have so many bytes as it gets.
+pub fn raw_splice(
+    alloc: Global,
+    body: &RawBody,
+    at: u32,
+    n: u32,
+    bytes: &[u8],
+) -> Result<Splice, Fault>
+    ensures built { MatchResult result
+        (λ s. Builds (past_end body.now (at + n) ++ too_big (length (spliced body.now at n bytes.now))) s body.now
+        (spliced body.now at n bytes.now) (n + length bytes.now))
+        (RefusesToBuild (past_end body.now (at + n) ++ too_big (length (spliced body.now at n bytes.now)))) }
+    ensures room { IfOk result (λ s. length (spliced body.now at n bytes.now) ≤ capacity) }
+    ensures run { IfOk result (λ s. LiesAt s at n (length bytes.now)) }
 {
     let all = body.bytes();
-    let start = at as usize;
-    if all.len() < start || all.len() - start < bytes.len() {
-        return Err(Fault::Range);
+    let old = part(all, at as usize, n as usize)?;
+    if all.len() - old.len() + bytes.len() > SIZE {
+        return Err(Fault::TooBig);
     }
-    let old = &all[start..start + bytes.len()];
     Ok(Splice::of(alloc, at, old, bytes)?)
 }
 
 /// The splice that replaces a whole raw body. TooBig where a raw body can't have so many bytes.
 pub fn raw_replace(alloc: Global, body: &RawBody, bytes: &[u8]) -> Result<Splice, Fault>
-    ensures { MatchResult result
+    ensures built { MatchResult result
         (λ s. Builds (too_big (length bytes.now)) s body.now bytes.now (length body.now + length bytes.now))
         (RefusesToBuild (too_big (length bytes.now))) }
+    ensures run { IfOk result (λ s. LiesAt s 0 (length body.now) (length bytes.now)) }
 {
     if bytes.len() > SIZE {
         return Err(Fault::TooBig);

@@ -1,13 +1,14 @@
 -- Edits of chains, as changes of many blocks.
-use Rattle.std.proofs.Common.{◌≡◌, ◌⊎◌, ◌<◌, ◌≤◌, ℕ, Bool, false, List, [], ◌∷◌, ◌++◌, length, get_or, None, Some, Result, Ok, refl, sym, ap, ◌∙◌, arith, inl, inr, ltb-false}
+use Rattle.std.proofs.Common.{◌≡◌, ◌⊎◌, ◌<◌, ◌≤◌, ℕ, Bool, false, List, [], ◌∷◌, ◌++◌, length, map, get_or, None, Some, Result, Ok, refl, sym, ap, ◌∙◌, arith, inl, inr, ltb-false}
 use Rattle.std.proofs.lemmas.Bool.{true≢false}
 use Rattle.std.specs.Result.{IsErrAnd}
 use Rattle.geos_model.specs.Refusal.{Conditions, first_refusal}
 use Rattle.geos_model.specs.Chain.{chain_blocks, chain_blocks_of, copies_of, free_handles, new_handles, on_chain, copy_conditions, free_conditions}
 use Rattle.geos_model.specs.Cost.{images_length}
-use Rattle.geos_model.specs.Document.{Block, Document, handles_of, with_blocks, without_blocks}
+use Rattle.geos_model.specs.Document.{Document, handles_of, with_blocks, without_blocks}
 use Rattle.geos_model.specs.Machine.{kind_of}
 use Rattle.geos_model.specs.Meaning.{conditions}
+use Rattle.geos_model.specs.Places.{block_place}
 use Rattle.geos_model.specs.declared.command.Done.{Done}
 use Rattle.geos_model.specs.declared.command.Done.TheVariants as done
 use Rattle.geos_model.specs.declared.command.Edit.{Edit}
@@ -115,15 +116,20 @@ module _ (d : Document) (root : VmHandle) (ms : Members) where
     answer = ap (λ (h : ℕ). done.Block (record { 0 = h })) first;
     kind = refl;
     cost = ap images_length is;
+    places = ap (map block_place) (new_of accepted is);
   }
+
+  chain_of : imaged_blocks ms.list.items ≡ chain_blocks_of d (chain_blocks d root.0) → handles_of (imaged_blocks ms.list.items) ≡ chain_blocks d root.0
+  chain_of is = ap handles_of is ∙ blocks_of-handles d (chain_blocks d root.0)
 
   pub free_planned : first_refusal (free_conditions d root.0) ≡ None → imaged_blocks ms.list.items ≡ chain_blocks_of d (chain_blocks d root.0) → CanApply (BlocksOut ms) d
       → Plans (edits.FreeChain root) d (BlocksOut ms) done.Nothing
   free_planned accepted is applies = record {
     accepted = accepted;
     applies = applies;
-    document = ap (λ (ps : List (ℕ × Block)). without_blocks d (handles_of ps)) is ∙ ap (without_blocks d) (blocks_of-handles d (chain_blocks d root.0));
+    document = ap (without_blocks d) (chain_of is);
     answer = refl;
     kind = refl;
     cost = ap images_length is;
+    places = ap (map block_place) (chain_of is);
   }

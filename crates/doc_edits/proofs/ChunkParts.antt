@@ -1,14 +1,15 @@
 -- What is built for an edit of a chunk's bytes: of an array a patch, and else a splice.
-use Rattle.std.proofs.Common.{◌≡◌, ◌≤◌, ◌+◌, ◌-◌, ◌*◌, ◌/◌, ℕ, List, ◌++◌, Bool, true, false, not, cond, Option, Some, None, Result, Ok, Err, MatchResult, length, max, nat_lt, refl, sym, ap, subst, ◌∙◌, inl, inr, arith}
+use Rattle.std.proofs.Common.{◌≡◌, ◌≤◌, ◌+◌, ◌-◌, ◌*◌, ◌/◌, ℕ, List, [], ◌∷◌, ◌++◌, Bool, true, false, not, cond, Option, Some, None, Result, Ok, Err, MatchResult, length, max, nat_lt, refl, sym, ap, subst, ◌∙◌, inl, inr, arith}
 use Rattle.std.proofs.lemmas.Bool.{leb-true, le-ltb, lt-ltb, cases_lt, cases_Bool}
 use Rattle.std.specs.Result.{IfOk}
-use Rattle.std.specs.FinMap.{empty, insert, contains_key}
+use Rattle.std.specs.FinMap.{empty, get, insert, contains_key}
 use Rattle.std.specs.Option.{option_map_or}
 use Rattle.geos_model.specs.ArrayEdits.{too_long}
 use Rattle.geos_model.specs.Cost.{cost, both_lengths}
 use Rattle.geos_model.specs.Document.{Block, Document, chunks_of, chunks_of_body, attributes_of}
 use Rattle.geos_model.specs.Heap.{ChunkMap, chunk_bytes, fits, fits_with, is_heap_map, need, capacity, longest_chunk}
 use Rattle.geos_model.specs.Machine.{kind_of}
+use Rattle.geos_model.specs.Places.{array_places, at_elements, places_of}
 use Rattle.geos_model.specs.Meaning.{conditions, effect, chunk_at, with_chunk, on_chunk, on_new_bytes, no_room}
 use Rattle.geos_model.specs.Refusal.{Conditions, first_refusal}
 use Rattle.geos_model.specs.Targets.{byte_edit}
@@ -22,14 +23,21 @@ use Rattle.geos_model.specs.declared.fault.Fault.{Fault}
 use Rattle.geos_model.specs.declared.fault.Fault.TheVariants.{Full}
 use Rattle.geos_model.specs.declared.handle.ChunkHandle.{ChunkHandle}
 use Rattle.geos_model.specs.declared.handle.VmHandle.{VmHandle}
+use Rattle.geos_model.specs.declared.place.Place.TheVariants as place
 use Rattle.geos_model.specs.declared.target.ByteEdit.{ByteEdit}
 use Rattle.geos_model.proofs.HeapTables.{heap_map-table, live_handle, is_chunk_handle-parts, trimmed-put, chunk_length_le}
+use Rattle.geos_model.proofs.ChunkLengths.{in_heap}
 use Rattle.geos_model.proofs.HeapEdits.{get-put_same}
 use Rattle.geos_model.proofs.Tables.{put_at, slot_at-put_same, table_map-put}
-use Rattle.chunk_edits.specs.Patching.{PatchPiece, BuildsPatch, patched, total_given, total_taken}
+use Rattle.chunk_arrays.specs.Replacing.{Replaces, ReplacesAt, RefusesToReplace}
+use Rattle.chunk_edits.specs.Patching.{PatchPiece, patched, total_given, total_taken}
+use Rattle.chunk_edits.specs.Runs.{LiesAt, runs_places}
 use Rattle.chunk_edits.specs.Splicing.{Splice, Builds, RefusesToBuild, forwards}
+use Rattle.chunk_edits.specs.declared.runs.ArrayPatch.{ArrayPatch}
 use Rattle.chunk_edits.proofs.PatchingLemmas.{patched_length, pieces_length}
+use Rattle.lmem_heap.proofs.PlacedLemmas.{slot_from_live}
 use Rattle.vm_blocks.proofs.RoomLemmas.{bytes-put}
+use Rattle.vm_blocks.specs.ChangePlaces.{run_of}
 use Rattle.vm_blocks.specs.declared.change.PartChange.TheVariants as parts
 use Rattle.doc_edits.specs.Found.{AreOwn, IsHeapAt, IsChunkAt, IsChunkLive}
 use Rattle.doc_edits.specs.Building.{silently, MakesPart, MakesSplice}
@@ -37,17 +45,28 @@ use Rattle.doc_edits.specs.Planning.{RefusesInMemory}
 use Rattle.doc_edits.proofs.Order.{more_refused, more_accepted, has_room}
 use Rattle.doc_edits.proofs.Refusals.{past_chunk}
 
--- An edit of a chunk's bytes: its own refusals of them, what it makes of them, and what it answers.
-pub record EditsChunk (edit : Edit) (d : Document) (b : VmHandle) (c : ChunkHandle) (own : List ℕ → Conditions) (to : List ℕ → List ℕ) (done : Done) : Type 0 where
+-- In the place of which elements of an array so many others are put.
+pub record Elements : Type 0 where
+  pub from : ℕ
+  pub to : ℕ
+  pub others : ℕ
+
+-- one in the place of one
+abbrev pub one_at : ℕ → Elements
+one_at t = record { from = t; to = t + 1; others = 1 }
+
+-- An edit of the array in a chunk: its own refusals of its bytes, what it makes of them, by replacing which elements, and what it answers.
+pub record EditsChunk (edit : Edit) (d : Document) (b : VmHandle) (c : ChunkHandle) (own : List ℕ → Conditions) (to : List ℕ → List ℕ) (at : List ℕ → Elements) (done : Done) : Type 0 where
   pub are_own : (bytes : List ℕ) → AreOwn (own bytes)
   pub refusals : let old = chunk_at d b.0 c.0 in conditions edit d ≡ on_new_bytes d b.0 c.0 (own old) (to old)
   pub does : effect edit d ≡ (with_chunk d b.0 c.0 (to (chunk_at d b.0 c.0)), done)
   pub kind : kind_of edit ≡ In b
   pub cost : (after : Document) → cost edit d after ≡ both_lengths d after b.0 c.0
+  pub places : let e = at (chunk_at d b.0 c.0) in places_of edit d ≡ at_elements edit d b c e.from e.to e.others
 
--- The patch is what an edit of an array builds for these bytes: nothing of its own refuses it, and what it makes of them is no longer than any chunk.
-abbrev pub BuildsFor : List PatchPiece → List ℕ → (List ℕ → Conditions) → (List ℕ → List ℕ) → Type 0
-BuildsFor ps bytes own to = BuildsPatch (own bytes ++ too_long (to bytes)) ps bytes (to bytes)
+-- What an edit of an array builds for these bytes: nothing of its own refuses it, and what it makes of them is no longer than any chunk.
+abbrev pub BuildsFor : ArrayPatch → List ℕ → (List ℕ → Conditions) → (List ℕ → List ℕ) → (List ℕ → Elements) → Type 0
+BuildsFor p bytes own to at = ReplacesAt (own bytes) bytes (to bytes) (at bytes).from (at bytes).to (at bytes).others p
 
 -- no heap has room for more bytes than these in a chunk
 pub fits_short : (m : ChunkMap) (h : ℕ) (bytes : List ℕ) → is_heap_map m ≡ true → contains_key m h ≡ true → fits_with m h bytes ≡ true → length bytes ≤ longest_chunk
@@ -80,7 +99,7 @@ short_by n k same e = elim (cases_lt longest_chunk n) [
   | inr l ↦ omega arith
 ]
 
-module _ (edit : Edit) (d : Document) (b : VmHandle) (c : ChunkHandle) (own : List ℕ → Conditions) (to : List ℕ → List ℕ) (done : Done) (means : EditsChunk edit d b c own to done) where
+module _ (edit : Edit) (d : Document) (b : VmHandle) (c : ChunkHandle) (own : List ℕ → Conditions) (to : List ℕ → List ℕ) (at : List ℕ → Elements) (done : Done) (means : EditsChunk edit d b c own to at done) where
   abbrev old : List ℕ
   old = chunk_at d b.0 c.0
 
@@ -92,13 +111,17 @@ module _ (edit : Edit) (d : Document) (b : VmHandle) (c : ChunkHandle) (own : Li
     past = ap first_refusal means.refusals ∙ past_chunk d b.0 c.0 m (own old ++ no_room m c.0 (to old)) there.heap there.live
 
     -- the builder refuses it
-    built_refused : (fault : Fault) → RefusesToBuild (own bytes ++ too_long (to bytes)) fault → RefusesInMemory edit d fault
-    built_refused fault (inl memory) = inl memory
-    built_refused fault (inr first) =
+    pub refuses_built : (fault : Fault) → RefusesToReplace (own bytes) (to bytes) fault → RefusesInMemory edit d fault
+    refuses_built fault (inl memory) = inl memory
+    refuses_built fault (inr first) =
         let here : first_refusal (own old ++ too_long (to old)) ≡ Some fault = subst (λ (x : List ℕ). first_refusal (own x ++ too_long (to x)) ≡ Some fault) there.value first in
         inr (past ∙ more_refused (own old) (means.are_own old) (nat_lt longest_chunk (length (to old))) (not (fits_with m c.0 (to old))) fault (long_full m c.0 (to old) there.valid there.live) here)
 
-    module _ (h : ChunkHandle) (here : h.0 ≡ c.0) (ps : List PatchPiece) (builds : BuildsFor ps old own to) where
+    -- the chunk after it
+    becomes : chunk_at (effect edit d).0 b.0 c.0 ≡ to old
+    becomes = ap (λ (p : Document × Done). chunk_at p.0 b.0 c.0) means.does ∙ chunk_with d b.0 c.0 (to old)
+
+    module _ (ps : List PatchPiece) (builds : Replaces (own old) old (to old) ps) where
       refusal_is : first_refusal (conditions edit d) ≡ cond (fits_with m c.0 (patched ps old)) None (Some Full)
       refusal_is =
           past ∙ more_accepted (own old) (means.are_own old) (nat_lt longest_chunk (length (to old))) (not (fits_with m c.0 (to old))) builds.accepted
@@ -113,46 +136,54 @@ module _ (edit : Edit) (d : Document) (b : VmHandle) (c : ChunkHandle) (own : Li
       lengths_are = omega (arith, pieces_length ps old builds.leads.stands, patched_length ps old builds.leads.stands, ap length builds.leads.gives)
 
       cost_is : total_taken ps + total_given ps ≡ cost edit d (effect edit d).0
-      cost_is =
-          lengths_are ∙ ap (λ (x : List ℕ). length old + length x) (sym (chunk_with d b.0 c.0 (to old))) ∙ ap (λ (p : Document × Done). length old + length (chunk_at p.0 b.0 c.0)) (sym means.does)
-          ∙ sym (means.cost (effect edit d).0)
+      cost_is = lengths_are ∙ ap (λ (x : List ℕ). length old + length x) (sym becomes) ∙ sym (means.cost (effect edit d).0)
 
-      patch_made : MakesPart edit d b c (parts.Patch h ps) done
-      patch_made = record {
-        chunk = here;
-        built = record {
-          stands = record { stands = builds.leads.stands; gives = refl; peak = builds.leads.peak ∙ ap (λ (x : List ℕ). max (length old) (length x)) (sym builds.leads.gives) };
-          short = short_by (length (to old)) (length (patched ps old)) (ap length builds.leads.gives) (has_room (own old) (means.are_own old) (nat_lt longest_chunk (length (to old))) builds.accepted);
-        };
-        refusal = refusal_is;
-        document = ap (with_chunk d b.0 c.0) builds.leads.gives ∙ ap (λ p. p.0) (sym means.does);
-        answer = ap (λ p. p.1) (sym means.does);
-        kind = means.kind;
-        cost = cost_is;
-      }
+    -- it changes its chunk where it is told, as no chunk has more bytes than a word counts
+    runs_are : (p : ArrayPatch) → BuildsFor p old own to at → runs_places b c p.runs ≡ places_of edit d
+    runs_are p builds =
+        let short : length old ≤ longest_chunk = in_heap m c.0 old there.valid (slot_from_live (get m c.0) there.live) in
+        let e = at old in
+        builds.runs (omega (arith, short)) b c ∙ ap (λ (x : List ℕ). array_places b c old x e.from e.to e.others) (sym becomes) ∙ sym means.places
 
-    module _ (h : ChunkHandle) (here : h.0 ≡ c.0) where
-      pub patch_built : (ps : List PatchPiece) → BuildsFor ps bytes own to
-          → MakesPart edit d b c (parts.Patch h ps) done
-      patch_built ps builds = patch_made h here ps (subst (λ (x : List ℕ). BuildsFor ps x own to) there.value builds)
+    array_made : (p : ArrayPatch) → BuildsFor p old own to at → MakesPart edit d b c (parts.Patch c p.patch p.runs) done
+    array_made p builds =
+        let leads = builds.replaces.leads in
+        record {
+          chunk = refl;
+          built = record {
+            stands = record { stands = leads.stands; gives = refl; peak = leads.peak ∙ ap (λ (x : List ℕ). max (length old) (length x)) (sym leads.gives) };
+            short = short_by (length (to old)) (length (patched p.patch old)) (ap length leads.gives) (has_room (own old) (means.are_own old) (nat_lt longest_chunk (length (to old))) builds.replaces.accepted);
+          };
+          refusal = refusal_is p.patch builds.replaces;
+          document = ap (with_chunk d b.0 c.0) leads.gives ∙ ap (λ p. p.0) (sym means.does);
+          answer = ap (λ p. p.1) (sym means.does);
+          kind = means.kind;
+          cost = cost_is p.patch builds.replaces;
+          places = runs_are p builds;
+        }
 
-      -- what a builder answers
-      pub built : (r : Result (List PatchPiece) Fault) → MatchResult r (λ ps. BuildsFor ps bytes own to) (RefusesToBuild (own bytes ++ too_long (to bytes)))
-          → MatchResult r (λ ps. MakesPart edit d b c (parts.Patch h ps) done) (RefusesInMemory edit d)
-      built (Ok ps) builds = patch_built ps builds
-      built (Err fault) refuses = built_refused fault refuses
+    pub patch_built : (p : ArrayPatch) → BuildsFor p bytes own to at → MakesPart edit d b c (parts.Patch c p.patch p.runs) done
+    patch_built p builds = array_made p (subst (λ (x : List ℕ). BuildsFor p x own to at) there.value builds)
 
-    pub refuses_built : (fault : Fault) → RefusesToBuild (own bytes ++ too_long (to bytes)) fault → RefusesInMemory edit d fault
-    refuses_built fault refuses = built_refused fault refuses
+    -- what a builder answers
+    pub built : (r : Result ArrayPatch Fault) → MatchResult r (λ p. BuildsFor p bytes own to at) (RefusesToReplace (own bytes) (to bytes))
+        → MatchResult r (λ p. MakesPart edit d b c (parts.Patch c p.patch p.runs) done) (RefusesInMemory edit d)
+    built (Ok p) builds = patch_built p builds
+    built (Err fault) refuses = refuses_built fault refuses
+
+-- the run of a splice
+pub lies_there : (b : VmHandle) (c : ChunkHandle) (s : Splice) (at before after : ℕ) → LiesAt s at before after → run_of b c s ∷ [] ≡ place.Run b c at before after ∷ []
+lies_there b c s at before after lies = λ i. place.Run b c (lies.starts i) (lies.goes i) (lies.comes i) ∷ []
 
 -- An edit that isn't one of an array.
 module _ (edit : Edit) (d : Document) (b : VmHandle) (c : ChunkHandle) (rest : Conditions) (to : List ℕ) (held : ℕ) (heap : IsHeapAt d b.0 (chunks_of d b.0)) (live : contains_key (chunks_of d b.0) c.0 ≡ true) (valid : is_heap_map (chunks_of d b.0) ≡ true)
-    (refusals : conditions edit d ≡ on_chunk d b.0 c.0 ++ rest) (does : effect edit d ≡ (with_chunk d b.0 c.0 to, done.Nothing)) (kind : kind_of edit ≡ In b) (costs : held ≡ cost edit d (effect edit d).0) where
+    (refusals : conditions edit d ≡ on_chunk d b.0 c.0 ++ rest) (does : effect edit d ≡ (with_chunk d b.0 c.0 to, done.Nothing)) (kind : kind_of edit ≡ In b) (costs : held ≡ cost edit d (effect edit d).0)
+    (at before after : ℕ) (places : places_of edit d ≡ place.Run b c at before after ∷ []) where
   plain_past : first_refusal (conditions edit d) ≡ first_refusal rest
   plain_past = ap first_refusal refusals ∙ past_chunk d b.0 c.0 (chunks_of d b.0) rest heap live
 
-  plain_made : (s : Splice) → Builds rest s (chunk_at d b.0 c.0) to held → fits_with (chunks_of d b.0) c.0 to ≡ true → MakesSplice edit d b c s
-  plain_made s builds fit =
+  plain_made : (s : Splice) → Builds rest s (chunk_at d b.0 c.0) to held → fits_with (chunks_of d b.0) c.0 to ≡ true → LiesAt s at before after → MakesSplice edit d b c s
+  plain_made s builds fit lies =
       let fits_then : fits_with (chunks_of d b.0) c.0 (forwards s (chunk_at d b.0 c.0)) ≡ true = ap (fits_with (chunks_of d b.0) c.0) builds.leads.gives ∙ fit in
       record {
         part = record {
@@ -163,6 +194,7 @@ module _ (edit : Edit) (d : Document) (b : VmHandle) (c : ChunkHandle) (rest : C
           answer = ap (λ p. p.1) (sym does);
           kind = kind;
           cost = builds.leads.holds ∙ costs;
+          places = lies_there b c s at before after lies ∙ sym places;
         };
         fits = fits_then;
       }
@@ -172,9 +204,9 @@ module _ (edit : Edit) (d : Document) (b : VmHandle) (c : ChunkHandle) (rest : C
   plain_refuses fault (inr first) = inr (plain_past ∙ first)
 
   pub plain_built : (r : Result Splice Fault) → MatchResult r (λ s. Builds rest s (chunk_at d b.0 c.0) to held) (RefusesToBuild rest) → IfOk r (λ s. fits_with (chunks_of d b.0) c.0 to ≡ true)
-      → MatchResult r (λ s. MakesSplice edit d b c s) (RefusesInMemory edit d)
-  plain_built (Ok s) builds fit = plain_made s builds fit
-  plain_built (Err fault) refuses fit = plain_refuses fault refuses
+      → IfOk r (λ s. LiesAt s at before after) → MatchResult r (λ s. MakesSplice edit d b c s) (RefusesInMemory edit d)
+  plain_built (Ok s) builds fit lies = plain_made s builds fit lies
+  plain_built (Err fault) refuses fit lies = plain_refuses fault refuses
 
 -- What a builder answers: of the bytes of a chunk as such,
 
@@ -183,17 +215,17 @@ SplicesOf m c r edit = (d : Document) (b : VmHandle) → IsHeapAt d b.0 m → Is
 
 -- and of an array, whichever chunk it is.
 
-abbrev pub PatchesOf : List ℕ → Done → Result (List PatchPiece) Fault → (VmHandle → ChunkHandle → Edit) → Type 0
-PatchesOf bytes done r edit = (d : Document) (b : VmHandle) (c : ChunkHandle) → IsChunkAt d b.0 c.0 bytes → MatchResult r (λ ps. MakesPart (edit b c) d b c (parts.Patch c ps) done) (RefusesInMemory (edit b c) d)
+abbrev pub PatchesOf : List ℕ → Done → Result ArrayPatch Fault → (VmHandle → ChunkHandle → Edit) → Type 0
+PatchesOf bytes done r edit = (d : Document) (b : VmHandle) (c : ChunkHandle) → IsChunkAt d b.0 c.0 bytes → MatchResult r (λ p. MakesPart (edit b c) d b c (parts.Patch c p.patch p.runs) done) (RefusesInMemory (edit b c) d)
 
-abbrev pub AnswersOf : List ℕ → Result (List PatchPiece × Done) Fault → (VmHandle → ChunkHandle → Edit) → Type 0
-AnswersOf bytes r edit = (d : Document) (b : VmHandle) (c : ChunkHandle) → IsChunkAt d b.0 c.0 bytes → MatchResult r (λ built. MakesPart (edit b c) d b c (parts.Patch c built.0) built.1) (RefusesInMemory (edit b c) d)
+abbrev pub AnswersOf : List ℕ → Result (ArrayPatch × Done) Fault → (VmHandle → ChunkHandle → Edit) → Type 0
+AnswersOf bytes r edit = (d : Document) (b : VmHandle) (c : ChunkHandle) → IsChunkAt d b.0 c.0 bytes → MatchResult r (λ built. MakesPart (edit b c) d b c (parts.Patch c built.0.patch built.0.runs) built.1) (RefusesInMemory (edit b c) d)
 
 module _ (bytes : List ℕ) (edit : VmHandle → ChunkHandle → Edit) where
-  pub array_built : (own : List ℕ → Conditions) (to : List ℕ → List ℕ) (done : Done) → ((d : Document) (b : VmHandle) (c : ChunkHandle) → EditsChunk (edit b c) d b c own to done) → (r : Result (List PatchPiece) Fault)
-      → MatchResult r (λ ps. BuildsFor ps bytes own to) (RefusesToBuild (own bytes ++ too_long (to bytes))) → PatchesOf bytes done r edit
-  array_built own to done means r builds = λ d b c at. built (edit b c) d b c own to done (means d b c) bytes at c refl r builds
+  pub array_built : (own : List ℕ → Conditions) (to : List ℕ → List ℕ) (at : List ℕ → Elements) (done : Done) → ((d : Document) (b : VmHandle) (c : ChunkHandle) → EditsChunk (edit b c) d b c own to at done) → (r : Result ArrayPatch Fault)
+      → MatchResult r (λ p. BuildsFor p bytes own to at) (RefusesToReplace (own bytes) (to bytes)) → PatchesOf bytes done r edit
+  array_built own to at done means r builds = λ d b c there. built (edit b c) d b c own to at done (means d b c) bytes there r builds
 
-  pub silent_built : (r : Result (List PatchPiece) Fault) → PatchesOf bytes done.Nothing r edit → AnswersOf bytes (silently r) edit
-  silent_built (Ok ps) builds = builds
+  pub silent_built : (r : Result ArrayPatch Fault) → PatchesOf bytes done.Nothing r edit → AnswersOf bytes (silently r) edit
+  silent_built (Ok p) builds = builds
   silent_built (Err fault) builds = builds

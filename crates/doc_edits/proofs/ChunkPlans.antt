@@ -15,6 +15,7 @@ use Rattle.geos_model.specs.declared.fault.Fault.{Fault}
 use Rattle.geos_model.specs.declared.fault.Fault.TheVariants.{Full}
 use Rattle.geos_model.specs.declared.handle.ChunkHandle.{ChunkHandle}
 use Rattle.geos_model.specs.declared.handle.VmHandle.{VmHandle}
+use Rattle.geos_model.specs.declared.place.Place.TheVariants as place
 use Rattle.chunk_edits.specs.Patching.{patched, peak}
 use Rattle.chunk_edits.specs.Splicing.{Splice, forwards}
 use Rattle.geos_model.proofs.HeapTables.{fits_with-fewer, fits_with-same}
@@ -45,7 +46,7 @@ module _ (d : Document) (b c : ℕ) where
   part_applies : is_heap d b ≡ true → contains_key (chunks_of d b) c ≡ true → is_heap_map (chunks_of d b) ≡ true
       → (part : PartChange) → IsOfChunk part c → StandsIn part (chunk_at d b c) → fits_with (chunks_of d b) c (chunk_after part (chunk_at d b c)) ≡ true → CanApplyPart b part d
   part_applies heap live valid (parts.Chunk h s) here stands fits = subst (λ (k : ℕ). FitsChunk d b k s) (sym here) (record { heap = heap; live = live; stands = stands; fits = fits })
-  part_applies heap live valid (parts.Patch h ps) here leads fits =
+  part_applies heap live valid (parts.Patch h ps runs) here leads fits =
       let room = room_between (chunks_of d b) c (patched ps (chunk_at d b c)) (peak ps) valid live leads.peak fits in
       subst (λ (k : ℕ). FitsPatch d b k ps) (sym here) (record { heap = heap; live = live; stands = leads.stands; fits = room })
   part_applies heap live valid (parts.Raw s) here stands fits = absurd here
@@ -54,7 +55,7 @@ module _ (d : Document) (b c : ℕ) where
 
   part_makes : (part : PartChange) → IsOfChunk part c → after_part b part d ≡ with_chunk d b c (chunk_after part (chunk_at d b c))
   part_makes (parts.Chunk h s) here = ap (λ (k : ℕ). with_chunk d b k (forwards s (chunk_at d b k))) here
-  part_makes (parts.Patch h ps) here = ap (λ (k : ℕ). with_chunk d b k (patched ps (chunk_at d b k))) here
+  part_makes (parts.Patch h ps runs) here = ap (λ (k : ℕ). with_chunk d b k (patched ps (chunk_at d b k))) here
   part_makes (parts.Raw s) here = absurd here
   part_makes (parts.ChunkIn h content) here = absurd here
   part_makes (parts.ChunkOut h content) here = absurd here
@@ -91,6 +92,7 @@ module _ (edit : Edit) (d : Document) (b : VmHandle) (c : ChunkHandle) where
         answer = makes.answer;
         kind = sym makes.kind;
         cost = makes.cost;
+        places = makes.places;
       }
 
     -- a splice finds room
@@ -154,4 +156,5 @@ module _ (edit : Edit) (d : Document) (b : VmHandle) where
           answer = ap (λ (k : ℕ). done.Chunk (record { 0 = k })) (sym handle_is) ∙ ap (λ p. p.1) (sym creates.does);
           kind = sym creates.kind;
           cost = sym creates.cost;
+          places = ap (λ (k : ℕ). place.Chunk b (record { 0 = k }) ∷ []) (sym handle_is) ∙ sym creates.places;
         }

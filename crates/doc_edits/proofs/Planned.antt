@@ -3,7 +3,7 @@ use Rattle.std.proofs.Common.{◌≡◌, ◌⊎◌, ◌∷◌, [], ℕ, true, fa
 use Rattle.std.proofs.lemmas.Bool.{true≢false}
 use Rattle.std.specs.Result.{IsErrAnd}
 use Rattle.geos_model.specs.Document.{Document}
-use Rattle.geos_model.specs.Machine.{Needs, NoBody, OneBody, edit_needs, kind_of, kind_of_scope, needs_of_scope}
+use Rattle.geos_model.specs.Machine.{NoBody, OneBody, edit_needs, kind_of, kind_of_scope, needs_of_scope}
 use Rattle.geos_model.specs.Meaning.{conditions}
 use Rattle.geos_model.specs.Scope.{Scope, scope_of}
 use Rattle.geos_model.specs.Scope as scopes
@@ -26,7 +26,7 @@ use Rattle.vm_blocks.specs.declared.change.Change.{Change}
 use Rattle.vm_blocks.specs.declared.change.Change.TheVariants as changes
 use Rattle.vm_blocks.proofs.KeepingLaws.{keeps-refl, lacks-memory}
 use Rattle.vm_blocks.proofs.Preparing.{applies_listed, applies_takes}
-use Rattle.doc_edits.specs.Planning.{freed_by, is_chain, is_of_chain, kind_of_change, IsChainEditFault, Plans, PlansAlongChain, PlansEdit, RefusesEdit, RefusesInMemory}
+use Rattle.doc_edits.specs.Planning.{freed_by, kind_of_change, IsChainEditFault, Plans, PlansAlongChain, PlansEdit, RefusesEdit, RefusesInMemory}
 use Rattle.doc_edits.specs.Room.{lacks_frames, ReadsNothing}
 use Rattle.doc_edits.proofs.Loading.{IsBrought}
 use Rattle.doc_edits.proofs.Refusals.{accepted_so, handed_on, may_lack}

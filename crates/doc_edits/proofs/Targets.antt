@@ -41,6 +41,7 @@ block_scope b block_edits.Copy = refl
 
 pub raw_scope : (b : VmHandle) (edit : RawEdit) → scope_of (raw_edit b edit) ≡ Raw b
 raw_scope b (raw_edits.Write at bytes) = refl
+raw_scope b (raw_edits.Splice at n bytes) = refl
 raw_scope b (raw_edits.Attach bytes) = refl
 
 pub heap_scope : (b : VmHandle) (new : NewChunk) → scope_of (new_chunk b new) ≡ Heap b
@@ -55,6 +56,7 @@ module _ (b : VmHandle) (c : ChunkHandle) where
   byte_scope (byte_edits.Insert at n) = refl
   byte_scope (byte_edits.Delete at n) = refl
   byte_scope (byte_edits.Write at bytes) = refl
+  byte_scope (byte_edits.Splice at n bytes) = refl
 
   -- an edit of an array is a step inside its block
   pub array_scope : (edit : ArrayEdit) → (scope_of (array_edit b c edit) ≡ Chunk b c) × (kind_of (array_edit b c edit) ≡ In b)
@@ -70,6 +72,7 @@ module _ (b : VmHandle) (c : ChunkHandle) where
   array_scope (array_edits.Element (element_array_edits.Change t bytes)) = (refl, refl)
   array_scope (array_edits.Name (name_array_edits.Add name part replace)) = (refl, refl)
   array_scope (array_edits.Name (name_array_edits.Change t name)) = (refl, refl)
+  array_scope (array_edits.Name (name_array_edits.SetPart t part)) = (refl, refl)
   array_scope (array_edits.Name (name_array_edits.Remove t)) = (refl, refl)
 
   pub chunk_scope : (edit : ChunkEdit) → scope_of (chunk_edit b c edit) ≡ Chunk b c

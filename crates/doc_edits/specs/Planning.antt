@@ -5,6 +5,7 @@ use Rattle.geos_model.specs.Document.{Document, handles_of, is_raw}
 use Rattle.geos_model.specs.Meaning.{conditions, effect}
 use Rattle.geos_model.specs.Cost.{cost, images_length}
 use Rattle.geos_model.specs.Machine.{edit_needs, kind_of}
+use Rattle.geos_model.specs.Places.{places_of}
 use Rattle.geos_model.specs.Scope.{Scope, Chain, scope_of}
 use Rattle.geos_model.specs.declared.fault.Fault.{Fault}
 use Rattle.geos_model.specs.declared.fault.Fault.TheVariants.{Memory, CacheFull, NoHandles, IsMap}
@@ -18,6 +19,7 @@ use Rattle.chunk_edits.specs.Patching.{total_given, total_taken}
 use Rattle.vm_store.specs.Facts.{StoreFacts}
 use Rattle.vm_blocks.specs.State.{CacheState}
 use Rattle.vm_file.specs.Members.{imaged_blocks}
+use Rattle.vm_blocks.specs.ChangePlaces.{change_places}
 use Rattle.vm_blocks.specs.Changes.{after_change, content_bytes, CanApply}
 use Rattle.vm_blocks.specs.declared.change.Change.{Change}
 use Rattle.vm_blocks.specs.declared.change.Change.TheVariants as changes
@@ -51,7 +53,7 @@ freed_by (changes.Map old new) = []
 abbrev pub part_cost : PartChange → ℕ
 part_cost (parts.Raw s) = length s.old + length s.new
 part_cost (parts.Chunk c s) = length s.old + length s.new
-part_cost (parts.Patch c ps) = total_taken ps + total_given ps
+part_cost (parts.Patch c ps runs) = total_taken ps + total_given ps
 part_cost (parts.ChunkIn c content) = length (content_bytes content)
 part_cost (parts.ChunkOut c content) = length (content_bytes content)
 
@@ -62,7 +64,8 @@ change_cost (changes.Part b part) = part_cost part
 change_cost (changes.Attributes b old new) = 0
 change_cost (changes.Map old new) = 0
 
--- Nothing refuses the edit, and the change can be made in the document and means the edit.
+-- Nothing refuses the edit; the change can be made in the document, means the edit, and changes it at the places of the
+-- edit.
 pub record Plans (edit : Edit) (d : Document) (change : Change) (done : Done) : Type 0 where
   pub accepted : first_refusal (conditions edit d) ≡ None
   pub applies : CanApply change d
@@ -70,6 +73,7 @@ pub record Plans (edit : Edit) (d : Document) (change : Change) (done : Done) : 
   pub answer : done ≡ (effect edit d).1
   pub kind : kind_of_change change ≡ kind_of edit
   pub cost : change_cost change ≡ cost edit d (effect edit d).0
+  pub places : change_places change ≡ places_of edit d
 
 -- What an edit is refused for where the bodies into which it looks are in memory: memory for the change may be lacking,
 -- or it is the first refusal.

@@ -12,7 +12,7 @@ ghost use Rattle.doc_edits.specs.Building.{Creates, MakesPart, MakesSplice, sile
 ghost use Rattle.doc_edits.specs.Found.{IsChunkAt, IsChunkLive, IsHeapAt};
 ghost use Rattle.doc_edits.specs.Planning.{RefusesInMemory};
 
-use chunk_edits::{Patch, Splice};
+use chunk_edits::{ArrayPatch, Splice};
 use geos_model::{
     ArrayEdit, ByteEdit, Bytes, ChunkArrayEdit, ChunkHandle, Done, ElementArrayEdit, Fault,
     NameArrayEdit, NewChunk,
@@ -38,6 +38,7 @@ pub fn build_splice(
         ByteEdit::Insert(at, n) => chunk_edits::insert(alloc, heap, chunk, at, n),
         ByteEdit::Delete(at, n) => chunk_edits::delete(alloc, heap, chunk, at, n),
         ByteEdit::Write(at, new) => chunk_edits::write(alloc, heap, chunk, at, new),
+        ByteEdit::Splice(at, n, new) => chunk_edits::splice(alloc, heap, chunk, at, n, new),
     }
 }
 
@@ -47,9 +48,10 @@ pub fn build_patch(
     alloc: Global,
     bytes: &KnownBytes<'_>,
     edit: ArrayEdit<'_>,
-) -> Result<(Patch, Done), Fault>
+) -> Result<(ArrayPatch, Done), Fault>
     ensures { (d : Document) (b : VmHandle) (c : ChunkHandle) → IsChunkAt d b.0 c.0 bytes.now
-        → MatchResult result (λ built. MakesPart (array_edit b c edit.entry) d b c (parts.Patch c built.0) built.1)
+        → MatchResult result (λ built. let made = built.0 in
+        MakesPart (array_edit b c edit.entry) d b c (parts.Patch c made.patch made.runs) built.1)
         (RefusesInMemory (array_edit b c edit.entry) d) }
 {
     match edit {
@@ -64,9 +66,10 @@ fn build_in_array(
     alloc: Global,
     bytes: &KnownBytes<'_>,
     edit: ChunkArrayEdit<'_>,
-) -> Result<Patch, Fault>
+) -> Result<ArrayPatch, Fault>
     ensures { (d : Document) (b : VmHandle) (c : ChunkHandle) → IsChunkAt d b.0 c.0 bytes.now
-        → MatchResult result (λ ps. MakesPart (chunk_array_edit b c edit.entry) d b c (parts.Patch c ps) done.Nothing)
+        → MatchResult result
+        (λ built. MakesPart (chunk_array_edit b c edit.entry) d b c (parts.Patch c built.patch built.runs) done.Nothing)
         (RefusesInMemory (chunk_array_edit b c edit.entry) d) }
 {
     match edit {
@@ -83,16 +86,16 @@ fn build_in_elements(
     alloc: Global,
     bytes: &KnownBytes<'_>,
     edit: ElementArrayEdit<'_>,
-) -> Result<(Patch, Done), Fault>
+) -> Result<(ArrayPatch, Done), Fault>
     ensures { (d : Document) (b : VmHandle) (c : ChunkHandle) → IsChunkAt d b.0 c.0 bytes.now
-        → MatchResult result
-        (λ built. MakesPart (element_array_edit b c edit.entry) d b c (parts.Patch c built.0) built.1)
+        → MatchResult result (λ built. let made = built.0 in
+        MakesPart (element_array_edit b c edit.entry) d b c (parts.Patch c made.patch made.runs) built.1)
         (RefusesInMemory (element_array_edit b c edit.entry) d) }
 {
     match edit {
         ElementArrayEdit::Add(element) => {
-            let (patch, token) = element_arrays::add(alloc, bytes, element)?;
-            Ok((patch, Done::Token(token)))
+            let (built, token) = element_arrays::add(alloc, bytes, element)?;
+            Ok((built, Done::Token(token)))
         }
         ElementArrayEdit::AddReference(token) => silent(element_arrays::add_ref(
             alloc, bytes, token,
@@ -112,26 +115,29 @@ fn build_in_names(
     alloc: Global,
     bytes: &KnownBytes<'_>,
     edit: NameArrayEdit<'_>,
-) -> Result<(Patch, Done), Fault>
+) -> Result<(ArrayPatch, Done), Fault>
     ensures { (d : Document) (b : VmHandle) (c : ChunkHandle) → IsChunkAt d b.0 c.0 bytes.now
-        → MatchResult result
-        (λ built. MakesPart (name_array_edit b c edit.entry) d b c (parts.Patch c built.0) built.1)
+        → MatchResult result (λ built. let made = built.0 in
+        MakesPart (name_array_edit b c edit.entry) d b c (parts.Patch c made.patch made.runs) built.1)
         (RefusesInMemory (name_array_edit b c edit.entry) d) }
 {
     match edit {
         NameArrayEdit::Add(name, part, replace) => {
-            let (patch, token) = name_arrays::add(alloc, bytes, name, part, replace)?;
-            Ok((patch, Done::Token(token)))
+            let (built, token) = name_arrays::add(alloc, bytes, name, part, replace)?;
+            Ok((built, Done::Token(token)))
         }
         NameArrayEdit::Change(token, name) => {
             silent(name_arrays::change_name(alloc, bytes, token, name))
+        }
+        NameArrayEdit::SetPart(token, part) => {
+            silent(name_arrays::set_part(alloc, bytes, token, part))
         }
         NameArrayEdit::Remove(token) => silent(name_arrays::remove_ref(alloc, bytes, token)),
     }
 }
 
 /// What was built for an edit that answers nothing.
-fn silent(built: Result<Patch, Fault>) -> Result<(Patch, Done), Fault>
+fn silent(built: Result<ArrayPatch, Fault>) -> Result<(ArrayPatch, Done), Fault>
     ensures { result ≡ silently built }
 {
     Ok((built?, Done::Nothing))

@@ -15,7 +15,7 @@ ghost use Rattle.doc_edits.specs.Planning.{Plans, RefusesInMemory};
 
 use crate::building::{build_chunk, build_patch, build_splice};
 use crate::found::{bytes_in, heap_at, known_in};
-use chunk_edits::{Direction, Patch, copied};
+use chunk_edits::{ArrayPatch, Direction, copied};
 use geos_model::{ArrayEdit, ByteEdit, ChunkHandle, Done, Fault, NewChunk, VmHandle};
 use lmem_heap::Heap;
 use std::alloc::Global;
@@ -59,20 +59,22 @@ pub fn plan_array<S: Store>(
 {
     let heap = heap_at(blocks, handle);
     let bytes = known_in(heap, chunk)?;
-    let (patch, done) = build_patch(alloc, &bytes, edit)?;
-    if !has_room(heap, chunk, &patch) {
+    let (built, done) = build_patch(alloc, &bytes, edit)?;
+    if !has_room(heap, chunk, &built) {
         return Err(Fault::Full);
     }
-    Ok((Change::Part(handle, PartChange::Patch(chunk, patch)), done))
+    let part = PartChange::Patch(chunk, built.patch, built.runs);
+    Ok((Change::Part(handle, part), done))
 }
 
 /// Whether the heap has room for what a patch makes of the bytes of a chunk.
-fn has_room(heap: &Heap, chunk: ChunkHandle, patch: &Patch) -> bool
+fn has_room(heap: &Heap, chunk: ChunkHandle, built: &ArrayPatch) -> bool
     requires live { IsTrue (contains_key heap.now.chunks chunk.0) }
-    requires built { IsBuilt (parts.Patch chunk patch.now) (chunk_bytes heap.now.chunks chunk.0) }
-    ensures { result ≡ fits_with heap.now.chunks chunk.0 (patched patch.now (chunk_bytes heap.now.chunks chunk.0)) }
+    requires built { IsBuilt (parts.Patch chunk built.now.patch built.now.runs) (chunk_bytes heap.now.chunks chunk.0) }
+    ensures { result
+        ≡ fits_with heap.now.chunks chunk.0 (patched built.now.patch (chunk_bytes heap.now.chunks chunk.0)) }
 {
-    heap.fits_resize(chunk, patch.size_before(Direction::Backwards) as u32)
+    heap.fits_resize(chunk, built.patch.size_before(Direction::Backwards) as u32)
 }
 
 /// Of an edit that makes a chunk: Full where the heap has no handle or no room for it.

@@ -14,11 +14,11 @@ use std::alloc::Global;
 use vm_blocks::{Change, FileBlocks};
 use vm_store::Store;
 
-/// The change that an edit of a target means in the document as it is after the call, and what it answers; or its first refusal
-/// there, or what the call lacked. Blocks may be brought into memory, and nothing else changes. NoBlock and WrongKind
-/// come first; then CacheFull, where there is no frame for the block into whose body the edit looks, or some frame has
-/// to be free of locks for a chain and none is: then nothing changes at all. No store is called, and none lacked, where
-/// no body has to be read: it is in memory, or the edit is refused for its block.
+/// The change that an edit of a target means in the document as it is after the call, and what it answers; or its first
+/// refusal there, or what the call lacked. Blocks may be brought into memory, and nothing else changes. NoBlock and
+/// WrongKind come first; then CacheFull, where there is no frame for the block into whose body the edit looks, or some
+/// frame has to be free of locks for a chain and none is: then nothing changes at all. No store is called, and none
+/// lacked, where no body has to be read: it is in memory, or the edit is refused for its block.
 pub fn plan<S: Store>(
     alloc: Global,
     blocks: &mut FileBlocks<S>,

@@ -1,5 +1,5 @@
 -- What an edit of slots makes of the array that they are, and of all bytes of a chunk.
-use Rattle.std.proofs.Common.{◌≡◌, ℕ, zero, suc, ◌+◌, ◌<◌, ◌≤◌, Bool, true, false, not, ◌&&◌, ◌||◌, ◌==◌, nat_le, nat_lt, if◌then◌else◌, List, [], ◌∷◌, ◌++◌, map, length, take, drop, set, get_or, replicate, is_none, Option, Some, None, Result, MatchResult, refl, sym, ap, ap₂, subst, ◌∙◌, arith, inl, inr, append_assoc, append-nil, length-append, eqb-true, ltb-true, Ok, Err}
+use Rattle.std.proofs.Common.{◌≡◌, ℕ, zero, suc, ◌+◌, ◌-◌, ◌<◌, ◌≤◌, Bool, true, false, not, ◌&&◌, ◌||◌, ◌==◌, nat_le, nat_lt, if◌then◌else◌, List, [], ◌∷◌, ◌++◌, map, length, take, drop, set, get_or, replicate, is_none, Option, Some, None, Result, MatchResult, refl, sym, ap, ap₂, subst, ◌∙◌, arith, inl, inr, append_assoc, append-nil, length-append, eqb-true, ltb-true, Ok, Err}
 use Rattle.std.proofs.lemmas.Bool.{cases_Bool, and_parts, cond-true, cond-false, ne_eqb, eq-eqb}
 use Rattle.std.proofs.lemmas.List.{take_all, drop_all, length-replicate}
 use Rattle.std.proofs.lemmas.Result.{MatchResult-weaker}
@@ -7,20 +7,29 @@ use Rattle.std.specs.List.{list_all, count_by, enumerate_from, splice}
 use Rattle.byteorder.specs.Endian.{little_bytes, little_number}
 use Rattle.geos_model.specs.Words.{word}
 use Rattle.geos_model.specs.Array.{Array, array_bytes, is_even}
-use Rattle.geos_model.specs.ArrayEdits.{is_missized, too_long}
+use Rattle.geos_model.specs.ArrayEdits.{array_in, is_missized, too_long}
 use Rattle.geos_model.specs.ElementArray.{Element, Slots, slots_array, slot_bytes, token_after, first_token, is_free, is_sound, is_good_slot, all_distinct, element_at, greatest_size}
 use Rattle.geos_model.specs.ElementEdits.{with_new, with_new_at}
 use Rattle.geos_model.specs.declared.fault.Fault.{Fault}
 use Rattle.geos_model.proofs.ArrayEdits.{even_with}
 use Rattle.geos_model.proofs.Images.{word-reads_back}
-use Rattle.chunk_edits.specs.Patching.{PatchPiece, BuildsPatch, PatchLeads}
+use Rattle.geos_model.specs.Bytes.{same_bytes}
+use Rattle.geos_model.specs.Places.{total_length, head_length}
+use Rattle.geos_model.specs.declared.handle.VmHandle.{VmHandle}
+use Rattle.geos_model.specs.declared.handle.ChunkHandle.{ChunkHandle}
+use Rattle.geos_model.specs.declared.place.Place.{Place}
+use Rattle.geos_model.specs.declared.place.Place.TheVariants as place
+use Rattle.geos_model.proofs.Arrays.{array_again}
+use Rattle.chunk_edits.specs.Patching.{PatchLeads}
+use Rattle.chunk_edits.specs.Runs.{AreRuns}
 use Rattle.chunk_edits.specs.Splicing.{RefusesToBuild}
+use Rattle.chunk_edits.specs.declared.runs.ArrayPatch.{ArrayPatch}
 use Rattle.chunk_arrays.specs.Rewriting.{extra_after}
-use Rattle.element_arrays.specs.Slotted.{Slotted, slotted_array, slotted_bytes, GivesSlots, RefusesSlots}
+use Rattle.element_arrays.specs.Slotted.{Slotted, slotted_array, slotted_bytes, ReplacesOne, GivesSlots, RefusesSlots}
 use Rattle.std.specs.Result.{IsErrAnd}
 use Rattle.geos_model.specs.Refusal.{Conditions, first_refusal}
 use Rattle.geos_model.specs.declared.handle.Token.{Token}
-use Rattle.chunk_arrays.specs.Replacing.{Replaces, RefusesToReplace}
+use Rattle.chunk_arrays.specs.Replacing.{ReplacesAt, RefusesToReplace}
 use Rattle.geos_model.proofs.Order.{is_worn, accepted-room, refused-room}
 
 -- ---- what an edit of slots makes of the array that they are
@@ -165,22 +174,44 @@ length-sized size bytes fits one = elim (cases_Bool (length bytes == size)) [
 
 -- The slots that a patch gives or refuses.
 
-pub gives : (s : Slotted) (new : Slots) (v w : Array) (x : List PatchPiece) → v ≡ slotted_array s → w ≡ slots_array s.more new → BuildsPatch (too_long (array_bytes w)) x (array_bytes v) (array_bytes w) → GivesSlots s new x
+-- the places of an array that others take, by the elements behind them
+abbrev places_before : VmHandle → ChunkHandle → Array → List ℕ → List ℕ → ℕ → List (List ℕ) → List Place
+places_before b c a old new from back =
+    let before = total_length (take from a.elements) in
+    let behind = total_length back in
+    let head = head_length a (length a.elements) in
+    let new_head = head_length a (from + 1 + length back) in
+    let at = new_head + before in
+    (if same_bytes (take head old) (take new_head new) then [] else place.Run b c 0 head new_head ∷ [])
+    ++ place.Run b c at (length old - head - before - behind) (length new - at - behind) ∷ []
+
+-- An element that comes behind the last one takes the place of none, and none stands there.
+pub behind_last : (v : Array) (new : List ℕ) (n : ℕ) (x : ArrayPatch) → is_even v ≡ true → length v.elements ≤ n → ReplacesAt [] (array_bytes v) new n n 1 x → ReplacesOne [] (array_bytes v) new n x
+behind_last v new n x even end made = record {
+  replaces = made.replaces;
+  runs = λ low b c.
+      let none : drop n v.elements ≡ drop (n + 1) v.elements = drop_all n v.elements (omega arith) ∙ sym (drop_all (n + 1) v.elements (omega arith)) in
+      let back : drop n (array_in (array_bytes v)).elements ≡ drop (n + 1) (array_in (array_bytes v)).elements = rw (array_again v even low) none in
+      made.runs low b c ∙ ap (places_before b c (array_in (array_bytes v)) (array_bytes v) new n) back;
+}
+
+pub gives : (s : Slotted) (new : Slots) (v w : Array) (t at : ℕ) (x : ArrayPatch) → v ≡ slotted_array s → w ≡ slots_array s.more new → at ≡ t → ReplacesOne [] (array_bytes v) (array_bytes w) at x → GivesSlots s new t x
 unfolding slotted_bytes
-gives s new v w x old to built =
-    subst (λ a. BuildsPatch (too_long (array_bytes (slots_array s.more new))) x (array_bytes a) (array_bytes (slots_array s.more new))) old
-    (subst (λ b. BuildsPatch (too_long (array_bytes b)) x (array_bytes v) (array_bytes b)) to built)
+gives s new v w t at x old to place made =
+    subst (λ a. ReplacesOne [] (array_bytes a) (array_bytes (slots_array s.more new)) t x) old
+    (subst (λ b. ReplacesOne [] (array_bytes v) (array_bytes b) t x) to
+    (subst (λ n. ReplacesOne [] (array_bytes v) (array_bytes w) n x) place made))
 
 pub refuses : (s : Slotted) (new : Slots) (w : Array) (fault : Fault) → w ≡ slots_array s.more new → RefusesToBuild (too_long (array_bytes w)) fault → RefusesSlots s new fault
 unfolding slotted_bytes
 refuses s new w fault to refused = subst (λ b. RefusesToBuild (too_long (array_bytes b)) fault) to refused
 
 -- what `rewrite` answers
-abbrev pub Rewrites : Array → Array → Result (List PatchPiece) Fault → Type 0
-Rewrites v w r = MatchResult r (λ x. BuildsPatch (too_long (array_bytes w)) x (array_bytes v) (array_bytes w)) (RefusesToBuild (too_long (array_bytes w)))
+abbrev pub Rewrites : Array → Array → ℕ → Result ArrayPatch Fault → Type 0
+Rewrites v w at r = MatchResult r (ReplacesOne [] (array_bytes v) (array_bytes w) at) (RefusesToBuild (too_long (array_bytes w)))
 
-pub answers : (s : Slotted) (new : Slots) (v w : Array) (r : Result (List PatchPiece) Fault) → v ≡ slotted_array s → w ≡ slots_array s.more new → Rewrites v w r → MatchResult r (GivesSlots s new) (RefusesSlots s new)
-answers s new v w r old to h = MatchResult-weaker r h (λ x. gives s new v w x old to) (λ fault. refuses s new w fault to)
+pub answers : (s : Slotted) (new : Slots) (v w : Array) (t at : ℕ) (r : Result ArrayPatch Fault) → v ≡ slotted_array s → w ≡ slots_array s.more new → at ≡ t → Rewrites v w at r → MatchResult r (GivesSlots s new t) (RefusesSlots s new)
+answers s new v w t at r old to place h = MatchResult-weaker r h (λ x. gives s new v w t at x old to place) (λ fault. refuses s new w fault to)
 
 -- a token that names the place of a slot
 pub put-at : (more : List ℕ) (s : Slots) (v : Array) (t at : ℕ) (slot : Option Element) (free extra element : List ℕ) → v ≡ slots_array more s → at ≡ t → t < length s.slots → ((j : ℕ) → (t ≡ j → ⊥) → token_after free j ≡ token_after s.free j) → extra ≡ word (first_token free) ++ more → element ≡ slot_bytes (changed s t slot free) t slot → put v extra at (at + 1) element ≡ slots_array more (changed s t slot free)
@@ -336,14 +367,17 @@ module _ (own few : Conditions) (from to from′ to′ : List ℕ) (decides : fi
     | inr first ↦ inr (decides ∙ ap (λ (l : List ℕ). first_refusal (few ++ too_long l)) (sym to_is) ∙ first)
   ]
 
-  module _ (from_is : from′ ≡ from) where
-    pub replaces_for : (p : List PatchPiece) → Replaces few from′ to′ p → Replaces own from to p
+  module _ (from_is : from′ ≡ from) (t : ℕ) where
+    pub replaces_for : (p : ArrayPatch) → ReplacesOne few from′ to′ t p → ReplacesOne own from to t p
     replaces_for p made = record {
-      accepted = decides ∙ ap (λ (l : List ℕ). first_refusal (few ++ too_long l)) (sym to_is) ∙ made.accepted;
-      leads = subst (λ (l : List ℕ). PatchLeads p l to) from_is (subst (λ (l : List ℕ). PatchLeads p from′ l) to_is made.leads);
+      replaces = record {
+        accepted = decides ∙ ap (λ (l : List ℕ). first_refusal (few ++ too_long l)) (sym to_is) ∙ made.replaces.accepted;
+        leads = subst (λ (l : List ℕ). PatchLeads p.patch l to) from_is (subst (λ (l : List ℕ). PatchLeads p.patch from′ l) to_is made.replaces.leads);
+      };
+      runs = subst (λ (l : List ℕ). length l < 65536 → AreRuns l to t (t + 1) 1 p.runs) from_is (subst (λ (l : List ℕ). length from′ < 65536 → AreRuns from′ l t (t + 1) 1 p.runs) to_is made.runs);
     }
 
-    pub handed_on : (r : Result (List PatchPiece) Fault) → MatchResult r (Replaces few from′ to′) (RefusesToReplace few to′) → MatchResult r (Replaces own from to) (RefusesToReplace own to)
+    pub handed_on : (r : Result ArrayPatch Fault) → MatchResult r (ReplacesOne few from′ to′ t) (RefusesToReplace few to′) → MatchResult r (ReplacesOne own from to t) (RefusesToReplace own to)
     handed_on (Ok p) made = replaces_for p made
     handed_on (Err fault) refused = refuses_for fault refused
 
@@ -352,18 +386,18 @@ module _ (own : Conditions) (s : Slotted) (slots : Slots) (from to : List ℕ) (
   pub slots_refused : (fault : Fault) → RefusesSlots s slots fault → RefusesToReplace own to fault
   slots_refused fault refused = refuses_for own [] from to (slotted_bytes s.more s.slots) (slotted_bytes s.more slots) (accepted-room own _ none) to_is fault refused
 
-  pub slots_given : (patch : List PatchPiece) → GivesSlots s slots patch → Replaces own from to patch
-  slots_given patch made = replaces_for own [] from to (slotted_bytes s.more s.slots) (slotted_bytes s.more slots) (accepted-room own _ none) to_is from_is patch made
+  pub slots_given : (t : ℕ) (p : ArrayPatch) → GivesSlots s slots t p → ReplacesOne own from to t p
+  slots_given t p made = replaces_for own [] from to (slotted_bytes s.more s.slots) (slotted_bytes s.more slots) (accepted-room own _ none) to_is from_is t p made
 
-  pub slots_handed_on : (r : Result (List PatchPiece) Fault) → MatchResult r (GivesSlots s slots) (RefusesSlots s slots) → MatchResult r (Replaces own from to) (RefusesToReplace own to)
-  slots_handed_on (Ok patch) made = slots_given patch made
-  slots_handed_on (Err fault) refused = slots_refused fault refused
+  pub slots_handed_on : (t : ℕ) (r : Result ArrayPatch Fault) → MatchResult r (GivesSlots s slots t) (RefusesSlots s slots) → MatchResult r (ReplacesOne own from to t) (RefusesToReplace own to)
+  slots_handed_on t (Ok p) made = slots_given t p made
+  slots_handed_on t (Err fault) refused = slots_refused fault refused
 
   -- with a token beside the patch
-  pub token_handed_on : (r : Result (List PatchPiece × Token) Fault) (token token′ : ℕ) → token′ ≡ token
-      → MatchResult r (λ made. GivesSlots s slots made.0 × (made.1.0 ≡ token′)) (RefusesSlots s slots)
-      → MatchResult r (λ made. Replaces own from to made.0 × (made.1.0 ≡ token)) (RefusesToReplace own to)
-  token_handed_on (Ok made) token token′ is h = (slots_given made.0 h.0, h.1 ∙ is)
+  pub token_handed_on : (r : Result (ArrayPatch × Token) Fault) (token token′ : ℕ) → token′ ≡ token
+      → MatchResult r (λ made. GivesSlots s slots token′ made.0 × (made.1.0 ≡ token′)) (RefusesSlots s slots)
+      → MatchResult r (λ made. ReplacesOne own from to token made.0 × (made.1.0 ≡ token)) (RefusesToReplace own to)
+  token_handed_on (Ok made) token token′ is h = (slots_given token made.0 (subst (λ t. GivesSlots s slots t made.0) is h.0), h.1 ∙ is)
   token_handed_on (Err fault) token token′ is refused = slots_refused fault refused
 
 -- the fault that `?` hands on

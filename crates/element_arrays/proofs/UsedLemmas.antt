@@ -9,7 +9,7 @@ use Rattle.geos_model.specs.declared.fault.Fault.TheVariants.{NoElement, NotArra
 use Rattle.element_arrays.specs.Answering.{IsAnswered, IsRefused}
 use Rattle.element_arrays.specs.Used.{used_element}
 use Rattle.element_arrays.specs.declared.slot_view.Used.{Used}
-use Rattle.element_arrays.specs.Slotted.{Slotted, slotted_bytes, GivesSlots, RefusesSlots}
+use Rattle.element_arrays.specs.Slotted.{Slotted, slotted_bytes, ReplacesOne, GivesSlots, RefusesSlots}
 use Rattle.std.proofs.lemmas.List.Sums.{count_by_more_yes, count_by_more_no, sum_by-take-drop}
 use Rattle.std.proofs.lemmas.Bool.{lt-leb, cond-true, cond-false}
 use Rattle.geos_model.proofs.UsedElements.{count_at-is, bytes_at-is, found_element, own_size}
@@ -18,8 +18,8 @@ use Rattle.geos_model.specs.Bytes.{same_bytes}
 use Rattle.geos_model.specs.ArrayEdits.{is_missized, too_long}
 use Rattle.geos_model.proofs.Arrays.{same_bytes-is}
 use Rattle.element_arrays.specs.Referencing.{element_with_reference, element_reference_conditions}
-use Rattle.chunk_arrays.specs.Replacing.{Replaces, RefusesToReplace}
-use Rattle.chunk_edits.specs.Patching.{PatchPiece}
+use Rattle.chunk_arrays.specs.Replacing.{RefusesToReplace}
+use Rattle.chunk_edits.specs.declared.runs.ArrayPatch.{ArrayPatch}
 use Rattle.element_arrays.proofs.SlottedLemmas.{slots_handed_on, refuses_for, replaces_for}
 
 -- ---- the slots that are read of an element array's bytes, and what is found of a token there
@@ -39,8 +39,8 @@ module _ (bytes : List ℕ) (s : Slotted) (read : (element_array_of bytes ≡ So
     pub edited_bytes : slotted_bytes s.more new ≡ element_bytes (edit (elements_in bytes))
     edited_bytes = new_bytes new ∙ ap element_bytes same ∙ ap (λ (x : Slots). element_bytes (edit x)) (sym elements_are)
 
-    pub edit_handed_on : (own : Conditions) → first_refusal own ≡ None → (r : Result (List PatchPiece) Fault) → MatchResult r (GivesSlots s new) (RefusesSlots s new)
-        → MatchResult r (Replaces own bytes (element_bytes (edit (elements_in bytes)))) (RefusesToReplace own (element_bytes (edit (elements_in bytes))))
+    pub edit_handed_on : (own : Conditions) → first_refusal own ≡ None → (t : ℕ) (r : Result ArrayPatch Fault) → MatchResult r (GivesSlots s new t) (RefusesSlots s new)
+        → MatchResult r (ReplacesOne own bytes (element_bytes (edit (elements_in bytes))) t) (RefusesToReplace own (element_bytes (edit (elements_in bytes))))
     edit_handed_on own none = slots_handed_on own s new bytes (element_bytes (edit (elements_in bytes))) none read.1 edited_bytes
 
   -- other refusals decide
@@ -160,10 +160,11 @@ module _ (bytes element : List ℕ) (s : Slotted) (read : (element_array_of byte
         refuses_for (add_conditions bytes element) (element_reference_conditions s.slots t) bytes (element_added bytes element) (slotted_bytes s.more s.slots) (slotted_bytes s.more (element_with_reference s.slots t))
         (equal-decides (too_long (element_added bytes element))) equal-bytes
 
-    pub equal-replaced : (patch : List PatchPiece) → Replaces (element_reference_conditions s.slots t) (slotted_bytes s.more s.slots) (slotted_bytes s.more (element_with_reference s.slots t)) patch → Replaces (add_conditions bytes element) bytes (element_added bytes element) patch
-    equal-replaced =
+    pub equal-replaced : (p : ArrayPatch) → ReplacesOne (element_reference_conditions s.slots t) (slotted_bytes s.more s.slots) (slotted_bytes s.more (element_with_reference s.slots t)) t p → ReplacesOne (add_conditions bytes element) bytes (element_added bytes element) (token_added bytes element) p
+    equal-replaced p made =
+        subst (λ n. ReplacesOne (add_conditions bytes element) bytes (element_added bytes element) n p) equal-token (
         replaces_for (add_conditions bytes element) (element_reference_conditions s.slots t) bytes (element_added bytes element) (slotted_bytes s.more s.slots) (slotted_bytes s.more (element_with_reference s.slots t))
-        (equal-decides (too_long (element_added bytes element))) equal-bytes read.1
+        (equal-decides (too_long (element_added bytes element))) equal-bytes read.1 t p made)
 
   module _ (none : token_of_bytes s.slots element ≡ None) where
     pub new-accepted : is_missized s.slots.size element ≡ false → first_refusal (add_conditions bytes element) ≡ None

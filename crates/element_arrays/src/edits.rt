@@ -1,17 +1,17 @@
-//! Edits of an element array, each as a patch of all bytes of a chunk.
+//! Edits of an element array, each as a patch of all bytes of a chunk, and where it changes them.
 ghost use Rattle.std.specs.Prelude.{◌≡◌, None, true, MatchResult};
 ghost use Rattle.geos_model.specs.Refusal.{first_refusal};
 ghost use Rattle.geos_model.specs.ElementArray.{element_bytes, element_array_of, is_sound};
 ghost use Rattle.geos_model.specs.ElementEdits.{no_slots, element_added, token_added, reference_added, reference_removed, element_deleted, element_changed, on_token, create_elements_conditions, add_conditions, add_reference_conditions, change_conditions};
 ghost use Rattle.chunk_edits.specs.Splicing.{RefusesToBuild};
-ghost use Rattle.chunk_arrays.specs.Replacing.{Replaces, RefusesToReplace};
-ghost use Rattle.element_arrays.specs.Slotted.{slotted_bytes};
+ghost use Rattle.chunk_arrays.specs.Replacing.{RefusesToReplace};
+ghost use Rattle.element_arrays.specs.Slotted.{ReplacesOne, slotted_bytes};
 ghost use Rattle.element_arrays.specs.Referencing.{element_with_reference, element_reference_conditions};
 
 use crate::SlotView;
 use crate::reading::{read, used_at};
 use chunk_arrays::{GREATEST_SIZE, empty_bytes, is_missized};
-use chunk_edits::Patch;
+use chunk_edits::ArrayPatch;
 use geos_model::{Fault, Token};
 use lmem_heap::KnownBytes;
 use std::alloc::Global;
@@ -40,10 +40,14 @@ pub fn create_bytes(alloc: Global, size: u32) -> Result<Vec<u8>, Fault>
 /// The patch that gives an equal element, the lowest of these, one more reference, or else brings a new one, and its
 /// token. NotArray; CountFull where the equal one has as many as any can have; Range where the array has elements of
 /// another size; Full where the array would be longer than any chunk.
-pub fn add(alloc: Global, bytes: &KnownBytes<'_>, element: &[u8]) -> Result<(Patch, Token), Fault>
+pub fn add(
+    alloc: Global,
+    bytes: &KnownBytes<'_>,
+    element: &[u8],
+) -> Result<(ArrayPatch, Token), Fault>
     ensures { MatchResult result
-        (λ made. Replaces (add_conditions bytes.now element.now) bytes.now
-        (element_added bytes.now element.now) made.0 ×
+        (λ made. ReplacesOne (add_conditions bytes.now element.now) bytes.now
+        (element_added bytes.now element.now) (token_added bytes.now element.now) made.0 ×
         (made.1.0 ≡ token_added bytes.now element.now))
         (RefusesToReplace (add_conditions bytes.now element.now) (element_added bytes.now element.now)) }
 {
@@ -64,9 +68,10 @@ pub fn add(alloc: Global, bytes: &KnownBytes<'_>, element: &[u8]) -> Result<(Pat
 
 /// The patch that gives an element one more reference. NotArray, NoElement; CountFull where it has as many as any can
 /// have; Full where the array is longer than any chunk.
-pub fn add_ref(alloc: Global, bytes: &KnownBytes<'_>, token: Token) -> Result<Patch, Fault>
+pub fn add_ref(alloc: Global, bytes: &KnownBytes<'_>, token: Token) -> Result<ArrayPatch, Fault>
     ensures { MatchResult result
-        (Replaces (add_reference_conditions bytes.now token.0) bytes.now (reference_added bytes.now token.0))
+        (ReplacesOne (add_reference_conditions bytes.now token.0) bytes.now (reference_added bytes.now token.0)
+        token.0)
         (RefusesToReplace (add_reference_conditions bytes.now token.0) (reference_added bytes.now token.0)) }
 {
     let slots = read(bytes)?;
@@ -75,9 +80,9 @@ pub fn add_ref(alloc: Global, bytes: &KnownBytes<'_>, token: Token) -> Result<Pa
 
 /// The patch that takes a reference of an element, which is freed with the last one. NotArray, NoElement; Full where
 /// the array is longer than any chunk.
-pub fn remove_ref(alloc: Global, bytes: &KnownBytes<'_>, token: Token) -> Result<Patch, Fault>
+pub fn remove_ref(alloc: Global, bytes: &KnownBytes<'_>, token: Token) -> Result<ArrayPatch, Fault>
     ensures { MatchResult result
-        (Replaces (on_token bytes.now token.0) bytes.now (reference_removed bytes.now token.0))
+        (ReplacesOne (on_token bytes.now token.0) bytes.now (reference_removed bytes.now token.0) token.0)
         (RefusesToReplace (on_token bytes.now token.0) (reference_removed bytes.now token.0)) }
 {
     let slots = read(bytes)?;
@@ -91,9 +96,9 @@ pub fn remove_ref(alloc: Global, bytes: &KnownBytes<'_>, token: Token) -> Result
 
 /// The patch that frees an element, whatever its references. NotArray, NoElement; Full where the array is longer than
 /// any chunk.
-pub fn delete(alloc: Global, bytes: &KnownBytes<'_>, token: Token) -> Result<Patch, Fault>
+pub fn delete(alloc: Global, bytes: &KnownBytes<'_>, token: Token) -> Result<ArrayPatch, Fault>
     ensures { MatchResult result
-        (Replaces (on_token bytes.now token.0) bytes.now (element_deleted bytes.now token.0))
+        (ReplacesOne (on_token bytes.now token.0) bytes.now (element_deleted bytes.now token.0) token.0)
         (RefusesToReplace (on_token bytes.now token.0) (element_deleted bytes.now token.0)) }
 {
     let slots = read(bytes)?;
@@ -108,10 +113,10 @@ pub fn change(
     bytes: &KnownBytes<'_>,
     token: Token,
     element: &[u8],
-) -> Result<Patch, Fault>
+) -> Result<ArrayPatch, Fault>
     ensures { MatchResult result
-        (Replaces (change_conditions bytes.now token.0 element.now) bytes.now
-        (element_changed bytes.now token.0 element.now))
+        (ReplacesOne (change_conditions bytes.now token.0 element.now) bytes.now
+        (element_changed bytes.now token.0 element.now) token.0)
         (RefusesToReplace (change_conditions bytes.now token.0 element.now)
         (element_changed bytes.now token.0 element.now)) }
 {
@@ -125,10 +130,11 @@ pub fn change(
 
 /// The patch that gives an element one more reference. NoElement; CountFull where it has as many as any can have; Full
 /// where the array is longer than any chunk.
-fn with_reference(alloc: Global, slots: &SlotView<'_>, token: Token) -> Result<Patch, Fault>
+fn with_reference(alloc: Global, slots: &SlotView<'_>, token: Token) -> Result<ArrayPatch, Fault>
     ensures { MatchResult result
-        (Replaces (element_reference_conditions slots.now.slots token.0) (slotted_bytes slots.now.more slots.now.slots)
-        (slotted_bytes slots.now.more (element_with_reference slots.now.slots token.0)))
+        (ReplacesOne (element_reference_conditions slots.now.slots token.0)
+        (slotted_bytes slots.now.more slots.now.slots)
+        (slotted_bytes slots.now.more (element_with_reference slots.now.slots token.0)) token.0)
         (RefusesToReplace (element_reference_conditions slots.now.slots token.0)
         (slotted_bytes slots.now.more (element_with_reference slots.now.slots token.0))) }
 {

@@ -1,4 +1,5 @@
-//! Edits of slots, of an element array or a name array, each as a patch of all bytes of a chunk.
+//! Edits of slots, of an element array or a name array, each as a patch of all bytes of a chunk, and where it changes
+//! them.
 ghost use Rattle.std.specs.Prelude.{◌≡◌, ◌≤◌, ◌++◌, ◌∷◌, [], true, false, is_some, length, take, drop, IfOk, MatchOption, MatchResult};
 ghost use Rattle.geos_model.specs.ArrayEdits.{is_missized};
 ghost use Rattle.geos_model.specs.ElementArray.{element_at, greatest_count};
@@ -8,7 +9,7 @@ ghost use Rattle.element_arrays.specs.Slotted.{GivesSlots, RefusesSlots};
 use crate::slot_view::{FREE, SlotView};
 use byteorder::{ByteOrder, LittleEndian};
 use chunk_arrays::{NewElement, rewrite};
-use chunk_edits::Patch;
+use chunk_edits::ArrayPatch;
 use geos_model::{Fault, Token};
 use std::alloc::{AllocError, Global};
 
@@ -22,13 +23,13 @@ impl<'a> SlotView<'a> {
         count: u32,
         head: &[u8],
         tail: &[u8],
-    ) -> Result<Patch, Fault>
+    ) -> Result<ArrayPatch, Fault>
         requires used { is_some (element_at self.now.slots token.0) ≡ true }
         requires counted { 1 ≤ count }
         requires bounded { count ≤ greatest_count }
         requires sized { is_missized self.now.slots.size (head.now ++ tail.now) ≡ false }
         ensures { MatchResult result
-            (GivesSlots self.now (with_element self.now.slots token.0 count (head.now ++ tail.now)))
+            (GivesSlots self.now (with_element self.now.slots token.0 count (head.now ++ tail.now)) token.0)
             (RefusesSlots self.now (with_element self.now.slots token.0 count (head.now ++ tail.now))) }
     {
         let array = self.array();
@@ -44,10 +45,10 @@ impl<'a> SlotView<'a> {
     }
 
     /// The patch that frees a used element. Full where the array would still be longer than any chunk.
-    pub fn without_element(&self, alloc: Global, token: Token) -> Result<Patch, Fault>
+    pub fn without_element(&self, alloc: Global, token: Token) -> Result<ArrayPatch, Fault>
         requires { is_some (element_at self.now.slots token.0) ≡ true }
         ensures { MatchResult result
-            (GivesSlots self.now (without_element self.now.slots token.0))
+            (GivesSlots self.now (without_element self.now.slots token.0) token.0)
             (RefusesSlots self.now (without_element self.now.slots token.0)) }
     {
         let array = self.array();
@@ -64,10 +65,16 @@ impl<'a> SlotView<'a> {
 
     /// The patch that brings a new element of one reference and these bytes, in two parts, and its token: the newest
     /// free one, else the next. Full where the array would be longer than any chunk.
-    pub fn with_new(&self, alloc: Global, head: &[u8], tail: &[u8]) -> Result<(Patch, Token), Fault>
+    pub fn with_new(
+        &self,
+        alloc: Global,
+        head: &[u8],
+        tail: &[u8],
+    ) -> Result<(ArrayPatch, Token), Fault>
         requires { is_missized self.now.slots.size (head.now ++ tail.now) ≡ false }
         ensures { MatchResult result
-            (λ made. GivesSlots self.now (with_new self.now.slots (head.now ++ tail.now)).0 made.0 ×
+            (λ made. GivesSlots self.now (with_new self.now.slots (head.now ++ tail.now)).0
+            (with_new self.now.slots (head.now ++ tail.now)).1 made.0 ×
             (made.1.0 ≡ (with_new self.now.slots (head.now ++ tail.now)).1))
             (RefusesSlots self.now (with_new self.now.slots (head.now ++ tail.now)).0) }
     {

@@ -44,7 +44,7 @@ module _ (old new : Handle) (kept lent : Kept FileStore) (after : SessionState F
     closed = not_closed;
   }
 
-  pub handed_out : (does : SessionState FileStore → SessionState FileStore → List ℕ → List ℕ → ℕ → ℤ → Type 0) (buffer filled : List ℕ) (count : ℕ)
+  pub handed_out : {T : Type 0} (does : SessionState FileStore → SessionState FileStore → List T → List T → ℕ → ℤ → Type 0) (buffer filled : List T) (count : ℕ)
       → does lent.session after buffer filled count code → HandsOutOnHandle does old new buffer filled count told
   handed_out does buffer filled count did = record {
     same = still_open;

@@ -5,3 +5,4 @@ pub mod LendingLemmas
 pub mod Opening
 pub mod Given
 pub mod LookUps
+pub mod Windows

@@ -26,9 +26,10 @@ pub record OnHandle {T : Type 0} (does : SessionState FileStore → SessionState
   pub told : old.is_open ≡ true → ReportsAnswer (does old.kept.session new.kept.session) code
   pub closed : old.is_open ≡ false → code ≡ not_open
 
--- A call on a handle that hands out bytes, likewise. Where there is no session it hands out none.
-pub record HandsOutOnHandle (does : SessionState FileStore → SessionState FileStore → List ℕ → List ℕ → ℕ → ℤ → Type 0)
-    (old new : Handle) (before after : List ℕ) (count : ℕ) (code : ℤ) : Type 0 where
+-- A call on a handle that hands out bytes or a list, likewise. Where there is no session it hands out none.
+pub record HandsOutOnHandle {T : Type 0}
+    (does : SessionState FileStore → SessionState FileStore → List T → List T → ℕ → ℤ → Type 0)
+    (old new : Handle) (before after : List T) (count : ℕ) (code : ℤ) : Type 0 where
   pub same : new.is_open ≡ old.is_open
   pub number : old.is_open ≡ true → new.kept.number ≡ old.kept.number
   pub told : old.is_open ≡ true → does old.kept.session new.kept.session before after count code

@@ -8,3 +8,4 @@ pub mod Messages
 pub mod Owning
 pub mod Stores
 pub mod Telling
+pub mod Places

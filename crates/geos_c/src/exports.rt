@@ -44,6 +44,7 @@ macro_rules! answer {
 mod edits;
 mod lending;
 mod look_ups;
+mod places;
 
 // Puts a session that was begun behind a handle.
 fn begin(handle: &mut Handle, begun: Result<Box<Kept<HostStore<ChannelFile>>>, Fault>) -> i32

@@ -11,4 +11,5 @@ mod line;
 mod look_ups;
 mod loose;
 mod message;
+mod places;
 mod telling;

@@ -2,14 +2,17 @@
 ghost use Rattle.std.specs.Prelude.{◌≡◌};
 ghost use Rattle.geos_model.specs.Forms.{form_asked};
 ghost use Rattle.geos_model.specs.Forms as forms;
+ghost use Rattle.geos_model.specs.LookUps.{places_look_up};
 ghost use Rattle.geos_model.specs.declared.command.Command.TheVariants as commands;
 ghost use Rattle.geos_c.specs.LookUps.{ReadsBytes, ReportsReply};
+ghost use Rattle.geos_c.specs.Places.{ReadsPlaces};
 ghost use Rattle.geos_c.specs.Telling.{HandsOutEqual, HandsOutInfo, HandsOutNumber};
 
+use crate::places::{ToldPlace, tell_places};
 use crate::telling::{
     tell_bytes, tell_equal, tell_handles, tell_info, tell_number, tell_type, tell_word,
 };
-use geos_model::{BlockLookUp, ChainLookUp, Command, LookUp, VmHandle};
+use geos_model::{BlockLookUp, ChainLookUp, Command, LookUp, PlacesLookUp, VmHandle};
 use undo_log::Session;
 use vm_store::Store;
 
@@ -98,4 +101,18 @@ pub(crate) fn heap_type<S: Store>(
         session.old session.new result }
 {
     tell_type(session.heap_type(block), heap_type)
+}
+
+/// Places, from one on. The session would keep those that it lends, so they are asked for as a list of their own.
+pub(crate) fn places<S: Store>(
+    session: &mut Session<S>,
+    asked: PlacesLookUp,
+    first: usize,
+    buffer: &mut [ToldPlace],
+    count: &mut usize,
+) -> i32
+    ensures { ReadsPlaces S.facts (places_look_up asked) first session.old session.new
+        buffer.old buffer.new count.new result }
+{
+    tell_places(session.places(asked), first, buffer, count)
 }

@@ -12,6 +12,8 @@ use Rattle.geos_model.specs.declared.command.Body.{Body}
 use Rattle.geos_model.specs.contracts.command.Body as body_type
 use Rattle.geos_model.specs.declared.command.Kind.{Kind}
 use Rattle.geos_model.specs.contracts.command.Kind as kind_type
+use Rattle.geos_model.specs.declared.place.Place.{Place}
+use Rattle.geos_model.specs.contracts.place.Place as place_type
 
 abbrev pub body_code : Coded Body
 body_code = body_type.the_row.coded
@@ -23,13 +25,16 @@ abbrev pub document_code : Coded Document
 document_code =
     code_by (FinMap nat_cmp Block × ℕ) (coded× (code coded_ℕ block_code) coded_ℕ) (λ d. (d.blocks, d.map_block)) (λ p. record { blocks = p.0; map_block = p.1 }) (λ _. refl)
 
+abbrev pub places_code : Coded (List Place)
+places_code = coded_list place_type.the_row.coded
+
 abbrev pub step_code : Coded UndoStep
 step_code =
-    code_by (Kind × (ℕ × Document)) (coded× kind_type.the_row.coded (coded× coded_ℕ document_code)) (λ s. (s.kind, (s.cost, s.document))) (λ p. record { kind = p.0; cost = p.1.0; document = p.1.1 }) (λ _. refl)
+    code_by (Kind × (ℕ × (Document × List Place))) (coded× kind_type.the_row.coded (coded× coded_ℕ (coded× document_code places_code))) (λ s. (s.kind, (s.cost, (s.document, s.places)))) (λ p. record { kind = p.0; cost = p.1.0; document = p.1.1.0; places = p.1.1.1 }) (λ _. refl)
 
 abbrev pub group_code : Coded OpenGroup
 group_code =
-    code_by (Document × (ℕ × ℕ)) (coded× document_code (coded× coded_ℕ coded_ℕ)) (λ g. (g.before, (g.edits, g.cost))) (λ p. record { before = p.0; edits = p.1.0; cost = p.1.1 }) (λ _. refl)
+    code_by (Document × (ℕ × (ℕ × List Place))) (coded× document_code (coded× coded_ℕ (coded× coded_ℕ places_code))) (λ g. (g.before, (g.edits, (g.cost, g.places)))) (λ p. record { before = p.0; edits = p.1.0; cost = p.1.1.0; places = p.1.1.1 }) (λ _. refl)
 
 -- a position by what leads to it, nothing where no steps do, and how many steps
 abbrev pub position_code : Coded Position
@@ -53,21 +58,21 @@ position_code = code_by (Option (Bool × ℕ)) (coded_option (coded× coded_bool
 -- a machine's part that is edited, and the part that its file and its session have
 abbrev MachineFields : Type 0
 MachineFields =
-    ((Document × (List UndoStep × (List UndoStep × Option OpenGroup))) × (Position × (Position × Option ℕ)))
+    ((Document × (List UndoStep × (List UndoStep × Option OpenGroup))) × (Position × (Position × (List Place × Option ℕ))))
     × ((Document × Document) × (FinMap nat_cmp ℕ × (ℕ × (Bool × ℕ))))
 
 abbrev machine_fields_code : Coded MachineFields
 machine_fields_code =
     coded× (
     coded× (coded× document_code (coded× (coded_list step_code) (coded× (coded_list step_code) (coded_option group_code))))
-    (coded× position_code (coded× position_code (coded_option coded_ℕ)))
+    (coded× position_code (coded× position_code (coded× places_code (coded_option coded_ℕ))))
     )
     (coded× (coded× document_code document_code) (coded× (code coded_ℕ coded_ℕ) (coded× coded_ℕ (coded× coded_bool coded_ℕ))))
 
 abbrev pub machine_code : Coded Machine
 machine_code =
     code_by MachineFields machine_fields_code
-    (λ m. (((m.document, (m.past, (m.future, m.group))), (m.updated_at, (m.saved_at, m.undo_limit))), ((m.updated, m.saved), (m.locks, (m.frames, (m.target, m.sequence))))))
+    (λ m. (((m.document, (m.past, (m.future, m.group))), (m.updated_at, (m.saved_at, (m.touched, m.undo_limit)))), ((m.updated, m.saved), (m.locks, (m.frames, (m.target, m.sequence))))))
     (λ p. record {
       document = p.0.0.0;
       past = p.0.0.1.0;
@@ -75,7 +80,8 @@ machine_code =
       group = p.0.0.1.1.1;
       updated_at = p.0.1.0;
       saved_at = p.0.1.1.0;
-      undo_limit = p.0.1.1.1;
+      touched = p.0.1.1.1.0;
+      undo_limit = p.0.1.1.1.1;
       updated = p.1.0.0;
       saved = p.1.0.1;
       locks = p.1.1.0;

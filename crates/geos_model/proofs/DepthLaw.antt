@@ -15,6 +15,8 @@ use Rattle.geos_model.specs.declared.fault.Fault.TheVariants.{GroupOpen, Nothing
 use Rattle.geos_model.specs.declared.command.Kind.{Kind}
 use Rattle.geos_model.specs.declared.command.Kind.TheVariants.{Group}
 use Rattle.geos_model.specs.declared.command.Command.TheVariants as commands
+use Rattle.geos_model.specs.Places.{places_of}
+use Rattle.geos_model.specs.declared.place.Place.{Place}
 use Rattle.geos_model.proofs.Refusals.{none_applies, or_none}
 use Rattle.geos_model.proofs.Undoing.{OnDone, on_done, refused, bad_line-refused, answered, none_refuses, not_in_group}
 use Rattle.geos_model.proofs.UndoLaw.{Past, before_group, outside, back, edits_of, Counted, counted-first, counted-same, counted-in, counted-empty, even-on, IsBack, undo-back}
@@ -129,15 +131,15 @@ deeper (Some most) start t m s past forgets none is free goes made = elim (cases
 -- Each request.
 
 -- an edit, in a group and in none
-edit-deep : (limit : Option ℕ) (start : Past) (t : Tally) (m : Machine) (group : Option OpenGroup) (kind : Kind) (n : ℕ) (d : Document) (forgets : Bool)
-    → group ≡ m.group → t.group ≡ edits_of group → Counted limit start t m → IfSome (depth_edited limit t.group t) (λ u. Deep limit forgets start u (recorded group kind n d m))
-edit-deep limit start t m None kind n d forgets is same counted =
-    subst (λ o. IfSome (depth_edited limit o t) (λ u. Deep limit forgets start u (recorded None kind n d m))) (sym same)
-    (deeper limit start t (recorded None kind n d m) (record { kind = kind; cost = n; document = m.document }) m.past forgets (sym is) counted.bound same
-    (rw (← is) at counted.goes) (ap (λ (x : Option ℕ). limited x (record { kind = kind; cost = n; document = m.document } ∷ m.past)) counted.bound))
-edit-deep limit start t m (Some g) kind n d forgets is same counted =
-    subst (λ o. IfSome (depth_edited limit o t) (λ u. Deep limit forgets start u (recorded (Some g) kind n d m))) (sym same)
-    (deep-counted limit forgets start (record t { group = Some (g.edits + 1) }) (recorded (Some g) kind n d m) (counted-in start t m g kind n d is limit counted))
+edit-deep : (limit : Option ℕ) (start : Past) (t : Tally) (m : Machine) (group : Option OpenGroup) (kind : Kind) (n : ℕ) (ps : List Place) (d : Document) (forgets : Bool)
+    → group ≡ m.group → t.group ≡ edits_of group → Counted limit start t m → IfSome (depth_edited limit t.group t) (λ u. Deep limit forgets start u (recorded group kind n ps d m))
+edit-deep limit start t m None kind n ps d forgets is same counted =
+    subst (λ o. IfSome (depth_edited limit o t) (λ u. Deep limit forgets start u (recorded None kind n ps d m))) (sym same)
+    (deeper limit start t (recorded None kind n ps d m) (record { kind = kind; cost = n; document = m.document; places = ps }) m.past forgets (sym is) counted.bound same
+    (rw (← is) at counted.goes) (ap (λ (x : Option ℕ). limited x (record { kind = kind; cost = n; document = m.document; places = ps } ∷ m.past)) counted.bound))
+edit-deep limit start t m (Some g) kind n ps d forgets is same counted =
+    subst (λ o. IfSome (depth_edited limit o t) (λ u. Deep limit forgets start u (recorded (Some g) kind n ps d m))) (sym same)
+    (deep-counted limit forgets start (record t { group = Some (g.edits + 1) }) (recorded (Some g) kind n ps d m) (counted-in start t m g kind n ps d is limit counted))
 
 -- a group that ends
 end-deep : (limit : Option ℕ) (start : Past) (t : Tally) (m : Machine) (group : Option OpenGroup) (forgets : Bool) → group ≡ m.group → t.group ≡ edits_of group → Counted limit start t m
@@ -147,7 +149,7 @@ end-deep limit start t m (Some g) forgets is same counted = subst (λ o. IfSome 
   | inl none ↦ subst (λ b. IfSome (if b then Some (record t { group = None }) else one_deeper limit (record t { group = None })) (λ u. Deep limit forgets start u (ended g m))) (sym none)
       (deep-counted limit forgets start (record t { group = None }) (ended g m) (counted-empty limit start t m g is none counted))
   | inr some ↦
-      let s : UndoStep = record { kind = Group; cost = g.cost; document = g.before } in
+      let s : UndoStep = record { kind = Group; cost = g.cost; document = g.before; places = g.places } in
       subst (λ b. IfSome (if b then Some (record t { group = None }) else one_deeper limit (record t { group = None })) (λ u. Deep limit forgets start u (ended g m))) (sym some)
       (deeper limit start (record t { group = None }) (ended g m) s m.past forgets refl counted.bound refl
       (rw (← is) at counted.goes) (rw some (ap (λ (x : Option ℕ). limited x (s ∷ m.past)) counted.bound)))
@@ -235,7 +237,7 @@ request-deep : (limit : Option ℕ) (start : Past) (t : Tally) (failed : Bool) (
 request-deep limit start t failed old new None reply step h counted = absurd (bad_line-refused reply step h)
 request-deep limit start t failed old new (Some (commands.Edit e)) reply step h counted =
     on_done (λ reply new. IfSome (depth_edited limit t.group t) (λ u. Deep limit false start u new)) (done_by (commands.Edit e) old) reply new
-    (edit-deep limit start t old old.group (kind_of e) (cost e old.document (effect e old.document).0) (effect e old.document).0 false refl counted.group counted)
+    (edit-deep limit start t old old.group (kind_of e) (cost e old.document (effect e old.document).0) (places_of e old.document) (effect e old.document).0 false refl counted.group counted)
     (answered (commands.Edit e) reply step h)
 request-deep limit start t failed old new (Some commands.Undo) reply step h counted =
     undo-deep limit false start t old new (undo-back failed old new (Some commands.Undo) reply step h refl) counted

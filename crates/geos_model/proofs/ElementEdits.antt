@@ -238,7 +238,7 @@ sound-referenced s t sound used room =
     sound-with_element s t (count_at s t + 1) (bytes_at s t) sound used (omega arith) (below_full (count_at s t) h.most room) h.sized
 
 -- the token that is found is a used one
-found_is_used : (passes : Element → Bool) (s : Slots) (t : ℕ) → token_of passes s ≡ Some t → is_some (element_at s t) ≡ true
+pub found_is_used : (passes : Element → Bool) (s : Slots) (t : ℕ) → token_of passes s ≡ Some t → is_some (element_at s t) ≡ true
 found_is_used passes s t found = let here = found_element passes s t found in ap is_some here.1
 
 -- what adding makes of slots, with the token that is found
@@ -306,7 +306,7 @@ none_there None e = refl
 none_there (Some x) e = absurd (true≢false (sym e))
 
 -- the newest free token is that of a free slot
-first_free : (s : Slots) (t : ℕ) (ts : List ℕ) → s.free ≡ t ∷ ts → is_sound s ≡ true → is_free s t ≡ true
+pub first_free : (s : Slots) (t : ℕ) (ts : List ℕ) → s.free ≡ t ∷ ts → is_sound s ≡ true → is_free s t ≡ true
 first_free s t ts is sound = (and_parts (is_free s t) (list_all (is_free s) ts) (subst (λ us. list_all (is_free s) us ≡ true) is (sound_parts s sound).free)).0
 
 -- a new element's token was not in use

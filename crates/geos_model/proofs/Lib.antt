@@ -38,6 +38,15 @@ pub mod BlockLists
 pub mod CopiedChains
 mod ChainShapes
 pub mod ChainEdits
+pub mod Places
+pub mod Reaching
+pub mod PlacesOfEdits
+pub mod TwoRuns
+pub mod ArrayPlaces
+pub mod SlotPlaces
+pub mod EditsReach
+pub mod Copies
 pub mod Locks
 pub mod ValidSteps
 mod Standing
+mod Touching

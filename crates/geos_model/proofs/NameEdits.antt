@@ -14,8 +14,8 @@ use Rattle.geos_model.specs.ArrayEdits.{is_missized}
 use Rattle.geos_model.specs.ElementArray.{Element, Slots, element_at, is_sound, greatest_count, slots_array}
 use Rattle.geos_model.specs.ElementEdits.{count_at, bytes_at, with_element, without_element, with_new, with_new_at, unreferenced, is_count_full}
 use Rattle.geos_model.specs.NameArray.{NameArray, part_of, text_of, is_name, is_named, is_sound_names, name_bytes, name_array_of}
-use Rattle.geos_model.specs.NameEdits.{no_names, names_in, token_of_text, text_at, part_at, name_with_reference, added_name, on_name_token, is_name_in_use, create_names_conditions, add_name_conditions, change_name_conditions, name_added, name_token_added, name_changed, name_reference_removed}
-use Rattle.geos_model.specs.EditLaws.{HasNone, KeepsOthers, AreDistinct, HasName, AddsName, Renames, LosesReference, LeavesNames, NameEditsLaw}
+use Rattle.geos_model.specs.NameEdits.{no_names, names_in, token_of_text, text_at, part_at, name_with_reference, added_name, on_name_token, is_name_in_use, create_names_conditions, add_name_conditions, change_name_conditions, set_part_conditions, name_added, name_token_added, name_changed, name_part_set, name_reference_removed}
+use Rattle.geos_model.specs.EditLaws.{HasNone, KeepsOthers, AreDistinct, HasName, AddsName, Renames, SetsPart, LosesReference, LeavesNames, NameEditsLaw}
 use Rattle.geos_model.specs.declared.fault.Fault.TheVariants.{NotArray, NoElement, NameInUse, CountFull, Range}
 use Rattle.geos_model.proofs.UsedElements.{used_element, count_at-is, bytes_at-is, counted, bounded, found_element}
 use Rattle.geos_model.proofs.Refusals.{none_applies, or_none}
@@ -251,6 +251,16 @@ kept_changed a t e text was is name free =
       | inr absent ↦ kept_new a was t e is (count_at a.names t) some most (part_at a t) text long name (some_none (token_of_text a text) absent)
     ]
 
+-- Another part before the same name.
+kept_part : (a : NameArray) (t : ℕ) (e : Element) (part : List ℕ) → IsSoundNames a → element_at a.names t ≡ Some e → length part ≡ a.part
+    → Kept a (with_element a.names t (count_at a.names t) (part ++ text_at a t)) t
+kept_part a t e part was is long =
+    let count : count_at a.names t ≡ e.count = count_at-is a.names t e is in
+    let some : 1 ≤ count_at a.names t = omega (arith, count, counted a.names was.sound t e is) in
+    let most : count_at a.names t ≤ greatest_count = omega (arith, count, bounded a.names was.sound t e is) in
+    let text : text_at a t ≡ text_of a e = text_is a t e is in
+    kept_same a was t e is (count_at a.names t) some most part (text_at a t) long (ap is_name text ∙ own_name a was t e is) text
+
 kept_added_name : (a : NameArray) (text part : List ℕ) (replace : Bool) → IsSoundNames a → is_count_full a.names (token_of_text a text) ≡ false → is_name text ≡ true → length part ≡ a.part
     → Kept a (added_name a text part replace).0 (added_name a text part replace).1
 kept_added_name a text part replace was room name long = by_token (token_of_text a text) refl room
@@ -328,6 +338,18 @@ renames a t e text was is =
       subst (λ (x : Slots). HasName (holding a x) t e.count (part_of a e) text) (sym set) (has_set a t e e.count (part_of a e) text is own.0),
     )
 
+sets_part : (a : NameArray) (t : ℕ) (e : Element) (part : List ℕ) → IsSoundNames a → element_at a.names t ≡ Some e → length part ≡ a.part
+    → SetsPart part a (holding a (with_element a.names t (count_at a.names t) (part ++ text_at a t))) t
+sets_part a t e part was is long =
+    let set : with_element a.names t (count_at a.names t) (part ++ text_at a t) ≡ with_element a.names t e.count (part ++ text_of a e) =
+    ap₂ (λ (n : ℕ) (text : List ℕ). with_element a.names t n (part ++ text)) (count_at-is a.names t e is) (text_is a t e is) in (
+      e.count,
+      part_of a e,
+      text_of a e,
+      has_own a t e was is,
+      subst (λ (x : Slots). HasName (holding a x) t e.count part (text_of a e)) (sym set) (has_set a t e e.count part (text_of a e) is long),
+    )
+
 leaves_add : (bytes text part : List ℕ) (replace : Bool) → let a = names_in bytes in
     LeavesNames (add_name_conditions bytes text part) (name_added bytes text part replace) a (record a { names = (added_name a text part replace).0 }) (name_token_added bytes text part replace) (AddsName text part replace)
 leaves_add bytes text part replace none short =
@@ -352,6 +374,17 @@ leaves_change bytes t text none short =
     let name = not_false (is_name text) (or_none (none_applies conditions none Range refl)).0 in
     left (Renames text) a new t (kept_changed a t used.0 text was used.1 name (or_none (none_applies conditions none NameInUse refl)).0)
     (renames a t used.0 text was used.1) short
+
+leaves_part : (bytes : List ℕ) (t : ℕ) (part : List ℕ) → let a = names_in bytes in
+    LeavesNames (set_part_conditions bytes t part) (name_part_set bytes t part) a (record a { names = with_element a.names t (count_at a.names t) (part ++ text_at a t) }) t (SetsPart part)
+leaves_part bytes t part none short =
+    let a : NameArray = names_in bytes in
+    let new : Slots = with_element a.names t (count_at a.names t) (part ++ text_at a t) in
+    let conditions = set_part_conditions bytes t part in
+    let was = sound_names_parts a (names_sound bytes (or_none (none_applies conditions none NotArray refl)).0) in
+    let used = is_used a.names t (or_none (none_applies conditions none NoElement refl)).0 in
+    let long : length part ≡ a.part = eqb-true (length part) a.part (not_false (length part == a.part) (or_none (none_applies conditions none Range refl)).0) in
+    left (SetsPart part) a new t (kept_part a t used.0 part was used.1 long) (sets_part a t used.0 part was used.1 long) short
 
 leaves_remove : (bytes : List ℕ) (t : ℕ) → let a = names_in bytes in LeavesNames (on_name_token bytes t) (name_reference_removed bytes t) a (record a { names = unreferenced a.names t }) t LosesReference
 leaves_remove bytes t none short =
@@ -379,4 +412,4 @@ leaves_create part none =
     (name_array_again (no_names part) sound (omega (arith, long)), λ t. refl, λ t u x y there. absurd (cc there))
 
 pub name_edits_law : NameEditsLaw
-name_edits_law = record { create = leaves_create; add = leaves_add; change_name = leaves_change; remove_reference = leaves_remove }
+name_edits_law = record { create = leaves_create; add = leaves_add; change_name = leaves_change; set_part = leaves_part; remove_reference = leaves_remove }

@@ -12,6 +12,8 @@ use Rattle.geos_model.specs.Saving.{is_save, SaveLaw}
 use Rattle.geos_model.specs.declared.command.Kind.{Kind}
 use Rattle.geos_model.specs.declared.command.Command.{Command}
 use Rattle.geos_model.specs.declared.command.Command.TheVariants as commands
+use Rattle.geos_model.specs.Places.{places_of}
+use Rattle.geos_model.specs.declared.place.Place.{Place}
 use Rattle.geos_model.proofs.Undoing.{OnDone, IsAt, on_done, done_by-stays, same_machine, refused, bad_line-refused, answered}
 
 -- The saved document is that of this one.
@@ -22,9 +24,9 @@ at-has_saved : (m : Machine) (o : Option (Reply × Machine)) → OnDone (IsAt m)
 at-has_saved m None at = tt
 at-has_saved m (Some (reply, new)) at = ap (λ (n : Machine). n.saved) at
 
-recorded-has_saved : (group : Option OpenGroup) (kind : Kind) (cost : ℕ) (d : Document) (m : Machine) → (recorded group kind cost d m).saved ≡ m.saved
-recorded-has_saved None kind cost d m = refl
-recorded-has_saved (Some g) kind cost d m = refl
+recorded-has_saved : (group : Option OpenGroup) (kind : Kind) (n : ℕ) (ps : List Place) (d : Document) (m : Machine) → (recorded group kind n ps d m).saved ≡ m.saved
+recorded-has_saved None kind n ps d m = refl
+recorded-has_saved (Some g) kind n ps d m = refl
 
 closed-has_saved : (m : Machine) (new : OpenGroup → Machine) (group : Option OpenGroup) → ((g : OpenGroup) → (new g).saved ≡ m.saved)
     → OnDone (HasSaved m) (option_map (λ g. (Accepted, new g)) group)
@@ -41,7 +43,7 @@ redone-has_saved m (s ∷ future) = refl
 
 -- a command that is no save leaves what was saved
 done_by-has_saved : (c : Command) (m : Machine) → is_save (Some c) ≡ false → OnDone (HasSaved m) (done_by c m)
-done_by-has_saved (commands.Edit e) m h = recorded-has_saved m.group (kind_of e) (cost e m.document (effect e m.document).0) (effect e m.document).0 m
+done_by-has_saved (commands.Edit e) m h = recorded-has_saved m.group (kind_of e) (cost e m.document (effect e m.document).0) (places_of e m.document) (effect e m.document).0 m
 done_by-has_saved commands.Undo m h = undone-has_saved m m.past
 done_by-has_saved commands.Redo m h = redone-has_saved m m.future
 done_by-has_saved commands.Begin m h = refl

@@ -1,5 +1,5 @@
--- What lines on chains and groups are, and the text of what only chains are answered.
-use Rattle.std.proofs.Common.{◌≡◌, true, false, Some, None, codes, refl}
+-- What lines on chains, groups and splices are, and the text of what only chains are answered.
+use Rattle.std.proofs.Common.{◌≡◌, [], ◌∷◌, true, false, Some, None, codes, refl}
 use Rattle.hex.specs.Hex.{decode_pairs}
 use Rattle.geos_model.specs.Reply.{AreEqual}
 use Rattle.geos_model.specs.Script.{command, reply_text}
@@ -51,6 +51,10 @@ abandoned = refl
 no_number : command (codes "begin 1") ≡ None
 unfolding command decode_pairs
 no_number = refl
+
+spliced : command (codes "splice 0003 001c 2 10 0aFF") ≡ Some (commands.Edit (edits.Splice (record { 0 = 3 }) (record { 0 = 28 }) 2 10 (0x0A ∷ 0xFF ∷ [])))
+unfolding command decode_pairs
+spliced = refl
 
 same-text : reply_text (AreEqual true) ≡ codes "same"
 unfolding reply_text

@@ -19,6 +19,8 @@ use Rattle.geos_model.specs.declared.command.Kind.{Kind}
 use Rattle.geos_model.specs.declared.command.Kind.TheVariants.{Group}
 use Rattle.geos_model.specs.declared.command.Command.{Command}
 use Rattle.geos_model.specs.declared.command.Command.TheVariants as commands
+use Rattle.geos_model.specs.Places.{places_of}
+use Rattle.geos_model.specs.declared.place.Place.{Place}
 use Rattle.geos_model.proofs.Refusals.{none_applies, or_none}
 use Rattle.geos_model.proofs.Undoing.{OnDone, IsAt, on_done, done_by-stays, same_machine, refused, bad_line-refused, answered, none_refuses, not_in_group, both_true, same_reply}
 use Rattle.geos_model.proofs.ValidSteps.{validity_law}
@@ -169,14 +171,14 @@ same-right m new updated saved updated_at saved_at outside past future right =
 abbrev IsRight : Reply → Machine → Type 0
 IsRight reply new = AreRightPositions new
 
-edit-right : (group : Option OpenGroup) (m : Machine) (kind : Kind) (n : ℕ) (to : Document) → group ≡ m.group → AreRightPositions m → AreRightPositions (recorded group kind n to m)
-edit-right None m kind n to is right =
-    let s : UndoStep = record { kind = kind; cost = n; document = m.document } in
-    both-right m (recorded None kind n to m) (position_stepped m.undo_limit) refl refl refl refl
-    (λ p d stands. stepped-stands m.undo_limit p m (recorded None kind n to m) d s refl (ap (λ (g : Option OpenGroup). outside_group g m.document) is) stands) right
-edit-right (Some g) m kind n to is right =
-    both-right m (recorded (Some g) kind n to m) position_in_group refl refl refl refl
-    (λ p d stands. in_group-stands p m (recorded (Some g) kind n to m) d (ap (λ (x : Option OpenGroup). outside_group x m.document) is) refl stands) right
+edit-right : (group : Option OpenGroup) (m : Machine) (kind : Kind) (n : ℕ) (ps : List Place) (to : Document) → group ≡ m.group → AreRightPositions m → AreRightPositions (recorded group kind n ps to m)
+edit-right None m kind n ps to is right =
+    let s : UndoStep = record { kind = kind; cost = n; document = m.document; places = ps } in
+    both-right m (recorded None kind n ps to m) (position_stepped m.undo_limit) refl refl refl refl
+    (λ p d stands. stepped-stands m.undo_limit p m (recorded None kind n ps to m) d s refl (ap (λ (g : Option OpenGroup). outside_group g m.document) is) stands) right
+edit-right (Some g) m kind n ps to is right =
+    both-right m (recorded (Some g) kind n ps to m) position_in_group refl refl refl refl
+    (λ p d stands. in_group-stands p m (recorded (Some g) kind n ps to m) d (ap (λ (x : Option OpenGroup). outside_group x m.document) is) refl stands) right
 
 undo-right : (past : List UndoStep) (m : Machine) → m.past ≡ past → m.group ≡ None → AreRightPositions m → OnDone IsRight (option_map (λ new. (Accepted, new)) (undone m past))
 undo-right [] m is none right = tt
@@ -199,7 +201,7 @@ end-right (Some g) m is valid right =
       | inl none ↦
           same-right m (ended g m) refl refl (rw none refl) (rw none refl) (sym (valid.none (eqb-true g.edits 0 none)).0 ∙ there) (rw none refl) refl right
       | inr some ↦
-          let s : UndoStep = record { kind = Group; cost = g.cost; document = g.before } in
+          let s : UndoStep = record { kind = Group; cost = g.cost; document = g.before; places = g.places } in
           both-right m (ended g m) (position_stepped m.undo_limit) refl refl (rw some refl) (rw some refl)
           (λ p d stands. stepped-stands m.undo_limit p m (ended g m) d s (rw some refl) there stands) right
     ]
@@ -218,7 +220,7 @@ free c m none = none_applies (command_conditions c m) none GroupOpen refl
 
 done_by-right : (c : Command) (m : Machine) → IsValidMachine m → first_refusal (command_conditions c m) ≡ None → AreRightPositions m → OnDone IsRight (done_by c m)
 done_by-right (commands.Edit e) m valid none right =
-    edit-right m.group m (kind_of e) (cost e m.document (effect e m.document).0) (effect e m.document).0 refl right
+    edit-right m.group m (kind_of e) (cost e m.document (effect e m.document).0) (places_of e m.document) (effect e m.document).0 refl right
 done_by-right commands.Undo m valid none right = undo-right m.past m refl (not_in_group m (or_none (free commands.Undo m none)).0) right
 done_by-right commands.Redo m valid none right = redo-right m.future m refl (not_in_group m (or_none (free commands.Redo m none)).0) right
 done_by-right commands.Begin m valid none right =

@@ -15,6 +15,8 @@ use Rattle.geos_model.specs.declared.command.Kind.{Kind}
 use Rattle.geos_model.specs.declared.command.Kind.TheVariants.{Group}
 use Rattle.geos_model.specs.declared.command.Command.{Command}
 use Rattle.geos_model.specs.declared.command.Command.TheVariants as commands
+use Rattle.geos_model.specs.Places.{places_of}
+use Rattle.geos_model.specs.declared.place.Place.{Place}
 use Rattle.geos_model.proofs.Failing.{failing_law}
 use Rattle.geos_model.proofs.Refusals.{none_applies, or_none}
 use Rattle.geos_model.proofs.Undoing.{OnDone, IsAt, on_done, done_by-stays, same_machine, refused, bad_line-refused, answered, none_refuses, not_in_group}
@@ -60,16 +62,16 @@ limited-few : (limit : Option ℕ) (most : ℕ) (steps : List UndoStep) → limi
 limited-few None most steps is = absurd (cc is)
 limited-few (Some n) most steps is = let same : n ≡ most = cc is in subst (λ (k : ℕ). length (take n steps) ≤ k) same (taken-few n steps)
 
-recorded-few : (group : Option OpenGroup) (kind : Kind) (n most : ℕ) (d : Document) (m : Machine) → group ≡ None → m.undo_limit ≡ Some most → length (recorded group kind n d m).past ≤ most
-recorded-few None kind n most d m none limit = limited-few m.undo_limit most (record { kind = kind; cost = n; document = m.document } ∷ m.past) limit
-recorded-few (Some g) kind n most d m none limit = absurd (cc none)
+recorded-few : (group : Option OpenGroup) (kind : Kind) (n most : ℕ) (ps : List Place) (d : Document) (m : Machine) → group ≡ None → m.undo_limit ≡ Some most → length (recorded group kind n ps d m).past ≤ most
+recorded-few None kind n most ps d m none limit = limited-few m.undo_limit most (record { kind = kind; cost = n; document = m.document; places = ps } ∷ m.past) limit
+recorded-few (Some g) kind n most ps d m none limit = absurd (cc none)
 
 edit-law : (failed : Bool) (old new : Machine) (e : Edit) (most : ℕ) (reply : Reply) → Step failed old (Some (commands.Edit e)) reply new → is_refused reply ≡ false
     → old.group ≡ None → old.undo_limit ≡ Some most → length new.past ≤ most
 edit-law failed old new e most reply step taken none limit =
     let d : Document = (effect e old.document).0 in
-    let is : recorded old.group (kind_of e) (cost e old.document d) d old ≡ new = same_machine (answered (commands.Edit e) reply step taken) in
-    subst (λ (m : Machine). length m.past ≤ most) is (recorded-few old.group (kind_of e) (cost e old.document d) most d old none limit)
+    let is : recorded old.group (kind_of e) (cost e old.document d) (places_of e old.document) d old ≡ new = same_machine (answered (commands.Edit e) reply step taken) in
+    subst (λ (m : Machine). length m.past ≤ most) is (recorded-few old.group (kind_of e) (cost e old.document d) most (places_of e old.document) d old none limit)
 
 ended-few : (group : Option OpenGroup) (g : OpenGroup) (m : Machine) (most : ℕ) → group ≡ Some g → is_empty_group g ≡ false → m.undo_limit ≡ Some most
     → OnDone (λ reply new. length new.past ≤ most) (option_map (λ x. (Accepted, ended x m)) group)
@@ -77,7 +79,7 @@ ended-few None g m most is some limit = absurd (cc is)
 ended-few (Some x) g m most is some limit =
     let same : x ≡ g = cc is in
     let some_x : is_empty_group x ≡ false = ap is_empty_group same ∙ some in
-    rw some_x (limited-few m.undo_limit most (record { kind = Group; cost = x.cost; document = x.before } ∷ m.past) limit)
+    rw some_x (limited-few m.undo_limit most (record { kind = Group; cost = x.cost; document = x.before; places = x.places } ∷ m.past) limit)
 
 ended-law : (failed : Bool) (old new : Machine) (g : OpenGroup) (most : ℕ) (reply : Reply) → Step failed old (Some commands.End) reply new → is_refused reply ≡ false
     → old.group ≡ Some g → is_empty_group g ≡ false → old.undo_limit ≡ Some most → length new.past ≤ most
@@ -89,9 +91,9 @@ ended-law failed old new g most reply step taken is some limit =
 abbrev LeavesLimit : Machine → Reply → Machine → Type 0
 LeavesLimit m reply new = new.undo_limit ≡ m.undo_limit
 
-recorded-leaves : (group : Option OpenGroup) (kind : Kind) (n : ℕ) (d : Document) (m : Machine) → (recorded group kind n d m).undo_limit ≡ m.undo_limit
-recorded-leaves None kind n d m = refl
-recorded-leaves (Some g) kind n d m = refl
+recorded-leaves : (group : Option OpenGroup) (kind : Kind) (n : ℕ) (ps : List Place) (d : Document) (m : Machine) → (recorded group kind n ps d m).undo_limit ≡ m.undo_limit
+recorded-leaves None kind n ps d m = refl
+recorded-leaves (Some g) kind n ps d m = refl
 
 undone-leaves : (m : Machine) (past : List UndoStep) → OnDone (LeavesLimit m) (option_map (λ new. (Accepted, new)) (undone m past))
 undone-leaves m [] = tt
@@ -114,7 +116,7 @@ stays-leaves m None at = tt
 stays-leaves m (Some (reply, new)) at = ap (λ (x : Machine). x.undo_limit) at
 
 done_by-leaves : (c : Command) (m : Machine) → OnDone (LeavesLimit m) (done_by c m)
-done_by-leaves (commands.Edit e) m = recorded-leaves m.group (kind_of e) (cost e m.document (effect e m.document).0) (effect e m.document).0 m
+done_by-leaves (commands.Edit e) m = recorded-leaves m.group (kind_of e) (cost e m.document (effect e m.document).0) (places_of e m.document) (effect e m.document).0 m
 done_by-leaves commands.Undo m = undone-leaves m m.past
 done_by-leaves commands.Redo m = redone-leaves m m.future
 done_by-leaves commands.Begin m = refl

@@ -14,6 +14,8 @@ use Rattle.geos_model.specs.declared.fault.Fault.TheVariants.{GroupOpen}
 use Rattle.geos_model.specs.declared.command.Kind.{Kind}
 use Rattle.geos_model.specs.declared.command.Command.{Command}
 use Rattle.geos_model.specs.declared.command.Command.TheVariants as commands
+use Rattle.geos_model.specs.Places.{places_of}
+use Rattle.geos_model.specs.declared.place.Place.{Place}
 use Rattle.geos_model.proofs.Refusals.{none_applies, or_none}
 use Rattle.geos_model.proofs.Undoing.{OnDone, IsAt, on_done, done_by-stays, refused, bad_line-refused, answered, none_refuses, not_in_group}
 
@@ -68,9 +70,9 @@ counted-at limit start t m None counted at = tt
 counted-at limit start t m (Some (reply, new)) counted at = counted-same limit start t m new counted at
 
 -- an edit in a group is one more there
-pub counted-in : (start : Past) (t : Tally) (m : Machine) (g : OpenGroup) (kind : Kind) (n : ℕ) (d : Document) → Some g ≡ m.group
-    → (limit : Option ℕ) → Counted limit start t m → Counted limit start (record t { group = Some (g.edits + 1) }) (recorded (Some g) kind n d m)
-counted-in start t m g kind n d is limit counted = record {
+pub counted-in : (start : Past) (t : Tally) (m : Machine) (g : OpenGroup) (kind : Kind) (n : ℕ) (ps : List Place) (d : Document) → Some g ≡ m.group
+    → (limit : Option ℕ) → Counted limit start t m → Counted limit start (record t { group = Some (g.edits + 1) }) (recorded (Some g) kind n ps d m)
+counted-in start t m g kind n ps d is limit counted = record {
   group = refl;
   whole = λ none. absurd (omega (arith, none));
   bound = counted.bound;
@@ -78,15 +80,15 @@ counted-in start t m g kind n d is limit counted = record {
 }
 
 -- what an edit does in no group is one step more, and in a group one edit more
-counted-edit : (start : Past) (t : Tally) (m : Machine) (group : Option OpenGroup) (kind : Kind) (n : ℕ) (d : Document)
-    → group ≡ m.group → t.group ≡ edits_of group → Counted None start t m → Counted None start (with_edit t.group t) (recorded group kind n d m)
-counted-edit start t m None kind n d is same counted = rw same (record {
+counted-edit : (start : Past) (t : Tally) (m : Machine) (group : Option OpenGroup) (kind : Kind) (n : ℕ) (ps : List Place) (d : Document)
+    → group ≡ m.group → t.group ≡ edits_of group → Counted None start t m → Counted None start (with_edit t.group t) (recorded group kind n ps d m)
+counted-edit start t m None kind n ps d is same counted = rw same (record {
   group = ap edits_of is;
   whole = subst (λ group. IfSome group (λ g. g.edits ≡ 0 → d ≡ g.before)) is tt;
   bound = counted.bound;
   goes = rw (counted.bound, add-one, ← is) (rw (← is) at counted.goes);
 })
-counted-edit start t m (Some g) kind n d is same counted = rw same (counted-in start t m g kind n d is None counted)
+counted-edit start t m (Some g) kind n ps d is same counted = rw same (counted-in start t m g kind n ps d is None counted)
 
 -- a group that begins has no edit
 counted-begin : (limit : Option ℕ) (start : Past) (t : Tally) (m : Machine) → m.group ≡ None → Counted limit start t m
@@ -161,7 +163,7 @@ done_by-counted : (start : Past) (t : Tally) (c : Command) (m : Machine) → tur
     → OnDone (λ reply new. Counted None start (after_request (Some c) t) new) (done_by c m)
 done_by-counted start t (commands.Edit e) m h none counted =
     let after : Document = (effect e m.document).0 in
-    counted-edit start t m m.group (kind_of e) (cost e m.document after) after refl counted.group counted
+    counted-edit start t m m.group (kind_of e) (cost e m.document after) (places_of e m.document) after refl counted.group counted
 done_by-counted start t commands.End m h none counted = counted-end start t m m.group refl counted.group counted
 done_by-counted start t commands.Undo m h none counted = absurd (cc h)
 done_by-counted start t commands.Redo m h none counted = absurd (cc h)

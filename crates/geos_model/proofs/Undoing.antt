@@ -102,6 +102,10 @@ done_by-answers (commands.Locks b) m = refl
 done_by-answers commands.Undos m = refl
 done_by-answers commands.Redos m = refl
 done_by-answers commands.Modified m = refl
+done_by-answers commands.Touched m = refl
+done_by-answers commands.UndoPlaces m = refl
+done_by-answers commands.RedoPlaces m = refl
+done_by-answers commands.AbandonPlaces m = refl
 
 -- The machine is this one.
 abbrev pub IsAt : Machine → Reply → Machine → Type 0
@@ -175,6 +179,10 @@ done_by-stays (commands.ChainEqual b other) m h = refl
 done_by-stays commands.Undos m h = refl
 done_by-stays commands.Redos m h = refl
 done_by-stays commands.Modified m h = refl
+done_by-stays commands.Touched m h = refl
+done_by-stays commands.UndoPlaces m h = refl
+done_by-stays commands.RedoPlaces m h = refl
+done_by-stays commands.AbandonPlaces m h = refl
 
 -- a reply and the machine after it
 abbrev pub answer : Reply → Machine → Option (Reply × Machine)

@@ -1,18 +1,18 @@
 -- Every step of the machine keeps validity: edits, then the machine.
-use Rattle.std.proofs.Common.{◌≡◌, ℕ, zero, suc, ◌+◌, ◌<◌, ◌≤◌, Bool, true, false, List, [], ◌∷◌, length, replicate, Option, Some, None, IfSome, unwrap_or, refl, sym, ap, subst, ◌∙◌, ◌==◌, inl, inr, arith, le-leb, ltb-false, take}
+use Rattle.std.proofs.Common.{◌≡◌, ℕ, zero, suc, ◌+◌, ◌<◌, ◌≤◌, Bool, true, false, List, [], ◌∷◌, ◌++◌, length, replicate, Option, Some, None, IfSome, unwrap_or, refl, sym, ap, subst, ◌∙◌, ◌==◌, inl, inr, arith, le-leb, ltb-false, take}
 use Rattle.std.proofs.lemmas.Bool.{cases_Bool, eqb-false, true≢false}
 use Rattle.std.proofs.lemmas.List.{length-replicate}
 use Rattle.std.specs.List.{All}
 use Rattle.std.specs.Option.{option_map, option_map_or}
 use Rattle.std.specs.FinMap.{get, empty}
 use Rattle.geos_model.specs.Refusal.{Conditions, first_refusal}
-use Rattle.geos_model.specs.Bytes.{written, resized, inserted, deleted}
+use Rattle.geos_model.specs.Bytes.{written, spliced, resized, inserted, deleted}
 use Rattle.geos_model.specs.Array.{array_bytes}
 use Rattle.geos_model.specs.ArrayEdits.{new_array, element_inserted, element_set, element_resized, elements_deleted, array_zeroed, on_array, create_conditions, insert_conditions, set_conditions, resize_conditions, delete_conditions}
 use Rattle.geos_model.specs.ElementArray.{element_bytes}
 use Rattle.geos_model.specs.ElementEdits.{no_slots, element_added, reference_added, reference_removed, element_deleted, element_changed, on_token, create_elements_conditions, add_conditions, add_reference_conditions, change_conditions}
 use Rattle.geos_model.specs.NameArray.{name_bytes}
-use Rattle.geos_model.specs.NameEdits.{no_names, name_added, name_changed, name_reference_removed, on_name_token, create_names_conditions, add_name_conditions, change_name_conditions}
+use Rattle.geos_model.specs.NameEdits.{no_names, name_added, name_changed, name_part_set, name_reference_removed, on_name_token, create_names_conditions, add_name_conditions, change_name_conditions, set_part_conditions}
 use Rattle.geos_model.specs.Cost.{cost}
 use Rattle.geos_model.specs.Document.{Block, Document, empty_document, is_valid_body, is_live, is_heap, is_heap_body, is_raw, raw_bytes_of, block_at, IsValid, attributes_of, no_block, FitAttributes, IsTyped}
 use Rattle.geos_model.specs.Meaning.{chunk_at, past_end, conditions, effect}
@@ -28,6 +28,8 @@ use Rattle.geos_model.specs.declared.command.Edit.{Edit}
 use Rattle.geos_model.specs.declared.command.Edit.TheVariants as edits
 use Rattle.geos_model.specs.declared.command.Command.{Command}
 use Rattle.geos_model.specs.declared.command.Command.TheVariants as commands
+use Rattle.geos_model.specs.Places.{places_of}
+use Rattle.geos_model.specs.declared.place.Place.{Place}
 use Rattle.geos_model.proofs.Refusals.{none_applies, or_none}
 use Rattle.geos_model.proofs.FirstRefusals.{edit-accepted}
 use Rattle.geos_model.proofs.Locks.{no_locks-valid, kept_locks-valid, empty_locks-valid, locked-live, lock-valid, unlock-valid}
@@ -67,6 +69,12 @@ effect-valid (edits.WriteRaw b at bytes) d low valid none =
     let few = raw_bytes-few d b.0 valid in
     with_body-valid d b.0 (Raw (written (raw_bytes_of d b.0) at bytes)) valid live (λ _. raw-typed d b.0 valid raw)
     (le-leb (length (written (raw_bytes_of d b.0) at bytes)) 65520 (omega (arith, same, few)))
+effect-valid (edits.SpliceRaw b at n bytes) d low valid none =
+    let cs : Conditions = conditions (edits.SpliceRaw b at n bytes) d in
+    let new : List ℕ = spliced (raw_bytes_of d b.0) at n bytes in
+    let live = not_false (is_live d b.0) (or_none (none_applies cs none NoBlock refl)).0 in
+    let raw = not_false (is_raw d b.0) (or_none (none_applies cs none WrongKind refl)).0 in
+    with_body-valid d b.0 (Raw new) valid live (λ _. raw-typed d b.0 valid raw) (le-leb (length new) 65520 (ltb-false 65520 (length new) (or_none (none_applies cs none TooBig refl)).0))
 effect-valid (edits.Attach b bytes) d low valid none =
     let cs : Conditions = conditions (edits.Attach b bytes) d in
     let live = not_false (is_live d b.0) (or_none (none_applies cs none NoBlock refl)).0 in
@@ -94,6 +102,8 @@ effect-valid (edits.Delete b c at n) d low valid none =
 effect-valid (edits.Write b c at bytes) d low valid none =
     let old : List ℕ = chunk_at d b.0 c.0 in
     fewer_bytes-valid d valid b.0 c.0 (at + length bytes) (written old at bytes) (λ within. let same = length-written old at bytes within in omega (arith, same)) none
+effect-valid (edits.Splice b c at n bytes) d low valid none =
+    let old : List ℕ = chunk_at d b.0 c.0 in new_bytes-valid d valid b.0 c.0 (past_end old (at + n)) (spliced old at n bytes) none
 effect-valid (edits.CreateArray b size extra) d low valid none = new_chunk-valid d valid b.0 (create_conditions size extra) (array_bytes (new_array size extra)) none
 effect-valid (edits.InsertElement b c i element) d low valid none =
     let old : List ℕ = chunk_at d b.0 c.0 in new_bytes-valid d valid b.0 c.0 (insert_conditions old i element) (element_inserted old i element) none
@@ -121,6 +131,8 @@ effect-valid (edits.AddName b c text part replace) d low valid none =
     let old : List ℕ = chunk_at d b.0 c.0 in new_bytes-valid d valid b.0 c.0 (add_name_conditions old text part) (name_added old text part replace) none
 effect-valid (edits.ChangeName b c t text) d low valid none =
     let old : List ℕ = chunk_at d b.0 c.0 in new_bytes-valid d valid b.0 c.0 (change_name_conditions old t.0 text) (name_changed old t.0 text) none
+effect-valid (edits.SetNamePart b c t part) d low valid none =
+    let old : List ℕ = chunk_at d b.0 c.0 in new_bytes-valid d valid b.0 c.0 (set_part_conditions old t.0 part) (name_part_set old t.0 part) none
 effect-valid (edits.RemoveName b c t) d low valid none =
     let old : List ℕ = chunk_at d b.0 c.0 in new_bytes-valid d valid b.0 c.0 (on_name_token old t.0) (name_reference_removed old t.0) none
 effect-valid (edits.CopyChain b) d low valid none = (chain-copy d b.0 valid none).copied.valid
@@ -158,7 +170,7 @@ valid-joined [] all = all
 valid-joined (s ∷ []) all = all
 valid-joined (s ∷ r ∷ steps) all =
     let older = valid-rest s (r ∷ steps) all in
-    valid-push (record { kind = Group; cost = s.cost + r.cost; document = r.document }) steps (valid-first r steps older) (valid-rest r steps older)
+    valid-push (record { kind = Group; cost = s.cost + r.cost; document = r.document; places = r.places ++ s.places }) steps (valid-first r steps older) (valid-rest r steps older)
 
 pub valid-none : AreValid []
 valid-none k d l = absurd (omega arith)
@@ -212,18 +224,18 @@ redone-valid m (s ∷ future) alone free valid all = record {
 }
 
 -- so is the machine with a valid document that an edit comes to, in a group and in none
-recorded-valid : (group : Option OpenGroup) (kind : Kind) (n : ℕ) (d : Document) (m : Machine) → IsValidMachine m → group ≡ m.group → IsValid d
-    → ((new : Machine) → new.locks ≡ m.locks → new.frames ≡ m.frames → new.document ≡ d → AreValidLocks new) → IsValidMachine (recorded group kind n d m)
-recorded-valid None kind n d m valid is good locks = record {
+recorded-valid : (group : Option OpenGroup) (kind : Kind) (n : ℕ) (ps : List Place) (d : Document) (m : Machine) → IsValidMachine m → group ≡ m.group → IsValid d
+    → ((new : Machine) → new.locks ≡ m.locks → new.frames ≡ m.frames → new.document ≡ d → AreValidLocks new) → IsValidMachine (recorded group kind n ps d m)
+recorded-valid None kind n ps d m valid is good locks = record {
   document = good;
-  past = valid-limited m.undo_limit (record { kind = kind; cost = n; document = m.document } ∷ m.past) (valid-push (record { kind = kind; cost = n; document = m.document }) m.past valid.document valid.past);
+  past = valid-limited m.undo_limit (record { kind = kind; cost = n; document = m.document; places = ps } ∷ m.past) (valid-push (record { kind = kind; cost = n; document = m.document; places = ps }) m.past valid.document valid.past);
   future = valid-none;
-  group = no_group-valid (recorded None kind n d m) (sym is);
+  group = no_group-valid (recorded None kind n ps d m) (sym is);
   updated = valid.updated;
   saved = valid.saved;
-  locks = locks (recorded None kind n d m) refl refl refl;
+  locks = locks (recorded None kind n ps d m) refl refl refl;
 }
-recorded-valid (Some g) kind n d m valid is good locks = record {
+recorded-valid (Some g) kind n ps d m valid is good locks = record {
   document = good;
   past = valid.past;
   future = valid-none;
@@ -234,13 +246,13 @@ recorded-valid (Some g) kind n d m valid is good locks = record {
   };
   updated = valid.updated;
   saved = valid.saved;
-  locks = locks (recorded (Some g) kind n d m) refl refl refl;
+  locks = locks (recorded (Some g) kind n ps d m) refl refl refl;
 }
 
 edited-valid : (e : Edit) (m : Machine) → word_given e < 65536 → IsValidMachine m → is_barred e m ≡ false → first_refusal (conditions e m.document) ≡ None → IsValidMachine (edited e m).1
 edited-valid e m low valid free none =
     let after : Document = (effect e m.document).0 in
-    recorded-valid m.group (kind_of e) (cost e m.document after) after m valid refl (effect-valid e m.document low valid.document none)
+    recorded-valid m.group (kind_of e) (cost e m.document after) (places_of e m.document) after m valid refl (effect-valid e m.document low valid.document none)
     (λ new same as_many is. kept_locks-valid m new valid.locks same as_many (λ b locked live. ap (λ d. is_live d b) is ∙ locked-live e m free b locked live))
 
 -- A group that ends, or is abandoned where no block is locked.
@@ -251,7 +263,7 @@ ended-valid (Some g) m valid held = record {
   document = valid.document;
   past = elim (cases_Bool (g.edits == 0)) [
     | inl none ↦ rw none valid.past
-    | inr some ↦ rw some (valid-limited m.undo_limit (record { kind = Group; cost = g.cost; document = g.before } ∷ m.past) (valid-push (record { kind = Group; cost = g.cost; document = g.before }) m.past held.before valid.past))
+    | inr some ↦ rw some (valid-limited m.undo_limit (record { kind = Group; cost = g.cost; document = g.before; places = g.places } ∷ m.past) (valid-push (record { kind = Group; cost = g.cost; document = g.before; places = g.places }) m.past held.before valid.past))
   ];
   future = valid.future;
   group = tt;

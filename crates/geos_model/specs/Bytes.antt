@@ -10,6 +10,10 @@ same_bytes xs ys = pointwise nat_eq xs ys
 abbrev pub written : List ℕ → ℕ → List ℕ → List ℕ
 written bytes at new = splice bytes at (at + length new) new
 
+-- with others in the place of so many from a place on
+abbrev pub spliced : List ℕ → ℕ → ℕ → List ℕ → List ℕ
+spliced bytes at n new = splice bytes at (at + n) new
+
 -- cut at the end, or with zeros there
 abbrev pub resized : List ℕ → ℕ → List ℕ
 resized bytes n = take n bytes ++ replicate (n - length bytes) 0

@@ -33,15 +33,16 @@ abbrev pub both_lengths : Document → Document → ℕ → ℕ → ℕ
 both_lengths before after b c = length (chunk_at before b c) + length (chunk_at after b c)
 
 -- For a user ID, a type or the map block nothing. For blocks made or freed the lengths of their images, for a chunk
--- made or freed its bytes. For a write twice the bytes written, for other changes within a chunk the bytes that it
--- gains or loses; for a raw body replaced the old and the new one; for an edit of an array all bytes of its chunk
--- before and after.
+-- made or freed its bytes. For a write twice the bytes written, for other changes within a chunk or a raw body the
+-- bytes that it gains and loses; for a raw body replaced the old and the new one; for an edit of an array all bytes of
+-- its chunk before and after.
 abbrev pub cost : Edit → Document → Document → ℕ
 cost (edits.NewRaw uid size) before after = length (image (Raw (replicate size 0)))
 cost (edits.NewHeap uid) before after = length (image (Heap empty))
 cost (edits.FreeBlock b) before after = image_length before b.0
 cost (edits.CopyBlock b) before after = image_length before b.0
 cost (edits.WriteRaw b at bytes) before after = 2 * length bytes
+cost (edits.SpliceRaw b at n bytes) before after = n + length bytes
 cost (edits.Attach b bytes) before after = length (raw_bytes_of before b.0) + length bytes
 cost (edits.SetUserId b uid) before after = 0
 cost (edits.SetType b heap_type) before after = 0
@@ -52,6 +53,7 @@ cost (edits.Resize b c n) before after = difference n (length (chunk_at before b
 cost (edits.Insert b c at n) before after = n
 cost (edits.Delete b c at n) before after = n
 cost (edits.Write b c at bytes) before after = 2 * length bytes
+cost (edits.Splice b c at n bytes) before after = n + length bytes
 cost (edits.CreateArray b size extra) before after = length (array_bytes (new_array size extra))
 cost (edits.InsertElement b c i element) before after = both_lengths before after b.0 c.0
 cost (edits.SetElement b c i element) before after = both_lengths before after b.0 c.0
@@ -67,6 +69,7 @@ cost (edits.ChangeElement b c t element) before after = both_lengths before afte
 cost (edits.CreateNameArray b part) before after = length (name_bytes (no_names part))
 cost (edits.AddName b c text part replace) before after = both_lengths before after b.0 c.0
 cost (edits.ChangeName b c t text) before after = both_lengths before after b.0 c.0
+cost (edits.SetNamePart b c t part) before after = both_lengths before after b.0 c.0
 cost (edits.RemoveName b c t) before after = both_lengths before after b.0 c.0
 cost (edits.CopyChain b) before after = images_length (copies_of before (chain_blocks before b.0))
 cost (edits.FreeChain b) before after = images_length (chain_blocks_of before (chain_blocks before b.0))

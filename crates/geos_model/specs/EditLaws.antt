@@ -9,7 +9,7 @@ use Rattle.geos_model.specs.ArrayEdits.{new_array, array_in, with_elements, elem
 use Rattle.geos_model.specs.ElementArray.{Element, Slots, element_at, element_bytes, element_array_of}
 use Rattle.geos_model.specs.ElementEdits.{no_slots, elements_in, count_at, bytes_at, with_element, without_element, unreferenced, added, element_added, token_added, reference_added, reference_removed, element_deleted, element_changed, on_token, create_elements_conditions, add_conditions, add_reference_conditions, change_conditions}
 use Rattle.geos_model.specs.NameArray.{NameArray, text_of, name_bytes, name_array_of}
-use Rattle.geos_model.specs.NameEdits.{no_names, names_in, part_at, added_name, name_added, name_token_added, name_changed, name_reference_removed, on_name_token, create_names_conditions, add_name_conditions, change_name_conditions}
+use Rattle.geos_model.specs.NameEdits.{no_names, names_in, text_at, part_at, added_name, name_added, name_token_added, name_changed, name_part_set, name_reference_removed, on_name_token, create_names_conditions, add_name_conditions, change_name_conditions, set_part_conditions}
 
 -- Bytes stand in this chunk, few enough and by an edit that its own conditions don't refuse, as the laws below ask for.
 pub record HasBytes (own : Conditions) (bytes : List ℕ) (d : Document) (b c : ℕ) : Type 0 where
@@ -136,6 +136,11 @@ abbrev pub Renames : List ℕ → NameArray → NameArray → ℕ → Type 0
 Renames text a new t =
     (count : ℕ) × (part : List ℕ) × (old : List ℕ) × HasName a t count part old × HasName new t count part text
 
+-- The same name stands under the token, with the same references, and another part before it.
+abbrev pub SetsPart : List ℕ → NameArray → NameArray → ℕ → Type 0
+SetsPart part a new t =
+    (count : ℕ) × (old : List ℕ) × (text : List ℕ) × HasName a t count old text × HasName new t count part text
+
 -- The name has one reference less, and goes with the last one.
 abbrev pub LosesReference : NameArray → NameArray → ℕ → Type 0
 LosesReference a new t = Becomes dereferenced a.names new.names t
@@ -158,6 +163,9 @@ pub record NameEditsLaw : Type 0 where
   pub change_name : (bytes : List ℕ) (t : ℕ) (text : List ℕ) → let a = names_in bytes in
       LeavesNames (change_name_conditions bytes t text) (name_changed bytes t text) a
       (record a { names = with_element a.names t (count_at a.names t) (part_at a t ++ text) }) t (Renames text)
+  pub set_part : (bytes : List ℕ) (t : ℕ) (part : List ℕ) → let a = names_in bytes in
+      LeavesNames (set_part_conditions bytes t part) (name_part_set bytes t part) a
+      (record a { names = with_element a.names t (count_at a.names t) (part ++ text_at a t) }) t (SetsPart part)
   pub remove_reference : (bytes : List ℕ) (t : ℕ) → let a = names_in bytes in
       LeavesNames (on_name_token bytes t) (name_reference_removed bytes t) a
       (record a { names = unreferenced a.names t }) t LosesReference

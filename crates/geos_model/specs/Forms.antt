@@ -1,6 +1,6 @@
 -- In which form a look-up is answered, so that its reply can be taken apart.
 use Rattle.std.specs.Prelude.{Bool, true, false}
-use Rattle.geos_model.specs.Reply.{Reply, AreEqual, BlockIs, BlocksAre, BytesAre, ChunksAre, HeapIs, NumberIs, RawIs, Refused, TokenIs}
+use Rattle.geos_model.specs.Reply.{Reply, AreEqual, BlockIs, BlocksAre, BytesAre, ChunksAre, HeapIs, NumberIs, PlacesAre, RawIs, Refused, TokenIs}
 use Rattle.geos_model.specs.declared.command.Command.{Command}
 use Rattle.geos_model.specs.declared.command.Command.TheVariants as commands
 
@@ -11,6 +11,7 @@ pub data Form : Type 0 where
   Bytes : Form
   Info : Form
   Equal : Form
+  Places : Form
   Nothing : Form
 
 -- that which a look-up asks for; none of a command that is no look-up
@@ -23,6 +24,10 @@ form_asked (commands.Locks b) = Number
 form_asked commands.Undos = Number
 form_asked commands.Redos = Number
 form_asked commands.Modified = Number
+form_asked commands.Touched = Places
+form_asked commands.UndoPlaces = Places
+form_asked commands.RedoPlaces = Places
+form_asked commands.AbandonPlaces = Places
 form_asked (commands.Info b) = Info
 form_asked (commands.ReadRaw b) = Bytes
 form_asked (commands.Chunks b) = Names
@@ -55,4 +60,5 @@ has_form (BytesAre bytes) Bytes = true
 has_form (RawIs uid size) Info = true
 has_form (HeapIs uid size) Info = true
 has_form (AreEqual equal) Equal = true
+has_form (PlacesAre places) Places = true
 has_form reply form = false

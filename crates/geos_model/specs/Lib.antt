@@ -15,6 +15,7 @@ pub mod Image
 pub mod File
 pub mod FileLaws
 pub mod Cost
+pub mod Places
 pub mod Reply
 pub mod Forms
 pub mod Scope
@@ -32,4 +33,5 @@ pub mod Saving
 pub mod Failing
 pub mod Validity
 pub mod Standing
+pub mod Touching
 pub mod Script

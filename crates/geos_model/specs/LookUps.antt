@@ -21,6 +21,8 @@ use Rattle.geos_model.specs.declared.look_up.LookUp.{LookUp}
 use Rattle.geos_model.specs.declared.look_up.LookUp.TheVariants as look_ups
 use Rattle.geos_model.specs.declared.look_up.NameArrayLookUp.{NameArrayLookUp}
 use Rattle.geos_model.specs.declared.look_up.NameArrayLookUp.TheVariants as name_array_look_ups
+use Rattle.geos_model.specs.declared.look_up.PlacesLookUp.{PlacesLookUp}
+use Rattle.geos_model.specs.declared.look_up.PlacesLookUp.TheVariants as places_look_ups
 use Rattle.geos_model.specs.declared.look_up.PlainLookUp.{PlainLookUp}
 use Rattle.geos_model.specs.declared.look_up.PlainLookUp.TheVariants as plain_look_ups
 
@@ -56,6 +58,10 @@ is_look_up (commands.ChainEqual b other) = true
 is_look_up commands.Undos = true
 is_look_up commands.Redos = true
 is_look_up commands.Modified = true
+is_look_up commands.Touched = true
+is_look_up commands.UndoPlaces = true
+is_look_up commands.RedoPlaces = true
+is_look_up commands.AbandonPlaces = true
 is_look_up command = asks_chunk command
 
 abbrev pub plain_look_up : PlainLookUp → Command
@@ -66,6 +72,12 @@ plain_look_up (plain_look_ups.Locks b) = commands.Locks b
 plain_look_up plain_look_ups.Undos = commands.Undos
 plain_look_up plain_look_ups.Redos = commands.Redos
 plain_look_up plain_look_ups.Modified = commands.Modified
+
+abbrev pub places_look_up : PlacesLookUp → Command
+places_look_up places_look_ups.Touched = commands.Touched
+places_look_up places_look_ups.Undo = commands.UndoPlaces
+places_look_up places_look_ups.Redo = commands.RedoPlaces
+places_look_up places_look_ups.Abandon = commands.AbandonPlaces
 
 abbrev pub chunk_array_look_up : VmHandle → ChunkHandle → ChunkArrayLookUp → Command
 chunk_array_look_up b c chunk_array_look_ups.Count = commands.ArrayCount b c
@@ -107,5 +119,6 @@ chain_look_up (chain_look_ups.Equal b other) = commands.ChainEqual b other
 abbrev pub command_of : LookUp → Command
 command_of look_ups.List = commands.List
 command_of (look_ups.Plain asked) = plain_look_up asked
+command_of (look_ups.Places asked) = places_look_up asked
 command_of (look_ups.InBlock b asked) = block_look_up b asked
 command_of (look_ups.AlongChain asked) = chain_look_up asked

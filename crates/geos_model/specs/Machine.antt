@@ -1,5 +1,5 @@
 -- The machine: a document with its past and its future, the group of edits that is open, and what the file has of it.
-use Rattle.std.specs.Prelude.{◌≡◌, ◌≢◌, ◌⊎◌, ◌≤◌, ℕ, ◌+◌, ◌-◌, List, [], ◌∷◌, Bool, true, false, not, ◌==◌, ◌&&◌, nat_le, nat_lt, if◌then◌else◌, length, take, count_by, All, Option, Some, None, IfSome, is_some, unwrap_or}
+use Rattle.std.specs.Prelude.{◌≡◌, ◌≢◌, ◌⊎◌, ◌≤◌, ℕ, ◌+◌, ◌-◌, List, [], ◌∷◌, ◌++◌, Bool, true, false, not, ◌==◌, ◌&&◌, nat_le, nat_lt, if◌then◌else◌, length, take, count_by, All, Option, Some, None, IfSome, is_some, unwrap_or}
 use Rattle.std.specs.Ordering.{nat_cmp}
 use Rattle.std.specs.FinMap.{FinMap, empty, get, insert, remove, contains_key, len}
 use Rattle.std.specs.Option.{option_map, option_map_or}
@@ -9,8 +9,11 @@ use Rattle.geos_model.specs.Meaning.{conditions, effect, on_block}
 use Rattle.geos_model.specs.Cost.{cost}
 use Rattle.geos_model.specs.Scope.{Scope, scope_of}
 use Rattle.geos_model.specs.Scope as scopes
+use Rattle.geos_model.specs.Places.{places_of, taken_back}
+use Rattle.geos_model.specs.declared.place.Place.{Place}
+use Rattle.geos_model.specs.declared.place.Place.TheVariants as place
 use Rattle.geos_model.specs.Position.{Position, Back, Nowhere, is_here, position_stepped, position_within, position_in_group, position_after_undo, position_after_redo, position_after_join}
-use Rattle.geos_model.specs.Reply.{Reply, Accepted, Refused, NumberIs, reply_of_done, look_up_conditions, look_up}
+use Rattle.geos_model.specs.Reply.{Reply, Accepted, Refused, NumberIs, PlacesAre, reply_of_done, look_up_conditions, look_up}
 use Rattle.geos_model.specs.declared.fault.Fault.{Fault}
 use Rattle.geos_model.specs.declared.fault.Fault.TheVariants.{Memory, File, BadCommand, Locked, NotLocked, LockLimit, CacheFull, NothingToUndo, NothingToRedo, NoTarget, Worn, GroupOpen, NoGroup}
 use Rattle.geos_model.specs.declared.command.Kind.{Kind}
@@ -25,12 +28,15 @@ pub record UndoStep : Type 0 where
   pub kind : Kind
   pub cost : ℕ
   pub document : Document
+  pub places : List Place  -- at which it was made, in the order in which its edits were
 
--- A group that is open: the document when it began, how many edits it has so far, and what they cost together.
+-- A group that is open: the document when it began, how many edits it has so far, what they cost together, and where
+-- they changed the document.
 pub record OpenGroup : Type 0 where
   pub before : Document
   pub edits : ℕ
   pub cost : ℕ
+  pub places : List Place  -- of its edits, in the order in which they were made
 
 pub record Machine : Type 0 where
   pub document : Document
@@ -41,6 +47,7 @@ pub record Machine : Type 0 where
   pub saved : Document  -- what a revert gives
   pub updated_at : Position  -- where the updated document stands, from the one before the open group
   pub saved_at : Position  -- and the saved one
+  pub touched : List Place  -- what is told of the newest edit, undo, redo, abandon or revert
   pub undo_limit : Option ℕ  -- how many steps an edit or a group leaves to be undone; None where all are left
   pub locks : FinMap nat_cmp ℕ  -- how often each locked block is locked
   pub frames : ℕ  -- how many blocks may be held in memory
@@ -59,6 +66,7 @@ opened_machine updated saved one sequence frames target = record {
   saved = saved;
   updated_at = Back 0;
   saved_at = if one then Back 0 else Nowhere;
+  touched = [];
   undo_limit = None;
   locks = empty;
   frames = frames;
@@ -234,7 +242,7 @@ has_edits m = option_map_or (λ g. not (is_empty_group g)) m.group false
 
 -- a group is open that has no edit yet
 abbrev pub begun : Machine → Machine
-begun m = record m { group = Some (record { before = m.document; edits = 0; cost = 0 }) }
+begun m = record m { group = Some (record { before = m.document; edits = 0; cost = 0; places = [] }) }
 
 -- no more steps than the limit allows, the newest
 abbrev pub limited : Option ℕ → List UndoStep → List UndoStep
@@ -252,7 +260,7 @@ after_forget most m = record m {
 -- The group is one step of the past, if it has edits; the limit may take the oldest. One without leaves both lists.
 abbrev pub ended : OpenGroup → Machine → Machine
 ended g m =
-    let undo : UndoStep = record { kind = Group; cost = g.cost; document = g.before } in
+    let undo : UndoStep = record { kind = Group; cost = g.cost; document = g.before; places = g.places } in
     record m {
       past = if is_empty_group g then m.past else limited m.undo_limit (undo ∷ m.past);
       group = None;
@@ -263,11 +271,12 @@ ended g m =
 -- The document is again the one when the group began. The future stays: edits of the group, if there were any, have
 -- emptied it.
 abbrev pub abandoned : OpenGroup → Machine → Machine
-abandoned g m = record m { document = g.before; group = None }
+abandoned g m = record m { document = g.before; group = None; touched = taken_back g.places }
 
 -- The newest two steps are one, a group that is charged for both.
 abbrev pub joined_steps : List UndoStep → List UndoStep
-joined_steps (s ∷ r ∷ past) = record { kind = Group; cost = s.cost + r.cost; document = r.document } ∷ past
+joined_steps (s ∷ r ∷ past) =
+    record { kind = Group; cost = s.cost + r.cost; document = r.document; places = r.places ++ s.places } ∷ past
 joined_steps past = past
 
 abbrev pub after_join : Machine → Machine
@@ -304,6 +313,9 @@ command_conditions commands.End m = (NoGroup, not (in_group m)) ∷ []
 command_conditions commands.Abandon m = (NoGroup, not (in_group m)) ∷ (Locked, has_locks m) ∷ []
 command_conditions commands.Join m = (NothingToUndo, has_no_two m) ∷ (GroupOpen, in_group m) ∷ []
 command_conditions (commands.Forget most) m = []
+command_conditions commands.UndoPlaces m = (NothingToUndo, length m.past == 0) ∷ (GroupOpen, in_group m) ∷ []
+command_conditions commands.RedoPlaces m = (NothingToRedo, length m.future == 0) ∷ (GroupOpen, in_group m) ∷ []
+command_conditions commands.AbandonPlaces m = (NoGroup, not (in_group m)) ∷ []
 command_conditions commands.Update m = on_commit m
 command_conditions commands.Save m = on_commit m
 command_conditions commands.Revert m = on_commit m
@@ -314,30 +326,34 @@ command_conditions (commands.Unlock b) m = (NotLocked, not (is_locked m b.0)) �
 command_conditions (commands.Dirty b) m = (NotLocked, not (is_locked m b.0)) ∷ on_block m.document b.0
 command_conditions c m = (CacheFull, has_no_room m (look_up_needs c)) ∷ look_up_conditions c m.document
 
--- The document becomes this one by an edit of this kind and cost, which empties the future. Where no group is open the
--- old document goes on the past, of which the limit may take the oldest; in a group the edit is counted there.
-abbrev pub recorded : Option OpenGroup → Kind → ℕ → Document → Machine → Machine
-recorded None kind cost d m =
-    let undo : UndoStep = record { kind = kind; cost = cost; document = m.document } in
+-- The document becomes this one by an edit of this kind and cost at these places, which empties the future. Where no
+-- group is open the old document goes on the past, of which the limit may take the oldest; in a group the edit is
+-- counted there.
+abbrev pub recorded : Option OpenGroup → Kind → ℕ → List Place → Document → Machine → Machine
+recorded None kind cost ps d m =
+    let undo : UndoStep = record { kind = kind; cost = cost; document = m.document; places = ps } in
     record m {
       document = d;
       past = limited m.undo_limit (undo ∷ m.past);
       future = [];
       updated_at = position_stepped m.undo_limit m.updated_at;
       saved_at = position_stepped m.undo_limit m.saved_at;
+      touched = ps;
     }
-recorded (Some g) kind cost d m = record m {
+recorded (Some g) kind cost ps d m = record m {
   document = d;
   future = [];
-  group = Some (record g { edits = g.edits + 1; cost = g.cost + cost });
+  group = Some (record g { edits = g.edits + 1; cost = g.cost + cost; places = g.places ++ ps });
   updated_at = position_in_group m.updated_at;
   saved_at = position_in_group m.saved_at;
+  touched = ps;
 }
 
 abbrev pub edited : Edit → Machine → Reply × Machine
 edited e m =
     let after = effect e m.document in
-    (reply_of_done after.1, recorded m.group (kind_of e) (cost e m.document after.0) after.0 m)
+    let recorded_in = recorded m.group (kind_of e) (cost e m.document after.0) (places_of e m.document) in
+    (reply_of_done after.1, recorded_in after.0 m)
 
 -- the newest past document is the document again, and the old one is the next of the future
 abbrev pub undone : Machine → List UndoStep → Option Machine
@@ -349,6 +365,7 @@ undone m (s ∷ past) =
       future = record s { document = m.document } ∷ m.future;
       updated_at = position_after_undo m.updated_at;
       saved_at = position_after_undo m.saved_at;
+      touched = taken_back s.places;
     })
 
 -- the next document of the future is the document again, and the old one is the newest of the past
@@ -361,6 +378,7 @@ redone m (s ∷ future) =
       future = future;
       updated_at = position_after_redo m.updated_at;
       saved_at = position_after_redo m.saved_at;
+      touched = s.places;
     })
 
 -- the document becomes the updated one
@@ -386,6 +404,7 @@ after_revert m = record m {
   updated = m.saved;
   updated_at = Back 0;
   saved_at = Back 0;
+  touched = place.All ∷ [];
   sequence = m.sequence + 1;
 }
 
@@ -407,6 +426,20 @@ is_committed p m = is_here p && not (has_edits m)
 -- 1 where the document is as it was saved, and 2 more where it is as it was updated
 abbrev pub stands_as : Machine → ℕ
 stands_as m = (if is_committed m.saved_at m then 1 else 0) + (if is_committed m.updated_at m then 2 else 0)
+
+-- What an undo tells that nothing refuses, a redo, and an abandon.
+
+abbrev pub undo_places : List UndoStep → List Place
+undo_places [] = []
+undo_places (s ∷ past) = taken_back s.places
+
+abbrev pub redo_places : List UndoStep → List Place
+redo_places [] = []
+redo_places (s ∷ future) = s.places
+
+abbrev pub abandon_places : Option OpenGroup → List Place
+abandon_places None = []
+abandon_places (Some g) = taken_back g.places
 
 -- What a command that nothing refuses answers, and the machine after it. A look-up leaves the machine; a blank line
 -- gets no answer.
@@ -430,6 +463,10 @@ done_by (commands.Locks b) m = Some (NumberIs (lock_count m b.0), m)
 done_by commands.Undos m = Some (NumberIs (length m.past), m)
 done_by commands.Redos m = Some (NumberIs (length m.future), m)
 done_by commands.Modified m = Some (NumberIs (stands_as m), m)
+done_by commands.Touched m = Some (PlacesAre m.touched, m)
+done_by commands.UndoPlaces m = Some (PlacesAre (undo_places m.past), m)
+done_by commands.RedoPlaces m = Some (PlacesAre (redo_places m.future), m)
+done_by commands.AbandonPlaces m = Some (PlacesAre (abandon_places m.group), m)
 done_by c m = option_map (λ reply. (reply, m)) (look_up c m.document)
 
 -- the first refusal, which leaves the machine as it was, or what the request does
@@ -505,6 +542,10 @@ takes_memory (commands.ChainEqual b other) m = true
 takes_memory commands.Undos m = false
 takes_memory commands.Redos m = false
 takes_memory commands.Modified m = false
+takes_memory commands.Touched m = not (length m.touched == 0)
+takes_memory commands.UndoPlaces m = not (in_group m) && not (length m.past == 0)
+takes_memory commands.RedoPlaces m = not (in_group m) && not (length m.future == 0)
+takes_memory commands.AbandonPlaces m = has_edits m
 
 -- whether a step is of a user ID, a type or the map block, so that no body is looked into
 abbrev pub is_of_no_body : Kind → Bool
@@ -517,6 +558,10 @@ is_of_no_body kind = false
 abbrev pub calls_store : Command → Machine → Bool
 calls_store commands.List m = false
 calls_store commands.Join m = false
+calls_store commands.Touched m = false
+calls_store commands.UndoPlaces m = false
+calls_store commands.RedoPlaces m = false
+calls_store commands.AbandonPlaces m = false
 calls_store (commands.Edit e) m = not (is_of_no_body (kind_of e))
 calls_store c m = takes_memory c m
 

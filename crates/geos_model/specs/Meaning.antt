@@ -3,13 +3,13 @@
 use Rattle.std.specs.Prelude.{ℕ, List, [], ◌∷◌, ◌++◌, ◌+◌, not, ◌==◌, ◌&&◌, nat_lt, length, get_or, replicate, is_none, unwrap_or}
 use Rattle.std.specs.FinMap.{insert, remove, contains_key, empty}
 use Rattle.geos_model.specs.Refusal.{Conditions}
-use Rattle.geos_model.specs.Bytes.{written, resized, inserted, deleted}
+use Rattle.geos_model.specs.Bytes.{written, spliced, resized, inserted, deleted}
 use Rattle.geos_model.specs.Array.{array_bytes}
 use Rattle.geos_model.specs.ArrayEdits.{new_array, element_inserted, element_set, element_resized, elements_deleted, array_zeroed, on_array, create_conditions, insert_conditions, set_conditions, resize_conditions, delete_conditions}
 use Rattle.geos_model.specs.ElementArray.{element_bytes}
 use Rattle.geos_model.specs.ElementEdits.{no_slots, element_added, token_added, reference_added, reference_removed, element_deleted, element_changed, on_token, create_elements_conditions, add_conditions, add_reference_conditions, change_conditions}
 use Rattle.geos_model.specs.NameArray.{name_bytes}
-use Rattle.geos_model.specs.NameEdits.{no_names, name_added, name_token_added, name_changed, name_reference_removed, on_name_token, create_names_conditions, add_name_conditions, change_name_conditions}
+use Rattle.geos_model.specs.NameEdits.{no_names, name_added, name_token_added, name_changed, name_part_set, name_reference_removed, on_name_token, create_names_conditions, add_name_conditions, change_name_conditions, set_part_conditions}
 use Rattle.geos_model.specs.Heap.{ChunkMap, capacity, next_chunk, chunk_bytes, fits_with, fits_new}
 use Rattle.geos_model.specs.Document.{Block, Document, block_at, with_block, without_block, with_blocks, without_blocks, with_body, with_user_id, with_heap_type, is_live, is_heap, is_raw, chunks_of, raw_bytes_of, next_handle}
 use Rattle.geos_model.specs.Chain.{chain_blocks, new_handles, copies_of, copy_conditions, free_conditions}
@@ -78,6 +78,9 @@ conditions (edits.NewHeap uid) d = (NoHandles, is_none (next_handle d)) ∷ []
 conditions (edits.FreeBlock b) d = on_block d b.0 ++ (IsMap, d.map_block == b.0) ∷ []
 conditions (edits.CopyBlock b) d = on_block d b.0 ++ (NoHandles, is_none (next_handle d)) ∷ []
 conditions (edits.WriteRaw b at bytes) d = on_raw d b.0 ++ past_end (raw_bytes_of d b.0) (at + length bytes)
+conditions (edits.SpliceRaw b at n bytes) d =
+    let old = raw_bytes_of d b.0 in
+    on_raw d b.0 ++ past_end old (at + n) ++ too_big (length (spliced old at n bytes))
 conditions (edits.Attach b bytes) d = on_raw d b.0 ++ too_big (length bytes)
 conditions (edits.SetUserId b uid) d = on_block d b.0
 conditions (edits.SetType b heap_type) d = on_heap d b.0
@@ -90,6 +93,8 @@ conditions (edits.Insert b c at n) d =
     ++ no_room (chunks_of d b.0) c.0 (inserted (chunk_at d b.0 c.0) at n)
 conditions (edits.Delete b c at n) d = on_chunk d b.0 c.0 ++ past_end (chunk_at d b.0 c.0) (at + n)
 conditions (edits.Write b c at bytes) d = on_chunk d b.0 c.0 ++ past_end (chunk_at d b.0 c.0) (at + length bytes)
+conditions (edits.Splice b c at n bytes) d =
+    let old = chunk_at d b.0 c.0 in on_new_bytes d b.0 c.0 (past_end old (at + n)) (spliced old at n bytes)
 conditions (edits.CreateArray b size extra) d =
     on_new_chunk d b.0 (create_conditions size extra) (array_bytes (new_array size extra))
 conditions (edits.InsertElement b c i element) d =
@@ -124,6 +129,9 @@ conditions (edits.AddName b c text part replace) d =
 conditions (edits.ChangeName b c t text) d =
     let old = chunk_at d b.0 c.0 in
     on_new_bytes d b.0 c.0 (change_name_conditions old t.0 text) (name_changed old t.0 text)
+conditions (edits.SetNamePart b c t part) d =
+    let old = chunk_at d b.0 c.0 in
+    on_new_bytes d b.0 c.0 (set_part_conditions old t.0 part) (name_part_set old t.0 part)
 conditions (edits.RemoveName b c t) d =
     let old = chunk_at d b.0 c.0 in on_new_bytes d b.0 c.0 (on_name_token old t.0) (name_reference_removed old t.0)
 conditions (edits.CopyChain b) d = copy_conditions d b.0
@@ -150,6 +158,8 @@ effect (edits.NewHeap uid) d =
 effect (edits.FreeBlock b) d = (without_block d b.0, done.Nothing)
 effect (edits.CopyBlock b) d = makes_block d (block_at d b.0)
 effect (edits.WriteRaw b at bytes) d = (with_body d b.0 (Raw (written (raw_bytes_of d b.0) at bytes)), done.Nothing)
+effect (edits.SpliceRaw b at n bytes) d =
+    (with_body d b.0 (Raw (spliced (raw_bytes_of d b.0) at n bytes)), done.Nothing)
 effect (edits.Attach b bytes) d = (with_body d b.0 (Raw bytes), done.Nothing)
 effect (edits.SetUserId b uid) d = (with_user_id d b.0 uid, done.Nothing)
 effect (edits.SetType b heap_type) d = (with_heap_type d b.0 heap_type, done.Nothing)
@@ -160,6 +170,7 @@ effect (edits.Resize b c n) d = (with_chunk d b.0 c.0 (resized (chunk_at d b.0 c
 effect (edits.Insert b c at n) d = (with_chunk d b.0 c.0 (inserted (chunk_at d b.0 c.0) at n), done.Nothing)
 effect (edits.Delete b c at n) d = (with_chunk d b.0 c.0 (deleted (chunk_at d b.0 c.0) at n), done.Nothing)
 effect (edits.Write b c at bytes) d = (with_chunk d b.0 c.0 (written (chunk_at d b.0 c.0) at bytes), done.Nothing)
+effect (edits.Splice b c at n bytes) d = (with_chunk d b.0 c.0 (spliced (chunk_at d b.0 c.0) at n bytes), done.Nothing)
 effect (edits.CreateArray b size extra) d = makes_chunk d b.0 (array_bytes (new_array size extra))
 effect (edits.InsertElement b c i element) d =
     (with_chunk d b.0 c.0 (element_inserted (chunk_at d b.0 c.0) i element), done.Nothing)
@@ -187,6 +198,8 @@ effect (edits.AddName b c text part replace) d =
     )
 effect (edits.ChangeName b c t text) d =
     (with_chunk d b.0 c.0 (name_changed (chunk_at d b.0 c.0) t.0 text), done.Nothing)
+effect (edits.SetNamePart b c t part) d =
+    (with_chunk d b.0 c.0 (name_part_set (chunk_at d b.0 c.0) t.0 part), done.Nothing)
 effect (edits.RemoveName b c t) d =
     (with_chunk d b.0 c.0 (name_reference_removed (chunk_at d b.0 c.0) t.0), done.Nothing)
 effect (edits.CopyChain b) d = copies_blocks d (chain_blocks d b.0)

@@ -51,6 +51,11 @@ name_changed bytes t text =
     let a = names_in bytes in
     name_bytes (record a { names = with_element a.names t (count_at a.names t) (part_at a t ++ text) })
 
+abbrev pub name_part_set : List ℕ → ℕ → List ℕ → List ℕ
+name_part_set bytes t part =
+    let a = names_in bytes in
+    name_bytes (record a { names = with_element a.names t (count_at a.names t) (part ++ text_at a t) })
+
 abbrev pub name_reference_removed : List ℕ → ℕ → List ℕ
 name_reference_removed bytes t = let a = names_in bytes in name_bytes (record a { names = unreferenced a.names t })
 
@@ -82,3 +87,7 @@ add_name_conditions bytes text part =
 abbrev pub change_name_conditions : List ℕ → ℕ → List ℕ → Conditions
 change_name_conditions bytes t text =
     on_name_token bytes t ++ (NameInUse, is_name_in_use (names_in bytes) t text) ∷ (Range, not (is_name text)) ∷ []
+
+abbrev pub set_part_conditions : List ℕ → ℕ → List ℕ → Conditions
+set_part_conditions bytes t part =
+    on_name_token bytes t ++ (Range, not (length part == (names_in bytes).part)) ∷ []

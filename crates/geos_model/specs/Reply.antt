@@ -20,6 +20,7 @@ use Rattle.geos_model.specs.declared.command.Info.TheVariants as infos
 use Rattle.geos_model.specs.declared.reply.Reply.{Reply as GivenReply}
 use Rattle.geos_model.specs.declared.reply.Reply.TheVariants as replies
 use Rattle.geos_model.specs.declared.handle.VmHandle.{VmHandle}
+use Rattle.geos_model.specs.declared.place.Place.{Place}
 use Rattle.geos_model.specs.declared.handle.ChunkHandle.{ChunkHandle}
 use Rattle.geos_model.specs.declared.command.Command.{Command}
 use Rattle.geos_model.specs.declared.command.Command.TheVariants as commands
@@ -34,6 +35,7 @@ pub data Reply : Type 0 where
   BytesAre : (bytes : List ℕ) → Reply
   BlocksAre : (handles : List ℕ) → Reply
   ChunksAre : (handles : List ℕ) → Reply
+  PlacesAre : (places : List Place) → Reply
   RawIs : (user_id size : ℕ) → Reply
   HeapIs : (user_id size : ℕ) → Reply
   AreEqual : (equal : Bool) → Reply
@@ -71,6 +73,10 @@ look_up_conditions commands.MapBlock d = []
 look_up_conditions commands.Undos d = []
 look_up_conditions commands.Redos d = []
 look_up_conditions commands.Modified d = []
+look_up_conditions commands.Touched d = []
+look_up_conditions commands.UndoPlaces d = []
+look_up_conditions commands.RedoPlaces d = []
+look_up_conditions commands.AbandonPlaces d = []
 look_up_conditions commands.Blank d = []
 look_up_conditions (commands.Edit e) d = []
 look_up_conditions commands.Undo d = []
@@ -128,6 +134,10 @@ look_up (commands.ChainEqual b other) d = Some (AreEqual (same_shape d (chain_bl
 look_up commands.Undos d = None
 look_up commands.Redos d = None
 look_up commands.Modified d = None
+look_up commands.Touched d = None
+look_up commands.UndoPlaces d = None
+look_up commands.RedoPlaces d = None
+look_up commands.AbandonPlaces d = None
 look_up commands.Blank d = None
 look_up (commands.Edit e) d = None
 look_up commands.Undo d = None
@@ -171,5 +181,6 @@ reply_of (replies.Number n) = NumberIs n
 reply_of (replies.Bytes bytes) = BytesAre bytes.now
 reply_of (replies.Blocks handles) = blocks_are handles.now
 reply_of (replies.Chunks handles) = chunks_are handles.now
+reply_of (replies.Places places) = PlacesAre places.now
 reply_of (replies.Info info) = info_is info
 reply_of (replies.Equal equal) = AreEqual equal

@@ -8,9 +8,11 @@ use Rattle.hex.specs.declared.error.FromHexError.{FromHexError}
 use Rattle.geos_model.specs.declared.handle.VmHandle.{VmHandle}
 use Rattle.geos_model.specs.declared.handle.ChunkHandle.{ChunkHandle}
 use Rattle.geos_model.specs.declared.handle.Token.{Token}
+use Rattle.geos_model.specs.declared.place.Place.{Place}
+use Rattle.geos_model.specs.declared.place.Place.TheVariants as place
 pub use Rattle.geos_model.specs.Bytes.{same_bytes}
 use Rattle.geos_model.specs.Refusal.{number_of_fault, name_of_fault}
-use Rattle.geos_model.specs.Reply.{Reply, Accepted, Refused, BlockIs, ChunkIs, TokenIs, NumberIs, BytesAre, BlocksAre, ChunksAre, RawIs, HeapIs, AreEqual}
+use Rattle.geos_model.specs.Reply.{Reply, Accepted, Refused, BlockIs, ChunkIs, TokenIs, NumberIs, BytesAre, BlocksAre, ChunksAre, PlacesAre, RawIs, HeapIs, AreEqual}
 use Rattle.geos_model.specs.Machine.{Machine, Request, Call, failed_calls, Run}
 use Rattle.geos_model.specs.declared.command.Edit.TheVariants as edits
 use Rattle.geos_model.specs.declared.command.Command.{Command}
@@ -137,6 +139,7 @@ commands_by_name =
     ∷ (codes "vfree", with_1 block (λ b. commands.Edit (edits.FreeBlock b)))
     ∷ (codes "vcopy", with_1 block (λ b. commands.Edit (edits.CopyBlock b)))
     ∷ (codes "vwrite", with_3 block number bytes (λ b at bs. commands.Edit (edits.WriteRaw b at bs)))
+    ∷ (codes "vsplice", with_4 block number number bytes (λ b at n bs. commands.Edit (edits.SpliceRaw b at n bs)))
     ∷ (codes "attach", with_2 block bytes (λ b bs. commands.Edit (edits.Attach b bs)))
     ∷ (codes "uid", with_2 block user_id (λ b u. commands.Edit (edits.SetUserId b u)))
     ∷ (codes "settype", with_2 block heap_type (λ b t. commands.Edit (edits.SetType b t)))
@@ -147,6 +150,10 @@ commands_by_name =
     ∷ (codes "insert", with_4 block chunk number number (λ b c at n. commands.Edit (edits.Insert b c at n)))
     ∷ (codes "delete", with_4 block chunk number number (λ b c at n. commands.Edit (edits.Delete b c at n)))
     ∷ (codes "write", with_4 block chunk number bytes (λ b c at bs. commands.Edit (edits.Write b c at bs)))
+    ∷ (
+      codes "splice",
+      with_5 block chunk number number bytes (λ b c at n bs. commands.Edit (edits.Splice b c at n bs)),
+    )
     ∷ (codes "acreate", with_3 block number number (λ b e x. commands.Edit (edits.CreateArray b e x)))
     ∷ (codes "ainsert", with_4 block chunk number bytes (λ b c i bs. commands.Edit (edits.InsertElement b c i bs)))
     ∷ (codes "aset", with_4 block chunk number bytes (λ b c i bs. commands.Edit (edits.SetElement b c i bs)))
@@ -166,6 +173,7 @@ commands_by_name =
           (λ b c name part replace. commands.Edit (edits.AddName b c name part replace)),
     )
     ∷ (codes "nname", with_4 block chunk token bytes (λ b c t name. commands.Edit (edits.ChangeName b c t name)))
+    ∷ (codes "nset", with_4 block chunk token bytes (λ b c t part. commands.Edit (edits.SetNamePart b c t part)))
     ∷ (codes "nunref", with_3 block chunk token (λ b c t. commands.Edit (edits.RemoveName b c t)))
     ∷ (codes "chcopy", with_1 block (λ b. commands.Edit (edits.CopyChain b)))
     ∷ (codes "chfree", with_1 block (λ b. commands.Edit (edits.FreeChain b)))
@@ -209,6 +217,10 @@ commands_by_name =
     ∷ (codes "undos", with_none commands.Undos)
     ∷ (codes "redos", with_none commands.Redos)
     ∷ (codes "modified", with_none commands.Modified)
+    ∷ (codes "touched", with_none commands.Touched)
+    ∷ (codes "undoplaces", with_none commands.UndoPlaces)
+    ∷ (codes "redoplaces", with_none commands.RedoPlaces)
+    ∷ (codes "abandonplaces", with_none commands.AbandonPlaces)
     ∷ []
 
 abbrev pub by_name : List ℕ → List (List ℕ) → List (List ℕ × (List (List ℕ) → Option Command)) → Option Command
@@ -249,6 +261,16 @@ abbrev pub hex_text : List ℕ → List ℕ
 hex_text [] = codes "-"
 hex_text (x ∷ xs) = encode_lower (x ∷ xs)
 
+abbrev pub place_text : Place → List ℕ
+place_text place.All = codes " all"
+place_text place.MapBlock = codes " map"
+place_text (place.Attributes b) = codes " attributes " ++ four_digits b.0
+place_text (place.Block b) = codes " block " ++ four_digits b.0
+place_text (place.Chunk b c) = codes " chunk " ++ four_digits b.0 ++ 32 ∷ four_digits c.0
+place_text (place.Run b c at before after) =
+    codes " run " ++ four_digits b.0 ++ 32 ∷ four_digits c.0 ++ 32 ∷ decimal at ++ 32 ∷ decimal before
+    ++ 32 ∷ decimal after
+
 unfoldable pub reply_text : Reply → List ℕ
 reply_text Accepted = codes "ok"
 reply_text (Refused fault) = codes "no " ++ decimal (number_of_fault fault) ++ 32 ∷ name_of_fault fault
@@ -259,6 +281,7 @@ reply_text (NumberIs n) = codes "number " ++ decimal n
 reply_text (BytesAre bytes) = codes "bytes " ++ hex_text bytes
 reply_text (BlocksAre hs) = codes "blocks" ++ listed hs
 reply_text (ChunksAre hs) = codes "chunks" ++ listed hs
+reply_text (PlacesAre ps) = codes "places" ++ flat_map place_text ps
 reply_text (RawIs uid size) = codes "raw " ++ decimal uid ++ 32 ∷ decimal size
 reply_text (HeapIs uid size) = codes "heap " ++ decimal uid ++ 32 ∷ decimal size
 reply_text (AreEqual true) = codes "same"

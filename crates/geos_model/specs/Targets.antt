@@ -46,6 +46,7 @@ block_edit b block_edits.Copy = edits.CopyBlock b
 
 abbrev pub raw_edit : VmHandle → RawEdit → Edit
 raw_edit b (raw_edits.Write at bytes) = edits.WriteRaw b at bytes.now
+raw_edit b (raw_edits.Splice at n bytes) = edits.SpliceRaw b at n bytes.now
 raw_edit b (raw_edits.Attach bytes) = edits.Attach b bytes.now
 
 abbrev pub new_chunk : VmHandle → NewChunk → Edit
@@ -59,6 +60,7 @@ byte_edit b c (byte_edits.Resize n) = edits.Resize b c n
 byte_edit b c (byte_edits.Insert at n) = edits.Insert b c at n
 byte_edit b c (byte_edits.Delete at n) = edits.Delete b c at n
 byte_edit b c (byte_edits.Write at bytes) = edits.Write b c at bytes.now
+byte_edit b c (byte_edits.Splice at n bytes) = edits.Splice b c at n bytes.now
 
 abbrev pub chunk_array_edit : VmHandle → ChunkHandle → ChunkArrayEdit → Edit
 chunk_array_edit b c (chunk_array_edits.Insert i bytes) = edits.InsertElement b c i bytes.now
@@ -77,6 +79,7 @@ element_array_edit b c (element_array_edits.Change t bytes) = edits.ChangeElemen
 abbrev pub name_array_edit : VmHandle → ChunkHandle → NameArrayEdit → Edit
 name_array_edit b c (name_array_edits.Add name part replace) = edits.AddName b c name.now part.now replace
 name_array_edit b c (name_array_edits.Change t name) = edits.ChangeName b c t name.now
+name_array_edit b c (name_array_edits.SetPart t part) = edits.SetNamePart b c t part.now
 name_array_edit b c (name_array_edits.Remove t) = edits.RemoveName b c t
 
 abbrev pub array_edit : VmHandle → ChunkHandle → ArrayEdit → Edit

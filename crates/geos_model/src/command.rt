@@ -21,6 +21,8 @@ pub enum Edit {
     CopyBlock(VmHandle),
     /// Bytes written over those of a raw block, from a place on.
     WriteRaw(VmHandle, u32, Bytes),
+    /// These bytes in the place of so many of a raw block, from a place on.
+    SpliceRaw(VmHandle, u32, u32, Bytes),
     /// The raw block has these bytes in place of its own.
     Attach(VmHandle, Bytes),
     /// The block gets this user ID.
@@ -41,6 +43,8 @@ pub enum Edit {
     Delete(VmHandle, ChunkHandle, u32, u32),
     /// Bytes written over those of a chunk, from a place on.
     Write(VmHandle, ChunkHandle, u32, Bytes),
+    /// These bytes in the place of so many of a chunk, from a place on.
+    Splice(VmHandle, ChunkHandle, u32, u32, Bytes),
     /// A new chunk with an array of no elements: the size of each, 0 where sizes vary, and how many zeros as extra
     /// bytes.
     CreateArray(VmHandle, u32, u32),
@@ -72,6 +76,8 @@ pub enum Edit {
     AddName(VmHandle, ChunkHandle, Bytes, Bytes, bool),
     /// The token gets this name.
     ChangeName(VmHandle, ChunkHandle, Token, Bytes),
+    /// The token's name gets this part before it.
+    SetNamePart(VmHandle, ChunkHandle, Token, Bytes),
     /// The name loses a reference, and is freed with the last one.
     RemoveName(VmHandle, ChunkHandle, Token),
     /// New blocks with the bodies and user IDs of a chain's, which link to one another as those do.
@@ -182,6 +188,12 @@ pub enum Command {
     Redos,
     /// Whether the document is a committed one: 1 where it is as it was saved, and 2 more where it is as it was updated.
     Modified,
+    /// The places at which the newest accepted edit, undo, redo, abandon or revert changed the document.
+    Touched,
+    /// Those at which an undo would change it.
+    UndoPlaces,
+    RedoPlaces,
+    AbandonPlaces,
 }
 
 /// A block's user ID, and the bytes of a raw body or those that a heap needs.

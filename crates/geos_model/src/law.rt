@@ -7,6 +7,7 @@ ghost use Rattle.geos_model.specs.Undoing.{UndoLaw, RedoLaw};
 ghost use Rattle.geos_model.specs.Depth.{DepthLaw};
 ghost use Rattle.geos_model.specs.Steps.{StepsLaw};
 ghost use Rattle.geos_model.specs.Standing.{StandingLaw};
+ghost use Rattle.geos_model.specs.Touching.{TouchedLaw};
 ghost use Rattle.geos_model.specs.Saving.{SaveLaw};
 ghost use Rattle.geos_model.specs.Failing.{FailingLaw};
 ghost use Rattle.geos_model.specs.Validity.{ValidityLaw};
@@ -107,6 +108,13 @@ pub fn standing_law()
 /// but the call that sets the limit changes it.
 pub fn steps_law()
     ensures { StepsLaw }
+{}
+
+/// Whoever keeps a copy of the document, and after each accepted edit, undo, redo, abandon and revert looks again at the
+/// places that are told and at nothing else, has the document. Any other call leaves it, and leaves what is told, which
+/// is not to be looked at twice. What an undo, a redo or an abandon tells can be asked before.
+pub fn touched_law()
+    ensures { TouchedLaw }
 {}
 
 /// A save keeps the document, and a revert gives back what was saved last.

@@ -10,6 +10,7 @@ mod handle;
 mod law;
 mod limit;
 mod look_up;
+mod place;
 mod reply;
 mod target;
 
@@ -22,7 +23,7 @@ pub use handle::{ChunkHandle, Token, VmHandle};
 pub use law::{
     array_edits_law, array_law, chain_edits_law, chain_law, chunk_edits_law, chunk_law,
     element_array_law, element_edits_law, failing_law, file_law, image_law, name_array_law,
-    name_edits_law, number_law, redo_law, save_law, undo_law, validity_law, word_law,
+    name_edits_law, number_law, redo_law, save_law, touched_law, undo_law, validity_law, word_law,
 };
 pub use limit::{
     CAPACITY, LONGEST_CHUNK, MOST_BLOCKS, MOST_BLOCKS_OF_VERSION_1, PAGE_LIMIT,
@@ -30,8 +31,9 @@ pub use limit::{
 };
 pub use look_up::{
     ArrayLookUp, BlockLookUp, ChainLookUp, ChunkArrayLookUp, ChunkLookUp, ElementArrayLookUp,
-    LookUp, NameArrayLookUp, PlainLookUp,
+    LookUp, NameArrayLookUp, PlacesLookUp, PlainLookUp,
 };
+pub use place::Place;
 pub use reply::Reply;
 pub use target::{
     ArrayEdit, BlockEdit, ByteEdit, ChainEdit, ChunkArrayEdit, ChunkEdit, ElementArrayEdit,

@@ -16,6 +16,15 @@ pub enum PlainLookUp {
     Modified,
 }
 
+/// Whose places are asked for: those of what changed the document last, or of what would change it next.
+#[derive(Clone, Copy)]
+pub enum PlacesLookUp {
+    Touched,
+    Undo,
+    Redo,
+    Abandon,
+}
+
 /// What is asked of a chunk array, by the numbers of its elements.
 #[derive(Clone, Copy)]
 pub enum ChunkArrayLookUp {
@@ -79,6 +88,7 @@ pub enum ChainLookUp {
 pub enum LookUp<'a> {
     List,
     Plain(PlainLookUp),
+    Places(PlacesLookUp),
     InBlock(VmHandle, BlockLookUp<'a>),
     AlongChain(ChainLookUp),
 }
@@ -107,6 +117,10 @@ impl Command {
             Command::Undos => LookUp::Plain(PlainLookUp::Undos),
             Command::Redos => LookUp::Plain(PlainLookUp::Redos),
             Command::Modified => LookUp::Plain(PlainLookUp::Modified),
+            Command::Touched => LookUp::Places(PlacesLookUp::Touched),
+            Command::UndoPlaces => LookUp::Places(PlacesLookUp::Undo),
+            Command::RedoPlaces => LookUp::Places(PlacesLookUp::Redo),
+            Command::AbandonPlaces => LookUp::Places(PlacesLookUp::Abandon),
             Command::Info(block) => LookUp::InBlock(*block, BlockLookUp::Info),
             Command::ReadRaw(block) => LookUp::InBlock(*block, BlockLookUp::ReadRaw),
             Command::Chunks(block) => LookUp::InBlock(*block, BlockLookUp::Chunks),

@@ -1,7 +1,7 @@
 //! What a command answers.
 ghost use Rattle.std.specs.Prelude.{◌≡◌};
 
-use crate::{ChunkHandle, Done, Info, Token, VmHandle};
+use crate::{ChunkHandle, Done, Info, Place, Token, VmHandle};
 
 /// What an accepted command answers. Bytes and lists are lent, so that a reply owns nothing.
 #[derive(Clone, Copy)]
@@ -14,6 +14,7 @@ pub enum Reply<'a> {
     Bytes(&'a [u8]),
     Blocks(&'a [VmHandle]),
     Chunks(&'a [ChunkHandle]),
+    Places(&'a [Place]),
     Info(Info),
     /// Whether two chains are the same.
     Equal(bool),

@@ -30,6 +30,7 @@ pub enum BlockEdit {
 #[derive(Clone, Copy)]
 pub enum RawEdit<'a> {
     Write(u32, &'a [u8]),
+    Splice(u32, u32, &'a [u8]),
     Attach(&'a [u8]),
 }
 
@@ -49,6 +50,7 @@ pub enum ByteEdit<'a> {
     Insert(u32, u32),
     Delete(u32, u32),
     Write(u32, &'a [u8]),
+    Splice(u32, u32, &'a [u8]),
 }
 
 /// An edit of a chunk array, by the numbers of its elements.
@@ -76,6 +78,7 @@ pub enum ElementArrayEdit<'a> {
 pub enum NameArrayEdit<'a> {
     Add(&'a [u8], &'a [u8], bool),
     Change(Token, &'a [u8]),
+    SetPart(Token, &'a [u8]),
     Remove(Token),
 }
 
@@ -137,6 +140,7 @@ impl Edit {
             FreeBlock(block) => Target::Block(*block, BlockEdit::Free),
             CopyBlock(block) => Target::Block(*block, BlockEdit::Copy),
             WriteRaw(block, at, new) => Target::Raw(*block, RawEdit::Write(*at, new.as_slice())),
+            SpliceRaw(block, at, n, new) => Target::Raw(*block, RawEdit::Splice(*at, *n, new.as_slice())),
             Attach(block, new) => Target::Raw(*block, RawEdit::Attach(new.as_slice())),
             Alloc(block, size) => Target::NewChunk(*block, NewChunk::Zeros(*size)),
             CreateArray(block, size, extra) => Target::NewChunk(*block, NewChunk::Array(*size, *extra)),
@@ -147,6 +151,7 @@ impl Edit {
             Insert(block, chunk, at, n) => bytes(block, chunk, ByteEdit::Insert(*at, *n)),
             Delete(block, chunk, at, n) => bytes(block, chunk, ByteEdit::Delete(*at, *n)),
             Write(block, chunk, at, new) => bytes(block, chunk, ByteEdit::Write(*at, new.as_slice())),
+            Splice(block, chunk, at, n, new) => bytes(block, chunk, ByteEdit::Splice(*at, *n, new.as_slice())),
             InsertElement(block, chunk, i, new) => array(block, chunk, ChunkArrayEdit::Insert(*i, new.as_slice())),
             SetElement(block, chunk, i, new) => array(block, chunk, ChunkArrayEdit::Set(*i, new.as_slice())),
             ResizeElement(block, chunk, i, n) => array(block, chunk, ChunkArrayEdit::Resize(*i, *n)),
@@ -162,6 +167,8 @@ impl Edit {
                 names(block, chunk, NameArrayEdit::Add(name.as_slice(), part.as_slice(), *replace)),
             ChangeName(block, chunk, token, name) =>
                 names(block, chunk, NameArrayEdit::Change(*token, name.as_slice())),
+            SetNamePart(block, chunk, token, part) =>
+                names(block, chunk, NameArrayEdit::SetPart(*token, part.as_slice())),
             RemoveName(block, chunk, token) => names(block, chunk, NameArrayEdit::Remove(*token)),
             CopyChain(root) => Target::Chain(*root, ChainEdit::Copy),
             FreeChain(root) => Target::Chain(*root, ChainEdit::Free),

@@ -135,6 +135,10 @@ LeavesFiles facts old (Some (commands.Locks b)) reply new = SameFiles old new
 LeavesFiles facts old (Some commands.Undos) reply new = SameFiles old new
 LeavesFiles facts old (Some commands.Redos) reply new = SameFiles old new
 LeavesFiles facts old (Some commands.Modified) reply new = SameFiles old new
+LeavesFiles facts old (Some commands.Touched) reply new = SameFiles old new
+LeavesFiles facts old (Some commands.UndoPlaces) reply new = SameFiles old new
+LeavesFiles facts old (Some commands.RedoPlaces) reply new = SameFiles old new
+LeavesFiles facts old (Some commands.AbandonPlaces) reply new = SameFiles old new
 LeavesFiles facts old (Some command) reply new = CommitsNothing facts old new
 LeavesFiles facts old None reply new = SameFiles old new
 

@@ -23,6 +23,10 @@ asks_no_body (commands.Locks b) = true
 asks_no_body commands.Undos = true
 asks_no_body commands.Redos = true
 asks_no_body commands.Modified = true
+asks_no_body commands.Touched = true
+asks_no_body commands.UndoPlaces = true
+asks_no_body commands.RedoPlaces = true
+asks_no_body commands.AbandonPlaces = true
 asks_no_body _ = false
 
 -- The machine answers a command so, and over any store the session is kept, and a file fault answered only where the

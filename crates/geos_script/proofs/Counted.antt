@@ -72,142 +72,163 @@ commands_few = (
         (
           few 3 _ (omega arith) (three_taken block number bytes (λ b at bs. commands.Edit (edits.WriteRaw b at bs))),
           (
-            few 2 _ (omega arith) (two_taken block bytes (λ b bs. commands.Edit (edits.Attach b bs))),
+            few 4 _ (omega arith) (four_taken block number number bytes (λ b at n bs. commands.Edit (edits.SpliceRaw b at n bs))),
             (
-              few 2 _ (omega arith) (two_taken block user_id (λ b u. commands.Edit (edits.SetUserId b u))),
+              few 2 _ (omega arith) (two_taken block bytes (λ b bs. commands.Edit (edits.Attach b bs))),
               (
-                few 2 _ (omega arith) (two_taken block heap_type (λ b t. commands.Edit (edits.SetType b t))),
+                few 2 _ (omega arith) (two_taken block user_id (λ b u. commands.Edit (edits.SetUserId b u))),
                 (
-                  few 1 _ (omega arith) (one_taken block (λ b. commands.Edit (edits.SetMap b))),
+                  few 2 _ (omega arith) (two_taken block heap_type (λ b t. commands.Edit (edits.SetType b t))),
                   (
-                    few 2 _ (omega arith) (two_taken block number (λ b n. commands.Edit (edits.Alloc b n))),
+                    few 1 _ (omega arith) (one_taken block (λ b. commands.Edit (edits.SetMap b))),
                     (
-                      few 2 _ (omega arith) (two_taken block chunk (λ b c. commands.Edit (edits.Free b c))),
+                      few 2 _ (omega arith) (two_taken block number (λ b n. commands.Edit (edits.Alloc b n))),
                       (
-                        few 3 _ (omega arith) (three_taken block chunk number (λ b c n. commands.Edit (edits.Resize b c n))),
+                        few 2 _ (omega arith) (two_taken block chunk (λ b c. commands.Edit (edits.Free b c))),
                         (
-                          few 4 _ (omega arith) (four_taken block chunk number number (λ b c at n. commands.Edit (edits.Insert b c at n))),
+                          few 3 _ (omega arith) (three_taken block chunk number (λ b c n. commands.Edit (edits.Resize b c n))),
                           (
-                            few 4 _ (omega arith) (four_taken block chunk number number (λ b c at n. commands.Edit (edits.Delete b c at n))),
+                            few 4 _ (omega arith) (four_taken block chunk number number (λ b c at n. commands.Edit (edits.Insert b c at n))),
                             (
-                              few 4 _ (omega arith) (four_taken block chunk number bytes (λ b c at bs. commands.Edit (edits.Write b c at bs))),
+                              few 4 _ (omega arith) (four_taken block chunk number number (λ b c at n. commands.Edit (edits.Delete b c at n))),
                               (
-                                few 3 _ (omega arith) (three_taken block number number (λ b e x. commands.Edit (edits.CreateArray b e x))),
+                                few 4 _ (omega arith) (four_taken block chunk number bytes (λ b c at bs. commands.Edit (edits.Write b c at bs))),
                                 (
-                                  few 4 _ (omega arith) (four_taken block chunk number bytes (λ b c i bs. commands.Edit (edits.InsertElement b c i bs))),
+                                  few 5 _ (omega arith) (five_taken block chunk number number bytes (λ b c at n bs. commands.Edit (edits.Splice b c at n bs))),
                                   (
-                                    few 4 _ (omega arith) (four_taken block chunk number bytes (λ b c i bs. commands.Edit (edits.SetElement b c i bs))),
+                                    few 3 _ (omega arith) (three_taken block number number (λ b e x. commands.Edit (edits.CreateArray b e x))),
                                     (
-                                      few 4 _ (omega arith) (four_taken block chunk number number (λ b c i n. commands.Edit (edits.ResizeElement b c i n))),
+                                      few 4 _ (omega arith) (four_taken block chunk number bytes (λ b c i bs. commands.Edit (edits.InsertElement b c i bs))),
                                       (
-                                        few 4 _ (omega arith) (four_taken block chunk number number (λ b c i k. commands.Edit (edits.DeleteElements b c i k))),
+                                        few 4 _ (omega arith) (four_taken block chunk number bytes (λ b c i bs. commands.Edit (edits.SetElement b c i bs))),
                                         (
-                                          few 2 _ (omega arith) (two_taken block chunk (λ b c. commands.Edit (edits.ZeroArray b c))),
+                                          few 4 _ (omega arith) (four_taken block chunk number number (λ b c i n. commands.Edit (edits.ResizeElement b c i n))),
                                           (
-                                            few 2 _ (omega arith) (two_taken block number (λ b e. commands.Edit (edits.CreateElementArray b e))),
+                                            few 4 _ (omega arith) (four_taken block chunk number number (λ b c i k. commands.Edit (edits.DeleteElements b c i k))),
                                             (
-                                              few 3 _ (omega arith) (three_taken block chunk bytes (λ b c bs. commands.Edit (edits.AddElement b c bs))),
+                                              few 2 _ (omega arith) (two_taken block chunk (λ b c. commands.Edit (edits.ZeroArray b c))),
                                               (
-                                                few 3 _ (omega arith) (three_taken block chunk token (λ b c t. commands.Edit (edits.AddReference b c t))),
+                                                few 2 _ (omega arith) (two_taken block number (λ b e. commands.Edit (edits.CreateElementArray b e))),
                                                 (
-                                                  few 3 _ (omega arith) (three_taken block chunk token (λ b c t. commands.Edit (edits.RemoveReference b c t))),
+                                                  few 3 _ (omega arith) (three_taken block chunk bytes (λ b c bs. commands.Edit (edits.AddElement b c bs))),
                                                   (
-                                                    few 3 _ (omega arith) (three_taken block chunk token (λ b c t. commands.Edit (edits.DeleteElement b c t))),
+                                                    few 3 _ (omega arith) (three_taken block chunk token (λ b c t. commands.Edit (edits.AddReference b c t))),
                                                     (
-                                                      few 4 _ (omega arith) (four_taken block chunk token bytes (λ b c t bs. commands.Edit (edits.ChangeElement b c t bs))),
+                                                      few 3 _ (omega arith) (three_taken block chunk token (λ b c t. commands.Edit (edits.RemoveReference b c t))),
                                                       (
-                                                        few 2 _ (omega arith) (two_taken block number (λ b d. commands.Edit (edits.CreateNameArray b d))),
+                                                        few 3 _ (omega arith) (three_taken block chunk token (λ b c t. commands.Edit (edits.DeleteElement b c t))),
                                                         (
-                                                          few 5 _ (omega arith) (five_taken block chunk bytes bytes is_set (λ b c name part replace. commands.Edit (edits.AddName b c name part replace))),
+                                                          few 4 _ (omega arith) (four_taken block chunk token bytes (λ b c t bs. commands.Edit (edits.ChangeElement b c t bs))),
                                                           (
-                                                            few 4 _ (omega arith) (four_taken block chunk token bytes (λ b c t name. commands.Edit (edits.ChangeName b c t name))),
+                                                            few 2 _ (omega arith) (two_taken block number (λ b d. commands.Edit (edits.CreateNameArray b d))),
                                                             (
-                                                              few 3 _ (omega arith) (three_taken block chunk token (λ b c t. commands.Edit (edits.RemoveName b c t))),
+                                                              few 5 _ (omega arith) (five_taken block chunk bytes bytes is_set (λ b c name part replace. commands.Edit (edits.AddName b c name part replace))),
                                                               (
-                                                                few 1 _ (omega arith) (one_taken block (λ b. commands.Edit (edits.CopyChain b))),
+                                                                few 4 _ (omega arith) (four_taken block chunk token bytes (λ b c t name. commands.Edit (edits.ChangeName b c t name))),
                                                                 (
-                                                                  few 1 _ (omega arith) (one_taken block (λ b. commands.Edit (edits.FreeChain b))),
+                                                                  few 4 _ (omega arith) (four_taken block chunk token bytes (λ b c t part. commands.Edit (edits.SetNamePart b c t part))),
                                                                   (
-                                                                    few 0 _ (omega arith) (none_taken commands.Undo),
+                                                                    few 3 _ (omega arith) (three_taken block chunk token (λ b c t. commands.Edit (edits.RemoveName b c t))),
                                                                     (
-                                                                      few 0 _ (omega arith) (none_taken commands.Redo),
+                                                                      few 1 _ (omega arith) (one_taken block (λ b. commands.Edit (edits.CopyChain b))),
                                                                       (
-                                                                        few 0 _ (omega arith) (none_taken commands.Begin),
+                                                                        few 1 _ (omega arith) (one_taken block (λ b. commands.Edit (edits.FreeChain b))),
                                                                         (
-                                                                          few 0 _ (omega arith) (none_taken commands.End),
+                                                                          few 0 _ (omega arith) (none_taken commands.Undo),
                                                                           (
-                                                                            few 0 _ (omega arith) (none_taken commands.Abandon),
+                                                                            few 0 _ (omega arith) (none_taken commands.Redo),
                                                                             (
-                                                                              few 0 _ (omega arith) (none_taken commands.Join),
+                                                                              few 0 _ (omega arith) (none_taken commands.Begin),
                                                                               (
-                                                                                few 1 _ (omega arith) (one_taken number (λ n. commands.Forget n)),
+                                                                                few 0 _ (omega arith) (none_taken commands.End),
                                                                                 (
-                                                                                  few 0 _ (omega arith) (none_taken commands.Update),
+                                                                                  few 0 _ (omega arith) (none_taken commands.Abandon),
                                                                                   (
-                                                                                    few 0 _ (omega arith) (none_taken commands.Save),
+                                                                                    few 0 _ (omega arith) (none_taken commands.Join),
                                                                                     (
-                                                                                      few 0 _ (omega arith) (none_taken commands.Revert),
+                                                                                      few 1 _ (omega arith) (one_taken number (λ n. commands.Forget n)),
                                                                                       (
-                                                                                        few 0 _ (omega arith) (none_taken commands.SaveAs),
+                                                                                        few 0 _ (omega arith) (none_taken commands.Update),
                                                                                         (
-                                                                                          few 1 _ (omega arith) (one_taken block (λ b. commands.Info b)),
+                                                                                          few 0 _ (omega arith) (none_taken commands.Save),
                                                                                           (
-                                                                                            few 1 _ (omega arith) (one_taken block (λ b. commands.HeapType b)),
+                                                                                            few 0 _ (omega arith) (none_taken commands.Revert),
                                                                                             (
-                                                                                              few 0 _ (omega arith) (none_taken commands.List),
+                                                                                              few 0 _ (omega arith) (none_taken commands.SaveAs),
                                                                                               (
-                                                                                                few 2 _ (omega arith) (two_taken user_id block (λ u b. commands.Find u b)),
+                                                                                                few 1 _ (omega arith) (one_taken block (λ b. commands.Info b)),
                                                                                                 (
-                                                                                                  few 0 _ (omega arith) (none_taken commands.MapBlock),
+                                                                                                  few 1 _ (omega arith) (one_taken block (λ b. commands.HeapType b)),
                                                                                                   (
-                                                                                                    few 1 _ (omega arith) (one_taken block (λ b. commands.ReadRaw b)),
+                                                                                                    few 0 _ (omega arith) (none_taken commands.List),
                                                                                                     (
-                                                                                                      few 1 _ (omega arith) (one_taken block (λ b. commands.Chunks b)),
+                                                                                                      few 2 _ (omega arith) (two_taken user_id block (λ u b. commands.Find u b)),
                                                                                                       (
-                                                                                                        few 2 _ (omega arith) (two_taken block chunk (λ b c. commands.Read b c)),
+                                                                                                        few 0 _ (omega arith) (none_taken commands.MapBlock),
                                                                                                         (
-                                                                                                          few 2 _ (omega arith) (two_taken block chunk (λ b c. commands.ArrayCount b c)),
+                                                                                                          few 1 _ (omega arith) (one_taken block (λ b. commands.ReadRaw b)),
                                                                                                           (
-                                                                                                            few 3 _ (omega arith) (three_taken block chunk number (λ b c i. commands.ArrayElement b c i)),
+                                                                                                            few 1 _ (omega arith) (one_taken block (λ b. commands.Chunks b)),
                                                                                                             (
-                                                                                                              few 3 _ (omega arith) (three_taken block chunk token (λ b c t. commands.ElementReferences b c t)),
+                                                                                                              few 2 _ (omega arith) (two_taken block chunk (λ b c. commands.Read b c)),
                                                                                                               (
-                                                                                                                few 3 _ (omega arith) (three_taken block chunk token (λ b c t. commands.ElementBytes b c t)),
+                                                                                                                few 2 _ (omega arith) (two_taken block chunk (λ b c. commands.ArrayCount b c)),
                                                                                                                 (
-                                                                                                                  few 2 _ (omega arith) (two_taken block chunk (λ b c. commands.ElementsUsed b c)),
+                                                                                                                  few 3 _ (omega arith) (three_taken block chunk number (λ b c i. commands.ArrayElement b c i)),
                                                                                                                   (
-                                                                                                                    few 3 _ (omega arith) (three_taken block chunk number (λ b c k. commands.TokenOfUsed b c k)),
+                                                                                                                    few 3 _ (omega arith) (three_taken block chunk token (λ b c t. commands.ElementReferences b c t)),
                                                                                                                     (
-                                                                                                                      few 3 _ (omega arith) (three_taken block chunk token (λ b c t. commands.UsedOfToken b c t)),
+                                                                                                                      few 3 _ (omega arith) (three_taken block chunk token (λ b c t. commands.ElementBytes b c t)),
                                                                                                                       (
-                                                                                                                        few 3 _ (omega arith) (three_taken block chunk bytes (λ b c name. commands.NameFind b c name)),
+                                                                                                                        few 2 _ (omega arith) (two_taken block chunk (λ b c. commands.ElementsUsed b c)),
                                                                                                                         (
-                                                                                                                          few 3 _ (omega arith) (three_taken block chunk token (λ b c t. commands.NameReferences b c t)),
+                                                                                                                          few 3 _ (omega arith) (three_taken block chunk number (λ b c k. commands.TokenOfUsed b c k)),
                                                                                                                           (
-                                                                                                                            few 3 _ (omega arith) (three_taken block chunk token (λ b c t. commands.NameText b c t)),
+                                                                                                                            few 3 _ (omega arith) (three_taken block chunk token (λ b c t. commands.UsedOfToken b c t)),
                                                                                                                             (
-                                                                                                                              few 3 _ (omega arith) (three_taken block chunk token (λ b c t. commands.NamePart b c t)),
+                                                                                                                              few 3 _ (omega arith) (three_taken block chunk bytes (λ b c name. commands.NameFind b c name)),
                                                                                                                               (
-                                                                                                                                few 1 _ (omega arith) (one_taken block (λ b. commands.Walk b)),
+                                                                                                                                few 3 _ (omega arith) (three_taken block chunk token (λ b c t. commands.NameReferences b c t)),
                                                                                                                                 (
-                                                                                                                                  few 1 _ (omega arith) (one_taken block (λ b. commands.ChainSize b)),
+                                                                                                                                  few 3 _ (omega arith) (three_taken block chunk token (λ b c t. commands.NameText b c t)),
                                                                                                                                   (
-                                                                                                                                    few 2 _ (omega arith) (two_taken block block (λ b other. commands.ChainEqual b other)),
+                                                                                                                                    few 3 _ (omega arith) (three_taken block chunk token (λ b c t. commands.NamePart b c t)),
                                                                                                                                     (
-                                                                                                                                      few 1 _ (omega arith) (one_taken block (λ b. commands.Lock b)),
+                                                                                                                                      few 1 _ (omega arith) (one_taken block (λ b. commands.Walk b)),
                                                                                                                                       (
-                                                                                                                                        few 1 _ (omega arith) (one_taken block (λ b. commands.Unlock b)),
+                                                                                                                                        few 1 _ (omega arith) (one_taken block (λ b. commands.ChainSize b)),
                                                                                                                                         (
-                                                                                                                                          few 1 _ (omega arith) (one_taken block (λ b. commands.Dirty b)),
+                                                                                                                                          few 2 _ (omega arith) (two_taken block block (λ b other. commands.ChainEqual b other)),
                                                                                                                                           (
-                                                                                                                                            few 1 _ (omega arith) (one_taken block (λ b. commands.Locks b)),
+                                                                                                                                            few 1 _ (omega arith) (one_taken block (λ b. commands.Lock b)),
                                                                                                                                             (
-                                                                                                                                              few 0 _ (omega arith) (none_taken commands.Undos),
+                                                                                                                                              few 1 _ (omega arith) (one_taken block (λ b. commands.Unlock b)),
                                                                                                                                               (
-                                                                                                                                                few 0 _ (omega arith) (none_taken commands.Redos),
+                                                                                                                                                few 1 _ (omega arith) (one_taken block (λ b. commands.Dirty b)),
                                                                                                                                                 (
-                                                                                                                                                  few 0 _ (omega arith) (none_taken commands.Modified),
-                                                                                                                                                  tt,
+                                                                                                                                                  few 1 _ (omega arith) (one_taken block (λ b. commands.Locks b)),
+                                                                                                                                                  (
+                                                                                                                                                    few 0 _ (omega arith) (none_taken commands.Undos),
+                                                                                                                                                    (
+                                                                                                                                                      few 0 _ (omega arith) (none_taken commands.Redos),
+                                                                                                                                                      (
+                                                                                                                                                        few 0 _ (omega arith) (none_taken commands.Modified),
+                                                                                                                                                        (
+                                                                                                                                                          few 0 _ (omega arith) (none_taken commands.Touched),
+                                                                                                                                                          (
+                                                                                                                                                            few 0 _ (omega arith) (none_taken commands.UndoPlaces),
+                                                                                                                                                            (
+                                                                                                                                                              few 0 _ (omega arith) (none_taken commands.RedoPlaces),
+                                                                                                                                                              (
+                                                                                                                                                                few 0 _ (omega arith) (none_taken commands.AbandonPlaces),
+                                                                                                                                                                tt,
+                                                                                                                                                              ),
+                                                                                                                                                            ),
+                                                                                                                                                          ),
+                                                                                                                                                        ),
+                                                                                                                                                      ),
+                                                                                                                                                    ),
+                                                                                                                                                  ),
                                                                                                                                                 ),
                                                                                                                                               ),
                                                                                                                                             ),

@@ -176,6 +176,7 @@ edit_read (edits.NewHeap uid) = (word refl, λ h. rw (short_read uid h.0) refl)
 edit_read (edits.FreeBlock b) = (word refl, λ h. rw (block_read b h.0) refl)
 edit_read (edits.CopyBlock b) = (word refl, λ h. rw (block_read b h.0) refl)
 edit_read (edits.WriteRaw b at bytes) = (word refl, λ h. rw (block_read b h.0, number_read at h.1.0, bytes_read bytes h.1.1.0) refl)
+edit_read (edits.SpliceRaw b at n bytes) = (word refl, λ h. rw (block_read b h.0, number_read at h.1.0, number_read n h.1.1.0, bytes_read bytes h.1.1.1.0) refl)
 edit_read (edits.Attach b bytes) = (word refl, λ h. rw (block_read b h.0, bytes_read bytes h.1.0) refl)
 edit_read (edits.SetUserId b uid) = (word refl, λ h. rw (block_read b h.0, short_read uid h.1.0) refl)
 edit_read (edits.SetType b t) = (word refl, λ h. rw (block_read b h.0, short_read t h.1.0) refl)
@@ -186,6 +187,7 @@ edit_read (edits.Resize b c n) = (word refl, λ h. rw (block_read b h.0, chunk_r
 edit_read (edits.Insert b c at n) = (word refl, λ h. rw (block_read b h.0, chunk_read c h.1.0, number_read at h.1.1.0, number_read n h.1.1.1.0) refl)
 edit_read (edits.Delete b c at n) = (word refl, λ h. rw (block_read b h.0, chunk_read c h.1.0, number_read at h.1.1.0, number_read n h.1.1.1.0) refl)
 edit_read (edits.Write b c at bytes) = (word refl, λ h. rw (block_read b h.0, chunk_read c h.1.0, number_read at h.1.1.0, bytes_read bytes h.1.1.1.0) refl)
+edit_read (edits.Splice b c at n bytes) = (word refl, λ h. rw (block_read b h.0, chunk_read c h.1.0, number_read at h.1.1.0, number_read n h.1.1.1.0, bytes_read bytes h.1.1.1.1.0) refl)
 edit_read (edits.CreateArray b e x) = (word refl, λ h. rw (block_read b h.0, number_read e h.1.0, number_read x h.1.1.0) refl)
 edit_read (edits.InsertElement b c i bytes) = (word refl, λ h. rw (block_read b h.0, chunk_read c h.1.0, number_read i h.1.1.0, bytes_read bytes h.1.1.1.0) refl)
 edit_read (edits.SetElement b c i bytes) = (word refl, λ h. rw (block_read b h.0, chunk_read c h.1.0, number_read i h.1.1.0, bytes_read bytes h.1.1.1.0) refl)
@@ -201,6 +203,7 @@ edit_read (edits.ChangeElement b c t bytes) = (word refl, λ h. rw (block_read b
 edit_read (edits.CreateNameArray b d) = (word refl, λ h. rw (block_read b h.0, number_read d h.1.0) refl)
 edit_read (edits.AddName b c name part replace) = (word refl, λ h. rw (block_read b h.0, chunk_read c h.1.0, bytes_read name h.1.1.0, bytes_read part h.1.1.1.0, flag_read replace) refl)
 edit_read (edits.ChangeName b c t name) = (word refl, λ h. rw (block_read b h.0, chunk_read c h.1.0, token_read t h.1.1.0, bytes_read name h.1.1.1.0) refl)
+edit_read (edits.SetNamePart b c t part) = (word refl, λ h. rw (block_read b h.0, chunk_read c h.1.0, token_read t h.1.1.0, bytes_read part h.1.1.1.0) refl)
 edit_read (edits.RemoveName b c t) = (word refl, λ h. rw (block_read b h.0, chunk_read c h.1.0, token_read t h.1.1.0) refl)
 edit_read (edits.CopyChain b) = (word refl, λ h. rw (block_read b h.0) refl)
 edit_read (edits.FreeChain b) = (word refl, λ h. rw (block_read b h.0) refl)
@@ -288,6 +291,14 @@ command_read commands.Redos h =
     read_by (command_spelling commands.Redos) commands.Redos (word refl, λ h. refl) h
 command_read commands.Modified h =
     read_by (command_spelling commands.Modified) commands.Modified (word refl, λ h. refl) h
+command_read commands.Touched h =
+    read_by (command_spelling commands.Touched) commands.Touched (word refl, λ h. refl) h
+command_read commands.UndoPlaces h =
+    read_by (command_spelling commands.UndoPlaces) commands.UndoPlaces (word refl, λ h. refl) h
+command_read commands.RedoPlaces h =
+    read_by (command_spelling commands.RedoPlaces) commands.RedoPlaces (word refl, λ h. refl) h
+command_read commands.AbandonPlaces h =
+    read_by (command_spelling commands.AbandonPlaces) commands.AbandonPlaces (word refl, λ h. refl) h
 
 -- what some line spells is what its text is parsed as
 pub command_of_text : (c : Command) → IsSpellable c → command (command_text c) ≡ Some c

@@ -2,7 +2,7 @@
 use Rattle.std.proofs.Common.{◌≡◌, ◌∙◌, ap, sym, subst, refl, ℕ, Bool, true, false, List, [], ◌∷◌, drop, map, Bor, Option, Some, None, Result, Ok, Err, inl, inr, if◌then◌else◌}
 use Rattle.std.specs.Prelude.{IsTrue}
 use Rattle.std.specs.Option.{option_and_then, option_map}
-use Rattle.geos_model.specs.Script.{by_name, commands_by_name, operand, same_bytes, with_none, with_1, with_2, with_3, with_4}
+use Rattle.geos_model.specs.Script.{by_name, commands_by_name, operand, same_bytes, with_none, with_1, with_2, with_3, with_4, with_5}
 use Rattle.geos_model.proofs.Arrays.{same_bytes-is}
 use Rattle.geos_model.specs.declared.command.Command.{Command}
 use Rattle.geos_model.specs.declared.fault.Fault.{Fault}
@@ -91,8 +91,15 @@ made_4 p q r s is_kept made_by to ws result m same has =
     let means = operand_is p (λ a. with_3 q r s (to a)) (operand_then q (operand_then r (operand_then s nothing))) (λ t. to t.0 t.1.0 t.1.1.0 t.1.1.1.0) (λ a. operand_is q (λ b. with_2 r s (to a b)) (operand_then r (operand_then s nothing)) (λ t. to a t.0 t.1.0 t.1.1.0) (λ b. operand_is r (λ c. with_1 s (to a b c)) (operand_then s nothing) (λ t. to a b t.0 t.1.0) (λ c. operand_is s (λ d. with_none (to a b c d)) nothing (λ t. to a b c t.0) (λ d. nothing_is (λ _. to a b c d))))) (map (λ w. w.now) ws) in
     rw means (made is_kept made_by (λ t. to t.0 t.1.0 t.1.1.0 t.1.1.1.0) _ result m (λ t. same t.0 t.1.0 t.1.1.0 t.1.1.1.0) (λ t. has t.0 t.1.0 t.1.1.0 t.1.1.1.0))
 
+pub made_5 : {A B C D E : Type 0} (p : List ℕ → Option A) (q : List ℕ → Option B) (r : List ℕ → Option C) (s : List ℕ → Option D) (u : List ℕ → Option E) (is_kept : A × (B × (C × (D × (E × Unit {0})))) → Bool) (made_by : A × (B × (C × (D × (E × Unit {0})))) → Command → Type 0) (to : A → B → C → D → E → Command) (ws : List (Bor (List ℕ))) (result : Result Command Fault)
+    → ParsesOperands is_kept made_by (operand_then p (operand_then q (operand_then r (operand_then s (operand_then u nothing)))) (map (λ w. w.now) ws)) result → ((a : A) (b : B) (c : C) (d : D) (e : E) (x : Command) → made_by (a, (b, (c, (d, (e, tt))))) x → x ≡ to a b c d e) → ((a : A) (b : B) (c : C) (d : D) (e : E) → is_kept (a, (b, (c, (d, (e, tt))))) ≡ command_has_bytes (to a b c d e))
+    → ReadsAs command_has_bytes (with_5 p q r s u to (map (λ w. w.now) ws)) result
+made_5 p q r s u is_kept made_by to ws result m same has =
+    let means = operand_is p (λ a. with_4 q r s u (to a)) (operand_then q (operand_then r (operand_then s (operand_then u nothing)))) (λ t. to t.0 t.1.0 t.1.1.0 t.1.1.1.0 t.1.1.1.1.0) (λ a. operand_is q (λ b. with_3 r s u (to a b)) (operand_then r (operand_then s (operand_then u nothing))) (λ t. to a t.0 t.1.0 t.1.1.0 t.1.1.1.0) (λ b. operand_is r (λ c. with_2 s u (to a b c)) (operand_then s (operand_then u nothing)) (λ t. to a b t.0 t.1.0 t.1.1.0) (λ c. operand_is s (λ d. with_1 u (to a b c d)) (operand_then u nothing) (λ t. to a b c t.0 t.1.0) (λ d. operand_is u (λ e. with_none (to a b c d e)) nothing (λ t. to a b c d t.0) (λ e. nothing_is (λ _. to a b c d e)))))) (map (λ w. w.now) ws) in
+    rw means (made is_kept made_by (λ t. to t.0 t.1.0 t.1.1.0 t.1.1.1.0 t.1.1.1.1.0) _ result m (λ t. same t.0 t.1.0 t.1.1.0 t.1.1.1.0 t.1.1.1.1.0) (λ t. has t.0 t.1.0 t.1.1.0 t.1.1.1.0 t.1.1.1.1.0))
+
 -- behind the last row there is none
-pub none_behind : (from : ℕ) (name : List ℕ) (operands : List (List ℕ)) → named_from from name operands ≡ named_from 73 name operands
+pub none_behind : (from : ℕ) (name : List ℕ) (operands : List (List ℕ)) → named_from from name operands ≡ named_from 80 name operands
     → ReadsAs command_has_bytes (named_from from name operands) (Err faults.BadCommand)
 unfolding named_from
 none_behind from name operands none = inl (refl, none)

@@ -13,14 +13,17 @@ is_nonempty (x ∷ xs) = true
 
 abbrev pub edit_has_bytes : Edit → Bool
 edit_has_bytes (edits.WriteRaw b at bytes) = is_nonempty bytes
+edit_has_bytes (edits.SpliceRaw b at n bytes) = is_nonempty bytes
 edit_has_bytes (edits.Attach b bytes) = is_nonempty bytes
 edit_has_bytes (edits.Write b c at bytes) = is_nonempty bytes
+edit_has_bytes (edits.Splice b c at n bytes) = is_nonempty bytes
 edit_has_bytes (edits.InsertElement b c i element) = is_nonempty element
 edit_has_bytes (edits.SetElement b c i element) = is_nonempty element
 edit_has_bytes (edits.AddElement b c element) = is_nonempty element
 edit_has_bytes (edits.ChangeElement b c t element) = is_nonempty element
 edit_has_bytes (edits.AddName b c name part replace) = is_nonempty name || is_nonempty part
 edit_has_bytes (edits.ChangeName b c t name) = is_nonempty name
+edit_has_bytes (edits.SetNamePart b c t part) = is_nonempty part
 edit_has_bytes _ = false
 
 -- Whether a command has bytes to be kept: reading it takes memory for these and for nothing else.

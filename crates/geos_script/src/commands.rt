@@ -12,7 +12,7 @@ ghost use Rattle.geos_script.specs.Reading.{ReadsAs, command_has_bytes, putting}
 ghost use Rattle.geos_script.specs.Texts.{Extends};
 
 use crate::operands::{LastOperand, Operand, spells_bytes};
-use crate::shapes::{four, none, one, three, two};
+use crate::shapes::{five, four, none, one, three, two};
 use crate::word::{Spelled, push_words};
 use geos_model::{Bytes, ChunkHandle, Command, Edit, Fault, VmHandle};
 use std::alloc::{AllocError, Global};
@@ -29,6 +29,7 @@ macro_rules! commands {
                 "vfree" "b" => one FreeBlock(b),
                 "vcopy" "b" => one CopyBlock(b),
                 "vwrite" "b at hex" => three WriteRaw(b, at, hex),
+                "vsplice" "b at n hex" => four SpliceRaw(b, at, n, hex),
                 "attach" "b hex" => two Attach(b, hex),
                 "uid" "b uid" => two SetUserId(b, uid),
                 "settype" "b type" => two SetType(b, heap_type),
@@ -39,6 +40,7 @@ macro_rules! commands {
                 "insert" "b c at n" => four Insert(b, c, at, n),
                 "delete" "b c at n" => four Delete(b, c, at, n),
                 "write" "b c at hex" => four Write(b, c, at, hex),
+                "splice" "b c at n hex" => five Splice(b, c, at, n, hex),
                 "acreate" "b e x" => three CreateArray(b, e, x),
                 "ainsert" "b c i hex" => four InsertElement(b, c, i, hex),
                 "aset" "b c i hex" => four SetElement(b, c, i, hex),
@@ -54,6 +56,7 @@ macro_rules! commands {
                 "ncreate" "b d" => two CreateNameArray(b, d),
                 "nadd" "b c name part keep|set" => add_name AddName(b, c, name, part, replace),
                 "nname" "b c t name" => four ChangeName(b, c, t, name),
+                "nset" "b c t part" => four SetNamePart(b, c, t, part),
                 "nunref" "b c t" => three RemoveName(b, c, t),
                 "chcopy" "b" => one CopyChain(b),
                 "chfree" "b" => one FreeChain(b),
@@ -101,6 +104,10 @@ macro_rules! commands {
                 "undos" => none Undos,
                 "redos" => none Redos,
                 "modified" => none Modified,
+                "touched" => none Touched,
+                "undoplaces" => none UndoPlaces,
+                "redoplaces" => none RedoPlaces,
+                "abandonplaces" => none AbandonPlaces,
             }
         }
     };

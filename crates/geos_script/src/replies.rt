@@ -2,12 +2,13 @@
 #![tactic(auto, using(crate::proofs::Extending::extending), unfolding(geos_model::specs::Script::reply_text))]
 
 ghost use Rattle.std.specs.Prelude.{◌≡◌, ◌++◌, OnOk, OnErr, codes, map};
+ghost use Rattle.std.specs.List.{flat_map};
 ghost use Rattle.geos_model.specs.Reply.{Refused, info_is, reply_by, reply_of};
-ghost use Rattle.geos_model.specs.Script.{listed, reply_text};
+ghost use Rattle.geos_model.specs.Script.{listed, place_text, reply_text};
 ghost use Rattle.geos_script.specs.Texts.{Extends};
 
 use crate::text::{push_bytes, push_handle, push_number};
-use geos_model::{ChunkHandle, Fault, Info, Reply, VmHandle};
+use geos_model::{ChunkHandle, Fault, Info, Place, Reply, VmHandle};
 use std::alloc::AllocError;
 
 fn push_blocks(out: &mut Vec<u8>, blocks: &[VmHandle]) -> Result<(), AllocError>
@@ -28,6 +29,48 @@ fn push_chunks(out: &mut Vec<u8>, chunks: &[ChunkHandle]) -> Result<(), AllocErr
     out.extend_from_slice(b"chunks")?;
     for chunk in chunks {
         push_handle(out, b" ", chunk.0)?;
+    }
+    Ok(())
+}
+
+fn push_place(out: &mut Vec<u8>, place: Place) -> Result<(), AllocError>
+    ensures ok { OnOk result (out.new.items ≡ out.old.items ++ place_text place) }
+    ensures err { OnErr result (Extends out.old.items out.new.items) }
+{
+    match place {
+        Place::All => out.extend_from_slice(b" all"),
+        Place::MapBlock => out.extend_from_slice(b" map"),
+        Place::Attributes(block) => push_handle(out, b" attributes ", block.0),
+        Place::Block(block) => push_handle(out, b" block ", block.0),
+        Place::Chunk(block, chunk) => {
+            push_handle(out, b" chunk ", block.0)?;
+            push_handle(out, b" ", chunk.0)
+        }
+        Place::Run {
+            block,
+            chunk,
+            at,
+            before,
+            after,
+        } => {
+            push_handle(out, b" run ", block.0)?;
+            push_handle(out, b" ", chunk.0)?;
+            push_number(out, b" ", u64::from(at))?;
+            push_number(out, b" ", u64::from(before))?;
+            push_number(out, b" ", u64::from(after))
+        }
+    }
+}
+
+// Never inlined, so that the code that puts the other replies stays small.
+#[inline(never)]
+fn push_places(out: &mut Vec<u8>, places: &[Place]) -> Result<(), AllocError>
+    ensures ok { OnOk result (out.new.items ≡ out.old.items ++ (codes "places" ++ flat_map place_text places.now)) }
+    ensures err { OnErr result (Extends out.old.items out.new.items) }
+{
+    out.extend_from_slice(b"places")?;
+    for place in places {
+        push_place(out, *place)?;
     }
     Ok(())
 }
@@ -67,6 +110,7 @@ pub fn push_reply(out: &mut Vec<u8>, reply: Result<Reply, Fault>) -> Result<(), 
         Ok(Reply::Bytes(bytes)) => push_bytes(out, b"bytes ", bytes),
         Ok(Reply::Blocks(blocks)) => push_blocks(out, blocks),
         Ok(Reply::Chunks(chunks)) => push_chunks(out, chunks),
+        Ok(Reply::Places(places)) => push_places(out, places),
         Ok(Reply::Info(info)) => push_info(out, info),
         Ok(Reply::Equal(true)) => out.extend_from_slice(b"same"),
         Ok(Reply::Equal(false)) => out.extend_from_slice(b"differ"),

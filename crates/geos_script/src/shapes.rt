@@ -122,3 +122,25 @@ pub(crate) fn four<
     put_made! { place, words; [a, b, c, d] =>
         make(A::read(a)?, B::read(b)?, C::read(c)?, D::read_last(alloc, d)?).into_command() }
 }
+
+#[inline(never)]
+pub(crate) fn five<
+    A: Operand,
+    B: Operand,
+    C: Operand,
+    D: Operand,
+    E: LastOperand,
+    R: Made,
+    F: FnOnce(A, B, C, D, E) -> R + Drop,
+>(alloc: Global, place: &mut Command, words: &[&[u8]], make: F) -> Result<(), Fault>
+    requires { F.IsAlwaysCallable make }
+    ensures { ParsesOperands (λ t. E.is_kept t.1.1.1.1.0)
+        (λ t c. (r : R) × F.post make t.0 t.1.0 t.1.1.0 t.1.1.1.0 t.1.1.1.1.0 r × (c ≡ R.as_command r))
+        (operand_then A.spelled
+        (operand_then B.spelled
+        (operand_then C.spelled (operand_then D.spelled (operand_then E.spelled_last nothing))))
+        (map (λ w. w.now) words.now)) (putting result place.new) }
+{
+    put_made! { place, words; [a, b, c, d, e] =>
+        make(A::read(a)?, B::read(b)?, C::read(c)?, D::read(d)?, E::read_last(alloc, e)?).into_command() }
+}

@@ -96,6 +96,10 @@ module _ {S : Type 0} (facts : S → StoreFacts) where
   after_files old new (Some commands.Undos) reply files so = after_passes old new (nothing_of old new files) so
   after_files old new (Some commands.Redos) reply files so = after_passes old new (nothing_of old new files) so
   after_files old new (Some commands.Modified) reply files so = after_passes old new (nothing_of old new files) so
+  after_files old new (Some commands.Touched) reply files so = after_passes old new (nothing_of old new files) so
+  after_files old new (Some commands.UndoPlaces) reply files so = after_passes old new (nothing_of old new files) so
+  after_files old new (Some commands.RedoPlaces) reply files so = after_passes old new (nothing_of old new files) so
+  after_files old new (Some commands.AbandonPlaces) reply files so = after_passes old new (nothing_of old new files) so
   after_files old new (Some command) reply files so = after_passes old new files so
   after_files old new None reply files so = after_passes old new (nothing_of old new files) so
 

@@ -9,7 +9,7 @@ use Rattle.std.proofs.lemmas.List.Elements.{filter-append}
 use Rattle.std.proofs.lemmas.List.Folds.{list_any-append}
 use Rattle.std.proofs.lemmas.Grind.{flat_map-append}
 use Rattle.geos_model.specs.Machine.{Call, Request, failed_calls}
-use Rattle.geos_model.specs.Reply.{Reply, Accepted, Refused, BlockIs, ChunkIs, TokenIs, NumberIs, BytesAre, BlocksAre, ChunksAre, RawIs, HeapIs, AreEqual}
+use Rattle.geos_model.specs.Reply.{Reply, Accepted, Refused, BlockIs, ChunkIs, TokenIs, NumberIs, BytesAre, BlocksAre, ChunksAre, PlacesAre, RawIs, HeapIs, AreEqual}
 use Rattle.geos_model.specs.Script.{command, gets_reply, output, reply_line, reply_text, requests}
 use Rattle.geos_model.specs.declared.command.Command.TheVariants as commands
 use Rattle.vm_store.specs.Facts.{StoreFacts}
@@ -96,6 +96,7 @@ begins_with_no-refusal (BlocksAre hs) = refl
 begins_with_no-refusal (ChunksAre hs) = refl
 begins_with_no-refusal (RawIs uid size) = refl
 begins_with_no-refusal (HeapIs uid size) = refl
+begins_with_no-refusal (PlacesAre ps) = refl
 begins_with_no-refusal (AreEqual true) = refl
 begins_with_no-refusal (AreEqual false) = refl
 

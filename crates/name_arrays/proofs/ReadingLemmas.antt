@@ -1,5 +1,5 @@
 -- A chunk's bytes are the name array that is read of them, or none, and what refusals and new bytes come to there.
-use Rattle.std.proofs.Common.{◌≡◌, ℕ, ◌+◌, ◌<◌, ◌≤◌, drop, inl, inr, length-drop, le-leb, eq-eqb, ne_eqb, Bool, true, false, ◌&&◌, ◌==◌, nat_le, if◌then◌else◌, List, length, Option, Some, None, option_and_then, refl, sym, ap, ◌∙◌, arith, leb-true, ◌-◌, ◌∷◌, ◌++◌, not, ◌||◌, is_some, is_none, unwrap_or, ap₂, Result, MatchResult, []}
+use Rattle.std.proofs.Common.{subst, ◌≡◌, ℕ, ◌+◌, ◌<◌, ◌≤◌, drop, inl, inr, length-drop, le-leb, eq-eqb, ne_eqb, Bool, true, false, ◌&&◌, ◌==◌, nat_le, if◌then◌else◌, List, length, Option, Some, None, option_and_then, refl, sym, ap, ◌∙◌, arith, leb-true, ◌-◌, ◌∷◌, ◌++◌, not, ◌||◌, is_some, is_none, unwrap_or, ap₂, Result, MatchResult, []}
 use Rattle.std.proofs.lemmas.Bool.{lt-leb, cases_Bool, and_parts, and_from, and_cases, and_left, and_right, cond-true, cond-false, true≢false}
 use Rattle.std.specs.List.{list_all}
 use Rattle.byteorder.specs.Endian.{little_number}
@@ -9,22 +9,22 @@ use Rattle.geos_model.specs.ElementArray.{Element, Slots, slots_array, slots_of,
 use Rattle.geos_model.specs.NameArray.{NameArray, is_named, is_sound_names, names_read, names_of, name_array_of, name_bytes, is_name}
 use Rattle.geos_model.proofs.Arrays.{array_bytes-of}
 use Rattle.geos_model.proofs.NameArrays.{word-small}
-use Rattle.element_arrays.specs.Slotted.{Slotted, slotted_array, slotted_bytes, GivesSlots, RefusesSlots}
+use Rattle.element_arrays.specs.Slotted.{Slotted, slotted_array, slotted_bytes, ReplacesOne, GivesSlots, RefusesSlots}
 use Rattle.element_arrays.specs.Tested.{has_length, are_slots_within}
 use Rattle.element_arrays.proofs.TestedLemmas.{slots_read-is, slots_none}
 use Rattle.name_arrays.specs.Reading.{named_array, IsNameArrayRead}
 use Rattle.std.specs.Option.{option_map_or}
 use Rattle.geos_model.specs.Refusal.{Conditions, first_refusal}
 use Rattle.geos_model.specs.ElementEdits.{count_at, bytes_at, with_element, without_element, with_new, unreferenced, is_count_full}
-use Rattle.geos_model.specs.NameEdits.{no_names, names_in, token_of_text, part_at, name_with_reference, added_name, name_added, name_token_added, name_changed, name_reference_removed, on_name_token, is_name_in_use, add_name_conditions, change_name_conditions}
+use Rattle.geos_model.specs.NameEdits.{no_names, names_in, token_of_text, part_at, name_with_reference, added_name, name_added, name_token_added, text_at, name_changed, name_part_set, name_reference_removed, on_name_token, is_name_in_use, add_name_conditions, change_name_conditions, set_part_conditions}
 use Rattle.geos_model.specs.declared.fault.Fault.TheVariants.{NotArray, NoElement, NameInUse, CountFull, Range}
 use Rattle.name_arrays.specs.Referencing.{name_bytes_with_reference, name_reference_conditions}
 use Rattle.name_arrays.proofs.NamingLemmas.{new_bytes, bytes_with, found_name}
 use Rattle.geos_model.specs.ArrayEdits.{too_long}
 use Rattle.geos_model.specs.declared.fault.Fault.{Fault}
 use Rattle.geos_model.specs.declared.handle.Token.{Token}
-use Rattle.chunk_edits.specs.Patching.{PatchPiece}
-use Rattle.chunk_arrays.specs.Replacing.{Replaces, RefusesToReplace}
+use Rattle.chunk_edits.specs.declared.runs.ArrayPatch.{ArrayPatch}
+use Rattle.chunk_arrays.specs.Replacing.{RefusesToReplace}
 use Rattle.element_arrays.proofs.SlottedLemmas.{refuses_for, replaces_for, slots_handed_on, token_handed_on}
 
 -- ---- a chunk's bytes are the name array that is read of them, or none where a test fails
@@ -199,6 +199,13 @@ module _ (bytes : List ℕ) (s : Slotted) (size : ℕ) (read : IsNameArrayRead b
       ∙ ap (λ (b : NameArray). first_refusal ((NameInUse, is_name_in_use b t text) ∷ (Range, not (is_name text)) ∷ rest)) names_are
       ∙ ap₂ (λ (x y : Bool). first_refusal ((NameInUse, x) ∷ (Range, y) ∷ rest)) in_use_is bad_is
 
+  pub part_refusals : (t : ℕ) (part : List ℕ) (bad : Bool) → is_some (element_at a.names t) ≡ true → not (length part == size) ≡ bad
+      → (rest : Conditions) → first_refusal (set_part_conditions bytes t part ++ rest) ≡ first_refusal ((Range, bad) ∷ rest)
+  part_refusals t part bad used bad_is rest =
+      past_token t used ((Range, not (length part == (names_in bytes).part)) ∷ rest)
+      ∙ ap (λ (b : NameArray). first_refusal ((Range, not (length part == b.part)) ∷ rest)) names_are
+      ∙ ap (λ (x : Bool). first_refusal ((Range, x) ∷ rest)) bad_is
+
   pub add_refusals : (text part : List ℕ) (full bad : Bool) → is_count_full a.names (token_of_text a text) ≡ full → (not (is_name text) || not (length part == size)) ≡ bad
       → (rest : Conditions) → first_refusal (add_name_conditions bytes text part ++ rest) ≡ first_refusal ((CountFull, full) ∷ (Range, bad) ∷ rest)
   add_refusals text part full bad full_is bad_is rest =
@@ -230,10 +237,11 @@ module _ (bytes : List ℕ) (s : Slotted) (size : ℕ) (read : IsNameArrayRead b
           refuses_for (add_name_conditions bytes text part) (name_reference_conditions a part t) bytes (name_added bytes text part replace) (slotted_bytes s.more s.slots) (name_bytes_with_reference a part replace t)
           decides added_found
 
-      pub found_replaced : (patch : List PatchPiece) → Replaces (name_reference_conditions a part t) (slotted_bytes s.more s.slots) (name_bytes_with_reference a part replace t) patch → Replaces (add_name_conditions bytes text part) bytes (name_added bytes text part replace) patch
-      found_replaced =
+      pub found_replaced : (p : ArrayPatch) → ReplacesOne (name_reference_conditions a part t) (slotted_bytes s.more s.slots) (name_bytes_with_reference a part replace t) t p → ReplacesOne (add_name_conditions bytes text part) bytes (name_added bytes text part replace) (name_token_added bytes text part replace) p
+      found_replaced p made =
+          subst (λ n. ReplacesOne (add_name_conditions bytes text part) bytes (name_added bytes text part replace) n p) token_found (
           replaces_for (add_name_conditions bytes text part) (name_reference_conditions a part t) bytes (name_added bytes text part replace) (slotted_bytes s.more s.slots) (name_bytes_with_reference a part replace t)
-          decides added_found read.same
+          decides added_found read.same t p made)
 
   module _ (more : s.more ≡ word size) where
     -- a new one
@@ -253,9 +261,9 @@ module _ (bytes : List ℕ) (s : Slotted) (size : ℕ) (read : IsNameArrayRead b
       pub new_refusals : (bad : Bool) → (not (is_name text) || not (length part == size)) ≡ bad → (rest : Conditions) → first_refusal (add_name_conditions bytes text part ++ rest) ≡ first_refusal ((CountFull, false) ∷ (Range, bad) ∷ rest)
       new_refusals bad bad_is = add_refusals text part false bad full_new bad_is
 
-      pub new_handed_on : (not (is_name text) || not (length part == size)) ≡ false → (r : Result (List PatchPiece × Token) Fault)
-          → MatchResult r (λ made. GivesSlots s (with_new s.slots (part ++ text)).0 made.0 × (made.1.0 ≡ (with_new s.slots (part ++ text)).1)) (RefusesSlots s (with_new s.slots (part ++ text)).0)
-          → MatchResult r (λ made. Replaces (add_name_conditions bytes text part) bytes (name_added bytes text part replace) made.0 × (made.1.0 ≡ name_token_added bytes text part replace)) (RefusesToReplace (add_name_conditions bytes text part) (name_added bytes text part replace))
+      pub new_handed_on : (not (is_name text) || not (length part == size)) ≡ false → (r : Result (ArrayPatch × Token) Fault)
+          → MatchResult r (λ made. GivesSlots s (with_new s.slots (part ++ text)).0 (with_new s.slots (part ++ text)).1 made.0 × (made.1.0 ≡ (with_new s.slots (part ++ text)).1)) (RefusesSlots s (with_new s.slots (part ++ text)).0)
+          → MatchResult r (λ made. ReplacesOne (add_name_conditions bytes text part) bytes (name_added bytes text part replace) (name_token_added bytes text part replace) made.0 × (made.1.0 ≡ name_token_added bytes text part replace)) (RefusesToReplace (add_name_conditions bytes text part) (name_added bytes text part replace))
       new_handed_on good r =
           token_handed_on (add_name_conditions bytes text part) s (with_new s.slots (part ++ text)).0 bytes (name_added bytes text part replace) (new_refusals false good []) read.same added_new
           r (name_token_added bytes text part replace) (with_new s.slots (part ++ text)).1 token_new
@@ -267,6 +275,11 @@ module _ (bytes : List ℕ) (s : Slotted) (size : ℕ) (read : IsNameArrayRead b
           bytes_with s size more t _ _ _ _ (sym count_is) (ap (λ (p : List ℕ). p ++ text) (sym part_is))
           ∙ ap (λ (b : NameArray). name_bytes (record b { names = with_element b.names t (count_at b.names t) (part_at b t ++ text) })) (sym names_are)
 
+      pub part_set : (part text : List ℕ) → text_at a t ≡ text → slotted_bytes s.more (with_element s.slots t count (part ++ text)) ≡ name_part_set bytes t part
+      part_set part text text_is =
+          bytes_with s size more t _ _ _ _ (sym count_is) (ap (λ (l : List ℕ). part ++ l) (sym text_is))
+          ∙ ap (λ (b : NameArray). name_bytes (record b { names = with_element b.names t (count_at b.names t) (part ++ text_at b t) })) (sym names_are)
+
       removed : (slots : Slots) → slots ≡ unreferenced s.slots t → slotted_bytes s.more slots ≡ name_reference_removed bytes t
       removed slots is =
           new_bytes s size more slots
@@ -274,8 +287,8 @@ module _ (bytes : List ℕ) (s : Slotted) (size : ℕ) (read : IsNameArrayRead b
           ∙ ap (λ (b : NameArray). name_bytes (record b { names = unreferenced b.names t })) (sym names_are)
 
       module _ (used : is_some (element_at a.names t) ≡ true) (slots : Slots) (is : slots ≡ unreferenced s.slots t) where
-        pub removed_handed_on : (r : Result (List PatchPiece) Fault) → MatchResult r (GivesSlots s slots) (RefusesSlots s slots) → MatchResult r (Replaces (on_name_token bytes t) bytes (name_reference_removed bytes t)) (RefusesToReplace (on_name_token bytes t) (name_reference_removed bytes t))
-        removed_handed_on = slots_handed_on (on_name_token bytes t) s slots bytes (name_reference_removed bytes t) (past_token t used []) read.same (removed slots is)
+        pub removed_handed_on : (r : Result ArrayPatch Fault) → MatchResult r (GivesSlots s slots t) (RefusesSlots s slots) → MatchResult r (ReplacesOne (on_name_token bytes t) bytes (name_reference_removed bytes t) t) (RefusesToReplace (on_name_token bytes t) (name_reference_removed bytes t))
+        removed_handed_on = slots_handed_on (on_name_token bytes t) s slots bytes (name_reference_removed bytes t) (past_token t used []) read.same (removed slots is) t
 
       pub last_reference : count ≡ 1 → without_element s.slots t ≡ unreferenced s.slots t
       last_reference last = sym (cond-true _ _ _ (ap (λ (n : ℕ). nat_le n 1) (count_is ∙ last)))

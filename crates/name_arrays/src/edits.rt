@@ -1,18 +1,18 @@
-//! Edits of a name array, each as a patch of all bytes of a chunk.
+//! Edits of a name array, each as a patch of all bytes of a chunk, and where it changes them.
 ghost use Rattle.std.specs.Prelude.{◌≡◌, None, true, is_some, MatchResult};
 ghost use Rattle.geos_model.specs.ElementArray.{element_at};
-ghost use Rattle.element_arrays.specs.Slotted.{slotted_bytes};
+ghost use Rattle.element_arrays.specs.Slotted.{ReplacesOne, slotted_bytes};
 ghost use Rattle.name_arrays.specs.Reading.{named_array};
 ghost use Rattle.name_arrays.specs.Referencing.{name_bytes_with_reference, name_reference_conditions};
 ghost use Rattle.geos_model.specs.Refusal.{first_refusal};
 ghost use Rattle.geos_model.specs.NameArray.{name_bytes};
-ghost use Rattle.geos_model.specs.NameEdits.{no_names, name_added, name_token_added, name_changed, name_reference_removed, on_name_token, create_names_conditions, add_name_conditions, change_name_conditions};
+ghost use Rattle.geos_model.specs.NameEdits.{no_names, name_added, name_token_added, name_changed, name_part_set, name_reference_removed, on_name_token, create_names_conditions, add_name_conditions, change_name_conditions, set_part_conditions};
 ghost use Rattle.chunk_edits.specs.Splicing.{RefusesToBuild};
-ghost use Rattle.chunk_arrays.specs.Replacing.{Replaces, RefusesToReplace};
+ghost use Rattle.chunk_arrays.specs.Replacing.{RefusesToReplace};
 
 use crate::names::{GREATEST_PART, Names, is_name, read};
 use chunk_arrays::empty_bytes;
-use chunk_edits::Patch;
+use chunk_edits::ArrayPatch;
 use element_arrays::GREATEST_COUNT;
 use geos_model::{Fault, Token};
 use lmem_heap::KnownBytes;
@@ -42,10 +42,11 @@ pub fn add(
     name: &[u8],
     part: &[u8],
     replace: bool,
-) -> Result<(Patch, Token), Fault>
+) -> Result<(ArrayPatch, Token), Fault>
     ensures { MatchResult result
-        (λ made. Replaces (add_name_conditions bytes.now name.now part.now) bytes.now
-        (name_added bytes.now name.now part.now replace) made.0 ×
+        (λ made. ReplacesOne (add_name_conditions bytes.now name.now part.now) bytes.now
+        (name_added bytes.now name.now part.now replace) (name_token_added bytes.now name.now part.now replace)
+        made.0 ×
         (made.1.0 ≡ name_token_added bytes.now name.now part.now replace))
         (RefusesToReplace (add_name_conditions bytes.now name.now part.now)
         (name_added bytes.now name.now part.now replace)) }
@@ -73,10 +74,10 @@ pub fn change_name(
     bytes: &KnownBytes<'_>,
     token: Token,
     name: &[u8],
-) -> Result<Patch, Fault>
+) -> Result<ArrayPatch, Fault>
     ensures { MatchResult result
-        (Replaces (change_name_conditions bytes.now token.0 name.now) bytes.now
-        (name_changed bytes.now token.0 name.now))
+        (ReplacesOne (change_name_conditions bytes.now token.0 name.now) bytes.now
+        (name_changed bytes.now token.0 name.now) token.0)
         (RefusesToReplace (change_name_conditions bytes.now token.0 name.now)
         (name_changed bytes.now token.0 name.now)) }
 {
@@ -93,11 +94,35 @@ pub fn change_name(
         .with_element(alloc, token, old.count, old.part, name)
 }
 
+/// The patch that gives the name of a token another part; the name and its references stay. NotArray, NoElement; Range
+/// where the part isn't as long as the array's are; Full where the array is longer than any chunk.
+pub fn set_part(
+    alloc: Global,
+    bytes: &KnownBytes<'_>,
+    token: Token,
+    part: &[u8],
+) -> Result<ArrayPatch, Fault>
+    ensures { MatchResult result
+        (ReplacesOne (set_part_conditions bytes.now token.0 part.now) bytes.now
+        (name_part_set bytes.now token.0 part.now) token.0)
+        (RefusesToReplace (set_part_conditions bytes.now token.0 part.now)
+        (name_part_set bytes.now token.0 part.now)) }
+{
+    let names = read(bytes)?;
+    let old = names.name(token)?;
+    if part.len() != names.part {
+        return Err(Fault::Range);
+    }
+    names
+        .slots
+        .with_element(alloc, token, old.count, part, old.text)
+}
+
 /// The patch that takes a reference of a name, which is freed with the last one. NotArray, NoElement; Full where the
 /// array is longer than any chunk.
-pub fn remove_ref(alloc: Global, bytes: &KnownBytes<'_>, token: Token) -> Result<Patch, Fault>
+pub fn remove_ref(alloc: Global, bytes: &KnownBytes<'_>, token: Token) -> Result<ArrayPatch, Fault>
     ensures { MatchResult result
-        (Replaces (on_name_token bytes.now token.0) bytes.now (name_reference_removed bytes.now token.0))
+        (ReplacesOne (on_name_token bytes.now token.0) bytes.now (name_reference_removed bytes.now token.0) token.0)
         (RefusesToReplace (on_name_token bytes.now token.0) (name_reference_removed bytes.now token.0)) }
 {
     let names = read(bytes)?;
@@ -120,12 +145,12 @@ fn with_reference(
     token: Token,
     part: &[u8],
     replace: bool,
-) -> Result<Patch, Fault>
+) -> Result<ArrayPatch, Fault>
     requires { is_some (element_at names.now.slots.slots token.0) ≡ true }
     ensures { MatchResult result
-        (Replaces (name_reference_conditions (named_array names.now.slots names.now.part) part.now token.0)
+        (ReplacesOne (name_reference_conditions (named_array names.now.slots names.now.part) part.now token.0)
         (slotted_bytes names.now.slots.more names.now.slots.slots)
-        (name_bytes_with_reference (named_array names.now.slots names.now.part) part.now replace token.0))
+        (name_bytes_with_reference (named_array names.now.slots names.now.part) part.now replace token.0) token.0)
         (RefusesToReplace (name_reference_conditions (named_array names.now.slots names.now.part) part.now token.0)
         (name_bytes_with_reference (named_array names.now.slots names.now.part) part.now replace token.0)) }
 {

@@ -26,6 +26,7 @@ begun s updated saved one sequence frames target document is_updated is_saved nu
   saved = is_saved i;
   updated_at = (log i).updated_at;
   saved_at = (log i).saved_at;
+  touched = (log i).touched;
   undo_limit = (log i).limit;
   locks = locks_in (resident i);
   frames = allowed i;

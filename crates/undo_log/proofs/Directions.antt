@@ -6,6 +6,7 @@ use Rattle.vm_blocks.specs.declared.change.Change.{Change}
 use Rattle.chunk_edits.specs.declared.direction.Direction.{Direction}
 use Rattle.chunk_edits.specs.declared.direction.Direction.TheVariants.{Forwards, Backwards}
 use Rattle.undo_log.specs.Logging.{IsHead, Log, all_changes, next_entries, next_moved, open_changes, to_redo, to_undo, reversed_entry}
+use Rattle.undo_log.specs.Telling.{next_places}
 use Rattle.undo_log.specs.Sessions.{opposite, AreSteps, CanApplyBothByHandle}
 use Rattle.undo_log.specs.declared.entry.LogEntry.{LogEntry}
 
@@ -14,9 +15,10 @@ abbrev pub position_turned : Direction → Position → Position
 position_turned Backwards p = position_after_undo p
 position_turned Forwards p = position_after_redo p
 
--- the log in which the committed documents stand there
-abbrev pub turned : Direction → Log → Log
-turned direction log = record log { updated_at = position_turned direction log.updated_at; saved_at = position_turned direction log.saved_at }
+-- the log in which the committed documents stand there, and which tells of the entry
+abbrev pub turned : Direction → LogEntry → Log → Log
+turned direction e log =
+    record log { updated_at = position_turned direction log.updated_at; saved_at = position_turned direction log.saved_at; touched = next_places direction e }
 
 -- the log of which these entries can be made in a direction, and these in the opposite one, otherwise as this one
 abbrev pub log_by : Direction → Log → List LogEntry → List LogEntry → Log
@@ -41,7 +43,7 @@ module _ (e : LogEntry) (log : Log) (none : log.group ≡ None) where
   log_was Backwards first = λ i. record log { undo = first.are i; group = none i }
   log_was Forwards first = λ i. record log { redo = first.are i; group = none i }
 
-  pub log_moved : (direction : Direction) (first : IsHead e (next_entries direction log)) → next_moved direction log ≡ log_by direction (turned direction log) first.others (reversed_entry e ∷ next_entries (opposite direction) log)
+  pub log_moved : (direction : Direction) (first : IsHead e (next_entries direction log)) → next_moved direction log ≡ log_by direction (turned direction e log) first.others (reversed_entry e ∷ next_entries (opposite direction) log)
   log_moved Backwards first = let are : log.undo ≡ e ∷ first.others = first.are in rw (are, none) refl
   log_moved Forwards first = let are : log.redo ≡ e ∷ first.others = first.are in rw (are, none) refl
 

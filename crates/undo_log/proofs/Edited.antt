@@ -1,5 +1,5 @@
 -- An edit that was made, or refused, is a step of the machine.
-use Rattle.std.proofs.Common.{◌≡◌, ◌⊎◌, Result, Ok, Err, IsOk, ℕ, Bool, true, false, IsTrue, All, List, [], ◌∷◌, ◌++◌, map, Option, Some, None, inl, inr, refl, sym, ap, subst, ◌∙◌, arith, ltb-false}
+use Rattle.std.proofs.Common.{◌≡◌, ◌⊎◌, Result, Ok, Err, IsOk, ℕ, Bool, true, false, IsTrue, All, List, [], ◌∷◌, map, Some, inl, inr, refl, sym, ap, subst, ◌∙◌, arith, ltb-false}
 use Rattle.geos_model.specs.Document.{Document}
 use Rattle.std.specs.Option.{option_map_or}
 use Rattle.std.specs.Prelude.{◌≢◌}

@@ -14,7 +14,7 @@ use Rattle.vm_blocks.specs.Preparing.{CanApplyAllByHandle, AreApplied}
 use Rattle.vm_blocks.specs.declared.change.Change.{Change}
 use Rattle.chunk_edits.specs.declared.direction.Direction.{Direction}
 use Rattle.chunk_edits.specs.declared.direction.Direction.TheVariants.{Forwards, Backwards}
-use Rattle.undo_log.specs.Logging.{AreExclusive, IsHead, Log, after_all, all_changes, before, changes_in, closed_with, group_of, next_entries, next_moved, open_changes, steps, to_redo, to_undo, reversed_entry, with_group_closed}
+use Rattle.undo_log.specs.Logging.{AreExclusive, IsHead, abandoned_log, Log, after_all, all_changes, before, changes_in, closed_with, group_of, next_entries, next_moved, open_changes, steps, to_redo, to_undo, reversed_entry, with_group_closed}
 use Rattle.undo_log.specs.Sessions.{SessionState, machine_of, opposite, CanApplyBothByHandle, AreSteps, IsExact}
 use Rattle.undo_log.specs.Turning.{IsEntryApplied}
 use Rattle.undo_log.specs.declared.entry.LogEntry.{LogEntry}
@@ -100,7 +100,7 @@ module _ {S : Type 0} (facts : S → StoreFacts) (old new : CacheState S) (log :
         let honest = (facts old.disk.store).honest in
         let others = next_entries (opposite direction) log in (
           subst (λ (l : Log). CanApplyBothByHandle Backwards new.document (to_undo l) (to_redo l)) (sym (log_moved e log none direction first))
-              (listed_of direction new.document (turned direction log) first.others (reversed_entry e ∷ others)
+              (listed_of direction new.document (turned direction e log) first.others (reversed_entry e ∷ others)
               (moved_listed honest direction old.document new.document e first.others others known (drifted honest _ new.document (entry_document facts direction e old new makes)) (next_known holds))),
           none_marked honest old.disk.marked new.disk.marked holds.1 (entry_passes facts direction e old new makes).marked,
         )
@@ -117,7 +117,7 @@ module _ {S : Type 0} (facts : S → StoreFacts) (old new : CacheState S) (log :
     apart_listed [] apart listed = listed
     apart_listed (x ∷ xs) apart listed = subst (λ (es : List LogEntry). CanApplyAllByHandle (map (directed Forwards) (all_changes es)) (after_all Backwards (x ∷ xs) old.document)) (sym apart) tt
 
-    pub abandoned_invariant : AreExclusive cs log.redo → AreApplied facts (map (directed Backwards) cs) old new → Holds old log → Holds new (record log { group = None })
+    pub abandoned_invariant : AreExclusive cs log.redo → AreApplied facts (map (directed Backwards) cs) old new → Holds old log → Holds new (abandoned_log log)
     abandoned_invariant apart makes holds =
         let honest = (facts old.disk.store).honest in (
           are_listed_alike Backwards (after_all Backwards cs old.document) new.document (all_changes log.undo) (all_changes log.redo) (drifted honest _ new.document makes.document)

@@ -1,5 +1,5 @@
 -- Steps that are joined or forgotten, and whether the document is a committed one, by the machine.
-use Rattle.std.proofs.Common.{◌≡◌, ◌<◌, ◌≤◌, ◌==◌, ◌&&◌, ℕ, Bool, true, false, not, List, [], ◌∷◌, ◌++◌, length, Option, Some, None, is_some, inl, inr, refl, sym, ap, ◌∙◌, arith, ltb-false}
+use Rattle.std.proofs.Common.{◌≡◌, ◌≤◌, ◌==◌, ◌&&◌, ℕ, Bool, true, false, not, List, [], ◌∷◌, ◌++◌, length, Option, Some, None, is_some, inl, inr, refl, sym, ap, ◌∙◌, ltb-false}
 use Rattle.std.specs.Prelude.{if◌then◌else◌, nat_lt}
 use Rattle.std.specs.Option.{option_map, option_map_or}
 use Rattle.std.proofs.lemmas.List.{append_assoc}
@@ -15,8 +15,8 @@ use Rattle.vm_store.specs.Facts.{StoreFacts}
 use Rattle.vm_blocks.specs.State.{CacheState}
 use Rattle.vm_blocks.specs.declared.change.Change.{Change}
 use Rattle.chunk_edits.specs.declared.direction.Direction.TheVariants.{Backwards}
-use Rattle.undo_log.specs.Logging.{Log, all_changes, before, changes_in, forgotten_log, group_of, is_at, joined_entries, joined_log, open_changes, steps, to_redo, to_undo}
-use Rattle.undo_log.specs.Sessions.{SessionState, machine_of, IsExact, IsStep}
+use Rattle.undo_log.specs.Logging.{Log, all_changes, before, changes_in, forgotten_log, group_of, is_at, joined_entries, joined_log, open_changes, to_redo, to_undo}
+use Rattle.undo_log.specs.Sessions.{SessionState, machine_of, IsStep}
 use Rattle.undo_log.specs.Turning.{join_fault}
 use Rattle.undo_log.specs.declared.entry.LogEntry.{LogEntry}
 use Rattle.undo_log.proofs.Answers.{steps_joined}

@@ -34,6 +34,7 @@ pub machine_is : {S : Type 0} (target : Bool) (d updated saved : Document) (log 
       saved = saved;
       updated_at = log.updated_at;
       saved_at = log.saved_at;
+      touched = log.touched;
       undo_limit = log.limit;
       locks = locks;
       frames = frames;
@@ -49,6 +50,7 @@ machine_is target d updated saved log locks frames sequence new p q u v l f n = 
   saved = v i;
   updated_at = (q i).updated_at;
   saved_at = (q i).saved_at;
+  touched = (q i).touched;
   undo_limit = (q i).limit;
   locks = l i;
   frames = f i;
@@ -65,6 +67,7 @@ machine_with m d log = record m {
   group = option_map (group_of d) log.group;
   updated_at = log.updated_at;
   saved_at = log.saved_at;
+  touched = log.touched;
   undo_limit = log.limit;
 }
 

@@ -1,5 +1,6 @@
 pub mod Locks
 pub mod Listing
+pub mod Telling
 pub mod Lists
 pub mod Keeping
 pub mod Locking
@@ -11,6 +12,7 @@ pub mod Answers
 pub mod Edited
 pub mod Turns
 pub mod Weights
+pub mod Asking
 pub mod LookUps
 pub mod CommitSteps
 pub mod SavingAs

@@ -1,29 +1,36 @@
 -- What a log is seen as, as its entries are made, undone, joined, forgotten and moved down.
-use Rattle.std.proofs.Common.{◌≡◌, ◌<◌, ◌≤◌, ◌+◌, ◌-◌, ℕ, Vec, Global, List, [], ◌∷◌, ◌++◌, length, reverse, take, drop, Option, Some, None, refl, sym, ap, subst, ◌∙◌, arith}
+use Rattle.std.proofs.Common.{◌≡◌, ◌<◌, ◌≤◌, ◌+◌, ◌-◌, ◌==◌, ◌&&◌, ℕ, zero, suc, Bool, false, inl, inr, Vec, Global, List, [], ◌∷◌, ◌++◌, length, reverse, take, drop, Option, Some, None, refl, sym, ap, subst, ◌∙◌, arith}
+use Rattle.std.proofs.lemmas.Bool.{and_parts, cases_Bool, eqb-true}
 use Rattle.std.specs.Option.{option_map}
-use Rattle.std.proofs.lemmas.List.{drop-append-le, drop_all, length-append, length-drop, length-take-le, length_push, nil_from_length, reverse-append, take-append-drop, take-append-le, take_all}
+use Rattle.std.proofs.lemmas.List.{drop-append-le, drop_all, length-drop, length-take-le, length_push, reverse-append, take-append-drop, take-append-le, take_all}
 use Rattle.vm_blocks.specs.declared.change.Change.{Change}
 use Rattle.chunk_edits.specs.declared.direction.Direction.TheVariants.{Forwards, Backwards}
-use Rattle.geos_model.specs.Position.{Position, position_after_join, position_after_redo, position_after_undo, position_in_group, position_stepped, position_after_step, position_within}
-use Rattle.undo_log.specs.Joining.{JoinsAt, LeavesBehind}
-use Rattle.undo_log.specs.Logging.{AreExclusive, Log, ReversesAt, changes_in, forgotten_log, joined_entries, joined_log, kept_entries, next_moved, reversed_entry, with_entry, without_redo}
+use Rattle.geos_model.specs.Position.{Position, position_after_join, position_stepped, position_after_step}
+use Rattle.undo_log.specs.Joining.{JoinsAt, KeepsBefore, LeavesBehind}
+use Rattle.undo_log.specs.Logging.{Log, ReversesAt, changes_in, forgotten_log, joined_entries, joined_log, kept_entries, next_moved, open_changes, reversed_entry, with_entry, without_redo}
 use Rattle.undo_log.specs.Marks.{AreMarksWithin, IsMarkWithin, both_marks, mark_from, mark_joined, mark_lowered, mark_up_to, position_of}
 use Rattle.undo_log.specs.declared.entry.LogEntry.{LogEntry}
 use Rattle.undo_log.specs.declared.entry.LogEntry.TheVariants.{Group}
 use Rattle.undo_log.specs.declared.marks.Marks.{Marks}
+use Rattle.geos_model.specs.declared.place.Place.{Place}
+use Rattle.undo_log.specs.Telling.{all_places, clipped, newest_changes, next_changes, told}
+use Rattle.undo_log.specs.declared.touched.Touched.{Touched}
+use Rattle.undo_log.specs.declared.touched.Touched.TheVariants as touched
 use Rattle.undo_log.proofs.Lists.{newest_first}
 use Rattle.undo_log.proofs.MarkLemmas.{cut_position, forget_position, join_position, kept_position, lower_position, none_forgotten, redo_position, step_position, undo_position}
 use Rattle.undo_log.proofs.Moving.{behind, last_before, within}
+use Rattle.undo_log.proofs.Telling.{newest-closed, newest-kept, newest-none, newest-nothing, newest-some, there, redone-tells, told-joined, undone-tells}
 use Rattle.undo_log.proofs.Segments.{all_of, all_pushed, between, drop_drop, newest_of, one_behind, one_taken, taken_out, two_behind, two_taken}
 
 -- the log of these entries, of which so many are forgotten, and so many can't be made again
-abbrev pub log_at : ℕ → ℕ → List LogEntry → Option (List Change) → Marks → Option ℕ → Log
-log_at dead done es group marks limit = record {
+abbrev pub log_at : ℕ → ℕ → List LogEntry → Option (List Change) → Marks → Touched → Option ℕ → Log
+log_at dead done es group marks last limit = record {
   undo = reverse (drop dead (take done es));
   redo = drop done es;
   group = group;
   updated_at = position_of done marks.updated;
   saved_at = position_of done marks.saved;
+  touched = told last (newest_changes (reverse (drop dead (take done es))) group) (next_changes (drop done es));
   limit = limit;
 }
 
@@ -32,9 +39,17 @@ abbrev pub open_group : Option (Vec Change Global) → Option (List Change)
 open_group group = option_map (λ changes. reverse changes.items) group
 
 -- a log of these parts
-log_is : (undo undo' redo redo' : List LogEntry) (group : Option (List Change)) (updated updated' saved saved' : Position) (limit : Option ℕ) → undo ≡ undo' → redo ≡ redo' → updated ≡ updated' → saved ≡ saved'
-    → ◌≡◌ {A = Log} (record { undo = undo; redo = redo; group = group; updated_at = updated; saved_at = saved; limit = limit }) (record { undo = undo'; redo = redo'; group = group; updated_at = updated'; saved_at = saved'; limit = limit })
-log_is undo undo' redo redo' group updated updated' saved saved' limit u r p q = λ i. record { undo = u i; redo = r i; group = group; updated_at = p i; saved_at = q i; limit = limit }
+log_is : (undo undo' redo redo' : List LogEntry) (group : Option (List Change)) (updated updated' saved saved' : Position) (touched touched' : List Place) (limit : Option ℕ)
+    → undo ≡ undo' → redo ≡ redo' → updated ≡ updated' → saved ≡ saved' → touched ≡ touched'
+    → ◌≡◌ {A = Log} (record { undo = undo; redo = redo; group = group; updated_at = updated; saved_at = saved; touched = touched; limit = limit })
+    (record { undo = undo'; redo = redo'; group = group; updated_at = updated'; saved_at = saved'; touched = touched'; limit = limit })
+log_is undo undo' redo redo' group updated updated' saved saved' touched touched' limit u r p q t =
+    λ i. record { undo = u i; redo = r i; group = group; updated_at = p i; saved_at = q i; touched = t i; limit = limit }
+
+-- what is told by the same entries
+same_told : (last : Touched) (undo undo' redo redo' : List LogEntry) (group : Option (List Change)) → undo ≡ undo' → redo ≡ redo'
+    → told last (newest_changes undo group) (next_changes redo) ≡ told last (newest_changes undo' group) (next_changes redo')
+same_told last undo undo' redo redo' group u r = λ i. told last (newest_changes (u i) group) (next_changes (r i))
 
 module _ (group : Option (List Change)) (marks : Marks) (limit : Option ℕ) where
   -- The place between what can be undone and what can be made again moves by one entry, which is turned over.
@@ -45,68 +60,110 @@ module _ (group : Option (List Change)) (marks : Marks) (limit : Option ℕ) whe
       let inside = within n es others e is in let long = length-take-le n es (omega (arith, inside)) in
       newest_first (drop dead (take (n + 1) es)) (drop dead (take n es)) e (ap (drop dead) (last_before n es others e is) ∙ drop-append-le dead (take n es) (e ∷ []) (omega (arith, long)))
 
-  pub undone_at : (dead n done : ℕ) (old new : List LogEntry) → n + 1 ≡ done → dead ≤ n → ReversesAt n old new → log_at dead n new group marks limit ≡ next_moved Backwards (log_at dead done old group marks limit)
-  undone_at dead n done old new next before t =
-      subst (λ (k : ℕ). log_at dead n new group marks limit ≡ next_moved Backwards (log_at dead k old group marks limit)) next
+  pub undone_at : (dead n done : ℕ) (old new : List LogEntry) (last : Touched) → n + 1 ≡ done → dead ≤ n → ReversesAt n old new
+      → log_at dead n new group marks touched.Undone limit ≡ next_moved Backwards (log_at dead done old group marks last limit)
+  undone_at dead n done old new last next before t =
+      subst (λ (k : ℕ). log_at dead n new group marks touched.Undone limit ≡ next_moved Backwards (log_at dead k old group marks last limit)) next
       (rw (newest_at dead n old t.others t.entry before t.was)
-      (log_is _ _ _ _ group _ _ _ _ limit (ap (λ (es : List LogEntry). reverse (drop dead es)) t.before)
+      (log_is _ _ _ _ group _ _ _ _ _ _ limit (ap (λ (es : List LogEntry). reverse (drop dead es)) t.before)
       (t.is ∙ ap (λ (es : List LogEntry). reversed_entry t.entry ∷ es) (sym (behind n old t.others t.entry t.was)))
-      (undo_position n marks.updated) (undo_position n marks.saved)))
+      (undo_position n marks.updated) (undo_position n marks.saved)
+      (ap (λ (es : List LogEntry). all_places Backwards (reverse (next_changes es))) t.is ∙ undone-tells t.entry)))
 
-  pub redone_at : (dead n : ℕ) (old new : List LogEntry) → dead ≤ n → ReversesAt n old new → log_at dead (n + 1) new group marks limit ≡ next_moved Forwards (log_at dead n old group marks limit)
-  redone_at dead n old new before t =
+  pub redone_at : (dead n count : ℕ) (old new : List LogEntry) (last : Touched) → group ≡ None → dead ≤ n → (t : ReversesAt n old new) → count ≡ length (changes_in (reversed_entry t.entry))
+      → log_at dead (n + 1) new group marks (touched.Newest count) limit ≡ next_moved Forwards (log_at dead n old group marks last limit)
+  redone_at dead n count old new last none before t many =
+      let undo_is = newest_at dead n new t.others (reversed_entry t.entry) before t.is in
       rw t.was
-      (log_is _ _ _ _ group _ _ _ _ limit
-      (newest_at dead n new t.others (reversed_entry t.entry) before t.is ∙ ap (λ (es : List LogEntry). reversed_entry t.entry ∷ reverse (drop dead es)) t.before)
-      (behind n new t.others (reversed_entry t.entry) t.is) (redo_position n marks.updated) (redo_position n marks.saved))
+      (log_is _ _ _ _ group _ _ _ _ _ _ limit
+      (undo_is ∙ ap (λ (es : List LogEntry). reversed_entry t.entry ∷ reverse (drop dead es)) t.before)
+      (behind n new t.others (reversed_entry t.entry) t.is) (redo_position n marks.updated) (redo_position n marks.saved)
+      (ap (λ (es : List LogEntry). all_places Forwards (reverse (take count (newest_changes es group)))) undo_is
+      ∙ ap (λ (cs : List Change). all_places Forwards (reverse (take count cs))) (newest-closed (reversed_entry t.entry) (reverse (drop dead (take n new))) group none)
+      ∙ redone-tells t.entry count many))
 
   -- What could be made again is gone.
-  pub cut_at : (dead done : ℕ) (es cut : List LogEntry) → done ≤ length es → cut ≡ take done es → log_at dead done cut group (both_marks (mark_up_to done) marks) limit ≡ without_redo (log_at dead done es group marks limit)
-  cut_at dead done es cut inside is =
+  pub cut_at : (dead done : ℕ) (es cut : List LogEntry) (last : Touched) → done ≤ length es → cut ≡ take done es
+      → log_at dead done cut group (both_marks (mark_up_to done) marks) touched.Nothing limit ≡ record (without_redo (log_at dead done es group marks last limit)) { touched = [] }
+  cut_at dead done es cut last inside is =
       let long = length-take-le done es inside in
-      log_is _ _ _ _ group _ _ _ _ limit
+      log_is _ _ _ _ group _ _ _ _ _ _ limit
       (ap (λ (xs : List LogEntry). reverse (drop dead (take done xs))) is ∙ ap (λ (xs : List LogEntry). reverse (drop dead xs)) (take_all done (take done es) (omega (arith, long))))
-      (ap (drop done) is ∙ drop_all done (take done es) (omega (arith, long))) (cut_position done marks.updated) (cut_position done marks.saved)
+      (ap (drop done) is ∙ drop_all done (take done es) (omega (arith, long))) (cut_position done marks.updated) (cut_position done marks.saved) refl
 
   -- where nothing could be, nothing is
-  pub none_cut : (dead done : ℕ) (es : List LogEntry) → length es ≤ done → AreMarksWithin dead (length es) marks → done ≤ length es → log_at dead done es group marks limit ≡ without_redo (log_at dead done es group marks limit)
-  none_cut dead done es all marked inside =
+  pub none_cut : (dead done : ℕ) (es : List LogEntry) (last : Touched) → length es ≤ done → AreMarksWithin dead (length es) marks → done ≤ length es
+      → log_at dead done es group marks touched.Nothing limit ≡ record (without_redo (log_at dead done es group marks last limit)) { touched = [] }
+  none_cut dead done es last all marked inside =
       let same : length es ≡ done = omega (arith, all, inside) in
       let marked_here : AreMarksWithin dead done marks = subst (λ (n : ℕ). AreMarksWithin dead n marks) same marked in
-      log_is _ _ _ _ group _ _ _ _ limit refl (drop_all done es all) (kept_position dead done marks.updated marked_here.updated) (kept_position dead done marks.saved marked_here.saved)
+      log_is _ _ _ _ group _ _ _ _ _ _ limit refl (drop_all done es all) (kept_position dead done marks.updated marked_here.updated) (kept_position dead done marks.saved marked_here.saved) refl
 
   -- Entries before a place are forgotten.
-  pub forgotten_at : (dead first most done : ℕ) (es left : List LogEntry) → dead ≤ first → first + most ≡ done → done ≤ length es → LeavesBehind first es left
-      → log_at first done left group (both_marks (mark_from first) marks) limit ≡ forgotten_log most (log_at dead done es group marks limit)
-  forgotten_at dead first most done es left before is inside leaves =
-      log_is _ _ _ _ group _ _ _ _ limit
-      (ap reverse (between first most done left is ∙ ap (take most) leaves.behind ∙ sym (between first most done es is)) ∙ newest_of dead first most done es before is inside)
-      (drop_drop first most done left is ∙ ap (drop most) leaves.behind ∙ sym (drop_drop first most done es is))
+  -- What is told is the same where it is told of the entries that are kept.
+  pub forgotten_at : (dead first most done : ℕ) (es left : List LogEntry) (last last' : Touched) → dead ≤ first → first + most ≡ done → done ≤ length es → LeavesBehind first es left
+      → told last' (newest_changes (take most (reverse (drop dead (take done es)))) group) (next_changes (drop done es)) ≡ (log_at dead done es group marks last limit).touched
+      → log_at first done left group (both_marks (mark_from first) marks) last' limit ≡ forgotten_log most (log_at dead done es group marks last limit)
+  forgotten_at dead first most done es left last last' before is inside leaves tells =
+      let undo_is = ap reverse (between first most done left is ∙ ap (take most) leaves.behind ∙ sym (between first most done es is)) ∙ newest_of dead first most done es before is inside in
+      let redo_is = drop_drop first most done left is ∙ ap (drop most) leaves.behind ∙ sym (drop_drop first most done es is) in
+      log_is _ _ _ _ group _ _ _ _ _ _ limit
+      undo_is redo_is
       (forget_position first most done marks.updated is) (forget_position first most done marks.saved is)
+      (same_told last' _ _ _ _ group undo_is redo_is ∙ tells)
 
-  pub kept_at : (dead most done : ℕ) (es : List LogEntry) → done ≤ dead + most → AreMarksWithin dead (length es) marks → log_at dead done es group marks limit ≡ forgotten_log most (log_at dead done es group marks limit)
-  kept_at dead most done es few marked =
-      log_is _ _ _ _ group _ _ _ _ limit (all_of dead most done es few) refl (none_forgotten dead most done (length es) marks.updated few marked.updated) (none_forgotten dead most done (length es) marks.saved few marked.saved)
+  -- What may be told of the newest entry is kept where no entry is.
+  pub kept_told : (dead first most done : ℕ) (es es' : List LogEntry) (last last' : Touched) (is_told : Bool) → is_told ≡ (most == 0 && length (open_changes group) == 0)
+      → dead < first → first + most ≡ done → done ≤ length es → KeepsBefore first is_told last last' es es'
+      → told last' (newest_changes (take most (reverse (drop dead (take done es)))) group) (next_changes (drop done es)) ≡ (log_at dead done es group marks last limit).touched
+  kept_told dead first most done es es' last last' is_told when before is inside keeps = elim (cases_Bool (most == 0 && length (open_changes group) == 0)) [
+    | inl telling ↦
+        let parts = and_parts (most == 0) (length (open_changes group) == 0) telling in
+        let none : most ≡ 0 = eqb-true most 0 parts.0 in
+        let at = there (first - 1) es (omega (arith, before, is, none, inside)) in
+        let next : first - 1 + 1 ≡ done = omega (arith, before, is, none) in
+        let newest : reverse (drop dead (take done es)) ≡ at.0 ∷ reverse (drop dead (take (first - 1) es)) =
+        ap (λ (k : ℕ). reverse (drop dead (take k es))) (sym next) ∙ newest_at dead (first - 1) es at.1 at.0 (omega (arith, before)) at.2 in
+        ap (λ (k : ℕ). told last' (newest_changes (take k (reverse (drop dead (take done es)))) group) (next_changes (drop done es))) none
+        ∙ ap (λ (cs : List Change). told last' cs (next_changes (drop done es))) (newest-nothing group parts.1)
+        ∙ keeps.tells (when ∙ telling) at.0 at.1 (next_changes (drop done es)) at.2
+        ∙ sym (ap (λ (xs : List LogEntry). told last (newest_changes xs group) (next_changes (drop done es))) newest
+        ∙ ap (λ (cs : List Change). told last cs (next_changes (drop done es))) (newest-none at.0 (reverse (drop dead (take (first - 1) es))) group parts.1))
+    | inr other ↦
+        ap (λ (l : Touched). told l (newest_changes (take most (reverse (drop dead (take done es)))) group) (next_changes (drop done es))) (keeps.other (when ∙ other))
+        ∙ ap (λ (cs : List Change). told last cs (next_changes (drop done es))) (newest_same most (reverse (drop dead (take done es))) other)
+  ]
+    where
+      newest_same : (most : ℕ) (undo : List LogEntry) → (most == 0 && length (open_changes group) == 0) ≡ false → newest_changes (take most undo) group ≡ newest_changes undo group
+      newest_same zero undo other = newest-some [] undo group other
+      newest_same (suc k) undo other = newest-kept k undo group
+
+  pub kept_at : (dead most done : ℕ) (es : List LogEntry) (last : Touched) → done ≤ dead + most → AreMarksWithin dead (length es) marks
+      → log_at dead done es group marks last limit ≡ forgotten_log most (log_at dead done es group marks last limit)
+  kept_at dead most done es last few marked =
+      log_is _ _ _ _ group _ _ _ _ _ _ limit (all_of dead most done es few) refl (none_forgotten dead most done (length es) marks.updated few marked.updated) (none_forgotten dead most done (length es) marks.saved few marked.saved) refl
 
   -- Entries that are forgotten are taken away.
-  pub lowered_at : (dead done live : ℕ) (es moved left : List LogEntry) → dead ≤ done → done ≤ length es → dead + live ≡ length es → AreMarksWithin dead (length es) marks
+  pub lowered_at : (dead done live : ℕ) (es moved left : List LogEntry) (last : Touched) → dead ≤ done → done ≤ length es → dead + live ≡ length es → AreMarksWithin dead (length es) marks
       → moved ≡ drop dead es ++ take dead es → left ≡ take live moved
-      → log_at 0 (done - dead) left group (both_marks (mark_lowered dead) marks) limit ≡ log_at dead done es group marks limit
-  lowered_at dead done live es moved left before inside all marked turned is =
+      → log_at 0 (done - dead) left group (both_marks (mark_lowered dead) marks) last limit ≡ log_at dead done es group marks last limit
+  lowered_at dead done live es moved left last before inside all marked turned is =
       let long = length-drop dead es in
       let fits : length (drop dead es) ≡ live = omega (arith, long, all) in
       let front : left ≡ drop dead es =
       is ∙ ap (take live) turned ∙ take-append-le live (drop dead es) (take dead es) (omega (arith, fits)) ∙ take_all live (drop dead es) (omega (arith, fits)) in
       let rest : dead + (done - dead) ≡ done = omega (arith, before) in
-      log_is _ _ _ _ group _ _ _ _ limit
-      (ap (λ (xs : List LogEntry). reverse (take (done - dead) xs)) front ∙ ap reverse (sym (between dead (done - dead) done es rest)))
-      (ap (drop (done - dead)) front ∙ sym (drop_drop dead (done - dead) done es rest))
+      let undo_is = ap (λ (xs : List LogEntry). reverse (take (done - dead) xs)) front ∙ ap reverse (sym (between dead (done - dead) done es rest)) in
+      let redo_is = ap (drop (done - dead)) front ∙ sym (drop_drop dead (done - dead) done es rest) in
+      log_is _ _ _ _ group _ _ _ _ _ _ limit
+      undo_is redo_is
       (lower_position dead done (length es) marks.updated before marked.updated) (lower_position dead done (length es) marks.saved before marked.saved)
+      (same_told last _ _ _ _ group undo_is redo_is)
 
   -- The newest two are one.
-  pub joined_at : (dead at next done : ℕ) (old mid new : List LogEntry) → at + 1 ≡ next → next + 1 ≡ done → dead ≤ at → done ≤ length old → JoinsAt at old mid → new ≡ take next mid ++ drop (next + 1) mid
-      → log_at dead next new group (both_marks (mark_joined next) marks) limit ≡ joined_log (log_at dead done old group marks limit)
-  joined_at dead at next done old mid new next_is done_is before inside joins is =
+  pub joined_at : (dead at next done : ℕ) (old mid new : List LogEntry) (last : Touched) → group ≡ None → at + 1 ≡ next → next + 1 ≡ done → dead ≤ at → done ≤ length old → (joins : JoinsAt at old mid) → new ≡ take next mid ++ drop (next + 1) mid
+      → log_at dead next new group (both_marks (mark_joined next) marks) (clipped (length (changes_in joins.newer)) last) limit ≡ joined_log (log_at dead done old group marks last limit)
+  joined_at dead at next done old mid new last none next_is done_is before inside joins is =
       let p = take at old in
       let long : length p ≡ at = length-take-le at old (omega (arith, next_is, done_is, inside)) in
       let group_made : LogEntry = Group (changes_in joins.newer ++ changes_in joins.older) in
@@ -119,14 +176,20 @@ module _ (group : Option (List Change)) (marks : Marks) (limit : Option ℕ) whe
       ∙ reverse-append (drop dead p) (joins.older ∷ joins.newer ∷ []) in
       let undo_is : reverse (drop dead (take next new)) ≡ group_made ∷ reverse (drop dead p) =
       ap (λ (xs : List LogEntry). reverse (drop dead (take next xs))) now ∙ ap reverse (one_taken p dead at next done long next_is done_is before group_made joins.others) ∙ reverse-append (drop dead p) (group_made ∷ []) in
-      log_is _ _ _ _ group _ _ _ _ limit
+      let redo_is = ap (drop next) now ∙ one_behind p dead at next done long next_is done_is before group_made joins.others ∙ sym (ap (drop done) was ∙ two_behind p dead at next done long next_is done_is before joins.older joins.newer joins.others) in
+      let a : List Change = changes_in joins.newer in
+      log_is _ _ _ _ group _ _ _ _ _ _ limit
       (undo_is ∙ sym (ap joined_entries undo_was))
-      (ap (drop next) now ∙ one_behind p dead at next done long next_is done_is before group_made joins.others ∙ sym (ap (drop done) was ∙ two_behind p dead at next done long next_is done_is before joins.older joins.newer joins.others))
+      redo_is
       (join_position next marks.updated ∙ ap (λ (k : ℕ). position_after_join (position_of k marks.updated)) done_is)
       (join_position next marks.saved ∙ ap (λ (k : ℕ). position_after_join (position_of k marks.saved)) done_is)
+      (same_told (clipped (length a) last) _ _ _ _ group undo_is redo_is
+      ∙ ap (λ (cs : List Change). told (clipped (length a) last) cs (next_changes (drop done old))) (newest-closed group_made (reverse (drop dead p)) group none)
+      ∙ told-joined last a (changes_in joins.older) (next_changes (drop done old))
+      ∙ sym (same_told last (reverse (drop dead (take done old))) (joins.newer ∷ joins.older ∷ reverse (drop dead p)) (drop done old) (drop done old) group undo_was refl ∙ ap (λ (cs : List Change). told last cs (next_changes (drop done old))) (newest-closed joins.newer (joins.older ∷ reverse (drop dead p)) group none)))
 
 -- An entry is made where nothing is left to make again: it is the newest,
-module _ (group : Option (List Change)) (marks : Marks) (limit : Option ℕ) (dead done made : ℕ) (es : List LogEntry) (e : LogEntry) (none : drop done es ≡ []) (before : dead ≤ done) (inside : done ≤ length es) (marked : AreMarksWithin dead (length es) marks)
+module _ (group : Option (List Change)) (closed : group ≡ None) (marks : Marks) (last : Touched) (limit : Option ℕ) (dead done made : ℕ) (es : List LogEntry) (e : LogEntry) (none : drop done es ≡ []) (before : dead ≤ done) (inside : done ≤ length es) (marked : AreMarksWithin dead (length es) marks)
     (is : made ≡ length es + 1) where
   all_done : length es ≡ done
   all_done = let left = length-drop done es in let no = ap length none in omega (arith, left, no, inside)
@@ -138,19 +201,23 @@ module _ (group : Option (List Change)) (marks : Marks) (limit : Option ℕ) (de
   stepped mark at = ap (λ (n : ℕ). position_of n mark) (is ∙ ap (λ (n : ℕ). n + 1) all_done) ∙ step_position dead done mark at
 
   abbrev pub stepped_log : Log
-  stepped_log = record (log_at dead done es group marks limit) {
+  stepped_log = record (log_at dead done es group marks last limit) {
     undo = e ∷ reverse (drop dead (take done es));
     updated_at = position_after_step (position_of done marks.updated);
     saved_at = position_after_step (position_of done marks.saved);
+    touched = told last (changes_in e) [];
   }
 
-  pub stepped_at : log_at dead made (es ++ e ∷ []) group marks limit ≡ stepped_log
+  pub stepped_at : log_at dead made (es ++ e ∷ []) group marks last limit ≡ stepped_log
   stepped_at =
       let taken : take done es ≡ es = take_all done es (let same = all_done in omega (arith, same)) in let long = length_push es e in
-      log_is _ _ _ _ group _ _ _ _ limit
-      (ap reverse (all_pushed dead made es e (sym is) (omega (arith, before, inside))) ∙ reverse-append (drop dead es) (e ∷ []) ∙ ap (λ (xs : List LogEntry). e ∷ reverse (drop dead xs)) (sym taken))
-      (drop_all made (es ++ e ∷ []) (omega (arith, long, is)) ∙ sym none)
+      let undo_is = ap reverse (all_pushed dead made es e (sym is) (omega (arith, before, inside))) ∙ reverse-append (drop dead es) (e ∷ []) ∙ ap (λ (xs : List LogEntry). e ∷ reverse (drop dead xs)) (sym taken) in
+      let gone : drop made (es ++ e ∷ []) ≡ [] = drop_all made (es ++ e ∷ []) (omega (arith, long, is)) in
+      log_is _ _ _ _ group _ _ _ _ _ _ limit
+      undo_is
+      (gone ∙ sym none)
       (stepped marks.updated marked_done.updated) (stepped marks.saved marked_done.saved)
+      (same_told last _ _ _ _ group undo_is gone ∙ ap (λ (cs : List Change). told last cs []) (newest-closed e (reverse (drop dead (take done es))) group closed))
 
 -- and a limit takes the oldest.
 pub all_kept : (log : Log) (e : LogEntry) → log.limit ≡ None → record log { undo = e ∷ log.undo; updated_at = position_after_step log.updated_at; saved_at = position_after_step log.saved_at } ≡ with_entry e log

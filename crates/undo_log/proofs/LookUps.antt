@@ -1,20 +1,24 @@
 -- What is looked up of a session's document is a step of its machine.
-use Rattle.std.proofs.Common.{◌≡◌, ◌∙◌, ℕ, Bool, true, false, length, IsTrue, Option, Some, None, Result, Ok, Err, ◌∷◌, map, refl, sym, ap, subst, inl, inr}
+use Rattle.std.proofs.Common.{◌≡◌, ◌∙◌, ℕ, Bool, true, false, length, IsTrue, Vec, Global, Option, Some, None, Result, Ok, Err, ◌∷◌, map, refl, sym, ap, subst, inl, inr}
 use Rattle.std.specs.Option.{option_map, option_map_or}
 use Rattle.std.specs.Prelude.{unwrap_or}
 use Rattle.std.specs.Result.{IsErrAnd}
 use Rattle.geos_model.specs.Refusal.{first_refusal}
 use Rattle.geos_model.specs.ElementArray.{all_distinct}
-use Rattle.geos_model.specs.Forms.{form_asked, has_form}
-use Rattle.geos_model.specs.LookUps.{block_look_up, chain_look_up}
+use Rattle.geos_model.specs.Forms as forms
+use Rattle.geos_model.specs.Forms.{Form, form_asked, has_form}
+use Rattle.geos_model.specs.LookUps.{block_look_up, chain_look_up, places_look_up}
 use Rattle.geos_model.specs.Machine as machine
 use Rattle.geos_model.specs.Machine.{Machine, ManyBodies, Needs, Step, takes_memory, calls_store, command_conditions, done_by, look_up_needs}
-use Rattle.geos_model.specs.Reply.{Reply, BlockIs, NumberIs, Refused, found, look_up_conditions, look_up, reply_by, reply_of}
+use Rattle.geos_model.specs.Reply.{Reply, BlockIs, NumberIs, PlacesAre, Refused, found, look_up_conditions, look_up, reply_by, reply_of}
 use Rattle.geos_model.specs.declared.fault.Fault.{Fault}
 use Rattle.geos_model.specs.declared.fault.Fault.TheVariants.{CacheFull}
 use Rattle.geos_model.specs.declared.command.Command.{Command}
 use Rattle.geos_model.specs.declared.command.Command.TheVariants as commands
 use Rattle.geos_model.specs.declared.handle.VmHandle.{VmHandle}
+use Rattle.geos_model.specs.declared.place.Place.{Place}
+use Rattle.geos_model.specs.declared.look_up.PlacesLookUp.{PlacesLookUp}
+use Rattle.geos_model.specs.declared.look_up.PlacesLookUp.TheVariants as places_asks
 use Rattle.geos_model.specs.declared.look_up.ArrayLookUp.TheVariants as array_look_ups
 use Rattle.geos_model.specs.declared.look_up.BlockLookUp.{BlockLookUp}
 use Rattle.geos_model.specs.declared.look_up.BlockLookUp.TheVariants as block_look_ups
@@ -34,7 +38,7 @@ use Rattle.doc_edits.specs.LookUps.{LooksUp, AnswersFromBlocks, AnswersChainFrom
 use Rattle.doc_edits.specs.Room.{lacks_frames}
 use Rattle.doc_edits.specs.declared.look_ups.Lists.{Lists}
 use Rattle.doc_edits.specs.declared.look_ups.Prepared.{Prepared}
-use Rattle.doc_edits.proofs.Forms.{looks_form}
+use Rattle.doc_edits.proofs.Forms.{by_form, looks_form}
 use Rattle.undo_log.specs.Logging.{Log}
 use Rattle.undo_log.specs.Sessions.{SessionState, cache_of, machine_of, failed_since, IsStep, KeepsSession, AnswersAlongChain, AnswersWithoutBody, AnswersLookUp}
 use Rattle.undo_log.proofs.Keeping.{gives_up, kept_exact, kept_machine, kept_document}
@@ -195,3 +199,17 @@ module _ {S : Type 0} (e : CacheState S) (lists : Lists) (r : Result Prepared Fa
 -- sessions of the same parts are the same
 pub same_session : {S : Type 0} (old new : CacheState S) (log log' : Log) → new ≡ old → log' ≡ log → session_with new log' ≡ session_with old log
 same_session old new log log' p q = λ i. session_with (p i) (q i)
+
+-- Where the document was changed last, or would be next.
+
+places_form : (asked : PlacesLookUp) → form_asked (places_look_up asked) ≡ forms.Places
+places_form places_asks.Touched = refl
+places_form places_asks.Undo = refl
+places_form places_asks.Redo = refl
+places_form places_asks.Abandon = refl
+
+pub places_steps : {S : Type 0} (s : SessionState S) (asked : PlacesLookUp) (r : Result (Vec Place Global) Fault)
+    → ((target : Bool) → Step false (machine_of target s) (Some (places_look_up asked)) (reply_by (λ ps. PlacesAre ps.items) r) (machine_of target s))
+    → StepsSo s (places_look_up asked) (reply_by (λ ps. PlacesAre ps.items) r)
+places_steps s asked r step =
+    (step, subst (λ (form : Form). has_form (reply_by (λ ps. PlacesAre ps.items) r) form ≡ true) (sym (places_form asked)) (by_form forms.Places (λ ps. PlacesAre ps.items) (λ x. refl) r))

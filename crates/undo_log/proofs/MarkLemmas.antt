@@ -1,8 +1,8 @@
 -- The positions that marks stand for, as entries are made, undone, joined and forgotten.
-use Rattle.std.proofs.Common.{◌≡◌, ◌≢◌, ◌⊎◌, ◌<◌, ◌≤◌, ◌+◌, ◌-◌, ◌==◌, ℕ, zero, suc, Bool, true, false, Option, Some, None, inl, inr, refl, sym, ap, subst, ◌∙◌, arith, eq-eqb, leb-true, le-leb}
-use Rattle.std.specs.Prelude.{nat_le, nat_lt, if◌then◌else◌, IfSome}
+use Rattle.std.proofs.Common.{◌≡◌, ◌⊎◌, ◌<◌, ◌≤◌, ◌+◌, ◌-◌, ◌==◌, ℕ, zero, suc, Bool, true, false, Option, Some, None, inl, inr, refl, sym, ap, subst, ◌∙◌, arith, eq-eqb, leb-true, le-leb}
+use Rattle.std.specs.Prelude.{nat_le, IfSome}
 use Rattle.std.proofs.lemmas.Bool.{cases_Bool, cond-true, cond-false, leb-false, lt-leb, lt-ltb, le-ltb, ne_eqb}
-use Rattle.geos_model.specs.Position.{Position, Back, Ahead, Nowhere, is_here, position_after_step, position_in_group, position_after_undo, position_after_redo, position_after_join, position_after_forget, position_within, position_stepped}
+use Rattle.geos_model.specs.Position.{Position, Back, Ahead, Nowhere, is_here, position_after_step, position_in_group, position_after_undo, position_after_redo, position_after_join, position_after_forget}
 use Rattle.undo_log.specs.Marks.{AreMarksWithin, IsMarkWithin, both_marks, mark_from, mark_joined, mark_lowered, mark_up_to, position_of}
 use Rattle.undo_log.specs.declared.marks.Marks.{Marks}
 

@@ -1,12 +1,8 @@
 -- The entry that stands behind a place.
-use Rattle.std.proofs.Common.{◌≡◌, ℕ, ◌+◌, ◌<◌, List, [], ◌∷◌, ◌++◌, length, reverse, get_or, take, drop, Option, sym, ap, ◌∙◌, add-one, arith}
+use Rattle.std.proofs.Common.{◌≡◌, ℕ, ◌+◌, ◌<◌, List, [], ◌∷◌, ◌++◌, length, get_or, take, drop, sym, ap, ◌∙◌, add-one, arith}
 use Rattle.std.proofs.Math.Seq.{drop-cons}
 use Rattle.std.proofs.lemmas.List.{length-drop, take_more}
-use Rattle.vm_blocks.specs.declared.change.Change.{Change}
-use Rattle.chunk_edits.specs.declared.direction.Direction.TheVariants.{Forwards, Backwards}
-use Rattle.undo_log.specs.Logging.{Log, ReversesAt, next_moved, reversed_entry}
 use Rattle.undo_log.specs.declared.entry.LogEntry.{LogEntry}
-use Rattle.undo_log.proofs.Lists.{newest_first}
 
 module _ (n : ℕ) (es others : List LogEntry) (e : LogEntry) (is : drop n es ≡ e ∷ others) where
   pub within : n < length es

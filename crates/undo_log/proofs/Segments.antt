@@ -1,7 +1,7 @@
 -- Parts of a list from one place to another.
-use Rattle.std.proofs.Common.{◌≡◌, ◌<◌, ◌≤◌, ◌+◌, ◌-◌, ℕ, zero, suc, List, [], ◌∷◌, ◌++◌, length, reverse, get_or, take, drop, refl, sym, ap, ◌∙◌, arith}
+use Rattle.std.proofs.Common.{◌≡◌, ◌<◌, ◌≤◌, ◌+◌, ◌-◌, ℕ, zero, suc, List, [], ◌∷◌, ◌++◌, length, reverse, get_or, take, drop, sym, ap, ◌∙◌, arith}
 use Rattle.std.proofs.Math.Seq.{drop-append-add, drop-append_seam, take-append-add, take-append_seam}
-use Rattle.std.proofs.lemmas.List.{drop-append-le, drop-take, drop_all, length-append, length-drop, length-reverse, length-take, length-take-le, length_push, reverse-append, take-append-drop, take_all, take_more}
+use Rattle.std.proofs.lemmas.List.{drop-append-le, drop-take, drop_all, length-drop, length-reverse, length-take, length-take-le, length_push, reverse-append, take-append-drop, take_all, take_more}
 
 module _ {X : Type 0} where
   pub drop_drop : (m n k : ℕ) (xs : List X) → m + n ≡ k → drop k xs ≡ drop n (drop m xs)

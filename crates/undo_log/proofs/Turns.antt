@@ -27,7 +27,7 @@ use Rattle.chunk_edits.specs.declared.direction.Direction.TheVariants.{Forwards,
 use Rattle.vm_blocks.proofs.KeepingLaws.{honest-steady, open-shut}
 use Rattle.vm_blocks.proofs.Preparing.{applies_takes}
 use Rattle.doc_edits.specs.Planning.{kind_of_change}
-use Rattle.undo_log.specs.Logging.{AreExclusive, IsHead, Log, after_all, after_entry, all_changes, before, group_of, kind_of_entry, next_entries, next_moved, open_changes, steps, to_redo, to_undo, reversed_entry}
+use Rattle.undo_log.specs.Logging.{AreExclusive, IsHead, Log, abandoned_log, after_all, after_entry, all_changes, before, group_of, kind_of_entry, next_entries, next_moved, open_changes, steps, to_redo, to_undo, reversed_entry}
 use Rattle.undo_log.specs.Sessions.{SessionState, cache_of, has_locked_blocks, machine_of, opposite, CanApplyAllDirected, AreSteps, IsExact, IsStep, KeepsSession}
 use Rattle.undo_log.specs.Turning.{IsEntryApplied, MovesEntry, CanApplyEntry, CantApply, CantApplyEntry, CantApplyLog, IsSure, IsSureKind, abandon_fault, newest_made, no_step_fault, step_command, busy_fault}
 use Rattle.undo_log.specs.declared.entry.LogEntry.{LogEntry}
@@ -253,7 +253,7 @@ module _ {S : Type 0} (facts : S → StoreFacts) where
         others = next_entries (opposite direction) old.log
 
         abbrev after : Log
-        after = turned direction old.log
+        after = turned direction e old.log
 
         log_is : new.log ≡ log_by direction after first.others (reversed_entry e ∷ others)
         log_is = log ∙ log_moved e old.log (none_open old free) direction first
@@ -362,7 +362,7 @@ module _ {S : Type 0} (facts : S → StoreFacts) where
           gives_up facts old.disk.store new.disk.store (machine_of target old) (machine_of target new) commands.Abandon fault exact.honest (lacking old new fault exact why) (kept_machine facts old new keeps target exact) takes takes,
     )
 
-    pub abandon_taken : has_locked_blocks old ≡ false → AreExclusive cs old.log.redo → new.log ≡ record old.log { group = None } → AreApplied facts (map (directed Backwards) cs) (cache_of old) (cache_of new)
+    pub abandon_taken : has_locked_blocks old ≡ false → AreExclusive cs old.log.redo → new.log ≡ abandoned_log old.log → AreApplied facts (map (directed Backwards) cs) (cache_of old) (cache_of new)
         → IsStep facts old new commands.Abandon Accepted
     abandon_taken none apart log makes = λ exact.
         let so = exact.honest in
@@ -383,7 +383,7 @@ module _ {S : Type 0} (facts : S → StoreFacts) where
           λ target.
               let m = machine_of target old in
               let is = passed_machine facts old new target so makes.passes makes.frames makes.locks
-              ∙ ap (λ (d : Document). machine_with m d new.log) document ∙ ap (λ (l : Log). machine_with m (after_all Backwards cs old.document) l) log in
+              ∙ ap (λ (d : Document). machine_with m d new.log) document ∙ ap (λ (l : Log). machine_with m (after_all Backwards cs old.document) l) (log ∙ ap abandoned_log was_log) in
               inl (answers_on m _ (machine_of target new) _ (Some commands.Abandon) Accepted (ap (λ (l : Log). machine_with m old.document l) was_log) is
               (abandon_moved m old.document old.log old.log.undo old.log.redo cs none apart)),
         )

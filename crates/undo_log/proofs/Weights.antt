@@ -30,7 +30,7 @@ content_weight-le (contents.Zeros n) = omega arith
 part_weight-le : (part : PartChange) → part_weight part ≤ part_cost part
 part_weight-le (parts.Raw s) = omega arith
 part_weight-le (parts.Chunk c s) = omega arith
-part_weight-le (parts.Patch c ps) = held_le ps
+part_weight-le (parts.Patch c ps runs) = held_le ps
 part_weight-le (parts.ChunkIn c content) = content_weight-le content
 part_weight-le (parts.ChunkOut c content) = content_weight-le content
 

@@ -1,6 +1,9 @@
 -- What becomes of entries that are joined or emptied.
-use Rattle.std.specs.Prelude.{◌≡◌, ℕ, ◌+◌, List, ◌∷◌, ◌++◌, drop, length, take}
+use Rattle.std.specs.Prelude.{◌≡◌, ℕ, Bool, true, false, ◌-◌, List, [], ◌∷◌, ◌++◌, drop, length, take}
 use Rattle.undo_log.specs.Logging.{changes_in}
+use Rattle.vm_blocks.specs.declared.change.Change.{Change}
+use Rattle.undo_log.specs.Telling.{told}
+use Rattle.undo_log.specs.declared.touched.Touched.{Touched}
 use Rattle.undo_log.specs.declared.entry.LogEntry.{LogEntry}
 use Rattle.undo_log.specs.declared.entry.LogEntry.TheVariants as entries
 
@@ -18,3 +21,11 @@ pub record JoinsAt (place : ℕ) (old new : List LogEntry) : Type 0 where
 pub record LeavesBehind (place : ℕ) (old new : List LogEntry) : Type 0 where
   pub count : length new ≡ length old
   pub behind : drop place new ≡ drop place old
+
+-- Where the entry before a place may be told of, it is kept if it is, and what is told stays; otherwise nothing else is
+-- told. The entries behind are the same.
+pub record KeepsBefore (place : ℕ) (is_told : Bool) (last last' : Touched) (old new : List LogEntry) : Type 0 where
+  pub leaves : LeavesBehind place old new
+  pub other : is_told ≡ false → last' ≡ last
+  pub tells : is_told ≡ true → (e : LogEntry) (others : List LogEntry) (next : List Change)
+      → drop (place - 1) old ≡ e ∷ others → told last' [] next ≡ told last (changes_in e) next

@@ -1,4 +1,6 @@
+pub mod Telling
 pub mod Logging
+pub mod Asking
 pub mod Rooms
 pub mod Marks
 pub mod Joining

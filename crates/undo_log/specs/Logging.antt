@@ -13,15 +13,16 @@ use Rattle.vm_blocks.specs.declared.change.Change.{Change}
 use Rattle.chunk_edits.specs.declared.direction.Direction.{Direction}
 use Rattle.chunk_edits.specs.declared.direction.Direction.TheVariants.{Backwards, Forwards}
 use Rattle.doc_edits.specs.Planning.{kind_of_change, change_cost}
+use Rattle.geos_model.specs.declared.place.Place.{Place}
+use Rattle.geos_model.specs.declared.place.Place.TheVariants as place
+use Rattle.vm_blocks.specs.ChangePlaces.{change_places}
+pub use Rattle.undo_log.specs.Telling.{changes_in}
+use Rattle.undo_log.specs.Telling.{all_places, made_places, next_places, newest_changes, next_changes, told}
 use Rattle.undo_log.specs.declared.entry.LogEntry.{LogEntry}
 use Rattle.undo_log.specs.declared.entry.LogEntry.TheVariants as entries
+use Rattle.undo_log.specs.declared.touched.Touched.{Touched}
 
--- the changes of an entry, the one that is made next first
-abbrev pub changes_in : LogEntry → List Change
-changes_in (entries.One c) = c ∷ []
-changes_in (entries.Group cs) = cs
-
--- those of several
+-- the changes of several entries, the one that is made next first
 abbrev pub all_changes : List LogEntry → List Change
 all_changes [] = []
 all_changes (entries.One c ∷ es) = c ∷ all_changes es
@@ -66,9 +67,19 @@ abbrev pub after_entry : Direction → LogEntry → Document → Document
 after_entry direction (entries.One c) d = after_directed direction c d
 after_entry direction (entries.Group cs) d = after_all direction cs d
 
+-- the places at which a step was made, of an entry that is carried out in a direction
+abbrev pub places_of_step : Direction → LogEntry → List Place
+places_of_step Backwards e = made_places e
+places_of_step Forwards e = next_places Forwards e
+
 -- the step that an entry is, carried out in a direction
 abbrev pub step : Direction → LogEntry → Document → UndoStep
-step direction e d = record { kind = kind_of_entry e; cost = entry_cost e; document = after_entry direction e d }
+step direction e d = record {
+  kind = kind_of_entry e;
+  cost = entry_cost e;
+  document = after_entry direction e d;
+  places = places_of_step direction e;
+}
 
 -- the steps that entries are, carried out in a direction one after another
 abbrev pub steps : Direction → List LogEntry → Document → List UndoStep
@@ -76,14 +87,15 @@ steps direction [] d = []
 steps direction (e ∷ es) d = step direction e d ∷ steps direction es (after_entry direction e d)
 
 -- What can be undone and what can be made again, of both the next entry first; the changes of the group that is open, the
--- newest first, None where none is open; where the committed documents stand; and how many entries are kept to be undone,
--- None where all are.
+-- newest first, None where none is open; where the committed documents stand; what is told of the change that was made
+-- or taken back last; and how many entries are kept to be undone, None where all are.
 pub record Log : Type 0 where
   pub undo : List LogEntry
   pub redo : List LogEntry
   pub group : Option (List Change)
   pub updated_at : Position
   pub saved_at : Position
+  pub touched : List Place
   pub limit : Option ℕ
 
 -- that of a session that begins, on a file that has one directory for both documents or doesn't
@@ -94,6 +106,7 @@ fresh_log one = record {
   group = None;
   updated_at = Back 0;
   saved_at = if one then Back 0 else Nowhere;
+  touched = [];
   limit = None;
 }
 
@@ -130,7 +143,12 @@ before group d = after_all Backwards (open_changes group) d
 
 -- the group of these changes, in a document that has them
 abbrev pub group_of : Document → List Change → OpenGroup
-group_of d cs = record { before = after_all Backwards cs d; edits = length cs; cost = changes_cost cs }
+group_of d cs = record {
+  before = after_all Backwards cs d;
+  edits = length cs;
+  cost = changes_cost cs;
+  places = all_places Forwards (reverse cs);
+}
 
 -- Whether the document is the committed one that stands there: no step lies between, nor a change of the open group.
 abbrev pub is_at : Position → Log → Bool
@@ -161,8 +179,8 @@ without_redo log = record log {
 
 -- An edit's change is the newest: of the group that is open, or as an entry. Nothing is left to make again.
 abbrev pub added_to : Option (List Change) → Change → Log → Log
-added_to None c log = record (with_entry (entries.One c) log) { redo = [] }
-added_to (Some cs) c log = record (without_redo log) { group = Some (c ∷ cs) }
+added_to None c log = record (with_entry (entries.One c) log) { redo = []; touched = change_places c }
+added_to (Some cs) c log = record (without_redo log) { group = Some (c ∷ cs); touched = change_places c }
 
 abbrev pub with_change : Change → Log → Log
 with_change c log = added_to log.group c log
@@ -184,12 +202,14 @@ moved_from Backwards (e ∷ es) log = record log {
   redo = reversed_entry e ∷ log.redo;
   updated_at = position_after_undo log.updated_at;
   saved_at = position_after_undo log.saved_at;
+  touched = next_places Backwards e;
 }
 moved_from Forwards (e ∷ es) log = record log {
   undo = reversed_entry e ∷ log.undo;
   redo = es;
   updated_at = position_after_redo log.updated_at;
   saved_at = position_after_redo log.saved_at;
+  touched = next_places Forwards e;
 }
 
 abbrev pub next_moved : Direction → Log → Log
@@ -224,9 +244,18 @@ saved_log log = record log { updated_at = Back 0; saved_at = Back 0 }
 
 -- after a revert nothing is left to undo or to make again, and the limit stays
 abbrev pub reverted_log : Log → Log
-reverted_log log = record (fresh_log true) { limit = log.limit }
+reverted_log log = record (fresh_log true) { touched = place.All ∷ []; limit = log.limit }
 
--- A log, and whether there is room for one change more.
+-- after the open group was taken back
+abbrev pub abandoned_log : Log → Log
+abandoned_log log = record log { group = None; touched = all_places Backwards (open_changes log.group) }
+
+-- a log that tells what was touched last
+abbrev pub retold : Touched → Log → Log
+retold last log = record log { touched = told last (newest_changes log.undo log.group) (next_changes log.redo) }
+
+-- A log, what it tells of, and whether there is room for one change more.
 pub record LogState : Type 0 where
   pub lists : Log
+  pub last : Touched
   pub room : Bool

@@ -5,7 +5,7 @@ use Rattle.std.specs.List.{sum_by}
 use Rattle.std.specs.Option.{option_map}
 use Rattle.std.specs.Ordering.{nat_cmp}
 use Rattle.geos_model.specs.Document.{Document, IsValid}
-use Rattle.geos_model.specs.LookUps.{block_look_up, chain_look_up, plain_look_up}
+use Rattle.geos_model.specs.LookUps.{block_look_up, chain_look_up, places_look_up, plain_look_up}
 use Rattle.geos_model.specs.Machine.{Machine, UndoStep, Step}
 use Rattle.geos_model.specs.Reply.{Reply}
 use Rattle.geos_model.specs.declared.command.Command.{Command}
@@ -65,6 +65,7 @@ machine_of target s = record {
   saved = s.disk.saved;
   updated_at = s.log.updated_at;
   saved_at = s.log.saved_at;
+  touched = s.log.touched;
   undo_limit = s.log.limit;
   locks = locks_in s.resident;
   frames = s.frames;
@@ -138,6 +139,7 @@ AnswersWithoutBody old new command reply =
 abbrev pub AnswersAsked : {S : Type 0} → (S → StoreFacts) → SessionState S → SessionState S → LookUp → Reply → Type 0
 AnswersAsked facts old new look_ups.List reply = AnswersWithoutBody old new commands.List reply
 AnswersAsked facts old new (look_ups.Plain asked) reply = AnswersWithoutBody old new (plain_look_up asked) reply
+AnswersAsked facts old new (look_ups.Places asked) reply = AnswersWithoutBody old new (places_look_up asked) reply
 AnswersAsked facts old new (look_ups.InBlock b asked) reply = AnswersLookUp facts old new (block_look_up b asked) reply
 AnswersAsked facts old new (look_ups.AlongChain asked) reply = AnswersAlongChain facts old new (chain_look_up asked) reply
 

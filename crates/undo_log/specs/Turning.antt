@@ -16,7 +16,7 @@ use Rattle.vm_blocks.specs.declared.change.Change.{Change}
 use Rattle.chunk_edits.specs.declared.direction.Direction.{Direction}
 use Rattle.chunk_edits.specs.declared.direction.Direction.TheVariants.{Forwards, Backwards}
 use Rattle.doc_edits.specs.Planning.{kind_of_change}
-use Rattle.undo_log.specs.Logging.{after_entry, open_changes, reversed_entry}
+use Rattle.undo_log.specs.Logging.{abandoned_log, after_entry, open_changes, reversed_entry}
 use Rattle.undo_log.specs.Sessions.{SessionState, cache_of, has_locked_blocks, CanApplyAllDirected, IsExact}
 use Rattle.undo_log.specs.declared.entry.LogEntry.{LogEntry}
 use Rattle.undo_log.specs.declared.entry.LogEntry.TheVariants as entries
@@ -106,7 +106,7 @@ IsRefusedUndoOrRedo facts nothing from old new fault =
 pub record Abandons {S : Type 0} (facts : S → StoreFacts) (old new : SessionState S) : Type 0 where
   pub is_open : is_some old.log.group ≡ true
   pub makes : AreApplied facts (map (directed Backwards) (open_changes old.log.group)) (cache_of old) (cache_of new)
-  pub log : new.log ≡ record old.log { group = None }
+  pub log : new.log ≡ abandoned_log old.log
 
 -- Why it isn't: there is none, or a block is locked, and then nothing changes; or its changes can't be taken back,
 -- which none always can.

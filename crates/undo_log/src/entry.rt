@@ -1,11 +1,12 @@
 //! What is kept of one step: the change of an edit, or the changes of a group.
-ghost use Rattle.std.specs.Prelude.{◌≡◌, ◌-◌, ◌^◌, [], ◌∷◌, ◌++◌, min, reverse, MatchResult};
+ghost use Rattle.std.specs.Prelude.{◌≡◌, ◌-◌, ◌^◌, [], ◌∷◌, ◌++◌, length, min, reverse, take, MatchResult};
 ghost use Rattle.undo_log.specs.Logging.{changes_in, entry_weight, reversed_entry};
 
 use crate::weighing::total_weight;
 use std::alloc::{AllocError, AllocFailed, Global};
 use std::marker::Model;
 use std::mem::size_of;
+use std::slice;
 use vm_blocks::Change;
 
 /// The changes of a group. Contracts see them as a list, the one that is made next first.
@@ -68,6 +69,17 @@ impl Changes {
         self.stack.insert(0, change)
     }
 
+    /// No more than so many changes are left, those that are made next.
+    pub(crate) fn keep_next(&mut self, count: usize)
+        ensures { self.new ≡ take count self.old }
+    {
+        let len = self.stack.len();
+        if count < len {
+            self.stack.rotate_left(len - count);
+            self.stack.truncate(count);
+        }
+    }
+
     /// Newer changes are made before these, if there is memory for them.
     pub(crate) fn append(&mut self, newer: &mut Changes) -> Result<(), AllocError>
         ensures { MatchResult result
@@ -96,6 +108,37 @@ impl LogEntry {
         ensures { changes_in result ≡ [] }
     {
         LogEntry::Group(Changes::new(Vec::new(alloc)))
+    }
+
+    /// Its changes, the next one last.
+    pub(crate) fn as_slice(&self) -> &[Change]
+        ensures { reverse result.now ≡ changes_in self.now }
+    {
+        match self {
+            LogEntry::One(change) => slice::from_ref(change),
+            LogEntry::Group(changes) => changes.as_slice(),
+        }
+    }
+
+    /// How many changes it has.
+    pub(crate) fn len(&self) -> usize
+        ensures { result ≡ length (changes_in self.now) }
+    {
+        self.as_slice().len()
+    }
+
+    /// One of no more than so many of its changes, those that are made next. The memory of the others goes back.
+    pub(crate) fn into_next(self, alloc: Global, count: usize) -> LogEntry
+        ensures { changes_in result ≡ take count (changes_in self) }
+    {
+        match self {
+            LogEntry::One(_) if count == 0 => LogEntry::empty(alloc),
+            LogEntry::One(change) => LogEntry::One(change),
+            LogEntry::Group(mut changes) => {
+                changes.keep_next(count);
+                LogEntry::Group(changes)
+            }
+        }
     }
 
     /// How many content bytes its changes hold, 2^64 - 1 where these are more.

@@ -8,6 +8,7 @@ mod log;
 mod making;
 mod marks;
 mod session;
+mod touched;
 mod turning;
 mod weighing;
 

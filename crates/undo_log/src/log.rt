@@ -1,14 +1,18 @@
 //! The log: what can be undone, what can be made again, the group that is open, and where the committed documents stand.
-ghost use Rattle.std.specs.Prelude.{◌≡◌, ◌<◌, ◌≤◌, ◌+◌, ◌-◌, ◌^◌, [], true, Some, None, OnOk, MatchOption, MatchResult, is_some, length, min, reverse};
+ghost use Rattle.std.specs.Prelude.{◌≡◌, ◌≢◌, ◌<◌, ◌≤◌, ◌+◌, ◌-◌, ◌^◌, ◌++◌, [], ◌&&◌, ◌==◌, IfErr, IfOk, true, Some, None, OnOk, MatchOption, MatchResult, is_some, length, min, reverse};
 ghost use Rattle.std.specs.Option.{option_map};
 ghost use Rattle.chunk_edits.specs.declared.direction.Direction.TheVariants.{Backwards, Forwards};
-ghost use Rattle.undo_log.specs.Logging.{AreExclusive, IsHead, ReversesAt, forgotten_log, fresh_log, is_at, joined_log, open_changes, next_entries, next_moved, reverted_log, saved_log, to_redo, to_undo, total_weight, updated_log, with_change, with_entry, with_group_closed, without_redo};
+ghost use Rattle.undo_log.specs.Logging.{AreExclusive, IsHead, ReversesAt, abandoned_log, changes_in, forgotten_log, fresh_log, is_at, joined_log, open_changes, next_entries, next_moved, reverted_log, saved_log, to_redo, to_undo, total_weight, updated_log, with_change, with_entry, with_group_closed, without_redo};
+ghost use Rattle.undo_log.specs.Asking.{asked_places, places_ahead};
+ghost use Rattle.undo_log.specs.Telling.{newest_changes, next_changes, told};
 
 use crate::entry::{Changes, LogEntry};
 use crate::growing::reserve_one;
 use crate::joining::{empty_entries, join_at};
 use crate::marks::Marks;
+use crate::touched::{Touched, tell_made, tell_newest, tell_next};
 use crate::weighing::{entries_weight, total_weight};
+use geos_model::{Place, PlacesLookUp};
 use std::alloc::{AllocError, Global};
 use std::marker::Model;
 use vm_blocks::{Change, Direction};
@@ -27,6 +31,8 @@ pub struct UndoLog {
     group: Option<Vec<Change>>,
     // Where the committed documents stand among the entries, so that an undo or a redo needn't say.
     marks: Marks,
+    // From what it is read where the document was changed last.
+    last: Touched,
     // How many entries are kept to be undone.
     limit: Option<u32>,
 }
@@ -37,6 +43,7 @@ impl Model for UndoLog {
     ghost use Rattle.undo_log.specs.Logging.{AreExclusive, open_changes};
     ghost use Rattle.undo_log.specs.Marks.{AreMarksWithin, position_of};
     ghost use Rattle.undo_log.specs.Rooms.{has_room, waiting};
+    ghost use Rattle.undo_log.specs.Telling.{newest_changes, next_changes, told};
 
     ghost Value = { LogState };
 
@@ -52,8 +59,13 @@ impl Model for UndoLog {
         group = option_map (λ changes. reverse changes.items) l.group;
         updated_at = position_of l.done l.marks.updated;
         saved_at = position_of l.done l.marks.saved;
+        touched = told l.last
+            (newest_changes (reverse (drop l.dead (take l.done l.entries.items)))
+            (option_map (λ changes. reverse changes.items) l.group))
+            (next_changes (drop l.done l.entries.items));
         limit = l.limit;
       };
+      last = l.last;
       room = has_room l.done (vec_capacity l.entries)
           (option_map (λ changes. (vec_len changes, vec_capacity changes)) l.group);
     } };
@@ -80,6 +92,7 @@ impl UndoLog {
                 updated: Some(0),
                 saved: if one { Some(0) } else { None },
             },
+            last: Touched::Nothing,
             limit: None,
         }
     }
@@ -106,6 +119,7 @@ impl UndoLog {
     {
         // In a group too.
         self.cut_undone();
+        self.last = Touched::Newest(1);
         if let Some(changes) = &mut self.group {
             changes.push_reserved(change);
             return;
@@ -113,11 +127,12 @@ impl UndoLog {
         self.push(alloc, LogEntry::One(change));
     }
 
-    // Nothing is left to make again.
+    // Nothing is left to make again, and nothing is told.
     fn cut_undone(&mut self)
-        ensures lists { self.new.lists ≡ without_redo self.old.lists }
+        ensures lists { self.new.lists ≡ record (without_redo self.old.lists) { touched = [] } }
         ensures room { self.new.room ≡ self.old.room }
     {
+        self.last = Touched::Nothing;
         // Where nothing was, the vector needn't be asked.
         if self.done < self.entries.len() {
             self.entries.truncate(self.done);
@@ -130,7 +145,8 @@ impl UndoLog {
         requires room { self.old.room ≡ true }
         requires closed { self.old.lists.group ≡ None }
         requires none { self.old.lists.redo ≡ [] }
-        ensures { self.new.lists ≡ with_entry entry self.old.lists }
+        ensures { self.new.lists
+            ≡ record (with_entry entry self.old.lists) { touched = told self.old.last (changes_in entry) [] } }
     {
         self.entries.push_reserved(entry);
         self.done = self.entries.len();
@@ -146,11 +162,21 @@ impl UndoLog {
         let most = most as usize;
         if self.done - self.dead > most {
             let first = self.done - most;
+            let is_told = self.tells_entry(most);
+            self.last
+                .keep_before(alloc, self.entries.as_mut_slice(), first, is_told);
             empty_entries(alloc, self.entries.as_mut_slice(), self.dead, first);
             self.marks.cut_before(first);
             self.dead = first;
             self.take_dead_away();
         }
+    }
+
+    // Whether what is told may be told of the newest entry, and none is kept where so many are.
+    fn tells_entry(&self, most: usize) -> bool
+        ensures { result ≡ (most == 0 && length (open_changes self.now.lists.group) == 0) }
+    {
+        most == 0 && self.group().is_empty()
     }
 
     // Where as many entries are forgotten as aren't, the others are moved down: the mean time of a call stays the same.
@@ -171,13 +197,16 @@ impl UndoLog {
     /// The newest two entries are one, if there is memory for it. No time goes by but for the changes of the newest and
     /// for what can be made again.
     pub(crate) fn join(&mut self, alloc: Global) -> Result<(), AllocError>
-        requires { 2 ≤ length self.old.lists.undo }
+        requires two { 2 ≤ length self.old.lists.undo }
+        requires closed { self.old.lists.group ≡ None }
         ensures { MatchResult result
             (λ _. self.new.lists ≡ joined_log self.old.lists)
             (λ _. self.new.lists ≡ self.old.lists) }
     {
         let newest = self.done - 1;
+        let count = self.entries[newest].len();
         join_at(alloc, self.entries.as_mut_slice(), newest - 1)?;
+        self.last.at_most(count);
         let _emptied = self.entries.remove(newest);
         self.marks.join_at(newest);
         self.done = newest;
@@ -213,6 +242,7 @@ impl UndoLog {
     {
         if self.done > self.dead {
             self.done -= 1;
+            self.last = Touched::Undone;
             turn_over_at(self.entries.as_mut_slice(), self.done);
         }
     }
@@ -224,6 +254,7 @@ impl UndoLog {
     {
         if self.done < self.entries.len() {
             turn_over_at(self.entries.as_mut_slice(), self.done);
+            self.last = Touched::Newest(self.entries[self.done].len());
             self.done += 1;
         }
     }
@@ -247,11 +278,14 @@ impl UndoLog {
         }
     }
 
-    /// Closes the group and forgets its changes.
-    pub(crate) fn forget_group(&mut self)
-        ensures { self.new.lists ≡ record self.old.lists { group = None } }
+    /// Closes the group, of which the changes were taken back. They are kept until something else is told.
+    pub(crate) fn abandon_group(&mut self)
+        requires { is_some self.old.lists.group ≡ true }
+        ensures { self.new.lists ≡ abandoned_log self.old.lists }
     {
-        self.group = None;
+        if let Some(changes) = self.group.take() {
+            self.last = Touched::Abandoned(Changes::new(changes));
+        }
     }
 
     /// Forgets all, after a revert. The limit stays.
@@ -266,6 +300,7 @@ impl UndoLog {
             updated: Some(0),
             saved: Some(0),
         };
+        self.last = Touched::All;
     }
 
     /// Keeps so many entries to be undone from the next one on, or all.
@@ -302,6 +337,72 @@ impl UndoLog {
         ensures { result ≡ is_at self.now.lists.saved_at self.now.lists }
     {
         self.marks.saved == Some(self.done) && self.group().is_empty()
+    }
+
+    /// Tells what is asked for.
+    pub(crate) fn tell(
+        &self,
+        asked: PlacesLookUp,
+        places: &mut Vec<Place>,
+    ) -> Result<(), AllocError>
+        ensures ok { IfOk result (λ _. places.new.items ≡ places.old.items ++ asked_places asked self.now.lists) }
+        ensures err { IfErr result (λ _. asked_places asked self.now.lists ≢ []) }
+    {
+        match asked {
+            PlacesLookUp::Touched => self.tell_touched(places),
+            PlacesLookUp::Undo => self.tell_entry(Direction::Backwards, places),
+            PlacesLookUp::Redo => self.tell_entry(Direction::Forwards, places),
+            PlacesLookUp::Abandon => tell_next(self.group(), Direction::Backwards, places),
+        }
+    }
+
+    // Tells what the next entry in a direction would change.
+    fn tell_entry(&self, direction: Direction, places: &mut Vec<Place>) -> Result<(), AllocError>
+        ensures ok { IfOk result (λ _. places.new.items
+            ≡ places.old.items ++ places_ahead direction (next_entries direction self.now.lists)) }
+        ensures err { IfErr result (λ _. places_ahead direction (next_entries direction self.now.lists) ≢ []) }
+    {
+        match self.next_entry(direction) {
+            Some(entry) => tell_next(entry.as_slice(), direction, places),
+            None => Ok(()),
+        }
+    }
+
+    // Tells where the document was changed last.
+    fn tell_touched(&self, places: &mut Vec<Place>) -> Result<(), AllocError>
+        ensures ok { IfOk result (λ _. places.new.items ≡ places.old.items ++ self.now.lists.touched) }
+        ensures err { IfErr result (λ _. self.now.lists.touched ≢ []) }
+    {
+        match &self.last {
+            Touched::Nothing => Ok(()),
+            Touched::All => {
+                places.push(Place::All)?;
+                Ok(())
+            }
+            Touched::Newest(count) => tell_newest(self.newest(), *count, places),
+            Touched::Undone => match self.undone().first() {
+                Some(entry) => tell_made(entry.as_slice(), Direction::Backwards, places),
+                None => Ok(()),
+            },
+            Touched::Forgotten(entry) => tell_made(entry.as_slice(), Direction::Forwards, places),
+            Touched::Abandoned(changes) => {
+                tell_next(changes.as_slice(), Direction::Backwards, places)
+            }
+        }
+    }
+
+    // The newest changes, the newest last: of the open group or, where it has none, of the newest entry.
+    fn newest(&self) -> &[Change]
+        ensures { reverse result.now ≡ newest_changes self.now.lists.undo self.now.lists.group }
+    {
+        let group = self.group();
+        if !group.is_empty() {
+            return group;
+        }
+        match self.made().last() {
+            Some(entry) => entry.as_slice(),
+            None => &[],
+        }
     }
 
     /// The changes of the group that is open, the newest last; none where none is.

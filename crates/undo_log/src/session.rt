@@ -26,7 +26,7 @@ ghost use Rattle.doc_edits.specs.Room.{lacks_frames, ReadsNothing};
 ghost use Rattle.undo_log.specs.Editing.{EditsInMemory};
 ghost use Rattle.undo_log.specs.Locking.{IsBarred};
 ghost use Rattle.undo_log.specs.Committing.{IsBusy, IsSaveAsRefused, IsSessionCommit};
-ghost use Rattle.undo_log.specs.Logging.{AreExclusive, before, fresh_log, next_entries, next_moved, open_changes, reverted_log, saved_log, to_redo, to_undo, total_weight, updated_log, with_group_closed};
+ghost use Rattle.undo_log.specs.Logging.{AreExclusive, abandoned_log, before, fresh_log, next_entries, next_moved, open_changes, reverted_log, saved_log, to_redo, to_undo, total_weight, updated_log, with_group_closed};
 ghost use Rattle.undo_log.specs.Sessions.{cache_of, file_of, has_locked_blocks, machine_of, opposite, failed_since, total_cost, IsExact, IsStep, KeepsSession, PushesEdit};
 ghost use Rattle.undo_log.specs.Turning.{Abandons, IsNotAbandoned, IsRefusedUndoOrRedo, IsSure, IsSureGroup, MovesEntry, abandon_fault, newest_made, busy_fault, no_step_fault, step_command};
 
@@ -37,7 +37,7 @@ use crate::log::UndoLog;
 use crate::making::{is_barred, make};
 use crate::turning::{make_entry, nothing_to_turn, take_back};
 use doc_edits::look_ups::Lists;
-use geos_model::{ChunkHandle, Done, Edit, Fault, VmHandle};
+use geos_model::{ChunkHandle, Done, Edit, Fault, Place, VmHandle};
 use std::alloc::Global;
 use std::marker::Model;
 use vm_blocks::{BlockBody, Direction, FileBlocks};
@@ -53,6 +53,8 @@ pub struct Session<S: Store> {
     log: UndoLog,
     // From which the reply to a look-up is lent: no part of what a session is.
     lists: Lists,
+    // From which places are lent.
+    shown: Vec<Place>,
 }
 
 impl<S: Store> Model for Session<S> {
@@ -96,6 +98,7 @@ impl<S: Store> Session<S> {
             blocks,
             log: UndoLog::new(alloc, one),
             lists: Lists::new(alloc),
+            shown: Vec::new(alloc),
         }
     }
 
@@ -456,7 +459,7 @@ impl<S: Store> Session<S> {
         ensures passes { KeepsCommitted S.facts self.old.disk self.new.disk }
         // When the answer is known beforehand.
         ensures empty { abandon_fault self.old ≡ None → self.old.log.group ≡ Some []
-            → IsOk result × (self.new ≡ record self.old { log = record self.old.log { group = None } }) }
+            → IsOk result × (self.new ≡ record self.old { log = abandoned_log self.old.log }) }
         ensures sure { abandon_fault self.old ≡ None
             → IsSureGroup S.facts self.old Backwards (open_changes self.old.log.group)
             → IsOk result × (self.new.disk ≡ self.old.disk)
@@ -468,7 +471,7 @@ impl<S: Store> Session<S> {
             return Err(fault);
         }
         take_back(&mut self.blocks, self.log.group())?;
-        self.log.forget_group();
+        self.log.abandon_group();
         Ok(())
     }
 
@@ -539,7 +542,8 @@ impl<S: Store> Session<S> {
         self.log.reveal_invariant();
     }
 
-    /// How many content bytes the records of undo, redo and an open group hold, 2^64 - 1 where these are more.
+    /// How many content bytes the records of undo, redo and an open group hold, 2^64 - 1 where these are more. What is
+    /// still told of a group that was abandoned, or of a step that was forgotten, isn't counted.
     pub fn weight(&self) -> u64
         ensures exact { result
             ≡ min (total_weight (to_undo self.now.log) + total_weight (to_redo self.now.log)) (2 ^ 64 - 1) }

@@ -17,6 +17,7 @@ use Rattle.geos_model.proofs.BlockLists.{put_stands, put_valid, put_map_block}
 use Rattle.geos_model.proofs.Validity.{with_block-valid}
 use Rattle.geos_model.specs.declared.block.Attributes.{Attributes}
 use Rattle.chunk_edits.specs.Patching.{PatchPiece, ArePiecesOf, patched, peak, reversed_pieces}
+use Rattle.chunk_edits.specs.declared.runs.ArrayRuns.{ArrayRuns}
 use Rattle.chunk_edits.specs.Splicing.{Splice, OccursAt, forwards, backwards}
 use Rattle.chunk_edits.proofs.PatchingLemmas.{patch_leads_back, pieces_length, reversed_peak, reversed_twice}
 use Rattle.chunk_edits.proofs.SplicingLemmas.{leads_back}
@@ -227,8 +228,8 @@ pub room_again : (m : ChunkMap) (c : ℕ) (bytes more : List ℕ) → fits_with 
 unfolding fits_with
 room_again m c bytes more room = ap fits (put_again m c bytes more) ∙ room
 
-patch_undone : (d : Document) (b : ℕ) (c : ChunkHandle) (ps : List PatchPiece) → IsValid d → FitsPatch d b c.0 ps → PartUndone b (parts.Patch c ps) d
-patch_undone d b c ps valid fits =
+patch_undone : (d : Document) (b : ℕ) (c : ChunkHandle) (ps : List PatchPiece) (runs : ArrayRuns) → IsValid d → FitsPatch d b c.0 ps → PartUndone b (parts.Patch c ps runs) d
+patch_undone d b c ps runs valid fits =
     let found = heap_at d b fits.heap in
     let u : Attributes = found.0 in
     let m : ChunkMap = found.1 in
@@ -249,7 +250,7 @@ patch_undone d b c ps valid fits =
     let room_back : fits_with n c.0 (replicate (peak (reversed_pieces ps)) 0) ≡ true =
     ap (λ (k : ℕ). fits_with n c.0 (replicate k 0)) (reversed_peak ps) ∙ room_again m c.0 made (replicate (peak ps) 0) room in
     let now = heap_now d b u m there n in
-    part_undone b (parts.Patch c ps) d (with_block d b (heap_block u n)) (patch_made d b u m there c.0 ps bytes is)
+    part_undone b (parts.Patch c ps runs) d (with_block d b (heap_block u n)) (patch_made d b u m there c.0 ps bytes is)
     (heap_valid d b u m there n valid (heap-insert m c.0 made heap handle (patched_fits m c.0 ps bytes heap handle (sym (pieces_length ps bytes stands)) room)))
     (patch_fits (with_block d b (heap_block u n)) b u n now c.0 (reversed_pieces ps) made is_now back.0 room_back)
     (patch_made (with_block d b (heap_block u n)) b u n now c.0 (reversed_pieces ps) made is_now ∙ heap_back d b u m there n _ given)
@@ -291,7 +292,7 @@ chunk_out_undone d b c content valid has =
 part_back : (b : ℕ) (p : PartChange) (d : Document) → IsValid d → CanApplyPart b p d → PartUndone b p d
 part_back b (parts.Raw s) d valid applies = raw_undone d b s valid applies
 part_back b (parts.Chunk c s) d valid applies = chunk_undone d b c s valid applies
-part_back b (parts.Patch c ps) d valid applies = patch_undone d b c ps valid applies
+part_back b (parts.Patch c ps runs) d valid applies = patch_undone d b c ps runs valid applies
 part_back b (parts.ChunkIn c content) d valid applies = chunk_in_undone d b c content valid applies
 part_back b (parts.ChunkOut c content) d valid applies = chunk_out_undone d b c content valid applies
 
@@ -346,7 +347,7 @@ change_back (changes.Map old new) d valid applies = map_undone d old.0 new.0 val
 pub part_twice : (p : PartChange) → reversed_part (reversed_part p) ≡ p
 part_twice (parts.Raw s) = refl
 part_twice (parts.Chunk c s) = refl
-part_twice (parts.Patch c ps) = ap (parts.Patch c) (reversed_twice ps)
+part_twice (parts.Patch c ps runs) = ap (λ (qs : List PatchPiece). parts.Patch c qs runs) (reversed_twice ps)
 part_twice (parts.ChunkIn c content) = refl
 part_twice (parts.ChunkOut c content) = refl
 

@@ -29,8 +29,8 @@ holds_by b p d block is applies = by p block.body (is ∙ refl) applies
     by (parts.Raw s) (Heap m) is fits = let no : false ≡ true = rw is at fits.raw in cc
     by (parts.Chunk c s) (Raw bytes) is fits = let no : false ≡ true = rw is at fits.heap in cc
     by (parts.Chunk c s) (Heap m) is fits = rw is at fits.stands
-    by (parts.Patch c ps) (Raw bytes) is fits = let no : false ≡ true = rw is at fits.heap in cc
-    by (parts.Patch c ps) (Heap m) is fits = rw is at fits.stands
+    by (parts.Patch c ps runs) (Raw bytes) is fits = let no : false ≡ true = rw is at fits.heap in cc
+    by (parts.Patch c ps runs) (Heap m) is fits = rw is at fits.stands
     by (parts.ChunkIn c content) (Raw bytes) is fits = let no : false ≡ true = rw is at fits.heap in cc
     by (parts.ChunkIn c content) (Heap m) is fits = tt
     by (parts.ChunkOut c content) (Raw bytes) is has = let no : false ≡ true = rw is at has.heap in cc
@@ -89,8 +89,8 @@ part_leads_back (parts.Chunk c s) (Raw bytes) valid exact = absurd exact.holds
 part_leads_back (parts.Chunk c s) (Heap m) valid exact =
     let back = chunk_back m valid c.0 s exact.takes.live exact.holds in
     (record { live = back.0; within = back.1.within; fits = back.2 }, ap Heap back.3)
-part_leads_back (parts.Patch c ps) (Raw bytes) valid exact = absurd exact.holds
-part_leads_back (parts.Patch c ps) (Heap m) valid exact =
+part_leads_back (parts.Patch c ps runs) (Raw bytes) valid exact = absurd exact.holds
+part_leads_back (parts.Patch c ps runs) (Heap m) valid exact =
     let back = patch_back m valid c.0 ps exact.takes.live exact.holds exact.takes.fits in
     (record { live = back.0; size = sym (pieces_length (reversed_pieces ps) _ back.1); fits = back.2 }, ap Heap back.3)
 part_leads_back (parts.ChunkIn c content) (Raw bytes) valid exact = absurd exact.holds

@@ -13,6 +13,7 @@ use Rattle.geos_model.proofs.HeapEdits.{heap-insert, heap-remove}
 use Rattle.geos_model.specs.declared.block.Attributes.{Attributes}
 use Rattle.geos_model.specs.declared.handle.ChunkHandle.{ChunkHandle}
 use Rattle.chunk_edits.specs.Patching.{PatchPiece, directed_pieces, patched, peak, total_taken}
+use Rattle.chunk_edits.specs.declared.runs.ArrayRuns.{ArrayRuns}
 use Rattle.chunk_edits.specs.Splicing.{forwards}
 use Rattle.chunk_edits.specs.declared.direction.Direction.{Direction}
 use Rattle.chunk_edits.specs.declared.direction.Direction.TheVariants.{Forwards, Backwards}
@@ -35,7 +36,7 @@ heap_live (Some block) heap = refl
 pub part_live : (b : ℕ) (p : PartChange) (d : Document) → CanApplyPart b p d → is_live d b ≡ true
 part_live b (parts.Raw s) d fits = raw_live (get d.blocks b) fits.raw
 part_live b (parts.Chunk c s) d fits = heap_live (get d.blocks b) fits.heap
-part_live b (parts.Patch c ps) d fits = heap_live (get d.blocks b) fits.heap
+part_live b (parts.Patch c ps runs) d fits = heap_live (get d.blocks b) fits.heap
 part_live b (parts.ChunkIn c content) d fits = heap_live (get d.blocks b) fits.heap
 part_live b (parts.ChunkOut c content) d has = heap_live (get d.blocks b) has.heap
 
@@ -46,8 +47,8 @@ module _ (d : Document) (b : ℕ) (u : Attributes) where
   takes (parts.Raw s) (Heap m) is fits = let no : false ≡ true = rw is at fits.raw in cc
   takes (parts.Chunk c s) (Raw bytes) is fits = let no : false ≡ true = rw is at fits.heap in cc
   takes (parts.Chunk c s) (Heap m) is fits = record { live = rw is at fits.live; within = rw is at fits.stands.within; fits = rw is at fits.fits }
-  takes (parts.Patch c ps) (Raw bytes) is fits = let no : false ≡ true = rw is at fits.heap in cc
-  takes (parts.Patch c ps) (Heap m) is fits = record { live = rw is at fits.live; size = sym (pieces_length ps _ (rw is at fits.stands)); fits = rw is at fits.fits }
+  takes (parts.Patch c ps runs) (Raw bytes) is fits = let no : false ≡ true = rw is at fits.heap in cc
+  takes (parts.Patch c ps runs) (Heap m) is fits = record { live = rw is at fits.live; size = sym (pieces_length ps _ (rw is at fits.stands)); fits = rw is at fits.fits }
   takes (parts.ChunkIn c content) (Raw bytes) is fits = let no : false ≡ true = rw is at fits.heap in cc
   takes (parts.ChunkIn c content) (Heap m) is fits = record { handle = fits.handle; free = rw is at fits.free; fits = rw is at fits.fits }
   takes (parts.ChunkOut c content) (Raw bytes) is has = let no : false ≡ true = rw is at has.heap in cc
@@ -63,7 +64,7 @@ part_takes b p d block is applies = takes d b block.attributes p block.body is a
 pub part_is : (b : ℕ) (p : PartChange) (d : Document) (block : Block) → get d.blocks b ≡ Some block → after_part b p d ≡ option_map_or (λ x. with_block d b (record x { body = body_after_part p x.body })) (get d.blocks b) d
 part_is b (parts.Raw s) d block is = rw is refl
 part_is b (parts.Chunk c s) d block is = rw is refl
-part_is b (parts.Patch c ps) d block is = rw is refl
+part_is b (parts.Patch c ps runs) d block is = rw is refl
 part_is b (parts.ChunkIn c content) d block is = rw is refl
 part_is b (parts.ChunkOut c content) d block is = rw is refl
 
@@ -74,8 +75,8 @@ part_kind (parts.Raw s) (Raw bytes) takes = refl
 part_kind (parts.Raw s) (Heap m) takes = absurd takes
 part_kind (parts.Chunk c s) (Raw bytes) takes = absurd takes
 part_kind (parts.Chunk c s) (Heap m) takes = refl
-part_kind (parts.Patch c ps) (Raw bytes) takes = absurd takes
-part_kind (parts.Patch c ps) (Heap m) takes = refl
+part_kind (parts.Patch c ps runs) (Raw bytes) takes = absurd takes
+part_kind (parts.Patch c ps runs) (Heap m) takes = refl
 part_kind (parts.ChunkIn c content) (Raw bytes) takes = absurd takes
 part_kind (parts.ChunkIn c content) (Heap m) takes = refl
 part_kind (parts.ChunkOut c content) (Raw bytes) takes = absurd takes
@@ -91,8 +92,8 @@ part_valid (parts.Raw s) (Raw bytes) valid takes = le-leb _ _ takes.room
 part_valid (parts.Raw s) (Heap m) valid takes = absurd takes
 part_valid (parts.Chunk c s) (Raw bytes) valid takes = absurd takes
 part_valid (parts.Chunk c s) (Heap m) valid takes = heap-insert m c.0 (forwards s (chunk_bytes m c.0)) valid (live_handle m c.0 valid takes.live) takes.fits
-part_valid (parts.Patch c ps) (Raw bytes) valid takes = absurd takes
-part_valid (parts.Patch c ps) (Heap m) valid takes =
+part_valid (parts.Patch c ps runs) (Raw bytes) valid takes = absurd takes
+part_valid (parts.Patch c ps runs) (Heap m) valid takes =
     let handle = live_handle m c.0 valid takes.live in
     heap-insert m c.0 (patched ps (chunk_bytes m c.0)) valid handle (patched_fits m c.0 ps (chunk_bytes m c.0) valid handle takes.size takes.fits)
 part_valid (parts.ChunkIn c content) (Raw bytes) valid takes = absurd takes
@@ -102,9 +103,9 @@ part_valid (parts.ChunkOut c content) (Heap m) valid takes = heap-remove m c.0 v
 
 -- A patch in a direction is the one of the pieces in that direction.
 
-pub directed_patch : (direction : Direction) (c : ChunkHandle) (ps : List PatchPiece) → directed_part direction (parts.Patch c ps) ≡ parts.Patch c (directed_pieces direction ps)
-directed_patch Forwards c ps = refl
-directed_patch Backwards c ps = refl
+pub directed_patch : (direction : Direction) (c : ChunkHandle) (ps : List PatchPiece) (runs : ArrayRuns) → directed_part direction (parts.Patch c ps runs) ≡ parts.Patch c (directed_pieces direction ps) runs
+directed_patch Forwards c ps runs = refl
+directed_patch Backwards c ps runs = refl
 
 pub directed_peak : (direction : Direction) (ps : List PatchPiece) → peak (directed_pieces direction ps) ≡ peak ps
 directed_peak Forwards ps = refl

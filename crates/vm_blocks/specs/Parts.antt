@@ -15,14 +15,14 @@ use Rattle.vm_blocks.specs.declared.change.PartChange.TheVariants as parts
 abbrev pub RawAllowsPart : PartChange → List ℕ → Type 0
 RawAllowsPart (parts.Raw s) bytes = AllowsRaw bytes s
 RawAllowsPart (parts.Chunk c s) bytes = ⊥
-RawAllowsPart (parts.Patch c ps) bytes = ⊥
+RawAllowsPart (parts.Patch c ps runs) bytes = ⊥
 RawAllowsPart (parts.ChunkIn c content) bytes = ⊥
 RawAllowsPart (parts.ChunkOut c content) bytes = ⊥
 
 abbrev pub HeapAllowsPart : PartChange → ChunkMap → Type 0
 HeapAllowsPart (parts.Raw s) m = ⊥
 HeapAllowsPart (parts.Chunk c s) m = AllowsChunk m c.0 s
-HeapAllowsPart (parts.Patch c ps) m = AllowsPatch m c.0 ps
+HeapAllowsPart (parts.Patch c ps runs) m = AllowsPatch m c.0 ps
 HeapAllowsPart (parts.ChunkIn c content) m = AllowsNewChunk m c.0 (content_bytes content)
 HeapAllowsPart (parts.ChunkOut c content) m = IsTrue (contains_key m c.0)
 
@@ -34,7 +34,7 @@ abbrev pub body_after_part : PartChange → Body → Body
 body_after_part (parts.Raw s) body = Raw (forwards s (bytes_of_body body))
 body_after_part (parts.Chunk c s) body =
     Heap (insert (chunks_of_body body) c.0 (forwards s (chunk_bytes (chunks_of_body body) c.0)))
-body_after_part (parts.Patch c ps) body =
+body_after_part (parts.Patch c ps runs) body =
     Heap (insert (chunks_of_body body) c.0 (patched ps (chunk_bytes (chunks_of_body body) c.0)))
 body_after_part (parts.ChunkIn c content) body = Heap (insert (chunks_of_body body) c.0 (content_bytes content))
 body_after_part (parts.ChunkOut c content) body = Heap (remove (chunks_of_body body) c.0)

@@ -3,7 +3,7 @@ ghost use Rattle.std.specs.Prelude.{◌≡◌};
 ghost use Rattle.vm_blocks.specs.Changes.{weight, part_weight, content_weight};
 
 use crate::Members;
-use chunk_edits::{Patch, Splice};
+use chunk_edits::{ArrayRuns, Patch, Splice};
 use geos_model::{Attributes, Bytes, ChunkHandle, VmHandle};
 
 /// One edit of a document, with all that carrying it out takes in either direction.
@@ -35,8 +35,8 @@ pub enum PartChange {
     Raw(Splice),
     /// A part of a chunk is replaced.
     Chunk(ChunkHandle, Splice),
-    /// Pieces of a chunk change, and the others stay.
-    Patch(ChunkHandle, Patch),
+    /// Pieces of a chunk change, and the others stay; and where the edit that made them changed the chunk.
+    Patch(ChunkHandle, Patch, ArrayRuns),
     /// A chunk comes in under a free handle.
     ChunkIn(ChunkHandle, Content),
     /// A chunk goes.
@@ -72,7 +72,7 @@ impl PartChange {
     {
         match self {
             PartChange::Raw(splice) | PartChange::Chunk(_, splice) => splice.byte_count() as u64,
-            PartChange::Patch(_, patch) => patch.byte_count(),
+            PartChange::Patch(_, patch, _) => patch.byte_count(),
             PartChange::ChunkIn(_, content) | PartChange::ChunkOut(_, content) => content.weight(),
         }
     }

@@ -10,6 +10,7 @@ mod in_memory;
 mod law;
 mod member;
 mod part;
+mod places;
 mod saved;
 mod transfers;
 

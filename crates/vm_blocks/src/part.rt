@@ -41,7 +41,7 @@ fn raw_can_take(body: &RawBody, change: &PartChange, direction: Direction) -> bo
             }
         }
         PartChange::Chunk(_, _)
-        | PartChange::Patch(_, _)
+        | PartChange::Patch(_, _, _)
         | PartChange::ChunkIn(_, _)
         | PartChange::ChunkOut(_, _) => false,
     }
@@ -59,7 +59,7 @@ fn heap_can_take(heap: &Heap, change: &PartChange, direction: Direction) -> bool
                 Direction::Backwards => chunk_allows(heap, *chunk, splice.at(), new, old),
             }
         }
-        PartChange::Patch(chunk, patch) => patch_allows(heap, *chunk, patch, direction),
+        PartChange::Patch(chunk, patch, _) => patch_allows(heap, *chunk, patch, direction),
         PartChange::ChunkIn(chunk, content) => match direction {
             Direction::Forwards => allows_new(heap, *chunk, content),
             Direction::Backwards => heap.chunk(*chunk).is_some(),
@@ -113,7 +113,7 @@ fn raw_holds(body: &RawBody, change: &PartChange, direction: Direction) -> bool
             Direction::Backwards => occurs_at(body.bytes(), splice.at(), splice.new()),
         },
         PartChange::Chunk(_, _)
-        | PartChange::Patch(_, _)
+        | PartChange::Patch(_, _, _)
         | PartChange::ChunkIn(_, _)
         | PartChange::ChunkOut(_, _) => false,
     }
@@ -128,7 +128,7 @@ fn heap_holds(heap: &Heap, change: &PartChange, direction: Direction) -> bool
             Direction::Forwards => occurs_at(chunk_bytes(heap, *chunk), splice.at(), splice.old()),
             Direction::Backwards => occurs_at(chunk_bytes(heap, *chunk), splice.at(), splice.new()),
         },
-        PartChange::Patch(chunk, patch) => patch.is_of(chunk_bytes(heap, *chunk), direction),
+        PartChange::Patch(chunk, patch, _) => patch.is_of(chunk_bytes(heap, *chunk), direction),
         PartChange::ChunkIn(chunk, content) => match direction {
             Direction::Forwards => true,
             Direction::Backwards => has_content(heap, *chunk, content),
@@ -289,7 +289,7 @@ pub(crate) fn carry_out_raw(body: &mut RawBody, change: &PartChange, direction: 
             Direction::Backwards => apply_raw_back(body, splice),
         },
         PartChange::Chunk(_, _)
-        | PartChange::Patch(_, _)
+        | PartChange::Patch(_, _, _)
         | PartChange::ChunkIn(_, _)
         | PartChange::ChunkOut(_, _) => unreachable!(),
     }
@@ -306,7 +306,7 @@ pub(crate) fn carry_out_heap(heap: &mut Heap, change: &PartChange, direction: Di
             Direction::Forwards => apply(heap, *chunk, splice),
             Direction::Backwards => apply_back(heap, *chunk, splice),
         },
-        PartChange::Patch(chunk, patch) => apply_patch(heap, *chunk, patch, direction),
+        PartChange::Patch(chunk, patch, _) => apply_patch(heap, *chunk, patch, direction),
         PartChange::ChunkIn(chunk, content) => match direction {
             Direction::Forwards => bring_in(heap, *chunk, content),
             Direction::Backwards => heap.free(*chunk),

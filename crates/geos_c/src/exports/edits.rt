@@ -92,6 +92,28 @@ pub extern "C" fn geosvm_vwrite(
     edit(handle, alloc, &Edit::WriteRaw(VmHandle(block), at, bytes))
 }
 
+/// Puts these bytes in the place of `count` of a raw block, from `at` on.
+#[unsafe(no_mangle)]
+pub extern "C" fn geosvm_vsplice(
+    handle: &mut Handle,
+    alloc: Global,
+    block: u16,
+    at: u32,
+    count: u32,
+    bytes: &[u8],
+) -> i32
+    ensures { Copies (EditsOnHandle (edits.SpliceRaw (vm block) at count bytes.now)) handle.old handle.new result }
+{
+    let Ok(bytes) = copied(alloc, bytes) else {
+        return uncopied(handle);
+    };
+    edit(
+        handle,
+        alloc,
+        &Edit::SpliceRaw(VmHandle(block), at, count, bytes),
+    )
+}
+
 /// Gives a raw block these bytes in place of its own.
 #[unsafe(no_mangle)]
 pub extern "C" fn geosvm_attach(handle: &mut Handle, alloc: Global, block: u16, bytes: &[u8]) -> i32
@@ -232,6 +254,30 @@ pub extern "C" fn geosvm_write(
         handle,
         alloc,
         &Edit::Write(VmHandle(block), ChunkHandle(chunk), at, bytes),
+    )
+}
+
+/// Puts these bytes in the place of `count` of a chunk, from `at` on.
+#[unsafe(no_mangle)]
+pub extern "C" fn geosvm_splice(
+    handle: &mut Handle,
+    alloc: Global,
+    block: u16,
+    chunk: u16,
+    at: u32,
+    count: u32,
+    bytes: &[u8],
+) -> i32
+    ensures { Copies (EditsOnHandle (edits.Splice (vm block) (chunk_handle chunk) at count bytes.now))
+        handle.old handle.new result }
+{
+    let Ok(bytes) = copied(alloc, bytes) else {
+        return uncopied(handle);
+    };
+    edit(
+        handle,
+        alloc,
+        &Edit::Splice(VmHandle(block), ChunkHandle(chunk), at, count, bytes),
     )
 }
 
@@ -548,6 +594,29 @@ pub extern "C" fn geosvm_nname(
         handle,
         alloc,
         &Edit::ChangeName(VmHandle(block), ChunkHandle(chunk), Token(token), name),
+    )
+}
+
+/// Gives the name of a token this part.
+#[unsafe(no_mangle)]
+pub extern "C" fn geosvm_nset(
+    handle: &mut Handle,
+    alloc: Global,
+    block: u16,
+    chunk: u16,
+    token: u16,
+    part: &[u8],
+) -> i32
+    ensures { Copies (EditsOnHandle (edits.SetNamePart (vm block) (chunk_handle chunk) (token_numbered token) part.now))
+        handle.old handle.new result }
+{
+    let Ok(part) = copied(alloc, part) else {
+        return uncopied(handle);
+    };
+    edit(
+        handle,
+        alloc,
+        &Edit::SetNamePart(VmHandle(block), ChunkHandle(chunk), Token(token), part),
     )
 }
 

@@ -3,17 +3,20 @@ ghost use Rattle.std.specs.Prelude.{◌≡◌, Bool, true, false, Some};
 ghost use Rattle.std.specs.Borrow.{sem};
 ghost use Rattle.std.specs.Option.{option_map};
 ghost use Rattle.geos_model.specs.Forms.{form_asked, has_form};
-ghost use Rattle.geos_model.specs.LookUps.{command_of, plain_look_up};
-ghost use Rattle.geos_model.specs.Reply.{NumberIs, reply_by, reply_of, blocks_are, found};
+ghost use Rattle.geos_model.specs.LookUps.{command_of, places_look_up, plain_look_up};
+ghost use Rattle.geos_model.specs.Reply.{NumberIs, PlacesAre, reply_by, reply_of, blocks_are, found};
 ghost use Rattle.geos_model.specs.Machine.{Step};
 ghost use Rattle.geos_model.specs.declared.command.Command.TheVariants as commands;
 ghost use Rattle.doc_edits.specs.LookUps.{AfterLoan};
+ghost use Rattle.undo_log.specs.Asking.{places_fault, turn_fault};
 ghost use Rattle.undo_log.specs.Sessions.{machine_of, AnswersAsked};
 ghost use Rattle.undo_log.specs.contracts.session.Session.{the_row};
 
 use super::Session;
+use crate::turning::nothing_to_turn;
 use doc_edits::look_ups::{self, Prepared};
-use geos_model::{Fault, LookUp, PlainLookUp, Reply, VmHandle};
+use geos_model::{Fault, LookUp, Place, PlacesLookUp, PlainLookUp, Reply, VmHandle};
+use vm_blocks::Direction;
 use vm_store::Store;
 
 // Lends what was prepared, each reply of the field in which it stands.
@@ -42,6 +45,12 @@ impl<S: Store> Session<S> {
                 Ok(Reply::Blocks(&self.lists.blocks))
             }
             LookUp::Plain(asked) => self.plain(asked),
+            LookUp::Places(asked) => {
+                // What was lent before goes first.
+                self.shown = Vec::new(self.alloc);
+                self.shown = self.places(asked)?;
+                Ok(Reply::Places(&self.shown))
+            }
             LookUp::InBlock(block, asked) => {
                 self.blocks.reveal_invariant();
                 let prepared = look_ups::prepare_in_block(
@@ -83,6 +92,47 @@ impl<S: Store> Session<S> {
             PlainLookUp::Undos => Ok(Reply::Number(self.undo_count() as u64)),
             PlainLookUp::Redos => Ok(Reply::Number(self.redo_count() as u64)),
             PlainLookUp::Modified => Ok(Reply::Number(self.stands_as())),
+        }
+    }
+
+    /// Where the document was changed last, each place in the coordinates after those before it; or where an undo, a
+    /// redo or an abandon would change it, as it would be told then. GroupOpen while a group is open and an undo or a
+    /// redo is asked for, before all else; NothingToUndo, NothingToRedo; NoGroup; Memory.
+    pub fn places(&self, asked: PlacesLookUp) -> Result<Vec<Place>, Fault>
+        ensures { (target : Bool) → Step false (machine_of target self.now) (Some (places_look_up asked))
+            (reply_by (λ places. PlacesAre places.items) result) (machine_of target self.now) }
+    {
+        if let Some(fault) = self.places_fault(asked) {
+            return Err(fault);
+        }
+        let mut places = Vec::new(self.alloc);
+        self.log.tell(asked, &mut places)?;
+        Ok(places)
+    }
+
+    // What keeps places from being told, for want of memory aside.
+    fn places_fault(&self, asked: PlacesLookUp) -> Option<Fault>
+        ensures { result ≡ places_fault asked self.now.log }
+    {
+        match asked {
+            PlacesLookUp::Touched => None,
+            PlacesLookUp::Undo => self.turn_fault(Direction::Backwards),
+            PlacesLookUp::Redo => self.turn_fault(Direction::Forwards),
+            PlacesLookUp::Abandon if self.log.in_group() => None,
+            PlacesLookUp::Abandon => Some(Fault::NoGroup),
+        }
+    }
+
+    // What keeps a turn in a direction from being asked for.
+    fn turn_fault(&self, direction: Direction) -> Option<Fault>
+        ensures { result ≡ turn_fault direction self.now.log }
+    {
+        if self.log.in_group() {
+            return Some(Fault::GroupOpen);
+        }
+        match self.log.next_entry(direction) {
+            Some(_) => None,
+            None => Some(nothing_to_turn(direction)),
         }
     }
 

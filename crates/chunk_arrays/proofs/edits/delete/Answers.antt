@@ -17,4 +17,4 @@ returns c =
     let i : ℕ = c.args.i in
     let k : ℕ = c.args.k in
     elements_handed_on bytes a i (i + k) [] [] (delete_conditions bytes i k) c.in_ok-view.ensures refl
-    c.rewrite.result (delete_decides bytes a i k (elements_deleted bytes i k) c.in_ok-view.ensures (omega arith)) c.rewrite.ensures
+    c.rewrite.result 0 (delete_decides bytes a i k (elements_deleted bytes i k) c.in_ok-view.ensures (omega arith)) c.rewrite.ensures

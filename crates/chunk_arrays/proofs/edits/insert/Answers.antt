@@ -19,4 +19,4 @@ returns c =
     let element : List ℕ = c.args.element.now in
     let sized : is_missized a.size element ≡ false = ap (λ (n : ℕ). is_missized n c.args.element.now) (sym c.element_size.ensures) ∙ sym c.if-is_missized.ensures in
     elements_handed_on bytes a i i _ (element ∷ []) (insert_conditions bytes i element) c.in_ok-view.ensures (ap (λ (x : List ℕ). x ∷ []) c.whole.ensures)
-    c.rewrite.result (insert_decides bytes a i element (element_inserted bytes i element) c.in_ok-view.ensures (omega arith) sized) c.rewrite.ensures
+    c.rewrite.result 1 (insert_decides bytes a i element (element_inserted bytes i element) c.in_ok-view.ensures (omega arith) sized) c.rewrite.ensures

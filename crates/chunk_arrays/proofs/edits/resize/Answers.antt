@@ -14,4 +14,4 @@ returns c =
     let element_is : _ ≡ element =
     c.resized_to-new.ensures ∙ ap (λ (old : List ℕ). resized old c.args.n) (c.element.ensures ∙ ap (λ (b : Array). get_or b.elements i []) (sym (array_in-is bytes a c.in_ok-view.ensures))) in
     elements_handed_on bytes a i (i + 1) _ (element ∷ []) (resize_conditions bytes i) c.in_ok-view.ensures (ap (λ (x : List ℕ). x ∷ []) element_is)
-    c.rewrite.result (resize_decides bytes a i (element_resized bytes i c.args.n) c.in_ok-view.ensures (omega arith) (sym c.element_size.ensures ∙ c.if-element_size-ne0.false)) c.rewrite.ensures
+    c.rewrite.result 1 (resize_decides bytes a i (element_resized bytes i c.args.n) c.in_ok-view.ensures (omega arith) (sym c.element_size.ensures ∙ c.if-element_size-ne0.false)) c.rewrite.ensures

@@ -12,25 +12,25 @@ returns-in_err-bytes g c =
     carried c.from_residual.result _ _ fault c.from_residual.ensures.1
     (inr (chunk_refused edit d b k (array_scope b k c.args.edit).0 fault (c.in_err-bytes.ensures d b.0 live)))
 
-pub returns-in_err-patch : goal.returns-in_err-patch
-returns-in_err-patch g c =
+pub returns-in_err-built : goal.returns-in_err-built
+returns-in_err-built g c =
     let b = c.args.handle in let k = c.args.chunk in let d = c.args.blocks.now.document in let edit = array_edit b k c.args.edit in let live = c.heap_at-heap.ensures in
-    carried c.from_residual-in_err-patch.result _ _ c.in_err-patch.field-0.0 c.from_residual-in_err-patch.ensures.1 (c.in_err-patch.ensures d b k (c.in_ok-bytes.ensures d b.0 live))
+    carried c.from_residual-in_err-built.result _ _ c.in_err-built.field-0.0 c.from_residual-in_err-built.ensures.1 (c.in_err-built.ensures d b k (c.in_ok-bytes.ensures d b.0 live))
 
 pub has_room-requires-clause-built : goal.has_room-requires-clause-built
 has_room-requires-clause-built g c =
     let b = c.args.handle in let k = c.args.chunk in let d = c.args.blocks.now.document in let edit = array_edit b k c.args.edit in let live = c.heap_at-heap.ensures in
-    let there = c.in_ok-bytes.ensures d b.0 live in let patch = c.in_ok-patch.patch in let done = c.in_ok-patch.done in let made = c.in_ok-patch.ensures d b k there in
-    is_built edit d b k _ live _ there (parts.Patch k patch) done made
+    let there = c.in_ok-bytes.ensures d b.0 live in let built = c.in_ok-built.built in let done = c.in_ok-built.done in let made = c.in_ok-built.ensures d b k there in
+    is_built edit d b k _ live _ there (parts.Patch k built.patch built.runs) done made
 
 pub returns-then-not-has_room : goal.returns-then-not-has_room
 returns-then-not-has_room g c =
     let b = c.args.handle in let k = c.args.chunk in let d = c.args.blocks.now.document in let edit = array_edit b k c.args.edit in let live = c.heap_at-heap.ensures in
-    let there = c.in_ok-bytes.ensures d b.0 live in let patch = c.in_ok-patch.patch in let done = c.in_ok-patch.done in let made = c.in_ok-patch.ensures d b k there in
-    inr (full edit d b k _ live _ there (parts.Patch k patch) done made c.if-not-has_room.ensures)
+    let there = c.in_ok-bytes.ensures d b.0 live in let built = c.in_ok-built.built in let done = c.in_ok-built.done in let made = c.in_ok-built.ensures d b k there in
+    inr (full edit d b k _ live _ there (parts.Patch k built.patch built.runs) done made c.if-not-has_room.ensures)
 
 pub returns : goal.returns
 returns g c =
     let b = c.args.handle in let k = c.args.chunk in let d = c.args.blocks.now.document in let edit = array_edit b k c.args.edit in let live = c.heap_at-heap.ensures in
-    let there = c.in_ok-bytes.ensures d b.0 live in let patch = c.in_ok-patch.patch in let done = c.in_ok-patch.done in let made = c.in_ok-patch.ensures d b k there in
-    planned edit d b k _ live _ there (parts.Patch k patch) done made c.if-not-has_room.ensures
+    let there = c.in_ok-bytes.ensures d b.0 live in let built = c.in_ok-built.built in let done = c.in_ok-built.done in let made = c.in_ok-built.ensures d b k there in
+    planned edit d b k _ live _ there (parts.Patch k built.patch built.runs) done made c.if-not-has_room.ensures

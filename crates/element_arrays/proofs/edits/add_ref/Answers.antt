@@ -19,4 +19,4 @@ returns c =
     let s = c.in_ok-slots.slots in
     let read = c.in_ok-slots.ensures in
     handed_on (add_reference_conditions bytes t) (element_reference_conditions s.slots t) bytes (reference_added bytes t) (slotted_bytes s.more s.slots) (slotted_bytes s.more (element_with_reference s.slots t))
-    (rw read.0 refl) (edited_bytes bytes s read (λ (x : Slots). element_with_reference x t) _ refl) read.1 c.with_reference.result c.with_reference.ensures
+    (rw read.0 refl) (edited_bytes bytes s read (λ (x : Slots). element_with_reference x t) _ refl) read.1 t c.with_reference.result c.with_reference.ensures

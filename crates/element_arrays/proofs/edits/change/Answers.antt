@@ -44,4 +44,4 @@ returns c =
     let at = c.in_ok-used.ensures in
     let fits = ap (λ (n : ℕ). is_missized n c.args.element.now) (sym c.element_size.ensures) ∙ sym c.is_missized.ensures ∙ c.if-is_missized.false in
     edit_handed_on c.args.bytes.now s read (λ (x : Slots). with_element x t (count_at x t) element) _ (whole_element s.slots t e.count _ element element (sym (count_at-is s.slots t e at)) refl) (change_conditions c.args.bytes.now t element)
-    (rw (read.0, at, fits) refl) c.with_element.result c.with_element.ensures
+    (rw (read.0, at, fits) refl) c.args.token.0 c.with_element.result c.with_element.ensures

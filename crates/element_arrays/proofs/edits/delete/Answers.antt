@@ -22,4 +22,4 @@ returns c =
     let t : ℕ = c.args.token.0 in
     let read = c.in_ok-slots.ensures in
     edit_handed_on c.args.bytes.now c.in_ok-slots.slots read (λ (x : Slots). without_element x t) _ refl (on_token c.args.bytes.now t)
-    (rw (read.0, c.in_ok-used_at.ensures) refl) c.without_element.result c.without_element.ensures
+    (rw (read.0, c.in_ok-used_at.ensures) refl) c.args.token.0 c.without_element.result c.without_element.ensures

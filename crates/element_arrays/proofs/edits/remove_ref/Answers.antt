@@ -24,7 +24,7 @@ returns-then-used-eq1 c =
     let read = c.in_ok-slots.ensures in
     let at = c.in_ok-used.ensures in
     edit_handed_on c.args.bytes.now s read (λ (x : Slots). unreferenced x t) _ (last_reference s.slots t (used_element c.in_ok-used.used) at c.if-used-eq1.true) (on_token c.args.bytes.now t)
-    (rw (read.0, at) refl) c.without_element.result c.without_element.ensures
+    (rw (read.0, at) refl) c.args.token.0 c.without_element.result c.without_element.ensures
 
 pub overflow_sub-used : goal.overflow_sub-used
 overflow_sub-used c =
@@ -55,4 +55,4 @@ returns-else-used-eq1 c =
     let at = c.in_ok-used.ensures in
     let least = counted s.slots s.sound t e at in
     edit_handed_on c.args.bytes.now s read (λ (x : Slots). unreferenced x t) _ (other_reference s.slots t e at (omega (arith, least, c.if-used-eq1.false))) (on_token c.args.bytes.now t)
-    (rw (read.0, at) refl) c.with_element.result c.with_element.ensures
+    (rw (read.0, at) refl) c.args.token.0 c.with_element.result c.with_element.ensures

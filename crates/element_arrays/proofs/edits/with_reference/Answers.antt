@@ -43,4 +43,4 @@ returns c =
     let accepted : first_refusal (element_reference_conditions s t) ≡ None = rw (at, few) refl in
     let same : with_element s t (e.count + 1) (e.bytes ++ []) ≡ element_with_reference s t = whole_element s t (e.count + 1) _ e.bytes _ (ap (λ (n : ℕ). n + 1) (sym (count_at-is s t e at))) (sym (bytes_at-is s t e at)) in
     slots_handed_on (element_reference_conditions s t) all (with_element s t (e.count + 1) (e.bytes ++ [])) (slotted_bytes all.more all.slots) (slotted_bytes all.more (element_with_reference s t))
-    accepted refl (ap (λ (x : Slots). slotted_bytes all.more x) same) c.with_element.result c.with_element.ensures
+    accepted refl (ap (λ (x : Slots). slotted_bytes all.more x) same) t c.with_element.result c.with_element.ensures

@@ -58,4 +58,4 @@ returns c =
     (change_refusals bytes n.slots n.part c.in_ok-names.ensures t text false false c.in_ok-old.ensures.used (free (goal.at.returns c).After-is_name) (ap not (sym c.if-not-is_name.ensures)) [])
     c.in_ok-names.ensures.same
     (changed bytes n.slots n.part c.in_ok-names.ensures n.more t count c.in_ok-old.ensures.count text part c.in_ok-old.ensures.part)
-    c.with_element.result c.with_element.ensures
+    t c.with_element.result c.with_element.ensures

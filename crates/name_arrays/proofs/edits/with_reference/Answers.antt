@@ -32,4 +32,4 @@ returns c =
     ] in
     slots_handed_on (name_reference_conditions a part t) s (with_element s.slots t (c.in_ok-old.old.count + 1) (c.if-replace.head.now ++ c.in_ok-old.old.text.now)) (slotted_bytes s.more s.slots) (name_bytes_with_reference a part c.args.replace t) none refl
     (bytes_with s c.args.names.now.part c.args.names.now.more t _ _ _ _ (ap (λ (n : ℕ). n + 1) (sym c.in_ok-old.ensures.count)) (ap₂ (λ (x y : List ℕ). x ++ y) head (sym c.in_ok-old.ensures.text)))
-    c.with_element.result c.with_element.ensures
+    t c.with_element.result c.with_element.ensures

@@ -1,4 +1,4 @@
-use Rattle.std.proofs.Common.{◌≡◌, ◌+◌, ◌++◌, get_or, set, ap, ◌∙◌, arith}
+use Rattle.std.proofs.Common.{◌+◌, ◌++◌, get_or, set, ap, ◌∙◌, arith}
 use Rattle.undo_log.specs.Logging.{changes_in}
 use Rattle.undo_log.specs.declared.entry.LogEntry.{LogEntry}
 use Rattle.undo_log.specs.declared.entry.LogEntry.TheVariants.{Group}

@@ -1,4 +1,4 @@
-use Rattle.std.proofs.Common.{◌≡◌, true, Err, Ok, inl, sym, ap, subst, ◌∙◌}
+use Rattle.std.proofs.Common.{◌≡◌, Err, Ok, inl, sym, ap, subst, ◌∙◌}
 use Rattle.std.proofs.lemmas.Bool.{true≢false}
 use Rattle.std.proofs.lemmas.Result.{err_from_is_err_and}
 use Rattle.geos_model.specs.Machine.{kind_of}

@@ -32,7 +32,7 @@ returns c =
     let element : List ℕ = take 3 c.to_le_bytes-number.result ++ c.args.head.now ++ c.args.tail.now ++ replicate 0 0 in
     let v = c.array-array.result.now.array in
     let is = c.array-array.ensures in
-    answers s (with_element s.slots t c.args.count bytes) v (put v c.array-array.result.now.array.extra c.from-at.result (c.from-at.result + 1) element) c.rewrite.result is
+    answers s (with_element s.slots t c.args.count bytes) v (put v c.array-array.result.now.array.extra c.from-at.result (c.from-at.result + 1) element) t c.from-at.result c.rewrite.result is
     (put-at s.more s.slots v t c.from-at.result (Some (record { count = c.args.count; bytes = bytes })) s.slots.free c.array-array.result.now.array.extra element is c.from-at.ensures
     (used_lt s.slots.slots t c.requires.used) (λ j other. refl) (extra-slots s.more s.slots v is) (bytes_in c.args.count c.to_le_bytes-number.result c.args.head.now c.args.tail.now c.to_le_bytes-number.ensures))
-    c.rewrite.ensures
+    c.from-at.ensures c.rewrite.ensures

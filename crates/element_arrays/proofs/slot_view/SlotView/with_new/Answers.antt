@@ -6,7 +6,7 @@ use Rattle.geos_model.specs.ElementArray.{first_token, is_sound, slots_array}
 use Rattle.geos_model.specs.ElementEdits.{with_new}
 use Rattle.chunk_arrays.specs.Rewriting.{extra_after}
 use Rattle.element_arrays.specs.Slotted.{Slotted, slotted_array}
-use Rattle.element_arrays.proofs.SlottedLemmas.{is_even-slots, length-slots, extra-slots, extra_put, extra_room, spelled-parts, length-parts, newest_lt, newest_link, token-none, put-none, token-some, put-some, put, gives, refuses, carried}
+use Rattle.element_arrays.proofs.SlottedLemmas.{is_even-slots, length-slots, extra-slots, extra_put, extra_room, spelled-parts, length-parts, newest_lt, newest_link, token-none, put-none, token-some, put-some, put, behind_last, gives, refuses, carried}
 use Rattle.element_arrays.proofs.slot_view.SlotView.with_new.Goals.{After-from-at, After-element, After-first_word-next}
 use Rattle.element_arrays.proofs.slot_view.SlotView.with_new.Goals as goal
 
@@ -87,9 +87,12 @@ pub returns-in_ok-patch-in-None : goal.returns-in_ok-patch-in-None
 returns-in_ok-patch-in-None c =
     let s : Slotted = c.args.self.now in
     let bytes = c.args.head.now ++ c.args.tail.now in (
-      gives s (with_new s.slots bytes).0 c.array-array.result.now.array _ c.in_ok-patch-in-None.patch c.array-array.ensures
+      gives s (with_new s.slots bytes).0 c.array-array.result.now.array _ _ c.from-at.result c.in_ok-patch-in-None.patch c.array-array.ensures
           (appended (goal.at.returns-in_ok-patch-in-None c).After-from-at c.in-None.ensures)
-          c.in_ok-patch-in-None.ensures,
+          (c.from-at.ensures ∙ token-none s.slots bytes c.len.result c.in-None.ensures c.len.ensures)
+          (behind_last c.array-array.result.now.array _ c.from-at.result c.in_ok-patch-in-None.patch c.array-array.result.now.even
+          (let len = length-slots s.more s.slots c.array-array.result.now.array c.array-array.ensures in omega (arith, len, (c.from-at.ensures ∙ c.len.ensures)))
+          c.in_ok-patch-in-None.ensures),
       token-none s.slots bytes c.len.result c.in-None.ensures c.len.ensures,
     )
 
@@ -117,8 +120,9 @@ pub returns-in_ok-patch-in-Some : goal.returns-in_ok-patch-in-Some
 returns-in_ok-patch-in-Some c =
     let s : Slotted = c.args.self.now in
     let bytes = c.args.head.now ++ c.args.tail.now in (
-      gives s (with_new s.slots bytes).0 c.array-array.result.now.array _ c.in_ok-patch-in-Some.patch c.array-array.ensures
+      gives s (with_new s.slots bytes).0 c.array-array.result.now.array _ _ c.from-at-in-Some.result c.in_ok-patch-in-Some.patch c.array-array.ensures
           (reused (goal.at.returns-in_ok-patch-in-Some c).After-first_word-next)
+          (c.from-at-in-Some.ensures ∙ token-some s.slots bytes c.in-Some.token.0 c.in-Some.ensures)
           c.in_ok-patch-in-Some.ensures,
       token-some s.slots bytes c.in-Some.token.0 c.in-Some.ensures,
     )

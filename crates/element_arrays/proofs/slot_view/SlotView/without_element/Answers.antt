@@ -43,9 +43,9 @@ returns c =
     let v = c.array-array.result.now.array in
     let is = c.array-array.ensures in
     let element : List ℕ = c.first_word.result.now ++ (255 ∷ []) ++ [] ++ replicate c.element_size.result 0 in
-    answers s (without_element s.slots t) v (put v (extra_after c.array-array.result.now.array c.to_le_bytes-number.result) c.from-at.result (c.from-at.result + 1) element) c.rewrite.result is
+    answers s (without_element s.slots t) v (put v (extra_after c.array-array.result.now.array c.to_le_bytes-number.result) c.from-at.result (c.from-at.result + 1) element) t c.from-at.result c.rewrite.result is
     (put-at s.more s.slots v t c.from-at.result None (t ∷ s.slots.free) (extra_after c.array-array.result.now.array c.to_le_bytes-number.result) element is c.from-at.ensures
     (used_lt s.slots.slots t c.requires) (token_after-other t s.slots.free)
     (extra_put s.more s.slots v t c.to_le_bytes-number.result is c.to_le_bytes-number.ensures)
     (freed-parts s.more s.slots t c.element_size.result c.extra.result.now c.first_word.result.now (c.extra.ensures ∙ extra-slots s.more s.slots v is) c.first_word.ensures c.element_size.ensures))
-    c.rewrite.ensures
+    c.from-at.ensures c.rewrite.ensures

@@ -1,4 +1,4 @@
-use Rattle.std.proofs.Common.{◌≡◌, ◌-◌, List, reverse, take, drop, sym, ap, ◌∙◌, arith}
+use Rattle.std.proofs.Common.{◌-◌, List, reverse, take, drop, sym, ap, ◌∙◌, arith}
 use Rattle.undo_log.specs.Logging.{LogState}
 use Rattle.undo_log.specs.declared.entry.LogEntry.{LogEntry}
 use Rattle.undo_log.proofs.Segments.{between}

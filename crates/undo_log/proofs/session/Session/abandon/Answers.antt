@@ -39,7 +39,7 @@ pub invariant_of-self-2 : goal.invariant_of-self-2
 invariant_of-self-2 g c =
     let facts = g.S.Store.facts in let log = c.self.inside.log.lists in
     let old = session_with c.self.inside.blocks log in
-    subst (Holds c.take_back.new.blocks) (sym c.forget_group.ensures)
+    subst (Holds c.take_back.new.blocks) (sym c.abandon_group.ensures)
     (abandoned_invariant facts c.self.inside.blocks c.take_back.new.blocks log (open_changes log.group) (abandon_free old (ap abandon_fault c.self.view_is ∙ sym c.in_default.ensures.is)).0 c.reveal_invariant-2.ensures
     (subst (λ (cs : List Change). AreApplied facts (map (directed Backwards) cs) c.self.inside.blocks c.take_back.new.blocks) c.group.ensures c.in_ok-take_back.ensures.ok) c.self.invariant)
 
@@ -81,10 +81,10 @@ pub returns-clause-step : goal.returns-clause-step
 returns-clause-step g c =
     let facts = g.S.Store.facts in let log = c.self.inside.log.lists in
     let old = session_with c.self.inside.blocks log in
-    let new = session_with c.take_back.new.blocks c.forget_group.new.self.lists in
+    let new = session_with c.take_back.new.blocks c.abandon_group.new.self.lists in
     let is_free = abandon_free old (ap abandon_fault c.self.view_is ∙ sym c.in_default.ensures.is) in
     subst (λ (s : SessionState g.row.S.Denot). IsStep facts s new commands.Abandon Accepted) c.self.view_is
-    (abandon_taken facts old new (open_changes log.group) is_free.0 is_free.1 c.reveal_invariant-2.ensures c.forget_group.ensures
+    (abandon_taken facts old new (open_changes log.group) is_free.0 is_free.1 c.reveal_invariant-2.ensures c.abandon_group.ensures
     (subst (λ (cs : List Change). AreApplied facts (map (directed Backwards) cs) c.self.inside.blocks c.take_back.new.blocks) c.group.ensures c.in_ok-take_back.ensures.ok))
 
 pub returns-in_err-take_back-clause-sure : goal.returns-in_err-take_back-clause-sure
@@ -106,7 +106,7 @@ returns-clause-sure g c =
     let facts = g.S.Store.facts in let log = c.self.inside.log.lists in
     let blocks = c.self.inside.blocks in
     let old = session_with blocks log in
-    let new = session_with c.take_back.new.blocks c.forget_group.new.self.lists in
+    let new = session_with c.take_back.new.blocks c.abandon_group.new.self.lists in
     subst (λ (s : SessionState g.row.S.Denot). abandon_fault s ≡ None → IsSureGroup facts s Backwards (open_changes s.log.group)
     → IsOk {E = Fault} (Ok (tt {0})) × (new.disk ≡ s.disk) × (new.document ≡ before s.log.group s.document)) c.self.view_is
     (λ free sure.

@@ -1,4 +1,4 @@
-use Rattle.std.proofs.Common.{◌≡◌, Bool, true, false, Some, is_some, rules, sym, subst}
+use Rattle.std.proofs.Common.{◌≡◌, true, false, Some, is_some, rules, sym, subst}
 use Rattle.geos_model.specs.Machine.{Step}
 use Rattle.geos_model.specs.Reply.{Accepted}
 use Rattle.geos_model.specs.declared.command.Command.TheVariants as commands

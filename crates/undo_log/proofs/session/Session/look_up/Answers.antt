@@ -1,11 +1,12 @@
 use Rattle.std.proofs.Common.{ap, refl}
-use Rattle.geos_model.specs.Reply.{blocks_are, chunks_are, reply_by, reply_of}
+use Rattle.geos_model.specs.Reply.{PlacesAre, blocks_are, chunks_are, reply_by, reply_of}
+use Rattle.geos_model.specs.LookUps.{places_look_up}
 use Rattle.geos_model.specs.declared.command.Command.TheVariants as commands
 use Rattle.geos_model.specs.Forms as forms
 use Rattle.doc_edits.proofs.Forms.{by_form}
 use Rattle.doc_edits.proofs.LookUps.{shown_ok}
 use Rattle.undo_log.proofs.Keeping.{kept_invariant}
-use Rattle.undo_log.proofs.LookUps.{StepsSo, along_chain_form, along_chain_looked, answered_err, at_rest, in_block_form, in_block_looked, session_with, shows_err, shows_ok}
+use Rattle.undo_log.proofs.LookUps.{StepsSo, along_chain_form, along_chain_looked, answered_err, at_rest, in_block_form, in_block_looked, places_steps, session_with, shows_err, shows_ok}
 use Rattle.undo_log.proofs.session.Session.look_up.Goals as goal
 
 pub returns-in_err-prepared-in-InBlock : goal.returns-in_err-prepared-in-InBlock
@@ -100,10 +101,22 @@ returns-in_ok-self-inside-in-List g c =
     let steps = shown_ok (StepsSo (session_with c.self.inside.blocks c.self.inside.log.lists) commands.List) (λ handles. blocks_are handles.items) c.list.result (c.list.ensures, by_form forms.Names (λ handles. blocks_are handles.items) (λ x. refl) c.list.result) _ c.in_ok-self-inside-in-List.was (blocks_are c.deref.result.now) (ap blocks_are c.deref.ensures.value) in
     rw c.in-List.is ((refl, (λ _. tt), at_rest _ c.args.self.now commands.List _ c.self.view_is steps.0), record { leaves = tt; form = steps.1 })
 
+pub returns-in_err-self-inside-in-Places : goal.returns-in_err-self-inside-in-Places
+returns-in_err-self-inside-in-Places g c =
+    let s = session_with c.self.inside.blocks c.self.inside.log.lists in
+    let steps = answered_err (StepsSo s (places_look_up c.in-Places.asked)) (λ places. PlacesAre places.items) c.places.result (places_steps s c.in-Places.asked c.places.result c.places.ensures) _ c.in_err-self-inside-in-Places.was c.from_residual-in_err-self-inside-in-Places.result c.from_residual-in_err-self-inside-in-Places.ensures.1 in
+    rw c.in-Places.is ((refl, (λ _. tt), at_rest _ c.args.self.now (places_look_up c.in-Places.asked) _ c.self.view_is steps.0), record { leaves = tt; form = steps.1 })
+
+pub returns-in_ok-self-inside-in-Places : goal.returns-in_ok-self-inside-in-Places
+returns-in_ok-self-inside-in-Places g c =
+    let s = session_with c.self.inside.blocks c.self.inside.log.lists in
+    let steps = shown_ok (StepsSo s (places_look_up c.in-Places.asked)) (λ places. PlacesAre places.items) c.places.result (places_steps s c.in-Places.asked c.places.result c.places.ensures) _ c.in_ok-self-inside-in-Places.was (PlacesAre c.deref-in-Places.result.now) (ap PlacesAre c.deref-in-Places.ensures.value) in
+    rw c.in-Places.is ((refl, (λ _. tt), at_rest _ c.args.self.now (places_look_up c.in-Places.asked) _ c.self.view_is steps.0), record { leaves = tt; form = steps.1 })
+
 -- The session is as valid as it was.
 
-pub invariant_of-self-in-Break-branch-2 : goal.invariant_of-self-in-Break-branch-2
-invariant_of-self-in-Break-branch-2 g c = kept_invariant g.S.Store.facts _ _ c.self.inside.log.lists c.prepare_in_block.ensures.keeps c.self.invariant
+pub invariant_of-self-in-Break-branch-3 : goal.invariant_of-self-in-Break-branch-3
+invariant_of-self-in-Break-branch-3 g c = kept_invariant g.S.Store.facts _ _ c.self.inside.log.lists c.prepare_in_block.ensures.keeps c.self.invariant
 
 pub invariant_of-self-in-Blocks : goal.invariant_of-self-in-Blocks
 invariant_of-self-in-Blocks g c = kept_invariant g.S.Store.facts _ _ c.self.inside.log.lists c.prepare_in_block.ensures.keeps c.self.invariant
@@ -114,8 +127,8 @@ invariant_of-self-in-Chunks g c = kept_invariant g.S.Store.facts _ _ c.self.insi
 pub invariant_of-self-in_default : goal.invariant_of-self-in_default
 invariant_of-self-in_default g c = kept_invariant g.S.Store.facts _ _ c.self.inside.log.lists c.prepare_in_block.ensures.keeps c.self.invariant
 
-pub invariant_of-self-in-Break-branch-3 : goal.invariant_of-self-in-Break-branch-3
-invariant_of-self-in-Break-branch-3 g c = kept_invariant g.S.Store.facts _ _ c.self.inside.log.lists c.prepare_along_chain.ensures.keeps c.self.invariant
+pub invariant_of-self-in-Break-branch-4 : goal.invariant_of-self-in-Break-branch-4
+invariant_of-self-in-Break-branch-4 g c = kept_invariant g.S.Store.facts _ _ c.self.inside.log.lists c.prepare_along_chain.ensures.keeps c.self.invariant
 
 pub invariant_of-self-in-Blocks-prepared : goal.invariant_of-self-in-Blocks-prepared
 invariant_of-self-in-Blocks-prepared g c = kept_invariant g.S.Store.facts _ _ c.self.inside.log.lists c.prepare_along_chain.ensures.keeps c.self.invariant

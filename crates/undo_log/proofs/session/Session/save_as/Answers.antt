@@ -1,5 +1,5 @@
-use Rattle.std.proofs.Common.{◌≡◌, ◌||◌, false, true, IsTrue, IfErr, Some, None, Result, Ok, Err, MatchResult, refl, sym, ap, subst, ◌∙◌}
-use Rattle.std.specs.Prelude.{IfOk, ◌↔◌}
+use Rattle.std.proofs.Common.{◌≡◌, ◌||◌, false, true, IsTrue, Some, None, Result, Ok, Err, refl, sym, ap, subst, ◌∙◌}
+use Rattle.std.specs.Prelude.{◌↔◌}
 use Rattle.std.specs.Result.{IsErrAnd}
 use Rattle.geos_model.specs.File.{stands}
 use Rattle.geos_model.specs.Machine.{Step}
@@ -9,9 +9,8 @@ use Rattle.geos_model.specs.declared.fault.Fault.TheVariants.{Worn}
 use Rattle.vm_file.specs.declared.file.Refused.{Refused}
 use Rattle.vm_file.specs.Calls.{last_sequence}
 use Rattle.vm_blocks.specs.State.{as_file}
-use Rattle.vm_blocks.specs.SavingAs.{IsSavedAs}
 use Rattle.undo_log.specs.Committing.{IsSaveAsRefused}
-use Rattle.undo_log.specs.Sessions.{SessionState, file_of, machine_of, failed_since, IsExact}
+use Rattle.undo_log.specs.Sessions.{SessionState, machine_of, failed_since, IsExact}
 use Rattle.undo_log.specs.Turning.{busy_fault}
 use Rattle.undo_log.proofs.Beginnings.{comes_back}
 use Rattle.undo_log.proofs.Keeping.{Holds}

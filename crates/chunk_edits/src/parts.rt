@@ -1,7 +1,7 @@
 //! A splice: a part of some bytes, and what comes in its place.
-ghost use Rattle.std.specs.Prelude.{◌≡◌, ◌+◌, ◌<◌, ◌≤◌, ◌^◌, ◌++◌, IfOk, length, replicate};
+ghost use Rattle.std.specs.Prelude.{◌≡◌, ◌+◌, ◌<◌, ◌≤◌, ◌^◌, ◌++◌, IfOk, MatchResult, length, take, drop, replicate};
 
-use geos_model::Bytes;
+use geos_model::{Bytes, Fault};
 use std::alloc::{AllocError, Global};
 use std::marker::Model;
 use std::mem::size_of;
@@ -115,14 +115,38 @@ impl Splice {
     pub fn old(&self) -> &[u8]
         ensures { result.now ≡ self.now.old }
     {
-        &self.row()[..self.cut()]
+        &self.row()[..self.old_len() as usize]
     }
 
     /// What takes its place.
     pub fn new(&self) -> &[u8]
         ensures { result.now ≡ self.now.new }
     {
-        &self.row()[self.cut()..]
+        &self.row()[self.old_len() as usize..]
+    }
+
+    /// How many bytes the part has.
+    pub fn old_len(&self) -> u32
+        ensures { result ≡ length self.now.old }
+    {
+        match &self.held {
+            Held::Few { cut, .. } | Held::Many { cut, .. } => u32::from(*cut),
+        }
+    }
+
+    /// How many bytes come in its place.
+    pub fn new_len(&self) -> u32
+        ensures { result ≡ length self.now.new }
+    {
+        match &self.held {
+            Held::Few {
+                len,
+                cut,
+                bytes,
+                ..
+            } => bytes[usize::from(*cut)..usize::from(*len)].len() as u32,
+            Held::Many { cut, bytes, .. } => bytes[usize::from(*cut)..].len() as u32,
+        }
     }
 
     /// How many bytes it holds.
@@ -141,15 +165,6 @@ impl Splice {
             Held::Many { bytes, .. } => bytes.as_slice(),
         }
     }
-
-    // How many bytes the part has.
-    fn cut(&self) -> usize
-        ensures { result ≡ length self.now.old }
-    {
-        match &self.held {
-            Held::Few { cut, .. } | Held::Many { cut, .. } => usize::from(*cut),
-        }
-    }
 }
 
 /// A copy of these bytes.
@@ -159,4 +174,16 @@ pub fn copied(alloc: Global, bytes: &[u8]) -> Result<Bytes, AllocError>
     let mut copy = Vec::with_capacity(alloc, bytes.len())?;
     copy.extend_from_slice(bytes)?;
     Ok(Bytes::from_vec(copy))
+}
+
+/// The `n` of these bytes from `at` on; Range where there are not so many.
+pub(crate) fn part(bytes: &[u8], at: usize, n: usize) -> Result<&[u8], Fault>
+    ensures { MatchResult result
+        (λ part. (at + n ≤ length bytes.now) × (part.now ≡ take n (drop at bytes.now)))
+        (λ fault. (length bytes.now < at + n) × (fault ≡ Fault.Range)) }
+{
+    if bytes.len() < at || bytes.len() - at < n {
+        return Err(Fault::Range);
+    }
+    Ok(&bytes[at..at + n])
 }

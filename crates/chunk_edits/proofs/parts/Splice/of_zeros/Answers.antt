@@ -1,7 +1,7 @@
 use Rattle.std.proofs.Common.{◌≡◌, ◌∙◌, ◌++◌, ◌+◌, ℕ, List, length, take, replicate, ap, ap₂, arith}
 use Rattle.std.proofs.lemmas.List.{take_all, take-replicate}
 use Rattle.chunk_edits.proofs.SplicingLemmas.{parts, parts_in_row}
-use Rattle.chunk_edits.proofs.splice.Splice.of_zeros.Goals as goal
+use Rattle.chunk_edits.proofs.parts.Splice.of_zeros.Goals as goal
 
 pub returns-then-count-le-FEW : goal.returns-then-count-le-FEW
 returns-then-count-le-FEW c =

@@ -1,11 +1,11 @@
-use Rattle.std.proofs.Common.{◌≡◌, ℕ, ◌-◌, List, min, true, length, take, replicate, inl, inr, arith, sym, ap, ◌∙◌, length-append, length-take}
+use Rattle.std.proofs.Common.{◌≡◌, ℕ, ◌-◌, List, min, true, length, take, replicate, inl, inr, arith, sym, ◌∙◌, length-append, length-take}
 use Rattle.std.proofs.lemmas.Bool.{cases_lt}
 use Rattle.std.proofs.lemmas.List.{length-replicate}
 use Rattle.std.specs.FinMap.{contains_key}
 use Rattle.geos_model.specs.Heap.{ChunkMap, chunk_bytes, fits_with, is_heap_map}
 use Rattle.geos_model.specs.Bytes.{resized}
-use Rattle.geos_model.proofs.HeapTables.{chunk_bytes_le, fits_with-same, fits_with-many}
-use Rattle.chunk_edits.proofs.chunk.fits_longer.Goals as goal
+use Rattle.geos_model.proofs.HeapTables.{fits_with-same, fits_with-many}
+use Rattle.chunk_edits.proofs.chunk.fits_size.Goals as goal
 
 length-resized : (bytes : List ℕ) (n : ℕ) → length (resized bytes n) ≡ n
 length-resized bytes n = omega (arith, length-append (take n bytes) (replicate (n - length bytes) 0), length-take n bytes, length-replicate {A = ℕ} (n - length bytes) 0)
@@ -19,13 +19,7 @@ fits_with-cut m h n bytes heap live cut =
       | inr l ↦ fits_with-many m h (resized (chunk_bytes m h) n) heap live (omega arith) ∙ sym (fits_with-many m h bytes heap live (omega arith))
     ]
 
-pub overflow_cast-size : goal.overflow_cast-size
-overflow_cast-size c =
-    let m = c.args.heap.now.chunks in let h = c.args.h.0 in
-    omega (arith, chunk_bytes_le m h c.chunk_of-size.ensures.valid c.requires, ap length c.chunk_of-size.ensures.value)
-
 pub returns : goal.returns
 returns c = λ bytes long.
-    let m = c.args.heap.now.chunks in let h = c.args.h.0 in
     c.fits_resize.ensures
-    ∙ fits_with-cut m h c.saturating_add.result bytes c.chunk_of-size.ensures.valid c.requires (omega (arith, c.saturating_add.ensures, ap length c.chunk_of-size.ensures.value))
+    ∙ fits_with-cut c.args.heap.now.chunks c.args.h.0 c.min.result bytes c.requires.valid c.requires.live (omega (arith, c.min.ensures, long))

@@ -1,6 +1,6 @@
 use Rattle.std.proofs.Common.{ℕ, List}
 use Rattle.chunk_edits.proofs.SplicingLemmas.{parts_in_row, row_of_both}
-use Rattle.chunk_edits.proofs.splice.Splice.of_few.Goals as goal
+use Rattle.chunk_edits.proofs.parts.Splice.of_few.Goals as goal
 
 pub returns : goal.returns
 returns c =
