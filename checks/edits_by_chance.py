@@ -1,6 +1,7 @@
 # Needs: python3
 """Makes edits, groups, undos, redos, joins, forgets, abandons and commits as they come, the same each time, and compares the document with
-those that are kept here: the one before each step, the one before the group that is open, and those that were committed.
+those that are kept here: the one before each step, the one before the group that is open, and those that were committed. Behind each step
+that may change it `touched` is asked: what is told nowhere is as it was before.
 
     python3 checks/edits_by_chance.py GEOSVM [COUNT]
 
@@ -18,6 +19,8 @@ STEPS = 300
 # Two heaps with a chunk and an array of each kind, and raw blocks.
 FIRST = ["newheap 1", "alloc 0001 4", "acreate 0001 0 0", "ecreate 0001 0", "ncreate 0001 1", "vcopy 0001"] + ["newraw 2 2"] * 4
 SMALL, ARRAY, ELEMENTS, NAMES = "0010", "0012", "0014", "0016"
+# How many handles a place of each kind has.
+HANDLES = {"all": 0, "map": 0, "attributes": 1, "block": 1, "chunk": 2, "run": 2}
 
 
 class Program:
@@ -46,19 +49,22 @@ class Program:
         self.process.stdin.close()
         assert self.process.wait(60) == 0 and self.process.stdout.read() == "", "a run ends otherwise"
 
+    def answers(self, lines):
+        return dict(zip(lines, self.ask(lines)))
+
     def document(self):
-        """All that there is of it, how much can be undone and made again, and whether it is as it was committed."""
-        listed, mapped, undos, redos, modified = self.ask(["list", "mapblock", "undos", "redos", "modified"])
-        blocks = listed.split()[1:]
-        shown = [listed, mapped]
-        infos = self.ask([f"info {block}" for block in blocks])
-        heaps = [block for block, info in zip(blocks, infos) if info.startswith("heap ")]
-        shown += infos + self.ask([f"vread {block}" for block in blocks if block not in heaps])
-        shown += self.ask([f"gettype {block}" for block in heaps])
-        chunks = self.ask([f"chunks {block}" for block in heaps])
-        shown += chunks
-        shown += self.ask([f"read {block} {chunk}" for block, told in zip(heaps, chunks) for chunk in told.split()[1:]])
-        return shown, int(undos.split()[1]), int(redos.split()[1]), int(modified.split()[1])
+        """All that there is of it, each answer by its question; how much can be undone and made again, and whether it is as committed."""
+        undos, redos, modified = (int(reply.split()[1]) for reply in self.ask(["undos", "redos", "modified"]))
+        shown = self.answers(["list", "mapblock"])
+        blocks = shown["list"].split()[1:]
+        infos = self.answers([f"info {block}" for block in blocks])
+        heaps = [block for block in blocks if infos[f"info {block}"].startswith("heap ")]
+        shown |= infos | self.answers([f"vread {block}" for block in blocks if block not in heaps])
+        shown |= self.answers([f"gettype {block}" for block in heaps])
+        chunks = self.answers([f"chunks {block}" for block in heaps])
+        shown |= chunks
+        shown |= self.answers([line.replace("chunks", "read") + " " + chunk for line, told in chunks.items() for chunk in told.split()[1:]])
+        return shown, undos, redos, modified
 
 
 class Chance(random.Random):
@@ -94,7 +100,7 @@ class Chance(random.Random):
         return self.choice([f"vwrite {raw} {at} {data}", f"vwrite {raw} {at} {data}", f"vwrite {raw} 0 {link}", f"vwrite {raw} 0 {link}",
                             f"attach {raw} {data}", f"alloc {heap} {n}", f"free {heap} {self.chunk()}", f"resize {heap} {SMALL} {n}",
                             f"insert {heap} {SMALL} {at} {n}", f"delete {heap} {SMALL} {at} {n}", f"write {heap} {SMALL} {at} {data}",
-                            f"write {heap} {SMALL} {at} {data}"])
+                            f"write {heap} {SMALL} {at} {data}", f"splice {heap} {SMALL} {at} {n} {data}", f"vsplice {raw} {at} {n} {data}"])
 
     def edit_of_arrays(self):
         heap, at, n, data = self.heap(), self.randrange(2), self.few(), self.data()
@@ -107,7 +113,7 @@ class Chance(random.Random):
         adds = [f"eadd {heap} {ELEMENTS} {data}"] * 3 + [f"nadd {heap} {NAMES} {data} {self.few():02x} set"] * 4
         return self.choice(adds + [f"ecreate {heap} {n}", f"eref {heap} {ELEMENTS} {token}", f"eunref {heap} {ELEMENTS} {token}",
                                    f"edelete {heap} {ELEMENTS} {token}", f"echange {heap} {ELEMENTS} {token} {data}", f"ncreate {heap} {n}",
-                                   f"nname {heap} {NAMES} {token} {data}", f"nname {heap} {NAMES} {token} {data}",
+                                   f"nname {heap} {NAMES} {token} {data}", f"nset {heap} {NAMES} {token} {self.few():02x}",
                                    f"nunref {heap} {NAMES} {token}"])
 
     def step(self):
@@ -130,6 +136,7 @@ class Kept:
 
     def __init__(self, document, limit):
         self.now = self.updated = self.saved = State(document)
+        self.told = "places"
         self.past, self.future, self.group, self.has_edit, self.limit = [], [], None, False, limit
         # Whether the file has one directory for both documents.
         self.is_one = True
@@ -215,17 +222,54 @@ class Kept:
         return [self.groups, self.abandons, self.turns, self.joins, self.forgets, self.stars]
 
 
+def places_in(reply):
+    """What each place names: its kind and its handles."""
+    assert reply.split()[0] == "places", reply
+    words = reply.split()[1:]
+    while words:
+        handles, numbers = HANDLES[words[0]], 3 if words[0] == "run" else 0
+        yield words[: 1 + handles]
+        del words[: 1 + handles + numbers]
+
+
+def may_change(line, place):
+    """Whether something else may be answered where the document has changed at a place."""
+    (asked, *names), (kind, *handles) = line.split(), place
+    if kind == "all" or asked == "mapblock":
+        return kind in ("all", "map")
+    if asked == "list":
+        return kind == "block"
+    if kind == "block" or asked in ("info", "chunks"):
+        return handles[:1] == names[:1]
+    if asked == "gettype":
+        return (kind, handles) == ("attributes", names)
+    return kind in ("chunk", "run") and handles == (names + ["0000"])[:2]
+
+
+def look_at_told(step, is_moved, old, new, kept, told):
+    """What is told nowhere stays. A step that leaves the document leaves what is told too."""
+    if not is_moved:
+        assert told == kept.told, f"{told} behind {step}, which leaves {kept.told}"
+        return
+    kept.told, places = told, list(places_in(told))
+    for line in old.keys() | new.keys():
+        same = old.get(line) == new.get(line)
+        assert same or any(may_change(line, place) for place in places), f"{step}: another answer to {line}, and {told}"
+
+
 def take(program, kept, step):
     [reply] = program.ask([step])
     document, undos, redos, modified = program.document()
-    fault = kept.fault(step)
+    [told] = program.ask(["touched"])
+    fault, old, is_edit = kept.fault(step), kept.now.document, " " in step and not step.startswith("forget ")
+    is_moved = not reply.startswith("no ") and (is_edit or step in ("undo", "redo", "abandon", "revert"))
     if fault:
         assert reply == fault, f"{step}: wanted {fault}, got {reply}"
     elif not reply.startswith("no "):
         kept.accept(step, document)
     else:
-        refusable = " " in step and not step.startswith("forget ")
-        assert refusable and reply not in ("no 1 Memory", "no 2 File"), f"{step}: {reply}"
+        assert is_edit and reply not in ("no 1 Memory", "no 2 File"), f"{step}: {reply}"
+    look_at_told(step, is_moved, old, document, kept, told)
     assert document == kept.now.document, f"another document behind {step}"
     assert (undos, redos) == (len(kept.past), len(kept.future)), f"something else can be undone or redone behind {step}"
     assert modified == kept.modified(), f"modified is {modified} and not {kept.modified()} behind {step}"

@@ -22,6 +22,8 @@ JOINED = 100_000
 BLOCKS = 660
 BLOCK_BYTES = 65_520
 READS = 80
+# The places of the edits of a group, and of those that are joined.
+RAW_RUN, CHUNK_RUN = " run 0001 0000 0 4 4", " run 0002 0010 0 4 4"
 
 
 class Script:
@@ -46,8 +48,13 @@ class Script:
         assert done.returncode == 0 and done.stderr == "", (done.returncode, done.stderr)
         replies = done.stdout.splitlines()
         for number, (got, wanted) in enumerate(zip(replies, self.replies)):
-            assert got == wanted, f"line {number + 1}, {self.lines[number][:60]}, is answered {got[:60]} and not {wanted[:60]}"
+            assert got == wanted, f"line {number + 1}, {self.lines[number][:60]}, is answered {shown(got)} and not {shown(wanted)}"
         assert len(replies) == len(self.replies), f"{len(replies)} replies to {len(self.replies)} lines"
+
+
+def shown(reply):
+    """The front of a reply, and how many words it has: replies of many places begin alike."""
+    return f"{reply[:60]}, of {len(reply.split())} words,"
 
 
 def word(number):
@@ -105,17 +112,20 @@ def steps_within_limit(count):
 
 def most_memory(geosvm, path, count):
     """The kB that a run of so many steps had at most."""
-    with open(path + ".script", "w", encoding="ascii") as file:
-        file.writelines(line + "\n" for line, _ in steps_within_limit(count))
-    with open(path + ".script", encoding="ascii") as file, open(path + ".replies", "w", encoding="ascii") as replies:
-        started = subprocess.Popen([geosvm, "--new", "--undo", str(LIMIT), path], stdin=file, stdout=replies)
-        _, status, usage = os.wait4(started.pid, 0)
-        started.returncode = os.waitstatus_to_exitcode(status)
-    assert started.returncode == 0, started.returncode
-    with open(path + ".replies", encoding="ascii") as replies:
-        for got, (line, wanted) in itertools.zip_longest(replies, steps_within_limit(count), fillvalue=("none", "none")):
-            assert got == wanted + "\n", f"{line[:60]} is answered {got[:60]} and not {wanted[:60]}"
-    return usage.ru_maxrss
+    words, lines = [geosvm, "--new", "--undo", str(LIMIT), path], steps_within_limit(count)
+    with subprocess.Popen(words, stdin=subprocess.PIPE, stdout=subprocess.PIPE, text=True) as program:
+        while some := list(itertools.islice(lines, 200)):
+            program.stdin.write("".join(line + "\n" for line, _ in some))
+            program.stdin.flush()
+            for line, wanted in some:
+                got = program.stdout.readline()
+                assert got == wanted + "\n", f"{line[:60]} is answered {got[:60]} and not {wanted[:60]}"
+        # What is told of a process that has ended counts in what the one had that started it.
+        with open(f"/proc/{program.pid}/status", encoding="ascii") as status:
+            most = next(int(line.split()[1]) for line in status if line.startswith("VmHWM:"))
+        program.stdin.close()
+        assert program.wait(60) == 0 and program.stdout.read() == "", "a run ends otherwise"
+    return most
 
 
 def limited_steps(geosvm, geosdoc, path):
@@ -127,7 +137,7 @@ def limited_steps(geosvm, geosdoc, path):
 
 
 def joined_steps(geosvm, geosdoc, path):
-    """Edits that are joined to the step before, each when it comes, so that they are one step."""
+    """Edits that are joined to the step before, each when it comes, so that they are one step. What it changes is told in whole."""
     script = Script()
     script.ask("newraw 7 4", "block 0001")
     script.ask("newheap 7", "block 0002")
@@ -139,8 +149,13 @@ def joined_steps(geosvm, geosdoc, path):
         script.ask(f"write 0002 0010 0 {word(number)}")
         script.ask("join")
     script.ask("undos", "number 4")
-    for turn, value in (("undo", 0), ("redo", JOINED // 2), ("join", JOINED // 2), ("undo", None), ("redo", JOINED // 2)):
+    script.ask("touched", "places" + CHUNK_RUN)
+    made, undone, alloc = JOINED // 2 * (RAW_RUN + CHUNK_RUN), JOINED // 2 * (CHUNK_RUN + RAW_RUN), " chunk 0002 0010"
+    last = JOINED // 2
+    turns = [("undo", 0, undone), ("redo", last, made), ("join", last, made), ("undo", None, undone + alloc), ("redo", last, alloc + made)]
+    for turn, value, places in turns:
         script.ask(turn)
+        script.ask("touched", "places" + places)
         script.ask("vread 0001", f"bytes {word(value or 0)}")
         script.ask("read 0002 0010", "no 6 NoChunk" if value is None else f"bytes {word(value)}")
     began = time.monotonic()
@@ -151,21 +166,26 @@ def joined_steps(geosvm, geosdoc, path):
 
 
 def large_groups(geosvm, geosdoc, path):
-    """A group that is undone, made again and undone, and one that is abandoned."""
+    """A group that is undone, made again and undone, and one that is abandoned. Each tells a place for each of its edits, in order."""
     script = Script()
     script.ask("newraw 7 4", "block 0001")
     script.ask("newheap 7", "block 0002")
     script.ask("alloc 0002 4", "chunk 0010")
+    made, undone = "places" + GROUP // 2 * (RAW_RUN + CHUNK_RUN), "places" + GROUP // 2 * (CHUNK_RUN + RAW_RUN)
     for ending in ("end", "abandon"):
         script.ask("begin")
         for number in range(1, GROUP // 2 + 1):
             script.ask(f"vwrite 0001 0 {word(number)}")
             script.ask(f"write 0002 0010 0 {word(number)}")
-        script.ask(ending)
-        turns = [("undo", 0), ("redo", GROUP // 2), ("undo", 0)] if ending == "end" else [(None, 0)]
-        for turn, value in turns:
-            if turn:
-                script.ask(turn)
+        turns = [("undo", 0, undone), ("redo", GROUP // 2, made), ("undo", 0, undone)] if ending == "end" else [("abandon", 0, undone)]
+        if ending == "end":
+            script.ask("end")
+        # The answer is still that of the last edit.
+        script.ask("touched", "places" + CHUNK_RUN)
+        for turn, value, places in turns:
+            script.ask(turn + "places", places)
+            script.ask(turn)
+            script.ask("touched", places)
             script.ask("vread 0001", f"bytes {word(value)}")
             script.ask("read 0002 0010", f"bytes {word(value)}")
     script.ask("undos", "number 3")

@@ -1,8 +1,5 @@
-/* A view of a document (view.h) through edits, undos, redos, groups, abandons, joins and commits by chance: it looks at the places that
-   are told and at nothing else, and after each call is compared with the whole document. Run it in an empty folder.
-
-       view_c [STEPS [SEED]]
-*/
+/* A view of a document (view.h) through edits, undos, redos, groups, abandons, joins and commits by chance: it looks where it is told and
+   nowhere else, and after each call is compared with the whole document. Run it in an empty folder, as view_c [STEPS [SEED]]. */
 #define _GNU_SOURCE
 #include "view.h"
 #include <fcntl.h>
@@ -211,22 +208,24 @@ static bool is_accepted(const view *v, geosvm_session *s, int kind) {
 
 typedef int32_t asks(geosvm_session *s, size_t first, geosvm_place *places, size_t room, size_t *count);
 enum { MOST_PLACES = 20000 };
-typedef struct list {
-  size_t count;
-  geosvm_place places[MOST_PLACES];
-} list;
+typedef struct list { size_t count; geosvm_place places[MOST_PLACES]; } list;
 static list told, foretold, now;
 
-/* Has the places that are asked for; where it is refused, false. */
-static bool is_told(geosvm_session *s, asks *ask, list *l) { return ask(s, 0, l->places, MOST_PLACES, &l->count) == GEOSVM_OK; }
+/* Has the places that are asked for, through a window of some size; where it is refused, false. */
+static bool is_told(geosvm_session *s, asks *ask, list *l) {
+  const size_t room = 1 + below(20);
+  int32_t code = GEOSVM_CUT_OFF;
+  for (size_t first = 0; code == GEOSVM_CUT_OFF && first + room <= MOST_PLACES; first += room)
+    code = ask(s, first, l->places + first, room, &l->count);
+  return code == GEOSVM_OK;
+}
 static bool are_same(const list *a, const list *b) {
-  bool same = a->count == b->count;
-  for (size_t i = 0; same && i < a->count; i++) {
+  for (size_t i = 0; a->count == b->count && i < a->count; i++) {
     const geosvm_place *p = &a->places[i], *q = &b->places[i];
-    same = p->kind == q->kind && p->block == q->block && p->chunk == q->chunk;
-    same = same && p->at == q->at && p->before == q->before && p->after == q->after;
+    if (p->kind != q->kind || p->block != q->block || p->chunk != q->chunk) return false;
+    if (p->at != q->at || p->before != q->before || p->after != q->after) return false;
   }
-  return same;
+  return a->count == b->count;
 }
 
 /* The document was changed: the view follows. */
@@ -243,14 +242,12 @@ static void unchanged(geosvm_session *s) {
 /* Steps. */
 
 enum { EDITED, UNDONE, REDONE, BEGUN, ENDED, ABANDONED, JOINED, FORGOTTEN, COMMITTED, REVERTED, CALLS };
-static const char *const calls[CALLS] = {
-  "edits", "undos", "redos", "begins", "ends", "abandons", "joins", "forgets", "commits", "reverts"
-};
+static const char *const calls[] = {"edits", "undos", "redos", "begins", "ends", "abandons", "joins", "forgets", "commits", "reverts"};
 static unsigned long made[CALLS];
 static bool in_group;
 static uint32_t back, ahead; /* how many undos, and then redos, come next */
 
-/* A call that was made, after which nothing else is told. */
+/* A call after which nothing else is told. */
 static void keeps(geosvm_session *s, int call, int32_t code) {
   if (code != GEOSVM_OK) fail(calls[call], code);
   made[call]++;
@@ -338,8 +335,8 @@ int main(int argc, char **argv) {
   for (int i = 0; i < CALLS; i++) printf(" %lu %s,", made[i], calls[i]);
   printf("\nedits:");
   for (int i = 0; i < KINDS; i++) printf(" %lu %s", accepted[i], names[i]);
-  printf("\nthe view is the document; it looked at %llu bytes of %llu\n", (unsigned long long)v->looked_at,
-         (unsigned long long)document_bytes);
+  const unsigned long long looked_at = v->looked_at, bytes = document_bytes;
+  printf("\nthe view is the document; it looked at %llu bytes of %llu\n", looked_at, bytes);
   free_view(v);
   geosvm_close(&s);
   close(fd);

@@ -1,10 +1,10 @@
 pub mod AddingNames
-pub mod Counted
 pub mod Digits
 pub mod Extending
 pub mod Names
 pub mod Parses
 pub mod Printing
+pub mod ReadingOff
 pub mod Rows
 pub mod Spelling
 pub mod Words

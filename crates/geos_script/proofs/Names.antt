@@ -1,6 +1,5 @@
 -- The name that a line begins with.
-use Rattle.std.proofs.Common.{cond, nat_eq, ◌==◌, ◌&&◌, ◌≡◌, ◌+◌, ◌<◌, ◌≤◌, ℕ, true, false, List, [], ◌∷◌, length, slice_index, take, drop, map, refl, sym, ap, ◌∙◌, arith}
-use Rattle.std.specs.Borrow.{Bor}
+use Rattle.std.proofs.Common.{cond, nat_eq, ◌==◌, ◌&&◌, ◌≡◌, ◌+◌, ◌<◌, ◌≤◌, ℕ, true, false, List, [], ◌∷◌, length, slice_index, drop, refl, arith}
 use Rattle.std.proofs.lemmas.Bool.Decides.{nat_tests}
 use Rattle.std.proofs.lemmas.List.{drop_all, drop_more}
 use Rattle.std.specs.List.{starts_with}
@@ -18,28 +17,6 @@ pub command_of_words-named : (name : List ℕ) (operands : List (List ℕ)) → 
 unfolding named_from
 command_of_words-named [] operands h = refl
 command_of_words-named (x ∷ name) operands h = cond-other x _ _ h
-
--- What the first words of a line show of all: the name, and the first operands.
-pub record NamedByFirst (name : List ℕ) (first : List (Bor (List ℕ))) (words : List (List ℕ)) : Type 0 where
-  pub operands : List (List ℕ)
-  pub front : map (λ (w : Bor (List ℕ)). w.now) first ≡ take 6 operands
-  pub named : command_of_words words ≡ named_from 0 name operands
-
-first_named : (name : Bor (List ℕ)) (first : List (Bor (List ℕ))) (words : List (List ℕ)) → false ≡ starts_with nat_eq name.now (35 ∷ [])
-    → map (λ (w : Bor (List ℕ)). w.now) (name ∷ first) ≡ take 7 words → NamedByFirst name.now first words
-first_named name first [] h front = cc front
-first_named name first (word ∷ words) h front =
-    let same : name.now ≡ word = cc front in
-    let rest : map (λ (w : Bor (List ℕ)). w.now) first ≡ take 6 words = cc front in
-    record {
-      operands = words;
-      front = rest;
-      named = ap (λ (w : List ℕ). command_of_words (w ∷ words)) (sym same) ∙ command_of_words-named name.now words h;
-    }
-
-pub named_by_first : (all : List (Bor (List ℕ))) (name : Bor (List ℕ)) (first : List (Bor (List ℕ))) (words : List (List ℕ)) → all ≡ name ∷ first
-    → false ≡ starts_with nat_eq name.now (35 ∷ []) → map (λ (w : Bor (List ℕ)). w.now) all ≡ take 7 words → NamedByFirst name.now first words
-named_by_first all name first words e h front = first_named name first words h (ap (map (λ (w : Bor (List ℕ)). w.now)) (sym e) ∙ front)
 
 -- two texts that have one more byte the same are the same where their rests are
 pub same_rest : (xs ys : List ℕ) (i : ℕ) → i < length xs → i < length ys → slice_index xs i ≡ slice_index ys i

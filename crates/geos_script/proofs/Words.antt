@@ -1,9 +1,10 @@
 -- How a line falls into words.
-use Rattle.std.proofs.Common.{Bor, map, not, append_assoc, get_or-take, length-drop, add-zero, ◌-◌, ◌≡◌, ℕ, zero, suc, ◌+◌, ◌<◌, ◌≤◌, true, false, List, [], ◌∷◌, ◌++◌, length, take, drop, slice_index, inl, inr, None, refl, sym, subst, ap, ◌∙◌, arith}
+use Rattle.std.proofs.Common.{not, ◌==◌, get_or-take, length-drop, add-zero, ◌-◌, ◌≡◌, ℕ, zero, suc, ◌+◌, ◌<◌, ◌≤◌, true, false, List, [], ◌∷◌, ◌++◌, length, take, drop, slice_index, inl, inr, None, refl, sym, subst, ap, ◌∙◌, arith}
 use Rattle.std.proofs.lemmas.Bool.Decides.{nat_tests}
-use Rattle.std.proofs.lemmas.Bool.{and_parts, cases_eq, not-true}
+use Rattle.std.proofs.lemmas.Bool.{and_parts, cases_Bool, cases_eq, not-true}
 use Rattle.std.specs.List.{list_all}
-use Rattle.std.proofs.lemmas.List.{take_all, get_or-drop, map-append}
+use Rattle.std.proofs.lemmas.List.{take_all, get_or-drop}
+use Rattle.geos_script.specs.Making.{is_no_word}
 use Rattle.geos_model.specs.Script.{command, command_of_words, words, begin_word, is_blank}
 
 -- blanks in front of a line change no word
@@ -28,7 +29,7 @@ begin_word-more x [] w ws some h = absurd (omega arith)
 begin_word-more x (y ∷ ys) w ws some h = rw h
 
 -- the bytes up to the first blank are a word
-words-cut : (xs : List ℕ) (n : ℕ) → 0 < n → n ≤ length xs → ((k : ℕ) → k < n → is_blank (slice_index xs k) ≡ false)
+pub words-cut : (xs : List ℕ) (n : ℕ) → 0 < n → n ≤ length xs → ((k : ℕ) → k < n → is_blank (slice_index xs k) ≡ false)
     → (n < length xs → is_blank (slice_index xs n) ≡ true) → words xs ≡ take n xs ∷ words (drop n xs)
 words-cut xs zero some le h stop = absurd (omega arith)
 words-cut [] (suc n) some le h stop = absurd (omega arith)
@@ -73,21 +74,23 @@ pub word_some : (xs : List ℕ) (end : ℕ) → 0 < length xs → is_blank (slic
 word_some xs end some solid stops =
     elim (cases_eq end 0) [ inl none ↦ cc (sym (rw none at (stops (omega arith))) ∙ solid) | inr more ↦ omega arith ]
 
--- The words of a text that begins with no blank are the bytes up to the first blank, and the words behind the blanks there.
-pub words-step : (xs tail rest : List ℕ) (end skip : ℕ) → 0 < length xs → is_blank (slice_index xs 0) ≡ false
-    → end ≤ length xs → ((k : ℕ) → k < end → is_blank (slice_index xs k) ≡ false) → (end < length xs → is_blank (slice_index xs end) ≡ true)
-    → tail ≡ drop end xs → skip ≤ length tail → ((k : ℕ) → k < skip → is_blank (slice_index tail k) ≡ true) → rest ≡ drop skip tail
-    → words xs ≡ take end xs ∷ words rest
-words-step xs tail rest end skip some solid fits word stops is_tail few blanks is_rest =
-    let skipped : words (drop end xs) ≡ words rest = ap words (sym is_tail) ∙ words-skip tail skip few blanks ∙ ap words (sym is_rest) in
-    words-cut xs end (word_some xs end some solid stops) fits word stops ∙ ap (λ (ws : List (List ℕ)). take end xs ∷ ws) skipped
+-- no byte, no word
+pub words-none : (xs : List ℕ) → length xs ≡ 0 → words xs ≡ []
+words-none [] none = refl
+words-none (x ∷ xs) none = absurd (omega arith)
 
--- one word more keeps the words so far and those of the rest the line's
-pub words-pushed : (old new : List (Bor (List ℕ))) (word : Bor (List ℕ)) (line rest after : List ℕ) → new ≡ old ++ word ∷ []
-    → map (λ (w : Bor (List ℕ)). w.now) old ++ words rest ≡ words line → words rest ≡ word.now ∷ words after
-    → map (λ (w : Bor (List ℕ)). w.now) new ++ words after ≡ words line
-words-pushed old new word line rest after e kept step =
-    rw (e, map-append, append_assoc) (rw step at kept)
+-- a text that begins with no blank has a word, or is empty
+pub words-some : (xs : List ℕ) → (0 < length xs → is_blank (slice_index xs 0) ≡ false) → (length xs == 0) ≡ is_no_word (words xs)
+words-some [] solid = refl
+words-some (x ∷ xs) solid = rw (solid (omega arith)) (more ∙ begun xs (words xs))
+  where
+    more : (length (x ∷ xs) == 0) ≡ false
+    more = grind (arith, nat_tests)
+
+    begun : (ys : List ℕ) (ws : List (List ℕ)) → false ≡ is_no_word (begin_word x ys ws)
+    begun [] ws = refl
+    begun (y ∷ ys) [] = refl
+    begun (y ∷ ys) (w ∷ ws) = elim (cases_Bool (is_blank y)) [ inl blank ↦ rw blank refl | inr not ↦ rw not refl ]
 
 -- a line that is too long is no command
 pub command-long : (line : List ℕ) → 140000 < length line → command line ≡ None

@@ -1,6 +1,6 @@
 //! The table of the commands: the name of each, its operands, and what makes it of words that spell these. A line is read by
 //! it, and a command printed.
-ghost use Rattle.std.specs.Prelude.{◌≡◌, ◌++◌, OnOk, OnErr, Some, drop, length, map};
+ghost use Rattle.std.specs.Prelude.{◌≡◌, ◌++◌, OnOk, OnErr, Some, drop, length};
 ghost use Rattle.geos_model.specs.Script.{block, bytes as spelled_bytes, chunk, is_set, same_bytes, with_5};
 ghost use Rattle.geos_model.specs.declared.command.Command.TheVariants as commands;
 ghost use Rattle.geos_model.specs.declared.command.Edit.TheVariants as edits;
@@ -11,10 +11,11 @@ ghost use Rattle.geos_script.specs.Printing.{IsSpellable, command_text, edit_tex
 ghost use Rattle.geos_script.specs.Reading.{ReadsAs, command_has_bytes, putting};
 ghost use Rattle.geos_script.specs.Texts.{Extends};
 
-use crate::operands::{LastOperand, Operand, spells_bytes};
+use crate::line::next_word;
+use crate::operands::{LastOperand, Operand, bytes_of, spells_bytes};
 use crate::shapes::{five, four, none, one, three, two};
 use crate::word::{Spelled, push_words};
-use geos_model::{Bytes, ChunkHandle, Command, Edit, Fault, VmHandle};
+use geos_model::{ChunkHandle, Command, Edit, Fault, VmHandle};
 use std::alloc::{AllocError, Global};
 
 // Hands the rows of the table to a macro, so that the parser, the printer and the help read the same ones. A row has the
@@ -132,26 +133,26 @@ pub fn command_list() -> &'static str
     commands! { list_of() }
 }
 
-// What reads the words of a row.
+// What reads the operands of a row, in the text behind the name.
 macro_rules! read {
-    (none, $alloc:expr, $place:expr, $words:expr, $made:expr) => {
-        none($place, $words, $made)
+    (none, $alloc:expr, $place:expr, $behind:expr, $made:expr) => {
+        none($place, $behind, $made)
     };
-    (add_name, $alloc:expr, $place:expr, $words:expr, $made:expr) => {
-        add_name($alloc, $place, $words)
+    (add_name, $alloc:expr, $place:expr, $behind:expr, $made:expr) => {
+        add_name($alloc, $place, $behind)
     };
-    ($shape:ident, $alloc:expr, $place:expr, $words:expr, $made:expr) => {
-        $shape($alloc, $place, $words, $made)
+    ($shape:ident, $alloc:expr, $place:expr, $behind:expr, $made:expr) => {
+        $shape($alloc, $place, $behind, $made)
     };
 }
 
 // What the row with the name makes, where there is one.
 macro_rules! row_of {
-    (($alloc:expr, $place:expr, $name:expr, $words:expr) $($kind:ident {
+    (($alloc:expr, $place:expr, $name:expr, $behind:expr) $($kind:ident {
         $($text:literal $($shown:literal)? => $shape:ident $made:ident $(($($operand:ident),*))?,)*
     })*) => {
         $($(if is($name, $text) {
-            return read!($shape, $alloc, $place, $words, $kind::$made);
+            return read!($shape, $alloc, $place, $behind, $kind::$made);
         })*)*
         Err(Fault::BadCommand)
     };
@@ -175,39 +176,41 @@ fn is(name: &[u8], text: &str) -> bool
     true
 }
 
-/// Puts the command that a name and its operands are in its place.
+/// Puts the command that a name and the operands in the text behind it are in its place.
 #[tactic(none)]
 pub(crate) fn command_of(
     alloc: Global,
     place: &mut Command,
     name: &[u8],
-    words: &[&[u8]],
+    text: &[u8],
 ) -> Result<(), Fault>
-    ensures { ReadsAs command_has_bytes (named_from 0 name.now (map (λ w. w.now) words.now))
-        (putting result place.new) }
+    ensures { ReadsAs command_has_bytes (named_from 0 name.now (script.words text.now)) (putting result place.new) }
 {
-    commands! { row_of(alloc, place, name, words) }
+    commands! { row_of(alloc, place, name, text) }
 }
 
 /// A name, what stands before it, and whether that replaces what stands there.
-fn add_name(alloc: Global, place: &mut Command, words: &[&[u8]]) -> Result<(), Fault>
+fn add_name(alloc: Global, place: &mut Command, text: &[u8]) -> Result<(), Fault>
     ensures { ReadsAs command_has_bytes
         (with_5 block chunk spelled_bytes spelled_bytes is_set
         (λ b c name part replace. commands.Edit (edits.AddName b c name part replace))
-        (map (λ w. w.now) words.now)) (putting result place.new) }
+        (script.words text.now)) (putting result place.new) }
 {
-    let [block, chunk, name, part, replace] = words else {
+    let (block, text) = VmHandle::read(text)?;
+    let (chunk, text) = ChunkHandle::read(text)?;
+    let Some((name, text)) = next_word(text) else {
         return Err(Fault::BadCommand);
     };
-    let block = VmHandle::read(block)?;
-    let chunk = ChunkHandle::read(chunk)?;
-    let replace = bool::read(replace)?;
+    let Some((part, text)) = next_word(text) else {
+        return Err(Fault::BadCommand);
+    };
+    let replace = bool::read_last(alloc, text)?;
     // A line that is no command takes no memory, not even for its first byte text.
     if !spells_bytes(part) {
         return Err(Fault::BadCommand);
     }
-    let name = Bytes::read_last(alloc, name)?;
-    let part = Bytes::read_last(alloc, part)?;
+    let name = bytes_of(alloc, name)?;
+    let part = bytes_of(alloc, part)?;
     *place = Command::Edit(Edit::AddName(block, chunk, name, part, replace));
     Ok(())
 }

@@ -2,6 +2,7 @@
 #![tactic(auto)]
 
 mod commands;
+mod line;
 mod operands;
 mod parser;
 mod replies;

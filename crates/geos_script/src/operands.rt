@@ -4,8 +4,10 @@ ghost use Rattle.std.specs.List.{AllPass, list_all};
 ghost use Rattle.hex.specs.Hex.{decode_pairs, is_hex_digit, pair_value};
 ghost use Rattle.geos_model.specs.Script as script;
 ghost use Rattle.geos_model.specs.declared.fault.Fault.TheVariants as faults;
+ghost use Rattle.geos_script.specs.Making.{ReadsOff, last};
 ghost use Rattle.geos_script.specs.Reading.{ReadsAs, is_nonempty};
 
+use crate::line::{has_no_word, next_word};
 use geos_model::{Bytes, ChunkHandle, Fault, Token, VmHandle};
 use std::alloc::Global;
 
@@ -13,37 +15,50 @@ use std::alloc::Global;
 pub(crate) trait Operand: Copy {
     ghost spelled: { List ℕ → Option Self };
 
-    fn read(word: &[u8]) -> Result<Self, Fault>
-        ensures { result ≡ ok_or (spelled word.now) faults.BadCommand };
+    /// What the next word spells, and what stands behind it.
+    fn read(text: &[u8]) -> Result<(Self, &[u8]), Fault>
+        ensures { ReadsOff spelled text.now result };
 }
 
 /// The most digits of a number.
 const MOST_DIGITS: usize = 7;
 
+/// 1 to 7 decimal digits.
+fn number(word: &[u8]) -> Result<u32, Fault>
+    ensures { result ≡ ok_or (script.number word.now) faults.BadCommand }
+{
+    if word.is_empty() || word.len() > MOST_DIGITS {
+        return Err(Fault::BadCommand);
+    }
+    let mut number = 0;
+    for digit in word {
+        if !digit.is_ascii_digit() {
+            return Err(Fault::BadCommand);
+        }
+        number = 10 * number + u32::from(*digit - b'0');
+    }
+    Ok(number)
+}
+
 impl Operand for u32 {
     ghost spelled = { script.number };
 
-    fn read(word: &[u8]) -> Result<u32, Fault> {
-        if word.is_empty() || word.len() > MOST_DIGITS {
+    #[inline(never)]
+    fn read(text: &[u8]) -> Result<(u32, &[u8]), Fault> {
+        let Some((word, tail)) = next_word(text) else {
             return Err(Fault::BadCommand);
-        }
-        let mut number = 0;
-        for digit in word {
-            if !digit.is_ascii_digit() {
-                return Err(Fault::BadCommand);
-            }
-            number = 10 * number + u32::from(*digit - b'0');
-        }
-        Ok(number)
+        };
+        Ok((number(word)?, tail))
     }
 }
 
 impl Operand for u16 {
     ghost spelled = { script.user_id };
 
-    fn read(word: &[u8]) -> Result<u16, Fault> {
-        let number = u32::read(word)?;
-        u16::try_from(number).ok().ok_or(Fault::BadCommand)
+    fn read(text: &[u8]) -> Result<(u16, &[u8]), Fault> {
+        let (number, tail) = u32::read(text)?;
+        let id = u16::try_from(number).ok().ok_or(Fault::BadCommand)?;
+        Ok((id, tail))
     }
 }
 
@@ -59,27 +74,42 @@ fn handle(word: &[u8]) -> Result<u16, Fault>
     Ok(256 * u16::from(high) + u16::from(low))
 }
 
+/// The handle that the next word spells, and what stands behind it.
+// Never inlined, nor numbers and bytes: else each shape of each row has its own.
+#[inline(never)]
+fn next_handle(text: &[u8]) -> Result<(u16, &[u8]), Fault>
+    ensures { ReadsOff script.handle text.now result }
+{
+    let Some((word, tail)) = next_word(text) else {
+        return Err(Fault::BadCommand);
+    };
+    Ok((handle(word)?, tail))
+}
+
 impl Operand for VmHandle {
     ghost spelled = { script.block };
 
-    fn read(word: &[u8]) -> Result<VmHandle, Fault> {
-        Ok(VmHandle(handle(word)?))
+    fn read(text: &[u8]) -> Result<(VmHandle, &[u8]), Fault> {
+        let (handle, tail) = next_handle(text)?;
+        Ok((VmHandle(handle), tail))
     }
 }
 
 impl Operand for ChunkHandle {
     ghost spelled = { script.chunk };
 
-    fn read(word: &[u8]) -> Result<ChunkHandle, Fault> {
-        Ok(ChunkHandle(handle(word)?))
+    fn read(text: &[u8]) -> Result<(ChunkHandle, &[u8]), Fault> {
+        let (handle, tail) = next_handle(text)?;
+        Ok((ChunkHandle(handle), tail))
     }
 }
 
 impl Operand for Token {
     ghost spelled = { script.token };
 
-    fn read(word: &[u8]) -> Result<Token, Fault> {
-        Ok(Token(handle(word)?))
+    fn read(text: &[u8]) -> Result<(Token, &[u8]), Fault> {
+        let (handle, tail) = next_handle(text)?;
+        Ok((Token(handle), tail))
     }
 }
 
@@ -87,10 +117,13 @@ impl Operand for Token {
 impl Operand for bool {
     ghost spelled = { script.is_set };
 
-    fn read(word: &[u8]) -> Result<bool, Fault> {
+    fn read(text: &[u8]) -> Result<(bool, &[u8]), Fault> {
+        let Some((word, tail)) = next_word(text) else {
+            return Err(Fault::BadCommand);
+        };
         match word {
-            b"set" => Ok(true),
-            b"keep" => Ok(false),
+            b"set" => Ok((true, tail)),
+            b"keep" => Ok((false, tail)),
             _ => Err(Fault::BadCommand),
         }
     }
@@ -103,14 +136,30 @@ pub(crate) fn spells_bytes(word: &[u8]) -> bool
     word == b"-".as_slice() || (!word.is_empty() && word.len() % 2 == 0 && are_digits(word))
 }
 
+/// The bytes that a word spells, for which there may be no memory.
+pub(crate) fn bytes_of(alloc: Global, word: &[u8]) -> Result<Bytes, Fault>
+    ensures { ReadsAs is_nonempty (script.bytes word.now) result }
+{
+    if !spells_bytes(word) {
+        return Err(Fault::BadCommand);
+    }
+    if word == b"-".as_slice() {
+        return Ok(Bytes::from_vec(Vec::new(alloc)));
+    }
+    let mut items = vec![in alloc; 0; word.len() / 2]?;
+    decode_into(word, items.as_mut_slice());
+    Ok(Bytes::from_vec(items))
+}
+
 /// What the last word of a command may spell: for it there may be no memory.
 pub(crate) trait LastOperand: Drop {
     ghost spelled_last: { List ℕ → Option Self };
 
     ghost is_kept: { Self → Bool };
 
-    fn read_last(alloc: Global, word: &[u8]) -> Result<Self, Fault>
-        ensures { ReadsAs is_kept (spelled_last word.now) result };
+    /// What the next word spells, behind which there is no other.
+    fn read_last(alloc: Global, text: &[u8]) -> Result<Self, Fault>
+        ensures { ReadsAs is_kept (last spelled_last (script.words text.now)) result };
 }
 
 impl<T: Operand> LastOperand for T {
@@ -118,8 +167,12 @@ impl<T: Operand> LastOperand for T {
 
     ghost is_kept = { λ _. false };
 
-    fn read_last(_alloc: Global, word: &[u8]) -> Result<T, Fault> {
-        T::read(word)
+    fn read_last(_alloc: Global, text: &[u8]) -> Result<T, Fault> {
+        let (operand, tail) = T::read(text)?;
+        if !has_no_word(tail) {
+            return Err(Fault::BadCommand);
+        }
+        Ok(operand)
     }
 }
 
@@ -129,16 +182,15 @@ impl LastOperand for Bytes {
 
     ghost is_kept = { is_nonempty };
 
-    fn read_last(alloc: Global, word: &[u8]) -> Result<Bytes, Fault> {
-        if !spells_bytes(word) {
+    #[inline(never)]
+    fn read_last(alloc: Global, text: &[u8]) -> Result<Bytes, Fault> {
+        let Some((word, tail)) = next_word(text) else {
+            return Err(Fault::BadCommand);
+        };
+        if !has_no_word(tail) {
             return Err(Fault::BadCommand);
         }
-        if word == b"-".as_slice() {
-            return Ok(Bytes::from_vec(Vec::new(alloc)));
-        }
-        let mut items = vec![in alloc; 0; word.len() / 2]?;
-        decode_into(word, items.as_mut_slice());
-        Ok(Bytes::from_vec(items))
+        bytes_of(alloc, word)
     }
 }
 

@@ -1,10 +1,12 @@
-//! What so many words make, where each spells an operand.
-ghost use Rattle.std.specs.Prelude.{◌≡◌, map, false};
+//! What so many words make, where each spells an operand. Each is read off the line where it stands.
+ghost use Rattle.std.specs.Prelude.{◌≡◌, false};
 ghost use Rattle.geos_model.specs.declared.command.Command.{Command};
 ghost use Rattle.geos_model.specs.declared.command.Command.TheVariants as commands;
-ghost use Rattle.geos_script.specs.Making.{ParsesOperands, nothing, operand_then};
+ghost use Rattle.geos_model.specs.Script as script;
+ghost use Rattle.geos_script.specs.Making.{ParsesOperands, last, nothing, operand_then};
 ghost use Rattle.geos_script.specs.Reading.{putting};
 
+use crate::line::has_no_word;
 use crate::operands::{LastOperand, Operand};
 use geos_model::{Command, Edit, Fault};
 use std::alloc::Global;
@@ -33,28 +35,19 @@ impl Made for Edit {
     }
 }
 
-/// Puts what is made of just so many words in its place, which the caller lends: each return of a value as long as a
-/// command costs a copy of it. Any other number of words is no command.
-macro_rules! put_made {
-    ($place:expr, $words:expr; $all:pat => $made:expr) => {
-        match $words {
-            $all => {
-                *$place = $made;
-                Ok(())
-            }
-            _ => Err(Fault::BadCommand),
-        }
-    };
-}
-
-/// No word.
+/// Puts what is made of no word in its place, which the caller lends: each return of a value as long as a command costs
+/// a copy of it. Any word is one too many, and so behind the last operand of the others below.
 // Inlined, since it costs less than a call.
 #[inline(always)]
-pub(crate) fn none(place: &mut Command, words: &[&[u8]], made: Command) -> Result<(), Fault>
-    ensures { ParsesOperands (λ _. false) (λ _ c. c ≡ made) (nothing (map (λ w. w.now) words.now))
+pub(crate) fn none(place: &mut Command, text: &[u8], made: Command) -> Result<(), Fault>
+    ensures { ParsesOperands (λ _. false) (λ _ c. c ≡ made) (nothing (script.words text.now))
         (putting result place.new) }
 {
-    put_made! { place, words; [] => made }
+    if !has_no_word(text) {
+        return Err(Fault::BadCommand);
+    }
+    *place = made;
+    Ok(())
 }
 
 // Never inlined, and so the others below: else a table sets up the stack of each of its rows for each name.
@@ -62,29 +55,34 @@ pub(crate) fn none(place: &mut Command, words: &[&[u8]], made: Command) -> Resul
 pub(crate) fn one<A: LastOperand, R: Made, F: FnOnce(A) -> R + Drop>(
     alloc: Global,
     place: &mut Command,
-    words: &[&[u8]],
+    text: &[u8],
     make: F,
 ) -> Result<(), Fault>
     requires { F.IsAlwaysCallable make }
-    ensures { ParsesOperands (λ t. A.is_kept t.0) (λ t c. (r : R) × F.post make t.0 r × (c ≡ R.as_command r))
-        (operand_then A.spelled_last nothing (map (λ w. w.now) words.now)) (putting result place.new) }
+    ensures { ParsesOperands (λ t. A.is_kept t) (λ t c. (r : R) × F.post make t r × (c ≡ R.as_command r))
+        (last A.spelled_last (script.words text.now)) (putting result place.new) }
 {
-    put_made! { place, words; [a] => make(A::read_last(alloc, a)?).into_command() }
+    let a = A::read_last(alloc, text)?;
+    *place = make(a).into_command();
+    Ok(())
 }
 
 #[inline(never)]
 pub(crate) fn two<A: Operand, B: LastOperand, R: Made, F: FnOnce(A, B) -> R + Drop>(
     alloc: Global,
     place: &mut Command,
-    words: &[&[u8]],
+    text: &[u8],
     make: F,
 ) -> Result<(), Fault>
     requires { F.IsAlwaysCallable make }
-    ensures { ParsesOperands (λ t. B.is_kept t.1.0) (λ t c. (r : R) × F.post make t.0 t.1.0 r × (c ≡ R.as_command r))
-        (operand_then A.spelled (operand_then B.spelled_last nothing) (map (λ w. w.now) words.now))
+    ensures { ParsesOperands (λ t. B.is_kept t.1) (λ t c. (r : R) × F.post make t.0 t.1 r × (c ≡ R.as_command r))
+        (operand_then A.spelled (last B.spelled_last) (script.words text.now))
         (putting result place.new) }
 {
-    put_made! { place, words; [a, b] => make(A::read(a)?, B::read_last(alloc, b)?).into_command() }
+    let (a, text) = A::read(text)?;
+    let b = B::read_last(alloc, text)?;
+    *place = make(a, b).into_command();
+    Ok(())
 }
 
 #[inline(never)]
@@ -94,14 +92,18 @@ pub(crate) fn three<
     C: LastOperand,
     R: Made,
     F: FnOnce(A, B, C) -> R + Drop,
->(alloc: Global, place: &mut Command, words: &[&[u8]], make: F) -> Result<(), Fault>
+>(alloc: Global, place: &mut Command, text: &[u8], make: F) -> Result<(), Fault>
     requires { F.IsAlwaysCallable make }
-    ensures { ParsesOperands (λ t. C.is_kept t.1.1.0)
-        (λ t c. (r : R) × F.post make t.0 t.1.0 t.1.1.0 r × (c ≡ R.as_command r))
-        (operand_then A.spelled (operand_then B.spelled (operand_then C.spelled_last nothing))
-        (map (λ w. w.now) words.now)) (putting result place.new) }
+    ensures { ParsesOperands (λ t. C.is_kept t.1.1)
+        (λ t c. (r : R) × F.post make t.0 t.1.0 t.1.1 r × (c ≡ R.as_command r))
+        (operand_then A.spelled (operand_then B.spelled (last C.spelled_last))
+        (script.words text.now)) (putting result place.new) }
 {
-    put_made! { place, words; [a, b, c] => make(A::read(a)?, B::read(b)?, C::read_last(alloc, c)?).into_command() }
+    let (a, text) = A::read(text)?;
+    let (b, text) = B::read(text)?;
+    let c = C::read_last(alloc, text)?;
+    *place = make(a, b, c).into_command();
+    Ok(())
 }
 
 #[inline(never)]
@@ -112,15 +114,19 @@ pub(crate) fn four<
     D: LastOperand,
     R: Made,
     F: FnOnce(A, B, C, D) -> R + Drop,
->(alloc: Global, place: &mut Command, words: &[&[u8]], make: F) -> Result<(), Fault>
+>(alloc: Global, place: &mut Command, text: &[u8], make: F) -> Result<(), Fault>
     requires { F.IsAlwaysCallable make }
-    ensures { ParsesOperands (λ t. D.is_kept t.1.1.1.0)
-        (λ t c. (r : R) × F.post make t.0 t.1.0 t.1.1.0 t.1.1.1.0 r × (c ≡ R.as_command r))
-        (operand_then A.spelled (operand_then B.spelled (operand_then C.spelled (operand_then D.spelled_last nothing)))
-        (map (λ w. w.now) words.now)) (putting result place.new) }
+    ensures { ParsesOperands (λ t. D.is_kept t.1.1.1)
+        (λ t c. (r : R) × F.post make t.0 t.1.0 t.1.1.0 t.1.1.1 r × (c ≡ R.as_command r))
+        (operand_then A.spelled (operand_then B.spelled (operand_then C.spelled (last D.spelled_last)))
+        (script.words text.now)) (putting result place.new) }
 {
-    put_made! { place, words; [a, b, c, d] =>
-        make(A::read(a)?, B::read(b)?, C::read(c)?, D::read_last(alloc, d)?).into_command() }
+    let (a, text) = A::read(text)?;
+    let (b, text) = B::read(text)?;
+    let (c, text) = C::read(text)?;
+    let d = D::read_last(alloc, text)?;
+    *place = make(a, b, c, d).into_command();
+    Ok(())
 }
 
 #[inline(never)]
@@ -132,15 +138,20 @@ pub(crate) fn five<
     E: LastOperand,
     R: Made,
     F: FnOnce(A, B, C, D, E) -> R + Drop,
->(alloc: Global, place: &mut Command, words: &[&[u8]], make: F) -> Result<(), Fault>
+>(alloc: Global, place: &mut Command, text: &[u8], make: F) -> Result<(), Fault>
     requires { F.IsAlwaysCallable make }
-    ensures { ParsesOperands (λ t. E.is_kept t.1.1.1.1.0)
-        (λ t c. (r : R) × F.post make t.0 t.1.0 t.1.1.0 t.1.1.1.0 t.1.1.1.1.0 r × (c ≡ R.as_command r))
+    ensures { ParsesOperands (λ t. E.is_kept t.1.1.1.1)
+        (λ t c. (r : R) × F.post make t.0 t.1.0 t.1.1.0 t.1.1.1.0 t.1.1.1.1 r × (c ≡ R.as_command r))
         (operand_then A.spelled
         (operand_then B.spelled
-        (operand_then C.spelled (operand_then D.spelled (operand_then E.spelled_last nothing))))
-        (map (λ w. w.now) words.now)) (putting result place.new) }
+        (operand_then C.spelled (operand_then D.spelled (last E.spelled_last))))
+        (script.words text.now)) (putting result place.new) }
 {
-    put_made! { place, words; [a, b, c, d, e] =>
-        make(A::read(a)?, B::read(b)?, C::read(c)?, D::read(d)?, E::read_last(alloc, e)?).into_command() }
+    let (a, text) = A::read(text)?;
+    let (b, text) = B::read(text)?;
+    let (c, text) = C::read(text)?;
+    let (d, text) = D::read(text)?;
+    let e = E::read_last(alloc, text)?;
+    *place = make(a, b, c, d, e).into_command();
+    Ok(())
 }

@@ -7,7 +7,7 @@ use Rattle.vm_blocks.specs.declared.change.Change.{Change}
 use Rattle.chunk_edits.specs.declared.direction.Direction.TheVariants.{Forwards, Backwards}
 use Rattle.geos_model.specs.Position.{Position, position_after_join, position_stepped, position_after_step}
 use Rattle.undo_log.specs.Joining.{JoinsAt, KeepsBefore, LeavesBehind}
-use Rattle.undo_log.specs.Logging.{Log, ReversesAt, changes_in, forgotten_log, joined_entries, joined_log, kept_entries, next_moved, open_changes, reversed_entry, with_entry, without_redo}
+use Rattle.undo_log.specs.Logging.{Log, ReversesAt, changes_in, forgotten_log, joined_entries, joined_log, kept_entries, next_moved, open_changes, retold, reversed_entry, with_entry, without_redo}
 use Rattle.undo_log.specs.Marks.{AreMarksWithin, IsMarkWithin, both_marks, mark_from, mark_joined, mark_lowered, mark_up_to, position_of}
 use Rattle.undo_log.specs.declared.entry.LogEntry.{LogEntry}
 use Rattle.undo_log.specs.declared.entry.LogEntry.TheVariants.{Group}
@@ -84,20 +84,23 @@ module _ (group : Option (List Change)) (marks : Marks) (limit : Option ℕ) whe
 
   -- What could be made again is gone.
   pub cut_at : (dead done : ℕ) (es cut : List LogEntry) (last : Touched) → done ≤ length es → cut ≡ take done es
-      → log_at dead done cut group (both_marks (mark_up_to done) marks) touched.Nothing limit ≡ record (without_redo (log_at dead done es group marks last limit)) { touched = [] }
+      → log_at dead done cut group (both_marks (mark_up_to done) marks) last limit ≡ retold last (without_redo (log_at dead done es group marks last limit))
   cut_at dead done es cut last inside is =
       let long = length-take-le done es inside in
-      log_is _ _ _ _ group _ _ _ _ _ _ limit
-      (ap (λ (xs : List LogEntry). reverse (drop dead (take done xs))) is ∙ ap (λ (xs : List LogEntry). reverse (drop dead xs)) (take_all done (take done es) (omega (arith, long))))
-      (ap (drop done) is ∙ drop_all done (take done es) (omega (arith, long))) (cut_position done marks.updated) (cut_position done marks.saved) refl
+      let undo_is = ap (λ (xs : List LogEntry). reverse (drop dead (take done xs))) is ∙ ap (λ (xs : List LogEntry). reverse (drop dead xs)) (take_all done (take done es) (omega (arith, long))) in
+      let gone : drop done cut ≡ [] = ap (drop done) is ∙ drop_all done (take done es) (omega (arith, long)) in
+      log_is _ _ _ _ group _ _ _ _ _ _ limit undo_is gone (cut_position done marks.updated) (cut_position done marks.saved) (same_told last _ _ _ _ group undo_is gone)
 
   -- where nothing could be, nothing is
   pub none_cut : (dead done : ℕ) (es : List LogEntry) (last : Touched) → length es ≤ done → AreMarksWithin dead (length es) marks → done ≤ length es
-      → log_at dead done es group marks touched.Nothing limit ≡ record (without_redo (log_at dead done es group marks last limit)) { touched = [] }
+      → log_at dead done es group marks last limit ≡ retold last (without_redo (log_at dead done es group marks last limit))
   none_cut dead done es last all marked inside =
       let same : length es ≡ done = omega (arith, all, inside) in
       let marked_here : AreMarksWithin dead done marks = subst (λ (n : ℕ). AreMarksWithin dead n marks) same marked in
-      log_is _ _ _ _ group _ _ _ _ _ _ limit refl (drop_all done es all) (kept_position dead done marks.updated marked_here.updated) (kept_position dead done marks.saved marked_here.saved) refl
+      let undo : List LogEntry = reverse (drop dead (take done es)) in
+      let gone : drop done es ≡ [] = drop_all done es all in
+      log_is _ _ _ _ group _ _ _ _ _ _ limit refl gone (kept_position dead done marks.updated marked_here.updated) (kept_position dead done marks.saved marked_here.saved)
+      (same_told last undo undo (drop done es) [] group refl gone)
 
   -- Entries before a place are forgotten.
   -- What is told is the same where it is told of the entries that are kept.

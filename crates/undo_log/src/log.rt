@@ -2,7 +2,7 @@
 ghost use Rattle.std.specs.Prelude.{◌≡◌, ◌≢◌, ◌<◌, ◌≤◌, ◌+◌, ◌-◌, ◌^◌, ◌++◌, [], ◌&&◌, ◌==◌, IfErr, IfOk, true, Some, None, OnOk, MatchOption, MatchResult, is_some, length, min, reverse};
 ghost use Rattle.std.specs.Option.{option_map};
 ghost use Rattle.chunk_edits.specs.declared.direction.Direction.TheVariants.{Backwards, Forwards};
-ghost use Rattle.undo_log.specs.Logging.{AreExclusive, IsHead, ReversesAt, abandoned_log, changes_in, forgotten_log, fresh_log, is_at, joined_log, open_changes, next_entries, next_moved, reverted_log, saved_log, to_redo, to_undo, total_weight, updated_log, with_change, with_entry, with_group_closed, without_redo};
+ghost use Rattle.undo_log.specs.Logging.{AreExclusive, IsHead, ReversesAt, abandoned_log, changes_in, forgotten_log, fresh_log, is_at, joined_log, open_changes, next_entries, next_moved, retold, reverted_log, saved_log, to_redo, to_undo, total_weight, updated_log, with_change, with_entry, with_group_closed, without_redo};
 ghost use Rattle.undo_log.specs.Asking.{asked_places, places_ahead};
 ghost use Rattle.undo_log.specs.Telling.{newest_changes, next_changes, told};
 
@@ -119,7 +119,7 @@ impl UndoLog {
     {
         // In a group too.
         self.cut_undone();
-        self.last = Touched::Newest(1);
+        self.last.be_newest(1);
         if let Some(changes) = &mut self.group {
             changes.push_reserved(change);
             return;
@@ -127,12 +127,11 @@ impl UndoLog {
         self.push(alloc, LogEntry::One(change));
     }
 
-    // Nothing is left to make again, and nothing is told.
+    // Nothing is left to make again, nor to be told of it.
     fn cut_undone(&mut self)
-        ensures lists { self.new.lists ≡ record (without_redo self.old.lists) { touched = [] } }
+        ensures lists { self.new.lists ≡ retold self.old.last (without_redo self.old.lists) }
         ensures room { self.new.room ≡ self.old.room }
     {
-        self.last = Touched::Nothing;
         // Where nothing was, the vector needn't be asked.
         if self.done < self.entries.len() {
             self.entries.truncate(self.done);
@@ -242,7 +241,7 @@ impl UndoLog {
     {
         if self.done > self.dead {
             self.done -= 1;
-            self.last = Touched::Undone;
+            self.last.be_undone();
             turn_over_at(self.entries.as_mut_slice(), self.done);
         }
     }

@@ -3,6 +3,7 @@ ghost use Rattle.std.specs.Prelude.{◌≡◌, ◌≢◌, ◌≤◌, ◌++◌, [
 ghost use Rattle.chunk_edits.specs.declared.direction.Direction.TheVariants.{Forwards};
 ghost use Rattle.undo_log.specs.Telling.{all_places, clipped};
 ghost use Rattle.undo_log.specs.Joining.{KeepsBefore};
+ghost use Rattle.undo_log.specs.declared.touched.Touched.TheVariants.{Newest, Undone};
 
 use crate::entry::{Changes, LogEntry};
 use geos_model::Place;
@@ -28,6 +29,27 @@ pub enum Touched {
 }
 
 impl Touched {
+    /// So many of the newest changes are told. Where some were told before, as from edit to edit, nothing has to be
+    /// given back.
+    pub(crate) fn be_newest(&mut self, count: usize)
+        ensures { self.new ≡ Newest count }
+    {
+        match self {
+            Touched::Newest(told) => *told = count,
+            _ => *self = Touched::Newest(count),
+        }
+    }
+
+    /// The entry that was undone last is told.
+    pub(crate) fn be_undone(&mut self)
+        ensures { self.new ≡ Undone }
+    {
+        match self {
+            Touched::Undone => {}
+            _ => *self = Touched::Undone,
+        }
+    }
+
     /// The entry before a place is about to be forgotten. Where it may be told of, it is kept if it is.
     pub(crate) fn keep_before(
         &mut self,

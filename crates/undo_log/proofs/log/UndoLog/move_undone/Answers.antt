@@ -1,8 +1,10 @@
 use Rattle.std.proofs.Common.{◌≡◌, ◌≤◌, ◌+◌, ◌-◌, List, length, vec_len, ap, subst, ◌∙◌, arith}
+use Rattle.std.specs.Vec.{with_items}
 use Rattle.std.proofs.lemmas.List.{with_items_is}
 use Rattle.chunk_edits.specs.declared.direction.Direction.TheVariants.{Backwards}
 use Rattle.undo_log.specs.Logging.{LogState, ReversesAt, next_moved}
 use Rattle.undo_log.specs.declared.entry.LogEntry.{LogEntry}
+use Rattle.undo_log.specs.declared.touched.Touched.{Touched}
 use Rattle.undo_log.specs.declared.touched.Touched.TheVariants as touched
 use Rattle.undo_log.proofs.LogViews.{log_at, undone_at, open_group}
 use Rattle.undo_log.proofs.log.UndoLog.move_undone.Goals as goal
@@ -15,5 +17,6 @@ returns-then-self c =
     let turned : ReversesAt place old new = subst (λ (es : List LogEntry). ReversesAt place es new) c.as_mut_slice.ensures.value c.turn_over_at.ensures in
     let next : place + 1 ≡ c.self.inside.done = omega (arith, c.if-self.true) in
     let before : c.self.inside.dead ≤ place = omega (arith, c.if-self.true) in
-    ap (λ (es : List LogEntry). log_at c.self.inside.dead place es (open_group c.self.inside.group) c.self.inside.marks touched.Undone c.self.inside.limit) (with_items_is c.self.inside.entries new many)
+    ap (λ (last : Touched). log_at c.self.inside.dead place (with_items c.self.inside.entries new).items (open_group c.self.inside.group) c.self.inside.marks last c.self.inside.limit) c.be_undone.ensures
+    ∙ ap (λ (es : List LogEntry). log_at c.self.inside.dead place es (open_group c.self.inside.group) c.self.inside.marks touched.Undone c.self.inside.limit) (with_items_is c.self.inside.entries new many)
     ∙ undone_at (open_group c.self.inside.group) c.self.inside.marks c.self.inside.limit c.self.inside.dead place c.self.inside.done old new c.self.inside.last next before turned ∙ ap (λ (l : LogState). next_moved Backwards l.lists) c.self.view_is

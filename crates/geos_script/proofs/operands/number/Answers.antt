@@ -1,6 +1,6 @@
 use Rattle.std.proofs.Common.{arith}
 use Rattle.geos_script.proofs.Spelling.{small_number}
-use Rattle.geos_script.proofs.operands.U32Operand.read.Goals as goal
+use Rattle.geos_script.proofs.operands.number.Goals as goal
 
 pub overflow_mul-number : goal.overflow_mul-number
 overflow_mul-number c =

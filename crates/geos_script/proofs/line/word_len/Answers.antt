@@ -1,7 +1,7 @@
 use Rattle.std.proofs.Common.{◌<◌, ◌-◌, length-take, inl, inr, arith}
 use Rattle.std.proofs.lemmas.Bool.{cases_lt}
 use Rattle.geos_script.proofs.Words.{blank_tail, solid_head, solid_tail}
-use Rattle.geos_script.proofs.parser.word_len.Goals as goal
+use Rattle.geos_script.proofs.line.word_len.Goals as goal
 
 pub returns-clause-before : goal.returns-clause-before
 returns-clause-before c = λ k lt.

@@ -1,7 +1,7 @@
 use Rattle.std.proofs.Common.{sym, inr, arith}
 use Rattle.std.proofs.lemmas.Result.{err_from_is_err_and}
 use Rattle.geos_script.proofs.Spelling.{spelled_pairs, spelled_some}
-use Rattle.geos_script.proofs.operands.BytesLastOperand.read_last.Goals as goal
+use Rattle.geos_script.proofs.operands.bytes_of.Goals as goal
 
 -- The word spells bytes, so only memory can run out for them.
 pub returns-in_err-items : goal.returns-in_err-items

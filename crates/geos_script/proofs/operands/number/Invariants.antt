@@ -1,7 +1,7 @@
 use Rattle.std.proofs.Common.{◌≡◌, ◌<◌, ◌^◌, true, take, fold}
 use Rattle.std.specs.List.{list_all}
 use Rattle.geos_model.specs.Script.{is_digit, with_digit}
-use Rattle.geos_script.proofs.operands.U32Operand.read.Given as goal
+use Rattle.geos_script.proofs.operands.number.Given as goal
 
 -- the number that the digits so far spell, and how small they leave it
 abbrev pub invariant-loop-digit : goal.invariant-loop-digit
