@@ -78,10 +78,11 @@ awk 'function ask(b, c) {
 # shown: what the document has, and the file of a save-as
 shown() {
     for looked_at in document copy; do
-        rm -f looked_into
-        if [ -e $looked_at ]; then cp $looked_at looked_into; fi
         echo "$looked_at"
-        "$geosvm" looked_into <questions 2>/dev/null
+        if [ -e $looked_at ]; then
+            cp $looked_at looked_into
+            "$geosvm" looked_into <questions 2>/dev/null
+        fi
     done
 }
 
@@ -91,56 +92,64 @@ start() {
     [ -z "$before" ] || cp "$before" document
 }
 
-# foresee: what is answered of the script, and shown of the document, behind each number of its lines, and without each of them
-foresee() {
-    rm -rf behind without
-    mkdir behind without
-    line=0
-    while [ "$line" -le "$lines" ]; do
-        start
-        head -n "$line" script | "$geosvm" $options document >behind/"$line".replies
-        shown >behind/"$line"
-        start
-        if [ "$line" -gt 0 ]; then
-            sed "${line}d" script | "$geosvm" $options document | sed "${line}i no 1 Memory" >without/"$line".replies
-            [ "$line" -lt "$lines" ] || echo "no 1 Memory" >>without/"$line".replies
-            shown >without/"$line"
-        fi
-        line=$((line + 1))
-    done
+# foresee_behind LINE: what is answered of so many lines of the script, and shown of the document behind them. It is found once.
+foresee_behind() {
+    [ ! -e behind/"$1" ] || return
+    start
+    head -n "$1" script | "$geosvm" $options document >behind/"$1".replies
+    shown >behind/"$1"
+}
+
+# foresee_without LINE: so of the script without that line, which is refused
+foresee_without() {
+    [ ! -e without/"$1" ] || return
+    start
+    sed "${1}d" script | "$geosvm" $options document | sed "${1}i no 1 Memory" >without/"$1".replies
+    [ "$1" -lt "$lines" ] || echo "no 1 Memory" >>without/"$1".replies
+    shown >without/"$1"
 }
 
 # judge STATUS: what a run with a request refused has written and left is that behind some lines of the script, or without one
 judge() {
     answered=$(wc -l <replies | tr -d ' ')
     shown >left
+    made=
+    [ ! -s document ] || made=yes
     case "$1 $(cat errors)" in
     "0 ")
         cmp -s replies behind/"$lines".replies && cmp -s left behind/"$lines" && return
         line=$(grep -n -x 'no 1 Memory' replies | head -n 1 | cut -d : -f 1)
-        # A save-as that is refused gives its target back with any bytes: it may be the new document already.
-        if [ -n "$line" ] && [ "$(sed -n "${line}p" script)" = saveas ]; then
-            sed -i '/^copy$/,$d' left without/"$line"
+        if [ -n "$line" ]; then
+            foresee_without "$line"
+            # A save-as that is refused gives its target back with any bytes: it may be the new document already.
+            if [ "$(sed -n "${line}p" script)" = saveas ]; then
+                sed -i '/^copy$/,$d' left without/"$line"
+            fi
+            cmp -s replies without/"$line".replies && cmp -s left without/"$line" && return
         fi
-        [ -n "$line" ] && cmp -s replies without/"$line".replies && cmp -s left without/"$line" && return
         ;;
     "1 geosvm: memory")
+        foresee_behind "$answered"
         if cmp -s replies behind/"$answered".replies; then
             cmp -s left behind/"$answered" && return
-            [ "$answered" -lt "$lines" ] && cmp -s left behind/$((answered + 1)) && return
+            if [ "$answered" -lt "$lines" ]; then
+                foresee_behind $((answered + 1))
+                cmp -s left behind/$((answered + 1)) && return
+            fi
             # Before the file was made there is none.
-            [ "$answered" = 0 ] && [ -z "$before" ] && [ ! -s document ] && return
+            [ "$answered" = 0 ] && [ -z "$before" ] && [ -z "$made" ] && return
         fi
         ;;
     # The file of a save-as is opened before a new document is made.
     "1 geosvm: target 2 File")
-        [ ! -s replies ] && [ ! -s document ] && return
+        [ ! -s replies ] && [ -z "$made" ] && return
         ;;
     # A call on the system that has no memory for its path, say, has failed, and is told as one that failed otherwise.
     "1 geosvm: create 1 Memory" | "1 geosvm: create 2 File")
-        [ ! -s replies ] && [ ! -s document ] && return
+        [ ! -s replies ] && [ -z "$made" ] && return
         ;;
     "1 geosvm: open 1 Memory" | "1 geosvm: open 2 File")
+        foresee_behind 0
         [ ! -s replies ] && cmp -s left behind/0 && return
         ;;
     esac
@@ -153,7 +162,9 @@ each_of() {
     before=$3
     grep -v '^[[:space:]]*\(#\|$\)' "$1.script" >script
     lines=$(wc -l <script | tr -d ' ')
-    foresee
+    rm -rf behind without
+    mkdir behind without
+    foresee_behind "$lines"
     wrong=
     cmp -s behind/"$lines".replies "$1.replies" || wrong=" other replies than those beside it"
     number=1
