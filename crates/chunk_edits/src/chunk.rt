@@ -74,8 +74,8 @@ pub fn write(
     Ok(Splice::of(alloc, at, old, bytes)?)
 }
 
-/// The splice that puts bytes in the place of the `n` bytes at `at` of a chunk. Range where these reach past the chunk's
-/// end, Full where the heap has no room for the new ones.
+/// The splice that puts bytes in the place of the `n` bytes at `at` of a chunk. Range where these reach past its end,
+/// Full where the heap has no room for the new ones.
 pub fn splice(
     alloc: Global,
     heap: &Heap,

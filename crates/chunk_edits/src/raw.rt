@@ -58,8 +58,8 @@ pub fn raw_write(alloc: Global, body: &RawBody, at: u32, bytes: &[u8]) -> Result
     Ok(Splice::of(alloc, at, old, bytes)?)
 }
 
-/// The splice that puts bytes in the place of the `n` bytes at `at` of a raw body. Range where these reach past its end,
-/// TooBig where a raw body can't have so many bytes as it gets.
+/// The splice that puts bytes in the place of the `n` bytes at `at` of a raw body. Range where these reach past its
+/// end, TooBig where a raw body can't have so many bytes as it gets.
 pub fn raw_splice(
     alloc: Global,
     body: &RawBody,

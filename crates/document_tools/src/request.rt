@@ -7,8 +7,8 @@ use document_commands::NoRequest;
 use geos_model::Bytes;
 use geos_shell::Sink;
 
-/// Tells why a command line asks for nothing, help and the version on `out` and all else on `errors`, and gives the exit
-/// status.
+/// Tells why a command line asks for nothing, help and the version on `out` and all else on `errors`, and gives the
+/// exit status.
 pub fn tell_no_request<W: Sink, E: Sink>(none: &NoRequest, out: &mut W, errors: &mut E) -> u8
     ensures { PrintsNoRequest W.writes E.writes none.now out.old out.new errors.old errors.new result }
 {

@@ -117,8 +117,8 @@ fn carry_out<V: Viewer, F: Files, M: MakesNew, R: Source, W: Sink + Drop>(
     }
 }
 
-/// Calls the tool that is asked for, tells on `errors` how it ended, where there is anything to tell, and gives the exit
-/// status.
+/// Calls the tool that is asked for, tells on `errors` how it ended, where there is anything to tell, and gives the
+/// exit status.
 pub fn run<V: Viewer, F: Files, M: MakesNew, R: Source, W: Sink + Drop, E: Sink>(
     alloc: Global,
     request: Request<'_>,

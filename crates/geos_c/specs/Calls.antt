@@ -1,5 +1,5 @@
 -- What calls of a session do, over any store, by what they are answered.
-use Rattle.std.specs.Prelude.{◌≡◌, ◌⊎◌, ℕ, ◌==◌, if◌then◌else◌, Bool, false, [], Option, Some, None, Result, OnOk, OnErr, IfErr, MatchResult}
+use Rattle.std.specs.Prelude.{◌≡◌, ◌≢◌, ◌⊎◌, ℕ, List, length, ◌==◌, if◌then◌else◌, Bool, false, [], Option, Some, None, Result, OnOk, OnErr, IfErr, MatchResult}
 use Rattle.std.specs.Result.{result_unwrap_or}
 use Rattle.geos_model.specs.Machine.{Step}
 use Rattle.geos_model.specs.Reply.{Reply, Accepted, NumberIs, reply_by}
@@ -15,9 +15,9 @@ use Rattle.vm_store.specs.Facts.{StoreFacts}
 use Rattle.vm_file.specs.Effects.{Fails, IsWorn}
 use Rattle.vm_blocks.specs.Locking.{GainsLock, LosesLock}
 use Rattle.undo_log.specs.Committing.{IsBusy, IsSessionCommit}
-use Rattle.undo_log.specs.Logging.{forgotten_log, joined_log, next_moved, reverted_log, saved_log, updated_log, with_group_closed}
+use Rattle.undo_log.specs.Logging.{forgotten_log, joined_log, named_log, next_moved, reverted_log, saved_log, updated_log, with_group_closed}
 use Rattle.undo_log.specs.Sessions.{SessionState, IsStep, KeepsSession, cache_of, machine_of}
-use Rattle.undo_log.specs.Turning.{Abandons, IsNotAbandoned, IsRefusedUndoOrRedo, MovesEntry, join_fault}
+use Rattle.undo_log.specs.Turning.{Abandons, IsNotAbandoned, IsRefusedUndoOrRedo, MovesEntry, join_fault, name_fault}
 
 abbrev pub Answer : Type 0
 Answer = Result (Unit {0}) Fault
@@ -42,12 +42,18 @@ Redoes facts old new answer = Steps facts commands.Redo old new answer
     × OnErr answer (KeepsSession facts old new)
     × IfErr answer (IsRefusedUndoOrRedo facts NothingToRedo old.log.redo old new)
 
--- Steps that are joined, forgotten and limited.
+-- Steps that are joined, named, forgotten and limited.
 
 abbrev pub Joins : {S : Type 0} → (S → StoreFacts) → SessionState S → SessionState S → Answer → Type 0
 Joins facts old new answer = Steps facts commands.Join old new answer
     × MatchResult answer (λ _. new ≡ record old { log = joined_log old.log }) (λ _. new ≡ old)
     × IfErr answer (λ fault. (join_fault old ≡ Some fault) ⊎ ((join_fault old ≡ None) × (fault ≡ Memory)))
+
+abbrev pub NamesStep : {S : Type 0} → (S → StoreFacts) → List ℕ → SessionState S → SessionState S → Answer → Type 0
+NamesStep facts name old new answer = Steps facts (commands.Name name) old new answer
+    × MatchResult answer (λ _. new ≡ record old { log = named_log name old.log }) (λ _. new ≡ old)
+    × IfErr answer (λ fault. (name_fault (length name) old ≡ Some fault)
+    ⊎ ((name_fault (length name) old ≡ None) × (name ≢ []) × (fault ≡ Memory)))
 
 -- it is never refused
 abbrev pub Forgets : {S : Type 0} → (S → StoreFacts) → ℕ → SessionState S → SessionState S → Answer → Type 0

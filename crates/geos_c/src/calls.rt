@@ -1,6 +1,6 @@
 //! Calls on a session over any store, answered by codes.
 ghost use Rattle.std.specs.Prelude.{◌≡◌};
-ghost use Rattle.geos_c.specs.Calls.{AbandonsGroup, BeginsGroup, CountsLocks, Dirties, EndsGroup, Forgets, Joins, LimitsUndo, LocksBlock, Redoes, Reverts, Saves, Undoes, UnlocksBlock, Updates};
+ghost use Rattle.geos_c.specs.Calls.{AbandonsGroup, BeginsGroup, CountsLocks, Dirties, EndsGroup, Forgets, Joins, LimitsUndo, LocksBlock, NamesStep, Redoes, Reverts, Saves, Undoes, UnlocksBlock, Updates};
 ghost use Rattle.c_sessions.specs.Codes.{ReportsAnswer};
 ghost use Rattle.geos_c.specs.Edits.{Makes, number_of as number_done};
 
@@ -35,6 +35,14 @@ pub(crate) fn forget<S: Store>(session: &mut Session<S>, most: u32) -> i32
 {
     session.forget(most);
     code_of(Ok(()))
+}
+
+/// Names the newest step.
+pub(crate) fn name_step<S: Store>(session: &mut Session<S>, name: &[u8]) -> i32
+    ensures { ReportsAnswer (NamesStep S.facts name.now session.old session.new) result }
+{
+    let answer = session.name_step(name);
+    code_of(answer)
 }
 
 /// Limits the steps that are kept to be undone, or takes the limit away by 0.

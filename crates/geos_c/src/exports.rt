@@ -1,7 +1,7 @@
 //! What C calls. Each call answers 0, the number of a fault of the document, 1 to 29, or a code of its own from 100 on.
 ghost use Rattle.std.specs.Prelude.{◌≡◌, false, pos, true, MatchResult};
 ghost use Rattle.geos_model.specs.Refusal.{number_of_fault};
-ghost use Rattle.geos_c.specs.Calls.{AbandonsGroup, BeginsGroup, CountsLocks, Dirties, EndsGroup, Forgets, Joins, LimitsUndo, LocksBlock, Redoes, Reverts, Saves, Undoes, UnlocksBlock, Updates};
+ghost use Rattle.geos_c.specs.Calls.{AbandonsGroup, BeginsGroup, CountsLocks, Dirties, EndsGroup, Forgets, Joins, LimitsUndo, LocksBlock, NamesStep, Redoes, Reverts, Saves, Undoes, UnlocksBlock, Updates};
 ghost use Rattle.c_sessions.specs.Codes.{IsNamed};
 ghost use Rattle.geos_c.specs.Handles.{Begins, ClosesHandle, HandsOutOnHandle, OnHandle, SavesOnHandle};
 ghost use Rattle.c_sessions.specs.Keeping.{IsCreation, IsOpening};
@@ -9,8 +9,8 @@ ghost use Rattle.geos_c.specs.Lines.{AnswersLine};
 ghost use Rattle.geos_c.specs.Stores.{facts};
 
 use crate::calls::{
-    abandon, begin as begin_group, dirty, end, forget, join, limit_undo, lock, locks, redo, revert,
-    save, undo, unlock, update,
+    abandon, begin as begin_group, dirty, end, forget, join, limit_undo, lock, locks, name_step,
+    redo, revert, save, undo, unlock, update,
 };
 use crate::channel::{Channel, ChannelFile};
 use crate::handle::{Handle, put, take};
@@ -155,6 +155,14 @@ pub extern "C" fn geosvm_join(handle: &mut Handle, alloc: Global) -> i32
     ensures { OnHandle (Joins facts) handle.old handle.new result }
 {
     answer!(handle, alloc, |session| join(session))
+}
+
+/// Names the newest step to be undone; with no bytes it has no name.
+#[unsafe(no_mangle)]
+pub extern "C" fn geosvm_name(handle: &mut Handle, alloc: Global, name: &[u8]) -> i32
+    ensures { OnHandle (NamesStep facts name.now) handle.old handle.new result }
+{
+    answer!(handle, alloc, |session| name_step(session, name))
 }
 
 /// Keeps the newest `most` steps to be undone.

@@ -32,6 +32,10 @@ abbrev pub step_code : Coded UndoStep
 step_code =
     code_by (Kind × (ℕ × (Document × List Place))) (coded× kind_type.the_row.coded (coded× coded_ℕ (coded× document_code places_code))) (λ s. (s.kind, (s.cost, (s.document, s.places)))) (λ p. record { kind = p.0; cost = p.1.0; document = p.1.1.0; places = p.1.1.1 }) (λ _. refl)
 
+-- steps with their names
+abbrev steps_code : Coded (List UndoStep × List (List ℕ))
+steps_code = coded× (coded_list step_code) (coded_list (coded_list coded_ℕ))
+
 abbrev pub group_code : Coded OpenGroup
 group_code =
     code_by (Document × (ℕ × (ℕ × List Place))) (coded× document_code (coded× coded_ℕ (coded× coded_ℕ places_code))) (λ g. (g.before, (g.edits, (g.cost, g.places)))) (λ p. record { before = p.0; edits = p.1.0; cost = p.1.1.0; places = p.1.1.1 }) (λ _. refl)
@@ -58,13 +62,13 @@ position_code = code_by (Option (Bool × ℕ)) (coded_option (coded× coded_bool
 -- a machine's part that is edited, and the part that its file and its session have
 abbrev MachineFields : Type 0
 MachineFields =
-    ((Document × (List UndoStep × (List UndoStep × Option OpenGroup))) × (Position × (Position × (List Place × Option ℕ))))
+    ((Document × ((List UndoStep × List (List ℕ)) × ((List UndoStep × List (List ℕ)) × Option OpenGroup))) × (Position × (Position × (List Place × Option ℕ))))
     × ((Document × Document) × (FinMap nat_cmp ℕ × (ℕ × (Bool × ℕ))))
 
 abbrev machine_fields_code : Coded MachineFields
 machine_fields_code =
     coded× (
-    coded× (coded× document_code (coded× (coded_list step_code) (coded× (coded_list step_code) (coded_option group_code))))
+    coded× (coded× document_code (coded× steps_code (coded× steps_code (coded_option group_code))))
     (coded× position_code (coded× position_code (coded× places_code (coded_option coded_ℕ))))
     )
     (coded× (coded× document_code document_code) (coded× (code coded_ℕ coded_ℕ) (coded× coded_ℕ (coded× coded_bool coded_ℕ))))
@@ -72,11 +76,13 @@ machine_fields_code =
 abbrev pub machine_code : Coded Machine
 machine_code =
     code_by MachineFields machine_fields_code
-    (λ m. (((m.document, (m.past, (m.future, m.group))), (m.updated_at, (m.saved_at, (m.touched, m.undo_limit)))), ((m.updated, m.saved), (m.locks, (m.frames, (m.target, m.sequence))))))
+    (λ m. (((m.document, ((m.past, m.past_names), ((m.future, m.future_names), m.group))), (m.updated_at, (m.saved_at, (m.touched, m.undo_limit)))), ((m.updated, m.saved), (m.locks, (m.frames, (m.target, m.sequence))))))
     (λ p. record {
       document = p.0.0.0;
-      past = p.0.0.1.0;
-      future = p.0.0.1.1.0;
+      past = p.0.0.1.0.0;
+      future = p.0.0.1.1.0.0;
+      past_names = p.0.0.1.0.1;
+      future_names = p.0.0.1.1.0.1;
       group = p.0.0.1.1.1;
       updated_at = p.0.1.0;
       saved_at = p.0.1.1.0;

@@ -9,6 +9,7 @@ use Rattle.geos_model.specs.Meaning.{effect}
 use Rattle.geos_model.specs.Cost.{cost}
 use Rattle.geos_model.specs.Reply.{Reply, Accepted}
 use Rattle.geos_model.specs.Machine.{Machine, Request, UndoStep, OpenGroup, Call, Step, Run, command_conditions, done_by, recorded, redone, ended, after_join, joined_steps, after_forget, limited, kind_of}
+use Rattle.geos_model.specs.Standing.{outside_group}
 use Rattle.geos_model.specs.Undoing.{Tally, SamePast, is_refused, accepted, after_request}
 use Rattle.geos_model.specs.Depth.{SameNewest, DepthLaw, depth_within, one_deeper, one_higher, depth_joined, depth_edited, depth_ended, depth_after, depth_on, depth, is_forget}
 use Rattle.geos_model.specs.declared.fault.Fault.TheVariants.{GroupOpen, NothingToUndo}
@@ -19,7 +20,7 @@ use Rattle.geos_model.specs.Places.{places_of}
 use Rattle.geos_model.specs.declared.place.Place.{Place}
 use Rattle.geos_model.proofs.Refusals.{none_applies, or_none}
 use Rattle.geos_model.proofs.Undoing.{OnDone, on_done, refused, bad_line-refused, answered, none_refuses, not_in_group}
-use Rattle.geos_model.proofs.UndoLaw.{Past, before_group, outside, back, edits_of, Counted, counted-first, counted-same, counted-in, counted-empty, even-on, IsBack, undo-back}
+use Rattle.geos_model.proofs.UndoLaw.{Past, outside, back, edits_of, Counted, counted-first, counted-same, counted-in, counted-empty, even-on, IsBack, undo-back}
 
 -- What is left of a past: the document, and the newest steps; all of them without a limit where nothing is forgotten.
 record Keeps (limit : Option ℕ) (forgets : Bool) (start now : Past) : Type 0 where
@@ -202,16 +203,16 @@ join-deep limit forgets start t m (suc (suc n)) [] steps is none two counted = a
 join-deep limit forgets start t m (suc (suc n)) (s ∷ []) steps is none two counted = absurd (cc two)
 join-deep limit forgets start t m (suc (suc n)) (s ∷ r ∷ past) steps is none two counted =
     let fewer : t.steps - 1 ≡ suc n = rw steps (omega arith) in
-    let goes : iterate back (suc (suc n)) (before_group m.group m.document, m.past) ≡ start = ap (λ (k : ℕ). iterate back k (outside m)) (sym steps) ∙ counted.goes in
-    let two_back : iterate back n (r.document, past) ≡ start = subst (λ (l : List UndoStep). iterate back (suc (suc n)) (before_group m.group m.document, l) ≡ start) is goes in
-    let joined_goes : iterate back (suc n) (before_group m.group m.document, joined_steps m.past) ≡ start =
-    subst (λ (l : List UndoStep). iterate back (suc n) (before_group m.group m.document, joined_steps l) ≡ start) (sym is) two_back in
+    let goes : iterate back (suc (suc n)) (outside_group m.group m.document, m.past) ≡ start = ap (λ (k : ℕ). iterate back k (outside m)) (sym steps) ∙ counted.goes in
+    let two_back : iterate back n (r.document, past) ≡ start = subst (λ (l : List UndoStep). iterate back (suc (suc n)) (outside_group m.group m.document, l) ≡ start) is goes in
+    let joined_goes : iterate back (suc n) (outside_group m.group m.document, joined_steps m.past) ≡ start =
+    subst (λ (l : List UndoStep). iterate back (suc n) (outside_group m.group m.document, joined_steps l) ≡ start) (sym is) two_back in
     let some : nat_le 2 t.steps ≡ true = le-leb 2 t.steps (omega (arith, steps)) in
     rw some (deep-counted limit forgets start (record t { steps = t.steps - 1 }) (after_join m) (record {
       group = counted.group;
       whole = counted.whole;
       bound = counted.bound;
-      goes = ap (λ (k : ℕ). iterate back k (before_group m.group m.document, joined_steps m.past)) fewer ∙ joined_goes;
+      goes = ap (λ (k : ℕ). iterate back k (outside_group m.group m.document, joined_steps m.past)) fewer ∙ joined_goes;
     }))
 
 -- forgetting
@@ -329,7 +330,7 @@ depth-same old new calls free after is run =
     let deep = depth-deep old new calls free is run in
     let stands = stands-outside new deep.2.now deep.0.steps after deep.1 deep.2.counted.goes in
     record {
-      document = ap (λ s. s.0) stands ∙ deep.2.keeps.document ∙ ap (λ group. before_group group old.document) free;
+      document = ap (λ s. s.0) stands ∙ deep.2.keeps.document ∙ ap (λ group. outside_group group old.document) free;
       kept = deep.2.keeps.kept;
       past = ap (λ s. s.1) stands ∙ deep.2.keeps.past;
     }
@@ -341,7 +342,7 @@ depth-whole old new calls free after unlimited none is run =
     let stands = stands-outside new deep.2.now deep.0.steps after deep.1 deep.2.counted.goes in
     let whole = deep.2.keeps.whole unlimited (none-forgets calls none) in
     record {
-      document = ap (λ s. s.0) stands ∙ ap (λ s. s.0) whole ∙ ap (λ group. before_group group old.document) free;
+      document = ap (λ s. s.0) stands ∙ ap (λ s. s.0) whole ∙ ap (λ group. outside_group group old.document) free;
       past = ap (λ s. s.1) stands ∙ ap (λ s. s.1) whole;
     }
 

@@ -50,3 +50,4 @@ pub mod Locks
 pub mod ValidSteps
 mod Standing
 mod Touching
+mod Naming

@@ -66,6 +66,7 @@ done_by-leaves commands.Abandon m h bare = abandoned-leaves m m.group bare
 done_by-leaves commands.Update m h bare = record { same = refl; bare = bare }
 done_by-leaves commands.Save m h bare = record { same = refl; bare = bare }
 done_by-leaves commands.SaveAs m h bare = record { same = refl; bare = bare }
+done_by-leaves (commands.Name name) m h bare = record { same = refl; bare = bare }
 done_by-leaves (commands.Lock b) m h bare = record { same = refl; bare = bare }
 done_by-leaves (commands.Unlock b) m h bare = record { same = refl; bare = bare }
 done_by-leaves c m h bare = at-leaves m (done_by c m) bare (done_by-stays c m refl)

@@ -55,6 +55,7 @@ done_by-has_saved commands.Update m h = refl
 done_by-has_saved commands.Save m h = absurd (cc h)
 done_by-has_saved commands.Revert m h = refl
 done_by-has_saved commands.SaveAs m h = absurd (cc h)
+done_by-has_saved (commands.Name name) m h = refl
 done_by-has_saved (commands.Lock b) m h = refl
 done_by-has_saved (commands.Unlock b) m h = refl
 done_by-has_saved c m h = at-has_saved m (done_by c m) (done_by-stays c m refl)

@@ -8,7 +8,7 @@ use Rattle.geos_model.specs.Meaning.{effect}
 use Rattle.geos_model.specs.Cost.{cost}
 use Rattle.geos_model.specs.Position.{Position, Back, Ahead, Nowhere, is_here, position_after_step, position_stepped, position_within, position_in_group, position_after_undo, position_after_redo, position_after_join}
 use Rattle.geos_model.specs.Reply.{Reply, Accepted, NumberIs}
-use Rattle.geos_model.specs.Machine.{Machine, Request, UndoStep, OpenGroup, Call, Step, Run, IsValidMachine, IsValidGroup, is_empty_group, has_edits, is_committed, command_conditions, done_by, recorded, undone, redone, begun, ended, abandoned, kind_of, limited, after_join, joined_steps, after_forget, after_lock, after_unlock, after_update, after_save, after_save_as, after_revert, opened_machine, stands_as, may_give_up}
+use Rattle.geos_model.specs.Machine.{Machine, Request, UndoStep, OpenGroup, Call, Step, Run, IsValidMachine, IsValidGroup, is_empty_group, has_edits, is_committed, command_conditions, done_by, recorded, undone, redone, begun, ended, abandoned, kind_of, limited, after_join, joined_steps, after_forget, after_lock, after_name, after_unlock, after_update, after_save, after_save_as, after_revert, opened_machine, stands_as, may_give_up}
 use Rattle.geos_model.specs.Undoing.{is_refused, is_revert}
 use Rattle.geos_model.specs.Saving.{is_save}
 use Rattle.geos_model.specs.Validity.{word_asked}
@@ -243,6 +243,7 @@ done_by-right commands.SaveAs m valid none right =
     let here = here-stands (after_save_as m) (not_in_group m (or_none (free commands.SaveAs m none)).0) in record { updated = here; saved = here }
 done_by-right commands.Revert m valid none right =
     let here = here-stands (after_revert m) (not_in_group m (or_none (free commands.Revert m none)).0) in record { updated = here; saved = here }
+done_by-right (commands.Name name) m valid none right = same-right m (after_name name m) refl refl refl refl refl refl refl right
 done_by-right (commands.Lock b) m valid none right = same-right m (after_lock m b.0) refl refl refl refl refl refl refl right
 done_by-right (commands.Unlock b) m valid none right = same-right m (after_unlock m b.0) refl refl refl refl refl refl refl right
 done_by-right c m valid none right = stays-right m (done_by c m) right (done_by-stays c m refl)
@@ -387,6 +388,7 @@ done_by-leaves commands.SaveAs m h = absurd (cc h)
 done_by-leaves commands.Revert m h = absurd (cc h)
 done_by-leaves commands.Begin m h = record { updated = refl; saved = refl }
 done_by-leaves commands.Abandon m h = abandon-leaves m m.group
+done_by-leaves (commands.Name name) m h = record { updated = refl; saved = refl }
 done_by-leaves (commands.Lock b) m h = record { updated = refl; saved = refl }
 done_by-leaves (commands.Unlock b) m h = record { updated = refl; saved = refl }
 done_by-leaves c m h = stays-leaves m (done_by c m) (done_by-stays c m refl)

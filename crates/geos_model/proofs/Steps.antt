@@ -128,6 +128,7 @@ done_by-leaves commands.Update m = refl
 done_by-leaves commands.Save m = refl
 done_by-leaves commands.Revert m = refl
 done_by-leaves commands.SaveAs m = refl
+done_by-leaves (commands.Name name) m = refl
 done_by-leaves (commands.Lock b) m = refl
 done_by-leaves (commands.Unlock b) m = refl
 done_by-leaves c m = stays-leaves m (done_by c m) (done_by-stays c m refl)

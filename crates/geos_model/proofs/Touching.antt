@@ -9,6 +9,7 @@ use Rattle.geos_model.specs.Meaning.{conditions, effect}
 use Rattle.geos_model.specs.Cost.{cost}
 use Rattle.geos_model.specs.Reply.{Reply, Accepted, Refused, PlacesAre}
 use Rattle.geos_model.specs.Machine.{Machine, Request, Call, UndoStep, OpenGroup, Step, GivesUp, may_give_up, calls_store, in_group, is_barred, has_no_room, edit_needs, command_conditions, done_by, recorded, undone, redone, ended, abandoned, kind_of, limited, joined_steps, opened_machine, with_undo_limit, undo_places, redo_places, abandon_places}
+use Rattle.geos_model.specs.Standing.{outside_group}
 use Rattle.geos_model.specs.Undoing.{is_refused}
 use Rattle.geos_model.specs.Places.{ChangesAt, places_of, taken_back}
 use Rattle.geos_model.specs.Touching.{tells, foretold, is_ahead, IsTold, Calls, TouchedLaw}
@@ -25,11 +26,6 @@ use Rattle.geos_model.proofs.Undoing.{OnDone, IsAt, on_done, done_by-stays, answ
 use Rattle.geos_model.proofs.Reaching.{Reaches, reached, reaches-append, reaches-back}
 use Rattle.geos_model.proofs.EditsReach.{edit-reaches}
 use Rattle.geos_model.proofs.Copies.{stands-filled}
-
--- the document before the group that is open, else this one
-abbrev before_group : Option OpenGroup → Document → Document
-before_group None d = d
-before_group (Some g) d = g.before
 
 -- Places lead from each document of the past to the one after it, and from each of the future to the next.
 
@@ -51,7 +47,7 @@ Left None ss = Unit {0}
 Left (Some g) ss = g.edits ≢ 0 → ss ≡ []
 
 record AreTold (m : Machine) : Type 0 where
-  past : Behind (before_group m.group m.document) m.past
+  past : Behind (outside_group m.group m.document) m.past
   future : Ahead m.document m.future
   group : InGroup m.group m.document
   left : Left m.group m.future
@@ -86,9 +82,9 @@ edit-goes m e None kind n is none told =
     let ps : List Place = places_of e m.document in
     let after : Document = (effect e m.document).0 in
     let step : UndoStep = record { kind = kind; cost = n; document = m.document; places = ps } in
-    let line : Behind m.document m.past = subst (λ (g : Option OpenGroup). Behind (before_group g m.document) m.past) (sym is) told.past in (
+    let line : Behind m.document m.past = subst (λ (g : Option OpenGroup). Behind (outside_group g m.document) m.past) (sym is) told.past in (
       record {
-        past = subst (λ (g : Option OpenGroup). Behind (before_group g after) (limited m.undo_limit (step ∷ m.past))) is
+        past = subst (λ (g : Option OpenGroup). Behind (outside_group g after) (limited m.undo_limit (step ∷ m.past))) is
             (behind-limited m.undo_limit after (step ∷ m.past) (edit-reaches e m.document none, line));
         future = tt;
         group = subst (λ (g : Option OpenGroup). InGroup g after) is tt;
@@ -101,7 +97,7 @@ edit-goes m e (Some g) kind n is none told =
     let after : Document = (effect e m.document).0 in
     let held : InGroup (Some g) m.document = subst (λ (x : Option OpenGroup). InGroup x m.document) (sym is) told.group in (
       record {
-        past = subst (λ (x : Option OpenGroup). Behind (before_group x m.document) m.past) (sym is) told.past;
+        past = subst (λ (x : Option OpenGroup). Behind (outside_group x m.document) m.past) (sym is) told.past;
         future = tt;
         group = (reaches-append g.places ps g.before m.document after held.0 (edit-reaches e m.document none), λ none. absurd (omega (arith, none)));
         left = λ some. refl;
@@ -117,10 +113,10 @@ undo-goes m [] is none told = tt
 undo-goes m (s ∷ past) is none told =
     let line : Behind m.document (s ∷ past) =
     subst (λ (ss : List UndoStep). Behind m.document ss) (sym is)
-    (subst (λ (g : Option OpenGroup). Behind (before_group g m.document) m.past) none told.past) in
+    (subst (λ (g : Option OpenGroup). Behind (outside_group g m.document) m.past) none told.past) in
     record {
       keeps = record {
-        past = subst (λ (g : Option OpenGroup). Behind (before_group g s.document) past) (sym none) line.1;
+        past = subst (λ (g : Option OpenGroup). Behind (outside_group g s.document) past) (sym none) line.1;
         future = (line.0, told.future);
         group = subst (λ (g : Option OpenGroup). InGroup g s.document) (sym none) tt;
         left = subst (λ (g : Option OpenGroup). Left g (record s { document = m.document } ∷ m.future)) (sym none) tt;
@@ -135,8 +131,8 @@ redo-goes m (s ∷ future) is none told =
     let line : Ahead m.document (s ∷ future) = subst (λ (ss : List UndoStep). Ahead m.document ss) (sym is) told.future in
     record {
       keeps = record {
-        past = subst (λ (g : Option OpenGroup). Behind (before_group g s.document) (record s { document = m.document } ∷ m.past)) (sym none)
-            (line.0, subst (λ (g : Option OpenGroup). Behind (before_group g m.document) m.past) none told.past);
+        past = subst (λ (g : Option OpenGroup). Behind (outside_group g s.document) (record s { document = m.document } ∷ m.past)) (sym none)
+            (line.0, subst (λ (g : Option OpenGroup). Behind (outside_group g m.document) m.past) none told.past);
         future = line.1;
         group = subst (λ (g : Option OpenGroup). InGroup g s.document) (sym none) tt;
         left = subst (λ (g : Option OpenGroup). Left g future) (sym none) tt;
@@ -151,7 +147,7 @@ end-goes : (m : Machine) (group : Option OpenGroup) → group ≡ m.group → Ar
 end-goes m None is told = tt
 end-goes m (Some g) is told =
     let held : InGroup (Some g) m.document = subst (λ (x : Option OpenGroup). InGroup x m.document) (sym is) told.group in
-    let line : Behind g.before m.past = subst (λ (x : Option OpenGroup). Behind (before_group x m.document) m.past) (sym is) told.past in
+    let line : Behind g.before m.past = subst (λ (x : Option OpenGroup). Behind (outside_group x m.document) m.past) (sym is) told.past in
     let step : UndoStep = record { kind = Group; cost = g.cost; document = g.before; places = g.places } in
     record {
       keeps = record {
@@ -173,7 +169,7 @@ abandon-goes m (Some g) is told =
     let held : InGroup (Some g) m.document = subst (λ (x : Option OpenGroup). InGroup x m.document) (sym is) told.group in
     record {
       keeps = record {
-        past = subst (λ (x : Option OpenGroup). Behind (before_group x m.document) m.past) (sym is) told.past;
+        past = subst (λ (x : Option OpenGroup). Behind (outside_group x m.document) m.past) (sym is) told.past;
         future = elim (cases_Bool (g.edits == 0)) [
           | inl none ↦ subst (λ (d : Document). Ahead d m.future) (held.1 (eqb-true g.edits 0 none)) told.future
           | inr some ↦
@@ -212,7 +208,7 @@ done-goes commands.Begin m none told =
     let shut : m.group ≡ None = not_in_group m (or_none (none_applies (command_conditions commands.Begin m) none GroupOpen refl)).0 in
     record {
       keeps = record {
-        past = subst (λ (g : Option OpenGroup). Behind (before_group g m.document) m.past) shut told.past;
+        past = subst (λ (g : Option OpenGroup). Behind (outside_group g m.document) m.past) shut told.past;
         future = told.future;
         group = (refl, λ e. refl);
         left = λ some. absurd (some refl);
@@ -222,11 +218,11 @@ done-goes commands.Begin m none told =
 done-goes commands.End m none told = end-goes m m.group refl told
 done-goes commands.Abandon m none told = abandon-goes m m.group refl told
 done-goes commands.Join m none told = record {
-  keeps = record { past = behind-joined (before_group m.group m.document) m.past told.past; future = told.future; group = told.group; left = told.left };
+  keeps = record { past = behind-joined (outside_group m.group m.document) m.past told.past; future = told.future; group = told.group; left = told.left };
   told = (refl, refl);
 }
 done-goes (commands.Forget most) m none told = record {
-  keeps = record { past = behind-taken most (before_group m.group m.document) m.past told.past; future = told.future; group = told.group; left = told.left };
+  keeps = record { past = behind-taken most (outside_group m.group m.document) m.past told.past; future = told.future; group = told.group; left = told.left };
   told = (refl, refl);
 }
 done-goes commands.Revert m none told =
@@ -243,6 +239,7 @@ done-goes commands.Revert m none told =
 done-goes commands.Update m none told = record { keeps = record { past = told.past; future = told.future; group = told.group; left = told.left }; told = (refl, refl) }
 done-goes commands.Save m none told = record { keeps = record { past = told.past; future = told.future; group = told.group; left = told.left }; told = (refl, refl) }
 done-goes commands.SaveAs m none told = record { keeps = record { past = told.past; future = told.future; group = told.group; left = told.left }; told = (refl, refl) }
+done-goes (commands.Name name) m none told = record { keeps = record { past = told.past; future = told.future; group = told.group; left = told.left }; told = (refl, refl) }
 done-goes (commands.Lock b) m none told = record { keeps = record { past = told.past; future = told.future; group = told.group; left = told.left }; told = (refl, refl) }
 done-goes (commands.Unlock b) m none told = record { keeps = record { past = told.past; future = told.future; group = told.group; left = told.left }; told = (refl, refl) }
 done-goes c m none told = same-goes c m (done_by c m) refl told (done_by-stays c m refl)

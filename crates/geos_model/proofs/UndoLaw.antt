@@ -9,6 +9,7 @@ use Rattle.geos_model.specs.Meaning.{effect}
 use Rattle.geos_model.specs.Cost.{cost}
 use Rattle.geos_model.specs.Reply.{Reply, Accepted}
 use Rattle.geos_model.specs.Machine.{Machine, Request, UndoStep, OpenGroup, Call, Step, Run, command_conditions, done_by, recorded, undone, begun, ended, abandoned, kind_of}
+use Rattle.geos_model.specs.Standing.{outside_group}
 use Rattle.geos_model.specs.Undoing.{Tally, UndoLaw, is_refused, is_undo, turns, replaces_steps, accepted, with_edit, with_end, after_request, after_calls, tally}
 use Rattle.geos_model.specs.declared.fault.Fault.TheVariants.{GroupOpen}
 use Rattle.geos_model.specs.declared.command.Kind.{Kind}
@@ -23,14 +24,9 @@ use Rattle.geos_model.proofs.Undoing.{OnDone, IsAt, on_done, done_by-stays, refu
 abbrev pub Past : Type 0
 Past = Document × List UndoStep
 
--- the document before the group that is open, else this one
-abbrev pub before_group : Option OpenGroup → Document → Document
-before_group None d = d
-before_group (Some g) d = g.before
-
 -- what the machine stands on outside of its group
 abbrev pub outside : Machine → Past
-outside m = (before_group m.group m.document, m.past)
+outside m = (outside_group m.group m.document, m.past)
 
 -- an undo goes to the newest document of the past
 abbrev pub back : Past → Past
@@ -147,6 +143,7 @@ done_by-even limit start t commands.Abandon m h none counted = counted-abandon l
 done_by-even limit start t commands.Update m h none counted = record { group = counted.group; whole = counted.whole; bound = counted.bound; goes = counted.goes }
 done_by-even limit start t commands.Save m h none counted = record { group = counted.group; whole = counted.whole; bound = counted.bound; goes = counted.goes }
 done_by-even limit start t commands.SaveAs m h none counted = record { group = counted.group; whole = counted.whole; bound = counted.bound; goes = counted.goes }
+done_by-even limit start t (commands.Name name) m h none counted = record { group = counted.group; whole = counted.whole; bound = counted.bound; goes = counted.goes }
 done_by-even limit start t (commands.Lock b) m h none counted = record { group = counted.group; whole = counted.whole; bound = counted.bound; goes = counted.goes }
 done_by-even limit start t (commands.Unlock b) m h none counted = record { group = counted.group; whole = counted.whole; bound = counted.bound; goes = counted.goes }
 done_by-even limit start t c m h none counted = counted-at limit start t m (done_by c m) counted (done_by-stays c m refl)

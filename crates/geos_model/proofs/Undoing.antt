@@ -70,6 +70,7 @@ done_by-answers commands.End m = closed-answers (λ g. ended g m) m.group
 done_by-answers commands.Abandon m = closed-answers (λ g. abandoned g m) m.group
 done_by-answers commands.Join m = refl
 done_by-answers (commands.Forget most) m = refl
+done_by-answers (commands.Name name) m = refl
 done_by-answers commands.Update m = refl
 done_by-answers commands.Save m = refl
 done_by-answers commands.Revert m = refl
@@ -102,6 +103,8 @@ done_by-answers (commands.Locks b) m = refl
 done_by-answers commands.Undos m = refl
 done_by-answers commands.Redos m = refl
 done_by-answers commands.Modified m = refl
+done_by-answers commands.UndoName m = refl
+done_by-answers commands.RedoName m = refl
 done_by-answers commands.Touched m = refl
 done_by-answers commands.UndoPlaces m = refl
 done_by-answers commands.RedoPlaces m = refl
@@ -135,13 +138,20 @@ groups commands.End = true
 groups commands.Abandon = true
 groups c = false
 
--- a command that moves nothing, stores nothing, counts no lock and begins or ends no group leaves the machine
-pub done_by-stays : (c : Command) (m : Machine) → (moves (Some c) || stores c || counts_locks c || groups c) ≡ false → OnDone (IsAt m) (done_by c m)
+-- one that names a step
+abbrev pub names : Command → Bool
+names (commands.Name name) = true
+names c = false
+
+-- a command that moves nothing, stores nothing, counts no lock, begins or ends no group and names no step leaves the
+-- machine
+pub done_by-stays : (c : Command) (m : Machine) → (moves (Some c) || stores c || counts_locks c || groups c || names c) ≡ false → OnDone (IsAt m) (done_by c m)
 done_by-stays (commands.Edit e) m h = absurd (cc h)
 done_by-stays commands.Undo m h = absurd (cc h)
 done_by-stays commands.Redo m h = absurd (cc h)
 done_by-stays commands.Join m h = absurd (cc h)
 done_by-stays (commands.Forget most) m h = absurd (cc h)
+done_by-stays (commands.Name name) m h = absurd (cc h)
 done_by-stays commands.Update m h = absurd (cc h)
 done_by-stays commands.Save m h = absurd (cc h)
 done_by-stays commands.Revert m h = absurd (cc h)
@@ -179,6 +189,8 @@ done_by-stays (commands.ChainEqual b other) m h = refl
 done_by-stays commands.Undos m h = refl
 done_by-stays commands.Redos m h = refl
 done_by-stays commands.Modified m h = refl
+done_by-stays commands.UndoName m h = refl
+done_by-stays commands.RedoName m h = refl
 done_by-stays commands.Touched m h = refl
 done_by-stays commands.UndoPlaces m h = refl
 done_by-stays commands.RedoPlaces m h = refl

@@ -17,7 +17,7 @@ use Rattle.geos_model.specs.Cost.{cost}
 use Rattle.geos_model.specs.Document.{Block, Document, empty_document, is_valid_body, is_live, is_heap, is_heap_body, is_raw, raw_bytes_of, block_at, IsValid, attributes_of, no_block, FitAttributes, IsTyped}
 use Rattle.geos_model.specs.Meaning.{chunk_at, past_end, conditions, effect}
 use Rattle.geos_model.specs.Reply.{Reply, Accepted, Refused}
-use Rattle.geos_model.specs.Machine.{UndoStep, OpenGroup, Machine, Request, Call, IsValidGroup, IsValidMachine, AreValidLocks, Step, Run, opened_machine, has_locks, is_barred, command_conditions, done_by, recorded, edited, undone, redone, begun, ended, abandoned, after_lock, after_unlock, after_update, after_save, after_revert, after_save_as, kind_of, limited, joined_steps, after_join, after_forget}
+use Rattle.geos_model.specs.Machine.{UndoStep, OpenGroup, Machine, Request, Call, IsValidGroup, IsValidMachine, AreValidLocks, Step, Run, opened_machine, has_locks, is_barred, command_conditions, done_by, recorded, edited, undone, redone, begun, ended, abandoned, after_lock, after_name, after_unlock, after_update, after_save, after_revert, after_save_as, kind_of, limited, joined_steps, after_join, after_forget}
 use Rattle.geos_model.specs.Validity.{word_given, word_asked, ValidityLaw}
 use Rattle.geos_model.specs.declared.fault.Fault.{Fault}
 use Rattle.geos_model.specs.declared.fault.Fault.TheVariants.{Locked, GroupOpen, NoBlock, TooBig, NoHandles, Range, IsMap, WrongKind}
@@ -364,6 +364,15 @@ done_by-valid commands.SaveAs m low valid none = record {
   updated = valid.document;
   saved = valid.document;
   locks = kept_locks-valid m (after_save_as m) valid.locks refl refl (λ b locked live. live);
+}
+done_by-valid (commands.Name name) m low valid none = record {
+  document = valid.document;
+  past = valid.past;
+  future = valid.future;
+  group = kept_group-valid m (after_name name m) m.group refl refl valid.group;
+  updated = valid.updated;
+  saved = valid.saved;
+  locks = kept_locks-valid m (after_name name m) valid.locks refl refl (λ b locked live. live);
 }
 done_by-valid (commands.Lock b) m low valid none = record {
   document = valid.document;

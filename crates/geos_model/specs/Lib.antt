@@ -34,4 +34,5 @@ pub mod Failing
 pub mod Validity
 pub mod Standing
 pub mod Touching
+pub mod Naming
 pub mod Script

@@ -25,6 +25,8 @@ use Rattle.geos_model.specs.declared.look_up.PlacesLookUp.{PlacesLookUp}
 use Rattle.geos_model.specs.declared.look_up.PlacesLookUp.TheVariants as places_look_ups
 use Rattle.geos_model.specs.declared.look_up.PlainLookUp.{PlainLookUp}
 use Rattle.geos_model.specs.declared.look_up.PlainLookUp.TheVariants as plain_look_ups
+use Rattle.geos_model.specs.declared.look_up.StepNameLookUp.{StepNameLookUp}
+use Rattle.geos_model.specs.declared.look_up.StepNameLookUp.TheVariants as step_name_look_ups
 
 -- a command that asks of a chunk
 abbrev pub asks_chunk : Command → Bool
@@ -58,6 +60,8 @@ is_look_up (commands.ChainEqual b other) = true
 is_look_up commands.Undos = true
 is_look_up commands.Redos = true
 is_look_up commands.Modified = true
+is_look_up commands.UndoName = true
+is_look_up commands.RedoName = true
 is_look_up commands.Touched = true
 is_look_up commands.UndoPlaces = true
 is_look_up commands.RedoPlaces = true
@@ -72,6 +76,10 @@ plain_look_up (plain_look_ups.Locks b) = commands.Locks b
 plain_look_up plain_look_ups.Undos = commands.Undos
 plain_look_up plain_look_ups.Redos = commands.Redos
 plain_look_up plain_look_ups.Modified = commands.Modified
+
+abbrev pub step_name_look_up : StepNameLookUp → Command
+step_name_look_up step_name_look_ups.Undo = commands.UndoName
+step_name_look_up step_name_look_ups.Redo = commands.RedoName
 
 abbrev pub places_look_up : PlacesLookUp → Command
 places_look_up places_look_ups.Touched = commands.Touched
@@ -119,6 +127,7 @@ chain_look_up (chain_look_ups.Equal b other) = commands.ChainEqual b other
 abbrev pub command_of : LookUp → Command
 command_of look_ups.List = commands.List
 command_of (look_ups.Plain asked) = plain_look_up asked
+command_of (look_ups.StepName asked) = step_name_look_up asked
 command_of (look_ups.Places asked) = places_look_up asked
 command_of (look_ups.InBlock b asked) = block_look_up b asked
 command_of (look_ups.AlongChain asked) = chain_look_up asked

@@ -1,5 +1,5 @@
 -- The machine: a document with its past and its future, the group of edits that is open, and what the file has of it.
-use Rattle.std.specs.Prelude.{◌≡◌, ◌≢◌, ◌⊎◌, ◌≤◌, ℕ, ◌+◌, ◌-◌, List, [], ◌∷◌, ◌++◌, Bool, true, false, not, ◌==◌, ◌&&◌, nat_le, nat_lt, if◌then◌else◌, length, take, count_by, All, Option, Some, None, IfSome, is_some, unwrap_or}
+use Rattle.std.specs.Prelude.{◌≡◌, ◌≢◌, ◌⊎◌, ◌≤◌, ℕ, ◌+◌, ◌-◌, List, [], ◌∷◌, ◌++◌, Bool, true, false, not, ◌==◌, ◌&&◌, nat_le, nat_lt, if◌then◌else◌, length, take, drop, get_or, count_by, All, Option, Some, None, IfSome, is_some, unwrap_or}
 use Rattle.std.specs.Ordering.{nat_cmp}
 use Rattle.std.specs.FinMap.{FinMap, empty, get, insert, remove, contains_key, len}
 use Rattle.std.specs.Option.{option_map, option_map_or}
@@ -13,9 +13,9 @@ use Rattle.geos_model.specs.Places.{places_of, taken_back}
 use Rattle.geos_model.specs.declared.place.Place.{Place}
 use Rattle.geos_model.specs.declared.place.Place.TheVariants as place
 use Rattle.geos_model.specs.Position.{Position, Back, Nowhere, is_here, position_stepped, position_within, position_in_group, position_after_undo, position_after_redo, position_after_join}
-use Rattle.geos_model.specs.Reply.{Reply, Accepted, Refused, NumberIs, PlacesAre, reply_of_done, look_up_conditions, look_up}
+use Rattle.geos_model.specs.Reply.{Reply, Accepted, Refused, BytesAre, NumberIs, PlacesAre, reply_of_done, look_up_conditions, look_up}
 use Rattle.geos_model.specs.declared.fault.Fault.{Fault}
-use Rattle.geos_model.specs.declared.fault.Fault.TheVariants.{Memory, File, BadCommand, Locked, NotLocked, LockLimit, CacheFull, NothingToUndo, NothingToRedo, NoTarget, Worn, GroupOpen, NoGroup}
+use Rattle.geos_model.specs.declared.fault.Fault.TheVariants.{Memory, File, BadCommand, Locked, NotLocked, LockLimit, CacheFull, NothingToUndo, NothingToRedo, NoTarget, TooBig, Worn, GroupOpen, NoGroup}
 use Rattle.geos_model.specs.declared.command.Kind.{Kind}
 use Rattle.geos_model.specs.declared.command.Kind.TheVariants.{Plain, In, Made, Freed, Group}
 use Rattle.geos_model.specs.declared.command.Edit.{Edit}
@@ -42,6 +42,8 @@ pub record Machine : Type 0 where
   pub document : Document
   pub past : List UndoStep  -- the newest first
   pub future : List UndoStep  -- the next one first
+  pub past_names : List (List ℕ)  -- of the steps of the past, as they stand there; [] where one has none
+  pub future_names : List (List ℕ)  -- so of the future
   pub group : Option OpenGroup  -- None where none is open
   pub updated : Document  -- what opening the file gives
   pub saved : Document  -- what a revert gives
@@ -61,6 +63,8 @@ opened_machine updated saved one sequence frames target = record {
   document = updated;
   past = [];
   future = [];
+  past_names = [];
+  future_names = [];
   group = None;
   updated = updated;
   saved = saved;
@@ -244,8 +248,8 @@ has_edits m = option_map_or (λ g. not (is_empty_group g)) m.group false
 abbrev pub begun : Machine → Machine
 begun m = record m { group = Some (record { before = m.document; edits = 0; cost = 0; places = [] }) }
 
--- no more steps than the limit allows, the newest
-abbrev pub limited : Option ℕ → List UndoStep → List UndoStep
+-- no more steps than the limit allows, the newest, or so many names
+abbrev pub limited : {A : Type 0} → Option ℕ → List A → List A
 limited None steps = steps
 limited (Some most) steps = take most steps
 
@@ -253,6 +257,7 @@ limited (Some most) steps = take most steps
 abbrev pub after_forget : ℕ → Machine → Machine
 after_forget most m = record m {
   past = limited (Some most) m.past;
+  past_names = limited (Some most) m.past_names;
   updated_at = position_within (Some most) m.updated_at;
   saved_at = position_within (Some most) m.saved_at;
 }
@@ -263,6 +268,7 @@ ended g m =
     let undo : UndoStep = record { kind = Group; cost = g.cost; document = g.before; places = g.places } in
     record m {
       past = if is_empty_group g then m.past else limited m.undo_limit (undo ∷ m.past);
+      past_names = if is_empty_group g then m.past_names else limited m.undo_limit ([] ∷ m.past_names);
       group = None;
       updated_at = if is_empty_group g then m.updated_at else position_stepped m.undo_limit m.updated_at;
       saved_at = if is_empty_group g then m.saved_at else position_stepped m.undo_limit m.saved_at;
@@ -279,12 +285,33 @@ joined_steps (s ∷ r ∷ past) =
     record { kind = Group; cost = s.cost + r.cost; document = r.document; places = r.places ++ s.places } ∷ past
 joined_steps past = past
 
+-- and have the newer one's name, else the older one's
+abbrev pub joined_name : List ℕ → List ℕ → List ℕ
+joined_name newer older = if length newer == 0 then older else newer
+
+abbrev pub joined_names : List (List ℕ) → List (List ℕ)
+joined_names (newer ∷ older ∷ names) = joined_name newer older ∷ names
+joined_names names = names
+
 abbrev pub after_join : Machine → Machine
 after_join m = record m {
   past = joined_steps m.past;
+  past_names = joined_names m.past_names;
   updated_at = position_after_join m.updated_at;
   saved_at = position_after_join m.saved_at;
 }
+
+-- how many bytes a name of a step has at most
+abbrev pub longest_name : ℕ
+longest_name = 64
+
+-- The newest step to be undone has this name, in place of the one that it had; with no bytes it has none.
+abbrev pub after_name : List ℕ → Machine → Machine
+after_name name m = record m { past_names = name ∷ drop 1 m.past_names }
+
+-- that of the newest step, [] where it has none
+abbrev pub first_name : List (List ℕ) → List ℕ
+first_name names = get_or names 0 []
 
 -- there are no two steps to be joined
 abbrev pub has_no_two : Machine → Bool
@@ -313,6 +340,10 @@ command_conditions commands.End m = (NoGroup, not (in_group m)) ∷ []
 command_conditions commands.Abandon m = (NoGroup, not (in_group m)) ∷ (Locked, has_locks m) ∷ []
 command_conditions commands.Join m = (NothingToUndo, has_no_two m) ∷ (GroupOpen, in_group m) ∷ []
 command_conditions (commands.Forget most) m = []
+command_conditions (commands.Name name) m =
+    (TooBig, nat_lt longest_name (length name)) ∷ (NothingToUndo, length m.past == 0) ∷ (GroupOpen, in_group m) ∷ []
+command_conditions commands.UndoName m = (NothingToUndo, length m.past == 0) ∷ (GroupOpen, in_group m) ∷ []
+command_conditions commands.RedoName m = (NothingToRedo, length m.future == 0) ∷ (GroupOpen, in_group m) ∷ []
 command_conditions commands.UndoPlaces m = (NothingToUndo, length m.past == 0) ∷ (GroupOpen, in_group m) ∷ []
 command_conditions commands.RedoPlaces m = (NothingToRedo, length m.future == 0) ∷ (GroupOpen, in_group m) ∷ []
 command_conditions commands.AbandonPlaces m = (NoGroup, not (in_group m)) ∷ []
@@ -336,6 +367,8 @@ recorded None kind cost ps d m =
       document = d;
       past = limited m.undo_limit (undo ∷ m.past);
       future = [];
+      past_names = limited m.undo_limit ([] ∷ m.past_names);
+      future_names = [];
       updated_at = position_stepped m.undo_limit m.updated_at;
       saved_at = position_stepped m.undo_limit m.saved_at;
       touched = ps;
@@ -343,6 +376,7 @@ recorded None kind cost ps d m =
 recorded (Some g) kind cost ps d m = record m {
   document = d;
   future = [];
+  future_names = [];
   group = Some (record g { edits = g.edits + 1; cost = g.cost + cost; places = g.places ++ ps });
   updated_at = position_in_group m.updated_at;
   saved_at = position_in_group m.saved_at;
@@ -355,7 +389,7 @@ edited e m =
     let recorded_in = recorded m.group (kind_of e) (cost e m.document after.0) (places_of e m.document) in
     (reply_of_done after.1, recorded_in after.0 m)
 
--- the newest past document is the document again, and the old one is the next of the future
+-- the newest past document is the document again, and the old one is the next of the future, with the step's name
 abbrev pub undone : Machine → List UndoStep → Option Machine
 undone m [] = None
 undone m (s ∷ past) =
@@ -363,12 +397,15 @@ undone m (s ∷ past) =
       document = s.document;
       past = past;
       future = record s { document = m.document } ∷ m.future;
+      past_names = drop 1 m.past_names;
+      future_names = take 1 m.past_names ++ m.future_names;
       updated_at = position_after_undo m.updated_at;
       saved_at = position_after_undo m.saved_at;
       touched = taken_back s.places;
     })
 
--- the next document of the future is the document again, and the old one is the newest of the past
+-- the next document of the future is the document again, and the old one is the newest of the past, with the step's
+-- name
 abbrev pub redone : Machine → List UndoStep → Option Machine
 redone m [] = None
 redone m (s ∷ future) =
@@ -376,6 +413,8 @@ redone m (s ∷ future) =
       document = s.document;
       past = record s { document = m.document } ∷ m.past;
       future = future;
+      past_names = take 1 m.future_names ++ m.past_names;
+      future_names = drop 1 m.future_names;
       updated_at = position_after_redo m.updated_at;
       saved_at = position_after_redo m.saved_at;
       touched = s.places;
@@ -401,6 +440,8 @@ after_revert m = record m {
   document = m.saved;
   past = [];
   future = [];
+  past_names = [];
+  future_names = [];
   updated = m.saved;
   updated_at = Back 0;
   saved_at = Back 0;
@@ -452,6 +493,7 @@ done_by commands.End m = option_map (λ g. (Accepted, ended g m)) m.group
 done_by commands.Abandon m = option_map (λ g. (Accepted, abandoned g m)) m.group
 done_by commands.Join m = Some (Accepted, after_join m)
 done_by (commands.Forget most) m = Some (Accepted, after_forget most m)
+done_by (commands.Name name) m = Some (Accepted, after_name name m)
 done_by commands.Update m = Some (Accepted, after_update m)
 done_by commands.Save m = Some (Accepted, after_save m)
 done_by commands.Revert m = Some (Accepted, after_revert m)
@@ -463,6 +505,8 @@ done_by (commands.Locks b) m = Some (NumberIs (lock_count m b.0), m)
 done_by commands.Undos m = Some (NumberIs (length m.past), m)
 done_by commands.Redos m = Some (NumberIs (length m.future), m)
 done_by commands.Modified m = Some (NumberIs (stands_as m), m)
+done_by commands.UndoName m = Some (BytesAre (first_name m.past_names), m)
+done_by commands.RedoName m = Some (BytesAre (first_name m.future_names), m)
 done_by commands.Touched m = Some (PlacesAre m.touched, m)
 done_by commands.UndoPlaces m = Some (PlacesAre (undo_places m.past), m)
 done_by commands.RedoPlaces m = Some (PlacesAre (redo_places m.future), m)
@@ -509,6 +553,8 @@ takes_memory commands.End m = false
 takes_memory commands.Abandon m = has_edits m
 takes_memory commands.Join m = not (in_group m) && not (has_no_two m)
 takes_memory (commands.Forget most) m = false
+takes_memory (commands.Name name) m =
+    not (in_group m) && not (length m.past == 0) && nat_lt 0 (length name) && nat_le (length name) longest_name
 takes_memory commands.Update m = true
 takes_memory commands.Save m = true
 takes_memory commands.Revert m = true
@@ -542,6 +588,8 @@ takes_memory (commands.ChainEqual b other) m = true
 takes_memory commands.Undos m = false
 takes_memory commands.Redos m = false
 takes_memory commands.Modified m = false
+takes_memory commands.UndoName m = false
+takes_memory commands.RedoName m = false
 takes_memory commands.Touched m = not (length m.touched == 0)
 takes_memory commands.UndoPlaces m = not (in_group m) && not (length m.past == 0)
 takes_memory commands.RedoPlaces m = not (in_group m) && not (length m.future == 0)
@@ -554,10 +602,11 @@ is_of_no_body kind = false
 
 -- What calls the store, or the target of a save-as: the commits, and all that may have to bring a block into memory, or
 -- another one out of it. The list of blocks is known without, and so is what an edit of a user ID, a type or the map
--- block changes; a join makes one step of two where they are kept.
+-- block changes; a join makes one step of two where they are kept, and a name is kept with its step.
 abbrev pub calls_store : Command → Machine → Bool
 calls_store commands.List m = false
 calls_store commands.Join m = false
+calls_store (commands.Name name) m = false
 calls_store commands.Touched m = false
 calls_store commands.UndoPlaces m = false
 calls_store commands.RedoPlaces m = false

@@ -128,6 +128,8 @@ pub enum Command {
     Join,
     /// No more than so many steps are left to be undone, the newest.
     Forget(u32),
+    /// The newest step to be undone gets this name, in place of the one that it has; with no bytes it has none.
+    Name(Bytes),
     /// The document becomes the updated one of the file.
     Update,
     /// The document becomes the updated and the saved one of the file.
@@ -186,8 +188,13 @@ pub enum Command {
     Undos,
     /// How many steps can be redone.
     Redos,
-    /// Whether the document is a committed one: 1 where it is as it was saved, and 2 more where it is as it was updated.
+    /// Whether the document is a committed one: 1 where it is as it was saved, and 2 more where it is as it was
+    /// updated.
     Modified,
+    /// The name of the step that an undo takes back; no bytes where it has none.
+    UndoName,
+    /// That of the step that a redo makes again.
+    RedoName,
     /// The places at which the newest accepted edit, undo, redo, abandon or revert changed the document.
     Touched,
     /// Those at which an undo would change it.

@@ -23,7 +23,7 @@ pub enum Fault {
     WrongKind,
     /// The heap would need more than 65,520 bytes.
     Full,
-    /// A raw body would have more than 65,520 bytes.
+    /// A raw body would have more than 65,520 bytes, or the name of a step more than 64.
     TooBig,
     /// There are fewer free block handles than the command needs.
     NoHandles,

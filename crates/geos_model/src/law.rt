@@ -8,6 +8,7 @@ ghost use Rattle.geos_model.specs.Depth.{DepthLaw};
 ghost use Rattle.geos_model.specs.Steps.{StepsLaw};
 ghost use Rattle.geos_model.specs.Standing.{StandingLaw};
 ghost use Rattle.geos_model.specs.Touching.{TouchedLaw};
+ghost use Rattle.geos_model.specs.Naming.{NamesLaw};
 ghost use Rattle.geos_model.specs.Saving.{SaveLaw};
 ghost use Rattle.geos_model.specs.Failing.{FailingLaw};
 ghost use Rattle.geos_model.specs.Validity.{ValidityLaw};
@@ -110,11 +111,17 @@ pub fn steps_law()
     ensures { StepsLaw }
 {}
 
-/// Whoever keeps a copy of the document, and after each accepted edit, undo, redo, abandon and revert looks again at the
-/// places that are told and at nothing else, has the document. Any other call leaves it, and leaves what is told, which
-/// is not to be looked at twice. What an undo, a redo or an abandon tells can be asked before.
+/// Whoever keeps a copy of the document, and after each accepted edit, undo, redo, abandon and revert looks again at
+/// the places that are told and at nothing else, has the document. Any other call leaves it, and leaves what is told,
+/// which is not to be looked at twice. What an undo, a redo or an abandon tells can be asked before.
 pub fn touched_law()
     ensures { TouchedLaw }
+{}
+
+/// A name changes neither the document nor the steps. It goes with its step: an undo and a redo take it along, and of
+/// two steps that are joined the newer one's stays, or the older one's where that has none. A new step has no name.
+pub fn names_law()
+    ensures { NamesLaw }
 {}
 
 /// A save keeps the document, and a revert gives back what was saved last.

@@ -12,6 +12,9 @@ pub const CAPACITY: usize = 65_520;
 /// How many bytes the longest chunk has, alone in its heap.
 pub const LONGEST_CHUNK: usize = 65_498;
 
+/// How many bytes a name of a step has at most.
+pub const LONGEST_NAME: usize = 64;
+
 /// The first page of a file that can't be used, in pages of 512 bytes.
 pub const PAGE_LIMIT: u32 = 33_554_432;
 

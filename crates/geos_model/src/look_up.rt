@@ -16,6 +16,13 @@ pub enum PlainLookUp {
     Modified,
 }
 
+/// Which step's name is asked for: that of the next undo, or of the next redo.
+#[derive(Clone, Copy)]
+pub enum StepNameLookUp {
+    Undo,
+    Redo,
+}
+
 /// Whose places are asked for: those of what changed the document last, or of what would change it next.
 #[derive(Clone, Copy)]
 pub enum PlacesLookUp {
@@ -88,6 +95,7 @@ pub enum ChainLookUp {
 pub enum LookUp<'a> {
     List,
     Plain(PlainLookUp),
+    StepName(StepNameLookUp),
     Places(PlacesLookUp),
     InBlock(VmHandle, BlockLookUp<'a>),
     AlongChain(ChainLookUp),
@@ -117,6 +125,8 @@ impl Command {
             Command::Undos => LookUp::Plain(PlainLookUp::Undos),
             Command::Redos => LookUp::Plain(PlainLookUp::Redos),
             Command::Modified => LookUp::Plain(PlainLookUp::Modified),
+            Command::UndoName => LookUp::StepName(StepNameLookUp::Undo),
+            Command::RedoName => LookUp::StepName(StepNameLookUp::Redo),
             Command::Touched => LookUp::Places(PlacesLookUp::Touched),
             Command::UndoPlaces => LookUp::Places(PlacesLookUp::Undo),
             Command::RedoPlaces => LookUp::Places(PlacesLookUp::Redo),

@@ -161,14 +161,11 @@ impl Edit {
             AddReference(block, chunk, token) => elements(block, chunk, ElementArrayEdit::AddReference(*token)),
             RemoveReference(block, chunk, token) => elements(block, chunk, ElementArrayEdit::RemoveReference(*token)),
             DeleteElement(block, chunk, token) => elements(block, chunk, ElementArrayEdit::Delete(*token)),
-            ChangeElement(block, chunk, token, new) =>
-                elements(block, chunk, ElementArrayEdit::Change(*token, new.as_slice())),
+            ChangeElement(b, c, token, new) => elements(b, c, ElementArrayEdit::Change(*token, new.as_slice())),
             AddName(block, chunk, name, part, replace) =>
                 names(block, chunk, NameArrayEdit::Add(name.as_slice(), part.as_slice(), *replace)),
-            ChangeName(block, chunk, token, name) =>
-                names(block, chunk, NameArrayEdit::Change(*token, name.as_slice())),
-            SetNamePart(block, chunk, token, part) =>
-                names(block, chunk, NameArrayEdit::SetPart(*token, part.as_slice())),
+            ChangeName(b, c, token, name) => names(b, c, NameArrayEdit::Change(*token, name.as_slice())),
+            SetNamePart(b, c, token, part) => names(b, c, NameArrayEdit::SetPart(*token, part.as_slice())),
             RemoveName(block, chunk, token) => names(block, chunk, NameArrayEdit::Remove(*token)),
             CopyChain(root) => Target::Chain(*root, ChainEdit::Copy),
             FreeChain(root) => Target::Chain(*root, ChainEdit::Free),

@@ -1,6 +1,7 @@
 -- A file fault is answered only where a store failed in that very call, over any store.
 use Rattle.std.proofs.Common.{◌≡◌, ◌⊎◌, ℕ, ◌∷◌, List, [], Bool, true, false, Option, Some, None, Result, Ok, Err, IsTrue, IfErr, find, is_some, refl, sym, ap, subst, ◌∙◌, inl, inr}
-use Rattle.std.specs.Prelude.{IsErrOf, if◌then◌else◌, length, nat_lt}
+use Rattle.geos_model.specs.Machine.{longest_name}
+use Rattle.std.specs.Prelude.{◌≢◌, ◌==◌, IsErrOf, if◌then◌else◌, length, nat_lt}
 use Rattle.std.specs.FinMap.{get}
 use Rattle.std.specs.List.{list_all}
 use Rattle.std.specs.Option.{option_map, option_map_or}
@@ -33,8 +34,8 @@ use Rattle.doc_edits.specs.Room.{lacks_frames}
 use Rattle.undo_log.specs.Committing.{IsSaveAsRefused}
 use Rattle.undo_log.specs.Locking.{IsBarred}
 use Rattle.undo_log.specs.Sessions.{SessionState, cache_of, failed_since, has_locked_blocks}
-use Rattle.undo_log.specs.Turning.{CantApplyLog, IsNotAbandoned, IsRefusedUndoOrRedo, busy_fault, join_fault}
-use Rattle.undo_log.specs.declared.entry.LogEntry.{LogEntry}
+use Rattle.undo_log.specs.Turning.{CantApplyLog, IsNotAbandoned, IsRefusedUndoOrRedo, busy_fault, join_fault, name_fault}
+use Rattle.undo_log.specs.Entries.{LogEntry}
 use Rattle.undo_log.proofs.Keeping.{failed_true}
 use Rattle.geos_replies.specs.Holdings.{failed_since_in, failed_with, holding}
 
@@ -138,6 +139,14 @@ joined_other true few fault held is = cc (held, is)
 joined_other false true fault held is = cc (held, is)
 joined_other false false fault held is = cc held
 
+-- and a step from having a name
+named_other : (group none long : Bool) (fault : Fault)
+    → (if group then Some faults.GroupOpen else if none then Some faults.NothingToUndo else if long then Some faults.TooBig else None) ≡ Some fault → fault ≡ faults.File → ⊥
+named_other true none long fault held is = cc (held, is)
+named_other false true long fault held is = cc (held, is)
+named_other false false true fault held is = cc (held, is)
+named_other false false false fault held is = cc held
+
 lock_other : {S : Type 0} (state : CacheState S) (h : ℕ) (fault : Fault) → CantLock state h fault → fault ≡ faults.File → ⊥
 lock_other state h fault (inl none) is = cc (none.0, is)
 lock_other state h fault (inr (inl most)) is = cc (most.0, is)
@@ -212,6 +221,14 @@ module _ {S : Type 0} (facts : S → StoreFacts) where
   file_join old new (Ok x) refusals = tt
   file_join old new (Err fault) (inl held) = λ is. absurd (joined_other (is_some old.log.group) (nat_lt (length old.log.undo) 2) fault held is)
   file_join old new (Err fault) (inr memory) = λ is. cc (memory.1, is)
+
+  -- of a name
+  pub file_name : {A : Type 0} (old new : SessionState S) (name : List ℕ) (r : Result A Fault)
+      → IfErr r (λ fault. (name_fault (length name) old ≡ Some fault) ⊎ ((name_fault (length name) old ≡ None) × (name ≢ []) × (fault ≡ faults.Memory)))
+      → IfErr r (IsFailure facts old.disk.store new.disk.store)
+  file_name old new name (Ok x) refusals = tt
+  file_name old new name (Err fault) (inl held) = λ is. absurd (named_other (is_some old.log.group) (length old.log.undo == 0) (nat_lt longest_name (length name)) fault held is)
+  file_name old new name (Err fault) (inr memory) = λ is. cc (memory.2, is)
 
   -- of a lock, and of what uses one
   pub file_lock : {A : Type 0} (h : ℕ) (old new : SessionState S) (r : Result A Fault)

@@ -11,8 +11,8 @@ use Rattle.vm_blocks.specs.Locking.{GainsLock}
 use Rattle.undo_log.specs.Logging.{Log}
 use Rattle.undo_log.specs.Sessions.{SessionState, KeepsSession, PushesEdit, cache_of}
 use Rattle.undo_log.specs.Turning.{Abandons, IsEntryApplied, MovesEntry}
-use Rattle.undo_log.specs.declared.entry.LogEntry.{LogEntry}
-use Rattle.undo_log.specs.declared.entry.LogEntry.TheVariants as entries
+use Rattle.undo_log.specs.Entries.{LogEntry}
+use Rattle.undo_log.specs.Entries as entries
 use Rattle.undo_log.proofs.Keeping.{kept_frames}
 
 module _ {S : Type 0} (facts : S → StoreFacts) where
@@ -48,10 +48,10 @@ module _ {S : Type 0} (facts : S → StoreFacts) where
     frames_log P Q wrong log (Ok x) ok err = ap (λ (s : SessionState S). s.frames) ok.1
     frames_log P Q wrong log (Err fault) ok err = ap (λ (s : SessionState S). s.frames) err.2
 
-    -- of a join
-    pub frames_join : (log : Log) (r : Result (Unit {0}) Fault) → MatchResult r (λ _. new ≡ record old { log = log }) (λ _. new ≡ old) → new.frames ≡ old.frames
-    frames_join log (Ok x) done = ap (λ (s : SessionState S). s.frames) done
-    frames_join log (Err fault) done = ap (λ (s : SessionState S). s.frames) done
+    -- of a join or a name
+    pub frames_logged : (log : Log) (r : Result (Unit {0}) Fault) → MatchResult r (λ _. new ≡ record old { log = log }) (λ _. new ≡ old) → new.frames ≡ old.frames
+    frames_logged log (Ok x) done = ap (λ (s : SessionState S). s.frames) done
+    frames_logged log (Err fault) done = ap (λ (s : SessionState S). s.frames) done
 
 -- of what changes nothing but which blocks are in memory
 pub frames_same : {S : Type 0} (old new : SessionState S) → new ≡ record old { resident = new.resident } → new.frames ≡ old.frames

@@ -17,8 +17,8 @@ use Rattle.doc_edits.specs.Planning.{kind_of_change}
 use Rattle.undo_log.specs.Logging.{reversed_entry}
 use Rattle.undo_log.specs.Sessions.{SessionState, cache_of}
 use Rattle.undo_log.specs.Turning.{IsEntryApplied, MovesEntry}
-use Rattle.undo_log.specs.declared.entry.LogEntry.{LogEntry}
-use Rattle.undo_log.specs.declared.entry.LogEntry.TheVariants as entries
+use Rattle.undo_log.specs.Entries.{LogEntry}
+use Rattle.undo_log.specs.Entries as entries
 use Rattle.geos_replies.specs.Holdings.{HasNextInMemory}
 
 module _ {S : Type 0} where

@@ -2,7 +2,7 @@
 use Rattle.std.proofs.Common.{◌≡◌, List, ℕ, ◌++◌, Bool, true, false, length, refl, sym, ap, subst, Option, Result, Ok, OnOk, OnErr, IfErr, IsTrue, Err, Some, inr, ◌∷◌, [], ◌∙◌, is_err, is_ok, rules, None}
 use Rattle.std.specs.Prelude.{IsOkAnd, MatchOption, MatchResult}
 use Rattle.std.proofs.lemmas.List.{append_assoc, take_at}
-use Rattle.geos_model.specs.LookUps.{block_look_up, chain_look_up, command_of, is_look_up, places_look_up, plain_look_up}
+use Rattle.geos_model.specs.LookUps.{block_look_up, chain_look_up, command_of, is_look_up, places_look_up, plain_look_up, step_name_look_up}
 use Rattle.geos_model.specs.Reply.{Accepted, Refused, Reply, reply_by, reply_of, reply_of_done}
 use Rattle.geos_model.specs.declared.fault.Fault.{Fault}
 use Rattle.geos_model.specs.declared.fault.Fault.TheVariants as faults
@@ -109,6 +109,7 @@ module _ {S : Type 0} (facts : S → StoreFacts) where
   leaves commands.End old new reply asks stays nothing = cc asks
   leaves commands.Join old new reply asks stays nothing = cc asks
   leaves (commands.Forget most) old new reply asks stays nothing = cc asks
+  leaves (commands.Name name) old new reply asks stays nothing = cc asks
   leaves (commands.Unlock b) old new reply asks stays nothing = cc asks
   leaves (commands.Dirty b) old new reply asks stays nothing = cc asks
   leaves (commands.HeapType b) old new reply asks stays nothing = stays refl
@@ -119,6 +120,8 @@ module _ {S : Type 0} (facts : S → StoreFacts) where
   leaves commands.Undos old new reply asks stays nothing = stays refl
   leaves commands.Redos old new reply asks stays nothing = stays refl
   leaves commands.Modified old new reply asks stays nothing = stays refl
+  leaves commands.UndoName old new reply asks stays nothing = stays refl
+  leaves commands.RedoName old new reply asks stays nothing = stays refl
   leaves commands.Touched old new reply asks stays nothing = stays refl
   leaves commands.UndoPlaces old new reply asks stays nothing = stays refl
   leaves commands.RedoPlaces old new reply asks stays nothing = stays refl
@@ -195,6 +198,7 @@ module _ {S T E : Type 0} (facts : S → StoreFacts) (put : Result T E) (old new
   pub told_answer : (look_up : LookUp) → AnswersAsked facts old new look_up reply → OnOk put (after ≡ before ++ reply_text reply) → RepliesToLookUp put facts old (command_of look_up) new before after
   told_answer look_ups.List answers said = told_resting facts put commands.List reply before after old new answers said
   told_answer (look_ups.Plain asked) answers said = told_resting facts put (plain_look_up asked) reply before after old new answers said
+  told_answer (look_ups.StepName asked) answers said = told_resting facts put (step_name_look_up asked) reply before after old new answers said
   told_answer (look_ups.Places asked) answers said = told_resting facts put (places_look_up asked) reply before after old new answers said
   told_answer (look_ups.InBlock b asked) answers said = told_seen facts put (block_look_up b asked) reply before after old new answers said
   told_answer (look_ups.AlongChain asked) answers said = told_along facts put (chain_look_up asked) reply before after old new answers said
@@ -221,6 +225,7 @@ block_asked b (block_look_ups.InChunk c (chunk_look_ups.Array (array_look_ups.Na
 pub answered_stays : {S : Type 0} (facts : S → StoreFacts) (old new : SessionState S) (reply : Reply) (look_up : LookUp) → AnswersAsked facts old new look_up reply → asks_no_body (command_of look_up) ≡ true → new ≡ old
 answered_stays facts old new reply look_ups.List answers none = answers.1
 answered_stays facts old new reply (look_ups.Plain asked) answers none = answers.1
+answered_stays facts old new reply (look_ups.StepName asked) answers none = answers.1
 answered_stays facts old new reply (look_ups.Places asked) answers none = answers.1
 answered_stays facts old new reply (look_ups.InBlock b asked) answers none = let no : false ≡ true = sym (block_asked b asked) ∙ none in absurd (cc no)
 answered_stays facts old new reply (look_ups.AlongChain (chain_look_ups.Walk b)) answers none = cc none

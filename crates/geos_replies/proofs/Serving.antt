@@ -118,9 +118,9 @@ module _ {S : Type 0} (facts : S → StoreFacts) where
   disk_kept P Q wrong old new log (Ok x) ok err = ap (λ (s : SessionState S). s.disk) ok.1
   disk_kept P Q wrong old new log (Err fault) ok err = ap (λ (s : SessionState S). s.disk) err.2
 
-  pub disk_joined : (old new : SessionState S) (log : Log) (result : Result (Unit {0}) Fault) → MatchResult result (λ _. new ≡ record old { log = log }) (λ _. new ≡ old) → new.disk ≡ old.disk
-  disk_joined old new log (Ok x) done = ap (λ (s : SessionState S). s.disk) done
-  disk_joined old new log (Err fault) done = ap (λ (s : SessionState S). s.disk) done
+  pub disk_logged : (old new : SessionState S) (log : Log) (result : Result (Unit {0}) Fault) → MatchResult result (λ _. new ≡ record old { log = log }) (λ _. new ≡ old) → new.disk ≡ old.disk
+  disk_logged old new log (Ok x) done = ap (λ (s : SessionState S). s.disk) done
+  disk_logged old new log (Err fault) done = ap (λ (s : SessionState S). s.disk) done
 
   -- how a commit tries a pair, in the words of its reply
   tries : (pair : Documents) (old new : Disk S) (result : Result (Unit {0}) Fault) → MayCommit facts pair old new result

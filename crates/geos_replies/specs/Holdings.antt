@@ -14,7 +14,7 @@ use Rattle.vm_file.specs.Documents.{Documents}
 use Rattle.vm_blocks.specs.Keeping.{is_loaded}
 use Rattle.undo_log.specs.Sessions.{SessionState, IsExact, cache_of, locks_in, machine_of, failed_since}
 use Rattle.undo_log.specs.Logging.{kind_of_entry, open_changes}
-use Rattle.undo_log.specs.declared.entry.LogEntry.{LogEntry}
+use Rattle.undo_log.specs.Entries.{LogEntry}
 use Rattle.undo_log.specs.Turning.{IsSure, IsSureGroup, abandon_fault, busy_fault}
 use Rattle.chunk_edits.specs.declared.direction.Direction.TheVariants.{Forwards, Backwards}
 
@@ -125,6 +125,7 @@ LeavesFiles facts old (Some commands.Begin) reply new = SameFiles old new
 LeavesFiles facts old (Some commands.End) reply new = SameFiles old new
 LeavesFiles facts old (Some commands.Join) reply new = SameFiles old new
 LeavesFiles facts old (Some (commands.Forget most)) reply new = SameFiles old new
+LeavesFiles facts old (Some (commands.Name name)) reply new = SameFiles old new
 LeavesFiles facts old (Some (commands.HeapType b)) reply new = SameFiles old new
 LeavesFiles facts old (Some commands.List) reply new = SameFiles old new
 LeavesFiles facts old (Some (commands.Find uid start)) reply new = SameFiles old new
@@ -135,6 +136,8 @@ LeavesFiles facts old (Some (commands.Locks b)) reply new = SameFiles old new
 LeavesFiles facts old (Some commands.Undos) reply new = SameFiles old new
 LeavesFiles facts old (Some commands.Redos) reply new = SameFiles old new
 LeavesFiles facts old (Some commands.Modified) reply new = SameFiles old new
+LeavesFiles facts old (Some commands.UndoName) reply new = SameFiles old new
+LeavesFiles facts old (Some commands.RedoName) reply new = SameFiles old new
 LeavesFiles facts old (Some commands.Touched) reply new = SameFiles old new
 LeavesFiles facts old (Some commands.UndoPlaces) reply new = SameFiles old new
 LeavesFiles facts old (Some commands.RedoPlaces) reply new = SameFiles old new

@@ -99,6 +99,7 @@ fn push_response<S: Store>(
             session.forget(*most);
             push_accepted(out, Ok(()))
         }
+        Command::Name(name) => push_accepted(out, session.name_step(name.as_slice())),
         Command::Update => push_accepted(out, session.update()),
         Command::Save => push_accepted(out, session.save()),
         Command::Revert => push_accepted(out, session.revert()),

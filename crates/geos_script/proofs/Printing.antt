@@ -225,6 +225,8 @@ command_read commands.Join h =
     read_by (command_spelling commands.Join) commands.Join (word refl, λ h. refl) h
 command_read (commands.Forget most) h =
     read_by (command_spelling (commands.Forget most)) (commands.Forget most) (word refl, λ h. rw (number_read most h.0) refl) h
+command_read (commands.Name name) h =
+    read_by (command_spelling (commands.Name name)) (commands.Name name) (word refl, λ h. rw (bytes_read name h.0) refl) h
 command_read commands.Update h =
     read_by (command_spelling commands.Update) commands.Update (word refl, λ h. refl) h
 command_read commands.Save h =
@@ -291,6 +293,10 @@ command_read commands.Redos h =
     read_by (command_spelling commands.Redos) commands.Redos (word refl, λ h. refl) h
 command_read commands.Modified h =
     read_by (command_spelling commands.Modified) commands.Modified (word refl, λ h. refl) h
+command_read commands.UndoName h =
+    read_by (command_spelling commands.UndoName) commands.UndoName (word refl, λ h. refl) h
+command_read commands.RedoName h =
+    read_by (command_spelling commands.RedoName) commands.RedoName (word refl, λ h. refl) h
 command_read commands.Touched h =
     read_by (command_spelling commands.Touched) commands.Touched (word refl, λ h. refl) h
 command_read commands.UndoPlaces h =

@@ -30,6 +30,7 @@ edit_has_bytes _ = false
 abbrev pub command_has_bytes : Command → Bool
 command_has_bytes (commands.Edit e) = edit_has_bytes e
 command_has_bytes (commands.NameFind b c name) = is_nonempty name
+command_has_bytes (commands.Name name) = is_nonempty name
 command_has_bytes _ = false
 
 -- why reading fails: BadCommand where nothing is meant, or Memory where what is meant has bytes

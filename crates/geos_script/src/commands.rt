@@ -1,5 +1,5 @@
-//! The table of the commands: the name of each, its operands, and what makes it of words that spell these. A line is read by
-//! it, and a command printed.
+//! The table of the commands: the name of each, its operands, and what makes it of words that spell these. A line is
+//! read by it, and a command printed.
 ghost use Rattle.std.specs.Prelude.{◌≡◌, ◌++◌, OnOk, OnErr, Some, drop, length};
 ghost use Rattle.geos_model.specs.Script.{block, bytes as spelled_bytes, chunk, is_set, same_bytes, with_5};
 ghost use Rattle.geos_model.specs.declared.command.Command.TheVariants as commands;
@@ -18,8 +18,8 @@ use crate::word::{Spelled, push_words};
 use geos_model::{ChunkHandle, Command, Edit, Fault, VmHandle};
 use std::alloc::{AllocError, Global};
 
-// Hands the rows of the table to a macro, so that the parser, the printer and the help read the same ones. A row has the
-// name of a command, its operands as help shows them, what reads so many words, and the command with its operands.
+// Hands the rows of the table to a macro, so that the parser, the printer and the help read the same ones. A row has
+// the name of a command, its operands as help shows them, what reads so many words, and the command with its operands.
 macro_rules! commands {
     ($with:ident($($given:tt)*)) => {
         $with! { ($($given)*)
@@ -71,6 +71,7 @@ macro_rules! commands {
                 "abandon" => none Abandon,
                 "join" => none Join,
                 "forget" "n" => one Forget(n),
+                "name" "hex" => one Name(hex),
                 "update" => none Update,
                 "save" => none Save,
                 "revert" => none Revert,
@@ -105,6 +106,8 @@ macro_rules! commands {
                 "undos" => none Undos,
                 "redos" => none Redos,
                 "modified" => none Modified,
+                "undoname" => none UndoName,
+                "redoname" => none RedoName,
                 "touched" => none Touched,
                 "undoplaces" => none UndoPlaces,
                 "redoplaces" => none RedoPlaces,
@@ -158,8 +161,8 @@ macro_rules! row_of {
     };
 }
 
-// Inlined, so that a name costs a compare or two of its length and its first bytes: a comparison of slices is a call where
-// the first bytes are the same.
+// Inlined, so that a name costs a compare or two of its length and its first bytes: a comparison of slices is a call
+// where the first bytes are the same.
 #[inline(always)]
 fn is(name: &[u8], text: &str) -> bool
     ensures { result ≡ same_bytes name.now text.now }
@@ -256,8 +259,8 @@ fn push_row(out: &mut Vec<u8>, command: &Command) -> Result<(), AllocError>
     commands! { push_command_row(out, command) }
 }
 
-/// Puts the text of a command behind `out`, without a line feed; a blank line has none. A command that some line spells is
-/// what its text is parsed as. Where memory runs out, a part of the text may stand there.
+/// Puts the text of a command behind `out`, without a line feed; a blank line has none. A command that some line spells
+/// is what its text is parsed as. Where memory runs out, a part of the text may stand there.
 pub fn push_command(out: &mut Vec<u8>, command: &Command) -> Result<(), AllocError>
     ensures ok { OnOk result (out.new.items ≡ out.old.items ++ command_text command.now) }
     ensures law { OnOk result (IsSpellable command.now

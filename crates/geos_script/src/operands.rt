@@ -207,8 +207,8 @@ fn are_digits(word: &[u8]) -> bool
     all
 }
 
-/// The byte of two digits. They are one word, whose bytes become their values, since of words the compiler takes eight at
-/// a time. A letter's low four bits are 1 to 6, and the bit for 64 is set in letters alone.
+/// The byte of two digits. They are one word, whose bytes become their values, since of words the compiler takes eight
+/// at a time. A letter's low four bits are 1 to 6, and the bit for 64 is set in letters alone.
 #[inline(always)]
 fn byte_of(high: u8, low: u8) -> u8
     requires { (is_hex_digit high ≡ true) × (is_hex_digit low ≡ true) }

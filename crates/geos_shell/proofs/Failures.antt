@@ -86,6 +86,7 @@ module _ {S : Type 0} (facts : S → StoreFacts) where
   after_files old new (Some commands.End) reply files so = after_passes old new (nothing_of old new files) so
   after_files old new (Some commands.Join) reply files so = after_passes old new (nothing_of old new files) so
   after_files old new (Some (commands.Forget most)) reply files so = after_passes old new (nothing_of old new files) so
+  after_files old new (Some (commands.Name name)) reply files so = after_passes old new (nothing_of old new files) so
   after_files old new (Some (commands.HeapType b)) reply files so = after_passes old new (nothing_of old new files) so
   after_files old new (Some commands.List) reply files so = after_passes old new (nothing_of old new files) so
   after_files old new (Some (commands.Find uid start)) reply files so = after_passes old new (nothing_of old new files) so
@@ -96,6 +97,8 @@ module _ {S : Type 0} (facts : S → StoreFacts) where
   after_files old new (Some commands.Undos) reply files so = after_passes old new (nothing_of old new files) so
   after_files old new (Some commands.Redos) reply files so = after_passes old new (nothing_of old new files) so
   after_files old new (Some commands.Modified) reply files so = after_passes old new (nothing_of old new files) so
+  after_files old new (Some commands.UndoName) reply files so = after_passes old new (nothing_of old new files) so
+  after_files old new (Some commands.RedoName) reply files so = after_passes old new (nothing_of old new files) so
   after_files old new (Some commands.Touched) reply files so = after_passes old new (nothing_of old new files) so
   after_files old new (Some commands.UndoPlaces) reply files so = after_passes old new (nothing_of old new files) so
   after_files old new (Some commands.RedoPlaces) reply files so = after_passes old new (nothing_of old new files) so

@@ -92,13 +92,13 @@ pub struct Ended<S: Store> {
 /// store before is put aside. A later save-as has no target, as the first one has none where there is none to begin
 /// with.
 ///
-/// Over any store each line is answered as by `answer_line`: a refusal leaves what there was, and a file fault is answered
-/// only where a store failed in just that call.
+/// Over any store each line is answered as by `answer_line`: a refusal leaves what there was, and a file fault is
+/// answered only where a store failed in just that call.
 ///
 /// Where what is held is exact, over an honest store and target, the session is what the answers lead to, and is exact,
-/// and each answer is the machine's but for such a fault or lack of memory. A crash now leaves the documents acknowledged
-/// last or those of a commit that failed since, as a session's `reveal_invariant` says; where no call of a store failed
-/// in this run, those of none that failed in it.
+/// and each answer is the machine's but for such a fault or lack of memory. A crash now leaves the documents
+/// acknowledged last or those of a commit that failed since, as a session's `reveal_invariant` says; where no call of a
+/// store failed in this run, those of none that failed in it.
 pub fn run<S: Store, R: Source, W: Sink>(
     alloc: Global,
     session: Session<S>,

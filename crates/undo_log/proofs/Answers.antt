@@ -20,14 +20,14 @@ use Rattle.chunk_edits.specs.declared.direction.Direction.TheVariants.{Forwards,
 use Rattle.doc_edits.specs.Planning.{change_cost, Plans}
 use Rattle.undo_log.specs.Logging.{AreExclusive, Log, abandoned_log, places_of_step, after_all, after_entry, all_changes, changes_cost, changes_in, closed_with, entry_cost, joined_entries, kind_of_entry, step, steps, reversed_entry, with_change, without_redo}
 use Rattle.undo_log.specs.Sessions.{opposite, AreSteps}
-use Rattle.undo_log.specs.declared.entry.LogEntry.{LogEntry}
-use Rattle.undo_log.specs.declared.entry.LogEntry.TheVariants as entries
+use Rattle.undo_log.specs.Entries.{LogEntry}
+use Rattle.undo_log.specs.Entries as entries
 use Rattle.undo_log.specs.Turning.{step_command}
 use Rattle.geos_model.specs.declared.place.Place.{Place}
 use Rattle.vm_blocks.specs.ChangePlaces.{change_places}
 use Rattle.undo_log.specs.Telling.{all_places, made_places}
 use Rattle.undo_log.proofs.Telling.{back-all, joined-made, places-one_more, told_of_step, turn-tells, turned-made}
-use Rattle.undo_log.proofs.Directions.{log_by, position_turned, turned}
+use Rattle.undo_log.proofs.Directions.{log_by, names_turned, position_turned, turned}
 use Rattle.undo_log.proofs.Keeping.{answers_on, machine_with}
 use Rattle.undo_log.proofs.Lists.{kept_steps}
 use Rattle.undo_log.proofs.Steps.{after_all-append, entry_back, goes_back}
@@ -47,6 +47,8 @@ module _ (m : Machine) (edit : Edit) (d : Document) (log : Log) (c : Change) (do
     document = after_change c d;
     past = steps Backwards undo (after_all Backwards cs d);
     future = [];
+    past_names = log.undo_names;
+    future_names = [];
     group = Some (record {
       before = after_all Backwards cs d;
       edits = length cs + 1;
@@ -75,6 +77,8 @@ module _ (m : Machine) (edit : Edit) (d : Document) (log : Log) (c : Change) (do
         document = after_change c d;
         past = steps Backwards undo (after_all Backwards cs (back i));
         future = [];
+        past_names = log.undo_names;
+        future_names = [];
         group = Some (record { before = after_all Backwards cs (back i); edits = more i; cost = charged i; places = told i });
         updated_at = position_in_group log.updated_at;
         saved_at = position_in_group log.saved_at;
@@ -114,9 +118,9 @@ steps_back direction e es d new gives = λ i. record { kind = kind_turned e i; c
 -- the machine in which no group is open, with these steps to take in a direction, and these in the opposite one
 abbrev machine_by : Direction → Machine → Document → Log → List UndoStep → List UndoStep → Machine
 machine_by Backwards m d log from to =
-    record m { document = d; past = from; future = to; group = None; updated_at = log.updated_at; saved_at = log.saved_at; touched = log.touched; undo_limit = log.limit }
+    record m { document = d; past = from; future = to; past_names = log.undo_names; future_names = log.redo_names; group = None; updated_at = log.updated_at; saved_at = log.saved_at; touched = log.touched; undo_limit = log.limit }
 machine_by Forwards m d log from to =
-    record m { document = d; past = to; future = from; group = None; updated_at = log.updated_at; saved_at = log.saved_at; touched = log.touched; undo_limit = log.limit }
+    record m { document = d; past = to; future = from; past_names = log.undo_names; future_names = log.redo_names; group = None; updated_at = log.updated_at; saved_at = log.saved_at; touched = log.touched; undo_limit = log.limit }
 
 machine_by-is : (direction : Direction) (m : Machine) (d : Document) (log : Log) (from to : List LogEntry)
     → machine_with m d (log_by direction log from to) ≡ machine_by direction m d log (steps direction from d) (steps (opposite direction) to d)
@@ -126,7 +130,7 @@ machine_by-is Forwards m d log from to = refl
 -- the log once a step is taken
 abbrev told_by : Direction → UndoStep → Log → Log
 told_by direction s log =
-    record log { updated_at = position_turned direction log.updated_at; saved_at = position_turned direction log.saved_at; touched = told_of_step direction s.places }
+    record (names_turned direction log) { updated_at = position_turned direction log.updated_at; saved_at = position_turned direction log.saved_at; touched = told_of_step direction s.places }
 
 -- what undo and redo do where there is a step
 step_taken : (direction : Direction) (m : Machine) (d : Document) (log : Log) (s : UndoStep) (from to : List UndoStep) → machine.has_locks m ≡ false
@@ -164,6 +168,8 @@ abandon_one : (m : Machine) (d : Document) (log : Log) (undo redo : List LogEntr
       document = after_all Backwards cs d;
       past = steps Backwards undo (after_all Backwards cs d);
       future = steps Forwards redo d;
+      past_names = log.undo_names;
+      future_names = log.redo_names;
       group = None;
       updated_at = log.updated_at;
       saved_at = log.saved_at;
@@ -181,7 +187,7 @@ pub abandon_moved : (m : Machine) (d : Document) (log : Log) (undo redo : List L
     → Answers (machine_with m d (log_of log undo redo (Some cs))) (Some commands.Abandon) Accepted (machine_with m (after_all Backwards cs d) (abandoned_log (log_of log undo redo (Some cs))))
 abandon_moved m d log undo redo cs none apart =
     let new = after_all Backwards cs d in
-    subst (λ (future : List UndoStep). Answers (machine_with m d (log_of log undo redo (Some cs))) (Some commands.Abandon) Accepted (record m { document = new; past = steps Backwards undo new; future = future; group = None; updated_at = log.updated_at; saved_at = log.saved_at; touched = all_places Backwards cs; undo_limit = log.limit }))
+    subst (λ (future : List UndoStep). Answers (machine_with m d (log_of log undo redo (Some cs))) (Some commands.Abandon) Accepted (record m { document = new; past = steps Backwards undo new; future = future; past_names = log.undo_names; future_names = log.redo_names; group = None; updated_at = log.updated_at; saved_at = log.saved_at; touched = all_places Backwards cs; undo_limit = log.limit }))
     (same_future d redo cs apart) (abandon_one m d log undo redo cs none)
 
 -- Two steps are joined, and steps are forgotten.

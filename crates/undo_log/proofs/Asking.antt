@@ -3,23 +3,27 @@ use Rattle.std.proofs.Common.{◌≡◌, ◌≢◌, ◌==◌, ℕ, Bool, true, f
 use Rattle.std.specs.Prelude.{if◌then◌else◌}
 use Rattle.std.specs.Option.{option_map, option_map_or}
 use Rattle.geos_model.specs.Document.{Document}
-use Rattle.geos_model.specs.LookUps.{places_look_up}
+use Rattle.geos_model.specs.LookUps.{places_look_up, step_name_look_up}
 use Rattle.geos_model.specs.Machine as machine
-use Rattle.geos_model.specs.Machine.{Step, UndoStep, abandon_places, has_edits, redo_places, takes_memory, undo_places}
+use Rattle.geos_model.specs.Machine.{Step, UndoStep, abandon_places, first_name, has_edits, redo_places, takes_memory, undo_places}
 use Rattle.geos_model.specs.Refusal.{first_refusal}
-use Rattle.geos_model.specs.Reply.{PlacesAre, Refused}
+use Rattle.geos_model.specs.Reply.{BytesAre, PlacesAre, Refused}
 use Rattle.geos_model.specs.declared.fault.Fault.{Fault}
 use Rattle.geos_model.specs.declared.fault.Fault.TheVariants.{GroupOpen, Memory, NoGroup, NothingToRedo, NothingToUndo}
 use Rattle.geos_model.specs.declared.look_up.PlacesLookUp.{PlacesLookUp}
 use Rattle.geos_model.specs.declared.look_up.PlacesLookUp.TheVariants as asks
+use Rattle.geos_model.specs.declared.look_up.StepNameLookUp.{StepNameLookUp}
+use Rattle.geos_model.specs.declared.look_up.StepNameLookUp.TheVariants as names
 use Rattle.geos_model.specs.declared.place.Place.{Place}
 use Rattle.vm_blocks.specs.declared.change.Change.{Change}
+use Rattle.chunk_edits.specs.declared.direction.Direction.{Direction}
 use Rattle.chunk_edits.specs.declared.direction.Direction.TheVariants.{Backwards, Forwards}
-use Rattle.undo_log.specs.Asking.{asked_places, places_ahead, places_fault}
-use Rattle.undo_log.specs.Logging.{before, group_of, open_changes, steps}
+use Rattle.undo_log.specs.Asking.{asked_places, direction_of, places_ahead, places_fault, turn_fault}
+use Rattle.undo_log.specs.Logging.{before, group_of, next_names, open_changes, steps}
+use Rattle.undo_log.specs.Turning.{no_step_fault}
 use Rattle.undo_log.specs.Sessions.{SessionState, machine_of}
 use Rattle.undo_log.specs.Telling.{all_places}
-use Rattle.undo_log.specs.declared.entry.LogEntry.{LogEntry}
+use Rattle.undo_log.specs.Entries.{LogEntry}
 use Rattle.undo_log.proofs.Answers.{some_steps}
 use Rattle.undo_log.proofs.Lists.{length-steps}
 use Rattle.undo_log.proofs.Telling.{back-all, back-made}
@@ -42,6 +46,18 @@ none_held : (is_open none : Bool) (fault : Fault) → (if is_open then Some Grou
 none_held true none fault is = absurd (cc is)
 none_held false true fault is = absurd (cc is)
 none_held false false fault is = (refl, refl)
+
+-- which is refused first
+turn_refused : (direction : Direction) (is_open none : Bool) (fault : Fault) → (if is_open then Some GroupOpen else if none then Some (no_step_fault direction) else None) ≡ Some fault
+    → first_refusal ((no_step_fault direction, none) ∷ (GroupOpen, is_open) ∷ []) ≡ Some fault
+turn_refused Backwards true true fault is = is
+turn_refused Backwards true false fault is = is
+turn_refused Backwards false true fault is = is
+turn_refused Backwards false false fault is = absurd (cc is)
+turn_refused Forwards true true fault is = is
+turn_refused Forwards true false fault is = is
+turn_refused Forwards false true fault is = is
+turn_refused Forwards false false fault is = absurd (cc is)
 
 open_held : (is_open : Bool) → (if is_open then None else Some NoGroup) ≡ None → is_open ≡ true
 open_held true is = refl
@@ -84,22 +100,8 @@ module _ {S : Type 0} (s : SessionState S) (target : Bool) where
   pub places_held : (asked : PlacesLookUp) (fault : Fault) → places_fault asked s.log ≡ Some fault
       → Step false (machine_of target s) (Some (places_look_up asked)) (Refused fault) (machine_of target s)
   places_held asks.Touched fault held = absurd (cc held)
-  places_held asks.Undo fault held = inl (rw (in_group, no_past, by_parts (is_some s.log.group) (length s.log.undo == 0) held) refl)
-    where
-      by_parts : (is_open none : Bool) → (if is_open then Some GroupOpen else if none then Some NothingToUndo else None) ≡ Some fault
-          → first_refusal ((NothingToUndo, none) ∷ (GroupOpen, is_open) ∷ []) ≡ Some fault
-      by_parts true true is = is
-      by_parts true false is = is
-      by_parts false true is = is
-      by_parts false false is = absurd (cc is)
-  places_held asks.Redo fault held = inl (rw (in_group, no_future, by_parts (is_some s.log.group) (length s.log.redo == 0) held) refl)
-    where
-      by_parts : (is_open none : Bool) → (if is_open then Some GroupOpen else if none then Some NothingToRedo else None) ≡ Some fault
-          → first_refusal ((NothingToRedo, none) ∷ (GroupOpen, is_open) ∷ []) ≡ Some fault
-      by_parts true true is = is
-      by_parts true false is = is
-      by_parts false true is = is
-      by_parts false false is = absurd (cc is)
+  places_held asks.Undo fault held = inl (rw (in_group, no_past, turn_refused Backwards (is_some s.log.group) (length s.log.undo == 0) fault held) refl)
+  places_held asks.Redo fault held = inl (rw (in_group, no_future, turn_refused Forwards (is_some s.log.group) (length s.log.redo == 0) fault held) refl)
   places_held asks.Abandon fault held = inl (rw (in_group, by_parts (is_some s.log.group) held) refl)
     where
       by_parts : (is_open : Bool) → (if is_open then None else Some NoGroup) ≡ Some fault → first_refusal ((NoGroup, not is_open) ∷ []) ≡ Some fault
@@ -117,3 +119,16 @@ module _ {S : Type 0} (s : SessionState S) (target : Bool) where
       let held = none_held (is_some s.log.group) (length s.log.redo == 0) NothingToRedo free in
       inr (record { fault = Memory; may = rw (in_group ∙ held.0, no_future ∙ held.1) refl; says = refl; stays = refl })
   places_lack asks.Abandon free some = inr (record { fault = Memory; may = has_changes s.log.group s.document some; says = refl; stays = refl })
+
+  -- The name of a step is answered, or why it isn't.
+  pub name_told : (asked : StepNameLookUp) (name : List ℕ) → turn_fault (direction_of asked) s.log ≡ None → name ≡ first_name (next_names (direction_of asked) s.log)
+      → Step false (machine_of target s) (Some (step_name_look_up asked)) (BytesAre name) (machine_of target s)
+  name_told names.Undo name free is =
+      let held = none_held (is_some s.log.group) (length s.log.undo == 0) NothingToUndo free in inl (rw (is, in_group ∙ held.0, no_past ∙ held.1) refl)
+  name_told names.Redo name free is =
+      let held = none_held (is_some s.log.group) (length s.log.redo == 0) NothingToRedo free in inl (rw (is, in_group ∙ held.0, no_future ∙ held.1) refl)
+
+  pub name_held : (asked : StepNameLookUp) (fault : Fault) → turn_fault (direction_of asked) s.log ≡ Some fault
+      → Step false (machine_of target s) (Some (step_name_look_up asked)) (Refused fault) (machine_of target s)
+  name_held names.Undo fault held = inl (rw (in_group, no_past, turn_refused Backwards (is_some s.log.group) (length s.log.undo == 0) fault held) refl)
+  name_held names.Redo fault held = inl (rw (in_group, no_future, turn_refused Forwards (is_some s.log.group) (length s.log.redo == 0) fault held) refl)

@@ -21,6 +21,8 @@ begun s updated saved one sequence frames target document is_updated is_saved nu
   document = document i;
   past = steps Backwards (log i).undo (before (log i).group (document i));
   future = steps Forwards (log i).redo (document i);
+  past_names = (log i).undo_names;
+  future_names = (log i).redo_names;
   group = option_map (group_of (document i)) (log i).group;
   updated = is_updated i;
   saved = is_saved i;

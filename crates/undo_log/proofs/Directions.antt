@@ -1,5 +1,5 @@
 -- A log in which no group is open, by the direction that is taken.
-use Rattle.std.proofs.Common.{◌≡◌, List, ◌∷◌, ◌++◌, Option, None, refl, subst}
+use Rattle.std.proofs.Common.{◌≡◌, List, ◌∷◌, ◌++◌, drop, take, Option, None, refl, subst}
 use Rattle.geos_model.specs.Document.{Document}
 use Rattle.geos_model.specs.Position.{Position, position_after_redo, position_after_undo}
 use Rattle.vm_blocks.specs.declared.change.Change.{Change}
@@ -8,17 +8,22 @@ use Rattle.chunk_edits.specs.declared.direction.Direction.TheVariants.{Forwards,
 use Rattle.undo_log.specs.Logging.{IsHead, Log, all_changes, next_entries, next_moved, open_changes, to_redo, to_undo, reversed_entry}
 use Rattle.undo_log.specs.Telling.{next_places}
 use Rattle.undo_log.specs.Sessions.{opposite, AreSteps, CanApplyBothByHandle}
-use Rattle.undo_log.specs.declared.entry.LogEntry.{LogEntry}
+use Rattle.undo_log.specs.Entries.{LogEntry}
 
 -- where a document stands once the next entry in a direction is made
 abbrev pub position_turned : Direction → Position → Position
 position_turned Backwards p = position_after_undo p
 position_turned Forwards p = position_after_redo p
 
--- the log in which the committed documents stand there, and which tells of the entry
+-- the log in which the name of the next entry in a direction is the next in the opposite one
+abbrev pub names_turned : Direction → Log → Log
+names_turned Backwards log = record log { undo_names = drop 1 log.undo_names; redo_names = take 1 log.undo_names ++ log.redo_names }
+names_turned Forwards log = record log { undo_names = take 1 log.redo_names ++ log.undo_names; redo_names = drop 1 log.redo_names }
+
+-- so, and in which the committed documents stand there, and which tells of the entry
 abbrev pub turned : Direction → LogEntry → Log → Log
 turned direction e log =
-    record log { updated_at = position_turned direction log.updated_at; saved_at = position_turned direction log.saved_at; touched = next_places direction e }
+    record (names_turned direction log) { updated_at = position_turned direction log.updated_at; saved_at = position_turned direction log.saved_at; touched = next_places direction e }
 
 -- the log of which these entries can be made in a direction, and these in the opposite one, otherwise as this one
 abbrev pub log_by : Direction → Log → List LogEntry → List LogEntry → Log

@@ -2,14 +2,15 @@
 use Rattle.std.proofs.Common.{◌≡◌, ℕ, List, [], ◌∷◌, ◌++◌, map, Option, Some, None, sym, ap, subst, ◌∙◌}
 use Rattle.std.proofs.lemmas.List.{append_assoc}
 use Rattle.geos_model.specs.Document.{Document}
+use Rattle.geos_model.specs.Machine.{limited}
 use Rattle.vm_blocks.specs.Changes.{directed}
 use Rattle.vm_blocks.specs.Preparing.{CanApplyAllByHandle}
 use Rattle.vm_blocks.specs.declared.change.Change.{Change}
 use Rattle.chunk_edits.specs.declared.direction.Direction.TheVariants.{Backwards}
-use Rattle.undo_log.specs.Logging.{Log, added_to, all_changes, closed_with, kept_entries, open_changes, to_redo, to_undo, with_change, with_group_closed}
+use Rattle.undo_log.specs.Logging.{Log, added_to, all_changes, closed_with, open_changes, to_redo, to_undo, with_change, with_group_closed}
 use Rattle.undo_log.specs.Sessions.{CanApplyAllDirected, CanApplyBothByHandle, AreSteps}
-use Rattle.undo_log.specs.declared.entry.LogEntry.{LogEntry}
-use Rattle.undo_log.specs.declared.entry.LogEntry.TheVariants as entries
+use Rattle.undo_log.specs.Entries.{LogEntry}
+use Rattle.undo_log.specs.Entries as entries
 use Rattle.undo_log.proofs.Listing.{listed_front}
 use Rattle.undo_log.proofs.Lists.{kept_first}
 use Rattle.undo_log.proofs.Steps.{can_split}
@@ -17,22 +18,22 @@ use Rattle.undo_log.proofs.Steps.{can_split}
 -- behind the changes of a group that is open
 module _ (d : Document) (cs : List Change) (redo : List Change) (limit : Option ℕ) (es : List LogEntry) where
   abbrev kept : List Change
-  kept = cs ++ all_changes (kept_entries limit es)
+  kept = cs ++ all_changes (limited limit es)
 
   abbrev others : List Change
   others = (kept_first limit es).others
 
   split : cs ++ all_changes es ≡ kept ++ others
-  split = ap (λ (xs : List Change). cs ++ xs) (kept_first limit es).are ∙ sym (append_assoc cs (all_changes (kept_entries limit es)) others)
+  split = ap (λ (xs : List Change). cs ++ xs) (kept_first limit es).are ∙ sym (append_assoc cs (all_changes (limited limit es)) others)
 
-  pub kept_are_steps : AreSteps Backwards d (cs ++ all_changes es) redo → AreSteps Backwards d (cs ++ all_changes (kept_entries limit es)) redo
+  pub kept_are_steps : AreSteps Backwards d (cs ++ all_changes es) redo → AreSteps Backwards d (cs ++ all_changes (limited limit es)) redo
   kept_are_steps are = record {
     valid = are.valid;
     first = (can_split Backwards kept others d (subst (λ (xs : List Change). CanApplyAllDirected Backwards xs d) split are.first)).0;
     second = are.second;
   }
 
-  pub kept_listed : CanApplyBothByHandle Backwards d (cs ++ all_changes es) redo → CanApplyBothByHandle Backwards d (cs ++ all_changes (kept_entries limit es)) redo
+  pub kept_listed : CanApplyBothByHandle Backwards d (cs ++ all_changes es) redo → CanApplyBothByHandle Backwards d (cs ++ all_changes (limited limit es)) redo
   kept_listed are = record {
     first = listed_front Backwards kept others d (subst (λ (xs : List Change). CanApplyAllByHandle (map (directed Backwards) xs) d) split are.first);
     second = are.second;

@@ -17,7 +17,7 @@ use Rattle.chunk_edits.specs.declared.direction.Direction.TheVariants.{Forwards,
 use Rattle.undo_log.specs.Logging.{AreExclusive, IsHead, abandoned_log, Log, after_all, all_changes, before, changes_in, closed_with, group_of, next_entries, next_moved, open_changes, steps, to_redo, to_undo, reversed_entry, with_group_closed}
 use Rattle.undo_log.specs.Sessions.{SessionState, machine_of, opposite, CanApplyBothByHandle, AreSteps, IsExact}
 use Rattle.undo_log.specs.Turning.{IsEntryApplied}
-use Rattle.undo_log.specs.declared.entry.LogEntry.{LogEntry}
+use Rattle.undo_log.specs.Entries.{LogEntry}
 use Rattle.undo_log.proofs.Answers.{begin_moved, end_moved, log_of}
 use Rattle.undo_log.proofs.Directions.{listed_by, listed_of, log_moved, turned}
 use Rattle.undo_log.proofs.Forgetting.{closed_listed, closed_steps}

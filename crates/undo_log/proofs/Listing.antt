@@ -25,8 +25,8 @@ use Rattle.vm_blocks.proofs.ManyBlocks.{All-from_map, taken_gone, in_and_out, ou
 use Rattle.vm_blocks.proofs.Preparing.{live_there}
 use Rattle.undo_log.specs.Logging.{after_all, after_entry, all_changes, changes_in, reversed_entry}
 use Rattle.undo_log.specs.Sessions.{opposite, CanApplyBothByHandle}
-use Rattle.undo_log.specs.declared.entry.LogEntry.{LogEntry}
-use Rattle.undo_log.specs.declared.entry.LogEntry.TheVariants as entries
+use Rattle.undo_log.specs.Entries.{LogEntry}
+use Rattle.undo_log.specs.Entries as entries
 use Rattle.undo_log.proofs.Lists.{reverse_onto}
 
 -- Documents with the same handles and the same map block.

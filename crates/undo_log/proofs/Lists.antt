@@ -5,9 +5,9 @@ use Rattle.geos_model.specs.Document.{Document}
 use Rattle.geos_model.specs.Machine.{UndoStep, limited}
 use Rattle.vm_blocks.specs.declared.change.Change.{Change}
 use Rattle.chunk_edits.specs.declared.direction.Direction.{Direction}
-use Rattle.undo_log.specs.Logging.{after_entry, all_changes, changes_in, kept_entries, step, steps}
-use Rattle.undo_log.specs.declared.entry.LogEntry.{LogEntry}
-use Rattle.undo_log.specs.declared.entry.LogEntry.TheVariants as entries
+use Rattle.undo_log.specs.Logging.{after_entry, all_changes, changes_in, step, steps}
+use Rattle.undo_log.specs.Entries.{LogEntry}
+use Rattle.undo_log.specs.Entries as entries
 
 -- the last one of a list is the newest
 pub newest_first : {A : Type 0} (from from' : List A) (e : A) → from ≡ from' ++ e ∷ [] → reverse from ≡ e ∷ reverse from'
@@ -28,7 +28,7 @@ taken_steps direction zero es d = refl
 taken_steps direction (suc n) [] d = refl
 taken_steps direction (suc n) (e ∷ es) d = ap (λ (ss : List UndoStep). step direction e d ∷ ss) (taken_steps direction n es (after_entry direction e d))
 
-pub kept_steps : (direction : Direction) (limit : Option ℕ) (es : List LogEntry) (d : Document) → steps direction (kept_entries limit es) d ≡ limited limit (steps direction es d)
+pub kept_steps : (direction : Direction) (limit : Option ℕ) (es : List LogEntry) (d : Document) → steps direction (limited limit es) d ≡ limited limit (steps direction es d)
 kept_steps direction None es d = refl
 kept_steps direction (Some most) es d = taken_steps direction most es d
 
@@ -54,6 +54,6 @@ taken_first (suc n) (e ∷ es) =
           ∙ ap (λ (cs : List Change). cs ++ rest.others) (sym (first_changes e (take n es)));
     }
 
-pub kept_first : (limit : Option ℕ) (es : List LogEntry) → AreFirst es (kept_entries limit es)
+pub kept_first : (limit : Option ℕ) (es : List LogEntry) → AreFirst es (limited limit es)
 kept_first None es = record { others = []; are = sym (append-nil (all_changes es)) }
 kept_first (Some most) es = taken_first most es

@@ -2,9 +2,9 @@
 use Rattle.std.proofs.Common.{◌≡◌, ℕ, ◌+◌, ◌<◌, List, [], ◌∷◌, ◌++◌, length, get_or, take, drop, sym, ap, ◌∙◌, add-one, arith}
 use Rattle.std.proofs.Math.Seq.{drop-cons}
 use Rattle.std.proofs.lemmas.List.{length-drop, take_more}
-use Rattle.undo_log.specs.declared.entry.LogEntry.{LogEntry}
+use Rattle.undo_log.specs.Entries.{NamedEntry}
 
-module _ (n : ℕ) (es others : List LogEntry) (e : LogEntry) (is : drop n es ≡ e ∷ others) where
+module _ (n : ℕ) (es others : List NamedEntry) (e : NamedEntry) (is : drop n es ≡ e ∷ others) where
   pub within : n < length es
   within =
       let rest = length-drop n es in

@@ -1,13 +1,13 @@
 -- There is room for an entry, also for the one that the open group becomes.
-use Rattle.std.proofs.Common.{◌≡◌, ◌+◌, ◌<◌, ◌≤◌, ◌&&◌, ℕ, Bool, true, false, Vec, Global, List, [], ◌∷◌, length, reverse, drop, vec_len, vec_capacity, Option, None, Some, refl, ap, arith, ltb-true}
+use Rattle.std.proofs.Common.{◌≡◌, ◌+◌, ◌<◌, ◌≤◌, ◌&&◌, ℕ, Bool, true, false, Vec, Global, List, [], ◌∷◌, length, reverse, drop, vec_len, vec_capacity, Option, None, Some, refl, sym, ap, ◌∙◌, arith, ltb-true}
 use Rattle.std.specs.Option.{option_map}
 use Rattle.std.specs.Prelude.{nat_lt}
 use Rattle.std.proofs.lemmas.Bool.{lt-ltb}
-use Rattle.std.proofs.lemmas.List.{length-drop, length-reverse}
+use Rattle.std.proofs.lemmas.List.{length-drop, length-map, length-reverse}
 use Rattle.vm_blocks.specs.declared.change.Change.{Change}
 use Rattle.undo_log.specs.Logging.{AreExclusive, open_changes}
 use Rattle.undo_log.specs.Rooms.{has_room, waiting}
-use Rattle.undo_log.specs.declared.entry.LogEntry.{LogEntry}
+use Rattle.undo_log.specs.Entries.{LogEntry, NamedEntry, entries_of}
 
 has_place : (done capacity : ℕ) (group : Option (ℕ × ℕ)) → has_room done capacity group ≡ true → done < capacity
 has_place done capacity None room = ltb-true done capacity room
@@ -18,9 +18,11 @@ has_place done capacity (Some (count, most)) room = ltb-true done capacity (firs
     first_true false y both = both
 
 -- where nothing is left to make again
-pub room_for_entry : (done : ℕ) (entries : Vec LogEntry Global) (group : Option (ℕ × ℕ)) → has_room done (vec_capacity entries) group ≡ true → drop done entries.items ≡ [] → vec_len entries < vec_capacity entries
+pub room_for_entry : (done : ℕ) (entries : Vec NamedEntry Global) (group : Option (ℕ × ℕ)) → has_room done (vec_capacity entries) group ≡ true → entries_of (drop done entries.items) ≡ []
+    → vec_len entries < vec_capacity entries
 room_for_entry done entries group room none =
-    let place = has_place done (vec_capacity entries) group room in let left = length-drop done entries.items in let no = ap length none in omega (arith, place, left, no)
+    let place = has_place done (vec_capacity entries) group room in let left = length-drop done entries.items in
+    let no = sym (length-map (drop done entries.items) (λ (e : NamedEntry). e.entry)) ∙ ap length none in omega (arith, place, left, no)
 
 -- where the group has changes nothing is left to make again
 none_left : (cs : List Change) (es : List LogEntry) → 0 < length cs → AreExclusive cs es → es ≡ []

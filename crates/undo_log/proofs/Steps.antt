@@ -10,8 +10,8 @@ use Rattle.chunk_edits.specs.declared.direction.Direction.TheVariants.{Forwards,
 use Rattle.vm_blocks.proofs.ChangeLaws.{change_back, flip_twice}
 use Rattle.undo_log.specs.Logging.{Log, after_all, after_entry, all_changes, before, open_changes, step, steps, to_redo, to_undo, reversed_entry}
 use Rattle.undo_log.specs.Sessions.{opposite, CanApplyAllDirected, AreSteps}
-use Rattle.undo_log.specs.declared.entry.LogEntry.{LogEntry}
-use Rattle.undo_log.specs.declared.entry.LogEntry.TheVariants as entries
+use Rattle.undo_log.specs.Entries.{LogEntry}
+use Rattle.undo_log.specs.Entries as entries
 use Rattle.undo_log.proofs.Lists.{reverse_onto}
 
 -- what holds of a change that was carried out

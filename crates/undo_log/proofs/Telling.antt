@@ -13,8 +13,8 @@ use Rattle.chunk_edits.specs.declared.direction.Direction.TheVariants.{Backwards
 use Rattle.undo_log.specs.Logging.{open_changes, places_of_step, reversed_entry}
 use Rattle.undo_log.specs.Sessions.{opposite}
 use Rattle.undo_log.specs.Telling.{all_places, changes_in, clipped, made_places, newest_changes, next_places, told}
-use Rattle.undo_log.specs.declared.entry.LogEntry.{LogEntry}
-use Rattle.undo_log.specs.declared.entry.LogEntry.TheVariants as entries
+use Rattle.undo_log.specs.Entries.{LogEntry, NamedEntry}
+use Rattle.undo_log.specs.Entries as entries
 use Rattle.undo_log.specs.declared.touched.Touched.{Touched}
 use Rattle.undo_log.specs.declared.touched.Touched.TheVariants as touched
 
@@ -124,16 +124,16 @@ told-joined (touched.Abandoned xs) cs ds next = refl
 
 -- The entry at a place.
 
-pub first_at : (n : ℕ) (es : List LogEntry) (e : LogEntry) (others : List LogEntry) (d : LogEntry) → drop n es ≡ e ∷ others → get_or es n d ≡ e
+pub first_at : (n : ℕ) (es : List NamedEntry) (e : NamedEntry) (others : List NamedEntry) (d : NamedEntry) → drop n es ≡ e ∷ others → get_or es n d ≡ e
 first_at zero [] e others d is = absurd (cc is)
 first_at zero (x ∷ xs) e others d is = cc is
 first_at (suc n) [] e others d is = absurd (cc is)
 first_at (suc n) (x ∷ xs) e others d is = first_at n xs e others d is
 
-pub next_at : (n : ℕ) (es : List LogEntry) (e f : LogEntry) (others : List LogEntry) → drop n es ≡ e ∷ f ∷ others → drop (n + 1) es ≡ f ∷ others
+pub next_at : (n : ℕ) (es : List NamedEntry) (e f : NamedEntry) (others : List NamedEntry) → drop n es ≡ e ∷ f ∷ others → drop (n + 1) es ≡ f ∷ others
 next_at n es e f others is = sym (drop-drop 1 n es) ∙ ap (drop 1) is
 
-pub there : (n : ℕ) (es : List LogEntry) → n < length es → (e : LogEntry) × (others : List LogEntry) × (drop n es ≡ e ∷ others)
+pub there : (n : ℕ) (es : List NamedEntry) → n < length es → (e : NamedEntry) × (others : List NamedEntry) × (drop n es ≡ e ∷ others)
 there zero [] low = absurd (omega (arith, low))
 there zero (x ∷ xs) low = (x, xs, refl)
 there (suc n) [] low = absurd (omega (arith, low))

@@ -30,8 +30,8 @@ use Rattle.doc_edits.specs.Planning.{kind_of_change}
 use Rattle.undo_log.specs.Logging.{AreExclusive, IsHead, Log, abandoned_log, after_all, after_entry, all_changes, before, group_of, kind_of_entry, next_entries, next_moved, open_changes, steps, to_redo, to_undo, reversed_entry}
 use Rattle.undo_log.specs.Sessions.{SessionState, cache_of, has_locked_blocks, machine_of, opposite, CanApplyAllDirected, AreSteps, IsExact, IsStep, KeepsSession}
 use Rattle.undo_log.specs.Turning.{IsEntryApplied, MovesEntry, CanApplyEntry, CantApply, CantApplyEntry, CantApplyLog, IsSure, IsSureKind, abandon_fault, newest_made, no_step_fault, step_command, busy_fault}
-use Rattle.undo_log.specs.declared.entry.LogEntry.{LogEntry}
-use Rattle.undo_log.specs.declared.entry.LogEntry.TheVariants as entries
+use Rattle.undo_log.specs.Entries.{LogEntry}
+use Rattle.undo_log.specs.Entries as entries
 use Rattle.undo_log.proofs.Answers.{abandon_moved, some_steps, turn_answers}
 use Rattle.undo_log.proofs.Directions.{log_by, log_moved, log_was, next_of, none_of, opposite_of, steps_by, steps_of, turned}
 use Rattle.undo_log.proofs.Keeping.{answers_on, gives_up, kept_exact, kept_machine, machine_with, passed_machine}

@@ -20,8 +20,8 @@ use Rattle.doc_edits.specs.Planning.{part_cost, change_cost}
 use Rattle.vm_blocks.specs.Changes.{after_directed}
 use Rattle.undo_log.specs.Logging.{Log, after_all, all_changes, before, changes_cost, entry_weight, group_of, open_changes, step, steps, to_redo, to_undo, total_weight}
 use Rattle.undo_log.specs.Sessions.{total_cost}
-use Rattle.undo_log.specs.declared.entry.LogEntry.{LogEntry}
-use Rattle.undo_log.specs.declared.entry.LogEntry.TheVariants as entries
+use Rattle.undo_log.specs.Entries.{LogEntry, NamedEntry, entries_of}
+use Rattle.undo_log.specs.Entries as entries
 
 content_weight-le : (content : Content) → content_weight content ≤ length (content_bytes content)
 content_weight-le (contents.Bytes bytes) = omega arith
@@ -90,18 +90,28 @@ all_weights (entries.One c ∷ es) =
     omega (arith, all, rest, whole, one)
 all_weights (entries.Group cs ∷ es) = sum_by-append weight cs (all_changes es) ∙ ap (λ (n : ℕ). total_weight cs + n) (all_weights es) ∙ sym (sum_by-cons entry_weight (entries.Group cs) es)
 
-reverse_weights : (es : List LogEntry) → total_weight (all_changes (reverse es)) ≡ sum_by entry_weight es
-reverse_weights es = all_weights (reverse es) ∙ sum_by-IsPermutation entry_weight es (reverse es) (IsPermutation-reverse es)
+-- named ones too
+named_weights : (es : List NamedEntry) → total_weight (all_changes (entries_of es)) ≡ sum_by (λ e. entry_weight e.entry) es
+named_weights es = all_weights (entries_of es) ∙ without_names es
+  where
+    without_names : (es : List NamedEntry) → sum_by entry_weight (entries_of es) ≡ sum_by (λ e. entry_weight e.entry) es
+    without_names [] = refl
+    without_names (e ∷ es) =
+        sum_by-cons entry_weight e.entry (entries_of es) ∙ ap (λ (n : ℕ). entry_weight e.entry + n) (without_names es) ∙ sym (sum_by-cons (λ (x : NamedEntry). entry_weight x.entry) e es)
+
+reverse_weights : (es : List NamedEntry) → total_weight (all_changes (entries_of (reverse es))) ≡ sum_by (λ e. entry_weight e.entry) es
+reverse_weights es = named_weights (reverse es) ∙ sum_by-IsPermutation (λ (e : NamedEntry). entry_weight e.entry) es (reverse es) (IsPermutation-reverse es)
 
 -- sums of sums, each of them cut
 cut_sums : (r s a b w g u v most : ℕ) → r ≡ min (s + w) most → s ≡ min (a + b) most → a ≡ min g most → b ≡ min u most → w ≡ min v most → r ≡ min (g + u + v) most
 cut_sums r s a b w g u v most e f h i j = grind (arith, e, f, h, i, j)
 
-pub log_weighs : (undo redo : List LogEntry) (cs : List Change) (r s a b w : ℕ) → r ≡ min (s + w) (2 ^ 64 - 1) → s ≡ min (a + b) (2 ^ 64 - 1) → a ≡ min (total_weight cs) (2 ^ 64 - 1)
-    → b ≡ min (sum_by entry_weight undo) (2 ^ 64 - 1) → w ≡ min (sum_by entry_weight redo) (2 ^ 64 - 1) → r ≡ min (total_weight (cs ++ all_changes (reverse undo)) + total_weight (all_changes redo)) (2 ^ 64 - 1)
+pub log_weighs : (undo redo : List NamedEntry) (cs : List Change) (r s a b w : ℕ) → r ≡ min (s + w) (2 ^ 64 - 1) → s ≡ min (a + b) (2 ^ 64 - 1) → a ≡ min (total_weight cs) (2 ^ 64 - 1)
+    → b ≡ min (sum_by (λ e. entry_weight e.entry) undo) (2 ^ 64 - 1) → w ≡ min (sum_by (λ e. entry_weight e.entry) redo) (2 ^ 64 - 1)
+    → r ≡ min (total_weight (cs ++ all_changes (entries_of (reverse undo))) + total_weight (all_changes (entries_of redo))) (2 ^ 64 - 1)
 log_weighs undo redo cs r s a b w e f h i j =
-    let sums = cut_sums r s a b w (total_weight cs) (sum_by entry_weight undo) (sum_by entry_weight redo) (2 ^ 64 - 1) e f h i j in
-    let all = weight-append cs (all_changes (reverse undo)) in
+    let sums = cut_sums r s a b w (total_weight cs) (sum_by (λ e. entry_weight e.entry) undo) (sum_by (λ e. entry_weight e.entry) redo) (2 ^ 64 - 1) e f h i j in
+    let all = weight-append cs (all_changes (entries_of (reverse undo))) in
     let first = reverse_weights undo in
-    let second = all_weights redo in
+    let second = named_weights redo in
     sums ∙ ap (λ (n : ℕ). min n (2 ^ 64 - 1)) (omega (arith, all, first, second))

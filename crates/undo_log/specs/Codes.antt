@@ -9,24 +9,31 @@ use Rattle.vm_blocks.specs.declared.change.Change.{Change}
 use Rattle.vm_blocks.specs.contracts.change.Change as change_type
 use Rattle.undo_log.specs.Logging.{Log, LogState}
 use Rattle.undo_log.specs.Sessions.{SessionState, cache_of}
-use Rattle.undo_log.specs.declared.entry.LogEntry.{LogEntry}
-use Rattle.undo_log.specs.contracts.entry.LogEntry as entry_type
+use Rattle.undo_log.specs.Entries.{LogEntry, entry_code}
 use Rattle.undo_log.specs.declared.touched.Touched.{Touched}
 use Rattle.undo_log.specs.contracts.touched.Touched as touched_type
+
+-- entries with their names
+abbrev Entries : Type 0
+Entries = List LogEntry × List (List ℕ)
+
+abbrev entries_code : Coded Entries
+entries_code = coded× (coded_list entry_code) (coded_list (coded_list coded_ℕ))
 
 -- a log by what can be undone and made again, and by where it stands and what it keeps
 abbrev pub log_code : Coded Log
 log_code =
     code_by
-    ((List LogEntry × (List LogEntry × Option (List Change))) × (Position × (Position × (List Place × Option ℕ))))
+    ((Entries × (Entries × Option (List Change))) × (Position × (Position × (List Place × Option ℕ))))
     (coded×
-    (coded× (coded_list entry_type.the_row.coded) (
-    coded× (coded_list entry_type.the_row.coded) (coded_option (coded_list change_type.the_row.coded))))
+    (coded× entries_code (coded× entries_code (coded_option (coded_list change_type.the_row.coded))))
     (coded× position_code (coded× position_code (coded× places_code (coded_option coded_ℕ)))))
-    (λ l. ((l.undo, (l.redo, l.group)), (l.updated_at, (l.saved_at, (l.touched, l.limit)))))
+    (λ l. (((l.undo, l.undo_names), ((l.redo, l.redo_names), l.group)), (l.updated_at, (l.saved_at, (l.touched, l.limit)))))
     (λ p. record {
-      undo = p.0.0;
-      redo = p.0.1.0;
+      undo = p.0.0.0;
+      redo = p.0.1.0.0;
+      undo_names = p.0.0.1;
+      redo_names = p.0.1.0.1;
       group = p.0.1.1;
       updated_at = p.1.0;
       saved_at = p.1.1.0;

@@ -1,3 +1,5 @@
+pub mod Entries
+pub mod Kept
 pub mod Telling
 pub mod Logging
 pub mod Asking

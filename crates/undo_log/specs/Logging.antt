@@ -3,7 +3,7 @@ use Rattle.std.specs.Prelude.{◌≡◌, ℕ, Bool, true, ◌&&◌, ◌==◌, if
 use Rattle.std.specs.List.{sum_by}
 use Rattle.std.specs.Option.{option_map_or}
 use Rattle.geos_model.specs.Document.{Document}
-use Rattle.geos_model.specs.Machine.{OpenGroup, UndoStep}
+use Rattle.geos_model.specs.Machine.{OpenGroup, UndoStep, joined_names, limited}
 use Rattle.geos_model.specs.Position.{Position, Back, Nowhere, is_here, position_stepped, position_within, position_in_group, position_after_undo, position_after_redo, position_after_join}
 use Rattle.geos_model.specs.declared.command.Kind.{Kind}
 use Rattle.geos_model.specs.declared.command.Kind.TheVariants.{Group}
@@ -18,8 +18,8 @@ use Rattle.geos_model.specs.declared.place.Place.TheVariants as place
 use Rattle.vm_blocks.specs.ChangePlaces.{change_places}
 pub use Rattle.undo_log.specs.Telling.{changes_in}
 use Rattle.undo_log.specs.Telling.{all_places, made_places, next_places, newest_changes, next_changes, told}
-use Rattle.undo_log.specs.declared.entry.LogEntry.{LogEntry}
-use Rattle.undo_log.specs.declared.entry.LogEntry.TheVariants as entries
+use Rattle.undo_log.specs.Entries.{LogEntry, NamedEntry, unnamed}
+use Rattle.undo_log.specs.Entries as entries
 use Rattle.undo_log.specs.declared.touched.Touched.{Touched}
 
 -- the changes of several entries, the one that is made next first
@@ -33,12 +33,19 @@ abbrev pub reversed_entry : LogEntry → LogEntry
 reversed_entry (entries.One c) = entries.One c
 reversed_entry (entries.Group cs) = entries.Group (reverse cs)
 
--- the entry at a place is turned over
-pub record ReversesAt (place : ℕ) (old new : List LogEntry) : Type 0 where
-  pub entry : LogEntry
-  pub others : List LogEntry
+abbrev pub turned_over : NamedEntry → NamedEntry
+turned_over e = record e { entry = reversed_entry e.entry }
+
+-- so, with another name
+abbrev pub named : List ℕ → NamedEntry → NamedEntry
+named name e = record e { name = name }
+
+-- the entry at a place becomes another
+pub record BecomesAt (other : NamedEntry → NamedEntry) (place : ℕ) (old new : List NamedEntry) : Type 0 where
+  pub entry : NamedEntry
+  pub others : List NamedEntry
   pub was : drop place old ≡ entry ∷ others
-  pub is : drop place new ≡ reversed_entry entry ∷ others
+  pub is : drop place new ≡ other entry ∷ others
   pub before : take place new ≡ take place old
 
 abbrev pub kind_of_entry : LogEntry → Kind
@@ -86,12 +93,14 @@ abbrev pub steps : Direction → List LogEntry → Document → List UndoStep
 steps direction [] d = []
 steps direction (e ∷ es) d = step direction e d ∷ steps direction es (after_entry direction e d)
 
--- What can be undone and what can be made again, of both the next entry first; the changes of the group that is open, the
--- newest first, None where none is open; where the committed documents stand; what is told of the change that was made
--- or taken back last; and how many entries are kept to be undone, None where all are.
+-- What can be undone and what can be made again, of both the next entry first; their names; the changes of the group that
+-- is open, the newest first, None where none is open; where the committed documents stand; what is told of the change
+-- that was made or taken back last; and how many entries are kept to be undone, None where all are.
 pub record Log : Type 0 where
   pub undo : List LogEntry
   pub redo : List LogEntry
+  pub undo_names : List (List ℕ)
+  pub redo_names : List (List ℕ)
   pub group : Option (List Change)
   pub updated_at : Position
   pub saved_at : Position
@@ -103,6 +112,8 @@ abbrev pub fresh_log : Bool → Log
 fresh_log one = record {
   undo = [];
   redo = [];
+  undo_names = [];
+  redo_names = [];
   group = None;
   updated_at = Back 0;
   saved_at = if one then Back 0 else Nowhere;
@@ -137,6 +148,10 @@ abbrev pub next_entries : Direction → Log → List LogEntry
 next_entries Backwards log = log.undo
 next_entries Forwards log = log.redo
 
+abbrev pub next_names : Direction → Log → List (List ℕ)
+next_names Backwards log = log.undo_names
+next_names Forwards log = log.redo_names
+
 -- the document before the group that is open
 abbrev pub before : Option (List Change) → Document → Document
 before group d = after_all Backwards (open_changes group) d
@@ -156,30 +171,31 @@ is_at p log = is_here p && option_map_or (λ cs. length cs == 0) log.group true
 
 -- What calls make of the log.
 
--- no more entries than the limit allows, the newest
-abbrev pub kept_entries : Option ℕ → List LogEntry → List LogEntry
-kept_entries None es = es
-kept_entries (Some most) es = take most es
-
 -- An entry is the newest, and the limit may take the oldest.
-abbrev pub with_entry : LogEntry → Log → Log
-with_entry e log = record log {
-  undo = kept_entries log.limit (e ∷ log.undo);
+abbrev pub with_named : NamedEntry → Log → Log
+with_named e log = record log {
+  undo = limited log.limit (e.entry ∷ log.undo);
+  undo_names = limited log.limit (e.name ∷ log.undo_names);
   updated_at = position_stepped log.limit log.updated_at;
   saved_at = position_stepped log.limit log.saved_at;
 }
+
+-- so of one without a name
+abbrev pub with_entry : LogEntry → Log → Log
+with_entry e log = with_named (unnamed e) log
 
 -- nothing is left to make again
 abbrev pub without_redo : Log → Log
 without_redo log = record log {
   redo = [];
+  redo_names = [];
   updated_at = position_in_group log.updated_at;
   saved_at = position_in_group log.saved_at;
 }
 
 -- An edit's change is the newest: of the group that is open, or as an entry. Nothing is left to make again.
 abbrev pub added_to : Option (List Change) → Change → Log → Log
-added_to None c log = record (with_entry (entries.One c) log) { redo = []; touched = change_places c }
+added_to None c log = record (with_entry (entries.One c) log) { redo = []; redo_names = []; touched = change_places c }
 added_to (Some cs) c log = record (without_redo log) { group = Some (c ∷ cs); touched = change_places c }
 
 abbrev pub with_change : Change → Log → Log
@@ -194,12 +210,14 @@ closed_with (Some (c ∷ cs)) log = record (with_entry (entries.Group (c ∷ cs)
 abbrev pub with_group_closed : Log → Log
 with_group_closed log = closed_with log.group log
 
--- the next entry in a direction is the next in the opposite one
+-- the next entry in a direction is the next in the opposite one, and its name goes along
 abbrev pub moved_from : Direction → List LogEntry → Log → Log
 moved_from direction [] log = log
 moved_from Backwards (e ∷ es) log = record log {
   undo = es;
   redo = reversed_entry e ∷ log.redo;
+  undo_names = drop 1 log.undo_names;
+  redo_names = take 1 log.undo_names ++ log.redo_names;
   updated_at = position_after_undo log.updated_at;
   saved_at = position_after_undo log.saved_at;
   touched = next_places Backwards e;
@@ -207,6 +225,8 @@ moved_from Backwards (e ∷ es) log = record log {
 moved_from Forwards (e ∷ es) log = record log {
   undo = reversed_entry e ∷ log.undo;
   redo = es;
+  undo_names = take 1 log.redo_names ++ log.undo_names;
+  redo_names = drop 1 log.redo_names;
   updated_at = position_after_redo log.updated_at;
   saved_at = position_after_redo log.saved_at;
   touched = next_places Forwards e;
@@ -223,14 +243,20 @@ joined_entries es = es
 abbrev pub joined_log : Log → Log
 joined_log log = record log {
   undo = joined_entries log.undo;
+  undo_names = joined_names log.undo_names;
   updated_at = position_after_join log.updated_at;
   saved_at = position_after_join log.saved_at;
 }
 
+-- the newest entry has this name
+abbrev pub named_log : List ℕ → Log → Log
+named_log name log = record log { undo_names = name ∷ drop 1 log.undo_names }
+
 -- no more than so many entries are left to be undone, the newest
 abbrev pub forgotten_log : ℕ → Log → Log
 forgotten_log most log = record log {
-  undo = kept_entries (Some most) log.undo;
+  undo = limited (Some most) log.undo;
+  undo_names = limited (Some most) log.undo_names;
   updated_at = position_within (Some most) log.updated_at;
   saved_at = position_within (Some most) log.saved_at;
 }

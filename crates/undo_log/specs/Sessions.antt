@@ -5,7 +5,7 @@ use Rattle.std.specs.List.{sum_by}
 use Rattle.std.specs.Option.{option_map}
 use Rattle.std.specs.Ordering.{nat_cmp}
 use Rattle.geos_model.specs.Document.{Document, IsValid}
-use Rattle.geos_model.specs.LookUps.{block_look_up, chain_look_up, places_look_up, plain_look_up}
+use Rattle.geos_model.specs.LookUps.{block_look_up, chain_look_up, places_look_up, plain_look_up, step_name_look_up}
 use Rattle.geos_model.specs.Machine.{Machine, UndoStep, Step}
 use Rattle.geos_model.specs.Reply.{Reply}
 use Rattle.geos_model.specs.declared.command.Command.{Command}
@@ -60,6 +60,8 @@ machine_of target s = record {
   document = s.document;
   past = steps Backwards s.log.undo (before s.log.group s.document);
   future = steps Forwards s.log.redo s.document;
+  past_names = s.log.undo_names;
+  future_names = s.log.redo_names;
   group = option_map (group_of s.document) s.log.group;
   updated = s.disk.updated;
   saved = s.disk.saved;
@@ -139,6 +141,7 @@ AnswersWithoutBody old new command reply =
 abbrev pub AnswersAsked : {S : Type 0} → (S → StoreFacts) → SessionState S → SessionState S → LookUp → Reply → Type 0
 AnswersAsked facts old new look_ups.List reply = AnswersWithoutBody old new commands.List reply
 AnswersAsked facts old new (look_ups.Plain asked) reply = AnswersWithoutBody old new (plain_look_up asked) reply
+AnswersAsked facts old new (look_ups.StepName asked) reply = AnswersWithoutBody old new (step_name_look_up asked) reply
 AnswersAsked facts old new (look_ups.Places asked) reply = AnswersWithoutBody old new (places_look_up asked) reply
 AnswersAsked facts old new (look_ups.InBlock b asked) reply = AnswersLookUp facts old new (block_look_up b asked) reply
 AnswersAsked facts old new (look_ups.AlongChain asked) reply = AnswersAlongChain facts old new (chain_look_up asked) reply

@@ -7,8 +7,8 @@ use Rattle.vm_blocks.specs.ChangePlaces.{change_places, directed_places}
 use Rattle.vm_blocks.specs.declared.change.Change.{Change}
 use Rattle.chunk_edits.specs.declared.direction.Direction.{Direction}
 use Rattle.chunk_edits.specs.declared.direction.Direction.TheVariants.{Backwards, Forwards}
-use Rattle.undo_log.specs.declared.entry.LogEntry.{LogEntry}
-use Rattle.undo_log.specs.declared.entry.LogEntry.TheVariants as entries
+use Rattle.undo_log.specs.Entries.{LogEntry}
+use Rattle.undo_log.specs.Entries as entries
 use Rattle.undo_log.specs.declared.touched.Touched.{Touched}
 use Rattle.undo_log.specs.declared.touched.Touched.TheVariants as touched
 
@@ -47,7 +47,7 @@ told touched.Nothing newest next = []
 told touched.All newest next = place.All ∷ []
 told (touched.Newest n) newest next = all_places Forwards (reverse (take n newest))
 told touched.Undone newest next = all_places Backwards (reverse next)
-told (touched.Forgotten e) newest next = all_places Forwards (reverse (changes_in e))
+told (touched.Forgotten e) newest next = all_places Forwards (reverse (changes_in e.entry))
 told (touched.Abandoned cs) newest next = all_places Backwards cs
 
 -- of no more than so many of the newest changes

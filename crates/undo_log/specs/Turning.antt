@@ -1,12 +1,13 @@
 -- A step from one list of the log to the other, and taking back the group that is open.
-use Rattle.std.specs.Prelude.{◌≡◌, ◌≢◌, ◌⊎◌, true, nat_lt, List, [], ◌∷◌, length, map, Option, Some, None, is_some, if◌then◌else◌}
+use Rattle.std.specs.Prelude.{◌≡◌, ◌≢◌, ◌⊎◌, ◌==◌, ℕ, true, nat_lt, List, [], ◌∷◌, length, map, Option, Some, None, is_some, if◌then◌else◌}
 use Rattle.geos_model.specs.Document.{Document}
+use Rattle.geos_model.specs.Machine.{longest_name}
 use Rattle.geos_model.specs.declared.command.Command.{Command}
 use Rattle.geos_model.specs.declared.command.Command.TheVariants as commands
 use Rattle.geos_model.specs.declared.command.Kind.{Kind}
 use Rattle.geos_model.specs.declared.command.Kind.TheVariants.{Plain, In, Made, Freed, Group}
 use Rattle.geos_model.specs.declared.fault.Fault.{Fault}
-use Rattle.geos_model.specs.declared.fault.Fault.TheVariants.{Damaged, GroupOpen, Locked, NoGroup, NothingToRedo, NothingToUndo}
+use Rattle.geos_model.specs.declared.fault.Fault.TheVariants.{Damaged, GroupOpen, Locked, NoGroup, NothingToRedo, NothingToUndo, TooBig}
 use Rattle.vm_store.specs.Facts.{StoreFacts}
 use Rattle.vm_blocks.specs.State.{CacheState}
 use Rattle.vm_blocks.specs.Changes.{directed, incoming_blocks}
@@ -18,8 +19,8 @@ use Rattle.chunk_edits.specs.declared.direction.Direction.TheVariants.{Forwards,
 use Rattle.doc_edits.specs.Planning.{kind_of_change}
 use Rattle.undo_log.specs.Logging.{abandoned_log, after_entry, open_changes, reversed_entry}
 use Rattle.undo_log.specs.Sessions.{SessionState, cache_of, has_locked_blocks, CanApplyAllDirected, IsExact}
-use Rattle.undo_log.specs.declared.entry.LogEntry.{LogEntry}
-use Rattle.undo_log.specs.declared.entry.LogEntry.TheVariants as entries
+use Rattle.undo_log.specs.Entries.{LogEntry}
+use Rattle.undo_log.specs.Entries as entries
 
 -- The changes of an entry are made.
 abbrev pub IsEntryApplied : {S : Type 0} → (S → StoreFacts) → Direction → LogEntry → CacheState S → CacheState S
@@ -86,6 +87,14 @@ abandon_fault s = if is_some s.log.group then (if has_locked_blocks s then Some 
 abbrev pub join_fault : {S : Type 0} → SessionState S → Option Fault
 join_fault s =
     if is_some s.log.group then Some GroupOpen else if nat_lt (length s.log.undo) 2 then Some NothingToUndo else None
+
+-- What keeps the newest step from having a name of so many bytes, for want of memory aside: an open group, that there is
+-- no step, or the length.
+abbrev pub name_fault : {S : Type 0} → ℕ → SessionState S → Option Fault
+name_fault n s =
+    if is_some s.log.group then Some GroupOpen
+    else if length s.log.undo == 0 then Some NothingToUndo
+    else if nat_lt longest_name n then Some TooBig else None
 
 -- Why what the log has can't be made: for a fault of what the call may lack; or, in a session that isn't exact, a body
 -- that doesn't take a change.

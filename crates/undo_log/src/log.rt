@@ -1,12 +1,15 @@
-//! The log: what can be undone, what can be made again, the group that is open, and where the committed documents stand.
-ghost use Rattle.std.specs.Prelude.{◌≡◌, ◌≢◌, ◌<◌, ◌≤◌, ◌+◌, ◌-◌, ◌^◌, ◌++◌, [], ◌&&◌, ◌==◌, IfErr, IfOk, true, Some, None, OnOk, MatchOption, MatchResult, is_some, length, min, reverse};
+//! The log: what can be undone, what can be made again, the group that is open, and where the committed documents
+//! stand.
+ghost use Rattle.std.specs.Prelude.{◌≡◌, ◌≢◌, ◌<◌, ◌≤◌, ◌+◌, ◌-◌, ◌^◌, ◌++◌, [], ◌&&◌, ◌==◌, IfErr, IfOk, IsOk, true, Some, None, OnOk, MatchOption, MatchResult, is_some, length, min, reverse};
 ghost use Rattle.std.specs.Option.{option_map};
 ghost use Rattle.chunk_edits.specs.declared.direction.Direction.TheVariants.{Backwards, Forwards};
-ghost use Rattle.undo_log.specs.Logging.{AreExclusive, IsHead, ReversesAt, abandoned_log, changes_in, forgotten_log, fresh_log, is_at, joined_log, open_changes, next_entries, next_moved, retold, reverted_log, saved_log, to_redo, to_undo, total_weight, updated_log, with_change, with_entry, with_group_closed, without_redo};
+ghost use Rattle.geos_model.specs.Machine.{first_name};
+ghost use Rattle.undo_log.specs.Entries.{entries_of, names_of};
+ghost use Rattle.undo_log.specs.Logging.{AreExclusive, IsHead, BecomesAt, abandoned_log, changes_in, forgotten_log, fresh_log, is_at, joined_log, open_changes, named, named_log, next_entries, next_moved, next_names, retold, reverted_log, saved_log, to_redo, to_undo, total_weight, turned_over, updated_log, with_change, with_group_closed, with_named, without_redo};
 ghost use Rattle.undo_log.specs.Asking.{asked_places, places_ahead};
 ghost use Rattle.undo_log.specs.Telling.{newest_changes, next_changes, told};
 
-use crate::entry::{Changes, LogEntry};
+use crate::entry::{Changes, NamedEntry};
 use crate::growing::reserve_one;
 use crate::joining::{empty_entries, join_at};
 use crate::marks::Marks;
@@ -22,7 +25,7 @@ use vm_blocks::{Change, Direction};
 pub struct UndoLog {
     // Those that are forgotten, each without a change; those that can be undone, the newest last; and those that can be
     // made again, the next first. There is room for the group that is open behind the ones that can be undone.
-    entries: Vec<LogEntry>,
+    entries: Vec<NamedEntry>,
     // How many of them are forgotten. They are fewer than the others, or a part of them is taken away.
     dead: usize,
     // How many of them can't be made again: those that are forgotten, and those that can be undone.
@@ -38,6 +41,7 @@ pub struct UndoLog {
 }
 
 impl Model for UndoLog {
+    ghost use Rattle.undo_log.specs.Entries.{entries_of, names_of};
     ghost use Rattle.undo_log.specs.Logging.{LogState};
     ghost use Rattle.undo_log.specs.Codes.{log_state_code};
     ghost use Rattle.undo_log.specs.Logging.{AreExclusive, open_changes};
@@ -54,15 +58,17 @@ impl Model for UndoLog {
 
     ghost view = { λ l. record {
       lists = record {
-        undo = reverse (drop l.dead (take l.done l.entries.items));
-        redo = drop l.done l.entries.items;
+        undo = entries_of (reverse (drop l.dead (take l.done l.entries.items)));
+        redo = entries_of (drop l.done l.entries.items);
+        undo_names = names_of (reverse (drop l.dead (take l.done l.entries.items)));
+        redo_names = names_of (drop l.done l.entries.items);
         group = option_map (λ changes. reverse changes.items) l.group;
         updated_at = position_of l.done l.marks.updated;
         saved_at = position_of l.done l.marks.saved;
         touched = told l.last
-            (newest_changes (reverse (drop l.dead (take l.done l.entries.items)))
+            (newest_changes (entries_of (reverse (drop l.dead (take l.done l.entries.items))))
             (option_map (λ changes. reverse changes.items) l.group))
-            (next_changes (drop l.done l.entries.items));
+            (next_changes (entries_of (drop l.done l.entries.items)));
         limit = l.limit;
       };
       last = l.last;
@@ -75,7 +81,7 @@ impl Model for UndoLog {
         × (l.done + waiting (option_map (λ changes. (vec_len changes, vec_capacity changes)) l.group)
         ≤ vec_capacity l.entries)
         × AreExclusive (open_changes (option_map (λ changes. reverse changes.items) l.group))
-        (drop l.done l.entries.items) };
+        (entries_of (drop l.done l.entries.items)) };
 }
 
 impl UndoLog {
@@ -124,7 +130,7 @@ impl UndoLog {
             changes.push_reserved(change);
             return;
         }
-        self.push(alloc, LogEntry::One(change));
+        self.push(alloc, NamedEntry::one(change));
     }
 
     // Nothing is left to make again, nor to be told of it.
@@ -140,12 +146,12 @@ impl UndoLog {
     }
 
     // An entry is the newest, and the limit may take the oldest.
-    fn push(&mut self, alloc: Global, entry: LogEntry)
+    fn push(&mut self, alloc: Global, entry: NamedEntry)
         requires room { self.old.room ≡ true }
         requires closed { self.old.lists.group ≡ None }
         requires none { self.old.lists.redo ≡ [] }
         ensures { self.new.lists
-            ≡ record (with_entry entry self.old.lists) { touched = told self.old.last (changes_in entry) [] } }
+            ≡ record (with_named entry self.old.lists) { touched = told self.old.last (changes_in entry.entry) [] } }
     {
         self.entries.push_reserved(entry);
         self.done = self.entries.len();
@@ -213,14 +219,39 @@ impl UndoLog {
     }
 
     /// The next entry in a direction: to go backwards is to undo.
-    pub(crate) fn next_entry(&self, direction: Direction) -> Option<&LogEntry>
-        ensures { MatchOption result (next_entries direction self.now.lists ≡ [])
-            (λ entry. IsHead entry.now (next_entries direction self.now.lists)) }
+    pub(crate) fn next_entry(&self, direction: Direction) -> Option<&NamedEntry>
+        ensures next { MatchOption result (next_entries direction self.now.lists ≡ [])
+            (λ entry. IsHead entry.now.entry (next_entries direction self.now.lists)) }
+        ensures named { MatchOption result ([] ≡ first_name (next_names direction self.now.lists))
+            (λ entry. entry.now.name ≡ first_name (next_names direction self.now.lists)) }
     {
         match direction {
             Direction::Backwards => self.made().last(),
             Direction::Forwards => self.undone().first(),
         }
+    }
+
+    /// The name of the next entry in a direction; no bytes where it has none.
+    pub(crate) fn next_name(&self, direction: Direction) -> &[u8]
+        ensures { result.now ≡ first_name (next_names direction self.now.lists) }
+    {
+        match self.next_entry(direction) {
+            Some(entry) => entry.name(),
+            None => &[],
+        }
+    }
+
+    /// The newest entry to be undone has this name, if there is memory for it; one without bytes takes none.
+    pub(crate) fn name_newest(&mut self, alloc: Global, name: &[u8]) -> Result<(), AllocError>
+        requires { self.old.lists.undo ≢ [] }
+        ensures done { MatchResult result
+            (λ _. self.new.lists ≡ named_log name.now self.old.lists)
+            (λ _. self.new.lists ≡ self.old.lists) }
+        ensures none { name.now ≡ [] → IsOk result }
+    {
+        let name = copy_of(alloc, name)?;
+        name_at(alloc, self.entries.as_mut_slice(), self.done - 1, name)?;
+        Ok(())
     }
 
     /// The next entry in a direction was made: it becomes the next in the opposite one. Without one, nothing changes.
@@ -272,7 +303,10 @@ impl UndoLog {
     {
         if let Some(changes) = self.group.take() {
             if !changes.is_empty() {
-                self.push(alloc, LogEntry::Group(Changes::new(changes)));
+                self.push(
+                    alloc,
+                    NamedEntry::group(Changes::new(changes), Vec::new(alloc)),
+                );
             }
         }
     }
@@ -456,15 +490,17 @@ impl UndoLog {
     }
 
     // The entries that can be undone, the newest last.
-    fn made(&self) -> &[LogEntry]
-        ensures { reverse result.now ≡ self.now.lists.undo }
+    fn made(&self) -> &[NamedEntry]
+        ensures entries { entries_of (reverse result.now) ≡ self.now.lists.undo }
+        ensures names { names_of (reverse result.now) ≡ self.now.lists.undo_names }
     {
         &self.entries.as_slice()[self.dead..self.done]
     }
 
     // The entries that can be made again, the next first.
-    fn undone(&self) -> &[LogEntry]
-        ensures { result.now ≡ self.now.lists.redo }
+    fn undone(&self) -> &[NamedEntry]
+        ensures entries { entries_of result.now ≡ self.now.lists.redo }
+        ensures names { names_of result.now ≡ self.now.lists.redo_names }
     {
         &self.entries.as_slice()[self.done..]
     }
@@ -478,9 +514,37 @@ impl UndoLog {
 }
 
 // The entry at a place is turned over.
-fn turn_over_at(entries: &mut [LogEntry], place: usize)
+fn turn_over_at(entries: &mut [NamedEntry], place: usize)
     requires { place < length entries.old }
-    ensures { ReversesAt place entries.old entries.new }
+    ensures { BecomesAt turned_over place entries.old entries.new }
 {
     entries[place].turn_over();
+}
+
+// The entry at a place has a name, if there is memory for it; one without bytes takes none.
+fn name_at(
+    alloc: Global,
+    entries: &mut [NamedEntry],
+    place: usize,
+    name: Vec<u8>,
+) -> Result<(), AllocError>
+    requires { place < length entries.old }
+    ensures done { MatchResult result
+        (λ _. BecomesAt (named name.items) place entries.old entries.new)
+        (λ _. entries.new ≡ entries.old) }
+    ensures none { name.items ≡ [] → IsOk result }
+{
+    entries[place].set_name(alloc, name)
+}
+
+// Bytes of their own; none take no memory.
+fn copy_of(alloc: Global, bytes: &[u8]) -> Result<Vec<u8>, AllocError>
+    ensures bytes { IfOk result (λ copy. copy.items ≡ bytes.now) }
+    ensures none { bytes.now ≡ [] → IsOk result }
+{
+    if bytes.is_empty() {
+        Ok(Vec::new(alloc))
+    } else {
+        Vec::from_slice(alloc, bytes)
+    }
 }

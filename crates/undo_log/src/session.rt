@@ -319,8 +319,8 @@ impl<S: Store> Session<S> {
     /// group is open, and then Locked where any block is, before all else; NothingToUndo. Memory or File where a block
     /// has to be brought into memory or comes in; Damaged only over a store that isn't honest, or after a save-as from
     /// one. Where with a group a block comes in under the handle of one that goes, or those that it changes don't fit
-    /// into memory together, all that is changed in memory is written to the file first, and where it is refused then no
-    /// block may be in memory afterwards.
+    /// into memory together, all that is changed in memory is written to the file first, and where it is refused then
+    /// no block may be in memory afterwards.
     pub fn undo(&mut self) -> Result<(), Fault>
         // What is done.
         ensures step { IsStep S.facts self.old self.new commands.Undo (reply_by (λ _. Accepted) result) }

@@ -5,7 +5,7 @@ ghost use Rattle.undo_log.specs.Telling.{all_places, clipped};
 ghost use Rattle.undo_log.specs.Joining.{KeepsBefore};
 ghost use Rattle.undo_log.specs.declared.touched.Touched.TheVariants.{Newest, Undone};
 
-use crate::entry::{Changes, LogEntry};
+use crate::entry::{Changes, NamedEntry};
 use geos_model::Place;
 use std::alloc::{AllocError, Global};
 use std::mem::replace;
@@ -23,7 +23,7 @@ pub enum Touched {
     /// By the next entry to be made again, which was undone.
     Undone,
     /// By the changes of an entry that was forgotten since, or the newest of them.
-    Forgotten(LogEntry),
+    Forgotten(NamedEntry),
     /// By changes that were taken back with their group.
     Abandoned(Changes),
 }
@@ -54,7 +54,7 @@ impl Touched {
     pub(crate) fn keep_before(
         &mut self,
         alloc: Global,
-        entries: &mut [LogEntry],
+        entries: &mut [NamedEntry],
         place: usize,
         is_told: bool,
     )
@@ -66,7 +66,7 @@ impl Touched {
         }
         if let Touched::Newest(count) = self {
             let count = *count;
-            let entry = replace(&mut entries[place - 1], LogEntry::empty(alloc));
+            let entry = replace(&mut entries[place - 1], NamedEntry::empty(alloc));
             *self = Touched::Forgotten(entry.into_next(alloc, count));
         }
     }

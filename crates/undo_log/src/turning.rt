@@ -9,7 +9,7 @@ ghost use Rattle.undo_log.specs.Logging.{after_all, after_entry, changes_in};
 ghost use Rattle.undo_log.specs.Sessions.{CanApplyAllDirected};
 ghost use Rattle.undo_log.specs.Turning.{CanApplyEntry, CantApplyEntry, IsEntryApplied, no_step_fault};
 
-use crate::entry::LogEntry;
+use crate::entry::NamedEntry;
 use geos_model::Fault;
 use vm_blocks::{Change, Direction, FileBlocks};
 use vm_store::Store;
@@ -27,27 +27,27 @@ pub fn nothing_to_turn(direction: Direction) -> Fault
 /// Makes the changes of an entry in a direction, all or none. No block is locked.
 pub fn make_entry<S: Store>(
     blocks: &mut FileBlocks<S>,
-    entry: &LogEntry,
+    entry: &NamedEntry,
     direction: Direction,
 ) -> Result<(), Fault>
     // Asked of the caller.
     requires unmarked { blocks.old.disk.marked ≡ None }
     requires unlocked { nat_lt 0 (locked_count blocks.old.resident) ≡ false }
-    requires listed { CanApplyAllByHandle (map (directed direction) (changes_in entry.now)) blocks.old.document }
+    requires listed { CanApplyAllByHandle (map (directed direction) (changes_in entry.now.entry)) blocks.old.document }
     // What is done.
-    ensures ok { OnOk result (IsEntryApplied S.facts direction entry.now blocks.old blocks.new) }
+    ensures ok { OnOk result (IsEntryApplied S.facts direction entry.now.entry blocks.old blocks.new) }
     ensures err { OnErr result (KeepsBlocks S.facts blocks.old blocks.new) }
     // Refusals.
-    ensures refusals { IfErr result (CantApplyEntry S.facts direction entry.now blocks.old blocks.new) }
+    ensures refusals { IfErr result (CantApplyEntry S.facts direction entry.now.entry blocks.old blocks.new) }
     // When the answer is known beforehand.
-    ensures sure { CanApplyEntry direction entry.now blocks.old
+    ensures sure { CanApplyEntry direction entry.now.entry blocks.old
         → IsOk result × (blocks.new.disk ≡ blocks.old.disk)
-        × (blocks.new.document ≡ after_entry direction entry.now blocks.old.document) }
+        × (blocks.new.document ≡ after_entry direction entry.now.entry blocks.old.document) }
 {
     blocks.reveal_invariant();
-    match entry {
-        LogEntry::One(change) => blocks.change(change, direction),
-        LogEntry::Group(changes) => blocks.change_all(changes.as_slice(), direction),
+    match entry.edit() {
+        Some(change) => blocks.change(change, direction),
+        None => blocks.change_all(entry.as_slice(), direction),
     }
 }
 

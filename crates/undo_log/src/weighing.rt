@@ -3,7 +3,7 @@ ghost use Rattle.std.specs.Prelude.{◌≡◌, ◌-◌, ◌^◌, min};
 ghost use Rattle.std.specs.List.{sum_by};
 ghost use Rattle.undo_log.specs.Logging.{entry_weight, total_weight};
 
-use crate::entry::LogEntry;
+use crate::entry::NamedEntry;
 use vm_blocks::Change;
 
 /// How many content bytes changes hold together, 2^64 - 1 where these are more.
@@ -18,8 +18,8 @@ pub fn total_weight(changes: &[Change]) -> u64
 }
 
 /// How many those of entries hold.
-pub fn entries_weight(entries: &[LogEntry]) -> u64
-    ensures { result ≡ min (sum_by entry_weight entries.now) (2 ^ 64 - 1) }
+pub fn entries_weight(entries: &[NamedEntry]) -> u64
+    ensures { result ≡ min (sum_by (λ e. entry_weight e.entry) entries.now) (2 ^ 64 - 1) }
 {
     let mut total = 0u64;
     for entry in entries.iter() {

@@ -1,5 +1,5 @@
-//! Blocks that changes bring in, which are put in before all else that is done in memory, and taken out again where that
-//! can't be done.
+//! Blocks that changes bring in, which are put in before all else that is done in memory, and taken out again where
+//! that can't be done.
 ghost use Rattle.std.specs.Prelude.{◌≡◌, [], true, IfErr, IsOk, MatchOption, OnErr, OnOk};
 ghost use Rattle.std.specs.List.{All, list_any};
 ghost use Rattle.geos_model.specs.Document.{handles_of, is_live, is_vm_handle};

@@ -21,8 +21,8 @@ use vm_store::Store;
 pub(crate) enum Obstacle {
     /// Memory ran out, the store failed, or what it gave back is no body.
     Fault(Fault),
-    /// They can't be carried out there: a block comes in under a handle that is live before the blocks go that do, those
-    /// whose bodies change don't fit into memory together, or what goes doesn't stand there.
+    /// They can't be carried out there: a block comes in under a handle that is live before the blocks go that do,
+    /// those whose bodies change don't fit into memory together, or what goes doesn't stand there.
     NotInMemory,
 }
 

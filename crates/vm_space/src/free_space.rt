@@ -23,8 +23,8 @@ pub struct FreeSpace {
     // For each page, how many of the extents that are taken lie on it: extents of a file may overlap. A page behind the
     // last one is free.
     counts: Vec<u16>,
-    // For each number of pages, one before which so many are free nowhere. Kept apart, so that little is moved where the
-    // space is.
+    // For each number of pages, one before which so many are free nowhere. Kept apart, so that little is moved where
+    // the space is.
     hints: Vec<u32>,
     count: usize,
 }
@@ -197,8 +197,8 @@ fn last_taken(counts: &[u16], start: usize, end: usize) -> Option<usize>
     None
 }
 
-// The first page from one on at which so many are free. Each look begins at the last page of a place, so that most pages
-// are passed over unseen.
+// The first page from one on at which so many are free. Each look begins at the last page of a place, so that most
+// pages are passed over unseen.
 fn first_run(counts: &[u16], from: usize, pages: usize) -> usize
     requires near { from < 2 ^ 32 }
     requires few { pages ≤ MOST_PAGES }

@@ -80,8 +80,8 @@ pub trait SystemFile: Drop {
         ensures durable { OnOk result (IsTrue (facts self.old).store.honest → (facts self.old).has_failed_sync ≡ false
             → IsDurable (facts self.new).store) };
 
-    /// Syncs a file whose content is whole from now on: one that was made beside the file of a path takes its place. Any
-    /// other does what a sync does.
+    /// Syncs a file whose content is whole from now on: one that was made beside the file of a path takes its place.
+    /// Any other does what a sync does.
     fn settle(&mut self) -> Result<(), SystemFault>
         ensures honest { (facts self.new).store.honest ≡ (facts self.old).store.honest }
         ensures told { IsTrue (facts self.old).store.honest → CountsFailure result (facts self.old) (facts self.new) }

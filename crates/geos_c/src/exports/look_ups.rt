@@ -563,3 +563,31 @@ pub extern "C" fn geosvm_modified(handle: &mut Handle, alloc: Global, modified: 
 {
     number(handle, alloc, &Command::Modified, modified)
 }
+
+/// The name of the step that an undo takes back; no bytes where it has none.
+#[unsafe(no_mangle)]
+pub extern "C" fn geosvm_undo_name(
+    handle: &mut Handle,
+    alloc: Global,
+    name: &mut [u8],
+    length: &mut usize,
+) -> i32
+    ensures { HandsOutOnHandle (ReadsBytes facts commands.UndoName)
+        handle.old handle.new name.old name.new length.new result }
+{
+    bytes(handle, alloc, &Command::UndoName, name, length)
+}
+
+/// That of the step that a redo makes again.
+#[unsafe(no_mangle)]
+pub extern "C" fn geosvm_redo_name(
+    handle: &mut Handle,
+    alloc: Global,
+    name: &mut [u8],
+    length: &mut usize,
+) -> i32
+    ensures { HandsOutOnHandle (ReadsBytes facts commands.RedoName)
+        handle.old handle.new name.old name.new length.new result }
+{
+    bytes(handle, alloc, &Command::RedoName, name, length)
+}

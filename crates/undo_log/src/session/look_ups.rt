@@ -3,19 +3,21 @@ ghost use Rattle.std.specs.Prelude.{◌≡◌, Bool, true, false, Some};
 ghost use Rattle.std.specs.Borrow.{sem};
 ghost use Rattle.std.specs.Option.{option_map};
 ghost use Rattle.geos_model.specs.Forms.{form_asked, has_form};
-ghost use Rattle.geos_model.specs.LookUps.{command_of, places_look_up, plain_look_up};
-ghost use Rattle.geos_model.specs.Reply.{NumberIs, PlacesAre, reply_by, reply_of, blocks_are, found};
+ghost use Rattle.geos_model.specs.LookUps.{command_of, places_look_up, plain_look_up, step_name_look_up};
+ghost use Rattle.geos_model.specs.Reply.{BytesAre, NumberIs, PlacesAre, reply_by, reply_of, blocks_are, found};
 ghost use Rattle.geos_model.specs.Machine.{Step};
 ghost use Rattle.geos_model.specs.declared.command.Command.TheVariants as commands;
 ghost use Rattle.doc_edits.specs.LookUps.{AfterLoan};
-ghost use Rattle.undo_log.specs.Asking.{places_fault, turn_fault};
+ghost use Rattle.undo_log.specs.Asking.{direction_of, places_fault, turn_fault};
 ghost use Rattle.undo_log.specs.Sessions.{machine_of, AnswersAsked};
 ghost use Rattle.undo_log.specs.contracts.session.Session.{the_row};
 
 use super::Session;
 use crate::turning::nothing_to_turn;
 use doc_edits::look_ups::{self, Prepared};
-use geos_model::{Fault, LookUp, Place, PlacesLookUp, PlainLookUp, Reply, VmHandle};
+use geos_model::{
+    Fault, LookUp, Place, PlacesLookUp, PlainLookUp, Reply, StepNameLookUp, VmHandle,
+};
 use vm_blocks::Direction;
 use vm_store::Store;
 
@@ -45,6 +47,7 @@ impl<S: Store> Session<S> {
                 Ok(Reply::Blocks(&self.lists.blocks))
             }
             LookUp::Plain(asked) => self.plain(asked),
+            LookUp::StepName(asked) => self.named(asked),
             LookUp::Places(asked) => {
                 // What was lent before goes first.
                 self.shown = Vec::new(self.alloc);
@@ -92,6 +95,31 @@ impl<S: Store> Session<S> {
             PlainLookUp::Undos => Ok(Reply::Number(self.undo_count() as u64)),
             PlainLookUp::Redos => Ok(Reply::Number(self.redo_count() as u64)),
             PlainLookUp::Modified => Ok(Reply::Number(self.stands_as())),
+        }
+    }
+
+    // The name of a step, as a reply.
+    fn named(&self, asked: StepNameLookUp) -> Result<Reply<'_>, Fault>
+        ensures { ((target : Bool) → Step false (machine_of target self.now) (Some (step_name_look_up asked))
+            (reply_by reply_of result) (machine_of target self.now))
+            × (has_form (reply_by reply_of result) (form_asked (step_name_look_up asked)) ≡ true) }
+    {
+        match self.step_name(asked) {
+            Ok(name) => Ok(Reply::Bytes(name)),
+            Err(fault) => Err(fault),
+        }
+    }
+
+    /// The name of the step that an undo takes back, or of the one that a redo makes again; no bytes where it has none.
+    /// GroupOpen while a group is open, before all else; NothingToUndo, NothingToRedo. No memory, no store.
+    pub fn step_name(&self, asked: StepNameLookUp) -> Result<&[u8], Fault>
+        ensures { (target : Bool) → Step false (machine_of target self.now) (Some (step_name_look_up asked))
+            (reply_by (λ name. BytesAre name.now) result) (machine_of target self.now) }
+    {
+        let direction = direction_of(asked);
+        match self.turn_fault(direction) {
+            Some(fault) => Err(fault),
+            None => Ok(self.log.next_name(direction)),
         }
     }
 
@@ -170,5 +198,15 @@ impl<S: Store> Session<S> {
             return Err(Fault::WrongKind);
         }
         Ok(self.blocks.attributes(block).heap_type)
+    }
+}
+
+// The direction of the step whose name is asked for.
+fn direction_of(asked: StepNameLookUp) -> Direction
+    ensures { result ≡ direction_of asked }
+{
+    match asked {
+        StepNameLookUp::Undo => Direction::Backwards,
+        StepNameLookUp::Redo => Direction::Forwards,
     }
 }

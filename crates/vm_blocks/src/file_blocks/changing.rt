@@ -46,9 +46,9 @@ impl<S: Store> FileBlocks<S> {
         self.turn(change, direction)
     }
 
-    /// Makes a change that can be made as things are, as the plan of an edit has just seen: the block whose body changes
-    /// is in memory, and takes it, so that neither is looked at again. It isn't refused but where blocks come in, which
-    /// are written to the file, all or none: Memory, File.
+    /// Makes a change that can be made as things are, as the plan of an edit has just seen: the block whose body
+    /// changes is in memory, and takes it, so that neither is looked at again. It isn't refused but where blocks come
+    /// in, which are written to the file, all or none: Memory, File.
     pub fn carry_out(&mut self, change: &Change) -> Result<(), Fault>
         // Asked of the caller.
         requires ready { CanCarryOut change.now self.old }

@@ -117,7 +117,8 @@ impl<S: Store> FileBlocks<S> {
         self.bring(handle)
     }
 
-    // Brings a block into memory that isn't there, and frees a frame for it if each one is taken. Refused as `fetch` is.
+    // Brings a block into memory that isn't there, and frees a frame for it if each one is taken. Refused as `fetch`
+    // is.
     fn bring(&mut self, handle: VmHandle) -> Result<(), Fault>
         // Asked of the caller.
         requires live { is_live self.old.document handle.0 ≡ true }
@@ -137,8 +138,8 @@ impl<S: Store> FileBlocks<S> {
         self.fetch(handle, region)
     }
 
-    // Frees a frame, if each one is taken. The region for the block that comes is that of the block that goes, or else a
-    // new one. Memory, File.
+    // Frees a frame, if each one is taken. The region for the block that comes is that of the block that goes, or else
+    // a new one. Memory, File.
     fn make_room(&mut self) -> Result<Region, Fault>
         requires { all_frames_locked self.old.frames self.old.resident ≡ false }
         ensures stays { KeepsDocument S.facts self.old self.new }

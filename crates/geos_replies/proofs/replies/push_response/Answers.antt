@@ -1,17 +1,19 @@
-use Rattle.std.proofs.Common.{◌≡◌, Ok, true, refl, rules, subst}
+use Rattle.std.proofs.Common.{◌≡◌, ℕ, List, Ok, true, ap, refl, rules, subst}
 use Rattle.std.proofs.lemmas.Result.{on_err_weaker}
 use Rattle.geos_model.specs.LookUps.{command_of, is_look_up}
-use Rattle.geos_model.specs.Reply.{Accepted, reply_of_done}
+use Rattle.geos_model.specs.Reply.{Accepted, reply_by, reply_of_done}
 use Rattle.geos_model.specs.declared.command.Command.{Command}
+use Rattle.geos_model.specs.declared.command.Command.TheVariants as commands
+use Rattle.undo_log.specs.Sessions.{IsStep}
 use Rattle.geos_model.specs.declared.fault.Fault.TheVariants as faults
 use Rattle.geos_replies.specs.Replies.{asks_no_body}
 use Rattle.geos_replies.proofs.Calls.{on_err_always, was_ok}
-use Rattle.geos_replies.proofs.FileFaults.{file_abandon, file_commit, file_edit, file_join, file_lock, file_turn, file_unlock, file_wrong}
-use Rattle.geos_replies.proofs.Frames.{frames_abandon, frames_edit, frames_join, frames_lock, frames_log, frames_same, frames_turn}
+use Rattle.geos_replies.proofs.FileFaults.{file_abandon, file_commit, file_edit, file_join, file_lock, file_name, file_turn, file_unlock, file_wrong}
+use Rattle.geos_replies.proofs.Frames.{frames_abandon, frames_edit, frames_logged, frames_lock, frames_log, frames_same, frames_turn}
 use Rattle.geos_replies.proofs.InMemory.{lock_in_memory, turn_in_memory}
 use Rattle.geos_replies.proofs.Refusals.{keeps_commit, keeps_if_same, keeps_same, keeps_with, on_err_of}
 use Rattle.geos_replies.proofs.Replying.{done_is_other, extends_told, replied, replied_accepted, replied_mapped, replied_told, seen_as, told_of}
-use Rattle.geos_replies.proofs.Serving.{disk_joined, disk_kept, lock_passes, serves_at_rest, serves_commit, serves_logging, serves_passing, serves_staying, told_as_accepted}
+use Rattle.geos_replies.proofs.Serving.{disk_logged, disk_kept, lock_passes, serves_at_rest, serves_commit, serves_logging, serves_passing, serves_staying, told_as_accepted}
 use Rattle.geos_replies.proofs.replies.push_response.Goals as goal
 
 -- Edits, and undo and redo, commit nothing.
@@ -98,7 +100,7 @@ returns-in-Abandon-clause-replied g c =
     (serves_passing facts _ _ _ _ _ _ done.passes done.step (λ nothing. nothing) (λ free sure. let taken = done.sure free sure in (told_as_accepted _ taken.0, taken.1)))
     (λ well. tt) c.push_accepted-in-Abandon.ensures.ok)
 
--- To join two steps or to forget some calls no store.
+-- To join two steps, to name one or to forget some calls no store.
 
 pub returns-in-Join-clause-replied : goal.returns-in-Join-clause-replied
 returns-in-Join-clause-replied g c =
@@ -109,8 +111,8 @@ returns-in-Join-clause-replied g c =
     rw c.in-Join.is (replied_accepted facts old new _ _ c.push_accepted-in-Join.result c.join.result _ _ _
     (on_err_weaker c.join.result (keeps_same facts _ _ old new) (on_err_of _ _ c.join.result done.done))
     (file_join facts old new c.join.result done.refusals)
-    (frames_join facts old new _ c.join.result done.done)
-    (serves_logging facts _ _ _ _ _ _ (disk_joined facts old new _ c.join.result done.done) done.step (λ stays. stays) tt)
+    (frames_logged facts old new _ c.join.result done.done)
+    (serves_logging facts _ _ _ _ _ _ (disk_logged facts old new _ c.join.result done.done) done.step (λ stays. stays) tt)
     (λ well. tt) c.push_accepted-in-Join.ensures.ok)
 
 pub returns-in-Forget-clause-replied : goal.returns-in-Forget-clause-replied
@@ -124,6 +126,20 @@ returns-in-Forget-clause-replied g c =
     tt tt (rw done.done refl)
     (serves_logging facts _ _ _ _ _ _ disk done.step (λ stays. stays) (refl, disk))
     (λ well. tt) c.push_accepted-in-Forget.ensures.ok)
+
+pub returns-in-Name-clause-replied : goal.returns-in-Name-clause-replied
+returns-in-Name-clause-replied g c =
+    let facts = g.S.Store.facts in
+    let old = c.args.session.now in
+    let new = c.name_step.new.self in
+    let done = c.name_step.ensures in
+    let named = ap (λ (name : List ℕ). commands.Name name) c.as_slice.ensures in
+    rw c.in-Name.is (replied_accepted facts old new _ _ c.push_accepted-in-Name.result c.name_step.result _ _ _
+    (on_err_weaker c.name_step.result (keeps_same facts _ _ old new) (on_err_of _ _ c.name_step.result done.done))
+    (file_name facts old new _ c.name_step.result done.refusals)
+    (frames_logged facts old new _ c.name_step.result done.done)
+    (serves_logging facts _ _ _ _ _ _ (disk_logged facts old new _ c.name_step.result done.done) (subst (λ (asked : Command). IsStep facts old new asked (reply_by (λ _. Accepted) c.name_step.result)) named done.step) (λ stays. stays) tt)
+    (λ well. tt) c.push_accepted-in-Name.ensures.ok)
 
 -- Commits.
 

@@ -1,12 +1,16 @@
-use Rattle.std.proofs.Common.{◌-◌, List, reverse, take, drop, sym, ap, ◌∙◌, arith}
+use Rattle.std.proofs.Common.{◌≡◌, ◌-◌, List, reverse, take, drop, sym, ap, ◌∙◌, arith}
 use Rattle.undo_log.specs.Logging.{LogState}
-use Rattle.undo_log.specs.declared.entry.LogEntry.{LogEntry}
+use Rattle.undo_log.specs.Entries.{NamedEntry, entries_of, names_of}
 use Rattle.undo_log.proofs.Segments.{between}
 use Rattle.undo_log.proofs.log.UndoLog.made.Goals as goal
 
 pub returns : goal.returns
 returns c =
     let dead = c.self.inside.dead in let done = c.self.inside.done in
-    ap (λ (es : List LogEntry). reverse (take (done - dead) (drop dead es))) c.as_slice.ensures.value
-    ∙ ap reverse (sym (between dead (done - dead) done c.self.inside.entries.items (omega (arith, c.self.invariant.0))))
-    ∙ ap (λ (l : LogState). l.lists.undo) c.self.view_is
+    let are : reverse (take (done - dead) (drop dead c.as_slice.result.now)) ≡ reverse (drop dead (take done c.self.inside.entries.items)) =
+    ap (λ (es : List NamedEntry). reverse (take (done - dead) (drop dead es))) c.as_slice.ensures.value
+    ∙ ap reverse (sym (between dead (done - dead) done c.self.inside.entries.items (omega (arith, c.self.invariant.0)))) in
+    record {
+      entries = ap entries_of are ∙ ap (λ (l : LogState). l.lists.undo) c.self.view_is;
+      names = ap names_of are ∙ ap (λ (l : LogState). l.lists.undo_names) c.self.view_is;
+    }

@@ -26,8 +26,8 @@ returns-in-None-clause-err g c = keeps_refl g.S.Store.facts c.args.self.now
 pub make_entry-requires-clause-listed : goal.make_entry-requires-clause-listed
 make_entry-requires-clause-listed g c =
     let old = session_with c.self.inside.blocks c.self.inside.log.lists in
-    next_listed g.S.Store.facts c.self.inside.blocks c.self.inside.blocks c.self.inside.log.lists c.args.direction c.in-Some-next_entry.entry.now (none_open old (ap busy_fault c.self.view_is ∙ sym c.in_default.ensures.is))
-    c.in-Some-next_entry.ensures c.self.invariant
+    next_listed g.S.Store.facts c.self.inside.blocks c.self.inside.blocks c.self.inside.log.lists c.args.direction c.in-Some-next_entry.entry.now.entry (none_open old (ap busy_fault c.self.view_is ∙ sym c.in_default.ensures.is))
+    c.in-Some-next_entry.ensures.next c.self.invariant
 
 pub invariant_of-self : goal.invariant_of-self
 invariant_of-self g c = kept_invariant g.S.Store.facts c.self.inside.blocks c.make_entry.new.blocks c.self.inside.log.lists c.in_err-make_entry-in-Some-next_entry.ensures.err c.self.invariant
@@ -36,12 +36,12 @@ pub invariant_of-self-in-Some-next_entry : goal.invariant_of-self-in-Some-next_e
 invariant_of-self-in-Some-next_entry g c =
     let old = session_with c.self.inside.blocks c.self.inside.log.lists in
     subst (Holds c.make_entry.new.blocks) (sym c.move_next.ensures)
-    (moved_invariant g.S.Store.facts c.self.inside.blocks c.make_entry.new.blocks c.self.inside.log.lists c.args.direction c.in-Some-next_entry.entry.now (none_open old (ap busy_fault c.self.view_is ∙ sym c.in_default.ensures.is))
-    c.in-Some-next_entry.ensures c.reveal_invariant.ensures.listed c.in_ok-make_entry-in-Some-next_entry.ensures.ok c.self.invariant)
+    (moved_invariant g.S.Store.facts c.self.inside.blocks c.make_entry.new.blocks c.self.inside.log.lists c.args.direction c.in-Some-next_entry.entry.now.entry (none_open old (ap busy_fault c.self.view_is ∙ sym c.in_default.ensures.is))
+    c.in-Some-next_entry.ensures.next c.reveal_invariant.ensures.listed c.in_ok-make_entry-in-Some-next_entry.ensures.ok c.self.invariant)
 
 pub returns-in_err-make_entry-in-Some-next_entry-clause-step : goal.returns-in_err-make_entry-in-Some-next_entry-clause-step
 returns-in_err-make_entry-in-Some-next_entry-clause-step g c =
-    let facts = g.S.Store.facts in let e = c.in_err-make_entry-in-Some-next_entry in let entry = c.in-Some-next_entry.entry.now in let first = c.in-Some-next_entry.ensures in
+    let facts = g.S.Store.facts in let e = c.in_err-make_entry-in-Some-next_entry in let entry = c.in-Some-next_entry.entry.now.entry in let first = c.in-Some-next_entry.ensures.next in
     let old = session_with c.self.inside.blocks c.self.inside.log.lists in
     let new = session_with c.make_entry.new.blocks c.self.inside.log.lists in
     let p = err_from_is_err_and c.from_residual.result c.from_residual.ensures.1 in
@@ -52,7 +52,7 @@ returns-in_err-make_entry-in-Some-next_entry-clause-step g c =
 
 pub returns-in_err-make_entry-in-Some-next_entry-clause-refusals : goal.returns-in_err-make_entry-in-Some-next_entry-clause-refusals
 returns-in_err-make_entry-in-Some-next_entry-clause-refusals g c =
-    let facts = g.S.Store.facts in let e = c.in_err-make_entry-in-Some-next_entry in let entry = c.in-Some-next_entry.entry.now in let first = c.in-Some-next_entry.ensures in
+    let facts = g.S.Store.facts in let e = c.in_err-make_entry-in-Some-next_entry in let entry = c.in-Some-next_entry.entry.now.entry in let first = c.in-Some-next_entry.ensures.next in
     let old = session_with c.self.inside.blocks c.self.inside.log.lists in
     let new = session_with c.make_entry.new.blocks c.self.inside.log.lists in
     let p = err_from_is_err_and c.from_residual.result c.from_residual.ensures.1 in
@@ -66,12 +66,12 @@ returns-in_err-make_entry-in-Some-next_entry-clause-passes g c =
 
 pub returns-in_err-make_entry-in-Some-next_entry-clause-sure : goal.returns-in_err-make_entry-in-Some-next_entry-clause-sure
 returns-in_err-make_entry-in-Some-next_entry-clause-sure g c =
-    let facts = g.S.Store.facts in let e = c.in_err-make_entry-in-Some-next_entry in let entry = c.in-Some-next_entry.entry.now in
+    let facts = g.S.Store.facts in let e = c.in_err-make_entry-in-Some-next_entry in let entry = c.in-Some-next_entry.entry.now.entry in
     let old = session_with c.self.inside.blocks c.self.inside.log.lists in
     let new = session_with c.make_entry.new.blocks c.self.inside.log.lists in
     subst (λ (s : SessionState g.row.S.Denot). busy_fault s ≡ None → IsSure facts s c.args.direction (next_entries c.args.direction s.log) → IsOk c.from_residual.result × (new.disk ≡ s.disk) × (new.document ≡ newest_made c.args.direction (next_entries c.args.direction s.log) s.document)) c.self.view_is
     (λ free sure. absurd (never_refused facts c.args.direction entry (cache_of old) (cache_of new) e.field-0.0 c.make_entry.result e.was c.make_entry.ensures.sure
-    (sure_turns facts old c.args.direction entry (next_entries c.args.direction old.log) c.in-Some-next_entry.ensures (next_can facts old c.args.direction free) sure)))
+    (sure_turns facts old c.args.direction entry (next_entries c.args.direction old.log) c.in-Some-next_entry.ensures.next (next_can facts old c.args.direction free) sure)))
 
 pub returns-in_ok-make_entry-in-Some-next_entry-clause-step : goal.returns-in_ok-make_entry-in-Some-next_entry-clause-step
 returns-in_ok-make_entry-in-Some-next_entry-clause-step g c =
@@ -79,11 +79,11 @@ returns-in_ok-make_entry-in-Some-next_entry-clause-step g c =
     let old = session_with c.self.inside.blocks c.self.inside.log.lists in
     let new = session_with c.make_entry.new.blocks c.move_next.new.self.lists in
     subst (λ (s : SessionState g.row.S.Denot). IsStep facts s new (step_command c.args.direction) Accepted) c.self.view_is
-    (turn_taken facts old new c.args.direction c.in-Some-next_entry.entry.now c.in-Some-next_entry.ensures (ap busy_fault c.self.view_is ∙ sym c.in_default.ensures.is) c.move_next.ensures c.in_ok-make_entry-in-Some-next_entry.ensures.ok)
+    (turn_taken facts old new c.args.direction c.in-Some-next_entry.entry.now.entry c.in-Some-next_entry.ensures.next (ap busy_fault c.self.view_is ∙ sym c.in_default.ensures.is) c.move_next.ensures c.in_ok-make_entry-in-Some-next_entry.ensures.ok)
 
 pub returns-in_ok-make_entry-in-Some-next_entry-clause-sure : goal.returns-in_ok-make_entry-in-Some-next_entry-clause-sure
 returns-in_ok-make_entry-in-Some-next_entry-clause-sure g c =
-    let facts = g.S.Store.facts in let entry = c.in-Some-next_entry.entry.now in let first = c.in-Some-next_entry.ensures in
+    let facts = g.S.Store.facts in let entry = c.in-Some-next_entry.entry.now.entry in let first = c.in-Some-next_entry.ensures.next in
     let old = session_with c.self.inside.blocks c.self.inside.log.lists in
     let new = session_with c.make_entry.new.blocks c.move_next.new.self.lists in
     subst (λ (s : SessionState g.row.S.Denot). busy_fault s ≡ None → IsSure facts s c.args.direction (next_entries c.args.direction s.log) → IsOk {E = Fault} (Ok (tt {0})) × (new.disk ≡ s.disk) × (new.document ≡ newest_made c.args.direction (next_entries c.args.direction s.log) s.document)) c.self.view_is
