@@ -1,7 +1,8 @@
 # Needs: python3
 """Makes edits, groups, undos, redos, joins, forgets, abandons and commits as they come, the same each time, and compares the document with
 those that are kept here: the one before each step, the one before the group that is open, and those that were committed. Behind each step
-that may change it `touched` is asked: what is told nowhere is as it was before.
+that may change it `touched` is asked: what is told nowhere is as it was before. Some steps are named, and behind each step the names of
+those that an undo and a redo take are asked for.
 
     python3 checks/edits_by_chance.py GEOSVM [COUNT]
 
@@ -116,12 +117,15 @@ class Chance(random.Random):
                                    f"nname {heap} {NAMES} {token} {data}", f"nset {heap} {NAMES} {token} {self.few():02x}",
                                    f"nunref {heap} {NAMES} {token}"])
 
+    def name(self):
+        return f"{self.randrange(256):02x}" * self.choice([0, 1, 2, 64, 65, self.randrange(66)]) or "-"
+
     def step(self):
         edit = self.choice([self.edit_of_blocks, self.edit_of_bytes, self.edit_of_arrays, self.edit_of_elements])()
         commit = self.choice(["revert"] + ["update"] * 3 + ["save"] * 4)
         forget = f"forget {self.choice([0, 1, 2, 4, 8, 12, 16, 20])}"
         turns = ["undo"] * 3 + ["redo"] * 2 + ["join"] * 2 + [forget]
-        return self.choice(["begin"] * 3 + ["end"] * 2 + ["abandon"] + turns + [commit] + [edit] * 12)
+        return self.choice(["begin"] * 3 + ["end"] * 2 + ["abandon"] + turns + [commit] + [f"name {self.name()}"] * 3 + [edit] * 12)
 
 
 class State:
@@ -132,7 +136,8 @@ class State:
 
 
 class Kept:
-    """The documents that there must be. One that no undo and no redo leads to is in no list any more, so that it never comes to be now."""
+    """The documents that there must be, those of the past and the future with the names of their steps. One that no undo and no redo leads
+    to is in no list any more, so that it never comes to be now."""
 
     def __init__(self, document, limit):
         self.now = self.updated = self.saved = State(document)
@@ -140,36 +145,57 @@ class Kept:
         self.past, self.future, self.group, self.has_edit, self.limit = [], [], None, False, limit
         # Whether the file has one directory for both documents.
         self.is_one = True
-        self.groups = self.abandons = self.turns = self.joins = self.forgets = self.stars = 0
+        self.groups = self.abandons = self.turns = self.joins = self.names = self.forgets = self.stars = 0
 
     def fault(self, step):
         if step in ("end", "abandon"):
             return "no 29 NoGroup" if self.group is None else None
-        if step not in ("begin", "undo", "redo", "join", "update", "save", "revert"):
+        asked, _, name = step.partition(" ")
+        if asked not in ("begin", "undo", "redo", "join", "name", "update", "save", "revert"):
             return None
         if self.group is not None:
             return "no 28 GroupOpen"
-        if step == "undo" and not self.past or step == "join" and len(self.past) < 2:
+        if asked in ("undo", "name") and not self.past or asked == "join" and len(self.past) < 2:
             return "no 22 NothingToUndo"
-        return "no 23 NothingToRedo" if step == "redo" and not self.future else None
+        if asked == "redo" and not self.future:
+            return "no 23 NothingToRedo"
+        return "no 9 TooBig" if len(name) > 2 * 64 else None
 
     def modified(self):
         """Which of the committed states this one is."""
         stands = not (self.group and self.has_edit)
         return stands * ((self.now is self.saved) + 2 * (self.now is self.updated))
 
+    def step_names(self):
+        """What is answered of the next step that an undo takes back, and that a redo makes again."""
+        if self.group is not None:
+            return ["no 28 GroupOpen"] * 2
+        return [f"bytes {steps[-1][1]}" if steps else fault
+                for steps, fault in ((self.past, "no 22 NothingToUndo"), (self.future, "no 23 NothingToRedo"))]
+
     def forget(self, most):
         self.past = self.past[max(0, len(self.past) - most):]
 
     def step_from(self, state):
-        self.past.append(state)
+        self.past.append((state, "-"))
         if self.limit:
             self.forget(self.limit)
 
     def turn(self, undone, made):
-        made.append(self.now)
-        self.now = undone.pop()
+        state, name = undone.pop()
+        made.append((self.now, name))
+        self.now = state
         self.turns += 1
+
+    def join(self):
+        """The document between the two steps goes."""
+        (_, newer), (state, older) = self.past.pop(), self.past.pop()
+        self.past.append((state, older if newer == "-" else newer))
+        self.joins += 1
+
+    def give_name(self, name):
+        self.past[-1] = (self.past[-1][0], name)
+        self.names += name != "-"
 
     def close_group(self, step):
         if step == "abandon":
@@ -205,9 +231,9 @@ class Kept:
         elif step == "redo":
             self.turn(self.future, self.past)
         elif step == "join":
-            # The document between the two steps.
-            self.past.pop()
-            self.joins += 1
+            self.join()
+        elif step.startswith("name "):
+            self.give_name(step.split()[1])
         elif step.startswith("forget "):
             before = len(self.past)
             self.forget(int(step.split()[1]))
@@ -219,7 +245,7 @@ class Kept:
         self.stars += self.modified() in (1, 2)
 
     def tally(self):
-        return [self.groups, self.abandons, self.turns, self.joins, self.forgets, self.stars]
+        return [self.groups, self.abandons, self.turns, self.joins, self.names, self.forgets, self.stars]
 
 
 def places_in(reply):
@@ -260,8 +286,8 @@ def look_at_told(step, is_moved, old, new, kept, told):
 def take(program, kept, step):
     [reply] = program.ask([step])
     document, undos, redos, modified = program.document()
-    [told] = program.ask(["touched"])
-    fault, old, is_edit = kept.fault(step), kept.now.document, " " in step and not step.startswith("forget ")
+    told, *names = program.ask(["touched", "undoname", "redoname"])
+    fault, old, is_edit = kept.fault(step), kept.now.document, " " in step and step.split()[0] not in ("forget", "name")
     is_moved = not reply.startswith("no ") and (is_edit or step in ("undo", "redo", "abandon", "revert"))
     if fault:
         assert reply == fault, f"{step}: wanted {fault}, got {reply}"
@@ -273,6 +299,7 @@ def take(program, kept, step):
     assert document == kept.now.document, f"another document behind {step}"
     assert (undos, redos) == (len(kept.past), len(kept.future)), f"something else can be undone or redone behind {step}"
     assert modified == kept.modified(), f"modified is {modified} and not {kept.modified()} behind {step}"
+    assert names == kept.step_names(), f"the names are {names} and not {kept.step_names()} behind {step}"
 
 
 def go(geosvm, path, frames, seed):
@@ -298,7 +325,7 @@ def main():
     geosvm = os.path.abspath(sys.argv[1])
     count = int(sys.argv[2]) if len(sys.argv) > 2 else 20
     passed = failed = 0
-    tally = [0] * 6
+    tally = [0] * 7
     with tempfile.TemporaryDirectory() as folder:
         for frames in (1, 2, 8):
             for seed in range(count):
@@ -308,11 +335,11 @@ def main():
                 except AssertionError as wrong:
                     failed += 1
                     print(f"FAILED  {frames} frames, the steps of {seed}: {wrong}")
-    groups, abandons, turns, joins, forgets, stars = tally
-    print(f"        {groups} groups, {abandons} that were abandoned, {turns} undos and redos, {joins} joins, {forgets} times something was "
-          f"forgotten; {stars} times saved and not updated, or the reverse")
+    groups, abandons, turns, joins, names, forgets, stars = tally
+    print(f"        {groups} groups, {abandons} that were abandoned, {turns} undos and redos, {joins} joins, {names} names, {forgets} "
+          f"times something was forgotten; {stars} times saved and not updated, or the reverse")
     # They aren't a few.
-    often = abandons > count and turns > 12 * count and min(groups, joins, forgets, stars) > 2 * count
+    often = abandons > count and turns > 12 * count and min(groups, joins, names, forgets, stars) > 2 * count
     print(f"{passed + often} passed, {failed + (not often)} failed")
     sys.exit(failed != 0 or not often)
 

@@ -75,7 +75,7 @@ typedef struct geosvm_session {
 #define GEOSVM_NO_CHUNK         6
 #define GEOSVM_WRONG_KIND       7   /* a heap where a raw block is wanted, or the reverse */
 #define GEOSVM_FULL             8   /* the heap would need more than 65,520 bytes */
-#define GEOSVM_TOO_BIG          9   /* a raw block would have more than 65,520 bytes */
+#define GEOSVM_TOO_BIG          9   /* a raw block would have more than 65,520 bytes, or a step a name of more than 64 */
 #define GEOSVM_NO_HANDLES      10
 #define GEOSVM_RANGE           11   /* a place, length or size is outside its bounds */
 #define GEOSVM_NOT_ARRAY       12
@@ -149,10 +149,18 @@ int32_t geosvm_command(geosvm_session *s, const uint8_t *line, size_t size, uint
 ** newest step, as those of an abandoned group, until the next edit, undo, redo, abandon or revert. geosvm_limit_undo has that done
 ** behind each step that comes, from 1 on; with 0 all are kept, as in a session that has just begun. What can be redone
 ** stays in each case. The last two are never refused, and none of the three calls a function on files.
+**
+** geosvm_name gives the newest step to be undone a name, in place of the one that it has, for a menu's "Undo Typing": at
+** most 64 bytes, which mean nothing here; with none it has no name. The name goes with its step: an undo takes it along,
+** a redo brings it back, and of two steps that are joined the newer one's stays, or the older one's where that has none.
+** A new step has none, and names aren't in the file. Nothing else changes, and no function on files is called.
+** GEOSVM_GROUP_OPEN, NOTHING_TO_UNDO, TOO_BIG, the first of them; or GEOSVM_MEMORY, but not with no bytes.
+** geosvm_undo_name and geosvm_redo_name, under "Steps", have the name.
 */
 int32_t geosvm_undo(geosvm_session *s);
 int32_t geosvm_redo(geosvm_session *s);
 int32_t geosvm_join(geosvm_session *s);
+int32_t geosvm_name(geosvm_session *s, const uint8_t *name, size_t size);
 int32_t geosvm_forget(geosvm_session *s, uint32_t most);
 int32_t geosvm_limit_undo(geosvm_session *s, uint32_t most);
 
@@ -199,8 +207,8 @@ int32_t geosvm_save_as(geosvm_session *s, int32_t number);
 **   - geosvm_close.
 **
 ** A command by geosvm_command that does the same ends it likewise. All other calls leave the bytes as they are, and where they are:
-** look-ups, edits of other blocks, other locks, geosvm_dirty, begin, end, join and forget, and what is refused, as undo, redo, abandon
-** and commits are while any block is locked.
+** look-ups, edits of other blocks, other locks, geosvm_dirty, begin, end, join, forget and name, and what is refused, as undo, redo,
+** abandon and commits are while any block is locked.
 */
 int32_t geosvm_lock(geosvm_session *s, uint16_t block);
 int32_t geosvm_unlock(geosvm_session *s, uint16_t block);
@@ -395,12 +403,17 @@ int32_t geosvm_chequal(geosvm_session *s, uint16_t block, uint16_t other, uint8_
 **
 ** geosvm_modified tells whether the document is as it was saved, GEOSVM_AS_SAVED, and as it was updated, GEOSVM_AS_UPDATED: *modified
 ** becomes the sum of what is so, 0 to 3. It goes by steps, and compares nothing; docs/SCRIPT.md has it under "Files". It takes no memory.
+**
+** geosvm_undo_name and geosvm_redo_name copy the name of the step that an undo takes back, and that a redo makes again: no bytes where it
+** was given none, and 64 at most. They take no memory, and call no function on files.
 */
 #define GEOSVM_AS_SAVED   1
 #define GEOSVM_AS_UPDATED 2
 int32_t geosvm_undos(geosvm_session *s, size_t *count);
 int32_t geosvm_redos(geosvm_session *s, size_t *count);
 int32_t geosvm_modified(geosvm_session *s, size_t *modified);
+int32_t geosvm_undo_name(geosvm_session *s, uint8_t *name, size_t room, size_t *length);           /* GROUP_OPEN, NOTHING_TO_UNDO */
+int32_t geosvm_redo_name(geosvm_session *s, uint8_t *name, size_t room, size_t *length);           /* GROUP_OPEN, NOTHING_TO_REDO */
 
 /*
 ** CAPI: Places

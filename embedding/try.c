@@ -392,6 +392,55 @@ static void steps(void) {
   close(fd);
 }
 
+#define NAMED(call) (TELL(call), show_bytes(name, n < sizeof name ? n : sizeof name))
+
+/* Names of steps, which go with them. */
+static void step_names(void) {
+  static const uint8_t long_name[65];
+  geosvm_session s = GEOSVM_CLOSED, closed = GEOSVM_CLOSED;
+  uint8_t name[64];
+  int fd = file("names.document");
+  uint16_t block = 77;
+  size_t n = 77;
+  puts("-- names of steps");
+  TELL(geosvm_create(&s, fd, 8));
+  TELL(geosvm_name(&s, TEXT("Make")));
+  NAMED(geosvm_undo_name(&s, name, sizeof name, &n));
+  GIVES(geosvm_newraw(&s, 1, 2, &block), block);
+  NAMED(geosvm_undo_name(&s, name, sizeof name, &n));
+  TELL(geosvm_name(&s, TEXT("Make")));
+  TELL(geosvm_vwrite(&s, 1, 0, TEXT("a")));
+  TELL(geosvm_name(&s, TEXT("Type")));
+  NAMED(geosvm_undo_name(&s, name, sizeof name, &n));
+  NAMED(geosvm_redo_name(&s, name, sizeof name, &n));
+  TELL(geosvm_undo(&s));
+  NAMED(geosvm_undo_name(&s, name, sizeof name, &n));
+  NAMED(geosvm_redo_name(&s, name, sizeof name, &n));
+  TELL(geosvm_redo_name(&s, name, 2, &n));
+  printf("%zu bytes, of which 2 fit\n", n);
+  show_bytes(name, 2);
+  TELL(geosvm_redo(&s));
+  TELL(geosvm_vwrite(&s, 1, 1, TEXT("b")));
+  NAMED(geosvm_undo_name(&s, name, sizeof name, &n));
+  TELL(geosvm_join(&s));
+  NAMED(geosvm_undo_name(&s, name, sizeof name, &n));
+  TELL(geosvm_name(&s, long_name, 65));
+  TELL(geosvm_name(&s, long_name, 64));
+  TELL(geosvm_undo_name(&s, name, sizeof name, &n));
+  printf("%zu bytes\n", n);
+  TELL(geosvm_name(&s, long_name, 0));
+  NAMED(geosvm_undo_name(&s, name, sizeof name, &n));
+  TELL(geosvm_begin(&s));
+  TELL(geosvm_name(&s, TEXT("Type")));
+  NAMED(geosvm_undo_name(&s, name, sizeof name, &n));
+  NAMED(geosvm_redo_name(&s, name, sizeof name, &n));
+  TELL(geosvm_close(&s));
+  TELL(geosvm_name(&closed, TEXT("Type")));
+  NAMED(geosvm_undo_name(&closed, name, sizeof name, &n));
+  NAMED(geosvm_redo_name(&closed, name, sizeof name, &n));
+  close(fd);
+}
+
 static void show_places(const geosvm_place *places, size_t room, size_t first, size_t count) {
   static const char *const kinds[] = {"all", "map", "attributes", "block", "chunk", "run"};
   printf("  gives %zu:", count);
@@ -540,6 +589,7 @@ int main(void) {
   named_arrays(&s);
   named_chains(&s);
   steps();
+  step_names();
   places();
   pthread_t thread[4];
   long bad = 0;

@@ -1,5 +1,6 @@
 /* A view of a document (view.h) through edits, undos, redos, groups, abandons, joins and commits by chance: it looks where it is told and
-   nowhere else, and after each call is compared with the whole document. Run it in an empty folder, as view_c [STEPS [SEED]]. */
+   nowhere else, and after each call is compared with the whole document, and the names of steps with those that were given. Run it in an
+   empty folder, as view_c [STEPS [SEED]]. */
 #define _GNU_SOURCE
 #include "view.h"
 #include <fcntl.h>
@@ -247,10 +248,50 @@ static unsigned long made[CALLS];
 static bool in_group;
 static uint32_t back, ahead; /* how many undos, and then redos, come next */
 
+/* The names of the steps that can be undone, the newest last, and behind them of those that can be redone. One of N bytes, each of them N,
+   stands here as N. */
+static uint8_t *given;
+static size_t undoable, all_steps;
+static bool group_has_edits;
+
+static void take_names(size_t from, size_t count) {
+  memmove(given + from, given + from + count, all_steps - from - count);
+  undoable -= count, all_steps -= count;
+}
+static void accept(int call) {
+  made[call]++;
+  if (call == EDITED) all_steps = undoable;
+  if (call == EDITED || call == BEGUN) group_has_edits = call == EDITED;
+  if (call == EDITED ? !in_group : call == ENDED && group_has_edits) given[undoable++] = 0, all_steps = undoable;
+  if (call == UNDONE) undoable--;
+  if (call == REDONE) undoable++;
+  if (call == JOINED) take_names(undoable - (given[undoable - 1] > 0 ? 2 : 1), 1);
+  if (call == REVERTED) undoable = all_steps = 0;
+}
+
+typedef int32_t asks_name(geosvm_session *s, uint8_t *name, size_t room, size_t *length);
+static void compare_name(geosvm_session *s, asks_name *ask, bool is_there, size_t at) {
+  uint8_t name[64];
+  size_t length;
+  const int32_t code = ask(s, name, sizeof name, &length);
+  if ((code == GEOSVM_OK) != is_there || length != (is_there ? given[at] : 0)) fail("a step has another name", code);
+  for (size_t i = 0; i < length; i++) if (name[i] != length) fail("a name has other bytes", name[i]);
+}
+/* Every third step is named. */
+static void name_step(geosvm_session *s) {
+  uint8_t name[64];
+  if (step % 3 == 0 && !in_group && undoable > 0) {
+    memset(name, given[undoable - 1] = step % 65, sizeof name);
+    if (geosvm_name(s, name, step % 65) != GEOSVM_OK) fail("name", (long)(step % 65));
+  }
+  compare_name(s, geosvm_undo_name, !in_group && undoable > 0, undoable - 1);
+  compare_name(s, geosvm_redo_name, !in_group && undoable < all_steps, undoable);
+}
+
 /* A call after which nothing else is told. */
 static void keeps(geosvm_session *s, int call, int32_t code) {
   if (code != GEOSVM_OK) fail(calls[call], code);
-  made[call]++;
+  accept(call);
   unchanged(s);
 }
 
@@ -261,7 +302,7 @@ static void edit(view *v, geosvm_session *s) {
   if (takes && below(4)) kind = (int)below(KINDS);
   for (int i = 0; i < 20; i++) {
     if (is_accepted(v, s, kind)) {
-      made[EDITED]++;
+      accept(EDITED);
       changed(v, s, false);
       break;
     }
@@ -274,9 +315,10 @@ static void turn(view *v, geosvm_session *s, int call, asks *ask, int32_t (*make
   const bool is_foretold = is_told(s, ask, &foretold);
   const int32_t code = make(s);
   if (is_foretold != (code == GEOSVM_OK)) fail(calls[call], code);
-  made[call] += is_foretold;
-  if (is_foretold) changed(v, s, true);
-  else unchanged(s);
+  if (is_foretold) {
+    accept(call);
+    changed(v, s, true);
+  } else unchanged(s);
 }
 
 static void any_step(view *v, geosvm_session *s) {
@@ -306,12 +348,14 @@ static void any_step(view *v, geosvm_session *s) {
     back = ahead = 1 + below(2);
     for (uint32_t i = 0; i < back && geosvm_undos(s, &undos) == GEOSVM_OK && undos > 1; i++) keeps(s, JOINED, geosvm_join(s));
   } else if (chance < 992) {
-    keeps(s, FORGOTTEN, geosvm_forget(s, below(60)));
+    const uint32_t most = below(60);
+    keeps(s, FORGOTTEN, geosvm_forget(s, most));
+    if (undoable > most) take_names(0, undoable - most);
   } else if (chance < 998) {
     keeps(s, COMMITTED, below(2) ? geosvm_save(s) : geosvm_update(s));
   } else {
     if (geosvm_revert(s) != GEOSVM_OK) fail("revert", 0);
-    made[REVERTED]++;
+    accept(REVERTED);
     changed(v, s, false);
   }
 }
@@ -325,10 +369,12 @@ int main(int argc, char **argv) {
   if (fd < 0 || flock(fd, LOCK_EX | LOCK_NB) != 0) return perror("view.document"), 1;
   if (geosvm_create(&s, fd, 12) != GEOSVM_OK) fail("create", 0);
   view *v = new_view();
+  if ((given = malloc(steps + 1)) == NULL) fail("no memory", 0);
   changed(v, &s, false);
   if (told.count != 0) fail("a new document was changed", (long)told.count);
   for (step = 1; step <= steps; step++) {
     any_step(v, &s);
+    name_step(&s);
     compare(v, &s);
   }
   printf("%lu steps:", steps);
@@ -338,6 +384,7 @@ int main(int argc, char **argv) {
   const unsigned long long looked_at = v->looked_at, bytes = document_bytes;
   printf("\nthe view is the document; it looked at %llu bytes of %llu\n", looked_at, bytes);
   free_view(v);
+  free(given);
   geosvm_close(&s);
   close(fd);
   return 0;
