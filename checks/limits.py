@@ -36,12 +36,13 @@ class Script:
         self.lines.append(line)
         self.replies.append(reply)
 
-    def undo_all(self, values):
-        """Undoes as many steps as there are values, each the one that an undo gives back, and looks at one of a thousand."""
-        for number, value in enumerate(values):
+    def undo_all(self, values, names):
+        """Undoes as many steps as there are values, each the one that an undo gives back, and looks at one of a thousand, and at its name."""
+        for number, (value, name) in enumerate(zip(values, names)):
             self.ask("undo")
             if number % 1000 == 0 or number == len(values) - 1:
                 self.ask("vread 0001", f"bytes {value}")
+                self.ask("redoname", f"bytes {name}")
 
     def run(self, program, *words):
         done = subprocess.run([program, *words], input="\n".join(self.lines) + "\n", stdout=subprocess.PIPE, stderr=subprocess.PIPE, text=True)
@@ -79,17 +80,21 @@ def many_commits(geosvm, geosdoc, path):
 
 
 def many_steps(geosvm, geosdoc, path):
-    """Edits, all of them undone."""
+    """Edits, each a step with a name, all of them undone."""
     script = Script()
     script.ask("newraw 7 4", "block 0001")
     for number in range(1, STEPS + 1):
         script.ask(f"vwrite 0001 0 {word(number)}")
+        script.ask(f"name {word(number)}")
     script.ask("undos", f"number {STEPS + 1}")
-    script.undo_all([word(number) for number in range(STEPS - 1, -1, -1)])
+    script.undo_all([word(number) for number in range(STEPS - 1, -1, -1)], [word(number) for number in range(STEPS, 0, -1)])
     script.ask("redos", f"number {STEPS}")
     script.ask("undo")
     script.ask("list", "blocks")
+    began = time.monotonic()
     script.run(geosvm, "--new", path)
+    # A look at the names of other steps would take the square of that.
+    assert time.monotonic() - began < 60, f"{time.monotonic() - began:.0f} s for {STEPS} steps"
     return f"{STEPS + 1} steps undone"
 
 
@@ -102,9 +107,10 @@ def steps_within_limit(count):
         yield f"vwrite 0001 0 {word(number) * 8}", "ok"
         if number % 10 == 0:
             yield "end", "ok"
+        yield from [(f"name {word(0) * 16}", "ok"), (f"name {word(number) * 16}", "ok")]
     yield "undos", f"number {LIMIT}"
     for number in range(count - 1, count - 1 - LIMIT, -1):
-        yield from [("undo", "ok"), ("vread 0001", f"bytes {word(number) * 8}")]
+        yield from [("undo", "ok"), ("vread 0001", f"bytes {word(number) * 8}"), ("redoname", f"bytes {word(number + 1) * 16}")]
     yield from [("undo", "no 22 NothingToUndo"), ("redos", f"number {LIMIT}")]
     yield from [("redo", "ok")] * LIMIT
     yield "vread 0001", f"bytes {word(count) * 8}"
@@ -131,7 +137,8 @@ def most_memory(geosvm, path, count):
 def limited_steps(geosvm, geosdoc, path):
     """Of any number of steps no more are kept than the limit says, and they take no more memory than a few more do."""
     few, many = most_memory(geosvm, path, 3 * LIMIT), most_memory(geosvm, path, LIMITED)
-    # Each step has 64 bytes of content, before and behind, beside its entry: 100,000 of them take 12,000 kB.
+    # Each step has 64 bytes of content, before and behind, beside its entry: 100,000 of them take 12,000 kB. So many names of 64 bytes
+    # that stand no more take 6,400 at least.
     assert many < few + 2000, f"{many} kB, and {few} for {3 * LIMIT} steps"
     return f"{LIMITED} steps of which {LIMIT} are kept, in {many} kB, and {3 * LIMIT} in {few}"
 
@@ -148,7 +155,9 @@ def joined_steps(geosvm, geosdoc, path):
             script.ask("join")
         script.ask(f"write 0002 0010 0 {word(number)}")
         script.ask("join")
+        script.ask(f"name {word(number)}")
     script.ask("undos", "number 4")
+    script.ask("undoname", f"bytes {word(JOINED // 2)}")
     script.ask("touched", "places" + CHUNK_RUN)
     made, undone, alloc = JOINED // 2 * (RAW_RUN + CHUNK_RUN), JOINED // 2 * (CHUNK_RUN + RAW_RUN), " chunk 0002 0010"
     last = JOINED // 2

@@ -10,6 +10,7 @@ import sys
 import tempfile
 
 FULL_HEAP = ["newheap 0", "alloc 0001 65498"]
+NAMED = ["vwrite 0001 0 61", f"name {'61' * 64}"]
 # A name, what is done at first, what in each round, and what is asked at the end, with its reply.
 ROUNDS = [
     ("raw blocks are made and undone", [], ["newraw 0 65520", "undo"], "list", "blocks"),
@@ -22,27 +23,34 @@ ROUNDS = [
     ("a full heap is made, freed and forgotten", [], FULL_HEAP + ["vfree 0001", "forget 0"], "undos", "number 0"),
     ("one is made and freed in one step, undone, made again and forgotten", [],
      FULL_HEAP + ["vfree 0001", "join", "join", "undo", "redo", "forget 0"], "undos", "number 0"),
+    ("steps with names are undone, and can't be made again", ["newraw 0 4"], (NAMED + ["undo"]) * 500, "undos", "number 1"),
+    ("steps with names are joined, and forgotten", ["newraw 0 4"], (NAMED + NAMED + ["join", "name -", "forget 0"]) * 500, "undos",
+     "number 0"),
 ]
-# In kB. A round that keeps a block adds 64 to it.
+# In kB. A round that keeps a block adds 64 to it, one that keeps the names of 500 steps 32 at least.
 MORE = 16000
 
 
 def most(geosvm, path, first, lines, rounds, last, reply):
-    """The most kB that the program had in memory."""
-    script = "\n".join(first + lines * rounds + [last]) + "\n"
+    """The most kB that the program had in memory. What this one has counts too, so it never holds a whole script or its replies."""
     # Of a program that is built to look at each access of memory: what it keeps back of what was freed.
     environment = dict(os.environ, ASAN_OPTIONS="quarantine_size_mb=1")
     with open(path + ".script", "w", encoding="ascii") as file:
-        file.write(script)
+        file.writelines(line + "\n" for line in first)
+        for _ in range(rounds):
+            file.writelines(line + "\n" for line in lines)
+        file.write(last + "\n")
     with open(path + ".script", encoding="ascii") as file, open(path + ".replies", "w+", encoding="ascii") as replies:
         started = subprocess.Popen([geosvm, "--new", path], stdin=file, stdout=replies, env=environment)
         _, status, usage = os.wait4(started.pid, 0)
         started.returncode = os.waitstatus_to_exitcode(status)
         replies.seek(0)
-        answers = replies.read().splitlines()
-    assert started.returncode == 0 and len(answers) == script.count("\n"), "a run ends before its script does"
-    refused = [answer for answer in answers if answer.startswith("no ")]
-    assert not refused and answers[-1] == reply, f"{refused[:1]}, {answers[-1]}"
+        count = 0
+        for answer in replies:
+            assert not answer.startswith("no "), answer
+            count += 1
+    assert started.returncode == 0 and count == len(first) + len(lines) * rounds + 1, "a run ends before its script does"
+    assert answer == reply + "\n", answer
     return usage.ru_maxrss
 
 

@@ -32,6 +32,7 @@ static void show(geosvm_session *s, const char *line) {
   printf("%-26s %s: %s\n", line, name_of(code), reply);
 }
 #define TELL(call) printf("%-26s %s\n", #call, name_of(call))
+#define TEXT(text) (const uint8_t *)text, sizeof text - 1
 
 /* Opens a file as the library wants it: to be read and written, and locked before anything is done to it. So it isn't opened with
    O_TRUNC, which would cut a document that another program has open; geosvm_create makes a new one of it anyway. */
@@ -117,6 +118,7 @@ static void lent(geosvm_session *s) {
   for (int i = 0; i < 16; i++) bad += say(s, "newraw 1 65520", reply, sizeof reply) != GEOSVM_OK;
   for (uint16_t block = 3; block < 19; block++) bad += geosvm_vread(s, block, (uint8_t *)reply, 1, &n) != GEOSVM_CUT_OFF;
   printf("16 blocks through 6 frames: %ld wrong answers\n", bad);
+  TELL(geosvm_name(s, TEXT("Make")));
   TELL(geosvm_locked_chunk(s, 1, 16, &again, &n));
   printf("%.*s, %s\n", (int)n, (const char *)chunk, again == chunk ? "where it was" : "elsewhere");
   TELL(geosvm_locked_raw(s, 2, &again, &m));
@@ -196,7 +198,6 @@ static void refusals(geosvm_session *s, int fd) {
 }
 
 #define GIVES(call, value) (printf("%-26s %s\n", #call, name_of(call)), printf("  gives %zu\n", (size_t)(value)))
-#define TEXT(text) (const uint8_t *)text, sizeof text - 1
 
 static void show_bytes(const uint8_t *bytes, size_t n) {
   printf("  gives");
