@@ -16,7 +16,7 @@ import time
 COMMITS = 10_000 if "--long" in sys.argv else 2_000
 STEPS = 327_520
 GROUP = 20_000
-LIMITED = 3_000_000 if "--long" in sys.argv else 100_000
+LIMITED = 10_000_000 if "--long" in sys.argv else 100_000
 LIMIT = 1000
 JOINED = 100_000
 BLOCKS = 660
