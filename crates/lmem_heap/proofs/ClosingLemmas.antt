@@ -14,33 +14,33 @@ use Rattle.lmem_heap.proofs.TiledLemmas.{at_used, at_slot, piece_others, same_ch
 -- ---- entries that go up, and those that stay
 
 module _ (vs ys : List ℕ) (t from to by : ℕ) (raised : AreRaised vs ys t from to by) where
-  points_below : (p : ℕ) (cs : List Piece) → p + spaces cs ≤ from → AllShaped (16 + 2 * t) cs → Points place_of vs p cs → Points place_of ys p cs
+  pub points_below : (p : ℕ) (cs : List Piece) → p + spaces cs ≤ from → AllShaped (16 + 2 * t) cs → Points place_of vs p cs → Points place_of ys p cs
   points_below p [] fits shaped l = tt
   points_below p (Used i b ∷ cs) fits shaped l =
       let own = (raised.each i (omega (arith, shaped.0.1))).below (omega (arith, l.0)) in
       (own ∙ l.0, points_below (p + piece_space (length b)) cs (omega arith) shaped.1 l.1)
   points_below p (Free s ∷ cs) fits shaped l = points_below (p + s) cs (omega arith) shaped.1 l
 
-  points_raised : (p q : ℕ) (cs : List Piece) → q ≡ p + by → from ≤ p → p + spaces cs ≤ to → AllShaped (16 + 2 * t) cs → Points place_of vs p cs → Points place_of ys q cs
+  pub points_raised : (p q : ℕ) (cs : List Piece) → q ≡ p + by → from ≤ p → p + spaces cs ≤ to → AllShaped (16 + 2 * t) cs → Points place_of vs p cs → Points place_of ys q cs
   points_raised p q [] is low fits shaped l = tt
   points_raised p q (Used i b ∷ cs) is low fits shaped l =
       let own = (raised.each i (omega (arith, shaped.0.1))).moved (omega (arith, l.0)) (omega (arith, l.0)) in
       (omega (arith, own, l.0), points_raised (p + piece_space (length b)) (q + piece_space (length b)) cs (omega arith) (omega arith) (omega arith) shaped.1 l.1)
   points_raised p q (Free s ∷ cs) is low fits shaped l = points_raised (p + s) (q + s) cs (omega arith) (omega arith) (omega arith) shaped.1 l
 
-  points_above : (p : ℕ) (cs : List Piece) → to ≤ p → AllShaped (16 + 2 * t) cs → Points place_of vs p cs → Points place_of ys p cs
+  pub points_above : (p : ℕ) (cs : List Piece) → to ≤ p → AllShaped (16 + 2 * t) cs → Points place_of vs p cs → Points place_of ys p cs
   points_above p [] above shaped l = tt
   points_above p (Used i b ∷ cs) above shaped l =
       let own = (raised.each i (omega (arith, shaped.0.1))).above (omega (arith, l.0)) in
       (own ∙ l.0, points_above (p + piece_space (length b)) cs (omega arith) shaped.1 l.1)
   points_above p (Free s ∷ cs) above shaped l = points_above (p + s) cs (omega arith) shaped.1 l
 
-used_distinct : (cs : List Piece) → ArePiecesDistinct (used cs) → ArePiecesDistinct cs
+pub used_distinct : (cs : List Piece) → ArePiecesDistinct (used cs) → ArePiecesDistinct cs
 used_distinct [] h = tt
 used_distinct (Used i b ∷ cs) h = (fresh_used i cs h.0, used_distinct cs h.1)
 used_distinct (Free s ∷ cs) h = used_distinct cs h
 
-none_spare : (p : ℕ) (cs : List Piece) (f : ℕ) → free_count cs ≡ 0 → IsSpareAt p cs f → ⊥
+pub none_spare : (p : ℕ) (cs : List Piece) (f : ℕ) → free_count cs ≡ 0 → IsSpareAt p cs f → ⊥
 none_spare p [] f none h = h
 none_spare p (Used i b ∷ cs) f none h = none_spare (p + piece_space (length b)) cs f none h
 none_spare p (Free s ∷ cs) f none h = omega (arith, none)

@@ -16,3 +16,4 @@ pub mod MovingLemmas
 pub mod MergingLemmas
 pub mod ClosingLemmas
 pub mod RaisingLemmas
+pub mod SinkingLemmas

@@ -152,3 +152,15 @@ abbrev pub IsReadyToTake : Space → ℕ → ℕ → ℕ → Type 0
 IsReadyToTake s i q n =
     (k : ℕ) → k < n
     → get_or s.region (q + 2 + k) 0 ≡ get_or (resized (unwrap_or (get_or (chunks_in s.region s.slots) i None) []) n) k 0
+
+-- between the piece of slot i and the free one at h, of this room, lie only chunks, and that one alone is not in the list
+pub record HasBehind (s : Space) (i h room : ℕ) : Type 0 where
+  pub before : List Piece
+  pub bytes : List ℕ
+  pub run : List Piece
+  pub after : List Piece
+  pub free : List ℕ
+  pub held : HasPieces s (before ++ (Used i bytes ∷ (run ++ (Free room ∷ after)))) free 1
+  pub chunks : free_count run ≡ 0
+  pub place : h ≡ s.low + spaces before + piece_space (length bytes) + spaces run
+  pub other : IsOther h free

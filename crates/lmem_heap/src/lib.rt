@@ -13,6 +13,7 @@ mod resizing;
 mod sizes;
 mod space;
 mod table;
+mod windows;
 mod words;
 
 pub use heap::Heap;

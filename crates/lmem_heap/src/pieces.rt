@@ -6,7 +6,7 @@ ghost use Rattle.lmem_heap.specs.Space.{IsWellFormed, IsDetached, HasNoFree, Has
 
 use crate::sizes::{piece_space, table_end};
 use crate::space::{LivePiece, Space};
-use crate::words::{set_word, word_in};
+use crate::words::{SIZE, set_word, word_in};
 
 impl Space {
     /// A free piece of this room is made below the others.
@@ -26,31 +26,35 @@ impl Space {
         self.low
     }
 
-    /// The first free piece of the list that has this room. None where none of the first `LOOKS` pieces has it.
+    /// The smallest of the first `LOOKS` free pieces of the list that have this room. None where none of them has it.
     fn find_fit(&self, room: usize) -> Option<Fit>
         requires { IsWellFormed self.now }
         ensures { MatchOption result
             (HasNoFree self.now room)
             (λ fit. IsLinked self.now fit.prev fit.place × (room < word_in self.now.region fit.place)) }
     {
+        let mut best = None;
+        let mut least = SIZE;
         let mut prev = 0;
         let mut place = self.head;
         for _seen in 0..LOOKS {
             if place == 0 {
-                return None;
+                return best;
             }
-            if word_in(&self.region, place) > room {
-                return Some(Fit { prev, place });
+            let head = word_in(&self.region, place);
+            if head > room && head < least {
+                best = Some(Fit { prev, place });
+                least = head;
             }
             prev = place;
             place = word_in(&self.region, place + 2);
         }
-        None
+        best
     }
 
     /// Where a free piece lies at `at`, in the list: the one before it, or 0. None where none of the first `LOOKS`
     /// pieces is it.
-    fn find_link(&self, at: usize) -> Option<usize>
+    pub(crate) fn find_link(&self, at: usize) -> Option<usize>
         requires { IsWellFormed self.now }
         ensures { IfSome result (λ prev. IsLinked self.now prev at) }
     {

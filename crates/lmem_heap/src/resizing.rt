@@ -2,13 +2,15 @@
 ghost use Rattle.std.specs.Prelude.{◌≡◌, ◌+◌, ◌-◌, ◌*◌, ◌/◌, ◌≤◌, ◌<◌, ℕ};
 ghost use Rattle.lmem_heap.specs.Pieces.{word_in, entry, piece_space};
 ghost use Rattle.lmem_heap.specs.Tiled.{chunks_in, table_end};
-ghost use Rattle.lmem_heap.specs.Space.{IsWellFormed, IsDetached, HasNext, IsLinked, IsUnmoved, IsReadyToTake, IsResized, room_of};
+ghost use Rattle.lmem_heap.specs.Space.{IsWellFormed, IsDetached, HasNext, HasBehind, HasSameChunks, IsLinked, IsUnmoved, IsReadyToTake, IsResized, room_of};
 
-use crate::compaction::lower_entries;
+use crate::compaction::{lower_entries, raise_entries};
 use crate::pieces::Fit;
 use crate::sizes::{piece_space, table_end};
 use crate::space::{LivePiece, Space};
-use crate::words::{NO_CHUNK, copy_piece, entry, set_entry, set_size, set_word, slide, word_in};
+use crate::words::{
+    NO_CHUNK, SIZE, copy_piece, entry, set_entry, set_size, set_word, slide, word_in,
+};
 
 impl Space {
     /// A slot's chunk gets `n` bytes where it lies, in a piece that is no larger and no smaller.
@@ -228,11 +230,70 @@ impl Space {
     {
         match self.gather_for(room) {
             Some(q) => self.move_to(i, q, n),
-            None => {
-                self.compact();
-                self.enlarge_below(i, n, room);
-            }
+            None => self.enlarge_there(i, n, room),
         }
+    }
+
+    /// The same where no free piece can be as large as the new one: the free pieces become one behind its own, or all
+    /// that is free goes below the chunks.
+    fn enlarge_there(&mut self, i: usize, n: usize, room: usize)
+        // A slot whose chunk has bytes.
+        requires well_formed { IsWellFormed self.old }
+        requires slot { i < self.old.slots }
+        requires live { 1 < entry self.old.region i }
+        // The new size.
+        requires more { room_of self.old i < piece_space n }
+        requires fits { table_end self.old.slots + self.old.total + piece_space n ≤ 65520 + room_of self.old i }
+        requires room { room ≡ piece_space n }
+        // What it leaves.
+        ensures well_formed { IsWellFormed self.new }
+        ensures resized { IsResized self.old self.new i n }
+    {
+        let lack = room - piece_space(self.find_run(i).size);
+        if SIZE - self.low - self.total >= lack {
+            let h = self.gather_apart();
+            self.grow_into(i, n, h);
+        } else {
+            self.compact();
+            self.enlarge_below(i, n, room);
+        }
+    }
+
+    /// A slot's chunk gets `n` bytes where it lies, with a free piece that the list lacks, before which lie only chunks.
+    fn grow_into(&mut self, i: usize, n: usize, h: usize)
+        // A slot whose chunk has bytes.
+        requires slot { i < self.old.slots }
+        requires live { 1 < entry self.old.region i }
+        // The free piece.
+        requires behind { (room : ℕ) × HasBehind self.old i h room }
+        // The new size.
+        requires more { room_of self.old i < piece_space n }
+        requires less { piece_space n < room_of self.old i + word_in self.old.region h }
+        // What it leaves.
+        ensures well_formed { IsWellFormed self.new }
+        ensures resized { IsResized self.old self.new i n }
+    {
+        let LivePiece { place: _, size } = self.live_piece(i);
+        let room = piece_space(size) + word_in(&self.region, h) - 1;
+        self.sink(i, h);
+        self.absorb(i, room - 2);
+        self.cut_down(i, n);
+    }
+
+    /// A free piece that the list lacks goes down to the end of a slot's piece; the chunks between them go up.
+    fn sink(&mut self, i: usize, h: usize)
+        requires slot { i < self.old.slots }
+        requires live { 1 < entry self.old.region i }
+        requires behind { (room : ℕ) × HasBehind self.old i h room }
+        ensures next { HasNext self.new i (word_in self.old.region h - 1) }
+        ensures same { HasSameChunks self.old self.new }
+    {
+        let LivePiece { place, size } = self.live_piece(i);
+        let from = place + piece_space(size);
+        let room = word_in(&self.region, h) - 1;
+        slide(&mut self.region, from, from + room, h - from);
+        set_word(&mut self.region, from, room + 1);
+        raise_entries(&mut self.region, self.slots, from, h, room);
     }
 
     /// The same where all that is free lies below the chunks: it moves there, else it gets what it lacks where it lies.
