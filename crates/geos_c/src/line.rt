@@ -3,6 +3,7 @@ ghost use Rattle.geos_c.specs.Lines.{AnswersLine};
 
 use c_sessions::{UNTOLD, hand_out};
 use geos_replies::answer_line;
+use geos_script::Spare;
 use std::alloc::Global;
 use undo_log::Session;
 use vm_store::Store;
@@ -20,7 +21,15 @@ pub(crate) fn command<S: Store>(
     let mut text = Vec::new(alloc);
     let mut target = None;
     let mut former = None;
-    match answer_line(alloc, session, &mut target, &mut former, line, &mut text) {
+    let mut spare = Spare::new(alloc);
+    match answer_line(
+        &mut spare,
+        session,
+        &mut target,
+        &mut former,
+        line,
+        &mut text,
+    ) {
         Ok(()) => hand_out(&text, reply, length),
         Err(_) => {
             *length = 0;

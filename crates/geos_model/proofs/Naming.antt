@@ -7,7 +7,7 @@ use Rattle.geos_model.specs.Document.{Document}
 use Rattle.geos_model.specs.Meaning.{effect}
 use Rattle.geos_model.specs.Cost.{cost}
 use Rattle.geos_model.specs.Reply.{Reply, Accepted, BytesAre}
-use Rattle.geos_model.specs.Machine.{Machine, OpenGroup, Call, Step, UndoStep, abandoned, after_forget, after_join, after_name, command_conditions, done_by, ended, first_name, joined_names, joined_steps, kind_of, limited, opened_machine, recorded, redone, undone, with_undo_limit}
+use Rattle.geos_model.specs.Machine.{Machine, OpenGroup, Call, Step, UndoStep, abandoned, after_forget, command_conditions, done_by, ended, first_name, joined_names, joined_steps, kind_of, limited, opened_machine, recorded, redone, undone, with_undo_limit}
 use Rattle.geos_model.specs.Naming.{AreNamed, FirstOf, GoesOver, NamesLaw}
 use Rattle.geos_model.specs.Places.{places_of}
 use Rattle.geos_model.specs.Touching.{Calls}

@@ -29,6 +29,13 @@ impl Bytes {
     {
         self.items.as_slice()
     }
+
+    /// Gives the vector back, without a copy.
+    pub fn into_vec(self) -> Vec<u8>
+        ensures { result.items ≡ self }
+    {
+        self.items
+    }
 }
 
 /// The chunks of a heap, which contracts see as a finite map from handles to bytes: the body of a heap block, as the

@@ -8,8 +8,8 @@ ghost use Rattle.geos_replies.specs.Holdings.{AreExact, KeepsHolding, MayServe, 
 ghost use Rattle.geos_replies.specs.Replies.{Extends, Replied, Responds, RepliesToLookUp, asks_no_body};
 
 use geos_model::{Command, Fault, LookUp, Reply};
-use geos_script::{push_reply, read_command};
-use std::alloc::{AllocError, Global};
+use geos_script::{Spare, push_reply, read_command};
+use std::alloc::AllocError;
 use undo_log::Session;
 use vm_store::Store;
 
@@ -124,10 +124,12 @@ fn push_response<S: Store>(
 /// Where what is held is exact, over an honest store and target, each answer is the machine's but for such a fault or
 /// lack of memory, the files are as the reply tells, and all is exact still.
 ///
+/// What the bytes of the line take comes from `spare`, and goes back there.
+///
 /// An `Err` is lack of memory for the line or for the text of its reply. Then `out` is as it was, and the line may be
 /// carried out all the same: what it was answered isn't told.
 pub fn answer_line<S: Store>(
-    alloc: Global,
+    spare: &mut Spare,
     session: &mut Session<S>,
     target: &mut Option<S>,
     former: &mut Option<S>,
@@ -143,13 +145,14 @@ pub fn answer_line<S: Store>(
 {
     let start = out.len();
     let mut command = Command::Blank;
-    let answered = match read_command(alloc, &mut command, line) {
+    let answered = match read_command(spare, &mut command, line) {
         Ok(()) if matches!(&command, Command::Blank) => return Ok(()),
         Ok(()) => push_response(session, target, former, &command, out),
         Err(Fault::BadCommand) => push_reply(out, Err(Fault::BadCommand)),
         // The line found no memory.
         Err(_) => Err(AllocError),
     };
+    spare.take_back(&mut command);
     if answered.is_err() || out.push(b'\n').is_err() {
         out.truncate(start);
         return Err(AllocError);

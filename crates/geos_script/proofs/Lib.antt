@@ -1,6 +1,8 @@
 pub mod AddingNames
+pub mod Decoding
 pub mod Digits
 pub mod Extending
+pub mod Handles
 pub mod Names
 pub mod Parses
 pub mod Printing

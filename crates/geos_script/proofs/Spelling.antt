@@ -1,7 +1,7 @@
 -- What the operands' texts come to.
-use Rattle.std.proofs.Common.{◌≡◌, ℕ, ◌+◌, ◌*◌, ◌^◌, ◌%◌, ◌==◌, ◌<◌, ◌≤◌, true, false, List, [], ◌∷◌, length, slice_index, Some, None, is_some, Result, Ok, Err, refl, sym, ap, ◌∙◌, arith, inl, inr}
+use Rattle.std.proofs.Common.{◌≡◌, ℕ, ◌+◌, ◌*◌, ◌^◌, ◌%◌, ◌==◌, ◌<◌, ◌≤◌, true, false, List, [], ◌∷◌, length, length-take, take, fold, slice_index, Some, None, is_some, Result, Ok, Err, refl, sym, ap, ◌∙◌, arith, inl, inr}
 use Rattle.std.specs.Prelude.{IsSomeAnd, IsTrue, codes}
-use Rattle.std.specs.List.{AllPass, list_all}
+use Rattle.std.specs.List.{list_all}
 use Rattle.std.proofs.lemmas.Bool.{cases_Bool, eqb-true}
 use Rattle.std.proofs.lemmas.Bool.Decides.{nat_tests}
 use Rattle.std.proofs.lemmas.List.Sums.{AllPass-from_list_all, list_all-from_AllPass}
@@ -9,8 +9,9 @@ use Rattle.geos_script.specs.Reading.{is_nonempty}
 use Rattle.std.proofs.Math.Nat.{pow-le-pow_right}
 use Rattle.hex.specs.Hex.{decode_of, decode_pairs, is_hex_digit, pair_value}
 use Rattle.hex.specs.declared.error.FromHexError.{FromHexError}
-use Rattle.hex.proofs.HexLemmas.{decode_of-ok, decode_of-digits, decode_of-even}
-use Rattle.geos_model.specs.Script.{bytes, handle, two_bytes, if_spelled, same_bytes}
+use Rattle.hex.proofs.HexLemmas.{decode_of-ok, decode_of-digits}
+use Rattle.geos_model.specs.Script.{bytes, handle, is_digit, number, with_digit, two_bytes, if_spelled, same_bytes}
+use Rattle.geos_model.proofs.Arrays.{same_bytes-is}
 use Rattle.std.specs.Prelude.{option_and_then}
 
 -- a number of at most eight digits has room for a further byte
@@ -84,26 +85,47 @@ spelled_some word no_dash there =
           rw (no_dash, some) (some_decoded word (decode_of word) refl long decoded)
     ]
 
-pairs_of : (word : List ℕ) (r : Result (List ℕ) FromHexError) → decode_of word ≡ r → is_some (if_spelled r) ≡ true → (length word % 2 ≡ 0) × AllPass is_hex_digit word
-pairs_of word (Err e) is there = cc there
-pairs_of word (Ok bs) is there = let ok = decode_of-ok word bs is in (ok.0, ok.1)
+spelled_pairs_all : (word bs : List ℕ) (r : Result (List ℕ) FromHexError) → decode_of word ≡ r → if_spelled r ≡ Some bs → list_all is_hex_digit word ≡ true
+spelled_pairs_all word bs (Err e) is some = cc some
+spelled_pairs_all word bs (Ok x) is some = list_all-from_AllPass is_hex_digit word (decode_of-ok word x is).1
 
--- a word that spells bytes and is no dash is pairs of digits
-pub spelled_pairs : (word : List ℕ) → same_bytes word (codes "-") ≡ false → is_some (bytes word) ≡ true → (length word % 2 ≡ 0) × AllPass is_hex_digit word
-spelled_pairs word no_dash there =
-    elim (cases_Bool (length word == 0)) [
-      | inl none ↦ cc (rw (no_dash, none) at there)
-      | inr some ↦
-          let decoded : is_some (if_spelled (decode_of word)) ≡ true = rw (no_dash, some) at there in
-          pairs_of word (decode_of word) refl decoded
+-- what pairs of digits spell
+pub decoded-digits : (word bs : List ℕ) → if_spelled (decode_of word) ≡ Some bs → list_all is_hex_digit word ≡ true
+decoded-digits word bs is = spelled_pairs_all word bs (decode_of word) refl is
+
+-- no pairs of digits, no bytes
+pub decoded-none : (word : List ℕ) → list_all is_hex_digit word ≡ false → None ≡ if_spelled (decode_of word)
+decoded-none word others = go (decode_of word) refl
+  where
+    go : (r : Result (List ℕ) FromHexError) → decode_of word ≡ r → None ≡ if_spelled r
+    go (Err e) is = refl
+    go (Ok x) is = cc (sym others ∙ list_all-from_AllPass is_hex_digit word (decode_of-ok word x is).1)
+
+no_dash-even : (word : List ℕ) → length word % 2 ≡ 0 → same_bytes word (codes "-") ≡ false
+no_dash-even word even =
+    elim (cases_Bool (same_bytes word (codes "-"))) [
+      | inl dash ↦ let one : length word ≡ 1 = ap length (same_bytes-is word (codes "-") dash) in absurd (omega (arith, one))
+      | inr other ↦ other
     ]
 
--- and spells what its pairs do
-pub spelled_by_pairs : (word bs : List ℕ) → same_bytes word (codes "-") ≡ false → is_some (bytes word) ≡ true → decode_pairs 0 word ≡ Ok bs → bytes word ≡ Some bs
-spelled_by_pairs word bs no_dash there is =
-    elim (cases_Bool (length word == 0)) [
-      | inl none ↦ cc (rw (no_dash, none) at there)
-      | inr some ↦
-          let even = (spelled_pairs word no_dash there).0 in
-          rw (no_dash, some, decode_of-even word even, is) refl
-    ]
+-- pairs of digits are a word that spells what they do
+pub bytes-even : (word : List ℕ) → 0 < length word → length word % 2 ≡ 0 → bytes word ≡ if_spelled (decode_of word)
+bytes-even word some even =
+    let there : (length word == 0) ≡ false = grind (arith, nat_tests) in
+    rw (no_dash-even word even, there) refl
+
+handle_pairs : (word : List ℕ) (h : ℕ) (r : Result (List ℕ) FromHexError) → decode_of word ≡ r → option_and_then two_bytes (if_spelled r) ≡ Some h
+    → list_all is_hex_digit word ≡ true
+handle_pairs word h (Err e) is some = cc some
+handle_pairs word h (Ok bs) is some = list_all-from_AllPass is_hex_digit word (decode_of-ok word bs is).1
+
+-- a handle's digits are some
+pub handle-digits : (word : List ℕ) (h : ℕ) → handle word ≡ Some h → list_all is_hex_digit word ≡ true
+handle-digits word h is = handle_pairs word h (decode_of word) refl is
+
+-- digits at the front spell a number, where they are 1 to 7
+pub number-spelled : (xs : List ℕ) (n : ℕ) → 0 < n → n ≤ length xs → n ≤ 7 → list_all is_digit (take n xs) ≡ true
+    → number (take n xs) ≡ Some (fold with_digit 0 (take n xs))
+number-spelled xs n some within few digits =
+    let len : length (take n xs) ≡ n = omega (arith, length-take n xs) in
+    rw (len, digits) (grind (arith, nat_tests))

@@ -1,11 +1,14 @@
 -- How a line falls into words.
-use Rattle.std.proofs.Common.{not, ◌==◌, get_or-take, length-drop, add-zero, ◌-◌, ◌≡◌, ℕ, zero, suc, ◌+◌, ◌<◌, ◌≤◌, true, false, List, [], ◌∷◌, ◌++◌, length, take, drop, slice_index, inl, inr, None, refl, sym, subst, ap, ◌∙◌, arith}
+use Rattle.std.proofs.Common.{not, ◌==◌, get_or-take, length-drop, add-zero, ◌-◌, ◌≡◌, ℕ, zero, suc, ◌+◌, ◌<◌, ◌≤◌, true, false, List, [], ◌∷◌, ◌++◌, length, take, drop, slice_index, get_or, length-take, inl, inr, None, refl, sym, subst, ap, ◌∙◌, arith}
 use Rattle.std.proofs.lemmas.Bool.Decides.{nat_tests}
 use Rattle.std.proofs.lemmas.Bool.{and_parts, cases_Bool, cases_eq, not-true}
 use Rattle.std.specs.List.{list_all}
-use Rattle.std.proofs.lemmas.List.{take_all, get_or-drop}
-use Rattle.geos_script.specs.Making.{is_no_word}
-use Rattle.geos_model.specs.Script.{command, command_of_words, words, begin_word, is_blank}
+use Rattle.std.proofs.lemmas.List.{append-nil, take_all, get_or-drop}
+use Rattle.std.specs.List.{AllPass}
+use Rattle.std.proofs.lemmas.List.Sums.{AllPass-from_list_all, list_all-from_AllPass}
+use Rattle.hex.specs.Hex.{is_hex_digit}
+use Rattle.geos_script.specs.Making.{is_behind_word, is_no_word}
+use Rattle.geos_model.specs.Script.{command, command_of_words, words, begin_word, is_blank, is_digit}
 
 -- blanks in front of a line change no word
 pub words-skip : (xs : List ℕ) (n : ℕ) → n ≤ length xs → ((k : ℕ) → k < n → is_blank (slice_index xs k) ≡ true) → words xs ≡ words (drop n xs)
@@ -44,6 +47,9 @@ words-cut (x ∷ xs) (suc (suc n)) some le h stop =
 -- the tail of a list, as a slice up to its end gives it
 pub take_rest : (xs : List ℕ) (n : ℕ) → take (length xs - n) (drop n xs) ≡ drop n xs
 take_rest xs n = take_all (length xs - n) (drop n xs) (omega (arith, length-drop n xs))
+
+pub length-rest : (xs : List ℕ) (n : ℕ) → length (take (length xs - n) (drop n xs)) ≡ length xs - n
+length-rest xs n = ap length (take_rest xs n) ∙ length-drop n xs
 
 -- a byte of the front is no blank where it is none there
 pub solid_head : (xs : List ℕ) (n k : ℕ) → k < n → is_blank (slice_index (take n xs) k) ≡ false → is_blank (slice_index xs k) ≡ false
@@ -119,3 +125,57 @@ words-word x (y ∷ w) rest solid ends =
     words-solid x ((y ∷ w) ++ rest) first
     ∙ ap (begin_word x ((y ∷ w) ++ rest)) (words-word y w rest both.1 ends)
     ∙ begin_word-more x ((y ∷ w) ++ rest) (y ∷ w) (words rest) (omega arith) next
+
+-- no digit is a blank
+hex_solid : (x : ℕ) → is_hex_digit x ≡ true → is_blank x ≡ false
+hex_solid x is = grind (arith, nat_tests, is)
+
+digit_solid : (x : ℕ) → is_digit x ≡ true → is_blank x ≡ false
+digit_solid x is = grind (arith, nat_tests, is)
+
+-- where a word ends, there is a blank or the end
+behind_word : (rest : List ℕ) → true ≡ is_behind_word rest → 0 < length rest → is_blank (slice_index rest 0) ≡ true
+behind_word [] ends some = absurd (omega arith)
+behind_word (x ∷ rest) ends some = sym ends
+
+solid_digits : (w : List ℕ) → AllPass is_hex_digit w → AllPass (λ y. not (is_blank y)) w
+solid_digits w digits = λ i d lt. let solid = hex_solid (get_or w i d) (digits i d lt) in rw solid refl
+
+-- hexadecimal digits behind a space are a word
+pub words-digits : (x : ℕ) (w rest : List ℕ) → list_all is_hex_digit (x ∷ w) ≡ true → true ≡ is_behind_word rest
+    → words (32 ∷ ((x ∷ w) ++ rest)) ≡ (x ∷ w) ∷ words rest
+words-digits x w rest digits ends =
+    let solid = list_all-from_AllPass (λ y. not (is_blank y)) (x ∷ w) (solid_digits (x ∷ w) (AllPass-from_list_all is_hex_digit (x ∷ w) digits)) in
+    words-word x w rest solid (behind_word rest ends)
+
+-- and the only one where the text ends behind them
+pub words-only_digits : (w : List ℕ) → 0 < length w → list_all is_hex_digit w ≡ true → words (32 ∷ w) ≡ w ∷ []
+words-only_digits [] some digits = absurd (omega arith)
+words-only_digits (x ∷ w) some digits = ap (λ (l : List ℕ). words (32 ∷ l)) (sym (append-nil (x ∷ w))) ∙ words-digits x w [] digits refl
+
+-- decimal digits behind a space are a word
+pub words-number : (xs : List ℕ) (n : ℕ) → 0 < n → n ≤ length xs → list_all is_digit (take n xs) ≡ true → true ≡ is_behind_word (drop n xs)
+    → words (32 ∷ xs) ≡ take n xs ∷ words (drop n xs)
+words-number xs n some le digits ends =
+    let all = AllPass-from_list_all is_digit (take n xs) digits in
+    words-cut xs n some le
+    (λ k lt. solid_head xs n k lt (digit_solid (slice_index (take n xs) k) (all k 0 (omega (arith, length-take n xs)))))
+    (λ lt. let blank = behind_word (drop n xs) ends (omega (arith, length-drop n xs)) in rw (get_or-drop n xs 0 0, add-zero) at blank)
+
+-- four digits behind a space are a word, as the places of a text show them
+pub words-handle : (text rest : List ℕ) → 5 ≤ length text → slice_index text 0 ≡ 32
+    → list_all is_hex_digit (slice_index text 1 ∷ slice_index text 2 ∷ slice_index text 3 ∷ slice_index text 4 ∷ []) ≡ true
+    → rest ≡ drop 5 text → true ≡ is_behind_word rest
+    → words text ≡ (slice_index text 1 ∷ slice_index text 2 ∷ slice_index text 3 ∷ slice_index text 4 ∷ []) ∷ words rest
+words-handle (x ∷ a ∷ b ∷ c ∷ d ∷ tail) rest long blank digits is ends =
+    rw (is, blank) (words-digits a (b ∷ c ∷ d ∷ []) tail digits (rw is at ends))
+words-handle [] rest long blank digits is ends = absurd (omega arith)
+words-handle (x ∷ []) rest long blank digits is ends = absurd (omega arith)
+words-handle (x ∷ a ∷ []) rest long blank digits is ends = absurd (omega arith)
+words-handle (x ∷ a ∷ b ∷ []) rest long blank digits is ends = absurd (omega arith)
+words-handle (x ∷ a ∷ b ∷ c ∷ []) rest long blank digits is ends = absurd (omega arith)
+
+-- a text that begins with a space
+pub words-space : (text rest : List ℕ) → 1 ≤ length text → slice_index text 0 ≡ 32 → rest ≡ drop 1 text → words text ≡ words (32 ∷ rest)
+words-space [] rest long blank is = absurd (omega arith)
+words-space (x ∷ tail) rest long blank is = rw (is, blank) refl

@@ -2,7 +2,7 @@
 use Rattle.std.specs.Prelude.{◌≡◌, ℕ, Bool, true, false, if◌then◌else◌, List, [], ◌∷◌, drop, Option, Some, None, IsSomeAnd, Result, MatchResult}
 use Rattle.std.specs.Option.{option_and_then, option_map}
 use Rattle.std.specs.Borrow.{Bor}
-use Rattle.geos_model.specs.Script.{by_name, commands_by_name, words}
+use Rattle.geos_model.specs.Script.{by_name, commands_by_name, is_blank, words}
 use Rattle.geos_model.specs.declared.fault.Fault.{Fault}
 use Rattle.geos_model.specs.declared.fault.Fault.TheVariants as faults
 use Rattle.geos_model.specs.declared.command.Command.{Command}
@@ -26,6 +26,11 @@ last p _ = None
 abbrev pub is_no_word : List (List ℕ) → Bool
 is_no_word [] = true
 is_no_word (w ∷ ws) = false
+
+-- a blank or the end, before which a word ends
+abbrev pub is_behind_word : List ℕ → Bool
+is_behind_word [] = true
+is_behind_word (x ∷ xs) = is_blank x
 
 abbrev pub nothing : List (List ℕ) → Option (Unit {0})
 nothing ws = if is_no_word ws then Some tt else None

@@ -14,9 +14,10 @@ ghost use Rattle.geos_script.specs.Texts.{Extends};
 use crate::line::next_word;
 use crate::operands::{LastOperand, Operand, bytes_of, spells_bytes};
 use crate::shapes::{five, four, none, one, three, two};
+use crate::spare::Spare;
 use crate::word::{Spelled, push_words};
 use geos_model::{ChunkHandle, Command, Edit, Fault, VmHandle};
-use std::alloc::{AllocError, Global};
+use std::alloc::AllocError;
 
 // Hands the rows of the table to a macro, so that the parser, the printer and the help read the same ones. A row has
 // the name of a command, its operands as help shows them, what reads so many words, and the command with its operands.
@@ -138,24 +139,24 @@ pub fn command_list() -> &'static str
 
 // What reads the operands of a row, in the text behind the name.
 macro_rules! read {
-    (none, $alloc:expr, $place:expr, $behind:expr, $made:expr) => {
+    (none, $spare:expr, $place:expr, $behind:expr, $made:expr) => {
         none($place, $behind, $made)
     };
-    (add_name, $alloc:expr, $place:expr, $behind:expr, $made:expr) => {
-        add_name($alloc, $place, $behind)
+    (add_name, $spare:expr, $place:expr, $behind:expr, $made:expr) => {
+        add_name($spare, $place, $behind)
     };
-    ($shape:ident, $alloc:expr, $place:expr, $behind:expr, $made:expr) => {
-        $shape($alloc, $place, $behind, $made)
+    ($shape:ident, $spare:expr, $place:expr, $behind:expr, $made:expr) => {
+        $shape($spare, $place, $behind, $made)
     };
 }
 
 // What the row with the name makes, where there is one.
 macro_rules! row_of {
-    (($alloc:expr, $place:expr, $name:expr, $behind:expr) $($kind:ident {
+    (($spare:expr, $place:expr, $name:expr, $behind:expr) $($kind:ident {
         $($text:literal $($shown:literal)? => $shape:ident $made:ident $(($($operand:ident),*))?,)*
     })*) => {
         $($(if is($name, $text) {
-            return read!($shape, $alloc, $place, $behind, $kind::$made);
+            return read!($shape, $spare, $place, $behind, $kind::$made);
         })*)*
         Err(Fault::BadCommand)
     };
@@ -182,18 +183,18 @@ fn is(name: &[u8], text: &str) -> bool
 /// Puts the command that a name and the operands in the text behind it are in its place.
 #[tactic(none)]
 pub(crate) fn command_of(
-    alloc: Global,
+    spare: &mut Spare,
     place: &mut Command,
     name: &[u8],
     text: &[u8],
 ) -> Result<(), Fault>
     ensures { ReadsAs command_has_bytes (named_from 0 name.now (script.words text.now)) (putting result place.new) }
 {
-    commands! { row_of(alloc, place, name, text) }
+    commands! { row_of(spare, place, name, text) }
 }
 
 /// A name, what stands before it, and whether that replaces what stands there.
-fn add_name(alloc: Global, place: &mut Command, text: &[u8]) -> Result<(), Fault>
+fn add_name(spare: &mut Spare, place: &mut Command, text: &[u8]) -> Result<(), Fault>
     ensures { ReadsAs command_has_bytes
         (with_5 block chunk spelled_bytes spelled_bytes is_set
         (λ b c name part replace. commands.Edit (edits.AddName b c name part replace))
@@ -207,13 +208,13 @@ fn add_name(alloc: Global, place: &mut Command, text: &[u8]) -> Result<(), Fault
     let Some((part, text)) = next_word(text) else {
         return Err(Fault::BadCommand);
     };
-    let replace = bool::read_last(alloc, text)?;
-    // A line that is no command takes no memory, not even for its first byte text.
+    let replace = bool::read_last(spare, text)?;
+    // Memory runs out only for a command's bytes, so the others are tested before it is taken for the first.
     if !spells_bytes(part) {
         return Err(Fault::BadCommand);
     }
-    let name = bytes_of(alloc, name)?;
-    let part = bytes_of(alloc, part)?;
+    let name = bytes_of(spare, name)?;
+    let part = bytes_of(spare, part)?;
     *place = Command::Edit(Edit::AddName(block, chunk, name, part, replace));
     Ok(())
 }

@@ -1,7 +1,7 @@
 //! How a line falls into words.
 ghost use Rattle.std.specs.Prelude.{◌≡◌, ◌∷◌, ◌<◌, ◌≤◌, [], MatchOption, ℕ, length, false, not, slice_index, true};
 ghost use Rattle.geos_model.specs.Script as script;
-ghost use Rattle.geos_script.specs.Making.{is_no_word};
+ghost use Rattle.geos_script.specs.Making.{is_behind_word, is_no_word};
 
 use memchr::memchr3;
 
@@ -52,6 +52,14 @@ pub(crate) fn is_blank(byte: u8) -> bool
     ensures { result ≡ script.is_blank byte }
 {
     byte == b' ' || byte == b'\t' || byte == b'\r'
+}
+
+/// Whether no word goes on where this text begins, as is usual: at a space, or at the end.
+#[inline(always)]
+pub(crate) fn ends_word(text: &[u8]) -> bool
+    ensures { result ≡ true → true ≡ is_behind_word text.now }
+{
+    matches!(text, [] | [b' ', ..])
 }
 
 /// A text from its first word on.

@@ -1,15 +1,18 @@
 //! What a word spells, where an operand of some kind is wanted.
-ghost use Rattle.std.specs.Prelude.{◌≡◌, ◌*◌, Bool, true, false, is_some, length, ok_or, List, ℕ, Option, Some, Ok};
-ghost use Rattle.std.specs.List.{AllPass, list_all};
-ghost use Rattle.hex.specs.Hex.{decode_pairs, is_hex_digit, pair_value};
+ghost use Rattle.std.specs.Prelude.{◌≡◌, ◌<◌, ◌≤◌, ◌∷◌, ◌%◌, [], Bool, true, false, IfOk, IfSome, codes, drop, fold, is_some, length, ok_or, take, List, ℕ, MatchResult, None, Option, Some};
+ghost use Rattle.std.specs.List.{list_all};
+ghost use Rattle.hex.specs.Hex.{decode_of};
+ghost use Rattle.geos_model.specs.Bytes.{same_bytes};
 ghost use Rattle.geos_model.specs.Script as script;
 ghost use Rattle.geos_model.specs.declared.fault.Fault.TheVariants as faults;
-ghost use Rattle.geos_script.specs.Making.{ReadsOff, last};
-ghost use Rattle.geos_script.specs.Reading.{ReadsAs, is_nonempty};
+ghost use Rattle.geos_script.specs.Making.{ReadsOff, last, read_off};
+ghost use Rattle.geos_script.specs.Reading.{FailsToRead, ReadsAs, is_nonempty};
 
-use crate::line::{has_no_word, next_word};
+use crate::hex_digits::{are_digits, decode_into, handle_of};
+use crate::line::{ends_word, has_no_word, next_word};
+use crate::spare::Spare;
 use geos_model::{Bytes, ChunkHandle, Fault, Token, VmHandle};
-use std::alloc::Global;
+use std::alloc::AllocError;
 
 /// What a word may spell.
 pub(crate) trait Operand: Copy {
@@ -22,6 +25,26 @@ pub(crate) trait Operand: Copy {
 
 /// The most digits of a number.
 const MOST_DIGITS: usize = 7;
+
+/// The number that the decimal digits at the front spell, at most 7 of them, and how many they are.
+#[inline(always)]
+fn leading_number(text: &[u8]) -> (u32, usize)
+    ensures within { result.1 ≤ length text.now }
+    ensures few { result.1 ≤ 7 }
+    ensures digits { list_all script.is_digit (take result.1 text.now) ≡ true }
+    ensures value { result.0 ≡ fold script.with_digit 0 (take result.1 text.now) }
+{
+    let most = text.len().min(MOST_DIGITS);
+    let mut number = 0;
+    for i in 0..most {
+        let digit = text[i];
+        if !digit.is_ascii_digit() {
+            return (number, i);
+        }
+        number = 10 * number + u32::from(digit - b'0');
+    }
+    (number, most)
+}
 
 /// 1 to 7 decimal digits.
 fn number(word: &[u8]) -> Result<u32, Fault>
@@ -40,15 +63,48 @@ fn number(word: &[u8]) -> Result<u32, Fault>
     Ok(number)
 }
 
+/// The number that the next word spells, wherever it stands.
+#[cold]
+#[inline(never)]
+fn any_number(text: &[u8]) -> Result<(u32, &[u8]), Fault>
+    ensures { ReadsOff script.number text.now result }
+{
+    let Some((word, tail)) = next_word(text) else {
+        return Err(Fault::BadCommand);
+    };
+    Ok((number(word)?, tail))
+}
+
+// Each operand but a flag has a short way for the text that is usual. It answers in registers: an operand with the text
+// behind it is too large for them.
+
+/// The number that a text begins with as is usual, behind one space and before another or the end, and how many bytes
+/// that takes: none where it begins otherwise.
+// Never inlined, nor handles and bytes: else each shape of each row has its own.
+#[inline(never)]
+fn usual_number(text: &[u8]) -> (u32, usize)
+    ensures { 0 < result.1 → (result.1 ≤ length text.now)
+        × (read_off script.number (script.words text.now) ≡ Some (result.0, script.words (drop result.1 text.now))) }
+{
+    let [b' ', digits @ ..] = text else {
+        return (0, 0);
+    };
+    let (number, end) = leading_number(digits);
+    if end == 0 || !ends_word(&digits[end..]) {
+        return (0, 0);
+    }
+    (number, end + 1)
+}
+
 impl Operand for u32 {
     ghost spelled = { script.number };
 
-    #[inline(never)]
     fn read(text: &[u8]) -> Result<(u32, &[u8]), Fault> {
-        let Some((word, tail)) = next_word(text) else {
-            return Err(Fault::BadCommand);
-        };
-        Ok((number(word)?, tail))
+        let (number, end) = usual_number(text);
+        if end == 0 {
+            return any_number(text);
+        }
+        Ok((number, &text[end..]))
     }
 }
 
@@ -66,24 +122,48 @@ impl Operand for u16 {
 fn handle(word: &[u8]) -> Result<u16, Fault>
     ensures { result ≡ ok_or (script.handle word.now) faults.BadCommand }
 {
-    if word.len() != 4 || !are_digits(word) {
+    if word.len() != 4 {
         return Err(Fault::BadCommand);
     }
-    let high = byte_of(word[0], word[1]);
-    let low = byte_of(word[2], word[3]);
-    Ok(256 * u16::from(high) + u16::from(low))
+    handle_of(word[0], word[1], word[2], word[3]).ok_or(Fault::BadCommand)
 }
 
-/// The handle that the next word spells, and what stands behind it.
-// Never inlined, nor numbers and bytes: else each shape of each row has its own.
+/// The handle that the next word spells, wherever it stands.
+#[cold]
 #[inline(never)]
-fn next_handle(text: &[u8]) -> Result<(u16, &[u8]), Fault>
+fn any_handle(text: &[u8]) -> Result<(u16, &[u8]), Fault>
     ensures { ReadsOff script.handle text.now result }
 {
     let Some((word, tail)) = next_word(text) else {
         return Err(Fault::BadCommand);
     };
     Ok((handle(word)?, tail))
+}
+
+/// The handle that a text begins with as is usual: behind one space, and before another or the end.
+#[inline(never)]
+fn usual_handle(text: &[u8]) -> Option<u16>
+    ensures { IfSome result (λ h. (5 ≤ length text.now)
+        × (read_off script.handle (script.words text.now) ≡ Some (h, script.words (drop 5 text.now)))) }
+{
+    let [b' ', a, b, c, d, tail @ ..] = text else {
+        return None;
+    };
+    if !ends_word(tail) {
+        return None;
+    }
+    handle_of(*a, *b, *c, *d)
+}
+
+/// The handle that the next word spells, and what stands behind it.
+#[inline(always)]
+fn next_handle(text: &[u8]) -> Result<(u16, &[u8]), Fault>
+    ensures { ReadsOff script.handle text.now result }
+{
+    match usual_handle(text) {
+        Some(handle) => Ok((handle, &text[5..])),
+        None => any_handle(text),
+    }
 }
 
 impl Operand for VmHandle {
@@ -136,19 +216,86 @@ pub(crate) fn spells_bytes(word: &[u8]) -> bool
     word == b"-".as_slice() || (!word.is_empty() && word.len() % 2 == 0 && are_digits(word))
 }
 
+/// The bytes that pairs of digits spell, or none where some are no digits.
+#[inline(always)]
+fn bytes_of_pairs(spare: &mut Spare, digits: &[u8]) -> Result<Option<Bytes>, AllocError>
+    requires { length digits.now % 2 ≡ 0 }
+    ensures { IfOk result (λ bytes. bytes ≡ script.if_spelled (decode_of digits.now)) }
+{
+    let mut items = spare.zeros(digits.len() / 2)?;
+    if !decode_into(digits, items.as_mut_slice()) {
+        return Ok(None);
+    }
+    Ok(Some(Bytes::from_vec(items)))
+}
+
+/// What is answered where there is no memory for the bytes that a word may spell: what spells none is a BadCommand even
+/// then.
+#[cold]
+#[inline(never)]
+fn refused(word: &[u8]) -> Fault
+    requires { same_bytes word.now (codes "-") ≡ false }
+    ensures { FailsToRead is_nonempty (script.bytes word.now) result }
+{
+    if spells_bytes(word) {
+        Fault::Memory
+    } else {
+        Fault::BadCommand
+    }
+}
+
 /// The bytes that a word spells, for which there may be no memory.
-pub(crate) fn bytes_of(alloc: Global, word: &[u8]) -> Result<Bytes, Fault>
+pub(crate) fn bytes_of(spare: &mut Spare, word: &[u8]) -> Result<Bytes, Fault>
     ensures { ReadsAs is_nonempty (script.bytes word.now) result }
 {
-    if !spells_bytes(word) {
+    if word == b"-".as_slice() {
+        return Ok(spare.none());
+    }
+    if word.is_empty() || word.len() % 2 != 0 {
         return Err(Fault::BadCommand);
     }
-    if word == b"-".as_slice() {
-        return Ok(Bytes::from_vec(Vec::new(alloc)));
+    match bytes_of_pairs(spare, word) {
+        Ok(Some(bytes)) => Ok(bytes),
+        Ok(None) => Err(Fault::BadCommand),
+        Err(_) => Err(refused(word)),
     }
-    let mut items = vec![in alloc; 0; word.len() / 2]?;
-    decode_into(word, items.as_mut_slice());
-    Ok(Bytes::from_vec(items))
+}
+
+/// The only word of a text.
+#[inline(always)]
+fn only_word(text: &[u8]) -> Result<&[u8], Fault>
+    ensures { MatchResult result (λ word. script.words text.now ≡ word.now ∷ [])
+        (λ fault. (fault ≡ faults.BadCommand) × (last script.bytes (script.words text.now) ≡ None)) }
+{
+    let Some((word, tail)) = next_word(text) else {
+        return Err(Fault::BadCommand);
+    };
+    if !has_no_word(tail) {
+        return Err(Fault::BadCommand);
+    }
+    Ok(word)
+}
+
+/// The bytes that the only word spells, wherever it stands.
+#[cold]
+#[inline(never)]
+fn any_bytes(spare: &mut Spare, text: &[u8]) -> Result<Bytes, Fault>
+    ensures { ReadsAs is_nonempty (last script.bytes (script.words text.now)) result }
+{
+    bytes_of(spare, only_word(text)?)
+}
+
+/// What is answered where there is no memory for the bytes that the only word may spell.
+#[cold]
+#[inline(never)]
+fn bytes_refused(spare: &Spare, text: &[u8]) -> Result<Bytes, Fault>
+    ensures { ReadsAs is_nonempty (last script.bytes (script.words text.now)) result }
+{
+    let word = only_word(text)?;
+    if word == b"-".as_slice() {
+        return Ok(spare.none());
+    }
+    Err(refused(word))
 }
 
 /// What the last word of a command may spell: for it there may be no memory.
@@ -158,7 +305,7 @@ pub(crate) trait LastOperand: Drop {
     ghost is_kept: { Self → Bool };
 
     /// What the next word spells, behind which there is no other.
-    fn read_last(alloc: Global, text: &[u8]) -> Result<Self, Fault>
+    fn read_last(spare: &mut Spare, text: &[u8]) -> Result<Self, Fault>
         ensures { ReadsAs is_kept (last spelled_last (script.words text.now)) result };
 }
 
@@ -167,7 +314,7 @@ impl<T: Operand> LastOperand for T {
 
     ghost is_kept = { λ _. false };
 
-    fn read_last(_alloc: Global, text: &[u8]) -> Result<T, Fault> {
+    fn read_last(_spare: &mut Spare, text: &[u8]) -> Result<T, Fault> {
         let (operand, tail) = T::read(text)?;
         if !has_no_word(tail) {
             return Err(Fault::BadCommand);
@@ -182,49 +329,19 @@ impl LastOperand for Bytes {
 
     ghost is_kept = { is_nonempty };
 
+    // What stands behind the space is decoded before it is known to be one word, since digits are no blanks.
     #[inline(never)]
-    fn read_last(alloc: Global, text: &[u8]) -> Result<Bytes, Fault> {
-        let Some((word, tail)) = next_word(text) else {
-            return Err(Fault::BadCommand);
+    fn read_last(spare: &mut Spare, text: &[u8]) -> Result<Bytes, Fault> {
+        let [b' ', digits @ ..] = text else {
+            return any_bytes(spare, text);
         };
-        if !has_no_word(tail) {
-            return Err(Fault::BadCommand);
+        if digits.is_empty() || digits.len() % 2 != 0 {
+            return any_bytes(spare, text);
         }
-        bytes_of(alloc, word)
-    }
-}
-
-// Hexadecimal digits, tested and read without a branch for each.
-
-/// Whether all are digits, in either case.
-fn are_digits(word: &[u8]) -> bool
-    ensures { result ≡ list_all is_hex_digit word.now }
-{
-    let mut all = true;
-    for digit in word {
-        all &= digit.is_ascii_hexdigit();
-    }
-    all
-}
-
-/// The byte of two digits. They are one word, whose bytes become their values, since of words the compiler takes eight
-/// at a time. A letter's low four bits are 1 to 6, and the bit for 64 is set in letters alone.
-#[inline(always)]
-fn byte_of(high: u8, low: u8) -> u8
-    requires { (is_hex_digit high ≡ true) × (is_hex_digit low ≡ true) }
-    ensures { (i : ℕ) → pair_value high low i ≡ Ok result }
-{
-    let digits = u16::from_le_bytes([high, low]);
-    let values = (digits & 0x0F0F) + 9 * (digits / 64 & 0x0101);
-    ((16 * values + values / 256) % 256) as u8
-}
-
-/// Writes the bytes that pairs of digits spell.
-fn decode_into(digits: &[u8], out: &mut [u8])
-    requires { (length digits.now ≡ 2 * length out.old) × AllPass is_hex_digit digits.now }
-    ensures { decode_pairs 0 digits.now ≡ Ok out.new }
-{
-    'bytes: for i in 0..out.len() {
-        out[i] = byte_of(digits[2 * i], digits[2 * i + 1]);
+        match bytes_of_pairs(spare, digits) {
+            Ok(Some(bytes)) => Ok(bytes),
+            Ok(None) => any_bytes(spare, text),
+            Err(_) => bytes_refused(spare, text),
+        }
     }
 }

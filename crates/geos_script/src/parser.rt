@@ -6,6 +6,7 @@ ghost use Rattle.geos_script.specs.Reading.{ReadsAs, command_has_bytes, putting}
 
 use crate::commands::command_of;
 use crate::line::next_word;
+use crate::spare::Spare;
 use geos_model::{Command, Fault};
 use std::alloc::Global;
 
@@ -13,7 +14,7 @@ use std::alloc::Global;
 const LONGEST_LINE: usize = 140_000;
 
 /// The command that a line is, without its line feed. A line that is none, or longer than 140,000 bytes, is a
-/// BadCommand. Only for the bytes that a command is given is memory taken.
+/// BadCommand. Memory runs out only for the bytes that a command is given.
 pub fn parse(alloc: Global, line: &[u8]) -> Result<Command, Fault>
     ensures ok { IfOk result (λ c. command line.now ≡ Some c) }
     ensures bad { (result ≡ Err Fault.BadCommand) ↔ (command line.now ≡ None) }
@@ -21,12 +22,12 @@ pub fn parse(alloc: Global, line: &[u8]) -> Result<Command, Fault>
         ⊎ ((fault ≡ Fault.Memory) × IsSomeAnd (command line.now) (λ c. IsTrue (command_has_bytes c)))) }
 {
     let mut command = Command::Blank;
-    read_command(alloc, &mut command, line)?;
+    read_command(&mut Spare::new(alloc), &mut command, line)?;
     Ok(command)
 }
 
 /// Puts the command that a line is in its place, as `parse` gives it.
-pub fn read_command(alloc: Global, place: &mut Command, line: &[u8]) -> Result<(), Fault>
+pub fn read_command(spare: &mut Spare, place: &mut Command, line: &[u8]) -> Result<(), Fault>
     requires { place.old ≡ Command.Blank }
     ensures ok { OnOk result (command line.now ≡ Some place.new) }
     ensures bad { (result ≡ Err Fault.BadCommand) ↔ (command line.now ≡ None) }
@@ -36,13 +37,13 @@ pub fn read_command(alloc: Global, place: &mut Command, line: &[u8]) -> Result<(
     if line.len() > LONGEST_LINE {
         return Err(Fault::BadCommand);
     }
-    command_of_line(alloc, place, line)
+    command_of_line(spare, place, line)
 }
 
 /// Puts the command that a line of any length is in its place.
 // Inlined, since it has one caller.
 #[inline(always)]
-fn command_of_line(alloc: Global, place: &mut Command, line: &[u8]) -> Result<(), Fault>
+fn command_of_line(spare: &mut Spare, place: &mut Command, line: &[u8]) -> Result<(), Fault>
     requires { place.old ≡ Command.Blank }
     ensures { ReadsAs command_has_bytes (script.command_of_words (script.words line.now)) (putting result place.new) }
 {
@@ -52,5 +53,5 @@ fn command_of_line(alloc: Global, place: &mut Command, line: &[u8]) -> Result<()
     if name.starts_with(b"#") {
         return Ok(());
     }
-    command_of(alloc, place, name, operands)
+    command_of(spare, place, name, operands)
 }

@@ -8,8 +8,8 @@ ghost use Rattle.geos_script.specs.Reading.{putting};
 
 use crate::line::has_no_word;
 use crate::operands::{LastOperand, Operand};
+use crate::spare::Spare;
 use geos_model::{Command, Edit, Fault};
-use std::alloc::Global;
 
 /// What is made of operands: a command, or an edit, which is one.
 pub(crate) trait Made {
@@ -53,7 +53,7 @@ pub(crate) fn none(place: &mut Command, text: &[u8], made: Command) -> Result<()
 // Never inlined, and so the others below: else a table sets up the stack of each of its rows for each name.
 #[inline(never)]
 pub(crate) fn one<A: LastOperand, R: Made, F: FnOnce(A) -> R + Drop>(
-    alloc: Global,
+    spare: &mut Spare,
     place: &mut Command,
     text: &[u8],
     make: F,
@@ -62,14 +62,14 @@ pub(crate) fn one<A: LastOperand, R: Made, F: FnOnce(A) -> R + Drop>(
     ensures { ParsesOperands (λ t. A.is_kept t) (λ t c. (r : R) × F.post make t r × (c ≡ R.as_command r))
         (last A.spelled_last (script.words text.now)) (putting result place.new) }
 {
-    let a = A::read_last(alloc, text)?;
+    let a = A::read_last(spare, text)?;
     *place = make(a).into_command();
     Ok(())
 }
 
 #[inline(never)]
 pub(crate) fn two<A: Operand, B: LastOperand, R: Made, F: FnOnce(A, B) -> R + Drop>(
-    alloc: Global,
+    spare: &mut Spare,
     place: &mut Command,
     text: &[u8],
     make: F,
@@ -80,7 +80,7 @@ pub(crate) fn two<A: Operand, B: LastOperand, R: Made, F: FnOnce(A, B) -> R + Dr
         (putting result place.new) }
 {
     let (a, text) = A::read(text)?;
-    let b = B::read_last(alloc, text)?;
+    let b = B::read_last(spare, text)?;
     *place = make(a, b).into_command();
     Ok(())
 }
@@ -92,7 +92,7 @@ pub(crate) fn three<
     C: LastOperand,
     R: Made,
     F: FnOnce(A, B, C) -> R + Drop,
->(alloc: Global, place: &mut Command, text: &[u8], make: F) -> Result<(), Fault>
+>(spare: &mut Spare, place: &mut Command, text: &[u8], make: F) -> Result<(), Fault>
     requires { F.IsAlwaysCallable make }
     ensures { ParsesOperands (λ t. C.is_kept t.1.1)
         (λ t c. (r : R) × F.post make t.0 t.1.0 t.1.1 r × (c ≡ R.as_command r))
@@ -101,7 +101,7 @@ pub(crate) fn three<
 {
     let (a, text) = A::read(text)?;
     let (b, text) = B::read(text)?;
-    let c = C::read_last(alloc, text)?;
+    let c = C::read_last(spare, text)?;
     *place = make(a, b, c).into_command();
     Ok(())
 }
@@ -114,7 +114,7 @@ pub(crate) fn four<
     D: LastOperand,
     R: Made,
     F: FnOnce(A, B, C, D) -> R + Drop,
->(alloc: Global, place: &mut Command, text: &[u8], make: F) -> Result<(), Fault>
+>(spare: &mut Spare, place: &mut Command, text: &[u8], make: F) -> Result<(), Fault>
     requires { F.IsAlwaysCallable make }
     ensures { ParsesOperands (λ t. D.is_kept t.1.1.1)
         (λ t c. (r : R) × F.post make t.0 t.1.0 t.1.1.0 t.1.1.1 r × (c ≡ R.as_command r))
@@ -124,7 +124,7 @@ pub(crate) fn four<
     let (a, text) = A::read(text)?;
     let (b, text) = B::read(text)?;
     let (c, text) = C::read(text)?;
-    let d = D::read_last(alloc, text)?;
+    let d = D::read_last(spare, text)?;
     *place = make(a, b, c, d).into_command();
     Ok(())
 }
@@ -138,7 +138,7 @@ pub(crate) fn five<
     E: LastOperand,
     R: Made,
     F: FnOnce(A, B, C, D, E) -> R + Drop,
->(alloc: Global, place: &mut Command, text: &[u8], make: F) -> Result<(), Fault>
+>(spare: &mut Spare, place: &mut Command, text: &[u8], make: F) -> Result<(), Fault>
     requires { F.IsAlwaysCallable make }
     ensures { ParsesOperands (λ t. E.is_kept t.1.1.1.1)
         (λ t c. (r : R) × F.post make t.0 t.1.0 t.1.1.0 t.1.1.1.0 t.1.1.1.1 r × (c ≡ R.as_command r))
@@ -151,7 +151,7 @@ pub(crate) fn five<
     let (b, text) = B::read(text)?;
     let (c, text) = C::read(text)?;
     let (d, text) = D::read(text)?;
-    let e = E::read_last(alloc, text)?;
+    let e = E::read_last(spare, text)?;
     *place = make(a, b, c, d, e).into_command();
     Ok(())
 }

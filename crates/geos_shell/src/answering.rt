@@ -10,7 +10,8 @@ ghost use Rattle.geos_shell.specs.RunFaults.{HasCause};
 use crate::runner::{RunFault, ScriptOptions};
 use bstr::ByteSlice;
 use geos_replies::answer_line;
-use std::alloc::{AllocError, Global};
+use geos_script::Spare;
+use std::alloc::AllocError;
 use undo_log::Session;
 use vm_store::Store;
 
@@ -36,7 +37,7 @@ impl Answering {
     /// that was. Behind its last line feed it keeps the rest of the piece, so that this was all of it.
     pub(crate) fn feed<S: Store>(
         &mut self,
-        alloc: Global,
+        spare: &mut Spare,
         manner: ScriptOptions,
         session: &mut Session<S>,
         target: &mut Option<S>,
@@ -54,7 +55,7 @@ impl Answering {
     {
         let mut rest = piece;
         while let Some(end) = rest.find_byte(b'\n') {
-            self.end_line(alloc, manner, session, target, former, &rest[..end])?;
+            self.end_line(spare, manner, session, target, former, &rest[..end])?;
             rest = &rest[end + 1..];
             if self.replies.len() > HELD {
                 return Ok(piece.len() - rest.len());
@@ -67,7 +68,7 @@ impl Answering {
     /// Answers the line that has begun and ends with `tail`.
     fn end_line<S: Store>(
         &mut self,
-        alloc: Global,
+        spare: &mut Spare,
         manner: ScriptOptions,
         session: &mut Session<S>,
         target: &mut Option<S>,
@@ -84,10 +85,10 @@ impl Answering {
     {
         let replies = &mut self.replies;
         if self.begun.is_empty() {
-            return answer(alloc, manner, session, target, former, tail, replies);
+            return answer(spare, manner, session, target, former, tail, replies);
         }
         keep(&mut self.begun, tail)?;
-        answer(alloc, manner, session, target, former, &self.begun, replies)?;
+        answer(spare, manner, session, target, former, &self.begun, replies)?;
         self.begun.clear();
         Ok(())
     }
@@ -95,7 +96,7 @@ impl Answering {
     /// Answers the last line, which no line feed ends, if there is one.
     pub(crate) fn end<S: Store>(
         &mut self,
-        alloc: Global,
+        spare: &mut Spare,
         manner: ScriptOptions,
         session: &mut Session<S>,
         target: &mut Option<S>,
@@ -113,13 +114,13 @@ impl Answering {
             return Ok(());
         }
         let replies = &mut self.replies;
-        answer(alloc, manner, session, target, former, &self.begun, replies)
+        answer(spare, manner, session, target, former, &self.begun, replies)
     }
 }
 
 /// Answers a line, behind the line itself where lines are echoed. Where the run bails, a refusal stops it.
 fn answer<S: Store>(
-    alloc: Global,
+    spare: &mut Spare,
     manner: ScriptOptions,
     session: &mut Session<S>,
     target: &mut Option<S>,
@@ -135,7 +136,7 @@ fn answer<S: Store>(
     ensures cause { IfErr result (λ fault. HasCause fault ⊥ ⊥) }
 {
     let start = out.len();
-    match push_lines(alloc, manner.echoes, session, target, former, line, out) {
+    match push_lines(spare, manner.echoes, session, target, former, line, out) {
         Ok(is_refusal) if is_refusal && manner.bails => Err(RunFault::Refused),
         Ok(_) => Ok(()),
         Err(_) => {
@@ -148,7 +149,7 @@ fn answer<S: Store>(
 /// Puts the line behind `out`, if it is to be echoed, and its reply line behind that, and says whether this is a
 /// refusal. Where memory runs out, a part of them may stand there.
 fn push_lines<S: Store>(
-    alloc: Global,
+    spare: &mut Spare,
     echoes: bool,
     session: &mut Session<S>,
     target: &mut Option<S>,
@@ -169,7 +170,7 @@ fn push_lines<S: Store>(
         out.push(b'\n')?;
     }
     let reply = out.len();
-    answer_line(alloc, session, target, former, line, out)?;
+    answer_line(spare, session, target, former, line, out)?;
     Ok(out[reply..].starts_with(b"no "))
 }
 

@@ -11,6 +11,7 @@ ghost use Rattle.geos_shell.specs.Streams.{StopsReading, StopsWriting};
 
 use crate::answering::Answering;
 use crate::streams::{ReadFault, Sink, Source};
+use geos_script::Spare;
 use std::alloc::{AllocError, Global};
 use std::fmt;
 use undo_log::Session;
@@ -177,6 +178,7 @@ pub fn run_in_manner<S: Store, R: Source, W: Sink>(
     ensures cause { IfErr result (λ fault. HasCause fault (StopsReading R.reads reads reader.old reader.new)
         (StopsWriting W.writes writer.new)) }
 {
+    let mut spare = Spare::new(alloc);
     let mut answering = Answering {
         begun: Vec::new(alloc),
         replies: Vec::new(alloc),
@@ -186,7 +188,7 @@ pub fn run_in_manner<S: Store, R: Source, W: Sink>(
         match reader.read_piece(&mut piece) {
             Ok(0) => {
                 return answer_rest(
-                    alloc,
+                    &mut spare,
                     manner,
                     &mut answering,
                     session,
@@ -198,7 +200,7 @@ pub fn run_in_manner<S: Store, R: Source, W: Sink>(
             Ok(count) => {
                 let bytes = &piece[..count];
                 answer_piece(
-                    alloc,
+                    &mut spare,
                     manner,
                     &mut answering,
                     session,
@@ -217,7 +219,7 @@ pub fn run_in_manner<S: Store, R: Source, W: Sink>(
 
 /// Answers the lines that end in a piece, and writes their replies, so that they are seen before the next read.
 fn answer_piece<S: Store, W: Sink>(
-    alloc: Global,
+    spare: &mut Spare,
     manner: ScriptOptions,
     answering: &mut Answering,
     session: &mut Session<S>,
@@ -238,7 +240,7 @@ fn answer_piece<S: Store, W: Sink>(
 {
     let mut rest = piece;
     while !rest.is_empty() {
-        let fed = answering.feed(alloc, manner, session, target, former, rest);
+        let fed = answering.feed(spare, manner, session, target, former, rest);
         send(&mut answering.replies, writer)?;
         rest = &rest[fed?..];
     }
@@ -247,7 +249,7 @@ fn answer_piece<S: Store, W: Sink>(
 
 /// Answers the last line, which no line feed ends, if there is one, and writes its reply.
 fn answer_rest<S: Store, W: Sink>(
-    alloc: Global,
+    spare: &mut Spare,
     manner: ScriptOptions,
     answering: &mut Answering,
     session: &mut Session<S>,
@@ -263,7 +265,7 @@ fn answer_rest<S: Store, W: Sink>(
         (holding session.new target.new former.new) (W.contents writer.old) (W.contents writer.new)) }
     ensures cause { IfErr result (λ fault. HasCause fault ⊥ (StopsWriting W.writes writer.new)) }
 {
-    let ended = answering.end(alloc, manner, session, target, former);
+    let ended = answering.end(spare, manner, session, target, former);
     send(&mut answering.replies, writer)?;
     ended
 }

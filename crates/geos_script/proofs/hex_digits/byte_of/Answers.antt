@@ -1,6 +1,6 @@
 use Rattle.std.proofs.Common.{arith}
 use Rattle.geos_script.proofs.Digits.{few, pair_read, values_read}
-use Rattle.geos_script.proofs.operands.byte_of.Goals as goal
+use Rattle.geos_script.proofs.hex_digits.byte_of.Goals as goal
 
 pub overflow_mul-result : goal.overflow_mul-result
 overflow_mul-result c =

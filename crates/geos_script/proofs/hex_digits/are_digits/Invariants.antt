@@ -1,7 +1,7 @@
 use Rattle.std.proofs.Common.{◌≡◌, take}
 use Rattle.std.specs.List.{list_all}
 use Rattle.hex.specs.Hex.{is_hex_digit}
-use Rattle.geos_script.proofs.operands.are_digits.Given as goal
+use Rattle.geos_script.proofs.hex_digits.are_digits.Given as goal
 
 abbrev pub invariant-loop-digit : goal.invariant-loop-digit
 invariant-loop-digit l = l.all ≡ list_all is_hex_digit (take l.digit-index l.word)

@@ -1,7 +1,7 @@
 use Rattle.std.proofs.Common.{◌≡◌, ◌*◌, take, drop}
 use Rattle.hex.specs.Hex.{decode_pairs}
 use Rattle.hex.proofs.Pairs.{prepend}
-use Rattle.geos_script.proofs.operands.decode_into.Given as goal
+use Rattle.geos_script.proofs.hex_digits.decode_many.Given as goal
 
 -- the bytes so far, and what the digits behind them spell
 abbrev pub invariant-bytes : goal.invariant-bytes
