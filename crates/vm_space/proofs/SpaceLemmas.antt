@@ -2,7 +2,7 @@
 use Rattle.std.proofs.Common.{◌≡◌, ℕ, ◌+◌, ◌<◌, ◌≤◌, true, false, cond, List, length, get_or, set, sym, ap, ◌∙◌, arith, leb, ltb, inl, inr, ◌⊎◌, zero, suc, ◌*◌, ◌-◌, max, min, [], ◌∷◌, replicate, count_by, refl, subst}
 use Rattle.std.proofs.lemmas.Bool.{cases_lt, cases_eq, cases_Bool, le-leb, lt-ltb, leb-true, ltb-true, and_parts, and_from, false≢true}
 use Rattle.std.proofs.lemmas.List.{get_or-set_same, get_or-set_other, length-set, get_or-replicate, length-replicate, get_or_past}
-use Rattle.vm_space.specs.Space.{is_within, AreCountsRaised, IsRun, Space, is_on, AreTaken, IsTaken, IsFirstRun, IsHint, IsLargestHint, IsSpaceSound}
+use Rattle.vm_space.specs.Space.{is_within, AreCountsRaised, IsRun, Space, is_on, AreTaken, IsTaken, IsFirstRun, IsHint, IsLargestHint, IsSpaceSound, AreHintsUpTo, lowest}
 use Rattle.std.specs.List.Sorted.{IsPermutation}
 use Rattle.std.proofs.lemmas.List.Sorted.{sum_by-IsPermutation, length_permutation, All-permutation}
 use Rattle.std.proofs.lemmas.List.Sums.{count_by-le-length}
@@ -252,16 +252,16 @@ hint-raised start end n hint old new raised is = record {
   none = λ q low high run. is.none q low high (run_less start end n q old new raised run);
 }
 
--- at least so many pages before the ones that are given back
-pub hint-lowered : (start end n hint lower : ℕ) (old new : List ℕ) → AreCountsRaised start end new old → n ≤ 257 → 2 ≤ lower → ((lower ≡ 2) ⊎ (lower + 256 ≤ start)) → IsHint old n hint → IsHint new n (min hint lower)
-hint-lowered start end n hint lower old new raised few low near is = record {
+-- from which so many pages reach those that are given back
+pub hint-lowered : (start end n hint lower : ℕ) (old new : List ℕ) → AreCountsRaised start end new old → 2 ≤ lower → ((lower ≡ 2) ⊎ (lower + (n - 1) ≤ start)) → IsHint old n hint → IsHint new n (min hint lower)
+hint-lowered start end n hint lower old new raised low near is = record {
   behind_slots = (let behind = is.behind_slots in omega (arith, behind, low));
   none = λ q from before run. elim near [
     | inl first ↦ absurd (omega (arith, first, from, before))
     | inr away ↦ is.none q from (omega (arith, before)) (λ k low_k high_k.
         let same = raised k in
         let none = run k low_k high_k in
-        let out = once_no start end k (λ l h. absurd (omega (arith, l, high_k, before, away, few))) in
+        let out = once_no start end k (λ l h. absurd (omega (arith, l, low_k, high_k, before, away))) in
         omega (arith, same, none, out))
   ];
 }
@@ -280,19 +280,40 @@ sound-more old new hints count e sound behind is_length raised = record {
   hint = λ n l. hint-raised e.page (end_page e) n (get_or hints n 0) old new raised (sound.hint n l);
 }
 
-pub first_near : (page first : ℕ) → first ≡ max (page - 256) 2 → (first ≡ 2) ⊎ (first + 256 ≤ page)
-first_near page first is = elim (cases_lt 2 first) [
-  | inl past ↦ inr (omega (arith, is, past))
-  | inr low ↦ inl (omega (arith, is, low))
+pub first_near : (page n : ℕ) → (lowest page n ≡ 2) ⊎ (lowest page n + (n - 1) ≤ page)
+first_near page n = elim (cases_lt 2 (lowest page n)) [
+  | inl past ↦ inr (omega (arith, past))
+  | inr low ↦ inl (omega (arith, low))
 ]
 
-pub sound-less : (old new hints lowered : List ℕ) (count first : ℕ) (e : Extent) (rest : List Extent) → IsSpaceSound old hints count → AreTaken (e ∷ rest) (record { counts = old; count = count }) → AreCountsRaised e.page (end_page e) new old → first ≡ max (e.page - 256) 2 → length lowered ≡ 258 → ((n : ℕ) → get_or lowered n 0 ≡ min (get_or hints n 0) first) → IsSpaceSound new lowered (count - 1)
-sound-less old new hints lowered count first e rest sound are raised is long lower = record {
+-- before the first page behind the slots nothing is free
+pub first-hint : (counts : List ℕ) (n : ℕ) → IsHint counts n 2
+first-hint counts n = record { behind_slots = omega arith; none = λ q low before run. absurd (omega (arith, low, before)) }
+
+pub sound-less : (old new hints lowered : List ℕ) (longest count : ℕ) (e : Extent) (rest : List Extent) → IsSpaceSound old hints count → AreHintsUpTo longest hints → AreTaken (e ∷ rest) (record { counts = old; count = count }) → AreCountsRaised e.page (end_page e) new old → length lowered ≡ 258
+    → ((n : ℕ) → n ≤ longest → get_or lowered n 0 ≡ min (get_or hints n 0) (lowest e.page n)) → ((n : ℕ) → longest < n → get_or lowered n 0 ≡ get_or hints n 0) → IsSpaceSound new lowered (count - 1)
+sound-less old new hints lowered longest count e rest sound up_to are raised long lower same = record {
   taken = rest;
   are = taken-less rest e old new count (count - 1) are raised (let some = are.count in omega (arith, some));
   hint_count = long;
-  hint = λ n l. subst (λ h. IsHint new n h) (sym (lower n)) (hint-lowered e.page (end_page e) n (get_or hints n 0) first old new raised (omega (arith, l)) (omega (arith, is)) (first_near e.page first is) (sound.hint n l));
+  hint = λ n l. elim (cases_lt longest n) [
+    | inl past ↦ subst (λ h. IsHint new n h) (sym (same n past ∙ up_to.others n past l)) (first-hint new n)
+    | inr within ↦ subst (λ h. IsHint new n h) (sym (lower n within)) (hint-lowered e.page (end_page e) n (get_or hints n 0) (lowest e.page n) old new raised (omega arith) (first_near e.page n) (sound.hint n l))
+  ];
 }
+
+-- which hints were raised
+pub up_to-lowered : (hints lowered : List ℕ) (longest : ℕ) → AreHintsUpTo longest hints → ((n : ℕ) → longest < n → get_or lowered n 0 ≡ get_or hints n 0) → AreHintsUpTo longest lowered
+up_to-lowered hints lowered longest up_to same = record { few = up_to.few; others = λ n past l. same n past ∙ up_to.others n past l }
+
+pub up_to-hinted : (hints : List ℕ) (longest more n hint : ℕ) → AreHintsUpTo longest hints → more ≡ max longest n → n < 258 → AreHintsUpTo more (set hints n hint)
+up_to-hinted hints longest more n hint up_to is l = record {
+  few = (let few = up_to.few in omega (arith, few, is, l));
+  others = λ m past below. get_or-set_other hints n m hint 0 (λ same. absurd (omega (arith, same, past, is))) ∙ up_to.others m (omega (arith, past, is)) below;
+}
+
+pub up_to-none : AreHintsUpTo 0 (replicate 258 2)
+up_to-none = record { few = omega arith; others = λ n past l. get_or-replicate {A = ℕ} 258 n 2 0 l }
 
 -- A hint that was found: those pages are taken now, and before them no others were free.
 pub sound-hinted : (old new hints : List ℕ) (from n page count : ℕ) → IsSpaceSound new hints count → AreCountsRaised page (page + n) old new → IsHint old n from → IsFirstRun old from n page → 1 ≤ n → n < 258 → IsSpaceSound new (set hints n (page + n)) count

@@ -1,5 +1,5 @@
 -- The pages that extents take, counted.
-use Rattle.std.specs.Prelude.{◌≡◌, ℕ, ◌+◌, ◌<◌, ◌≤◌, Bool, ◌&&◌, cond, List, ◌∷◌, length, count_by, nat_le, nat_lt, slice_index}
+use Rattle.std.specs.Prelude.{◌≡◌, ℕ, ◌+◌, ◌-◌, ◌<◌, ◌≤◌, max, Bool, ◌&&◌, cond, List, ◌∷◌, length, count_by, nat_le, nat_lt, slice_index}
 use Rattle.geos_model.specs.File.{end_page}
 use Rattle.geos_model.specs.declared.file.Extent.{Extent}
 use Rattle.vm_space.specs.Placing.{AreExtents}
@@ -55,6 +55,15 @@ pub record IsSpaceSound (counts hints : List ℕ) (count : ℕ) : Type 0 where
   pub are : AreTaken taken (record { counts = counts; count = count })
   pub hint_count : length hints ≡ 258
   pub hint : (n : ℕ) → n < 258 → IsHint counts n (slice_index hints n)
+
+-- Of at most so many pages a hint may have been raised; the others are those of an empty space.
+pub record AreHintsUpTo (longest : ℕ) (hints : List ℕ) : Type 0 where
+  pub few : longest < 258
+  pub others : (n : ℕ) → longest < n → n < 258 → slice_index hints n ≡ 2
+
+-- the first page behind the slots from which so many pages reach one
+abbrev pub lowest : ℕ → ℕ → ℕ
+lowest page n = max (page - (n - 1)) 2
 
 -- each count with one more from a page on and before another
 abbrev pub AreCountsRaised : ℕ → ℕ → List ℕ → List ℕ → Type 0

@@ -3,7 +3,7 @@ ghost use Rattle.std.specs.Prelude.{◌≡◌, ◌∷◌, [], ◌+◌, ◌^◌, 
 ghost use Rattle.geos_model.specs.File.{end_page};
 ghost use Rattle.geos_model.specs.declared.file.Extent.{Extent};
 ghost use Rattle.vm_space.specs.Placing.{IsFirstFit, IsLength};
-ghost use Rattle.vm_space.specs.Space.{AreCountsRaised, AreTaken, IsFirstRun, IsLargestHint, IsTaken};
+ghost use Rattle.vm_space.specs.Space.{AreCountsRaised, AreTaken, IsFirstRun, IsLargestHint, IsTaken, lowest};
 
 use crate::MOST_EXTENTS;
 use geos_model::Extent;
@@ -26,17 +26,19 @@ pub struct FreeSpace {
     // For each number of pages, one before which so many are free nowhere. Kept apart, so that little is moved where
     // the space is.
     hints: Vec<u32>,
+    // The most pages that were taken at once: the hints for more are those of an empty space.
+    longest: usize,
     count: usize,
 }
 
 impl Model for FreeSpace {
-    ghost use Rattle.vm_space.specs.Space.{Space, IsSpaceSound};
+    ghost use Rattle.vm_space.specs.Space.{Space, AreHintsUpTo, IsSpaceSound};
 
     ghost Value = { Space };
 
     ghost view = { λ f. record { counts = f.counts.items; count = f.count } };
 
-    ghost invariant = { λ f. IsSpaceSound f.counts.items f.hints.items f.count };
+    ghost invariant = { λ f. IsSpaceSound f.counts.items f.hints.items f.count × AreHintsUpTo f.longest f.hints.items };
 }
 
 impl FreeSpace {
@@ -47,6 +49,7 @@ impl FreeSpace {
         Ok(FreeSpace {
             counts: Vec::new(alloc),
             hints: first_hints(alloc)?,
+            longest: 0,
             count: 0,
         })
     }
@@ -87,6 +90,7 @@ impl FreeSpace {
         self.hold(extent)?;
         // So many are free nowhere before the page, and its own are taken now.
         self.hints[pages] = page + pages as u32;
+        self.longest = self.longest.max(pages);
         Ok(extent)
     }
 
@@ -100,10 +104,8 @@ impl FreeSpace {
         let end = page_behind(extent) as usize;
         count_down(&mut self.counts, start, end);
         self.count -= 1;
-        // Pages that are free now may go with as many before them as an extent has.
         if has_free(&self.counts, start, end) {
-            let first = extent.page.saturating_sub(MOST_PAGES - 1).max(FIRST_PAGE);
-            lower(&mut self.hints, first);
+            lower(&mut self.hints, self.longest, extent.page);
         }
     }
 }
@@ -161,11 +163,24 @@ fn has_free(counts: &[u16], start: usize, end: usize) -> bool
     false
 }
 
-fn lower(hints: &mut [u32], page: u32)
-    ensures { (n : ℕ) → slice_index hints.new n ≡ min (slice_index hints.old n) page }
+// The first page from which so many reach one that is free from now on.
+fn lowest(page: u32, pages: usize) -> u32
+    requires { pages < 258 }
+    ensures { result ≡ lowest page pages }
 {
-    for hint in hints {
-        *hint = (*hint).min(page);
+    let before = (pages as u32).saturating_sub(1);
+    page.saturating_sub(before).max(FIRST_PAGE)
+}
+
+// From a page on some are free that weren't. For more pages than `longest` the hints stay.
+fn lower(hints: &mut [u32], longest: usize, page: u32)
+    requires known { longest < 258 }
+    requires within { longest < length hints.old }
+    ensures lower { (n : ℕ) → n ≤ longest → slice_index hints.new n ≡ min (slice_index hints.old n) (lowest page n) }
+    ensures same { (n : ℕ) → longest < n → slice_index hints.new n ≡ slice_index hints.old n }
+{
+    for n in 0..longest + 1 {
+        hints[n] = hints[n].min(lowest(page, n));
     }
 }
 

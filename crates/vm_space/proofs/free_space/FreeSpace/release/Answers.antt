@@ -1,10 +1,10 @@
-use Rattle.std.proofs.Common.{◌≡◌, ℕ, ◌-◌, ◌<◌, ◌≤◌, max, List, ◌∷◌, length, min, get_or, sym, subst, ap, ◌∙◌, arith}
+use Rattle.std.proofs.Common.{◌≡◌, ℕ, ◌-◌, ◌<◌, ◌≤◌, List, ◌∷◌, length, min, get_or, sym, subst, ap, ◌∙◌, arith}
 use Rattle.std.proofs.lemmas.List.{with_items_is}
 use Rattle.std.specs.Vec.{with_items}
 use Rattle.geos_model.specs.File.{end_page}
 use Rattle.geos_model.specs.declared.file.Extent.{Extent}
-use Rattle.vm_space.specs.Space.{Space, AreCountsRaised, AreTaken, IsSpaceSound}
-use Rattle.vm_space.proofs.SpaceLemmas.{lowered_from, taken-less, sound-less, sound-fewer, taken_there}
+use Rattle.vm_space.specs.Space.{Space, AreCountsRaised, AreTaken, AreHintsUpTo, IsSpaceSound, lowest}
+use Rattle.vm_space.proofs.SpaceLemmas.{lowered_from, taken-less, sound-less, sound-fewer, taken_there, up_to-lowered}
 use Rattle.vm_space.proofs.free_space.FreeSpace.release.Goals.{After-count_down}
 use Rattle.vm_space.proofs.free_space.FreeSpace.release.Goals as goal
 
@@ -36,14 +36,18 @@ invariant_of-self c =
     let new : List ℕ = c.count_down.new.counts in
     let raised = lowered (goal.at.invariant_of-self c).After-count_down in
     let before : AreTaken (e ∷ c.requires.0) (record { counts = old; count = c.self.inside.count }) = subst (λ (s : Space). AreTaken (e ∷ c.requires.0) s) (sym c.self.view_is) c.requires.1 in
-    let is : c.max-first.result ≡ max (e.page - 256) 2 = omega (arith, c.max-first.ensures, c.saturating_sub.ensures) in
     let hints = c.deref_mut-then-has_free in
-    let lowered_hints : (n : ℕ) → get_or c.lower.new.hints n 0 ≡ min (get_or c.self.inside.hints.items n 0) c.max-first.result =
-    subst (λ (l : List ℕ). (n : ℕ) → get_or c.lower.new.hints n 0 ≡ min (get_or l n 0) c.max-first.result) hints.ensures.value c.lower.ensures in
-    let as_long : length c.lower.new.hints ≡ length c.self.inside.hints.items = c.lower.auto.hints ∙ ap (λ (l : List ℕ). length l) hints.ensures.value in
-    subst (λ (counts : List ℕ). IsSpaceSound counts (with_items c.self.inside.hints c.lower.new.hints).items (c.self.inside.count - 1)) (sym (with_items_is c.self.inside.counts new (c.count_down.auto.counts ∙ c.deref_mut.ensures.len)))
-    (subst (λ (l : List ℕ). IsSpaceSound new l (c.self.inside.count - 1)) (sym (with_items_is c.self.inside.hints c.lower.new.hints (c.lower.auto.hints ∙ hints.ensures.len)))
-    (sound-less old new c.self.inside.hints.items c.lower.new.hints c.self.inside.count c.max-first.result e c.requires.0 c.self.invariant before raised is (as_long ∙ c.self.invariant.hint_count) lowered_hints))
+    let was : List ℕ = c.self.inside.hints.items in
+    let lower : (n : ℕ) → n ≤ c.self.inside.longest → get_or c.lower.new.hints n 0 ≡ min (get_or was n 0) (lowest e.page n) =
+    subst (λ (l : List ℕ). (n : ℕ) → n ≤ c.self.inside.longest → get_or c.lower.new.hints n 0 ≡ min (get_or l n 0) (lowest e.page n)) hints.ensures.value c.lower.ensures.lower in
+    let same : (n : ℕ) → c.self.inside.longest < n → get_or c.lower.new.hints n 0 ≡ get_or was n 0 =
+    subst (λ (l : List ℕ). (n : ℕ) → c.self.inside.longest < n → get_or c.lower.new.hints n 0 ≡ get_or l n 0) hints.ensures.value c.lower.ensures.same in
+    let as_long : length c.lower.new.hints ≡ length was = c.lower.auto.hints ∙ ap (λ (l : List ℕ). length l) hints.ensures.value in
+    subst (λ (counts : List ℕ). IsSpaceSound counts (with_items c.self.inside.hints c.lower.new.hints).items (c.self.inside.count - 1) × AreHintsUpTo c.self.inside.longest (with_items c.self.inside.hints c.lower.new.hints).items) (sym (with_items_is c.self.inside.counts new (c.count_down.auto.counts ∙ c.deref_mut.ensures.len)))
+    (subst (λ (l : List ℕ). IsSpaceSound new l (c.self.inside.count - 1) × AreHintsUpTo c.self.inside.longest l) (sym (with_items_is c.self.inside.hints c.lower.new.hints (c.lower.auto.hints ∙ hints.ensures.len))) (
+      sound-less old new was c.lower.new.hints c.self.inside.longest c.self.inside.count e c.requires.0 c.self.invariant.0 c.self.invariant.1 before raised (as_long ∙ c.self.invariant.0.hint_count) lower same,
+      up_to-lowered was c.lower.new.hints c.self.inside.longest c.self.invariant.1 same,
+    ))
 
 pub invariant_of-self-else-has_free : goal.invariant_of-self-else-has_free
 invariant_of-self-else-has_free c =
@@ -56,8 +60,8 @@ invariant_of-self-else-has_free c =
     let as_file : c.deref.result.now ≡ new = c.deref.ensures.value ∙ items in
     let held : (page : ℕ) → e.page ≤ page → page < end_page e → 1 ≤ get_or new page 0 = λ page low high.
     subst (λ (counts : List ℕ). 1 ≤ get_or counts page 0) as_file (c.has_free.ensures c.if-has_free.false page low (omega (arith, high, c.page_behind-end.ensures))) in
-    subst (λ (counts : List ℕ). IsSpaceSound counts c.self.inside.hints.items (c.self.inside.count - 1)) (sym items)
-    (sound-fewer old new c.self.inside.hints.items c.self.inside.count e c.requires.0 c.self.invariant before raised held)
+    subst (λ (counts : List ℕ). IsSpaceSound counts c.self.inside.hints.items (c.self.inside.count - 1) × AreHintsUpTo c.self.inside.longest c.self.inside.hints.items) (sym items)
+    (sound-fewer old new c.self.inside.hints.items c.self.inside.count e c.requires.0 c.self.invariant.0 before raised held, c.self.invariant.1)
 
 pub returns-then-has_free-clause-left : goal.returns-then-has_free-clause-left
 returns-then-has_free-clause-left c = λ rest are.
