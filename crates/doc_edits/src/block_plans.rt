@@ -80,7 +80,7 @@ fn plan_new_raw<S: Store>(
         user_id,
         heap_type: 0,
     };
-    let block = BlockImage::zeros(alloc, attributes, size as usize)?;
+    let block = BlockImage::zeros(attributes, size as usize);
     let made = Members::one(alloc, handle, block)?;
     Ok((Change::BlocksIn(made), Done::Block(handle)))
 }
@@ -103,7 +103,7 @@ fn plan_new_heap<S: Store>(
         user_id,
         heap_type: 0,
     };
-    let block = BlockImage::empty_heap(alloc, attributes)?;
+    let block = BlockImage::empty_heap(attributes);
     let made = Members::one(alloc, handle, block)?;
     Ok((Change::BlocksIn(made), Done::Block(handle)))
 }

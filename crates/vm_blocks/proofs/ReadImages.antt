@@ -22,13 +22,6 @@ no_image other bytes none is valid =
     let wrong : None ≡ Some other = sym none ∙ ap body_of is ∙ body_of-image other valid in
     cc wrong
 
--- a kind that isn't the one that it is
-pub kinds_differ : (a b : Bool) → a ≡ b → beq a b ≡ false → ⊥
-kinds_differ true true same differ = cc differ
-kinds_differ true false same differ = cc same
-kinds_differ false true same differ = cc same
-kinds_differ false false same differ = cc differ
-
 -- what can't be read
 pub unread : {S A : Type 0} (facts : S → StoreFacts) (old new : S) (fault : Fault) (result : Result A Fault) → result ≡ Err fault → (fault ≡ Memory) ⊎ (fault ≡ Damaged) → (fault ≡ Damaged → IsTrue (facts old).honest → ⊥)
     → Fails facts (IsDamage (facts old).honest) old new result

@@ -86,8 +86,8 @@ pub fn write_back<S: Store>(
     }
 }
 
-/// The body of a block as the file has it, in this region. Damaged where what is read is no image of the block's kind,
-/// which an honest store never gives; Memory, File.
+/// The body of a block as the file has it, in this region. Damaged where what is read of a heap is no image of one,
+/// which an honest store never gives; Memory, File. A raw body is read where it will stand.
 pub fn read_body<S: Store>(
     file: &mut VmFile<S>,
     block: VmHandle,
@@ -102,11 +102,14 @@ pub fn read_body<S: Store>(
         (IsDamage (S.facts file.old.disk.store).honest) file.old.disk.store file.new.disk.store result }
 {
     file.reveal_invariant();
-    let is_heap = file.entry(block).unwrap().is_heap;
+    if !file.entry(block).unwrap().is_heap {
+        let raw = file.read_raw(block, region)?;
+        return Ok(BlockBody::Raw(raw));
+    }
     let image = file.read_block(block)?;
     match read_image(region, &image) {
         Some(body) => {
-            if body.is_heap() == is_heap {
+            if body.is_heap() {
                 Ok(body)
             } else {
                 Err(Fault::Damaged)

@@ -1,5 +1,5 @@
 -- Bytes that are the image of a body that a document can have.
-use Rattle.std.proofs.Common.{◌≡◌, ℕ, ◌+◌, ◌<◌, ◌≤◌, List, [], ◌∷◌, length, slice_index, replicate, Bool, true, false, not, ◌==◌, Some, refl, ap, sym, ◌∙◌, arith, add-one, le-leb, ◌≢◌, ◌&&◌, None}
+use Rattle.std.proofs.Common.{◌≡◌, ℕ, ◌+◌, ◌<◌, ◌≤◌, List, [], ◌∷◌, length, slice_index, replicate, Bool, true, false, not, ◌==◌, Some, refl, ap, sym, ◌∙◌, arith, add-one, le-leb, ◌*◌, min, ◌-◌, get_or, drop, ◌≢◌, ◌&&◌, None}
 use Rattle.std.specs.Prelude.{if◌then◌else◌}
 use Rattle.std.specs.FinMap.{empty}
 use Rattle.geos_model.specs.Document.{is_valid_body, is_heap_body}
@@ -11,7 +11,10 @@ use Rattle.geos_model.proofs.Files.{body_of-some, some_if, body_of-image}
 use Rattle.geos_model.proofs.HeapTables.{image-table, trimmed-nil}
 use Rattle.geos_model.proofs.Images.{body_read-body, length_image_body_le}
 use Rattle.geos_model.proofs.Tables.{table_map-nil}
-use Rattle.geos_model.specs.File.{longest_image}
+use Rattle.geos_model.specs.File.{bytes_in, longest_image}
+use Rattle.geos_model.specs.declared.file.Extent.{Extent}
+use Rattle.std.proofs.lemmas.List.{length-take, length-drop, get_or-take, get_or-drop}
+use Rattle.vm_store.specs.Facts.{byte}
 use Rattle.vm_format.proofs.StoredDirectoryLemmas.{none_if}
 use Rattle.vm_file.specs.Images.{IsImage}
 use Rattle.geos_model.specs.Bytes.{same_bytes}
@@ -47,10 +50,6 @@ unfolding image
 image-zeros n = rw add-one refl
 
 -- the kind of an image is its first byte
-pub some_byte : (bytes : List ℕ) → IsImage bytes → 0 < length bytes
-unfolding image
-some_byte bytes is = elim (body_read bytes) as (λ b. image b ≡ bytes → 0 < length bytes) [ Raw raw ↦ λ e. omega (arith, ap length e) | Heap m ↦ λ e. omega (arith, ap length e) ] is.image_is
-
 kind_of : (is_raw : Bool) (raw : List ℕ) (m : ChunkMap) → not is_raw ≡ is_heap_body (if is_raw then Raw raw else Heap m)
 kind_of true raw m = refl
 kind_of false raw m = refl
@@ -59,10 +58,15 @@ pub kind_is : (bytes : List ℕ) → not (slice_index bytes 0 == 0) ≡ is_heap_
 unfolding body_read
 kind_is bytes = kind_of (slice_index bytes 0 == 0) _ _
 
-image_some : (body : Body) → 1 ≤ length (image body)
+pub image_some : (body : Body) → 1 ≤ length (image body)
 unfolding image
 image_some (Raw bytes) = omega arith
 image_some (Heap m) = omega arith
+
+pub first_byte : (body : Body) → not (slice_index (image body) 0 == 0) ≡ is_heap_body body
+unfolding image
+first_byte (Raw bytes) = refl
+first_byte (Heap m) = refl
 
 -- an image has 1 to 65,521 bytes
 pub image_length : (body : Body) → is_valid_body body ≡ true → (1 ≤ length (image body)) × (length (image body) ≤ longest_image)
@@ -105,6 +109,18 @@ raw_image bytes some first short =
     let long = length_raw raw.0 in
     let same = ap length raw.1 in
     image_of bytes (Raw raw.0) false (le-leb (length raw.0) capacity (omega (arith, long, same, short))) raw.1 refl
+
+-- the first byte of an extent
+pub first_in : (file : List ℕ) (e : Extent) → 1 ≤ e.length → byte (bytes_in file e) 0 ≡ byte file (512 * e.page)
+first_in file e some =
+    let at = 512 * e.page in let same : at + 0 ≡ at = omega arith in
+    get_or-take e.length (drop at file) 0 0 some ∙ get_or-drop at file 0 0 ∙ ap (λ i. get_or file i 0) same
+
+-- so where one byte of an extent is known
+pub raw_there : (file : List ℕ) (e : Extent) → 512 * e.page < length file → byte file (512 * e.page) ≡ 0 → 1 ≤ e.length → e.length ≤ longest_image → IsImageOf false (bytes_in file e)
+raw_there file e within first some short =
+    let long : length (bytes_in file e) ≡ min e.length (length file - 512 * e.page) = length-take e.length (drop (512 * e.page) file) ∙ ap (min e.length) (length-drop (512 * e.page) file) in
+    raw_image (bytes_in file e) (omega (arith, long, within, some)) (first_in file e some ∙ first) (omega (arith, long, short))
 
 pub long_none : (bytes : List ℕ) → longest_image < length bytes → body_of bytes ≡ None
 long_none bytes long = none_if (body_of bytes) (λ b e.

@@ -22,6 +22,7 @@ pub mod PlaceImageLemmas
 pub mod PlacingLemmas
 pub mod PutBlocksLemmas
 pub mod RangesLemmas
+pub mod RawReadLemmas
 pub mod ResultLemmas
 pub mod SlotsLemmas
 pub mod SoundLemmas

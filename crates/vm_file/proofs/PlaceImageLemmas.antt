@@ -20,7 +20,7 @@ use Rattle.vm_file.proofs.TableLemmas.{EachPlace, shown, each_at, places_of, blo
 -- The bytes of an extent.
 
 -- the image of a block lies at its place
-lying_image : (file : List ℕ) (places : List (Option Place)) (map_block h : ℕ) (place : Place) → 1 ≤ h → slot_at places (h - 1) ≡ Some place → AreImaged file places → bytes_in file place.extent ≡ image (block_at (shown file places map_block) h).body
+pub lying_image : (file : List ℕ) (places : List (Option Place)) (map_block h : ℕ) (place : Place) → 1 ≤ h → slot_at places (h - 1) ≡ Some place → AreImaged file places → bytes_in file place.extent ≡ image (block_at (shown file places map_block) h).body
 lying_image file places map_block h place low at images =
     let one = each_at (IsImaged file) places (h - 1) place at images in
     sym (some_image (bytes_in file place.extent) one.image).image_is

@@ -5,6 +5,7 @@ ghost use Rattle.std.specs.FinMap.{get, keys};
 ghost use Rattle.vm_store.specs.Facts.{FailedSince, IsUnchanged};
 ghost use Rattle.geos_model.specs.Document.{empty_document, is_live, is_vm_handle, next_handle, most_blocks, attributes_of, with_attributes, block_at, is_heap, IsTyped};
 ghost use Rattle.geos_model.specs.Image.{image};
+ghost use Rattle.geos_model.specs.declared.command.Body.TheVariants as bodies;
 ghost use Rattle.geos_model.specs.Reply.{found};
 ghost use Rattle.geos_model.specs.File.{bytes_in, directory_text, open_slot, stands};
 ghost use Rattle.vm_file.specs.Disk.{FileState, ContentStands, SameUnlessCorrupt, KeepsCommitted, IsCrashConsistent, HasSequence, unmarked};
@@ -26,10 +27,11 @@ use crate::slot::Slots;
 use crate::stored_documents::StoredDocuments;
 use crate::table::{
     BlockTable, Place, both_of, change_places, copy_table, make_room, place_in, read_block,
-    set_attributes,
+    read_raw, set_attributes,
 };
 use crate::writing::write_puts;
 use geos_model::{Attributes, Fault, VmHandle};
+use raw_region::{RawBody, Region};
 use std::alloc::{AllocError, Global};
 use std::marker::Model;
 use vm_format::MOST_ENTRIES;
@@ -255,6 +257,18 @@ impl<S: Store> VmFile<S> {
         ensures fails { Fails S.facts NoFault self.old.disk.store self.new.disk.store result }
     {
         read_block(self.alloc, &mut self.store, &self.live, block)
+    }
+
+    /// The bytes of a raw block, read right into a region. File.
+    pub fn read_raw(&mut self, block: VmHandle, region: Region) -> Result<RawBody, Fault>
+        requires live { is_live self.old.document block.0 ≡ true }
+        requires raw { is_heap self.old.document block.0 ≡ false }
+        ensures reads { OnlyReads S.facts self.old self.new }
+        ensures body { IfOk result (λ body. IsTrue (S.facts self.old.disk.store).honest
+            → (block_at self.old.document block.0).body ≡ bodies.Raw body) }
+        ensures fails { Fails S.facts NoFault self.old.disk.store self.new.disk.store result }
+    {
+        read_raw(&mut self.store, &self.live, block, region)
     }
 
     /// Sets the attributes of a block. Only a heap has a type.

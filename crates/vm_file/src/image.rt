@@ -32,17 +32,34 @@ fn with_kind(bytes: Vec<u8>) -> Result<Vec<u8>, AllocError>
     Ok(image)
 }
 
-fn zeros(alloc: Global, count: usize) -> Result<Vec<u8>, AllocError>
-    ensures { IfOk result (λ v. v.items ≡ replicate count 0) }
+// The image of a raw body of zeros is the front of these: none is longer.
+static ZEROS: [u8; 65536] = [0; 65536];
+
+// The image of a heap without chunks: its kind, and a table of no entries.
+static EMPTY_HEAP: [u8; 3] = [1, 0, 0];
+
+// How an image is held. That of a block that was just made takes no memory.
+#[derive(Drop)]
+enum Held {
+    Bytes(Bytes),
+    // A raw body of so many zeros.
+    Zeros(u16),
+    // A heap without chunks.
+    EmptyHeap,
+}
+
+// The image of a raw body of so many zeros.
+fn zeros(size: u16) -> &'static [u8]
+    ensures { result.now ≡ replicate (size + 1) 0 }
 {
-    vec![in alloc; 0; count]
+    &ZEROS[..usize::from(size) + 1]
 }
 
 /// What a file keeps of a body that a document can have: a byte for its kind, and the bytes of a raw body or of a
 /// heap's image behind it, at most `LONGEST_IMAGE` in all. Contracts see the body.
 #[derive(Drop)]
 pub struct Image {
-    bytes: Bytes,
+    held: Held,
 }
 
 impl Model for Image {
@@ -50,14 +67,15 @@ impl Model for Image {
     ghost use Rattle.geos_model.specs.Image.{body_read};
     ghost use Rattle.geos_model.proofs.Codes.{body_code};
     ghost use Rattle.vm_file.specs.Images.{IsImage};
+    ghost use Rattle.vm_file.specs.Held.{held_bytes};
 
     ghost Value = { Body };
 
     ghost coded = { body_code };
 
-    ghost view = { λ i. body_read i.bytes };
+    ghost view = { λ i. body_read (held_bytes i.held) };
 
-    ghost invariant = { λ i. IsImage i.bytes };
+    ghost invariant = { λ i. IsImage (held_bytes i.held) };
 }
 
 impl Image {
@@ -67,7 +85,9 @@ impl Image {
         ensures { MatchOption result (body_of bytes ≡ None) (λ i. body_of bytes ≡ Some i) }
     {
         match image_kind(bytes.as_slice()) {
-            Some(_) => Some(Image { bytes }),
+            Some(_) => Some(Image {
+                held: Held::Bytes(bytes),
+            }),
             None => None,
         }
     }
@@ -77,8 +97,9 @@ impl Image {
         requires { length bytes.now ≤ capacity }
         ensures { IfOk result (λ i. i ≡ bodies.Raw bytes.now) }
     {
+        let image = raw_image(alloc, bytes)?;
         Ok(Image {
-            bytes: Bytes::from_vec(raw_image(alloc, bytes)?),
+            held: Held::Bytes(Bytes::from_vec(image)),
         })
     }
 
@@ -87,59 +108,57 @@ impl Image {
         requires { length bytes.items ≤ capacity }
         ensures { IfOk result (λ i. i ≡ bodies.Raw bytes.items) }
     {
+        let image = with_kind(bytes)?;
         Ok(Image {
-            bytes: Bytes::from_vec(with_kind(bytes)?),
+            held: Held::Bytes(Bytes::from_vec(image)),
         })
     }
 
-    /// That of a raw body of so many zeros.
-    pub fn zeros(alloc: Global, size: usize) -> Result<Image, AllocError>
+    /// That of a raw body of so many zeros. It takes no memory.
+    pub fn zeros(size: usize) -> Image
         requires { size ≤ capacity }
-        ensures { IfOk result (λ i. i ≡ bodies.Raw (replicate size 0)) }
+        ensures { result ≡ bodies.Raw (replicate size 0) }
     {
-        Ok(Image {
-            bytes: Bytes::from_vec(zeros(alloc, size + 1)?),
-        })
+        Image {
+            held: Held::Zeros(size as u16),
+        }
     }
 
     /// That of a heap as it is now.
     pub fn of_heap(heap: &Heap) -> Result<Image, AllocError>
         ensures { IfOk result (λ i. i ≡ bodies.Heap heap.now.chunks) }
     {
+        let image = heap.image()?;
         Ok(Image {
-            bytes: Bytes::from_vec(heap.image()?),
+            held: Held::Bytes(Bytes::from_vec(image)),
         })
     }
 
-    /// That of a heap without chunks.
-    pub fn empty_heap(alloc: Global) -> Result<Image, AllocError>
-        ensures { IfOk result (λ i. i ≡ bodies.Heap empty) }
+    /// That of a heap without chunks. It takes no memory.
+    pub fn empty_heap() -> Image
+        ensures { result ≡ bodies.Heap empty }
     {
-        // A table of no entries.
-        Ok(Image {
-            bytes: Bytes::from_vec(vec![in alloc; BodyKind::Heap.byte(), 0, 0]?),
-        })
+        Image {
+            held: Held::EmptyHeap,
+        }
     }
 
     /// The bytes.
     pub fn as_slice(&self) -> &[u8]
         ensures { result.now ≡ image self.now }
     {
-        self.bytes.as_slice()
-    }
-
-    /// The bytes, given away.
-    pub fn into_bytes(self) -> Bytes
-        ensures { result ≡ image self }
-    {
-        self.bytes
+        match &self.held {
+            Held::Bytes(bytes) => bytes.as_slice(),
+            Held::Zeros(size) => zeros(*size),
+            Held::EmptyHeap => &EMPTY_HEAP,
+        }
     }
 
     /// Whether the body is a heap.
     pub fn is_heap(&self) -> bool
         ensures { result ≡ is_heap_body self.now }
     {
-        BodyKind::of_byte(self.bytes.as_slice()[0]).is_heap()
+        BodyKind::of_byte(self.as_slice()[0]).is_heap()
     }
 
     /// It does nothing: its caller learns that the body is one that a document can have.
@@ -147,6 +166,6 @@ impl Image {
         ensures { is_valid_body self.now ≡ true }
     {
         // What is always so of the fields is known where one is named.
-        let _ = &self.bytes;
+        let _ = &self.held;
     }
 }

@@ -1,8 +1,8 @@
 //! Of which kind an image is: found out from its bytes, or known already.
-ghost use Rattle.std.specs.Prelude.{◌≡◌, ◌<◌, ◌==◌, ℕ, List, IsTrue, IfOk, IfErr, IfSome, IsErrOf, MatchOption, Some, None};
-ghost use Rattle.vm_store.specs.Facts.{FailedSince};
+ghost use Rattle.std.specs.Prelude.{◌≡◌, ◌*◌, ◌<◌, ◌≤◌, ◌==◌, ℕ, List, IsTrue, IfOk, IfErr, IfSome, IsErrOf, MatchOption, Some, None, length, true};
+ghost use Rattle.vm_store.specs.Facts.{FailedSince, byte};
 ghost use Rattle.geos_model.specs.Image.{body_of};
-ghost use Rattle.geos_model.specs.File.{bytes_in};
+ghost use Rattle.geos_model.specs.File.{bytes_in, longest_image};
 ghost use Rattle.vm_file.specs.Documents.{AreImaged};
 ghost use Rattle.vm_format.specs.Reading.{OnlyReadsStore, IsReadRefusal};
 ghost use Rattle.vm_file.specs.Opened.{IsImageOf};
@@ -10,7 +10,7 @@ ghost use Rattle.vm_file.specs.Opened.{IsImageOf};
 use crate::table::Place;
 use geos_model::{Extent, Fault};
 use std::alloc::Global;
-use vm_format::{BodyKind, LONGEST_IMAGE, read_extent};
+use vm_format::{BodyKind, LONGEST_IMAGE, read_extent, start_of};
 use vm_store::Store;
 
 /// Whether bytes are the image of a heap, and not of a raw body. None where they are of neither.
@@ -29,7 +29,18 @@ pub fn image_kind(bytes: &[u8]) -> Option<bool>
     if is_image { Some(is_heap) } else { None }
 }
 
-/// Whether the image in an extent is that of a heap. Damaged, Memory, File.
+// An image of so many bytes or fewer is read whole: it takes no longer than its first byte.
+const SHORT: u32 = 4096;
+
+// Whether an extent has more bytes than are read at once, and no more than an image.
+fn is_long(extent: Extent) -> bool
+    ensures { result ≡ true → (1 ≤ extent.length) × (extent.length ≤ longest_image) }
+{
+    extent.length > SHORT && extent.length as usize <= LONGEST_IMAGE
+}
+
+/// Whether the image in an extent is that of a heap. Of a long raw body the first byte alone is read, since any bytes
+/// may follow it. Damaged, Memory, File.
 pub fn read_kind<S: Store>(alloc: Global, store: &mut S, extent: Extent) -> Result<bool, Fault>
     ensures looks { OnlyReadsStore (S.facts store.old) (S.facts store.new) }
     ensures imaged { IfOk result (λ is_heap. IsTrue (S.facts store.old).honest
@@ -39,8 +50,25 @@ pub fn read_kind<S: Store>(alloc: Global, store: &mut S, extent: Extent) -> Resu
     ensures file { IsErrOf result Fault.File → FailedSince (S.facts store.old) (S.facts store.new) }
     ensures refusals { IfErr result IsReadRefusal }
 {
+    if is_long(extent) && is_raw(store, extent)? {
+        return Ok(false);
+    }
     let bytes = read_extent(alloc, store, extent)?;
     image_kind(&bytes).ok_or(Fault::Damaged)
+}
+
+// Whether the first byte of an extent is that of raw bodies. File.
+fn is_raw<S: Store>(store: &mut S, extent: Extent) -> Result<bool, Fault>
+    ensures looks { OnlyReadsStore (S.facts store.old) (S.facts store.new) }
+    ensures first { IfOk result (λ is_raw. IsTrue (S.facts store.old).honest
+        → (512 * extent.page < length (S.facts store.old).content)
+        × (is_raw ≡ (byte (S.facts store.old).content (512 * extent.page) == 0))) }
+    ensures file { IsErrOf result Fault.File → FailedSince (S.facts store.old) (S.facts store.new) }
+    ensures refusals { IfErr result (λ fault. fault ≡ Fault.File) }
+{
+    let mut first = [0];
+    store.read_at(start_of(extent), &mut first)?;
+    Ok(BodyKind::of_byte(first[0]) == BodyKind::Raw)
 }
 
 /// The kind of the image of a place that is known, if it lies in this extent.

@@ -33,18 +33,13 @@ impl BlockImage {
         BlockImage { attributes, image }
     }
 
-    /// A raw block of so many zeros. It has no type.
-    pub fn zeros(
-        alloc: Global,
-        attributes: Attributes,
-        size: usize,
-    ) -> Result<BlockImage, AllocError>
+    /// A raw block of so many zeros. It has no type, and its image takes no memory.
+    pub fn zeros(attributes: Attributes, size: usize) -> BlockImage
         requires size { size ≤ capacity }
         requires typed { attributes.heap_type ≡ 0 }
-        ensures { IfOk result
-            (λ saved. imaged_block saved ≡ record { attributes = attributes; body = bodies.Raw (replicate size 0) }) }
+        ensures { imaged_block result ≡ record { attributes = attributes; body = bodies.Raw (replicate size 0) } }
     {
-        Ok(BlockImage::new(attributes, Image::zeros(alloc, size)?))
+        BlockImage::new(attributes, Image::zeros(size))
     }
 
     /// A raw block of these bytes. It has no type.
@@ -57,12 +52,11 @@ impl BlockImage {
         Ok(BlockImage::new(attributes, Image::from_raw(bytes)?))
     }
 
-    /// A block with an empty heap.
-    pub fn empty_heap(alloc: Global, attributes: Attributes) -> Result<BlockImage, AllocError>
-        ensures { IfOk result
-            (λ saved. imaged_block saved ≡ record { attributes = attributes; body = bodies.Heap empty }) }
+    /// A block with an empty heap, whose image takes no memory.
+    pub fn empty_heap(attributes: Attributes) -> BlockImage
+        ensures { imaged_block result ≡ record { attributes = attributes; body = bodies.Heap empty } }
     {
-        Ok(BlockImage::new(attributes, Image::empty_heap(alloc)?))
+        BlockImage::new(attributes, Image::empty_heap())
     }
 
     /// How many bytes it holds: those of the image.

@@ -1,8 +1,9 @@
 //! The blocks of a document and where their images lie in the file; copies of that, and who shares it.
-ghost use Rattle.std.specs.Prelude.{IsTrue, IfErr, IsErrOf, true, ◌≡◌, ◌≤◌, ◌-◌, ◌++◌, ◌∷◌, [], List, All, IfSome, IsOk, OnOk, OnErr, None, Some, get_or, length, max, slice_set, IfOk};
-ghost use Rattle.vm_store.specs.Facts.{FailedSince};
-ghost use Rattle.geos_model.specs.Document.{is_live, block_at};
+ghost use Rattle.std.specs.Prelude.{IsTrue, IfErr, IsErrOf, true, false, ◌≡◌, ◌≤◌, ◌-◌, ◌+◌, ◌*◌, ◌++◌, ◌∷◌, [], List, All, IfSome, IsOk, OnOk, OnErr, None, Some, get_or, length, max, slice_set, IfOk};
+ghost use Rattle.vm_store.specs.Facts.{FailedSince, Holds};
+ghost use Rattle.geos_model.specs.Document.{is_heap, is_live, block_at};
 ghost use Rattle.geos_model.specs.Image.{image};
+ghost use Rattle.geos_model.specs.declared.command.Body.TheVariants as bodies;
 ghost use Rattle.vm_file.specs.Ranges.{IsPlaced};
 ghost use Rattle.vm_file.specs.Documents.{document_in, AreImaged};
 ghost use Rattle.vm_file.specs.Sound.{ArePlaces};
@@ -20,9 +21,10 @@ ghost use Rattle.vm_file.specs.Writing.{IsGrown, placed_at, with_places, without
 use crate::member::Member;
 use crate::slot::Slots;
 use geos_model::{Attributes, Extent, Fault, VmHandle};
+use raw_region::{RawBody, Region};
 use std::alloc::{AllocError, Global};
 use std::rc::Rc;
-use vm_format::read_extent;
+use vm_format::{read_extent, start_of};
 use vm_space::FreeSpace;
 use vm_store::Store;
 
@@ -152,6 +154,54 @@ pub fn read_block<S: Store>(
         Some(place) => read_extent(alloc, store, place.extent),
         None => unreachable!(),
     }
+}
+
+/// The bytes of a raw block that a table has, in a region. File.
+pub fn read_raw<S: Store>(
+    store: &mut S,
+    table: &BlockTable,
+    block: VmHandle,
+    region: Region,
+) -> Result<RawBody, Fault>
+    // A live raw block of a table whose images the store has.
+    requires live { is_live (document_in (S.facts store.old).content table.now) block.0 ≡ true }
+    requires raw { is_heap (document_in (S.facts store.old).content table.now) block.0 ≡ false }
+    requires images { IsTrue (S.facts store.old).honest → AreImaged (S.facts store.old).content table.now.places.items }
+    requires placed { All IsPlaced (block_extents table.now.places.items) }
+    requires places { ArePlaces table.now.places.items }
+    // What is read.
+    ensures looks { OnlyReadsStore (S.facts store.old) (S.facts store.new) }
+    ensures body { IfOk result (λ body. IsTrue (S.facts store.old).honest
+        → (block_at (document_in (S.facts store.old).content table.now) block.0).body ≡ bodies.Raw body) }
+    // Refusals.
+    ensures file { IsErrOf result Fault.File → FailedSince (S.facts store.old) (S.facts store.new) }
+    ensures refusals { IfErr result IsResourceFault }
+{
+    match place_in(table, block) {
+        Some(place) => read_behind_kind(store, place.extent, region),
+        None => unreachable!(),
+    }
+}
+
+/// What stands in an extent behind its first byte, in a region. File.
+fn read_behind_kind<S: Store>(
+    store: &mut S,
+    extent: Extent,
+    region: Region,
+) -> Result<RawBody, Fault>
+    requires { IsImageLength extent.length }
+    ensures looks { OnlyReadsStore (S.facts store.old) (S.facts store.new) }
+    ensures size { IfOk result (λ body. length body + 1 ≡ extent.length) }
+    ensures held { IfOk result (λ body. IsTrue (S.facts store.old).honest
+        → Holds (S.facts store.old).content (512 * extent.page + 1) body) }
+    ensures file { IsErrOf result Fault.File → FailedSince (S.facts store.old) (S.facts store.new) }
+    ensures refusals { IfErr result IsResourceFault }
+{
+    let len = extent.length as usize - 1;
+    let mut body = RawBody::of_region(region);
+    body.insert_zeros(0, len);
+    store.read_at(start_of(extent) + 1, body.slice_mut(0, len))?;
+    Ok(body)
 }
 
 /// Sets the attributes of a block that is live.

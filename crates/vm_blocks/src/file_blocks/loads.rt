@@ -1,5 +1,5 @@
 //! Blocks that come into memory.
-ghost use Rattle.std.specs.Prelude.{◌≡◌, ◌⊎◌, ◌<◌, ◌∷◌, ℕ, Ok, Err, true, false, cond, nat_lt, length, is_some, IsOk, IfErr, OnOk, OnErr};
+ghost use Rattle.std.specs.Prelude.{◌≡◌, ◌⊎◌, ◌<◌, ◌∷◌, ℕ, Ok, Err, true, false, cond, nat_lt, length, is_some, IsOk, IfErr, OnOk, OnErr, MatchOption};
 ghost use Rattle.std.specs.FinMap.{contains_key};
 ghost use Rattle.geos_model.specs.Document.{chunks_of, is_heap, is_raw, is_live};
 ghost use Rattle.geos_model.specs.Heap.{chunk_bytes};
@@ -56,10 +56,10 @@ impl<S: Store> FileBlocks<S> {
         ensures shut { is_raw self.old.document handle.0 ≡ true → has_no_frame_for self.old handle.0 ≡ true
             → (result ≡ Err Fault.CacheFull) × (self.new ≡ self.old) }
     {
-        if !self.is_live(handle) {
+        let Some(is_heap) = self.kind(handle) else {
             return Err(Fault::NoBlock);
-        }
-        if self.is_heap(handle) {
+        };
+        if is_heap {
             return Err(Fault::WrongKind);
         }
         self.load_live(handle)
@@ -79,13 +79,25 @@ impl<S: Store> FileBlocks<S> {
         ensures shut { is_heap self.old.document handle.0 ≡ true → has_no_frame_for self.old handle.0 ≡ true
             → (result ≡ Err Fault.CacheFull) × (self.new ≡ self.old) }
     {
-        if !self.is_live(handle) {
+        let Some(is_heap) = self.kind(handle) else {
             return Err(Fault::NoBlock);
-        }
-        if !self.is_heap(handle) {
+        };
+        if !is_heap {
             return Err(Fault::WrongKind);
         }
         self.load_live(handle)
+    }
+
+    // Whether the block under a handle is a heap; none where no block is live there.
+    fn kind(&self, handle: VmHandle) -> Option<bool>
+        ensures { MatchOption result (is_live self.now.document handle.0 ≡ false)
+            (λ kind. (is_live self.now.document handle.0 ≡ true)
+            × (is_heap self.now.document handle.0 ≡ kind)) }
+    {
+        match self.file.entry(handle) {
+            Some(place) => Some(place.is_heap),
+            None => None,
+        }
     }
 
     /// Brings a live block into memory, if it isn't shut out, and makes it the most recently used.

@@ -1,12 +1,12 @@
-use Rattle.std.proofs.Common.{◌≡◌, true, false, sym, ◌∙◌}
-use Rattle.std.specs.FinMap.{get}
+use Rattle.std.proofs.Common.{◌≡◌, true, false, ◌∙◌}
 use Rattle.std.proofs.lemmas.Result.{on_ok_weaker}
+use Rattle.std.specs.FinMap.{get}
 use Rattle.geos_model.specs.Document.{is_heap, is_live}
 use Rattle.vm_blocks.proofs.KeepingLaws.{keeps-refl, keeps-unless_corrupt, raw_by}
 use Rattle.vm_blocks.proofs.file_blocks.FileBlocks.load_raw.Goals as goal
 
-pub returns-then-not-is_live-clause-keeps : goal.returns-then-not-is_live-clause-keeps
-returns-then-not-is_live-clause-keeps g c = keeps-refl g.S.Store.facts c.args.self.now
+pub returns-in_default-clause-keeps : goal.returns-in_default-clause-keeps
+returns-in_default-clause-keeps g c = keeps-refl g.S.Store.facts c.args.self.now
 
 pub returns-then-is_heap-clause-keeps : goal.returns-then-is_heap-clause-keeps
 returns-then-is_heap-clause-keeps g c = keeps-refl g.S.Store.facts c.args.self.now
@@ -16,6 +16,6 @@ returns-clause-ok g c =
     let h = c.args.handle.0 in
     let new = c.load_live.new.self.document in
     let unless_corrupt = keeps-unless_corrupt g.S.Store.facts c.args.self.now c.load_live.new.self c.load_live.ensures.keeps in
-    let live : is_live new h ≡ true = unless_corrupt.live h ∙ sym c.is_live.ensures ∙ c.if-not-is_live.false in
-    let kind : is_heap new h ≡ false = unless_corrupt.kinds h ∙ sym c.is_heap.ensures ∙ c.if-is_heap.false in
+    let live : is_live new h ≡ true = unless_corrupt.live h ∙ c.in-Some.ensures.0 in
+    let kind : is_heap new h ≡ false = unless_corrupt.kinds h ∙ c.in-Some.ensures.1 ∙ c.if-is_heap.false in
     on_ok_weaker c.load_live.result (λ loaded. (loaded, raw_by (get new.blocks h) live kind)) c.load_live.ensures.ok

@@ -1,4 +1,4 @@
-use Rattle.std.proofs.Common.{[], ◌∷◌, ap, sym, ◌∙◌}
+use Rattle.std.proofs.Common.{[], ◌∷◌, sym}
 use Rattle.std.specs.FinMap.{empty}
 use Rattle.geos_model.proofs.Validity.{empty-heap}
 use Rattle.geos_model.specs.declared.command.Body.TheVariants.{Heap}
@@ -6,7 +6,7 @@ use Rattle.vm_file.proofs.ImageLemmas.{image_is, image_read, image-nothing}
 use Rattle.vm_file.proofs.image.Image.empty_heap.Goals as goal
 
 pub invariant_of-result : goal.invariant_of-result
-invariant_of-result c = image_is (Heap empty) c.from_vec.result empty-heap (c.from_vec.ensures ∙ c.in_ok-vec.ensures.items ∙ ap (λ kind. kind ∷ 0 ∷ 0 ∷ []) c.byte.ensures ∙ sym image-nothing)
+invariant_of-result c = image_is (Heap empty) (1 ∷ 0 ∷ 0 ∷ []) empty-heap (sym image-nothing)
 
 pub returns : goal.returns
-returns c = image_read (Heap empty) c.from_vec.result empty-heap (c.from_vec.ensures ∙ c.in_ok-vec.ensures.items ∙ ap (λ kind. kind ∷ 0 ∷ 0 ∷ []) c.byte.ensures ∙ sym image-nothing)
+returns c = image_read (Heap empty) (1 ∷ 0 ∷ 0 ∷ []) empty-heap (sym image-nothing)
