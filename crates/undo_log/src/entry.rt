@@ -229,16 +229,19 @@ impl NamedEntry {
         }
     }
 
-    /// One of no more than so many of its changes, those that are made next. The memory of the others goes back.
+    /// One of no more than so many of its changes, those that are made next. The memory of the others goes back, and
+    /// that of the name.
     pub(crate) fn into_next(self, alloc: Global, count: usize) -> NamedEntry
-        ensures { changes_in result.entry ≡ take count (changes_in self.entry) }
+        ensures changes { changes_in result.entry ≡ take count (changes_in self.entry) }
+        ensures name { result.name ≡ [] }
     {
         match self.kept {
-            Kept::Group(mut changes, name) => {
+            Kept::Group(mut changes, _) => {
                 changes.keep_next(count);
-                NamedEntry::group(changes, name)
+                NamedEntry::group(changes, Vec::new(alloc))
             }
-            kept if count > 0 => NamedEntry { kept },
+            Kept::One(change) if count > 0 => NamedEntry::one(change),
+            Kept::NamedOne(change, _) if count > 0 => NamedEntry::one(Box::into_inner(change)),
             _ => NamedEntry::empty(alloc),
         }
     }
