@@ -45,6 +45,7 @@ check() {
     looks) python3 checks/looks.py "$geosvm" "$geosdoc" ;;
     stat_counted) python3 checks/stat_counted.py "$geosvm" "$geosdoc" $documents ;;
     changed_bytes) python3 checks/changed_bytes.py "$geosvm" "$geosdoc" crates/geosdoc/data/small_document.bin $every ;;
+    instructions) python3 checks/instructions.py "$geosvm" ;;
     bench) (cd bench && GEOSVM=$geosvm python3 -m unittest) ;;
     made_beside) sh checks/made_beside.sh "$geosvm" ;;
     ways_to_start) sh checks/ways_to_start.sh "$geosvm" "$geosdoc" ;;
@@ -61,7 +62,7 @@ check() {
 }
 # Those that take longest come first, and behind them what needs one of them.
 first="embedding lent_bytes each_request failing_calls limits dumped_documents looks memory_given_back edits_by_chance heap_by_chance bench"
-first="$first made_beside stat_counted changed_bytes program_ends examples pages_checked ways_to_start prompts commands_listed"
+first="$first instructions made_beside stat_counted changed_bytes program_ends examples pages_checked ways_to_start prompts commands_listed"
 second=failing_calls_from_c
 
 # script_of NAME: the file of a check.

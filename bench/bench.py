@@ -6,14 +6,19 @@ import argparse
 import os
 import platform
 import sys
-import tempfile
+from collections.abc import Callable
+from functools import partial
 from pathlib import Path
+from typing import TypeVar
 
-from running import BenchError, Run, Script, adopt_orphans, run, write_script
+from counting import LineCounter
+from running import BenchError, Run, Script, adopt_orphans, run, scratch, write_script
 from workloads import Scale, Workload, workloads
 
 HEAD = ["user s", "system s", "MB", "µs a line"]
-AGAINST = ["other: user s", "system s", "MB", "µs a line", "time", "memory"]
+COUNT = "instructions"
+
+Result = TypeVar("Result")
 
 
 def positive(text: str) -> float:
@@ -45,6 +50,7 @@ def options(words: list[str]) -> argparse.Namespace:
     parser.add_argument("--only", action="append", metavar="NAME", help="this workload, or all NAME-SIZE; can be given again")
     parser.add_argument("--seed", type=int, default=1, help="of all that is at random; 1 where nothing is said")
     parser.add_argument("--repeat", type=count, default=1, metavar="N", help="run each N times, and tell the fastest")
+    parser.add_argument("--instructions", action="store_true", help="count them too, by valgrind, which takes long")
     parser.add_argument("--list", action="store_true", help="print the workloads and what each shows, and run nothing")
     return parser.parse_args(words)
 
@@ -64,20 +70,20 @@ def fastest(programs: list[Path], script: Script, folder: Path, repeat: int) -> 
     runs: list[list[Run]] = [[] for _ in programs]
     for _ in range(repeat):
         for path, taken in zip(programs, runs):
-            taken.append(named_run(path, script, folder))
+            taken.append(named(path, partial(run, path, script, folder)))
     return [min(taken, key=lambda one: one.processor) for taken in runs]
 
 
-def named_run(path: Path, script: Script, folder: Path) -> Run:
-    """A run, where what goes wrong is told with the program's name."""
+def named(path: Path, work: Callable[[], Result]) -> Result:
+    """What comes of the work, where what goes wrong is told with the program's name."""
     try:
-        return run(path, script, folder)
+        return work()
     except BenchError as wrong:
         raise BenchError(f"{path}: {wrong}") from None
 
 
-def share(one: float, other: float) -> str:
-    return f"{one / other:.2f}" if other else "-"
+def share(one: float | None, other: float | None) -> str:
+    return "-" if one is None or not other else f"{one / other:.2f}"
 
 
 def columns(took: Run, lines: int) -> list[str]:
@@ -86,13 +92,16 @@ def columns(took: Run, lines: int) -> list[str]:
     return [f"{took.user:.2f}", f"{took.system:.2f}", f"{took.peak / 1e6:.1f}", each]
 
 
-def row(workload: Workload, script: Script, runs: list[Run]) -> list[str]:
+def row(workload: Workload, script: Script, runs: list[Run], counts: list[float | None]) -> list[str]:
+    """The cells of a row: of each program what its run took, and its instructions of a line where they were counted."""
     cells = [workload.name, f"{script.lines:,}", f"{script.refused:,}"]
-    for took in runs:
+    for place, took in enumerate(runs):
         cells += columns(took, script.lines)
+        cells += ["-" if count is None else f"{count:,.0f}" for count in counts[place : place + 1]]
     if len(runs) == 2:
         one, other = runs
         cells += [share(one.processor, other.processor), share(one.peak, other.peak)]
+        cells += [share(*counts)] if counts else []
     return cells
 
 
@@ -103,12 +112,20 @@ def printed(cells: list[str], widths: list[int]) -> None:
     print("|", " | ".join(padded), "|", flush=True)
 
 
+def titles(against: bool, instructions: bool) -> list[str]:
+    """What stands over the columns."""
+    one = [*HEAD, *([COUNT] if instructions else [])]
+    first, *others = one
+    shares = ["time", "memory", *(["count"] if instructions else [])]
+    return ["workload", "lines", "refused", *one, *([f"other: {first}", *others, *shares] if against else [])]
+
+
 def head(arguments: argparse.Namespace) -> list[int]:
     """Prints what was run and where, and the head of the table; the widths of its columns."""
     print(f"{arguments.program}" + (f", other: {arguments.against}" if arguments.against else ""))
     machine = f"{platform.machine()}, {os.cpu_count()} processors, {platform.system()} {platform.release()}"
     print(f"scale {arguments.scale:g}, seed {arguments.seed}, fastest of {arguments.repeat}; {machine}\n")
-    names = ["workload", "lines", "refused", *HEAD, *(AGAINST if arguments.against else [])]
+    names = titles(bool(arguments.against), arguments.instructions)
     widths = [max(len(name), 13 if place == 0 else 9) for place, name in enumerate(names)]
     printed(names, widths)
     printed(["-" * widths[0], *("-" * (width - 1) + ":" for width in widths[1:])], widths)
@@ -119,13 +136,15 @@ def measured(arguments: argparse.Namespace, chosen_ones: list[Workload]) -> bool
     """Prints the table; whether each workload has its row."""
     widths = head(arguments)
     programs = [arguments.program] + ([arguments.against] if arguments.against else [])
+    counters = [(path, LineCounter(path)) for path in programs] if arguments.instructions else []
     wrong: list[str] = []
     for workload in chosen_ones:
-        with tempfile.TemporaryDirectory(prefix="geosvm-bench-") as name:
-            folder = Path(name)
+        with scratch() as folder:
             script = write_script(workload, Scale(arguments.scale), arguments.seed, folder)
             try:
-                printed(row(workload, script, fastest(programs, script, folder, arguments.repeat)), widths)
+                runs = fastest(programs, script, folder, arguments.repeat)
+                counts = [named(path, partial(counter.a_line, script, folder)) for path, counter in counters]
+                printed(row(workload, script, runs, counts), widths)
             except BenchError as error:
                 wrong.append(f"bench: {workload.name}: {error}")
     for line in wrong:

@@ -8,7 +8,10 @@ from random import Random
 from typing import Final
 
 CAPACITY: Final = 65_520
-"""How many bytes a heap has room for."""
+"""How many bytes a heap has room for, and a raw block can have."""
+
+BLOCKS: Final = 8_192
+"""How many blocks a document can have."""
 
 
 def space_of(size: int) -> int:

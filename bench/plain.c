@@ -7,6 +7,7 @@
 ** A chunk is a piece of malloc's, and a heap counts what its chunks need. Arrays lie in their chunks as docs/FORMAT.md has them, and are
 ** searched from the first element on. Raw blocks are in the file, 8 of them in memory; a commit writes what changed and the directory to
 ** free pages, and then a slot, so that the file is a document. Steps lie in one row, each with the bytes before and after it.
+** Without --new the file is opened, and no more of it is read than the directories.
 */
 #include <fcntl.h>
 #include <stdbool.h>
@@ -19,7 +20,7 @@
 enum {
   LINE = 140000, READ = 1 << 16, REPLIES = 1 << 18,
   CAPACITY = 65520, ENTRIES = 32752, BLOCKS = 8192, NONE = 0xffff,
-  FRAMES = 8, PAGE = 512, PAGES = 1 << 20, DIRECTORY = 16, LISTED = 16, SLOT = 32,
+  FRAMES = 8, PAGE = 512, PAGES = 1 << 21, DIRECTORY = 16, LISTED = 16, SLOT = 32,
   COUNT = 3, ELEMENT_HEAD = 10, NAME_HEAD = 12
 };
 
@@ -100,6 +101,7 @@ static void put_bytes(const uint8_t *from, int count) {
 }
 
 static int word_at(const uint8_t *at) { return at[0] | at[1] << 8; }
+static int long_at(const uint8_t *at) { return word_at(at) | word_at(at + 2) << 16; }
 
 static void set_word(uint8_t *at, int value) { at[0] = (uint8_t)value; at[1] = (uint8_t)(value >> 8); }
 static void set_long(uint8_t *at, int value) { set_word(at, value); set_word(at + 2, value >> 16); }
@@ -183,30 +185,38 @@ typedef struct { int page, length; } Extent;
 
 static Frame frames[FRAMES];
 static unsigned uses;
-static int file, sequence, pages = 2;
+static int file, sequence;
+static int pages = 2, lowest = 2; /* no page from `pages` on is taken, and none below `lowest` is free */
 static Extent updated, saved; /* the directories of the two documents of the file */
 static uint8_t taken[PAGES] = {1, 1};
 
 static int pages_of(int length) { return (length + PAGE - 1) / PAGE; }
 
+static uint8_t *free_page(uint8_t *from) {
+  uint8_t *at = memchr(from, 0, (size_t)(taken + pages - from));
+  return at ? at : taken + pages;
+}
+
 /* The first free pages for so many bytes. */
 static int take_pages(int length) {
   const int count = pages_of(length);
-  uint8_t *at = taken;
-  while ((at = memchr(at, 0, (size_t)(taken + pages - at)))) {
-    int free = 1;
-    while (free < count && at + free < taken + pages && !at[free]) free++;
-    if (free == count || at + free == taken + pages) break;
-    at += free;
+  uint8_t *at = free_page(taken + lowest), *behind = taken + pages;
+  lowest = (int)(at - taken);
+  for (int free = 0; at < behind; at = free_page(at + free)) {
+    for (free = 1; free < count && at + free < behind && !at[free];) free++;
+    if (free == count || at + free == behind) break;
   }
-  const int page = at ? (int)(at - taken) : pages;
+  const int page = (int)(at - taken);
   require(page + count <= PAGES);
   memset(taken + page, 1, (size_t)count);
   if (page + count > pages) pages = page + count;
   return page;
 }
 
-static void give_pages(Extent it) { memset(taken + it.page, 0, (size_t)pages_of(it.length)); }
+static void give_pages(Extent it) {
+  memset(taken + it.page, 0, (size_t)pages_of(it.length));
+  if (it.page < lowest) lowest = it.page;
+}
 
 static void write_file(const uint8_t *from, int count, off_t at) { require(pwrite(file, from, (size_t)count, at) == count); }
 
@@ -294,6 +304,43 @@ static void commit(bool save) {
   if (save && old_saved.page) give_pages(old_saved);
 }
 
+static void take_extent(Extent it) {
+  const int behind = it.page + pages_of(it.length);
+  require(it.page > 1 && behind <= PAGES);
+  memset(taken + it.page, 1, (size_t)(behind - it.page));
+  if (behind > pages) pages = behind;
+}
+
+static void read_directory(Extent it, bool of_saved) {
+  static uint8_t bytes[DIRECTORY + LISTED * BLOCKS];
+  require(it.length <= (int)sizeof bytes && pread(file, bytes, (size_t)it.length, (off_t)it.page * PAGE) == it.length);
+  take_extent(it);
+  for (const uint8_t *entry = bytes + DIRECTORY; entry < bytes + it.length; entry += LISTED) {
+    const int block = word_at(entry);
+    const Extent image = {long_at(entry + 4), long_at(entry + 8)};
+    require(block >= 1 && block <= BLOCKS);
+    take_extent(image);
+    if (block > greatest) greatest = block;
+    blocks[block].size = image.length - 1;
+    if (of_saved) blocks[block].saved = image.page;
+    else blocks[block].page = blocks[block].updated = image.page;
+  }
+}
+
+/* Opens the documents of the newest slot, which are as a commit leaves them, and of raw blocks. */
+static void open_documents(void) {
+  uint8_t slots[2 * PAGE];
+  const uint8_t *newest = NULL;
+  require(pread(file, slots, sizeof slots, 0) == sizeof slots);
+  for (const uint8_t *slot = slots; slot < slots + sizeof slots; slot += PAGE)
+    if (slot[4] == 1 && long_at(slot + 8) > sequence) sequence = long_at((newest = slot) + 8);
+  require(newest);
+  updated = (Extent){long_at(newest + 16), long_at(newest + 20)};
+  saved = (Extent){long_at(newest + 24), long_at(newest + 28)};
+  read_directory(updated, false);
+  read_directory(saved, true);
+}
+
 /* Element and name arrays: the count of references of a used slot in three bytes, or the token that is free after it and ff */
 
 static int offset_at(const uint8_t *array, int head, int token) { return word_at(array + head + 2 * token); }
@@ -356,14 +403,15 @@ enum { BLOCK, MADE, FREED, SPLICED, WRITTEN, INSERTED, SLOT_SET, SLOT_ADDED };
 /* Behind a step stand the bytes that were there and those that came, the latter not where they are zeros. */
 typedef struct {
   uint32_t before; /* how long the step before it is */
-  uint8_t kind, zeros;
+  uint8_t kind, zeros : 1, joined : 1; /* joined: with the step before it, as both are of one group */
   uint16_t block, chunk, at, old, new, free_before, free_after;
 } Step;
 
 static uint8_t *steps;
-static size_t room, done;
+static size_t room, done, end; /* where what is done ends, and behind it what is undone */
 static uint32_t newest;
 static int undos, redos;
+static bool groups, joins; /* whether a group is open, and whether it has an edit */
 
 static uint32_t length_of(const Step *step) {
   return (uint32_t)(sizeof(Step) + step->old + (step->zeros ? 0u : step->new) + 3) & ~3u;
@@ -408,13 +456,15 @@ static void add_step(Step step, const uint8_t *old, const uint8_t *new) {
     require((steps = realloc(steps, room)));
   }
   step.before = newest;
+  step.joined = joins;
   memcpy(steps + done, &step, sizeof step);
   if (step.old) memcpy(steps + done + sizeof step, old, step.old);
   if (step.new && !step.zeros) memcpy(steps + done + sizeof step + step.old, new, step.new);
   newest = length;
-  done += length;
-  undos++;
+  end = done += length;
+  undos += !joins;
   redos = 0;
+  joins = groups;
 }
 
 static void make_step(Step step, const uint8_t *old, const uint8_t *new) {
@@ -423,26 +473,43 @@ static void make_step(Step step, const uint8_t *old, const uint8_t *new) {
 }
 
 static void undo(void) {
+  require(!groups);
   if (!undos) { put("no 22 NothingToUndo\n"); return; }
-  const Step *step = (const Step *)(steps + done - newest);
-  turn(step, false);
-  done -= newest;
-  newest = step->before;
+  const Step *step;
+  do {
+    step = (const Step *)(steps + done - newest);
+    turn(step, false);
+    done -= newest;
+    newest = step->before;
+  } while (step->joined);
   undos--;
   redos++;
   put("ok\n");
 }
 
 static void redo(void) {
+  require(!groups);
   if (!redos) { put("no 23 NothingToRedo\n"); return; }
-  const Step *step = (const Step *)(steps + done);
-  turn(step, true);
-  newest = length_of(step);
-  done += newest;
+  do {
+    const Step *step = (const Step *)(steps + done);
+    turn(step, true);
+    newest = length_of(step);
+    done += newest;
+  } while (done < end && ((const Step *)(steps + done))->joined);
   undos++;
   redos--;
   put("ok\n");
 }
+
+static void set_group(bool opens) {
+  require(groups != opens);
+  groups = opens;
+  joins = false;
+  put("ok\n");
+}
+
+static void begin(void) { set_group(true); }
+static void end_group(void) { set_group(false); }
 
 /* Commands */
 
@@ -754,7 +821,8 @@ static const struct { const char *name; void (*run)(void); } commands[] = {
   {"read", read_chunk}, {"acreate", acreate}, {"ainsert", ainsert}, {"aset", aset}, {"aget", aget}, {"ecreate", ecreate},
   {"eadd", eadd}, {"eref", eref}, {"eunref", eunref}, {"edelete", edelete}, {"echange", echange}, {"eused", eused},
   {"etoken", etoken}, {"ecount", ecount}, {"edata", edata}, {"ncreate", ncreate}, {"nadd", nadd}, {"nunref", nunref},
-  {"nname", nname}, {"nfind", nfind}, {"ncount", ncount}, {"ntext", ntext}, {"ndata", ndata}
+  {"nname", nname}, {"nfind", nfind}, {"ncount", ncount}, {"ntext", ntext}, {"ndata", ndata},
+  {"begin", begin}, {"end", end_group}
 };
 
 static void answer(const char *line) {
@@ -791,9 +859,11 @@ static void answer_all(void) {
 }
 
 int main(int count, char **words) {
-  require(count == 3 && strcmp(words[1], "--new") == 0);
-  require((file = open(words[2], O_RDWR | O_CREAT | O_TRUNC, 0666)) >= 0);
-  commit(true);
+  const bool new = count == 3 && strcmp(words[1], "--new") == 0;
+  require(new || count == 2);
+  require((file = open(words[count - 1], new ? O_RDWR | O_CREAT | O_TRUNC : O_RDWR, 0666)) >= 0);
+  if (new) commit(true);
+  else open_documents();
   answer_all();
   return 0;
 }

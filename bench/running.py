@@ -7,13 +7,15 @@ import filecmp
 import os
 import signal
 import subprocess
-from contextlib import suppress
+from collections.abc import Iterator
+from contextlib import contextmanager, suppress
 from dataclasses import dataclass
 from itertools import zip_longest
 from pathlib import Path
+from tempfile import TemporaryDirectory
 from typing import Final
 
-from workloads import Scale, Workload
+from workloads import Lines, Scale, Workload
 
 BATCH: Final = 1 << 20
 
@@ -31,12 +33,16 @@ class ReapedError(BenchError):
 
 @dataclass(frozen=True, slots=True)
 class Script:
-    """The lines of a workload in a file, and in another the replies that are right."""
+    """The lines of a workload in a file, and in another the replies that are right.
+
+    They are for a new document, or for the one that the script `before` makes of a new one.
+    """
 
     path: Path
     replies: Path
     lines: int
     refused: int
+    before: Script | None = None
 
 
 @dataclass(frozen=True, slots=True)
@@ -52,18 +58,30 @@ class Run:
         return self.user + self.system
 
 
+@contextmanager
+def scratch() -> Iterator[Path]:
+    """A folder for the files of a workload, which goes behind it; its name is as long as that of each other one."""
+    with TemporaryDirectory(prefix="geosvm-bench-") as name:
+        yield Path(name)
+
+
 def write_script(workload: Workload, scale: Scale, seed: int, folder: Path) -> Script:
-    """Makes the two files of a workload."""
-    path, replies = folder / "script", folder / "right"
+    """Makes the two files of a workload, and two more where it has a script before it."""
+    first = workload.lines_before(scale, seed)
+    before = None if first is None else write_lines(first, folder / "before", folder / "before.right")
+    return write_lines(workload.lines(scale, seed), folder / "script", folder / "right", before)
+
+
+def write_lines(made: Lines, path: Path, replies: Path, before: Script | None = None) -> Script:
     lines = refused = 0
     with path.open("w", buffering=BATCH) as script, replies.open("w", buffering=BATCH) as right:
-        for text, reply in workload.lines(scale, seed):
+        for text, reply in made:
             script.write(text + "\n")
             lines += 1
             if reply:
                 right.write(reply + "\n")
                 refused += reply.startswith("no ")
-    return Script(path, replies, lines, refused)
+    return Script(path, replies, lines, refused, before)
 
 
 def adopt_orphans() -> None:
@@ -72,15 +90,27 @@ def adopt_orphans() -> None:
         raise OSError(ctypes.get_errno(), "prctl")
 
 
-def start(program: Path, script: Path, folder: Path) -> int:
-    """Starts the program on a new document, and gives its process.
+def command(program: Path, script: Script, folder: Path) -> list[str | Path]:
+    """The words that run the program on the document of a script."""
+    return [program, *([] if script.before else ["--new"]), folder / "document"]
+
+
+def prepare(program: Path, script: Script, folder: Path) -> None:
+    """Leaves the document as the script is to find it: none, or the one that the script before makes."""
+    (folder / "document").unlink(missing_ok=True)
+    if script.before:
+        run(program, script.before, folder)
+
+
+def start(program: Path, script: Script, folder: Path) -> int:
+    """Starts the program on the script, and gives its process.
 
     The peak of a process is no less than what was in memory of the one that it was forked from. So it is forked by `sh`, which is small,
     and left behind to this process.
     """
-    command = 'script=$1 replies=$2 errors=$3; shift 3; "$@" <"$script" >"$replies" 2>"$errors" & echo $!'
-    files = [script, folder / "replies", folder / "errors"]
-    words = ["sh", "-c", command, "sh", *files, program, "--new", folder / "document"]
+    line = 'script=$1 replies=$2 errors=$3; shift 3; "$@" <"$script" >"$replies" 2>"$errors" & echo $!'
+    files = [script.path, folder / "replies", folder / "errors"]
+    words = ["sh", "-c", line, "sh", *files, *command(program, script, folder)]
     shell = subprocess.run(words, stdout=subprocess.PIPE, check=True, text=True)
     return int(shell.stdout)
 
@@ -98,23 +128,28 @@ def finish(process: int) -> tuple[int, Run]:
 
 
 def waited(program: Path, script: Script, folder: Path) -> tuple[int, Run]:
-    """The exit status of a run on a new document, and what it took. One that the shell has reaped is started again."""
+    """The exit status of a run, and what it took. One that the shell has reaped is started again."""
     for _ in range(STARTS):
-        (folder / "document").unlink(missing_ok=True)
+        prepare(program, script, folder)
         with suppress(ReapedError):
-            return finish(start(program, script.path, folder))
+            return finish(start(program, script, folder))
     raise BenchError("it ended before it could be waited for, each time")
 
 
 def run(program: Path, script: Script, folder: Path) -> Run:
     """Runs the program on the script, and checks each of its replies."""
-    replies, errors = folder / "replies", folder / "errors"
     status, took = waited(program, script, folder)
+    judge(status, script, folder)
+    return took
+
+
+def judge(status: int, script: Script, folder: Path) -> None:
+    """Raises what is wrong with a run of this exit status, whose replies and errors are in the folder."""
+    replies, errors = folder / "replies", folder / "errors"
     if status:
         raise BenchError(f"status {status}: {errors.read_text(errors='replace').strip()}")
     if not filecmp.cmp(replies, script.replies, shallow=False):
         raise BenchError(first_difference(replies, script.replies))
-    return took
 
 
 def first_difference(got: Path, wanted: Path) -> str:

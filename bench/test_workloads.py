@@ -1,4 +1,4 @@
-# Needs: python3
+# Needs: python3 valgrind
 """Tests of the models, of the workloads and of the runner: `python3 -m unittest` in this folder.
 
 Where the environment variable GEOSVM names a built program, it is run on a small script of each workload too.
@@ -14,14 +14,19 @@ from collections import Counter
 from itertools import islice
 from pathlib import Path
 from random import Random
+from unittest import mock
 
-from bench import chosen, columns, fastest
-from models import CAPACITY, HeapModel, Slot, TokenModel, TreeModel
+from bench import chosen, columns, fastest, row, titles
+from counting import LineCounter
+from models import BLOCKS, CAPACITY, HeapModel, Slot, TokenModel, TreeModel
 from running import BenchError, Run, Script, adopt_orphans, first_difference, run, write_script
 from workloads import Scale, Workload, workloads
 
 SMALL = Scale(0.002)
 ANSWERED = Scale(0.02)
+
+# What a program of the shell's own does with each line, up to its end.
+READS = 'while read -r line; do echo "$line";'
 
 
 def texts(workload: Workload, scale: Scale, seed: int) -> list[str]:
@@ -129,7 +134,7 @@ class Workloads(unittest.TestCase):
             with self.subTest(workload.name):
                 script = texts(workload, SMALL, 7)
                 self.assertEqual(script, texts(workload, SMALL, 7))
-                if workload.name not in ("start", "lists", "blanks"):
+                if workload.name not in ("start", "lists", "blanks", "new-blocks", "opening"):
                     self.assertNotEqual(script, texts(workload, SMALL, 8))
 
     def test_each_has_a_name_of_its_own_and_says_what_it_shows(self) -> None:
@@ -149,6 +154,29 @@ class Workloads(unittest.TestCase):
         verbs = Counter(text.split()[0] for text in texts(named("names"), Scale(1), 1))
         self.assertEqual(sum(verbs.values()), 4 + 2 * 2_000 + 6_000)
 
+    def test_blocks_that_are_full_are_as_many_as_a_document_can_have(self) -> None:
+        for scale in (Scale(1), Scale(2)):
+            script = texts(named("new-blocks"), scale, 1)
+            self.assertEqual(script, [f"newraw 0 {CAPACITY}"] * BLOCKS + ["list"])
+        made = [line.text for line in named("opening").lines_before(Scale(0.01), 1) or ()]
+        self.assertEqual(made, [f"newraw 0 {CAPACITY}"] * 82 + ["save"])
+        self.assertEqual([len(line.reply.split()) for line in named("opening").lines(Scale(0.01), 1)], [83])
+
+    def test_rows_of_other_scripts_have_a_new_document(self) -> None:
+        before = [workload.name for workload in workloads() if workload.lines_before(SMALL, 1) is not None]
+        self.assertEqual(before, ["opening"])
+
+    def test_each_group_of_two_edits_is_undone(self) -> None:
+        verbs = [text.split()[0] for text in texts(named("groups"), Scale(0.01), 1)]
+        self.assertEqual(verbs[:84], ["newraw"] * 80 + ["vwrite"] * 4)
+        self.assertEqual(verbs[84:-6], ["begin", "vwrite", "vwrite", "end", "undo"] * 50)
+        self.assertEqual(verbs[-6:], ["undos", "redos"] + ["vread"] * 4)
+
+    def test_raws_writes_over_blocks_of_8_kb(self) -> None:
+        for name, size in (("raw", 1_024), ("raws", 8_192)):
+            made = {text for text in texts(named(name), SMALL, 1) if text.startswith("newraw")}
+            self.assertEqual(made, {f"newraw 0 {size}"})
+
     def test_most_edits_of_a_nearly_full_heap_are_accepted(self) -> None:
         lines = list(named("churn").lines(Scale(0.05), 1))
         self.assertLess(sum(line.reply.startswith("no ") for line in lines), len(lines) // 50)
@@ -156,7 +184,9 @@ class Workloads(unittest.TestCase):
         self.assertGreater(int(needs.split()[2]), CAPACITY * 95 // 100)
 
 
-class Runs(unittest.TestCase):
+class WithPrograms(unittest.TestCase):
+    """Programs that are shell scripts, in a folder that goes with the test."""
+
     def setUp(self) -> None:
         adopt_orphans()
         folder = tempfile.TemporaryDirectory()
@@ -173,9 +203,11 @@ class Runs(unittest.TestCase):
         path.chmod(0o755)
         return path
 
-    def script(self, replies: str) -> Script:
-        return Script(self.written("script", "list\n"), self.written("right", replies), 1, 0)
+    def script(self, replies: str, before: Script | None = None) -> Script:
+        return Script(self.written("script", "list\n"), self.written("right", replies), 1, 0, before)
 
+
+class Runs(WithPrograms):
     def test_a_run_with_the_right_replies_is_taken_and_its_peak_is_its_own(self) -> None:
         took = run(self.program("sleep 0.05; cat"), self.script("list\n"), self.folder)
         own = resource.getrusage(resource.RUSAGE_SELF).ru_maxrss * 1024
@@ -195,12 +227,72 @@ class Runs(unittest.TestCase):
         runs = fastest([program, program], self.script("list\n"), self.folder, 2)
         self.assertEqual(len(runs), 2)
 
+    def test_what_the_script_before_makes_is_opened(self) -> None:
+        program = self.program('sleep 0.05; if [ "$1" = --new ]; then cat >"$2"; else cat "$1"; fi')
+        before = Script(self.written("before", "made\n"), self.written("before.right", ""), 1, 0)
+        run(program, self.script("made\n", before), self.folder)
+        other = self.script("list\n", before)
+        self.assertRaisesRegex(BenchError, "reply 1 is 'made'", run, program, other, self.folder)
+        wrong = self.script("made\n", Script(before.path, self.written("before.right", "ok\n"), 1, 0))
+        self.assertRaisesRegex(BenchError, "is missing and not 'ok'", run, program, wrong, self.folder)
+
     def test_the_first_difference_is_found(self) -> None:
         one, other = self.written("one", "a\nb\nc\n"), self.written("other", "a\nB\nC\n")
         self.assertEqual(first_difference(one, other), "reply 2 is 'b' and not 'B'")
 
     def test_columns_are_seconds_megabytes_and_microseconds(self) -> None:
         self.assertEqual(columns(Run(1.5, 0.5, 2_500_000), 1_000_000), ["1.50", "0.50", "2.5", "2.000"])
+
+
+class Counts(WithPrograms):
+    """Of programs that the shell carries out itself, so that valgrind sees all of it."""
+
+    def lines(self, count: int) -> Script:
+        return Script(self.written("script", "list\n" * count), self.written("right", "list\n" * count), count, 0)
+
+    def a_line(self, program: Path, script: Script) -> float:
+        count = LineCounter(program).a_line(script, self.folder)
+        assert count is not None
+        return count
+
+    def test_a_line_counts_as_much_in_a_long_script_as_in_a_short_one(self) -> None:
+        program = self.program(f"{READS} done")
+        short, long = (self.a_line(program, self.lines(count)) for count in (200, 800))
+        self.assertTrue(0.9 * short < long < 1.1 * short, (short, long))
+
+    def test_what_does_more_counts_more(self) -> None:
+        once = self.a_line(self.program(f"{READS} done"), self.lines(200))
+        again = self.a_line(self.program(f'{READS} : "$line" "$line"; done'), self.lines(200))
+        self.assertGreater(again, 1.05 * once)
+
+    def test_what_is_before_the_lines_counts_in_none(self) -> None:
+        one = self.a_line(self.program(f"{READS} done"), self.lines(200))
+        waits = "i=0; while [ $i -lt 2000 ]; do i=$((i + 1)); done"
+        other = self.a_line(self.program(f"{waits}; {READS} done"), self.lines(200))
+        self.assertTrue(0.99 * one < other < 1.01 * one, (one, other))
+
+    def test_a_script_without_a_line_has_no_count(self) -> None:
+        self.assertIsNone(LineCounter(self.program("cat")).a_line(self.lines(0), self.folder))
+
+    def test_a_run_that_goes_wrong_has_no_count(self) -> None:
+        counter = LineCounter(self.program("echo other"))
+        self.assertRaisesRegex(BenchError, "reply 1 is 'other'", counter.a_line, self.lines(1), self.folder)
+        counter = LineCounter(self.program("echo 'it broke' >&2; exit 3"))
+        self.assertRaisesRegex(BenchError, "status 3: it broke", counter.a_line, self.lines(1), self.folder)
+
+    def test_a_machine_without_valgrind_has_no_count(self) -> None:
+        counter = LineCounter(self.program("cat"))
+        with mock.patch.dict(os.environ, PATH=str(self.folder)):
+            self.assertRaisesRegex(BenchError, "there is no valgrind", counter.a_line, self.lines(1), self.folder)
+
+    def test_a_row_has_a_cell_for_each_title(self) -> None:
+        took, script = Run(1.5, 0.5, 2_500_000), self.lines(3)
+        for counts in ([], [1_500.4], [None]):
+            self.assertEqual(len(row(named("raw"), script, [took], counts)), len(titles(False, bool(counts))))
+        for counts in ([], [1_500.4, 1_000.0], [None, None]):
+            self.assertEqual(len(row(named("raw"), script, [took, took], counts)), len(titles(True, bool(counts))))
+        self.assertEqual(row(named("raw"), script, [took, took], [1_500.4, 1_000.0])[7::5], ["1,500", "1,000"])
+        self.assertEqual(row(named("raw"), script, [took, took], [1_500.4, 1_000.0])[-1], "1.50")
 
 
 @unittest.skipUnless(os.environ.get("GEOSVM"), "GEOSVM names no program")

@@ -13,7 +13,7 @@ from itertools import islice
 from random import Random
 from typing import NamedTuple
 
-from models import HeapModel, Slot, TokenModel, TreeModel, handle
+from models import BLOCKS, CAPACITY, HeapModel, Slot, TokenModel, TreeModel, handle
 
 
 class Line(NamedTuple):
@@ -41,12 +41,19 @@ class Scale:
         return min(most, self.times(most))
 
 
+Generator = Callable[[Scale, Random], Lines]
+
+
 @dataclass(frozen=True, slots=True)
 class Workload:
-    """A workload under the name that the table and `--only` have for it, and its generator."""
+    """A workload under the name that the table and `--only` have for it, and its generator.
+
+    It has a new document, or with `before` the one that such a script has made, of which nothing is measured.
+    """
 
     name: str
-    make: Callable[[Scale, Random], Lines]
+    make: Generator
+    before: Generator | None = None
 
     @property
     def family(self) -> str:
@@ -62,6 +69,10 @@ class Workload:
     def lines(self, scale: Scale, seed: int) -> Lines:
         """The script; `name` is part of the seed, so that no two workloads use the same numbers."""
         return self.make(scale, Random(f"{self.name} {seed}"))
+
+    def lines_before(self, scale: Scale, seed: int) -> Lines | None:
+        """The script that makes the document, where it isn't a new one."""
+        return self.before(scale, Random(f"{self.name} before {seed}")) if self.before else None
 
 
 def random_hex(rng: Random, least: int, most: int) -> str:
@@ -300,9 +311,9 @@ def names(scale: Scale, rng: Random) -> Lines:
     yield from islice(of_names, operations)
 
 
-def raw(scale: Scale, rng: Random) -> Lines:
-    """Writes over 1,000 raw blocks, with 30 updates: blocks brought into memory and written back, and commits."""
-    size, blocks = 1_024, scale.size(1_000)
+def raw(size: int, scale: Scale, rng: Random) -> Lines:
+    """Writes over 1,000 raw blocks of 1 KB (raws: 8 KB) with 30 updates: blocks read and written back, and commits."""
+    blocks = scale.size(1_000)
     rounds = scale.size(30)
     bodies = [bytearray(size) for _ in range(blocks)]
     yield from blocks_made(blocks, size)
@@ -315,6 +326,55 @@ def raw(scale: Scale, rng: Random) -> Lines:
         yield Line("update")
     for block in range(0, blocks, 10):
         yield Line(f"vread {handle(block + 1)}", bytes_reply(bodies[block]))
+
+
+def listed(blocks: int) -> Line:
+    """The blocks from 0001 on, so many."""
+    return Line("list", " ".join(["blocks", *(handle(block) for block in range(1, blocks + 1))]))
+
+
+def full_blocks(scale: Scale) -> int:
+    """As many as a document can have."""
+    return scale.size(BLOCKS)
+
+
+def new_blocks(scale: Scale, rng: Random) -> Lines:
+    """8,192 raw blocks of 65,520 bytes, as many and as long as can be: making them, and writing them back."""
+    yield from blocks_made(full_blocks(scale), CAPACITY)
+    yield listed(full_blocks(scale))
+
+
+def saved_blocks(scale: Scale, rng: Random) -> Lines:
+    """Such blocks, saved."""
+    yield from blocks_made(full_blocks(scale), CAPACITY)
+    yield Line("save")
+
+
+def opening(scale: Scale, rng: Random) -> Lines:
+    """One line, behind the opening of a file of 8,192 raw blocks of 65,520 bytes: nearly all of it is the opening's."""
+    yield listed(full_blocks(scale))
+
+
+def groups(scale: Scale, rng: Random) -> Lines:
+    """A group of two small edits and its undo, 5,000 times among 8,000 blocks: an undo that is as long as its group."""
+    size, blocks, count = 64, scale.size(8_000), scale.times(5_000)
+    # the edits are all in so few blocks, which stay in memory
+    edited = range(1, min(blocks, 4) + 1)
+    bodies = {block: bytearray(size) for block in edited}
+    yield from blocks_made(blocks, size)
+    for block in edited:
+        bodies[block][:8] = rng.randbytes(8)
+        yield Line(f"vwrite {handle(block)} 0 {bodies[block][:8].hex()}")
+    for _ in range(count):
+        yield Line("begin")
+        for _ in range(2):
+            yield Line(f"vwrite {handle(rng.choice(edited))} {rng.randint(0, size - 8)} {random_hex(rng, 1, 8)}")
+        yield Line("end")
+        yield Line("undo")
+    yield Line("undos", f"number {blocks + len(edited)}")
+    yield Line("redos", "number 1")
+    for block in edited:
+        yield Line(f"vread {handle(block)}", bytes_reply(bodies[block]))
 
 
 def chains(scale: Scale, rng: Random) -> Lines:
@@ -397,7 +457,11 @@ def workloads() -> list[Workload]:
         Workload("writes", writes),
         Workload("churn", churn),
         Workload("names", names),
-        Workload("raw", raw),
+        Workload("raw", partial(raw, 1_024)),
+        Workload("raws", partial(raw, 8_192)),
+        Workload("new-blocks", new_blocks),
+        Workload("opening", opening, before=saved_blocks),
+        Workload("groups", groups),
         Workload("chains", chains),
         *(Workload(f"array-{size}", partial(array, size)) for size in (10, 1_000, 10_000)),
         *(Workload(f"document-{size}", partial(document, size)) for size in (10, 200, 2_000)),
