@@ -44,6 +44,17 @@ impl RawBody {
         RawBody::fill(region, [].as_slice())
     }
 
+    /// So many bytes at the front of a region, whatever they are: for who writes them before they are read.
+    pub fn front(region: Region, len: usize) -> RawBody
+        requires { len ≤ SIZE }
+        ensures bytes { result ≡ take len region }
+        ensures long { length result ≡ len }
+    {
+        // How long a region is, is known where a call says it.
+        let _ = region.len();
+        RawBody { region, len }
+    }
+
     /// These bytes, in a region that may have others.
     pub fn fill(region: Region, bytes: &[u8]) -> RawBody
         requires { length bytes.now ≤ SIZE }

@@ -3,7 +3,7 @@ ghost use Rattle.std.specs.Prelude.{◌≡◌, ◌⊎◌, ◌+◌, ◌≤◌, �
 ghost use Rattle.raw_region.specs.Bytes.{put};
 
 /// How many bytes are copied aside at once.
-const BLOCK: usize = 1_024;
+const BLOCK: usize = 4_096;
 
 /// Moves up to a block of bytes, copied aside first.
 fn copy_block(bytes: &mut [u8], from: usize, to: usize, n: usize)

@@ -24,20 +24,16 @@ use Rattle.std.proofs.lemmas.List.{length-replicate, take_all, append-nil, drop_
 use Rattle.raw_region.specs.Bytes.{put}
 use Rattle.raw_region.proofs.Puts.{put_is}
 
--- bytes that are written over all zeros of a body
-pub whole_body : (n : ℕ) (old new bytes : List ℕ) → old ≡ [] → new ≡ splice old 0 0 (replicate n 0) → length bytes ≡ n → put new 0 (take n bytes) ≡ bytes
-whole_body n old new bytes none zeros size =
-    let are : new ≡ replicate n 0 = zeros ∙ ap (λ (xs : List ℕ). splice xs 0 0 (replicate n 0)) none ∙ append-nil (replicate n 0) in
-    let long : length new ≡ n = ap length are ∙ length-replicate n 0 in
+-- bytes that are written over all of a body
+pub whole_body : (n : ℕ) (body bytes : List ℕ) → length body ≡ n → length bytes ≡ n → put body 0 (take n bytes) ≡ bytes
+whole_body n body bytes long size =
     let all : take n bytes ≡ bytes = take_all n bytes (omega (arith, size)) in
-    ap (put new 0) all ∙ put_is new bytes 0 (omega (arith, long, size))
-    ∙ ap (λ (xs : List ℕ). bytes ++ xs) (drop_all (0 + length bytes) new (omega (arith, long, size))) ∙ append-nil bytes
+    ap (put body 0) all ∙ put_is body bytes 0 (omega (arith, long, size))
+    ∙ ap (λ (xs : List ℕ). bytes ++ xs) (drop_all (0 + length bytes) body (omega (arith, long, size))) ∙ append-nil bytes
 
 -- and the bytes that are lent to be written over
-pub length_lent : (n : ℕ) (old new bytes : List ℕ) → old ≡ [] → new ≡ splice old 0 0 (replicate n 0) → bytes ≡ slice_range new 0 (0 + n) → length bytes ≡ n
-length_lent n old new bytes none zeros lent =
-    let are : new ≡ replicate n 0 = zeros ∙ ap (λ (xs : List ℕ). splice xs 0 0 (replicate n 0)) none ∙ append-nil (replicate n 0) in
-    ap length lent ∙ length-between new 0 (0 + n) (omega (arith, ap length are, length-replicate {A = ℕ} n 0)) ∙ omega arith
+pub length_lent : (n : ℕ) (body bytes : List ℕ) → length body ≡ n → bytes ≡ slice_range body 0 (0 + n) → length bytes ≡ n
+length_lent n body bytes long lent = ap length lent ∙ length-between body 0 (0 + n) (omega (arith, long)) ∙ omega arith
 
 -- What was read of a raw block.
 

@@ -198,8 +198,7 @@ fn read_behind_kind<S: Store>(
     ensures refusals { IfErr result IsResourceFault }
 {
     let len = extent.length as usize - 1;
-    let mut body = RawBody::of_region(region);
-    body.insert_zeros(0, len);
+    let mut body = RawBody::front(region, len);
     store.read_at(start_of(extent) + 1, body.slice_mut(0, len))?;
     Ok(body)
 }
