@@ -1,5 +1,5 @@
 //! The patch that leaves an array with other extra bytes, and with an element or none in the place of some.
-ghost use Rattle.std.specs.Prelude.{◌≡◌, ◌≤◌, ◌<◌, ◌+◌, ◌-◌, ◌*◌, ◌^◌, ◌++◌, [], true, IsSome, MatchResult, IfOk, length, take, drop, min, ◌==◌, if◌then◌else◌};
+ghost use Rattle.std.specs.Prelude.{◌≡◌, ◌≤◌, ◌<◌, ◌+◌, ◌-◌, ◌*◌, ◌^◌, ◌++◌, [], true, IsSome, IfSome, MatchResult, IfOk, length, take, drop, min, ◌==◌, if◌then◌else◌};
 ghost use Rattle.std.specs.List.{flat_map};
 ghost use Rattle.geos_model.specs.Words.{word};
 ghost use Rattle.geos_model.specs.Array.{array_bytes, array_start, is_even, place_table};
@@ -272,10 +272,42 @@ fn draft_elements(
         (flat_map (λ x. x) (elements_after view.now.array from to new.entry))) }
 {
     draft.keep(view.run(0, from));
-    let bytes = new_bytes(alloc, new)?;
-    draft.put(view.run(from, to), bytes.as_slice())?;
+    draft_new(draft, alloc, view.run(from, to), new)?;
     draft.keep(view.run(to, view.count()));
     Ok(())
+}
+
+/// Adds the elements that go, with the new element in their place. One that is whole is taken as it stands.
+fn draft_new(
+    draft: &mut Draft,
+    alloc: Global,
+    gone: &[u8],
+    new: Option<NewElement<'_>>,
+) -> Result<(), AllocError>
+    requires { draft.old.kept + length (flat_map (λ x. x) (elements_of new)) < 2 ^ 32 }
+    ensures { IfOk result (λ _. Adds draft.old draft.new gone.now (flat_map (λ x. x) (elements_of new.entry))) }
+{
+    match whole_of(new) {
+        Some(bytes) => draft.put(gone, bytes),
+        None => {
+            let bytes = new_bytes(alloc, new)?;
+            draft.put(gone, bytes.as_slice())
+        }
+    }
+}
+
+/// The bytes of the new element, none where none comes, if they stand in one place.
+fn whole_of(new: Option<NewElement<'_>>) -> Option<&[u8]>
+    ensures { IfSome result (λ bytes. bytes.now ≡ flat_map (λ x. x) (elements_of new.entry)) }
+{
+    let Some(element) = new else {
+        return Some(&[]);
+    };
+    if element.middle.is_empty() && element.tail.is_empty() && element.zeros == 0 {
+        Some(element.head)
+    } else {
+        None
+    }
 }
 
 /// The bytes of the new element, none where none comes.
