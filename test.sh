@@ -53,17 +53,18 @@ check() {
     pages_checked) sh checks/pages_checked.sh "$geosvm" ;;
     prompts) python3 checks/prompts.py "$geosvm" ;;
     commands_listed) sh checks/commands_listed.sh ;;
-    # It links the library that `embedding` has made.
+    # These two link the library that `embedding` has made.
     failing_calls_from_c)
-        python3 checks/failing_calls.py "$geosvm" "$geosdoc" --library embedding/out/libgeosvm.a "$(dirname "$(rt doc)")/c/liblibc_c.a"
+        python3 checks/failing_calls.py "$geosvm" "$geosdoc" --library embedding/out/libgeosvm.a
         ;;
+    installed) sh checks/installed.sh "$geosvm" "$geosdoc" embedding/out/libgeosvm.a ;;
     *) echo "there is no check $1"; return 2 ;;
     esac
 }
 # Those that take longest come first, and behind them what needs one of them.
 first="embedding lent_bytes each_request failing_calls limits dumped_documents looks memory_given_back edits_by_chance heap_by_chance bench"
 first="$first instructions made_beside stat_counted changed_bytes program_ends examples pages_checked ways_to_start prompts commands_listed"
-second=failing_calls_from_c
+second="failing_calls_from_c installed"
 
 # script_of NAME: the file of a check.
 script_of() {
@@ -127,7 +128,10 @@ if [ "$named" ]; then
     first=
     second=
     for name in $named; do
-        if [ "$name" = failing_calls_from_c ]; then second=$name; else first="$first $name"; fi
+        case $name in
+        failing_calls_from_c | installed) second="$second $name" ;;
+        *) first="$first $name" ;;
+        esac
     done
 fi
 
@@ -191,5 +195,11 @@ for name in $first $second; do
         failed=$((failed + 1))
     fi
 done
+# For install.sh, which tells it with what it installs.
+if [ "$proves" ]; then
+    mkdir -p embedding/out
+    commit=$(git describe --always --dirty --abbrev=40 --exclude='*' 2>/dev/null)
+    echo "$(date -u '+%Y-%m-%d'), of commit ${commit:-unknown}, by $(rt version): $passed passed, $failed failed" >embedding/out/gate
+fi
 echo "$passed passed, $failed failed"
 [ "$failed" = 0 ]

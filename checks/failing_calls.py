@@ -1,10 +1,10 @@
 # Needs: gcc python3
 """Has each call of the system behind a document fail in turn, and looks at what is told and what is left in the files.
 
-    python3 checks/failing_calls.py GEOSVM GEOSDOC [--library LIBGEOSVM LIBC]
+    python3 checks/failing_calls.py GEOSVM GEOSDOC [--library LIBGEOSVM]
 
 GEOSVM and GEOSDOC are the programs of `crates/geosvm` and `crates/geosdoc`. With `--library` the program is one in C over the library
-(checks/embedded.c), in place of these two: LIBGEOSVM is the archive that `embedding/build.sh` makes, LIBC the kit's `liblibc_c.a`.
+(checks/embedded.c), in place of these two: LIBGEOSVM is the archive that `embedding/build.sh` makes.
 
 failing_calls.c tells each call, and has the call that is asked for fail: with an error once, with an interruption once, by moving half of
 its bytes, or with an error from it on. Of each run of a program is looked at: what it told; that what it left opens to the documents of

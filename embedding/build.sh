@@ -1,5 +1,5 @@
 #!/bin/sh
-# Needs: rt gcc g++ ar objcopy rustc python3 valgrind
+# Needs: rt gcc g++ ar ld objcopy rustc python3 valgrind
 # Proves and builds the library, builds the examples, runs these in a folder of their own, and compares what they print with *.output
 # beside this script. By hand it can be run without the last two of these: with valgrind it also looks for leaks and bad accesses, and
 # with python3 it compares the prototypes of geosvm.h with the exports. `--keep` writes *.output. Behind them view_c is run once more, by
@@ -7,15 +7,6 @@
 # KIT is the folder of the Rattle kit, found by `rt doc` where it isn't set. With OVER_CI set the library is built over those that the last
 # `rt ci` left, in some minutes; `rt lib` would prove all of these once more.
 set -e
-here=$(cd "$(dirname "$0")" && pwd)
-crate=$here/../crates/geos_c
-kit=${KIT:-$(dirname "$(rt doc)")}
-if command -v python3 > /dev/null; then python3 "$here/prototypes.py"; fi
-if [ "${OVER_CI:-}" ]; then python3 "$here/library.py" "$crate"; else (cd "$crate" && rt lib); fi
-work=$(mktemp -d)
-trap 'rm -rf "$work"' EXIT
-cd "$work"
-strict="-O2 -Wall -Wextra -Werror"
 keeps=
 steps=10000
 for word in "$@"; do
@@ -25,17 +16,20 @@ for word in "$@"; do
     *) echo "usage: sh embedding/build.sh [--keep] [--long]" >&2; exit 2 ;;
     esac
 done
-# The library's reads and writes go to channel.c, which hands them to the program; and a program that doesn't define the functions on
-# its files gets those of files.c.
-objcopy --redefine-sym read=geosvm_channel_read --redefine-sym write=geosvm_channel_write "$crate/out/libgeos_c.a" libgeosvm.a
-for part in channel files; do gcc -std=c99 -pedantic $strict -fPIC -c "$here/$part.c"; done
-ar rs libgeosvm.a channel.o files.o 2> /dev/null
-# Over malloc, realloc and free.
-heap=$kit/c/liblibc_c.a
+here=$(cd "$(dirname "$0")" && pwd)
+crate=$here/../crates/geos_c
+kit=${KIT:-$(dirname "$(rt doc)")}
+if command -v python3 > /dev/null; then python3 "$here/prototypes.py"; fi
+if [ "${OVER_CI:-}" ]; then python3 "$here/library.py" "$crate"; else (cd "$crate" && rt lib); fi
+work=$(mktemp -d)
+trap 'rm -rf "$work"' EXIT
+cd "$work"
+strict="-O2 -Wall -Wextra -Werror"
+sh "$here/archive.sh" "$crate/out/libgeos_c.a" "$kit/c/liblibc_c.a" libgeosvm.a
 gcc -std=c99 -pedantic $strict -fsyntax-only -x c "$here/geosvm.h"
 g++ -std=c++11 -pedantic $strict -fsyntax-only -x c++ "$here/geosvm.h"
-for name in try container misuse view; do gcc -std=c11 $strict "$here/$name.c" libgeosvm.a "$heap" -lpthread -o ${name}_c; done
-rustc --edition 2024 -O "$here/try.rs" -C link-arg=libgeosvm.a -C link-arg="$heap" -o try_rs
+for name in try container misuse view; do gcc -std=c11 $strict "$here/$name.c" libgeosvm.a -lpthread -o ${name}_c; done
+rustc --edition 2024 -O "$here/try.rs" -C link-arg=libgeosvm.a -o try_rs
 for name in try_c try_rs container_c misuse_c view_c; do
     rm -f ./*.document
     ./$name > $name.output

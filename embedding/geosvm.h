@@ -46,6 +46,20 @@ extern "C" {
 #endif
 
 /*
+** CAPI: The version
+**
+** The version of this header, in numbers and as text, and by geosvm_version that of the library which is linked, as text with a zero
+** behind it that stays: a shared library may be of another version than the header that a program was compiled with. No session is needed.
+*/
+#define GEOSVM_VERSION_MAJOR 0
+#define GEOSVM_VERSION_MINOR 1
+#define GEOSVM_VERSION_PATCH 0
+#define GEOSVM_PRIVATE_TEXT(major, minor, patch) #major "." #minor "." #patch
+#define GEOSVM_PRIVATE_TEXT_OF(major, minor, patch) GEOSVM_PRIVATE_TEXT(major, minor, patch)
+#define GEOSVM_VERSION GEOSVM_PRIVATE_TEXT_OF(GEOSVM_VERSION_MAJOR, GEOSVM_VERSION_MINOR, GEOSVM_VERSION_PATCH)
+const char *geosvm_version(void);
+
+/*
 ** CAPI: A session
 **
 ** The caller makes one by GEOSVM_CLOSED, and passes its address. Its fields are private.

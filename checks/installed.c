@@ -1,0 +1,59 @@
+/* A program over the installed library, in C99 and in C++11: it tells the version, makes a document of its file, edits it, takes an edit
+   back, saves it, and opens it again.
+
+       installed FILE */
+#include <geosvm.h>
+
+#include <fcntl.h>
+#include <stdio.h>
+#include <string.h>
+#include <sys/file.h>
+#include <unistd.h>
+
+static int count_failed = 0;
+
+static void must(int is_so, const char *what) {
+  if (is_so) return;
+  printf("FAILED %s\n", what);
+  count_failed++;
+}
+#define MUST(is_so) must(is_so, #is_so)
+
+static const uint8_t abc[] = {'a', 'b', 'c'}, xyz[] = {'x', 'y', 'z'};
+
+static void make(int file) {
+  geosvm_session s = GEOSVM_CLOSED;
+  uint16_t block = 0, chunk = 0;
+  MUST(geosvm_create(&s, file, 8) == GEOSVM_OK);
+  MUST(geosvm_newheap(&s, 7, &block) == GEOSVM_OK && block == 1);
+  MUST(geosvm_alloc(&s, block, sizeof abc, &chunk) == GEOSVM_OK && chunk == 16);
+  MUST(geosvm_write(&s, block, chunk, 0, abc, sizeof abc) == GEOSVM_OK);
+  MUST(geosvm_write(&s, block, chunk, 0, xyz, sizeof xyz) == GEOSVM_OK);
+  MUST(geosvm_undo(&s) == GEOSVM_OK);
+  MUST(geosvm_save(&s) == GEOSVM_OK);
+  MUST(geosvm_vfree(&s, block) == GEOSVM_OK);
+  MUST(geosvm_close(&s) == GEOSVM_OK);
+}
+
+static void look(int file) {
+  geosvm_session s = GEOSVM_CLOSED;
+  uint8_t bytes[8];
+  size_t length = 0;
+  MUST(geosvm_open(&s, file, 8) == GEOSVM_OK);
+  MUST(geosvm_read(&s, 1, 16, bytes, sizeof bytes, &length) == GEOSVM_OK);
+  MUST(length == sizeof abc && memcmp(bytes, abc, sizeof abc) == 0);
+  MUST(geosvm_undo(&s) == GEOSVM_NOTHING_TO_UNDO);
+  MUST(geosvm_close(&s) == GEOSVM_OK);
+}
+
+int main(int count, char **words) {
+  int file;
+  if (count != 2) return 2;
+  file = open(words[1], O_RDWR | O_CREAT, 0644);
+  if (file < 0 || flock(file, LOCK_EX | LOCK_NB) != 0) return 2;
+  make(file);
+  look(file);
+  close(file);
+  printf("%d.%d.%d %s %s\n", GEOSVM_VERSION_MAJOR, GEOSVM_VERSION_MINOR, GEOSVM_VERSION_PATCH, GEOSVM_VERSION, geosvm_version());
+  return count_failed != 0;
+}

@@ -1,0 +1,21 @@
+#!/bin/sh
+# Needs: gcc ar ld objcopy
+# Makes the library for C, as one archive, of what `rt lib` left, of the kit's heap, which is over malloc, realloc and free, and of the C
+# sources beside this script. Of its names a program sees those of geosvm.h alone.
+#
+#     sh embedding/archive.sh LIBGEOS_C LIBLIBC_C OUT
+set -e
+here=$(cd "$(dirname "$0")" && pwd)
+work=$(mktemp -d)
+trap 'rm -rf "$work"' EXIT
+for part in channel files version; do
+    gcc -std=c99 -pedantic -O2 -Wall -Wextra -Werror -fPIC -c "$here/$part.c" -o "$work/$part.o"
+done
+# The library's reads and writes go to channel.c, which hands them to the program.
+objcopy --redefine-sym read=geosvm_channel_read --redefine-sym write=geosvm_channel_write "$1" "$work/part.a"
+# One object, so that its parts find each other where their names are hidden. files.c is apart from it: a program that doesn't define the
+# functions on its files gets those of files.c, any other doesn't.
+ld -r -o "$work/geosvm.o" --whole-archive "$work/part.a" --no-whole-archive "$work/channel.o" "$2"
+objcopy --wildcard --keep-global-symbol='!geosvm_channel_*' --keep-global-symbol='geosvm_*' "$work/geosvm.o"
+rm -f "$3"
+ar rcs "$3" "$work/geosvm.o" "$work/files.o" "$work/version.o"
