@@ -1,0 +1,67 @@
+"""Files as the library wants them: open to be read and written, and locked before anything is
+done with them, so that no document is cut which somebody has open."""
+from __future__ import annotations
+
+import errno
+import fcntl
+import os
+from typing import Union
+
+from .errors import file_error, from_system
+
+Path = Union[str, bytes, "os.PathLike[str]", "os.PathLike[bytes]"]
+
+
+def _lock(number: int, path: Path) -> None:
+    """Takes the lock, or refuses: whoever has the file open has it, in this program or another."""
+    try:
+        fcntl.flock(number, fcntl.LOCK_EX | fcntl.LOCK_NB)
+    except BlockingIOError:
+        raise file_error(errno.EWOULDBLOCK, "the file is in use", os.fsdecode(path)) from None
+
+
+def _above_streams(number: int) -> int:
+    """A descriptor that isn't taken for a standard stream, where one of these is closed."""
+    if number > 2:
+        return number
+    above = fcntl.fcntl(number, fcntl.F_DUPFD_CLOEXEC, 3)
+    os.close(number)
+    return above
+
+
+def open_locked(path: Path, flags: int) -> int:
+    """The descriptor of a file, which is never cut here, and no child inherits it."""
+    try:
+        number = _above_streams(os.open(path, os.O_RDWR | os.O_CLOEXEC | flags, 0o666))
+        try:
+            _lock(number, path)
+        except BaseException:
+            os.close(number)
+            raise
+    except OSError as error:
+        raise from_system(error) from None
+    return number
+
+
+def sync_folder(path: Path) -> None:
+    """Syncs the folder that a file lies in: without it a crash may lose the name of a new file."""
+    folder = os.path.dirname(os.path.realpath(os.fsdecode(path)))
+    try:
+        number = os.open(folder, os.O_RDONLY | os.O_DIRECTORY)
+        try:
+            os.fsync(number)
+        finally:
+            os.close(number)
+    except OSError as error:
+        raise from_system(error) from None
+
+
+def make_locked(path: Path, flags: int) -> int:
+    """The same of a file that is made where it is missing, with its name on the disk."""
+    number = open_locked(path, os.O_CREAT | flags)
+    try:
+        sync_folder(path)
+    except BaseException:
+        os.close(number)
+        raise
+    return number
