@@ -5,6 +5,7 @@ from __future__ import annotations
 
 import base64
 import hashlib
+import io
 import re
 import tarfile
 import zipfile
@@ -73,6 +74,9 @@ def build_sdist(sdist_directory: str, config_settings: Any = None) -> str:
     """Writes the sources into the folder, and gives the name of their archive."""
     name = f"{_title()}.tar.gz"
     with tarfile.open(Path(sdist_directory) / name, "w:gz", format=tarfile.PAX_FORMAT) as archive:
+        described = tarfile.TarInfo(f"{_title()}/PKG-INFO")
+        described.size = len(_metadata().encode())
+        archive.addfile(described, io.BytesIO(_metadata().encode()))
         for path in ["pyproject.toml", "build_package.py", "README.md", "geosvm", "tests"]:
             archive.add(HERE / path, f"{_title()}/{path}",
                         filter=lambda it: None if "__pycache__" in it.name else it)

@@ -5,8 +5,9 @@ from __future__ import annotations
 import contextlib
 import operator
 from collections.abc import Iterator
-from typing import TYPE_CHECKING, Any, Union, overload
+from typing import TYPE_CHECKING, Any, TypeVar, Union, overload
 
+from .errors import BadArgument
 from .library import as_bytes
 
 if TYPE_CHECKING:
@@ -14,6 +15,7 @@ if TYPE_CHECKING:
     from .document import Document
 
 Data = Union[bytes, bytearray, memoryview]
+B = TypeVar("B", bound="Block")
 
 
 class Part:
@@ -123,7 +125,7 @@ class Block(Part):
         """The bytes that a heap needs, or that a raw block has: at most 65,520."""
         return int(self._call("info")[2])
 
-    def copy(self) -> Block:
+    def copy(self: B) -> B:
         """Makes a block with the same content, user ID and type."""
         return type(self)(self.document, self._call("vcopy"))
 
@@ -218,6 +220,8 @@ class Chain(Part):
 
     def equals(self, other: Chain) -> bool:
         """Whether both have the same bytes, but for handles and user IDs."""
+        if other.document is not self.document:
+            raise BadArgument("chequal: the other chain is another document's")
         return bool(self._call("chequal", *other._handles))
 
 

@@ -35,8 +35,8 @@ def step_name(name: Name) -> bytes:
 def _drop(session: Session, path: Path) -> None:
     """A document is gone that nobody closed."""
     if session.file >= 0:
-        warnings.warn(f"unclosed document {os.fsdecode(path)!r}", ResourceWarning, stacklevel=2)
         session.drop()
+        warnings.warn(f"unclosed document {os.fsdecode(path)!r}", ResourceWarning, stacklevel=2)
 
 
 class Document:
@@ -79,7 +79,7 @@ class Document:
         data: bytes = self.call("command", line.encode("utf-8", "surrogateescape"))
         reply = data.decode("ascii").rstrip("\n")
         if reply.startswith("no "):
-            raise from_code(int(reply.split()[1]), line.split()[0])
+            raise from_code(int(reply.split()[1]), "command")
         return reply
 
     def close(self) -> None:
@@ -215,28 +215,39 @@ class Document:
         self._is_broken = False
 
     def end(self) -> None:
-        """Closes the group."""
+        """Closes the group; but BrokenGroup where an exception left a `group` within it."""
+        if self._is_broken:
+            raise BrokenGroup(f"end: {BrokenGroup.__doc__}")
         self.call("end")
 
     def abandon(self) -> None:
         """Closes the group, and takes its edits back."""
         self.call("abandon")
+        self._is_broken = False
 
     @contextlib.contextmanager
     def group(self, name: Name = "") -> Iterator[None]:
         """The edits within the `with` are one step, with this name; an exception that leaves it
         takes them back. One within another belongs to that, and so is taken back with all of it.
+        While a block is locked none can be: that is Locked then, and the group stays open.
         """
         named = step_name(name)
+        with self._outer_group(named) if self._is_begun() else self._inner_group():
+            yield
+
+    def _is_begun(self) -> bool:
+        """Opens a group, where none is open."""
         try:
             self.begin()
         except GroupOpen:
-            with self._inner_group():
-                yield
-            return
+            return False
+        return True
+
+    @contextlib.contextmanager
+    def _outer_group(self, name: bytes) -> Iterator[None]:
         try:
             yield
-            self._end_named(named)
+            self._end_named(name)
         except BaseException:
             with contextlib.suppress(NoGroup, NotOpen):
                 self.abandon()
@@ -244,16 +255,16 @@ class Document:
 
     @contextlib.contextmanager
     def _inner_group(self) -> Iterator[None]:
+        """Where it made no edit, an exception leaves nothing to be taken back."""
+        before = self._session.edits
         try:
             yield
         except BaseException:
-            self._is_broken = True
+            self._is_broken = self._is_broken or self._session.edits != before
             raise
 
     def _end_named(self, name: bytes) -> None:
         """Ends the group. One without an edit leaves no step, so nothing is named then."""
-        if self._is_broken:
-            raise BrokenGroup(f"{BrokenGroup.__doc__}")
         leaves_step = name != b"" and self.length("abandon_places") > 0
         self.end()
         try:

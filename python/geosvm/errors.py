@@ -4,7 +4,7 @@ from __future__ import annotations
 
 import functools
 import os
-from typing import ClassVar
+from typing import Any, ClassVar
 
 
 class Error(Exception):
@@ -29,6 +29,12 @@ class File(Error, OSError):
 
     def __str__(self) -> str:
         return OSError.__str__(self)
+
+    def __reduce__(self) -> tuple[Any, ...]:
+        """For pickle, which knows no class that was made for an errno."""
+        if self.errno is None:
+            return File, self.args
+        return file_error, (self.errno, self.strerror, self.filename)
 
 
 class Damaged(Error):
@@ -228,7 +234,7 @@ class WrongThread(Error, RuntimeError):
 
 
 class BrokenGroup(Error):
-    """a group within this one was left by an exception, so all of this one was taken back"""
+    """an exception has left a group within this one, after edits: all of it is to be abandoned"""
 
 
 BY_CODE: dict[int, type[Error]] = {

@@ -12,6 +12,7 @@ from .errors import BadArgument
 
 MAJOR = 0
 CUT_OFF = 103
+UNTOLD = 104
 REPLY_MOST = 131072
 
 
@@ -34,7 +35,7 @@ class PlaceFields(ctypes.Structure):
 # `bytes` that are taken are a pointer and a size; lists that are given are a buffer, its room and
 # how many there are; `places` take a first number before these. tests/test_calls.py compares this
 # with geosvm.h.
-TABLE = """
+SESSION_CALLS = """
 open i32 size
 create i32 size
 close
@@ -58,6 +59,8 @@ dirty u16
 locks u16 -> u8
 locked_chunk u16 u16 -> lent
 locked_raw u16 -> lent
+"""
+EDITS = """
 newraw u16 u32 -> u16
 newheap u16 -> u16
 vfree u16
@@ -94,6 +97,8 @@ nset u16 u16 u16 bytes
 nunref u16 u16 u16
 chcopy u16 -> u16
 chfree u16
+"""
+LOOK_UPS = """
 info u16 -> u8 u16 u32
 gettype u16 -> u16
 list -> handles
@@ -177,6 +182,7 @@ class Call:
         taken, _, given = line.partition("->")
         self.name, *self.takes = taken.split()
         self.gives = given.split()
+        self.may_edit = f"\n{line}\n" in EDITS or self.name == "command"
         self.function = getattr(library, f"geosvm_{self.name}")
         self.function.restype = ctypes.c_int32
         self.function.argtypes = [
@@ -244,7 +250,9 @@ def load() -> ctypes.CDLL:
 
 
 LIBRARY = load()
-CALLS = {call.name: call for call in (Call(LIBRARY, line) for line in TABLE.split("\n") if line)}
+CALLS = {
+    call.name: call for call in (
+        Call(LIBRARY, line) for line in (SESSION_CALLS + EDITS + LOOK_UPS).split("\n") if line)}
 
 
 def version() -> str:

@@ -9,7 +9,7 @@ import weakref
 from typing import Any
 
 from .errors import NotOpen, WrongThread, from_code
-from .library import CALLS, CUT_OFF, LISTS, NUMBERS, Call, State
+from .library import CALLS, CUT_OFF, LISTS, NUMBERS, UNTOLD, Call, State
 
 
 class Session:
@@ -20,6 +20,7 @@ class Session:
 
     def __init__(self, file: int, call: str, frames: int) -> None:
         self.file = -1
+        self.edits = 0  # so many calls may have edited the document
         self._thread = threading.get_ident()
         self._state = State()
         self._rooms: dict[str, Any] = {kind: (LISTS[kind] * 256)() for kind in LISTS}
@@ -33,7 +34,10 @@ class Session:
             raise WrongThread(f"{call.name}: {WrongThread.__doc__}")
         ctypes.set_errno(0)
         code = call.function(self._state, *call.given(values), *given)
-        return code, ctypes.get_errno()
+        number = ctypes.get_errno()
+        if call.may_edit and code in (0, CUT_OFF, UNTOLD):
+            self.edits += 1
+        return code, number
 
     def call(self, name: str, *values: Any) -> Any:
         """Makes a call of the library. What it refuses is raised."""

@@ -225,6 +225,9 @@ class Chains(DocumentCase):
         self.assertEqual([it.handle for it in copy], [3, 4])
         self.assertTrue(chain.equals(copy))
         self.assertFalse(chain.equals(second.chain()))
+        with geosvm.create(self.path("other.document")) as other, \
+                self.assertRaises(geosvm.BadArgument):
+            chain.equals(other.new_raw(2).chain())
         chain.free()
         self.assertEqual([it.handle for it in self.doc], [3, 4])
 

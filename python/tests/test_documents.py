@@ -6,6 +6,7 @@ import subprocess
 import sys
 import threading
 import warnings
+from unittest import mock
 
 import geosvm
 from folders import DocumentCase, FolderCase, image
@@ -101,6 +102,25 @@ class Opened(FolderCase):
             self.assertEqual(self.content(path), before)
         self.assertEqual(ran.returncode, 1)
         self.assertIn("the file is in use", ran.stderr)
+
+    def test_it_takes_the_place_of_no_standard_stream(self):
+        line = ("import geosvm, sys; doc = geosvm.open(sys.argv[1]); print(len(doc), sys.stdin); "
+                "assert doc._session.file > 2")
+        for closed, printed in (("<&-", "1 None\n"), (">&-", "")):
+            ran = subprocess.run(["sh", "-c", f'exec "$0" -c "$1" "$2" {closed}', sys.executable,
+                                  line, self.make()], capture_output=True, text=True)
+            self.assertEqual((ran.returncode, ran.stdout, ran.stderr), (0, printed, ""))
+
+    def test_the_folder_of_a_new_file_is_synced(self):
+        os.mkdir(self.path("folder"))
+        os.symlink(self.path("folder/new.document"), self.path("link.document"))
+        synced = []
+        with mock.patch.object(os, "fsync", lambda it: synced.append(os.fstat(it).st_ino)):
+            geosvm.create(self.path("link.document")).close()
+            with geosvm.open(self.make()) as doc:
+                doc.save_as(self.path("folder/other.document"))
+        folder, own = os.stat(self.path("folder")).st_ino, os.stat(self.folder).st_ino
+        self.assertEqual(synced, [folder, own, folder])
 
     def test_a_refused_open_leaves_no_file_open(self):
         with open(self.path("text"), "wb") as file:
@@ -201,7 +221,8 @@ class Shared(DocumentCase):
         return False
 
     def test_a_child_that_lives_on_has_no_lock(self):
-        child = subprocess.Popen([sys.executable, "-c", "input()"], stdin=subprocess.PIPE)
+        child = subprocess.Popen([sys.executable, "-c", "input()"], stdin=subprocess.PIPE,
+                                 close_fds=False)
         self.doc.close()
         geosvm.open(self.path()).close()
         child.communicate(b"\n")

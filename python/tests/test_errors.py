@@ -1,6 +1,7 @@
 """Each exception once, where it can be made, and the names and numbers of all."""
 import errno
 import os
+import pickle
 import re
 import resource
 import subprocess
@@ -35,6 +36,12 @@ class Names(unittest.TestCase):
                            (geosvm.NoBlock, KeyError), (geosvm.NoElement, IndexError),
                            (geosvm.Range, ValueError)):
             self.assertTrue(issubclass(kind, base))
+
+    def test_they_can_be_pickled(self):
+        for error in (errors.from_code(5, "vfree"), errors.from_code(2, "save"),
+                      errors.file_error(errno.ENOENT, "missing", "path")):
+            again = pickle.loads(pickle.dumps(error))
+            self.assertEqual((type(again), str(again)), (type(error), str(error)))
 
     def test_they_say_what_was_refused(self):
         self.assertEqual(str(errors.from_code(5, "vfree")), "vfree: there is no such block")
@@ -127,6 +134,7 @@ class Refusals(DocumentCase):
 
     def test_commands(self):
         self.refused(geosvm.BadCommand, self.doc.command, "nonsense")
+        self.refused(geosvm.BadCommand, self.doc.command, "\v")
         self.refused(geosvm.NoTarget, self.doc.command, "saveas")
         self.refused(geosvm.NoBlock, self.doc.command, "vfree 0009")
 

@@ -105,6 +105,55 @@ class Groups(DocumentCase):
             self.raw.write(0, b"ab")
         self.assertEqual(self.doc.undo_count, 2)
 
+    def test_one_that_edited_nothing_breaks_none(self):
+        heap = self.doc.new_heap()
+        with self.doc.group():
+            with self.assertRaises(geosvm.Full):
+                heap.new_chunk(bytes(65520))
+            with self.assertRaises(geosvm.NoChunk), self.doc.group():
+                self.assertEqual(len(heap), 0)
+                heap[16].free()
+            heap.new_chunk(b"abc")
+        self.assertEqual([bytes(it) for it in heap], [b"abc"])
+
+    def test_a_broken_one_by_hand_is_not_ended(self):
+        self.doc.begin()
+        with self.assertRaises(geosvm.BadCommand), self.doc.group():
+            self.doc.command("vwrite 0001 0 6162")
+            self.doc.command("nonsense")
+        with self.assertRaises(geosvm.BrokenGroup):
+            self.doc.end()
+        self.doc.command("abandon")
+        self.assertEqual(image(self.doc), self.before)
+        with self.doc.group():
+            self.raw.write(0, b"ab")
+        self.assertEqual(self.doc.undo_count, 2)
+
+    def test_it_is_named_where_the_steps_are_limited(self):
+        self.doc.limit_undo(1)
+        with self.doc.group("Typing"):
+            self.raw.write(0, b"ab")
+        self.assertEqual((self.doc.undo_count, self.doc.undo_name), (1, "Typing"))
+
+    def test_what_cannot_be_taken_back_stays_open(self):
+        with self.assertRaises(geosvm.Locked), self.doc.group():
+            self.raw.write(0, b"ab")
+            self.raw.lock()
+            raise ZeroDivisionError
+        self.raw.unlock()
+        self.doc.abandon()
+        self.assertEqual(image(self.doc), self.before)
+
+    def test_an_exception_of_a_group_has_no_other_context(self):
+        with self.assertRaises(ZeroDivisionError) as caught, self.doc.group(), self.doc.group():
+            raise ZeroDivisionError
+        self.assertIsNone(caught.exception.__context__)
+
+    def test_a_document_that_is_closed_in_a_group(self):
+        with self.assertRaises(geosvm.NotOpen), self.doc.group():
+            self.raw.write(0, b"ab")
+            self.doc.close()
+
     def test_an_empty_group_names_nothing(self):
         with self.doc.group("Nothing"):
             pass
