@@ -1,5 +1,5 @@
 #!/bin/sh
-# Needs: python3 gcc objdump
+# Needs: python3 gcc
 # The package for Python, of python/: installs the library into a folder of its own by install.sh, the package beside it by pip, without
 # the network, and runs python/tests on these, with the example of python/README.md. Where there is no pip the package is taken from its
 # folder, and that is said.
@@ -14,6 +14,7 @@ cp "$1" "$folder/programs/geosvm" && cp "$2" "$folder/programs/geosdoc" && cp "$
 # A copy, since pip and Python write beside what they read.
 cp -r "$root/python" "$folder/python" || exit 2
 cd "$folder" || exit 2
+unset GEOSVM_LIBRARY
 passed=0
 failed=0
 

@@ -43,6 +43,7 @@ class Blocks(DocumentCase):
             with self.assertRaises(geosvm.NoBlock):
                 self.doc.map_block = other.new_heap()
             self.assertFalse(other[1] in self.doc)
+            self.assertNotEqual(other[1], self.doc[1])
 
     def test_attributes(self):
         heap, raw = self.doc.new_heap(user_id=7), self.doc.new_raw(5)

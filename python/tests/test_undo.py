@@ -344,6 +344,7 @@ class ByChance(DocumentCase):
         self.chance = random.Random(1)
         self.model = Model(self.doc, self.chance)
         self.befores, self.afters = [], []
+        self.undos = self.redos = 0
 
     def compare(self, what):
         self.assertEqual(image(self.doc), self.model.now, what)
@@ -369,6 +370,7 @@ class ByChance(DocumentCase):
             self.doc.undo()
             self.model.now = self.befores.pop()
             self.compare("after an undo")
+            self.undos += 1
 
     def ahead(self, count):
         for _ in range(min(count, len(self.afters))):
@@ -376,6 +378,7 @@ class ByChance(DocumentCase):
             self.doc.redo()
             self.model.now = self.afters.pop()
             self.compare("after a redo")
+            self.redos += 1
 
     def test_edits_by_chance(self):
         for number in range(self.EDITS):
@@ -387,9 +390,9 @@ class ByChance(DocumentCase):
                 self.ahead(self.chance.randrange(count + 1))
             if number % 500 == 499:
                 self.doc.save()
-        self.assertGreater(len(self.befores), 500)
         self.back(100)
         self.ahead(100)
+        self.assertGreater(min(self.undos, self.redos), 300)
         self.doc.save()
         self.doc.close()
         self.doc = geosvm.open(self.path())
