@@ -33,7 +33,7 @@ echo "-- installed"
 PROGRAMS=$folder/programs LIBRARY=$folder/libgeosvm.a TMPDIR=$folder/temporary sh "$root/install.sh" "$folder/installed" >said 2>&1
 told "the library is installed" "0 libgeosvm.so.0" "$? $(cd installed/lib && ls libgeosvm.so.0)"
 if python3 -m pip --version >where 2>&1; then
-    python3 -m pip install --quiet --no-index --disable-pip-version-check --root-user-action ignore --target package ./python >said 2>&1
+    PIP_ROOT_USER_ACTION=ignore python3 -m pip install --quiet --no-index --disable-pip-version-check --target package ./python >said 2>&1
     told "pip installs the package, without the network" "0 " "$? $(cat said)"
     told "it has the version of geosvm.h" "$(sed -n 's/^Version: //p' installed/lib/pkgconfig/geosvm.pc)" \
         "$(sed -n 's/^Version: //p' package/geosvm-*.dist-info/METADATA)"

@@ -7,7 +7,7 @@ import warnings
 import weakref
 from collections.abc import Iterator
 from types import TracebackType
-from typing import Any
+from typing import Any, Literal
 
 from .arrays import Name, name_bytes
 from .blocks import Block, Heap, Raw
@@ -21,6 +21,7 @@ FRAMES = 64
 MOST_NAME = 64
 AS_SAVED = 1
 AS_UPDATED = 2
+Mode = Literal["r+", "w+", "x+"]
 _FLAGS = {"w+": 0, "x+": os.O_EXCL}
 
 
@@ -45,7 +46,7 @@ class Document:
     `doc[handle]` is a block, and going over the document gives all blocks, rising.
     """
 
-    def __init__(self, path: Path, mode: str = "r+", frames: int = FRAMES) -> None:
+    def __init__(self, path: Path, mode: Mode = "r+", frames: int = FRAMES) -> None:
         is_new = mode in _FLAGS
         if mode != "r+" and not is_new:
             raise ValueError(f"a mode is r+, w+ or x+, to read and write, not {mode!r}")
@@ -341,7 +342,7 @@ class Document:
         return not self.as_saved
 
 
-def open(path: Path, mode: str = "r+", frames: int = FRAMES) -> Document:  # noqa: A001
+def open(path: Path, mode: Mode = "r+", frames: int = FRAMES) -> Document:  # noqa: A001
     """Opens the document of a file.
 
     With the mode "w+" an empty document is made of the file, whatever was in it; "x+" makes the

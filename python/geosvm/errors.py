@@ -4,7 +4,7 @@ from __future__ import annotations
 
 import functools
 import os
-from typing import Any, ClassVar
+from typing import Any, ClassVar, cast
 
 
 class Error(Exception):
@@ -246,7 +246,9 @@ BY_CODE: dict[int, type[Error]] = {
 @functools.lru_cache(maxsize=None)
 def _file_class(kind: type[OSError]) -> type[File]:
     """File, as Python's own class for an errno too: so FileNotFoundError catches a missing file."""
-    return File if kind is OSError else type("File", (File, kind), {"__module__": File.__module__})
+    if kind is OSError:
+        return File
+    return cast("type[File]", type("File", (File, kind), {"__module__": File.__module__}))
 
 
 def file_error(number: int, text: str, path: str | None = None) -> File:

@@ -12,6 +12,16 @@ from .errors import NotOpen, WrongThread, from_code
 from .library import CALLS, CUT_OFF, LISTS, NUMBERS, UNTOLD, Call, State
 
 
+class _Thread(threading.local):
+    """What a thread is known by: its number is given again to a later one."""
+
+    def __init__(self) -> None:
+        self.mark = object()
+
+
+_here = _Thread()
+
+
 class Session:
     """A session and the descriptor of its file: both are given up together.
 
@@ -21,7 +31,7 @@ class Session:
     def __init__(self, file: int, call: str, frames: int) -> None:
         self.file = -1
         self.edits = 0  # so many calls may have edited the document
-        self._thread = threading.get_ident()
+        self._thread = _here.mark
         self._state = State()
         self._rooms: dict[str, Any] = {kind: (LISTS[kind] * 256)() for kind in LISTS}
         self.call(call, file, frames)
@@ -30,7 +40,7 @@ class Session:
 
     def _made(self, call: Call, values: tuple[Any, ...], *given: Any) -> tuple[int, int]:
         """The code that a call answers, and the errno that it leaves."""
-        if threading.get_ident() != self._thread:
+        if self._thread is not _here.mark:
             raise WrongThread(f"{call.name}: {WrongThread.__doc__}")
         ctypes.set_errno(0)
         code = call.function(self._state, *call.given(values), *given)
@@ -116,7 +126,7 @@ class Session:
 
     def drop(self) -> None:
         """Closes the session in whatever thread its document is dropped."""
-        if threading.get_ident() == self._thread:
+        if self._thread is _here.mark:
             self.close()
         else:
             self.leave()

@@ -187,6 +187,23 @@ class Shared(DocumentCase):
         self.assertEqual(len(told), 1)
         self.assertEqual(len(self.doc), 0)
 
+    def test_a_later_thread_is_another_one(self):
+        kept, told = [], []
+
+        def save():
+            with self.assertRaises(geosvm.WrongThread):
+                kept[0].save()
+            told.append(threading.get_ident())
+
+        for run in (lambda: kept.append(geosvm.create(self.path("other.document"))), save, save):
+            thread = threading.Thread(target=run)
+            thread.start()
+            thread.join()
+        self.assertEqual(len(told), 2)
+        with warnings.catch_warnings():
+            warnings.simplefilter("ignore")
+            kept.clear()
+
     def test_threads_have_documents_of_their_own(self):
         counts = []
 
