@@ -1,6 +1,6 @@
 #!/bin/sh
 # Needs: gcc objdump
-# Installs the programs, the library for C with its header, and their pages:
+# Installs the programs, the library for C and C++ with its headers, and their pages:
 #
 #     sh install.sh PREFIX             below PREFIX, as /usr/local or ~/.local; with DESTDIR set, below that
 #     sh install.sh --remove PREFIX    takes away again what was installed there
@@ -113,11 +113,11 @@ What rt builds in crates/*/out and for embedding/out was proved: each function m
 premises that PROMISES.md, beside this file, has with each promise. The gate proves all of it from nothing, tries changes that
 the prover must refuse, and runs the tests. Where its commit isn't that of the sources, what is installed may be of either.
 
-Not proved are the C sources of the library (embedding/channel.c, files.c, version.c), which are tested, and what made the
-programs run: the kit, gcc, the C library and the machine.
+Not proved are the C sources of the library (embedding/channel.c, files.c, version.c) and geosvm.hpp, which are tested, and
+what made the programs run: the kit, gcc, the C library and the machine.
 
 SHA-256 of the files as they were installed:
-$(cd "$tree$prefix" && sha256sum bin/* lib/libgeosvm.a "lib/libgeosvm.so.$version" include/geosvm.h)
+$(cd "$tree$prefix" && sha256sum bin/* lib/libgeosvm.a "lib/libgeosvm.so.$version" include/*)
 END
 }
 
@@ -138,7 +138,7 @@ write_tree() {
     place 644 "$work/shared" "lib/libgeosvm.so.$version"
     ln -s "libgeosvm.so.$version" "$tree$prefix/lib/libgeosvm.so.$major"
     ln -s "libgeosvm.so.$major" "$tree$prefix/lib/libgeosvm.so"
-    place 644 "$here/embedding/geosvm.h" include/geosvm.h
+    for name in geosvm.h geosvm.hpp; do place 644 "$here/embedding/$name" include/$name; done
     write_pkgconfig "$work/pc"
     place 644 "$work/pc" lib/pkgconfig/geosvm.pc
     place 644 "$here/docs/geosvm.magic" share/geosvm/geosvm.magic
@@ -164,7 +164,7 @@ remove_listed() {
     while IFS= read -r name; do
         case $name in
         *..*) continue ;;
-        bin/geos* | include/geosvm.h | lib/libgeosvm.* | lib/pkgconfig/geosvm.pc | share/*geosvm* | share/*geosdoc*) ;;
+        bin/geos* | include/geosvm.h | include/geosvm.hpp | lib/libgeosvm.* | lib/pkgconfig/geosvm.pc | share/*geosvm* | share/*geosdoc*) ;;
         *) continue ;;
         esac
         if [ $# = 2 ] && grep -qxF "$name" "$2"; then continue; fi
@@ -239,7 +239,7 @@ Section: libs
 Priority: optional
 Description: documents of blocks and heaps in a file, with exact undo
  The programs geosvm, which edits a document by commands, and geosdoc, which
- checks one and shows what is in it, and a library for C with its header.
+ checks one and shows what is in it, and a library for C and C++.
  They are proved: /usr/share/doc/geosvm/PROVED tells what of it, by which kit.
 END
     echo "activate-noawait ldconfig" >"$tree/DEBIAN/triggers"

@@ -59,13 +59,14 @@ check() {
         ;;
     installed) sh checks/installed.sh "$geosvm" "$geosdoc" embedding/out/libgeosvm.a ;;
     python_package) sh checks/python_package.sh "$geosvm" "$geosdoc" embedding/out/libgeosvm.a ;;
+    cpp_header) sh checks/cpp_header.sh "$geosvm" "$geosdoc" embedding/out/libgeosvm.a ;;
     *) echo "there is no check $1"; return 2 ;;
     esac
 }
 # Those that take longest come first, and behind them what needs one of them.
 first="embedding lent_bytes each_request failing_calls limits dumped_documents looks memory_given_back edits_by_chance heap_by_chance bench"
 first="$first instructions made_beside stat_counted changed_bytes program_ends examples pages_checked ways_to_start prompts commands_listed"
-second="failing_calls_from_c installed python_package"
+second="failing_calls_from_c installed cpp_header python_package"
 
 # script_of NAME: the file of a check.
 script_of() {
@@ -130,7 +131,7 @@ if [ "$named" ]; then
     second=
     for name in $named; do
         case $name in
-        failing_calls_from_c | installed | python_package) second="$second $name" ;;
+        failing_calls_from_c | installed | cpp_header | python_package) second="$second $name" ;;
         *) first="$first $name" ;;
         esac
     done
