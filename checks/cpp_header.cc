@@ -16,6 +16,7 @@
 #include <set>
 #include <stdexcept>
 #include <sys/resource.h>
+#include <sys/syscall.h>
 #include <unordered_set>
 #if __cplusplus >= 202002L
 #include <span>
@@ -65,6 +66,25 @@ static std::string whole_file(const std::string &path) {
   return std::string(std::istreambuf_iterator<char>(file), {});
 }
 static void put_file(const std::string &path, const std::string &all) { std::ofstream(path, std::ios::binary) << all; }
+
+/* The order of calls that bring files to the disk: `f` and `d` for the sync of a file and of a folder, `r` for a
+   rename. One of them may fail. */
+static std::string order;
+static char failing = 0;
+
+static bool is_made(char call) {
+  order += call;
+  if (call == failing) errno = EIO;
+  return call != failing;
+}
+extern "C" int fsync(int number) {
+  struct stat status;
+  if (!is_made(::fstat(number, &status) == 0 && S_ISDIR(status.st_mode) ? 'd' : 'f')) return -1;
+  return static_cast<int>(::syscall(SYS_fsync, number));
+}
+extern "C" int rename(const char *from, const char *to) noexcept {
+  return is_made('r') ? static_cast<int>(::syscall(SYS_rename, from, to)) : -1;
+}
 
 /* Codes */
 
@@ -560,6 +580,9 @@ static void files_kept() {
   REFUSED(make_error_code(std::errc::no_such_file_or_directory), session::open("missing.document", to...));
   REFUSED(make_error_code(std::errc::is_a_directory), session::create(".", to...));
   REFUSED(make_error_code(std::errc::invalid_argument), session::create(std::string("a\0b", 3), to...));
+  MUST(::mkfifo("pipe.document", 0600) == 0);
+  REFUSED(make_error_code(std::errc::operation_not_supported), session::create("pipe.document", to...));
+  std::filesystem::remove("pipe.document");
   MUST(!std::filesystem::exists("missing.document"));
   try {
     session::open("missing.document");
@@ -583,12 +606,57 @@ static void files_kept() {
   MUST(whole_file("kept.document") == all && names_here() == names);
   std::filesystem::permissions("kept.document", std::filesystem::perms(0640));
   std::filesystem::create_symlink("kept.document", "link.document");
-  MUST(session::create("link.document").list().empty());
+  struct stat before, after;
+  if (::geteuid() == 0) MUST(::chown("kept.document", 1, 1) == 0);
+  MUST(::stat("kept.document", &before) == 0);
+  {
+    const session anew = session::create("link.document");
+    REFUSED(in_use, session::open("kept.document", to...));
+  }
   MUST(session::open("kept.document").list().empty());
-  MUST(std::filesystem::is_symlink("link.document"));
+  MUST(std::filesystem::is_symlink("link.document") && ::stat("kept.document", &after) == 0);
+  MUST(after.st_uid == before.st_uid && after.st_gid == before.st_gid && after.st_ino != before.st_ino);
   MUST(std::filesystem::status("kept.document").permissions() == std::filesystem::perms(0640));
   std::filesystem::remove("link.document");
   MUST(names_here() == names);
+}
+
+/* A new document takes the place of an old one when it is on the disk, and its folder is synced behind that. */
+static void files_on_the_disk() {
+  const std::error_code broken = make_error_code(std::errc::io_error);
+  session s = session::create("disk.document");
+  const block raw = s.newraw(1, 3);
+  s.save();
+  const std::string all = whole_file("disk.document");
+  MUST(order.find('d') != std::string::npos);
+  s.close();
+  const auto names = names_here();
+  for (const char call : {'f', 'r'}) {
+    failing = call;
+    REFUSED(call == 'f' ? make_error_code(fault::file) : broken, session::create("disk.document", to...));
+    MUST(whole_file("disk.document") == all && names_here() == names);
+  }
+  failing = 0;
+  s = session::open("disk.document");
+  session::create("old.document").close();
+  s.attach(raw, "abc");
+  order.clear();
+  s.save_as("old.document");
+  MUST(order.size() >= 3 && order.substr(order.size() - 3) == "frd");
+  MUST(session::open("disk.document").vread(raw).size() == 3);
+  const std::string left = whole_file("disk.document");
+  failing = 'r';
+  std::error_code told;
+  s.save_as("disk.document", told);
+  failing = 0;
+  MUST(told == broken && whole_file("disk.document") == left);
+  s.attach(raw, "def");
+  s.save();
+  s.close();
+  MUST(is(session::open("old.document").vread(raw), "abc"));
+  std::string beside;
+  for (const std::string &name : names_here()) if (name.rfind("disk.document.", 0) == 0) beside = name;
+  MUST(is(session::open(beside).vread(raw), "def") && std::filesystem::remove(beside));
 }
 
 /* No file may be as long as a document: so nothing new can be written, and the old one stays. */
@@ -606,13 +674,15 @@ static void files_kept_on_a_full_disk() {
   struct rlimit before;
   ::getrlimit(RLIMIT_FSIZE, &before);
   struct rlimit least = before;
+  least.rlim_cur = 30000;
+  ::setrlimit(RLIMIT_FSIZE, &least);
+  put_file("empty.document", "");
+  REFUSED(fault::file, s.save_as("empty.document", to...));
+  MUST(whole_file("empty.document").empty() && std::filesystem::remove("empty.document"));
   least.rlim_cur = 100;
   ::setrlimit(RLIMIT_FSIZE, &least);
   REFUSED(fault::file, session::create("full.document", to...));
   REFUSED(fault::file, s.save_as("full.document", to...));
-  put_file("empty.document", "");
-  REFUSED(fault::file, session::create("empty.document", to...));
-  MUST(whole_file("empty.document").empty() && std::filesystem::remove("empty.document"));
   s.attach(raw, "new");
   REFUSED(fault::file, s.save(to...));
   ::setrlimit(RLIMIT_FSIZE, &before);
@@ -736,6 +806,7 @@ int main(int count, char **words) {
   files_opened_or_made();
   files_kept();
   files_kept_on_a_full_disk();
+  files_on_the_disk();
   files_saved_as();
   edits_by_chance();
   const std::set<fault> not_made = {fault::memory, fault::no_target, fault::bad_command, fault::worn,

@@ -318,9 +318,8 @@ public:
   /* Else it has bytes that stay. */
   bool is_new() const noexcept { return is_empty_ || made_.number() >= 0; }
   int number() const noexcept { return made_.number() >= 0 ? made_.number() : old_.number(); }
-  /* It gets the path once all of it is on the disk, and its folder is synced: a crash loses neither file. */
+  /* It has a document, which is on the disk by now, and gets the path. Its folder is synced, so no crash loses it. */
   std::error_code take_place() noexcept {
-    if (::fsync(number()) != 0) return system_error();
     if (made_.number() >= 0 && ::rename(made_path_.c_str(), path_.c_str()) != 0) return system_error();
     const descriptor folder(::open(folder_.c_str(), O_RDONLY | O_DIRECTORY | O_CLOEXEC));
     return folder.number() < 0 || ::fsync(folder.number()) != 0 ? system_error() : std::error_code();
