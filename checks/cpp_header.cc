@@ -365,6 +365,9 @@ static void further_refusals() {
   REFUSED(fault::not_open, s.close(to...));
   REFUSED(fault::not_open, s.command("list", to...));
   const std::string all = whole_file("further.document");
+  put_file("worn.document", std::string(all).replace(8, 8, 8, '\xff'));
+  session worn = session::open("worn.document");
+  REFUSED(fault::worn, worn.save(to...));
   put_file("text.document", "this is no document");
   put_file("cut.document", all.substr(0, all.size() / 2));
   REFUSED(fault::not_document, session::open("text.document", to...));
@@ -495,6 +498,18 @@ static void groups_within(session &s, block raw) {
     s.vwrite(raw, 0, "8");
     REFUSED(fault::no_group, outer.end(to...));
     MUST(is(s.vread(raw), "0") && !outer.is_open());
+  }
+  {
+    group outer(s, "Outer");
+    s.vwrite(raw, 0, "6");
+    group(s).abandon();
+    REFUSED(fault::no_group, s.end(to...));
+    MUST(is(s.vread(raw), "0") && !outer.is_open());
+    group within(s), further(s);
+    s.vwrite(raw, 0, "7");
+    s.end();
+    MUST(!within.is_open() && !further.is_open() && is(s.vread(raw), "7"));
+    s.undo();
   }
   {
     group outer(s, "Outer");
@@ -809,8 +824,8 @@ int main(int count, char **words) {
   files_on_the_disk();
   files_saved_as();
   edits_by_chance();
-  const std::set<fault> not_made = {fault::memory, fault::no_target, fault::bad_command, fault::worn,
-                                    fault::open_already, fault::cut_off, fault::untold};
+  const std::set<fault> not_made = {fault::memory,       fault::no_target, fault::bad_command,
+                                    fault::open_already, fault::cut_off,   fault::untold};
   for (const fault f : all_faults) {
     must((faults_met.count(static_cast<int>(f)) > 0) != (not_made.count(f) > 0), geosvm::sentence_of(f), __LINE__);
   }

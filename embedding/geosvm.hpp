@@ -515,7 +515,11 @@ public:
     if (step(r, geosvm_begin)) at_->forget_groups();
   }
   void end(report r = {}) {
-    if (step(r, geosvm_end)) at_->forget_groups();
+    raw();
+    if (at_->groups > 0) {
+      at_->groups = 1;
+      r.tell(at_->end({}));
+    } else if (step(r, geosvm_end)) at_->forget_groups();
   }
   void abandon(report r = {}) {
     const std::int32_t code = geosvm_abandon(raw());
@@ -832,7 +836,7 @@ private:
 
    Groups within groups count as one, with the name of the one that ends last. Where one within is taken back the whole
    can't be ended any more: `end` of the last one is fault::no_group then, and all of it is taken back. No group stands
-   within one that was begun by session::begin or as a command. */
+   within one that was begun by session::begin or as a command, and what a command does to groups isn't seen here. */
 class group {
 public:
   explicit group(session &s, bytes_view name = {}, report r = {}) : name_(name.begin(), name.end()) {
