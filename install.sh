@@ -138,7 +138,7 @@ write_tree() {
     place 644 "$work/shared" "lib/libgeosvm.so.$version"
     ln -s "libgeosvm.so.$version" "$tree$prefix/lib/libgeosvm.so.$major"
     ln -s "libgeosvm.so.$major" "$tree$prefix/lib/libgeosvm.so"
-    for name in geosvm.h geosvm.hpp; do place 644 "$here/embedding/$name" include/$name; done
+    for name in geosvm.h geosvm.hpp geosvm_types.hpp; do place 644 "$here/embedding/$name" include/$name; done
     write_pkgconfig "$work/pc"
     place 644 "$work/pc" lib/pkgconfig/geosvm.pc
     place 644 "$here/docs/geosvm.magic" share/geosvm/geosvm.magic
@@ -164,7 +164,7 @@ remove_listed() {
     while IFS= read -r name; do
         case $name in
         *..*) continue ;;
-        bin/geos* | include/geosvm.h | include/geosvm.hpp | lib/libgeosvm.* | lib/pkgconfig/geosvm.pc | share/*geosvm* | share/*geosdoc*) ;;
+        bin/geos* | include/geosvm.h | include/geosvm.hpp | include/geosvm_types.hpp | lib/libgeosvm.* | lib/pkgconfig/geosvm.pc | share/*geosvm* | share/*geosdoc*) ;;
         *) continue ;;
         esac
         if [ $# = 2 ] && grep -qxF "$name" "$2"; then continue; fi

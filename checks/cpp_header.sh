@@ -39,7 +39,7 @@ flags=$(pkg-config --cflags --libs geosvm)
 echo "-- calls"
 gcc -E -P "$prefix/include/geosvm.h" | grep -o '\bgeosvm_[a-z_]*(' | tr -d '(' | grep -v geosvm_io_ | sort -u >calls
 told "there are 60 calls or more" "yes" "$([ "$(wc -l <calls)" -ge 60 ] && echo yes)"
-grep -o '\bgeosvm_[a-z_]*' "$prefix/include/geosvm.hpp" | sort -u >used
+grep -oh '\bgeosvm_[a-z_]*' "$prefix/include/geosvm.hpp" "$prefix/include/geosvm_types.hpp" | sort -u >used
 told "the header has each call" "" "$(comm -23 calls used)"
 # Those that have a name of their own, or are met by it.
 sed 's/^geosvm_//' calls | grep -vx 'delete\|fault_name\|version' >members
