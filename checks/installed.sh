@@ -137,12 +137,12 @@ told "it is removed" "0" "$?"
 told "others' files stay" "./bin/mine mine" "$(files "$prefix") $(cat mine)"
 installing --remove "$prefix"
 told "what isn't there can't be removed" "1" "$?"
-(umask 077 && DESTDIR=$folder/staged installing /opt/geosvm)
+(umask 077 && DESTDIR=$folder/staged installing /a/prefix)
 told "it installs below DESTDIR" "0" "$?"
-told "all of it lies there" "" "$(cd staged/opt/geosvm && files . | diff "$folder/first" -)"
-told "and nothing beside it" "opt geosvm" "$(ls staged) $(ls staged/opt)"
-told "pkg-config is told of the prefix alone" "prefix=/opt/geosvm" "$(head -n 1 staged/opt/geosvm/lib/pkgconfig/geosvm.pc)"
-told "all may read it" "" "$(find staged/opt/geosvm ! -perm -444)"
+told "all of it lies there" "" "$(cd staged/a/prefix && files . | diff "$folder/first" -)"
+told "and nothing beside it" "a prefix" "$(ls staged) $(ls staged/a)"
+told "pkg-config is told of the prefix alone" "prefix=/a/prefix" "$(head -n 1 staged/a/prefix/lib/pkgconfig/geosvm.pc)"
+told "all may read it" "" "$(find staged/a/prefix ! -perm -444)"
 for word in --other "" "$folder/two words"; do
     if installing "$word"; then got=installed; else got=refused; fi
     told "'${word##*/}' is no prefix" "refused" "$got"

@@ -22,7 +22,6 @@ MOST_NAME = 64
 AS_SAVED = 1
 AS_UPDATED = 2
 Mode = Literal["r+", "w+", "x+"]
-_FLAGS = {"w+": 0, "x+": os.O_EXCL}
 
 
 def step_name(name: Name) -> bytes:
@@ -47,10 +46,10 @@ class Document:
     """
 
     def __init__(self, path: Path, mode: Mode = "r+", frames: int = FRAMES) -> None:
-        is_new = mode in _FLAGS
-        if mode != "r+" and not is_new:
+        if mode not in ("r+", "w+", "x+"):
             raise ValueError(f"a mode is r+, w+ or x+, to read and write, not {mode!r}")
-        file = make_locked(path, _FLAGS[mode]) if is_new else open_locked(path, 0)
+        is_new = mode != "r+"
+        file = make_locked(path, mode == "x+") if is_new else open_locked(path, 0)
         try:
             self._session = Session(file, "create" if is_new else "open", frames)
         except BaseException:
@@ -315,7 +314,7 @@ class Document:
         """
         if self.closed:
             raise NotOpen(f"save_as: {NotOpen.__doc__}")
-        file = make_locked(path, 0)
+        file = make_locked(path)
         try:
             self.call("save_as", file)
         except Error:  # after an interrupt the document may be in either file, so both stay open
@@ -345,13 +344,14 @@ class Document:
 def open(path: Path, mode: Mode = "r+", frames: int = FRAMES) -> Document:  # noqa: A001
     """Opens the document of a file.
 
-    With the mode "w+" an empty document is made of the file, whatever was in it; "x+" makes the
-    file, which must be missing. At most `frames` blocks are in memory at a time, 1 to 64. Whoever
-    opens a file that is open gets File, which is a BlockingIOError then.
+    With the mode "w+" an empty document is made of the file, whatever was in it; with "x+" the
+    file must be missing or empty, else it is a FileExistsError. At most `frames` blocks are in
+    memory at a time, 1 to 64. Whoever opens a file that is open gets File, which is a
+    BlockingIOError then.
     """
     return Document(path, mode, frames)
 
 
 def create(path: Path, frames: int = FRAMES) -> Document:
-    """Makes an empty document of a file, whatever was in it; a file in use is refused uncut."""
-    return Document(path, "w+", frames)
+    """Makes a document of a file that is missing or empty; one with bytes is FileExistsError."""
+    return Document(path, "x+", frames)

@@ -56,10 +56,15 @@ def sync_folder(path: Path) -> None:
         raise from_system(error) from None
 
 
-def make_locked(path: Path, flags: int) -> int:
-    """The same of a file that is made where it is missing, with its name on the disk."""
-    number = open_locked(path, os.O_CREAT | flags)
+def make_locked(path: Path, must_be_empty: bool = False) -> int:
+    """The same of a file that is made where it is missing, with its name on the disk.
+
+    One that must be empty is refused where it has bytes, so that nobody's document is lost.
+    """
+    number = open_locked(path, os.O_CREAT)
     try:
+        if must_be_empty and os.fstat(number).st_size > 0:
+            raise file_error(errno.EEXIST, "the file has something in it", os.fsdecode(path))
         sync_folder(path)
     except BaseException:
         os.close(number)

@@ -14,7 +14,7 @@ from folders import DocumentCase, FolderCase, image
 
 class Opened(FolderCase):
     def make(self, name="one.document", data=b"abc"):
-        with geosvm.create(self.path(name)) as doc:
+        with geosvm.open(self.path(name), "w+") as doc:
             doc.new_heap(user_id=7).new_chunk(data)
             doc.save()
         return self.path(name)
@@ -54,10 +54,22 @@ class Opened(FolderCase):
                 self.assertEqual(len(doc), 1)
 
     def test_create_makes_an_empty_one(self):
-        with geosvm.create(self.make(), frames=8) as doc:
-            self.assertEqual(len(doc), 0)
+        with open(self.path("empty.document"), "wb"):
+            pass
+        for name in ("missing.document", "empty.document"):
+            with geosvm.create(self.path(name), frames=8) as doc:
+                self.assertEqual(len(doc), 0)
         with geosvm.open(self.make(), "w+") as doc:
             self.assertEqual(len(doc), 0)
+
+    def test_create_empties_no_file(self):
+        path = self.make()
+        before = self.content(path)
+        with self.assertRaises(FileExistsError) as caught:
+            geosvm.create(path)
+        self.assertIsInstance(caught.exception, geosvm.File)
+        self.assertEqual(self.content(path), before)
+        geosvm.open(path).close()
 
     def test_a_mode_that_makes_a_file_that_is_missing(self):
         geosvm.open(self.path("new.document"), mode="x+").close()

@@ -118,7 +118,7 @@ class Refusals(DocumentCase):
         self.refused(geosvm.Locked, self.doc.undo)
         self.refused(geosvm.Locked, self.doc.save)
         self.doc.close()
-        with geosvm.create(self.path(), frames=1) as doc:
+        with geosvm.open(self.path(), "w+", frames=1) as doc:
             first, second = doc.new_heap(), doc.new_heap()
             with first.locked():
                 self.refused(geosvm.CacheFull, second.lock)
@@ -147,7 +147,7 @@ class Refusals(DocumentCase):
 
 class Files(FolderCase):
     def make(self):
-        with geosvm.create(self.path()) as doc:
+        with geosvm.open(self.path(), "w+") as doc:
             doc.new_heap().new_chunk(bytes(1000))
             doc.save()
 
