@@ -1,7 +1,8 @@
 #!/bin/sh
 # Needs: sh
 # Compares the commands that SCRIPT.md lists, and their operands there, with the rows of the program's table, which its parser and its
-# help read. It prints what stands in one of the two alone: "<" in SCRIPT.md, ">" in the table; and how many commands it compared.
+# help read, and with those that help at a prompt tells of. It prints what stands in one alone: "<" in SCRIPT.md, ">" in the table or in
+# that help; and how many commands it compared.
 #
 #     sh checks/commands_listed.sh
 set -eu
@@ -15,7 +16,12 @@ sed -n '/^| Command |/,/^$/s/^| \(`[^`]*`\(, `[^`]*`\)*\) |.*/\1/p' docs/SCRIPT.
 sed -n 's/^ *"\([a-z]*\)" => .*/\1/p; s/^ *"\([a-z]*\)" "\([^"]*\)" => .*/\1 \2/p' crates/geos_script/src/commands.rt \
     | sort > "$folder/rows"
 
-if differs=$(diff "$folder/listed" "$folder/rows"); then
+# A topic of help begins behind a blank line. help and quit are no commands of a script.
+awk '/^const TOPICS/ { begins = 1; next }
+    begins && sub(/^    "/, "") { sub(/\\n",$/, ""); if ($0 != "help" && $0 != "quit") print }
+    { begins = /\\n\\n",$/ }' crates/typed_lines/src/topics.rt | sort > "$folder/topics"
+
+if differs=$(diff "$folder/listed" "$folder/rows" && diff "$folder/listed" "$folder/topics"); then
     echo "$(wc -l < "$folder/rows" | tr -d ' ') passed, 0 failed"
 else
     printf '%s\n' "$differs"

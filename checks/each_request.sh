@@ -140,15 +140,15 @@ judge() {
             [ "$answered" = 0 ] && [ -z "$before" ] && [ -z "$made" ] && return
         fi
         ;;
-    # The file of a save-as is opened before a new document is made.
-    "1 geosvm: target 2 File")
+    # The file of a save-as is opened before a new document is made. Why a file isn't opened is told where there is memory for that.
+    "1 geosvm: target 2 File"*)
         [ ! -s replies ] && [ -z "$made" ] && return
         ;;
     # A call on the system that has no memory for its path, say, has failed, and is told as one that failed otherwise.
-    "1 geosvm: create 1 Memory" | "1 geosvm: create 2 File")
+    "1 geosvm: create 1 Memory" | "1 geosvm: create 2 File"*)
         [ ! -s replies ] && [ -z "$made" ] && return
         ;;
-    "1 geosvm: open 1 Memory" | "1 geosvm: open 2 File")
+    "1 geosvm: open 1 Memory" | "1 geosvm: open 2 File"*)
         foresee_behind 0
         [ ! -s replies ] && cmp -s left behind/0 && return
         ;;

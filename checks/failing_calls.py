@@ -39,6 +39,22 @@ HOWS = {
     "stat": [errno.EIO],
     "rename": [errno.EIO],
 }
+# What is told of a file that isn't opened, by the error of the call that fails.
+CAUSES = [
+    ("open file", errno.ENOENT, "no such file"),
+    ("open file", errno.ENOTDIR, "no such folder"),
+    ("open file", errno.EISDIR, "it is a folder"),
+    ("open file", errno.EACCES, "permission denied"),
+    ("open file", errno.EPERM, "permission denied"),
+    ("open file", errno.EROFS, "on a read-only file system"),
+    ("open file", errno.ENAMETOOLONG, "the name is too long"),
+    ("open file", errno.ELOOP, "too many links"),
+    ("open file", errno.ENOSPC, "no room on the disk"),
+    ("open file", errno.EDQUOT, "no room on the disk"),
+    ("open file", errno.EIO, "it can't be opened"),
+    ("flock file", errno.EWOULDBLOCK, "in use by another program"),
+    ("flock file", errno.EIO, "it can't be opened"),
+]
 # A failure of these is no failure of the program: a file is closed all the same, and a lock goes with it.
 HARMLESS = {"close", "unlink", "lseek", "fchmod", "fchown"}
 # Syncs are only counted, so that no disk needs to be waited for.
@@ -260,8 +276,11 @@ class Scenario:
                 file.write(content)
         return self.files
 
-    def fails_as(self, call, how, number=1):
+    def fails_as(self, call, how, number=1, notes_files=False):
         """What is to be told: "well", "refused" where something has to be, "any" where it needn't, or just that."""
+        if notes_files and call.name == "stat" and number in (3, 8):
+            # By this one geosvm knows FILE, or FILE2, under another name. A file that it won't know is opened all the same.
+            return "any"
         if not self.opens:
             return "refused"
         if call.name in HARMLESS:
@@ -409,7 +428,7 @@ def try_scenario(checks, library, geosvm, program, scenario, room, has_streams=T
                 machine = Machine(folder)
                 ran = run(library, folder, words, scenario.script, f"{name} {kind}", number, how, lasts)
                 call = [call for call in ran.calls if (call.name, call.kind) == (name, kind)][number - 1]
-                wanted = scenario.fails_as(call, how, number)
+                wanted = scenario.fails_as(call, how, number, notes_files=has_streams)
                 found = judge(scenario, folder, files, ran, wanted, before, target_before)
                 found = found or judge_stops(scenario, folder, files, ran, machine, before)
                 if found:
@@ -503,6 +522,17 @@ def try_restore(checks, library, geosvm, geosdoc, room):
             checks.told(f"geosdoc restore, {most} times {call} {kind} {said}{' from one on' if lasts else ''}", "; ".join(wrong[:2]))
 
 
+def try_causes(checks, library, geosvm, room):
+    """Whatever the system says of a file that it doesn't open is told behind its name."""
+    folder = os.path.join(room, "files")
+    SCENARIOS[0].prepare([geosvm], folder)
+    for call, how, cause in CAUSES:
+        ran = run(library, folder, [geosvm, "document"], "", call, 1, how)
+        wanted = 1, "", f"geosvm: open 2 File\ngeosvm: document: {cause}\n"
+        got = ran.status, ran.output, ran.errors
+        checks.told(f"geosvm document, {call} {errno.errorcode[how]}", got != wanted and f"wanted {wanted}, got {got}")
+
+
 def compiled(room, name, *words):
     """What gcc makes of a file beside this one."""
     made = os.path.join(room, name)
@@ -527,6 +557,7 @@ def main():
             for words in LOOKS:
                 try_look(checks, library, [geosdoc], words, SCENARIOS[0], [geosvm], room)
             try_restore(checks, library, [geosvm], [geosdoc], room)
+            try_causes(checks, library, geosvm, room)
     print(f"{checks.passed} passed, {checks.failed} failed")
     sys.exit(checks.failed != 0)
 

@@ -190,7 +190,8 @@ mkfifo lines
 exec 3>lines
 printf 'newheap 1\nsave\n' >&3
 while [ "$(wc -l <replies)" -lt 2 ]; do sleep 0.1; done
-told "two at once: the second is refused" "geosvm: create 2 File" "$(printf '' | "$program" --new a.document 2>&1)"
+told "two at once: the second is refused" "geosvm: create 2 File
+geosvm: a.document: in use by another program" "$(printf '' | "$program" --new a.document 2>&1)"
 exec 3>&-
 wait
 told "two at once: the first one's document stands" "blocks 0001" "$(listed a.document)"

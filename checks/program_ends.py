@@ -5,6 +5,7 @@
 """
 import fcntl
 import os
+import shutil
 import subprocess
 import sys
 import tempfile
@@ -75,13 +76,9 @@ def try_geosvm(ends, geosvm):
     ends.ends("geosvm with no frames", [geosvm, "--cache", "0", "document"], 2, "", "error...")
     ends.ends("geosvm with a word that is no text", [geosvm, b"\xff"], 2, "", "error: invalid UTF-8...")
     ends.ends("geosvm with FILE as FILE2", [geosvm, "--as", "document", "document"], 2, "", "geosvm: FILE2 is FILE\n")
-    ends.ends("geosvm, no file", [geosvm, "missing"], 1, "", "geosvm: open 2 File\n")
-    ends.ends("geosvm, a folder", [geosvm, "."], 1, "", "geosvm: open 2 File\n")
-    ends.ends("geosvm --new, no folder", [geosvm, "--new", "none/document"], 1, "", "geosvm: create 2 File\n")
     ends.ends("geosvm, an empty file", [geosvm, "empty"], 1, "", "geosvm: open 4 NotDocument\n")
     ends.ends("geosvm, no document", [geosvm, "other"], 1, "", "geosvm: open 4 NotDocument\n")
     ends.ends("geosvm, a damaged document", [geosvm, "damaged"], 1, "", "geosvm: open 3 Damaged\n")
-    ends.ends("geosvm, no such target", [geosvm, "--as", "none/target", "document"], 1, "", "geosvm: target 2 File\n")
     ends.ends("geosvm, refusals", [geosvm, "document"], 0, "no 5 NoBlock\nbytes 616263\nno 25 BadCommand\n", "",
               "vfree 0009\nvread 0001\nnothing\n")
     ends.ends("geosvm --bail", [geosvm, "--bail", "document"], 1, "bytes 616263\nno 5 NoBlock\n", "geosvm: refused\n",
@@ -90,6 +87,63 @@ def try_geosvm(ends, geosvm):
     folder = os.open(ends.folder, os.O_RDONLY)
     ends.ends("geosvm, a script that can't be read", [geosvm, "document"], 1, "", "geosvm: read fault\n", stdin=folder)
     os.close(folder)
+
+
+def unopened(step, name, cause):
+    """What geosvm tells of a file that isn't opened."""
+    return f"geosvm: {step} 2 File\ngeosvm: {name}: {cause}\n"
+
+
+def try_causes(ends, geosvm):
+    """Why FILE or FILE2 isn't opened is told behind its name."""
+    long_name = "n" * 300
+    for name, words, step, cause in (
+        ("missing", ["missing"], "open", "no such file"),
+        ("none/document", ["none/document"], "open", "no such file"),
+        ("document/x", ["document/x"], "open", "no such folder"),
+        (".", ["."], "open", "it is a folder"),
+        (long_name, [long_name], "open", "the name is too long"),
+        ("none/document", ["--new", "none/document"], "create", "no such folder"),
+        ("document/x", ["--new", "document/x"], "create", "no such folder"),
+        (".", ["--new", "."], "create", "it is a folder"),
+        (long_name, ["--new", long_name], "create", "the name is too long"),
+        ("none/target", ["--as", "none/target", "document"], "target", "no such folder"),
+        (".", ["--as", ".", "document"], "target", "it is a folder"),
+        ("./document", ["--as", "./document", "document"], "target", "open already under another name"),
+        ("hard", ["--as", "hard", "document"], "target", "open already under another name"),
+        ("soft", ["--as", "soft", "document"], "target", "open already under another name"),
+        ("./document", ["--new", "--as", "./document", "document"], "target", "open already under another name"),
+    ):
+        ends.ends(f"geosvm {' '.join(words)[:40]}: {cause}", [geosvm, *words], 1, "", unopened(step, name, cause))
+    with tempfile.TemporaryDirectory() as folder:
+        circle = os.path.join(folder, "circle")
+        os.symlink("circle", circle)
+        ends.ends("geosvm, a link to itself", [geosvm, circle], 1, "", unopened("open", circle, "too many links"))
+    # A device is opened, and is no document.
+    ends.ends("geosvm /dev/null", [geosvm, "/dev/null"], 1, "", "geosvm: open 4 NotDocument\n")
+
+
+def try_permissions(ends, geosvm):
+    """A user who may not read and write a file, or make one there, is told so. Whoever may do all becomes nobody for that."""
+    nobody = {"user": 65534, "group": 65534, "extra_groups": []} if os.geteuid() == 0 else {}
+    with tempfile.TemporaryDirectory() as folder:
+        program = os.path.join(folder, "geosvm")
+        shutil.copy(geosvm, program)
+        theirs = os.path.join(folder, "theirs")
+        os.mkdir(theirs)
+        document = os.path.join(theirs, "document")
+        shutil.copy(ends.path("document"), document)
+        for path, mode in ((folder, 0o755), (program, 0o755), (theirs, 0o555)):
+            os.chmod(path, mode)
+        made = os.path.join(theirs, "made")
+        for mode in (0o000, 0o444, 0o222):
+            os.chmod(document, mode)
+            ends.ends(f"geosvm, a file of the mode {mode:03o}", [program, document], 1, "", unopened("open", document, "permission denied"), **nobody)
+        ends.ends("geosvm --new, a folder that isn't written", [program, "--new", made], 1, "", unopened("create", made, "permission denied"), **nobody)
+        os.chmod(theirs, 0o311)
+        ends.ends("geosvm --new, a folder that isn't read", [program, "--new", made], 1, "", unopened("create", made, "permission denied"), **nobody)
+        ends.told("nothing was made there", False, os.path.exists(made))
+        os.chmod(theirs, 0o755)
 
 
 def try_geosdoc(ends, geosdoc):
@@ -130,14 +184,16 @@ def try_locks(ends, geosvm, geosdoc):
         fcntl.flock(file, fcntl.LOCK_SH)
         for command in ("check", "dump", "stat", "map"):
             ends.ends(f"geosdoc {command} beside another look", [geosdoc, command, "document"], 0, "...", "")
-        ends.ends("geosvm beside a look", [geosvm, "document"], 1, "", "geosvm: open 2 File\n")
-        ends.ends("geosvm --new beside a look", [geosvm, "--new", "document"], 1, "", "geosvm: create 2 File\n")
+        in_use = "in use by another program"
+        ends.ends("geosvm beside a look", [geosvm, "document"], 1, "", unopened("open", "document", in_use))
+        ends.ends("geosvm --new beside a look", [geosvm, "--new", "document"], 1, "", unopened("create", "document", in_use))
+        ends.ends("geosvm with a target beside a look", [geosvm, "--as", "document", "second"], 1, "", unopened("target", "document", in_use))
     with open(ends.path("document"), "rb") as file:
         fcntl.flock(file, fcntl.LOCK_EX)
         for command in ("check", "dump", "stat", "map"):
             ends.ends(f"geosdoc {command} beside a program that writes", [geosdoc, command, "document"], 1, "",
                       "geosdoc: document: in use by another program\n")
-        ends.ends("geosvm beside a program that writes", [geosvm, "document"], 1, "", "geosvm: open 2 File\n")
+        ends.ends("geosvm beside a program that writes", [geosvm, "document"], 1, "", unopened("open", "document", in_use))
 
 
 def main():
@@ -150,6 +206,12 @@ def main():
         for name, content in (("other", NO_DOCUMENT), ("empty", b""), ("damaged", damaged(document))):
             with open(ends.path(name), "wb") as file:
                 file.write(content)
+        os.link(ends.path("document"), ends.path("hard"))
+        os.symlink("document", ends.path("soft"))
+        shutil.copy(ends.path("document"), ends.path("second"))
+        try_causes(ends, geosvm)
+        try_permissions(ends, geosvm)
+        os.remove(ends.path("hard"))
         try_geosvm(ends, geosvm)
         try_geosdoc(ends, geosdoc)
         try_locks(ends, geosvm, geosdoc)

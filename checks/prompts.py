@@ -1,6 +1,7 @@
 # Needs: python3
-"""Types to geosvm where its standard streams are terminals and where they are pipes, and looks at the prompts, the replies and the
-exit status: a prompt comes just where standard input and standard error are both terminals, and the replies are the same everywhere.
+"""Types to geosvm where its standard streams are terminals and where they are pipes, and looks at the prompts, the replies, what is told
+and the exit status. A prompt comes just where standard input and standard error are both terminals, and there alone a line may ask for
+help, have texts in quotes, or end the script; everywhere else the same bytes are a script, as they stand.
 
     python3 checks/prompts.py crates/geosvm/out/geosvm
 """
@@ -11,12 +12,14 @@ import subprocess
 import sys
 import tempfile
 import termios
+import threading
 import tty
 
-TYPED = b"newraw 7 2\nno command\nlist\n"
-REPLIES = b"block 0001\nno 25 BadCommand\nblocks 0001\n"
+PROMPT = b"geosvm> "
+TYPED = b"newraw 7 2\nlist\n"
+REPLIES = b"block 0001\nblocks 0001\n"
 # One before each line, and one that is answered by the end of the script.
-PROMPTS = b"geosvm> " * 4 + b"\n"
+PROMPTS = PROMPT * 3 + b"\n"
 
 
 def read_all(descriptor):
@@ -42,8 +45,8 @@ def ends(is_terminal):
     return ours, theirs
 
 
-def run(program, input_is_terminal, errors_are_terminal):
-    """The status, the replies and what is told, of a script that is typed line by line or comes from a pipe."""
+def run(program, typed, input_is_terminal=True, errors_are_terminal=True, words=("--new", "document"), ends_by_key=True):
+    """The status, the replies and what is told, of lines that are typed or come from a pipe."""
     errors, errors_of_program = ends(errors_are_terminal)
     if input_is_terminal:
         typing, script = pty.openpty()
@@ -53,36 +56,159 @@ def run(program, input_is_terminal, errors_are_terminal):
     else:
         script, typing = os.pipe()
     with tempfile.TemporaryDirectory() as folder:
-        started = subprocess.Popen(
-            [program, "--new", os.path.join(folder, "document")], stdin=script, stdout=subprocess.PIPE, stderr=errors_of_program
-        )
+        started = subprocess.Popen([program, *words], stdin=script, stdout=subprocess.PIPE, stderr=errors_of_program, cwd=folder)
         os.close(script)
         os.close(errors_of_program)
-        os.write(typing, TYPED)
+        told = []
+        # A terminal holds a few thousand bytes, and help is longer.
+        listening = threading.Thread(target=lambda: told.append(read_all(errors)))
+        listening.start()
+        # One that doesn't end is ended, so that it is seen.
+        ending = threading.Timer(30, started.kill)
+        ending.start()
+        os.write(typing, typed)
         if input_is_terminal:
-            os.write(typing, b"\x04")
+            if ends_by_key:
+                os.write(typing, b"\x04")
             replies = started.stdout.read()
             os.close(typing)
         else:
             os.close(typing)
             replies = started.stdout.read()
-        told = read_all(errors)
+        listening.join()
+        ending.cancel()
         os.close(errors)
-        return started.wait(), replies, told
+        return started.wait(timeout=60), replies, told[0]
 
 
-def main():
-    program = os.path.realpath(sys.argv[1])
-    failed = 0
+class Looks:
+    def __init__(self, program):
+        self.program, self.passed, self.failed = program, 0, 0
+
+    def told(self, name, wanted, given):
+        good = wanted == given
+        print("ok     " if good else f"FAILED  wanted {wanted}, got {given}", name)
+        self.passed += good
+        self.failed += not good
+
+    def types(self, name, typed, replies, told, **how):
+        """What is typed is answered so on standard output, and this is told between the prompts."""
+        status, given, errors = run(self.program, typed, **how)
+        self.told(name, (0, replies, told), (status, given, b"".join(errors.split(PROMPT))))
+
+
+def look_at_streams(looks):
     for input_is_terminal in (False, True):
         for errors_are_terminal in (False, True):
             wanted = 0, REPLIES, PROMPTS if input_is_terminal and errors_are_terminal else b""
-            given = run(program, input_is_terminal, errors_are_terminal)
             name = f"input {'typed' if input_is_terminal else 'piped'}, errors {'shown' if errors_are_terminal else 'piped'}"
-            print("ok     " if given == wanted else f"FAILED  wanted {wanted}, got {given}", name)
-            failed += given != wanted
-    print(f"{4 - failed} passed, {failed} failed")
-    sys.exit(failed != 0)
+            looks.told(name, wanted, run(looks.program, TYPED, input_is_terminal, errors_are_terminal))
+            if not (input_is_terminal and errors_are_terminal):
+                # Nothing but a script is read where nobody is prompted.
+                script = b'help\nhelp list\nnewraw 7 2\nvwrite 0001 0 "hi"\nquit\nlist\n'
+                bad = b"no 25 BadCommand\n"
+                wanted = 0, bad + bad + b"block 0001\n" + bad + bad + b"blocks 0001\n", b""
+                looks.told(f"{name}, lines for a person", wanted, run(looks.program, script, input_is_terminal, errors_are_terminal))
+
+
+def look_at_texts(looks):
+    made = b"newheap 7\nalloc 0001 5\n"
+    replies = b"block 0001\nchunk 0010\n"
+    for name, text, bytes_of in (
+        ("a text", b'"hello"', b"hello"),
+        ("a text with blanks", b'"a  \tb"', b"a  \tb"),
+        ("a text behind digits", b'00"ello"', b"\0ello"),
+        ("texts and digits", b'"a"22"bc"0a', b'a"bc\n'),
+        ("a text in UTF-8", '"h\u00e9\u00e9"'.encode(), "h\u00e9\u00e9".encode()),
+        ("a text that would be a note", b'"#####"', b"#####"),
+    ):
+        typed = made + b"write 0001 0010 0 " + text + b"\nread 0001 0010\n"
+        looks.types(name, typed, replies + b"ok\nbytes " + bytes_of.hex().encode() + b"\n", b"\n")
+    looks.types("a name and a part", b'newheap 7\nncreate 0001 2\nnadd 0001 0010 "Ada" "20" set\nntext 0001 0010 0000\n',
+                b"block 0001\nchunk 0010\ntoken 0000\nbytes 416461\n", b"\n")
+    looks.types("a note with a quote", b'# "a note\n# "two" of them\nlist\n', b"blocks\n", b"\n")
+    looks.types("the line that is echoed", b'newraw 7 2\nvwrite 0001 0 "hi"\n# "hi"\n',
+                b'newraw 7 2\nblock 0001\nvwrite 0001 0 6869\nok\n# "hi"\n', b"\n", words=("--new", "--echo", "document"))
+
+
+def look_at_reasons(looks):
+    bad = b"no 25 BadCommand\n"
+    number, handle = b"a number, 1 to 7 decimal digits\n", b", four hexadecimal digits\n"
+    octets = b"bytes, two hexadecimal digits for each, a text in quotes, or - for none\n"
+    for typed, reason in (
+        (b"nothing", b"no command is called nothing, help lists them\n"),
+        (b"LIST", b"no command is called LIST, help lists them\n"),
+        (b"n" * 60, b"no command is called " + b"n" * 40 + b", help lists them\n"),
+        (b"alloc", b"alloc b n: b is missing, a block" + handle),
+        (b"alloc 0001", b"alloc b n: n is missing, " + number),
+        (b"alloc 1 3", b"alloc b n: 1 is no b, a block" + handle),
+        (b"free 0001 zzzz", b"free b c: zzzz is no c, a chunk" + handle),
+        (b"eref 0001 0010 1", b"eref b c t: 1 is no t, a token" + handle),
+        (b"alloc 0001 12345678", b"alloc b n: 12345678 is no n, " + number),
+        (b"newheap 65536", b"newheap uid: 65536 is no uid, a user ID, a number up to 65535\n"),
+        (b"settype 0001 x", b"settype b type: x is no type, the type of a heap, a number up to 65535\n"),
+        (b"attach 0001 abc", b"attach b hex: abc is no hex, " + octets),
+        (b'attach 0001 a"b"', b"attach b hex: a62 is no hex, " + octets),
+        (b"attach 0001", b"attach b hex: hex is missing, " + octets),
+        (b'attach 0001 ""', b"attach b hex: hex is missing, " + octets),
+        (b"nadd 0001 0010 61 - Keep", b"nadd b c name part keep|set: Keep is no keep|set, keep or set\n"),
+        (b"list 0001", b"list: 0001 is one word too many\n"),
+        (b"undo # a note", b"undo: # is one word too many\n"),
+        (b"quit now", b"quit: now is one word too many\n"),
+        (b'attach 0001 "abc', b"a text has no quote at its end\n"),
+    ):
+        looks.types(f"why {typed[:30].decode()} is no command", typed + b"\n", bad, reason + b"\n")
+    # Each command without its operands is told by its own row.
+    for row in rows_of_help(looks.program):
+        name, *operands = row.split()
+        if operands:
+            given = run(looks.program, name.encode() + b"\n")[2]
+            good = given.startswith(PROMPT + row.encode() + b": " + operands[0].encode() + b" is missing, ")
+            looks.told(f"why {name} alone is no command", (row, True), (row, good))
+
+
+def rows_of_help(program):
+    """The commands with their operands, as `--help` lists them."""
+    text = subprocess.run([program, "--help"], stdout=subprocess.PIPE, check=True).stdout.decode()
+    return [line.strip() for line in text.split("Commands, which docs/SCRIPT.md explains:\n")[1].splitlines() if line.startswith("  ")]
+
+
+def look_at_help(looks):
+    status, replies, told = run(looks.program, b"help\n")
+    lines = told.decode().splitlines()
+    rows = rows_of_help(looks.program)
+    looks.told("help lists each command", (0, b"", []), (status, replies, [row for row in rows if "  " + row not in lines]))
+    looks.told("there are commands", True, len(rows) > 70)
+    for row in rows:
+        name, *operands = row.split()
+        status, replies, told = run(looks.program, f"help {name}\n".encode())
+        lines = told.decode().replace(PROMPT.decode(), "", 1).splitlines()
+        wrong = [] if lines[0] == row else [f"begins with {lines[0]}"]
+        for begins in ("    reply: ", "    refusals: ", *(f"    {operand}: " for operand in operands)):
+            wrong += [] if any(line.startswith(begins) and len(line) > len(begins) for line in lines) else [f"nothing of {begins}"]
+        looks.told(f"help {name}", (0, b"", []), (status, replies, wrong))
+    for name, does in (("help", "lists the commands; with the name of one behind it, tells what that does"),
+                       ("quit", "ends the script, as Ctrl-D does; what wasn't committed is given up")):
+        looks.types(f"help {name}", f"help {name}\n".encode(), b"", f"{name}\n    {does}\n\n".encode())
+    looks.types("help of what is no command", b"help nothing\n", b"", b"no command is called nothing, help lists them\n\n")
+
+
+def look_at_ends(looks):
+    looks.told("quit", (0, b"block 0001\n", PROMPT * 2), run(looks.program, b"newraw 7 2\nquit\n", ends_by_key=False))
+    looks.told("quit with blanks", (0, b"", PROMPT), run(looks.program, b"  quit \t\n", ends_by_key=False))
+    # Ctrl-D ends a line first, where one has begun.
+    looks.told("a line without a line feed", (0, b"blocks\n", PROMPT * 2 + b"\n"), run(looks.program, b"list\x04"))
+
+
+def main():
+    looks = Looks(os.path.realpath(sys.argv[1]))
+    look_at_streams(looks)
+    look_at_texts(looks)
+    look_at_reasons(looks)
+    look_at_help(looks)
+    look_at_ends(looks)
+    print(f"{looks.passed} passed, {looks.failed} failed")
+    sys.exit(looks.failed != 0)
 
 
 main()

@@ -131,13 +131,16 @@ exec 3>pipe
 printf 'list\n' >&3
 while [ ! -s first ]; do sleep 0.05; done
 "$geosvm" document <script >replies 2>errors
-told "opened twice" "1 geosvm: open 2 File" "$? $(cat replies errors)"
+told "opened twice" "1 geosvm: open 2 File
+geosvm: document: in use by another program" "$? $(cat replies errors)"
 same "opened twice"
 "$geosvm" --new document <script >replies 2>errors
-told "made anew while it is open" "1 geosvm: create 2 File" "$? $(cat replies errors)"
+told "made anew while it is open" "1 geosvm: create 2 File
+geosvm: document: in use by another program" "$? $(cat replies errors)"
 same "made anew while it is open"
 "$geosvm" --new --as document other <script >replies 2>errors
-told "a target that is open" "1 geosvm: target 2 File" "$? $(cat replies errors)"
+told "a target that is open" "1 geosvm: target 2 File
+geosvm: document: in use by another program" "$? $(cat replies errors)"
 same "a target that is open"
 printf 'vread 0001\n' >&3
 exec 3>&-
@@ -157,10 +160,12 @@ ln -s document soft
 for name in hard soft ./document "$folder/document"; do
     printf 'saveas\nsave\n' >commits
     "$geosvm" --as "$name" document <commits >replies 2>errors
-    told "FILE2 is ${name##*/}, of ${name%/*}" "1 geosvm: target 2 File" "$? $(cat replies errors)"
+    told "FILE2 is ${name##*/}, of ${name%/*}" "1 geosvm: target 2 File
+geosvm: $name: open already under another name" "$? $(cat replies errors)"
     same "FILE2 is $name"
     "$geosvm" --new --as "$name" document <commits >replies 2>errors
-    told "the same with --new" "1 geosvm: target 2 File" "$? $(cat replies errors)"
+    told "the same with --new" "1 geosvm: target 2 File
+geosvm: $name: open already under another name" "$? $(cat replies errors)"
     same "the same with --new"
 done
 "$geosvm" --as document document <commits >replies 2>errors

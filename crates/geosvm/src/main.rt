@@ -3,12 +3,12 @@
 
 mod prompt;
 
-use crate::prompt::Prompting;
+use crate::prompt::{Prompting, Typing};
 use geos_shell::run_program;
 use std::env;
-use std::io::{self, IsTerminal};
+use std::io::{self, IsTerminal, Write};
 use std::process::ExitCode;
-use vm_store::machine_files;
+use vm_store::{NamedFiles, Unopened, machine_files};
 
 /// The words of the command line.
 fn words(rt: &HostRuntime) -> io::Result<Vec<String>> {
@@ -19,13 +19,21 @@ fn words(rt: &HostRuntime) -> io::Result<Vec<String>> {
     Ok(words)
 }
 
+/// Tells which file wasn't opened, and why, behind the line that says what that came to.
+fn tell_unopened(rt: &HostRuntime, unopened: &Unopened) {
+    // Where there is no memory for it, or it can't be told, the line before says as much as there is to say.
+    if let Ok(line) = format!(in rt.alloc(); "geosvm: {unopened}\n") {
+        let _ = rt.stderr().write_all(line.as_bytes());
+    }
+}
+
 fn main(rt: HostRuntime) -> ExitCode {
     // They keep the standard streams guarded until all is told.
-    let mut files = machine_files(&rt);
+    let mut files = NamedFiles::new(rt.alloc(), machine_files(&rt));
     let is_typed = rt.stdin().is_terminal() && rt.stderr().is_terminal();
     let mut reader = Prompting {
         reader: rt.reader(),
-        prompts: is_typed.then_some(rt.stderr()),
+        typing: is_typed.then_some(Typing::new(rt.alloc(), rt.stderr())),
     };
     let status = run_program(
         rt.alloc(),
@@ -35,5 +43,8 @@ fn main(rt: HostRuntime) -> ExitCode {
         &mut io::writer(&rt),
         &mut rt.stderr(),
     );
+    if let Some(unopened) = files.unopened() {
+        tell_unopened(&rt, unopened);
+    }
     ExitCode::from(status)
 }

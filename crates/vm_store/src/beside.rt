@@ -28,11 +28,31 @@ pub(crate) struct Beside {
     names: Names,
 }
 
+/// By which a file is told from others, whatever its names are.
+#[derive(Clone, Copy, PartialEq, Eq)]
+pub(crate) struct Identity {
+    device: u64,
+    number: u64,
+}
+
+impl Identity {
+    fn of_metadata(metadata: &Metadata) -> Identity {
+        Identity {
+            device: metadata.dev(),
+            number: metadata.ino(),
+        }
+    }
+
+    /// That of a file that is open.
+    pub(crate) fn of(file: &File) -> io::Result<Identity> {
+        Ok(Identity::of_metadata(&file.metadata()?))
+    }
+}
+
 /// Whether the file that is open lies at a path.
 pub(crate) fn lies_at(rt: &HostRuntime, file: &File, path: &PathBuf) -> io::Result<bool> {
-    let open = file.metadata()?;
     let there = path.metadata(rt)?;
-    Ok(open.dev() == there.dev() && open.ino() == there.ino())
+    Ok(Identity::of(file)? == Identity::of_metadata(&there))
 }
 
 /// Whether an error says that no file can be made beside an old one; others say that a call failed.

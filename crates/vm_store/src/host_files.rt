@@ -3,7 +3,9 @@ ghost use Rattle.std.specs.Prelude.{◌≡◌, MatchResult, Ok, Err};
 ghost use Rattle.vm_store.specs.declared.system.SystemFault.{SystemFault as Cause};
 ghost use Rattle.vm_store.specs.System.{IsNotOpenedOrLocked, IsOpenedAndLocked};
 
-use crate::{Files, HostFile, HostStore, HostSystem, StoreFault, System, SystemFile};
+use crate::{
+    Cause, Files, HostFile, HostStore, HostSystem, StoreFault, System, SystemFile, TellsCause,
+};
 use std::marker::PhantomData;
 use std::rt::HostRuntime;
 
@@ -63,5 +65,13 @@ impl<F: SystemFile, Y: System<F> + Drop> Files for HostFiles<F, Y> {
 
     fn close(&mut self, store: HostStore<F>) {
         self.system.close(store.into_file());
+    }
+}
+
+impl<F: SystemFile, Y: System<F> + TellsCause + Drop> TellsCause for HostFiles<F, Y> {
+    ghost cause = { λ files. Y.cause files.system };
+
+    fn cause(&self) -> Cause {
+        self.system.cause()
     }
 }

@@ -4,9 +4,9 @@
 ghost use Rattle.std.specs.Prelude.{◌≡◌, ◌≤◌, length, IfOk};
 ghost use Rattle.vm_store.specs.HostSystem.{host_system_facts, host_system_timely};
 
-use crate::beside::{Beside, has_no_place, lies_at, make_beside};
+use crate::beside::{Beside, Identity, has_no_place, lies_at, make_beside};
 use crate::paths::{folder_of, followed};
-use crate::{System, SystemFault, SystemFile};
+use crate::{Cause, System, SystemFault, SystemFile, TellsCause};
 use std::fs::{File, OpenOptions, TryLockError};
 use std::io;
 use std::mem::replace;
@@ -21,6 +21,9 @@ const NULL: &str = "/dev/null";
 pub struct HostSystem {
     rt: HostRuntime,
     guards: Option<Guards>,
+    cause: Cause,
+    // The file that was locked last, until one is closed.
+    held: Option<Identity>,
 }
 
 /// What takes the places of standard streams that are closed.
@@ -61,7 +64,34 @@ enum Place {
 impl HostSystem {
     /// The system that the runtime stands on.
     pub fn new(rt: HostRuntime) -> HostSystem {
-        HostSystem { rt, guards: None }
+        HostSystem {
+            rt,
+            guards: None,
+            cause: Cause::Failed,
+            held: None,
+        }
+    }
+
+    // Keeps why an opening failed.
+    fn refused(&mut self, cause: Cause) -> SystemFault {
+        self.cause = cause;
+        SystemFault::Failed
+    }
+
+    // Keeps what the system said of an opening that failed.
+    fn failed(&mut self, error: io::Error, make: bool) -> SystemFault {
+        match error.kind() {
+            io::ErrorKind::Interrupted => SystemFault::Interrupted,
+            kind => self.refused(cause_of(kind, make)),
+        }
+    }
+
+    // Who has a file that can't be locked.
+    fn holder(&self, file: &File) -> Cause {
+        match (&self.held, Identity::of(file)) {
+            (Some(held), Ok(other)) if *held == other => Cause::OpenHere,
+            _ => Cause::InUse,
+        }
     }
 
     // The folder in which the file of a path lies, or will lie once it is made.
@@ -139,10 +169,35 @@ fn open_guards(rt: &HostRuntime) -> io::Result<Guards> {
     Ok(Guards(first, second, third))
 }
 
+// Why a file isn't opened, by what the system says. One that is to be made, and isn't there, has no folder.
+fn cause_of(kind: io::ErrorKind, make: bool) -> Cause {
+    match kind {
+        io::ErrorKind::NotFound if make => Cause::NoFolder,
+        io::ErrorKind::NotFound => Cause::Missing,
+        io::ErrorKind::NotADirectory => Cause::NoFolder,
+        io::ErrorKind::IsADirectory => Cause::Folder,
+        io::ErrorKind::PermissionDenied => Cause::Forbidden,
+        io::ErrorKind::ReadOnlyFilesystem => Cause::ReadOnly,
+        io::ErrorKind::InvalidFilename => Cause::LongName,
+        io::ErrorKind::FilesystemLoop => Cause::Links,
+        io::ErrorKind::StorageFull | io::ErrorKind::QuotaExceeded => Cause::Full,
+        io::ErrorKind::WouldBlock => Cause::InUse,
+        _ => Cause::Failed,
+    }
+}
+
 fn fault(error: io::Error) -> SystemFault {
     match error.kind() {
         io::ErrorKind::Interrupted => SystemFault::Interrupted,
         _ => SystemFault::Failed,
+    }
+}
+
+impl TellsCause for HostSystem {
+    ghost cause = { λ system. system.cause };
+
+    fn cause(&self) -> Cause {
+        self.cause
     }
 }
 
@@ -163,34 +218,52 @@ impl System<HostFile> for HostSystem {
     // can be written to a closed standard output or standard error.
     fn guard_streams(&mut self) -> Result<(), SystemFault> {
         if self.guards.is_none() {
-            self.guards = Some(open_guards(&self.rt).map_err(fault)?);
+            match open_guards(&self.rt) {
+                Ok(guards) => self.guards = Some(guards),
+                Err(error) => return Err(self.failed(error, false)),
+            }
         }
         Ok(())
     }
 
     // No file is made in a folder that can't be synced afterwards.
     fn open(&mut self, path: &str, make: bool) -> Result<HostHandle, SystemFault> {
-        if make {
-            self.open_folder(path).map_err(fault)?;
+        if make && let Err(error) = self.open_folder(path) {
+            return Err(self.failed(error, make));
         }
-        self.open_file(path, make).map_err(fault)
+        match self.open_file(path, make) {
+            Ok(handle) => Ok(handle),
+            Err(error) => Err(self.failed(error, make)),
+        }
     }
 
     fn sync_folder(&mut self, path: &str) -> Result<(), SystemFault> {
-        self.open_folder(path)
-            .and_then(|folder| folder.sync_all())
-            .map_err(fault)
+        match self.open_folder(path).and_then(|folder| folder.sync_all()) {
+            Ok(()) => Ok(()),
+            Err(error) => Err(self.failed(error, true)),
+        }
     }
 
     fn lock(&mut self, handle: HostHandle) -> Result<HostFile, SystemFault> {
         match handle.file.try_lock() {
-            Ok(()) => self.hold(handle).map_err(fault),
-            Err(TryLockError::WouldBlock) => Err(SystemFault::Failed),
-            Err(TryLockError::Error(error)) => Err(fault(error)),
+            Ok(()) => {}
+            Err(TryLockError::WouldBlock) => {
+                let holder = self.holder(&handle.file);
+                return Err(self.refused(holder));
+            }
+            Err(TryLockError::Error(error)) => return Err(self.failed(error, false)),
+        }
+        match self.hold(handle) {
+            Ok(file) => {
+                self.held = Identity::of(&file.file).ok();
+                Ok(file)
+            }
+            Err(error) => Err(self.failed(error, false)),
         }
     }
 
     fn close(&mut self, file: HostFile) {
+        self.held = None;
         let HostFile { file, place, .. } = file;
         if let Place::Beside(beside) = place {
             beside.give_up(&self.rt);
