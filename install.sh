@@ -24,6 +24,9 @@ number() {
 }
 major=$(number MAJOR)
 version=$major.$(number MINOR).$(number PATCH)
+# The versions with which a program that was linked goes on to run. Before 1.0 a session may be of another size in each 0.N.
+series=$major
+[ "$major" != 0 ] || series=0.$(number MINOR)
 
 # built FILE COMMAND..: makes a file by the command, in $folder, where it isn't there
 built() {
@@ -55,12 +58,11 @@ find_built() {
     done
 }
 
-# make_shared OUT: the shared library, of the archive. Its own functions on files take the place of those there.
+# make_shared OUT: the shared library, of the archive
 make_shared() {
     echo '{ global: geosvm_*; local: *; };' >"$work/names"
-    gcc -std=c99 -O2 -fPIC -fsemantic-interposition -DGEOSVM_IS_SHARED -c "$here/embedding/files.c" -o "$work/files.o"
-    gcc -shared -Wl,-soname,"libgeosvm.so.$major" -Wl,--version-script="$work/names" -Wl,-z,defs,-z,relro,-z,now,-z,noexecstack \
-        -Wl,-u,geosvm_open,-u,geosvm_version "$work/files.o" "$library" -o "$1"
+    gcc -shared -Wl,-soname,"libgeosvm.so.$series" -Wl,--version-script="$work/names" -Wl,-z,defs,-z,relro,-z,now,-z,noexecstack \
+        -Wl,--whole-archive "$library" -Wl,--no-whole-archive -o "$1"
 }
 
 # write_pkgconfig OUT
@@ -113,8 +115,8 @@ What rt builds in crates/*/out and for embedding/out was proved: each function m
 premises that PROMISES.md, beside this file, has with each promise. The gate proves all of it from nothing, tries changes that
 the prover must refuse, and runs the tests. Where its commit isn't that of the sources, what is installed may be of either.
 
-Not proved are the C sources of the library (embedding/channel.c, files.c, version.c) and geosvm.hpp, which are tested, and
-what made the programs run: the kit, gcc, the C library and the machine.
+Not proved are the C sources of the library (embedding/channel.c, files.c, sessions.c, paths.c, copying.c, codes.c, version.c)
+and geosvm.hpp, which are tested, and what made the programs run: the kit, gcc, the C library and the machine.
 
 SHA-256 of the files as they were installed:
 $(cd "$tree$prefix" && sha256sum bin/* lib/libgeosvm.a "lib/libgeosvm.so.$version" include/*)
@@ -136,15 +138,15 @@ write_tree() {
     place 644 "$library" lib/libgeosvm.a
     make_shared "$work/shared"
     place 644 "$work/shared" "lib/libgeosvm.so.$version"
-    ln -s "libgeosvm.so.$version" "$tree$prefix/lib/libgeosvm.so.$major"
-    ln -s "libgeosvm.so.$major" "$tree$prefix/lib/libgeosvm.so"
+    ln -s "libgeosvm.so.$version" "$tree$prefix/lib/libgeosvm.so.$series"
+    ln -s "libgeosvm.so.$series" "$tree$prefix/lib/libgeosvm.so"
     for name in geosvm.h geosvm.hpp geosvm_types.hpp; do place 644 "$here/embedding/$name" include/$name; done
     write_pkgconfig "$work/pc"
     place 644 "$work/pc" lib/pkgconfig/geosvm.pc
     place 644 "$here/docs/geosvm.magic" share/geosvm/geosvm.magic
     write_mime "$work/mime"
     place 644 "$work/mime" share/mime/packages/geosvm.xml
-    for page in TUTORIAL SCRIPT FORMAT PROMISES; do place 644 "$here/docs/$page.md" share/doc/geosvm/$page.md; done
+    for page in TUTORIAL SCRIPT DESIGNING FORMAT PROMISES; do place 644 "$here/docs/$page.md" share/doc/geosvm/$page.md; done
     write_proved "$work/proved"
     place 644 "$work/proved" share/doc/geosvm/PROVED
 }

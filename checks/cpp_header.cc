@@ -109,9 +109,12 @@ static void codes() {
   MUST(make_error_code(fault::memory) == std::errc::not_enough_memory);
   MUST(make_error_code(fault::file) == std::errc::io_error);
   MUST(geosvm::name_of(fault::nothing_to_undo) == "NothingToUndo" && geosvm::name_of(fault::untold).empty());
-  MUST(geosvm::category().message(77) == "no fault has this number");
+  MUST(geosvm::category().message(77) == "no code has this number");
   for (int i = 1; i <= GEOSVM_NO_GROUP; i++) MUST(static_cast<int>(all_faults[i - 1]) == i);
   MUST(std::string(geosvm::version()) == GEOSVM_VERSION);
+  std::error_code failed;
+  session::open(199, 8, failed);
+  MUST(failed == fault::file && geosvm::last_error() == std::errc::bad_file_descriptor);
   try {
     session().undo();
     MUST(false);
@@ -157,6 +160,12 @@ static void blocks_and_chunks(session &s) {
   MUST(is(s.vread(raw), std::string_view("abxyz\0", 6)));
   s.attach(raw, "all");
   const block copy = s.vcopy(raw);
+  session second = session::create("second.document");
+  const block there = second.copy_block(s, raw);
+  MUST(second.vread(there) == s.vread(raw) && second.info(there).user_id == s.info(raw).user_id);
+  second.undo();
+  MUST(second.list().empty());
+  second.close();
   MUST(is(s.vread(copy), "all"));
   s.vfree(copy);
   s.uid(heap, 8);

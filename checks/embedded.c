@@ -3,7 +3,8 @@
 **
 **     embedded [--new] [--as FILE2] FILE
 **
-** Each line of standard input is given to geosvm_command, and its reply written; a line `saveas` is a geosvm_save_as.
+** Each line of standard input is given to geosvm_command, and its reply written; a line `saveas` is a geosvm_save_as. FILE is opened by its
+** path, FILE2 by a descriptor of this program's own.
 */
 #define _GNU_SOURCE
 #include "geosvm.h"
@@ -76,10 +77,8 @@ int main(int argc, char **argv) {
     else path = argv[i];
   }
   if (!path) return 2;
-  const int file = opened(path, makes ? O_CREAT : 0);
-  if (file < 0) return refused(makes ? "create" : "open", GEOSVM_FILE);
   if (second && (target = opened(second, O_CREAT)) < 0) return refused("target", GEOSVM_FILE);
-  const int32_t code = makes ? geosvm_create(&s, file, 8) : geosvm_open(&s, file, 8);
+  const int32_t code = geosvm_open_path(&s, path, makes ? GEOSVM_PATH_CREATE : GEOSVM_PATH_EXISTING);
   if (code != GEOSVM_OK) return refused(makes ? "create" : "open", code);
   while (fgets(line, sizeof line, stdin)) {
     line[strcspn(line, "\n")] = 0;

@@ -45,7 +45,10 @@ files "$prefix" >first
 export PKG_CONFIG_PATH="$prefix/lib/pkgconfig"
 export LD_LIBRARY_PATH="$prefix/lib"
 version=$(pkg-config --modversion geosvm)
-soname=libgeosvm.so.${version%%.*}
+case $version in
+0.*) soname=libgeosvm.so.${version%.*} ;;
+*) soname=libgeosvm.so.${version%%.*} ;;
+esac
 told "the links lead to the library" "$soname $prefix/lib/libgeosvm.so.$version" \
     "$(readlink "$prefix/lib/libgeosvm.so") $(realpath "$prefix/lib/libgeosvm.so")"
 told "its list is what is there" "" "$(sed 's,^,./,' "$prefix/share/doc/geosvm/FILES" | sort | diff - first)"
@@ -89,10 +92,10 @@ over_all() {
     tried c_archive gcc -std=c99 $strict "$root/checks/installed.c" $archive
     tried cpp_archive g++ -std=c++11 $strict -x c++ "$root/checks/installed.c" -x none $archive
     tried c_static gcc -std=c99 $strict -static "$root/checks/installed.c" $(pkg-config --static --cflags --libs geosvm)
-    for name in try container; do
-        mkdir "$name"
+    for name in try container paths_try threads_try; do
+        mkdir "$name" "$name/empty"
         gcc -std=c11 -O2 "$root/embedding/$name.c" $flags -lpthread -o "$name/program" || continue
-        (cd "$name" && ./program >said 2>&1)
+        (cd "$name/empty" && ../program >../said 2>&1)
         told "embedding/$name.c over the shared library prints what it did" "" \
             "$(diff "$root/embedding/${name}_c.output" "$name/said" 2>&1 | head -n 6)"
     done

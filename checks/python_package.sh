@@ -1,5 +1,5 @@
 #!/bin/sh
-# Needs: python3 gcc
+# Needs: python3 gcc objdump
 # The package for Python, of python/: installs the library into a folder of its own by install.sh, the package beside it by pip, without
 # the network, and runs python/tests on these, with the example of python/README.md. Where there is no pip the package is taken from its
 # folder, and that is said.
@@ -31,7 +31,8 @@ told() {
 
 echo "-- installed"
 PROGRAMS=$folder/programs LIBRARY=$folder/libgeosvm.a TMPDIR=$folder/temporary sh "$root/install.sh" "$folder/installed" >said 2>&1
-told "the library is installed" "0 libgeosvm.so.0" "$? $(cd installed/lib && ls libgeosvm.so.0)"
+told "the library is installed" "0" "$?"
+soname=$(objdump -p installed/lib/libgeosvm.so | awk '$1 == "SONAME" { print $2 }')
 if python3 -m pip --version >where 2>&1; then
     PIP_ROOT_USER_ACTION=ignore python3 -m pip install --quiet --no-index --disable-pip-version-check --target package ./python >said 2>&1
     told "pip installs the package, without the network" "0 " "$? $(cat said)"
@@ -51,7 +52,7 @@ loaded() {
 }
 wanted="$folder/package/geosvm/__init__.py $folder/installed/lib/libgeosvm.so.$(sed -n 's/^Version: //p' installed/lib/pkgconfig/geosvm.pc)"
 told "it finds the library where the system looks" "$wanted" "$(LD_LIBRARY_PATH="$folder/installed/lib" loaded)"
-export GEOSVM_LIBRARY="$folder/installed/lib/libgeosvm.so.0"
+export GEOSVM_LIBRARY="$folder/installed/lib/$soname"
 told "it finds the library that it is told" "$wanted" "$(loaded)"
 python3 -W error::ResourceWarning -m unittest discover -s python/tests >said 2>&1
 told "the tests, with the example of the page" "0 OK" "$? $(tail -n 1 said)"

@@ -8,14 +8,17 @@ set -e
 here=$(cd "$(dirname "$0")" && pwd)
 work=$(mktemp -d)
 trap 'rm -rf "$work"' EXIT
-for part in channel files version; do
+objects=
+for part in channel files sessions paths copying codes version; do
     gcc -std=c99 -pedantic -O2 -Wall -Wextra -Werror -fPIC -c "$here/$part.c" -o "$work/$part.o"
+    objects="$objects $work/$part.o"
 done
-# The library's reads and writes go to channel.c, which hands them to the program.
-objcopy --redefine-sym read=geosvm_channel_read --redefine-sym write=geosvm_channel_write "$1" "$work/part.a"
-# One object, so that its parts find each other where their names are hidden. files.c is apart from it: a program that doesn't define the
-# functions on its files gets those of files.c, any other doesn't.
-ld -r -o "$work/geosvm.o" --whole-archive "$work/part.a" --no-whole-archive "$work/channel.o" "$2"
+# The library's reads and writes go to channel.c, which hands them to the program, and sessions.c stands in front of four of its calls.
+for name in open create close save_as; do echo "geosvm_$name proved_geosvm_$name"; done >"$work/names"
+objcopy --redefine-sym read=geosvm_channel_read --redefine-sym write=geosvm_channel_write --redefine-syms="$work/names" "$1" "$work/part.a"
+# One object, so that its parts find each other where their names are hidden.
+# shellcheck disable=SC2086
+ld -r -o "$work/geosvm.o" --whole-archive "$work/part.a" --no-whole-archive $objects "$2"
 objcopy --wildcard --keep-global-symbol='!geosvm_channel_*' --keep-global-symbol='geosvm_*' "$work/geosvm.o"
 rm -f "$3"
-ar rcs "$3" "$work/geosvm.o" "$work/files.o" "$work/version.o"
+ar rcs "$3" "$work/geosvm.o"

@@ -11,8 +11,10 @@
 **
 ** A message that can't be carried out is answered as a write that failed, and so are bytes that weren't taken. After a read that gave
 ** too little the library asks whether that was the file's end. Nothing else is expected after any failure, so it may go on by a message.
+**
+** Why a function has failed is kept, for geosvm_last_error.
 */
-#include "geosvm.h"
+#include "private.h"
 
 #if defined(__STDC_VERSION__) && __STDC_VERSION__ >= 201112L
 #define PER_THREAD _Thread_local
@@ -38,17 +40,35 @@ static PER_THREAD struct {
   bool has_failed; /* whether the last read that gave too little has failed */
 } pending;
 
+static PER_THREAD int last_error;
+
+int geosvm_last_error(void) { return last_error; }
+
+void note_failure(int error) {
+  last_error = error != 0 ? error : EIO;
+  errno = last_error;
+}
+
+/* Calls a function of the program's, and keeps why it failed. errno stays as it was where it didn't. */
+#define TRIED(result, has_failed, call) \
+  do { \
+    const int before = errno; \
+    errno = 0; \
+    result = call; \
+    if (has_failed) note_failure(errno); \
+    else errno = before; \
+  } while (0)
+
+/* What can't be asked for has failed too. */
+static bool failed_by(int error) {
+  note_failure(error);
+  return false;
+}
+
 static uint64_t number_at(const uint8_t *text) {
   uint64_t number = 0;
   for (int i = 8; i-- > 0;) number = number << 8 | text[i];
   return number;
-}
-
-/* For a program that defines the five functions on its files and not this one, as those that were written before it. */
-__attribute__((weak)) int32_t geosvm_io_begin(int32_t number, int32_t own) {
-  (void)number;
-  (void)own;
-  return 0;
 }
 
 /* The number of a file that stands in place of an offset, in its low four bytes. */
@@ -57,12 +77,20 @@ static int32_t file_number_of(uint64_t at) {
   return low <= INT32_MAX ? (int32_t)low : (int32_t)(low - 0x80000000u) + INT32_MIN;
 }
 
+static bool may_begin(int32_t number, int32_t own) {
+  int32_t status;
+  if (owner_of_functions() == OF_BOTH) return failed_by(ENOSYS);
+  TRIED(status, status != 0, geosvm_io_begin(number, own));
+  return status == 0;
+}
+
 /* Carries out what a message asks for, or keeps it until its bytes come. */
 static bool is_carried_out(int32_t number, const uint8_t *message) {
   const uint64_t at = number_at(message + 8), size = number_at(message + 16);
+  int32_t status;
   pending.operation = NOTHING;
-  if (message[0] == BEGIN) return geosvm_io_begin(number, file_number_of(at)) == 0;
-  if (at > INT64_MAX || size > INT64_MAX - at) return false;
+  if (message[0] == BEGIN) return may_begin(number, file_number_of(at));
+  if (at > INT64_MAX || size > INT64_MAX - at) return failed_by(EFBIG);
   switch (message[0]) {
   case READ:
   case WRITE:
@@ -72,23 +100,31 @@ static bool is_carried_out(int32_t number, const uint8_t *message) {
     pending.has_failed = false;
     return true;
   case READ_END:
+    if (!pending.has_failed) note_failure(ENODATA);
     return !pending.has_failed;
   case LEN:
     pending.operation = LEN;
-    pending.length = geosvm_io_len(number);
+    TRIED(pending.length, pending.length < 0, geosvm_io_len(number));
     return pending.length >= 0;
   case SET_LEN:
-    return geosvm_io_set_len(number, (int64_t)size) == 0;
+    TRIED(status, status != 0, geosvm_io_set_len(number, (int64_t)size));
+    return status == 0;
   case SYNC:
-    return geosvm_io_sync(number) == 0;
+    TRIED(status, status != 0, geosvm_io_sync(number));
+    return status == 0;
   default:
-    return false;
+    return failed_by(ENOSYS);
   }
 }
 
-/* What read or write answers where a function of the program moved so many bytes, if it can have. */
+/* Whether a function of the program can have moved so many bytes. */
+static bool is_part(int64_t count, size_t size) {
+  return count > 0 && (uint64_t)count <= size && (uint64_t)count <= pending.left;
+}
+
+/* What read or write answers where a function of the program moved so many bytes. */
 static intptr_t moved(int64_t count, size_t size) {
-  if (count > 0 && (uint64_t)count <= size && (uint64_t)count <= pending.left) {
+  if (is_part(count, size)) {
     pending.at += count;
     pending.left -= (uint64_t)count;
     if (pending.left == 0) pending.operation = NOTHING;
@@ -100,7 +136,11 @@ static intptr_t moved(int64_t count, size_t size) {
 }
 
 intptr_t geosvm_channel_read(int32_t number, void *buffer, size_t size) {
-  if (pending.operation == READ) return moved(geosvm_io_read(number, buffer, size, pending.at), size);
+  int64_t count;
+  if (pending.operation == READ) {
+    TRIED(count, count != 0 && !is_part(count, size), geosvm_io_read(number, buffer, size, pending.at));
+    return moved(count, size);
+  }
   if (pending.operation != LEN || size != 8) return -1;
   for (int i = 0; i < 8; i++) ((uint8_t *)buffer)[i] = (uint8_t)((uint64_t)pending.length >> 8 * i);
   pending.operation = NOTHING;
@@ -108,6 +148,10 @@ intptr_t geosvm_channel_read(int32_t number, void *buffer, size_t size) {
 }
 
 intptr_t geosvm_channel_write(int32_t number, const void *bytes, size_t size) {
-  if (pending.operation == WRITE) return moved(geosvm_io_write(number, bytes, size, pending.at), size);
+  int64_t count;
+  if (pending.operation == WRITE) {
+    TRIED(count, !is_part(count, size), geosvm_io_write(number, bytes, size, pending.at));
+    return moved(count, size);
+  }
   return size == MESSAGE_LENGTH && is_carried_out(number, bytes) ? MESSAGE_LENGTH : -1;
 }

@@ -75,7 +75,7 @@ static void fail_each_call(geosvm_session *s, int32_t number) {
 int main(void) {
   geosvm_session s[DOCUMENTS];
   for (int i = 0; i < DOCUMENTS; i++) {
-    s[i] = (geosvm_session)GEOSVM_CLOSED;
+    s[i] = GEOSVM_CLOSED;
     container[i].calls = -1;
     container[i].bytes = calloc(1, MOST);
     printf("create %d: %d\n", i, geosvm_create(&s[i], i, 8));
@@ -94,6 +94,8 @@ int main(void) {
   printf("save: %d\n", geosvm_save(&s[3]));
   geosvm_close(&s[3]);
   fail_each_call(&s[3], 3);
+  const int32_t code = geosvm_open_path(&s[3], "no.document", GEOSVM_PATH_CREATE);
+  printf("by a path: %d, %s\n", code, strerror(geosvm_last_error()));
   printf("create number 99: ");
   geosvm_session none = GEOSVM_CLOSED;
   printf("%d\n", geosvm_create(&none, 99, 8));

@@ -4,37 +4,48 @@
 ** A session stands in a struct of the caller's own memory, which the caller sets to GEOSVM_CLOSED before the first call:
 **
 **     geosvm_session s = GEOSVM_CLOSED;
-**     int fd = open("my.document", O_RDWR);
-**     if( flock(fd, LOCK_EX | LOCK_NB)==0 && geosvm_open(&s, fd, 64)==GEOSVM_OK ){
-**       geosvm_newheap(&s, 7, &block);
-**       geosvm_save(&s);
-**       geosvm_close(&s);
-**     }
+**     uint16_t block;
+**     int32_t code = geosvm_open_path(&s, "my.document", GEOSVM_PATH_CREATE);
+**     if( code==GEOSVM_OK ) code = geosvm_newheap(&s, 7, &block);
+**     if( code==GEOSVM_OK ) code = geosvm_save(&s);
+**     if( code!=GEOSVM_OK ) fprintf(stderr, "my.document: %s\n", geosvm_code_text(code));
+**     geosvm_close(&s);
 **
-** There is no call to begin with, no thread, and no state outside of sessions that outlasts a call. What a document is, and what each
-** command does, docs/SCRIPT.md says; the calls below have the names of its commands.
+** There is no call to begin with, no thread, and no state outside of sessions that outlasts a call, but for the number that
+** geosvm_last_error has. What a document is, and what each command does, docs/SCRIPT.md says; the calls below have the names of its
+** commands.
 **
 ** WHAT THE CALLER OWES, which nothing checks:
 **
 **   - A geosvm_session is GEOSVM_CLOSED, or as the last call left it. Its fields are never written, and it is never copied and then
 **     used under both addresses. To move it, and to forget it in the old place, is fine.
-**   - One call at a time on one session, and all calls on it from one thread. Different sessions may be in different threads.
+**   - One call at a time on one session: from several threads they come one behind the other, as under a mutex. Different sessions
+**     may be in different threads at once, also sessions that read one file.
 **   - Each pointer leads to as many elements as its size says, is not NULL even at size 0, and what a call writes overlaps nothing
 **     else that the same call is passed.
 **   - Bytes that geosvm_locked_chunk and geosvm_locked_raw have lent are never written, and are read as long as they are lent ("Locks"),
 **     and not while a call on their session runs.
-**   - A descriptor is open to be read and written, and stays so until geosvm_close; it stays the caller's, since no call closes it.
-**     Its position moves.
-**   - No two open sessions have the same file, and none is saved into one that another has. Nobody else writes it meanwhile: take
-**     flock(fd, LOCK_EX | LOCK_NB) before anything else is done with it. So it is opened without O_TRUNC, which cuts the document of
-**     whoever has the lock; geosvm_create and geosvm_save_as make a new document of whatever is there. After a file was made, sync
-**     the folder that it lies in, or a crash may lose its name.
+**   - Of a file that it opens itself, and passes by its descriptor: that is open to be read and written, or to be read alone
+**     ("Reading"), and stays so until geosvm_close; it stays the caller's, since no call closes it. Its position moves.
+**   - No two open sessions have the same file unless both read it alone, and none is saved into one that another has. Nobody else
+**     writes it meanwhile. geosvm_open_path sees to that; who passes a descriptor takes flock(fd, LOCK_EX | LOCK_NB) before anything
+**     else is done with it. So it is opened without O_TRUNC, which cuts the document of whoever has the lock; geosvm_create and
+**     geosvm_save_as make a new document of whatever is there. After a file was made, sync the folder that it lies in, or a crash may
+**     lose its name.
 **   - Where the program defines the functions geosvm_io_* itself, they do what stands at them, below.
 **   - malloc, realloc and free are one allocator, and malloc aligns a block to each power of two up to 16 that divides its size.
 **   - No call comes from a signal handler, nor from the forked child of a process with threads.
 **
 ** These are no such cases, and do no harm: a call on a closed session, opening an open one, closing one twice, a handle that names
-** no block, a number that is no descriptor, a file that is no document, a descriptor that appends, a save-as into the session's own file.
+** no block, a number that is no descriptor, a file that is no document, a descriptor that appends, a save-as into the session's own file,
+** a path on which nothing lies or something else than a file.
+**
+** WHICH CALLS MAY USE THE FILE: geosvm_open and its like, commits and save-as; every edit, undo, redo and abandon, and every look-up into
+** a block, since a block that isn't among the `frames` in memory is read, and one that makes room for it is written if it was changed;
+** and edits that make blocks, geosvm_newraw, newheap, vcopy, chcopy and copy_block, and undos and redos by which blocks come, in any case.
+** Never: geosvm_close, but that it closes a file of the library's own; begin, end, join, name, forget and limit_undo; unlock, dirty, locks,
+** locked_chunk and locked_raw; uid, settype, map, gettype, mapblock, list and find; undos, redos, modified, undo_name, redo_name, and what
+** tells places; and what is refused for its arguments or its session. On a disk that is slow or gone these answer at once.
 */
 #ifndef GEOSVM_H
 #define GEOSVM_H
@@ -50,9 +61,11 @@ extern "C" {
 **
 ** The version of this header, in numbers and as text, and by geosvm_version that of the library which is linked, as text with a zero
 ** behind it that stays: a shared library may be of another version than the header that a program was compiled with. No session is needed.
+** Before 1.0 a program is compiled anew for each 0.N, since a session may have another size there; libgeosvm.so has both numbers in its
+** name, so that none is loaded by a program of another one.
 */
 #define GEOSVM_VERSION_MAJOR 0
-#define GEOSVM_VERSION_MINOR 1
+#define GEOSVM_VERSION_MINOR 2
 #define GEOSVM_VERSION_PATCH 0
 #define GEOSVM_PRIVATE_TEXT(major, minor, patch) #major "." #minor "." #patch
 #define GEOSVM_PRIVATE_TEXT_OF(major, minor, patch) GEOSVM_PRIVATE_TEXT(major, minor, patch)
@@ -62,13 +75,23 @@ const char *geosvm_version(void);
 /*
 ** CAPI: A session
 **
-** The caller makes one by GEOSVM_CLOSED, and passes its address. Its fields are private.
+** The caller makes one by GEOSVM_CLOSED, and passes its address: `geosvm_session s = GEOSVM_CLOSED;`, also where `s` is static, and
+** later `s = GEOSVM_CLOSED;`, of one that isn't open. One of zeros is closed too. Its fields are private.
 */
 typedef struct geosvm_session {
   void *private_at;
   bool private_is_open;
+  intptr_t private_file; /* the descriptor of a file of the library's own, 0 where there is none */
 } geosvm_session;
-#define GEOSVM_CLOSED { NULL, false }
+#if defined(__cplusplus)
+#define GEOSVM_CLOSED (geosvm_session())
+#elif defined(__GNUC__) && !defined(__clang__) && __GNUC__ >= 8
+/* gcc takes it for a constant, and no compound literal, in the initializer of a static session. */
+static const geosvm_session geosvm_private_closed __attribute__((unused)) = { NULL, false, 0 };
+#define GEOSVM_CLOSED (__extension__ geosvm_private_closed)
+#else
+#define GEOSVM_CLOSED ((geosvm_session){ NULL, false, 0 })
+#endif
 
 /*
 ** CAPI: Codes
@@ -117,12 +140,72 @@ typedef struct geosvm_session {
 #define GEOSVM_UNTOLD         104   /* no memory for a reply; the command may be done */
 
 /*
-** CAPI: The name of a fault
+** CAPI: What a code means
 **
-** Puts the name of the fault with this number, as "NothingToUndo", into the buffer, with no zero behind it. *length becomes how many
-** bytes it has, at most 13; as many as fit are put there. GEOSVM_BAD_ARGUMENT where no fault has the number.
+** geosvm_code_name has the name of a code, as "NothingToUndo", for a log or a program: of the numbers of faults as replies have it, of
+** 0 "Ok", of those from 100 on "NotOpen" to "Untold", and of any other number "Unknown". geosvm_code_text has a sentence, without a point
+** at its end, for people: "the heap would need more than 65,520 bytes". Both are texts with a zero behind them, that stay, and never NULL.
+**
+** geosvm_last_error tells why a call answered GEOSVM_FILE, or a reply was `no 2 File`: it has the errno of the call on a file that failed
+** last in this thread, for strerror; 0 where none has yet. It changes only when one fails, so ask behind GEOSVM_FILE and nowhere else:
+**
+**   - a function geosvm_io_* tells that it failed: what that left in errno, or EIO where it left 0, or told what can't be. The
+**     library's own leave EINVAL for a descriptor that appends, EBUSY for another number of the session's own file, EROFS for a write
+**     to a descriptor that is open to be read alone.
+**   - a read comes to the end of the file before all that has to be there: ENODATA.
+**   - geosvm_open_path or geosvm_save_as_path fails by a call of the system.
+**
+** Once a file couldn't be synced its session refuses commits without a call on it, and the number stays.
+**
+** geosvm_fault_name puts the name of the fault with this number, 1 to 29, into the buffer, with no zero behind it. *length becomes how
+** many bytes it has, at most 13; as many as fit are put there. GEOSVM_BAD_ARGUMENT where no fault has the number.
 */
+const char *geosvm_code_name(int32_t code);
+const char *geosvm_code_text(int32_t code);
+int geosvm_last_error(void);
 int32_t geosvm_fault_name(int32_t code, uint8_t *name, size_t room, size_t *length);
+
+/*
+** CAPI: Open by a path
+**
+** geosvm_open_path opens the document of a file by its path, with 64 frames, and nothing to undo. The file is the session's: geosvm_close
+** closes it. `flags` is one of these, and anything else is GEOSVM_BAD_ARGUMENT, as a path that is NULL is, or isn't for MEMORY:
+**
+**   - EXISTING: a file that is there, to be read and written.
+**   - CREATE: that, or an empty document where no file is. A file of 0 bytes is made one too: it has nothing to lose, and is what a stop
+**     of the machine between making a file and making its document leaves.
+**   - NEW: an empty document in a new file; refused where anything is there, a link that leads nowhere too (EEXIST).
+**   - EMPTY: an empty document, whatever is there. What was in the file is lost, also where this call is refused behind the lock;
+**     geosvm_save_as_path keeps the old file until the new one is whole.
+**   - READ: a file that is there, to be read alone ("Reading").
+**   - MEMORY: an empty document in a file of the system's memory, which has no name and is gone with the session. `path` is NULL.
+**     geosvm_save_as_path gives it a file.
+**
+** Before anything is cut or written the file is locked, by flock and without waiting: a file that another session has open, in this
+** program or another one, is refused (EWOULDBLOCK), unless both read. A folder is EISDIR, and what else is no regular file ENOTSUP. The
+** folder of a new file is synced. Where a file was made and its document can't be, the file is taken away again. The descriptor is never
+** 0, 1 or 2, and no child program inherits it.
+**
+** GEOSVM_FILE, with the cause in geosvm_last_error; GEOSVM_NOT_DOCUMENT, DAMAGED, MEMORY, OPEN_ALREADY, BAD_ARGUMENT. Where it answers
+** anything but GEOSVM_OK the session is as it was. It is for programs that have no functions geosvm_io_* of their own: in any other
+** it is GEOSVM_FILE (ENOTSUP), and opens nothing.
+**
+** CAPI: Reading
+**
+** A session by READ, or on a descriptor that is open to be read alone, writes nothing to its file. Its lock is a shared one, by flock with
+** LOCK_SH where the program takes it, so any number of them have a file open side by side, in this program and in others, and what they read doesn't change: one that writes is refused
+** while any reads, and the reverse. Edits, undo and redo go as ever as long as nothing has to be written. Where it has to be, that is
+** GEOSVM_FILE, before anything is changed in the file (EROFS): of commits, of edits that make blocks, and where a block that was edited has
+** to make room for another one; of geosvm_save_as and geosvm_save_as_path too, since the file that is left is written by them. What was
+** edited so goes into another document by geosvm_copy_block.
+*/
+#define GEOSVM_PATH_EXISTING  0u
+#define GEOSVM_PATH_CREATE    1u
+#define GEOSVM_PATH_NEW       2u
+#define GEOSVM_PATH_EMPTY     4u
+#define GEOSVM_PATH_READ      8u
+#define GEOSVM_PATH_MEMORY   16u
+int32_t geosvm_open_path(geosvm_session *s, const char *path, uint32_t flags);
 
 /*
 ** CAPI: Open and close
@@ -133,7 +216,8 @@ int32_t geosvm_fault_name(int32_t code, uint8_t *name, size_t room, size_t *leng
 ** blocks are in memory at a time, 1 to 64. Where they answer anything but GEOSVM_OK the session is as it was; GEOSVM_MEMORY, FILE,
 ** DAMAGED, NOT_DOCUMENT, OPEN_ALREADY, BAD_ARGUMENT.
 **
-** geosvm_close writes nothing: what was edited since the last commit is given up.
+** geosvm_close writes nothing: what was edited since the last commit is given up. A file that was opened by geosvm_open_path, or made by
+** geosvm_save_as_path, is closed, which gives its lock back.
 */
 int32_t geosvm_open(geosvm_session *s, int32_t number, size_t frames);
 int32_t geosvm_create(geosvm_session *s, int32_t number, size_t frames);
@@ -196,12 +280,23 @@ int32_t geosvm_abandon(geosvm_session *s);
 ** geosvm_save_as saves into another file, whatever was in it, and goes on in that, with all that can be undone; the file that is left
 ** goes back to its saved document. The number is as for geosvm_open. Where it is refused the session stays in its file, and the other one
 ** may have any bytes. Either way one of the two files is the caller's alone again, as after geosvm_close. The number that the session
-** has itself is GEOSVM_BAD_ARGUMENT, and another number of the same file GEOSVM_FILE; both are refused before anything is written.
+** has itself is GEOSVM_BAD_ARGUMENT, and another number of the same file GEOSVM_FILE; both are refused before anything is written. Where
+** it goes well a file that was the library's own is closed; the new one is the caller's.
+**
+** geosvm_save_as_path does so by a path, and the new file is the session's. It is written beside what is there, under its name with a
+** point and six letters behind it, and takes its place once all of it is on the disk, with its mode and owner; the folder is
+** synced. So where it is refused the old file stays as it was. `flags` is 0 or GEOSVM_PATH_NEW, which refuses a path where anything is
+** (EEXIST). Refused is also a file that another session has open, the session's own too (EWOULDBLOCK), one that can't be written or
+** whose owner can't be given to another one, and one with several names (EMLINK). A stop of the machine may leave the file beside, and an empty one where none was.
+** GEOSVM_FILE, NOT_OPEN, BAD_ARGUMENT, or what geosvm_save_as answers. Of GEOSVM_FILE there is a case in which the session has gone on
+** all the same: all is written, but the new file can't take its place, and keeps its longer name, or the folder can't be synced. Then the
+** document is as it was saved (geosvm_modified).
 */
 int32_t geosvm_update(geosvm_session *s);
 int32_t geosvm_save(geosvm_session *s);
 int32_t geosvm_revert(geosvm_session *s);
 int32_t geosvm_save_as(geosvm_session *s, int32_t number);
+int32_t geosvm_save_as_path(geosvm_session *s, const char *path, uint32_t flags);
 
 /*
 ** CAPI: Locks
@@ -341,6 +436,22 @@ int32_t geosvm_chcopy(geosvm_session *s, uint16_t block, uint16_t *copy); /* NO_
 int32_t geosvm_chfree(geosvm_session *s, uint16_t block);                 /* NO_BLOCK, WRONG_KIND, BAD_CHAIN, IS_MAP */
 
 /*
+** CAPI: A copy in another document
+**
+** geosvm_copy_block makes a block of `to` like one of `from`: raw with the same bytes, or a heap of the same type with the same chunks under
+** the same handles, and the same user ID. *copy becomes its handle, the least free one. Both may be the same session. It is one step of
+** undo there, without a name, or a part of the open group; `from` isn't changed. Handles of blocks in its bytes, as the links of a
+** chain, stay as they are, and may lead elsewhere.
+**
+** GEOSVM_NOT_OPEN where either is closed; of `from` NO_BLOCK, FILE, DAMAGED or CACHE_FULL; of `to` NO_HANDLES, FILE, DAMAGED or CACHE_FULL;
+** or MEMORY, of which it takes as much as the block has besides what undo holds. What is refused changes neither document, nor what can
+** be undone; only where the memory or the file of `to` fails in the midst of it what could be redone is gone, and while a block of
+** `to` is locked there may be one step more, or edits of the open group, which change nothing. Who keeps a copy of `to` looks at all of
+** the block *copy: geosvm_touched tells of the last of several edits alone.
+*/
+int32_t geosvm_copy_block(geosvm_session *from, uint16_t block, geosvm_session *to, uint16_t *copy);
+
+/*
 ** CAPI: Look-ups
 **
 ** None changes the document or what can be undone. Where one answers anything but GEOSVM_OK or GEOSVM_CUT_OFF the values that it hands
@@ -478,10 +589,13 @@ int32_t geosvm_abandon_places(geosvm_session *s, size_t first, geosvm_place *pla
 **
 ** The library has no file: it calls these six, with the number that geosvm_open was passed. A program that defines none of them gets
 ** those of embedding/files.c, for which that number is the descriptor of an open file. A program that defines all six, or all but the
-** first, has its documents wherever it likes, and the number is its own.
+** first, has its documents wherever it likes, and the number is its own. Where it defines some of the last five and not all, no session can
+** be begun: GEOSVM_FILE (ENOSYS). geosvm_open_path and geosvm_save_as_path, which open files by descriptors, are GEOSVM_FILE (ENOTSUP)
+** where it defines any.
 **
 ** Each of them writes nothing but the buffer that it is lent, keeps no pointer to it, and calls nothing of this library. It is called by
-** the thread that called the library, so by several at once where sessions are in several.
+** the thread that called the library, so by several at once where sessions are in several. One that fails may set errno, for
+** geosvm_last_error.
 **
 ** geosvm_io_begin is called before anything else is done with a file, for geosvm_open and geosvm_create with -1 as `own`, and for
 ** geosvm_save_as with the number of the file that the session is in. It answers 0 where the session may go on, and anything else where it

@@ -16,8 +16,9 @@
 ** std::error_code & as its last word, sets it, and throws nothing but std::bad_alloc. A fault of the document is a
 ** geosvm::fault there, and an error of the system on a path is one of std::generic_category().
 **
-** A session is used by one thread at a time, and no member that looks is const, since each may read the file. When it
-** is moved, groups and locks on it go along. What was edited since the last save or update is lost when it closes.
+** A session is used by one thread at a time, as by several under a mutex, and no member that looks is const, since
+** each may read the file. When it is moved, groups and locks on it go along. What was edited since the last save or
+** update is lost when it closes.
 **
 ** A file that is opened by its path is locked by flock before anything else is done with it, so one that another
 ** program has open is refused (std::errc::resource_unavailable_try_again), and is closed with the session. `open` wants
@@ -371,6 +372,14 @@ public:
   block newheap(std::uint16_t user_id, report r = {}) { return made<block>(r, geosvm_newheap, user_id); }
   void vfree(block b, report r = {}) { edit(r, geosvm_vfree, b.number()); }
   block vcopy(block b, report r = {}) { return made<block>(r, geosvm_vcopy, b.number()); }
+  /* A block like one of another session, which may be this one. */
+  block copy_block(session &from, block b, report r = {}) {
+    geosvm_session *const other = from.raw();
+    const auto call = [other](geosvm_session *own, std::uint16_t number, std::uint16_t *copy) {
+      return geosvm_copy_block(other, number, own, copy);
+    };
+    return made<block>(r, call, b.number());
+  }
   void vwrite(block b, std::size_t at, bytes_view from, report r = {}) {
     edit(r, geosvm_vwrite, b.number(), below::capped(at), from.data(), from.size());
   }

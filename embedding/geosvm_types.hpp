@@ -34,46 +34,14 @@ enum class fault : std::int32_t {
   cut_off = GEOSVM_CUT_OFF, untold = GEOSVM_UNTOLD
 };
 
-/* The sentence of a fault: that of geosvm.h where it has one. */
+/* The sentence of a fault. A group that is given up within one isn't known to the library. */
 inline const char *sentence_of(fault f) noexcept {
-  switch (f) {
-  case fault::memory: return "no memory";
-  case fault::file: return "a call on the file has failed";
-  case fault::damaged: return "the file is a damaged document";
-  case fault::not_document: return "the file is no document";
-  case fault::no_block: return "no block has this handle";
-  case fault::no_chunk: return "no chunk of the block has this handle";
-  case fault::wrong_kind: return "a heap where a raw block is wanted, or the reverse";
-  case fault::full: return "the heap would need more than 65,520 bytes";
-  case fault::too_big: return "a raw block would have more than 65,520 bytes, or a step a name of more than 64";
-  case fault::no_handles: return "fewer block handles are free than are needed";
-  case fault::range: return "a place, length or size is outside its bounds";
-  case fault::not_array: return "the chunk is no array of the kind that is wanted";
-  case fault::no_element: return "there is no such element, or the token isn't used";
-  case fault::count_full: return "the element has as many references as any can have";
-  case fault::no_name: return "no element has the name";
-  case fault::name_in_use: return "another token has the name";
-  case fault::bad_chain: return "no chain begins at the block";
-  case fault::is_map: return "the map block would be freed";
-  case fault::locked: return "a block is locked";
-  case fault::not_locked: return "the block isn't locked";
-  case fault::cache_full: return "every frame has a locked block";
-  case fault::nothing_to_undo: return "no step is left to undo, or no two to be joined";
-  case fault::nothing_to_redo: return "no undo is left to take back";
-  case fault::no_target: return "a saveas as a command, which has no target: call geosvm_save_as";
-  case fault::bad_command: return "the line is no command";
-  case fault::lock_limit: return "the block is locked 255 times";
-  case fault::worn: return "the file's sequence number is at its last value";
-  case fault::group_open: return "a group is open";
-  case fault::no_group: return "no group is open, or it was given up within";
-  case fault::not_open: return "the session is closed";
-  case fault::open_already: return "the session is open";
-  case fault::bad_argument: return "a number is out of its bounds, or the session's own";
-  case fault::cut_off: return "the buffer took a part; all was done";
-  case fault::untold: return "no memory for a reply; the command may be done";
-  }
-  return "no fault has this number";
+  if (f == fault::no_group) return "no group is open, or it was given up within";
+  return geosvm_code_text(static_cast<std::int32_t>(f));
 }
+
+/* Why a call answered fault::file: the error of the call on a file that failed last in this thread. */
+inline std::error_code last_error() noexcept { return {geosvm_last_error(), std::generic_category()}; }
 
 /* The name of a fault, as "NothingToUndo"; none for those from 100 on. */
 inline std::string name_of(fault f) {

@@ -1,5 +1,6 @@
 """Compares the prototypes of geosvm.h with the exports of crates/geos_c: the same names, and the same parameters in the same order; and
-the struct of a place, which calls are passed: the same fields of the same types in the same order.
+the struct of a place, which calls are passed: the same fields of the same types in the same order. Calls that are written in C have
+no export, and are each in a source here; of those that stand in front of an export (sessions.c) private.h has the export's prototype.
 No proof reads C, and a program that is compiled by a wrong prototype links all the same. Run it anywhere; build.sh does."""
 import re
 import sys
@@ -17,10 +18,14 @@ IN_C = {
 }
 
 
-def declared(header):
+# The calls with no export that answer a code. The compiler compares them with geosvm.h.
+WRITTEN_IN_C = {"geosvm_open_path", "geosvm_save_as_path", "geosvm_copy_block"}
+
+
+def declared(header, prefix="geosvm_(?!io_)"):
     """The parameters of each prototype, as pairs of a type and a name. Those of files are the program's, not exports."""
     text = re.sub(r"/\*.*?\*/", "", header, flags=re.S)
-    found = re.findall(r"int32_t\s+(geosvm_(?!io_)\w+)\s*\(([^)]*)\)\s*;", text)
+    found = re.findall(rf"int32_t\s+({prefix}\w+)\s*\(([^)]*)\)\s*;", text)
     return {name: re.findall(r"\s*([^,]*?)(\w+)\s*(?:,|$)", parameters) for name, parameters in found}
 
 
@@ -53,10 +58,18 @@ def agree(in_c, in_rattle):
     return len(in_c) == len(in_rattle) and all(map(same, in_c, in_rattle))
 
 
+def is_defined(name):
+    return any(re.search(rf"^int32_t {name}\(", p.read_text(), flags=re.M) for p in HERE.glob("*.c"))
+
+
 header = (HERE / "geosvm.h").read_text()
 source = "".join(p.read_text() for p in sorted((HERE / "../crates/geos_c/src").glob("**/*.rt")))
 c, rattle = declared(header), exported(source)
-wrong = sorted(name for name in c.keys() | rattle.keys() if name not in c or name not in rattle or not agree(c[name], rattle[name]))
+renamed = {name.removeprefix("proved_"): given for name, given in declared((HERE / "private.h").read_text(), "proved_").items()}
+wrong = sorted(name for name in (c.keys() | rattle.keys()) - WRITTEN_IN_C
+               if name not in c or name not in rattle or not agree(c[name], rattle[name]))
+wrong += sorted(name for name in WRITTEN_IN_C if name not in c or name in rattle or not is_defined(name))
+wrong += sorted(f"proved_{name}" for name in renamed if name not in rattle or not agree(renamed[name], rattle[name]))
 if struct_in_c(header) != struct_in_rattle(source):
     wrong.append("geosvm_place")
 print(f"prototypes: {len(c)}, " + (f"wrong: {' '.join(wrong)}" if wrong else "as exported"))

@@ -9,6 +9,21 @@
 #include <sys/file.h>
 #include <unistd.h>
 
+/* To be copied: a document is opened by its path, or made, edited and saved; where any of that is refused it is told why. */
+static int32_t note(const char *path, const char *text) {
+  geosvm_session s = GEOSVM_CLOSED;
+  uint16_t block = 0, chunk = 0;
+  int32_t code = geosvm_open_path(&s, path, GEOSVM_PATH_CREATE);
+  if (code == GEOSVM_OK) code = geosvm_newheap(&s, 7, &block);
+  if (code == GEOSVM_OK) code = geosvm_alloc(&s, block, (uint32_t)strlen(text), &chunk);
+  if (code == GEOSVM_OK) code = geosvm_write(&s, block, chunk, 0, (const uint8_t *)text, strlen(text));
+  if (code == GEOSVM_OK) code = geosvm_save(&s);
+  if (code == GEOSVM_FILE) printf("%s: %s\n", path, strerror(geosvm_last_error()));
+  else if (code != GEOSVM_OK) printf("%s: %s\n", path, geosvm_code_text(code));
+  geosvm_close(&s);
+  return code;
+}
+
 static const char *name_of(int32_t code) {
   static _Thread_local char name[32];
   size_t n = 0;
@@ -34,7 +49,7 @@ static void show(geosvm_session *s, const char *line) {
 #define TELL(call) printf("%-26s %s\n", #call, name_of(call))
 #define TEXT(text) (const uint8_t *)text, sizeof text - 1
 
-/* Opens a file as the library wants it: to be read and written, and locked before anything is done to it. So it isn't opened with
+/* For a program that opens files itself: to be read and written, and locked before anything is done to it. So it isn't opened with
    O_TRUNC, which would cut a document that another program has open; geosvm_create makes a new one of it anyway. */
 static int file(const char *path) {
   int fd = open(path, O_RDWR | O_CREAT, 0644);
@@ -528,6 +543,21 @@ static void places(void) {
   close(fd);
 }
 
+/* Names and sentences of codes: those of faults are the names that replies have. */
+static void codes(void) {
+  puts("-- codes");
+  for (int32_t code = -1; code <= 105; code++) {
+    uint8_t name[16];
+    size_t n = 0;
+    const int32_t told = geosvm_fault_name(code, name, sizeof name, &n);
+    const bool is_fault = code >= 1 && code <= 29;
+    if ((told == GEOSVM_OK) != is_fault) printf("%d: WRONG, no name\n", code);
+    if (is_fault && (strlen(geosvm_code_name(code)) != n || memcmp(geosvm_code_name(code), name, n) != 0)) printf("%d: WRONG\n", code);
+    if (code < 31 || code > 98) printf("%d %s: %s\n", code, geosvm_code_name(code), geosvm_code_text(code));
+  }
+  printf("%s, %s\n", geosvm_code_name(INT32_MIN), geosvm_code_text(INT32_MAX));
+}
+
 /* The longest reply is that of a whole raw block. */
 static void longest(geosvm_session *s) {
   static uint8_t reply[GEOSVM_REPLY_MOST];
@@ -547,7 +577,7 @@ static void *worker(void *at) {
   int fd[SESSIONS];
   char path[64], line[64], reply[256];
   for (int i = 0; i < SESSIONS; i++) {
-    s[i] = (geosvm_session)GEOSVM_CLOSED;
+    s[i] = GEOSVM_CLOSED;
     snprintf(path, sizeof path, "many-%ld-%d.document", id, i);
     fd[i] = file(path);
     bad += geosvm_create(&s[i], fd[i], 8) != GEOSVM_OK;
@@ -573,6 +603,9 @@ static void *worker(void *at) {
 
 int main(void) {
   geosvm_session s = GEOSVM_CLOSED;
+  TELL(note("first.document", "abc"));
+  TELL(note("first.document", "and more"));
+  TELL(note("nowhere/first.document", "abc"));
   int fd = file("one.document");
   TELL(geosvm_create(&s, fd, 8));
   edits(&s);
@@ -581,8 +614,9 @@ int main(void) {
   another_file(&s, fd);
   refusals(&s, fd);
   longest(&s);
+  codes();
   geosvm_session moved = s; /* moved, and the old place forgotten */
-  s = (geosvm_session)GEOSVM_CLOSED;
+  s = GEOSVM_CLOSED;
   TELL(geosvm_close(&moved));
   TELL(geosvm_close(&moved));
   TELL(geosvm_create(&s, fd, 8));

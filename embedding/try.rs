@@ -1,13 +1,14 @@
 // Sessions from Rust: a safe type over the calls of geosvm.h, which keeps what that header asks for by Rust's own rules.
 use std::fmt;
 use std::fs::{File, OpenOptions};
-use std::marker::PhantomData;
 use std::os::fd::AsRawFd;
 
+/// GEOSVM_CLOSED is one of zeros.
 #[repr(C)]
 struct Raw {
     at: *mut u8,
     is_open: bool,
+    file: isize,
 }
 
 unsafe extern "C" {
@@ -42,12 +43,13 @@ fn result(code: i32) -> Result<(), Code> {
     if code == 0 { Ok(()) } else { Err(Code(code)) }
 }
 
-/// Not `Clone`, so never copied; `&mut self`, so one call at a time; not `Send`, by the raw pointer; closed by drop, before its file.
+/// Not `Clone`, so never copied; `&mut self`, so one call at a time; closed by drop, before its file. It may go to another thread.
 struct Session {
     raw: Raw,
     _file: File,
-    _thread: PhantomData<*mut u8>,
 }
+
+unsafe impl Send for Session {}
 
 impl Session {
     fn on(path: &str, create: bool) -> Result<Session, Code> {
@@ -55,10 +57,10 @@ impl Session {
         let opened = OpenOptions::new().read(true).write(true).create(create).truncate(false).open(path);
         let file = opened.map_err(|_| Code(IN_USE))?;
         file.try_lock().map_err(|_| Code(IN_USE))?;
-        let mut raw = Raw { at: std::ptr::null_mut(), is_open: false };
+        let mut raw = Raw { at: std::ptr::null_mut(), is_open: false, file: 0 };
         let begin = if create { geosvm_create } else { geosvm_open };
         result(unsafe { begin(&mut raw, file.as_raw_fd(), 8) })?;
-        Ok(Session { raw, _file: file, _thread: PhantomData })
+        Ok(Session { raw, _file: file })
     }
 
     fn command(&mut self, line: &str) -> Result<String, Code> {

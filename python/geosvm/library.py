@@ -11,6 +11,10 @@ from typing import Any
 from .errors import BadArgument
 
 MAJOR = 0
+MINOR = 2
+# Before 1.0 what the library takes may be other in each 0.N, as a session is.
+SERIES = f"{MAJOR}.{MINOR}" if MAJOR == 0 else f"{MAJOR}"
+FILE = 2
 CUT_OFF = 103
 UNTOLD = 104
 REPLY_MOST = 131072
@@ -19,7 +23,10 @@ REPLY_MOST = 131072
 class State(ctypes.Structure):
     """A geosvm_session. One that was just made is GEOSVM_CLOSED."""
 
-    _fields_ = [("private_at", ctypes.c_void_p), ("private_is_open", ctypes.c_bool)]
+    _fields_ = [
+        ("private_at", ctypes.c_void_p), ("private_is_open", ctypes.c_bool),
+        ("private_file", ctypes.c_ssize_t),
+    ]
 
 
 class PlaceFields(ctypes.Structure):
@@ -32,9 +39,9 @@ class PlaceFields(ctypes.Structure):
 
 
 # Each call but for the session, which comes first: what it takes, and behind -> what it gives.
-# `bytes` that are taken are a pointer and a size; lists that are given are a buffer, its room and
-# how many there are; `places` take a first number before these. tests/test_calls.py compares this
-# with geosvm.h.
+# Those that open a file by its path aren't here: files.py does that. `bytes` that are taken are a
+# pointer and a size; lists that are given are a buffer, its room and how many there are; `places`
+# take a first number before these. tests/test_calls.py compares this with geosvm.h.
 SESSION_CALLS = """
 open i32 size
 create i32 size
@@ -130,6 +137,7 @@ touched -> places
 undo_places -> places
 redo_places -> places
 abandon_places -> places
+copy_block u16 session -> u16
 """
 
 NUMBERS: dict[str, Any] = {
@@ -159,6 +167,8 @@ def types_taken(takes: list[str]) -> Iterator[Any]:
     for kind in takes:
         if kind == "bytes":
             yield from (ctypes.c_char_p, ctypes.c_size_t)
+        elif kind == "session":
+            yield ctypes.POINTER(State)
         else:
             yield NUMBERS[kind]
 
@@ -195,6 +205,8 @@ class Call:
             if kind == "bytes":
                 data = as_bytes(value)
                 passed += [data, len(data)]
+            elif kind == "session":
+                passed.append(value)
             else:
                 passed.append(as_number(self.name, kind, value))
         return passed
@@ -202,7 +214,7 @@ class Call:
 
 def _candidates() -> Iterator[str]:
     """Where the library may be, the likeliest place first."""
-    yield f"libgeosvm.so.{MAJOR}"
+    yield f"libgeosvm.so.{SERIES}"
     found = ctypes.util.find_library("geosvm")
     if found is not None:
         yield found
@@ -227,14 +239,14 @@ def _found() -> ctypes.CDLL:
         except OSError:
             continue
     raise ImportError(
-        f"there is no libgeosvm.so.{MAJOR} where the system looks for libraries: install it by "
+        f"there is no libgeosvm.so.{SERIES} where the system looks for libraries: install it by "
         "`sh install.sh PREFIX`, and set LD_LIBRARY_PATH, or set GEOSVM_LIBRARY to its path")
 
 
-def require_major(version: str, name: str) -> None:
-    """Refuses a library of another major version."""
-    if version.partition(".")[0] != str(MAJOR):
-        raise ImportError(f"{name} is version {version} of geosvm: this package needs {MAJOR}.x")
+def require_series(version: str, name: str) -> None:
+    """Refuses a library of another version than those that take the same."""
+    if not version.startswith(f"{SERIES}."):
+        raise ImportError(f"{name} is version {version} of geosvm: this package needs {SERIES}.x")
 
 
 def load() -> ctypes.CDLL:
@@ -245,7 +257,7 @@ def load() -> ctypes.CDLL:
         text = library.geosvm_version()
     except AttributeError:
         raise ImportError(f"{library._name} is no library of geosvm") from None
-    require_major(text.decode(), library._name)
+    require_series(text.decode(), library._name)
     return library
 
 
@@ -259,6 +271,11 @@ def version() -> str:
     """The version of the library that is loaded."""
     text: bytes = LIBRARY.geosvm_version()
     return text.decode()
+
+
+def last_error() -> int:
+    """The errno by which a call on a file failed last in this thread."""
+    return int(LIBRARY.geosvm_last_error())
 
 
 def fault_name(code: int) -> str:

@@ -9,7 +9,7 @@ import weakref
 from typing import Any
 
 from .errors import NotOpen, WrongThread, from_code
-from .library import CALLS, CUT_OFF, LISTS, NUMBERS, UNTOLD, Call, State
+from .library import CALLS, CUT_OFF, FILE, LISTS, NUMBERS, UNTOLD, Call, State, last_error
 
 
 class _Thread(threading.local):
@@ -25,7 +25,8 @@ _here = _Thread()
 class Session:
     """A session and the descriptor of its file: both are given up together.
 
-    The library wants all calls on a session to come from one thread, so others are refused.
+    The library wants one call at a time on a session. Here all have to come from one thread, so
+    that nobody has to see to that: those from others are refused.
     """
 
     def __init__(self, file: int, call: str, frames: int) -> None:
@@ -38,13 +39,15 @@ class Session:
         self.file = file
         _sessions.add(self)
 
-    def _made(self, call: Call, values: tuple[Any, ...], *given: Any) -> tuple[int, int]:
-        """The code that a call answers, and the errno that it leaves."""
+    def _require_thread(self, call: str) -> None:
         if self._thread is not _here.mark:
-            raise WrongThread(f"{call.name}: {WrongThread.__doc__}")
-        ctypes.set_errno(0)
+            raise WrongThread(f"{call}: {WrongThread.__doc__}")
+
+    def _made(self, call: Call, values: tuple[Any, ...], *given: Any) -> tuple[int, int]:
+        """The code that a call answers, and the errno where that is File."""
+        self._require_thread(call.name)
         code = call.function(self._state, *call.given(values), *given)
-        number = ctypes.get_errno()
+        number = last_error() if code == FILE else 0
         if call.may_edit and code in (0, CUT_OFF, UNTOLD):
             self.edits += 1
         return code, number
@@ -87,6 +90,13 @@ class Session:
         """Makes room for lists of so many."""
         if len(self._rooms[kind]) < length:
             self._rooms[kind] = (LISTS[kind] * length)()
+
+    def copy_block(self, block: int, to: Session) -> int:
+        """Copies a block into a session, which may be this one, and gives its handle there."""
+        to._require_thread("copy_block")
+        handle: int = self.call("copy_block", block, to._state)
+        to.edits += 1
+        return handle
 
     def length(self, name: str, *values: Any) -> int:
         """How many a list has, without the list."""

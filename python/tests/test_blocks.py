@@ -2,7 +2,7 @@
 import unittest
 
 import geosvm
-from folders import DocumentCase
+from folders import DocumentCase, image, text_of
 
 
 class Blocks(DocumentCase):
@@ -54,6 +54,34 @@ class Blocks(DocumentCase):
         self.assertEqual(heap.size, 16)
         self.assertTrue(heap)
         self.assertEqual(len(heap), 0)
+
+    def test_a_copy_in_another_document(self):
+        heap = self.doc.new_heap(user_id=7)
+        heap.type = 3
+        chunks = [heap.new_chunk(it) for it in (b"abc", b"", b"defgh")]
+        chunks[0].free()
+        raw = self.doc.new_raw(3, user_id=9)
+        with geosvm.create(self.path("two.document")) as other:
+            other.new_raw(1)
+            before = image(other)
+            copies = [other.copy_in(heap), other.copy_in(raw)]
+            self.assertEqual([it.handle for it in copies], [2, 3])
+            self.assertEqual([text_of(it) for it in copies], [text_of(heap), text_of(raw)])
+            self.assertIsInstance(copies[0], geosvm.Heap)
+            self.assertIs(copies[0].document, other)
+            other.undo()
+            other.undo()
+            self.assertEqual(image(other), before)
+            with other.group():
+                other.copy_in(heap)
+                other.copy_in(other[1])
+            other.undo()
+            self.assertEqual(image(other), before)
+            heap.free()
+            with self.assertRaises(geosvm.NoBlock):
+                other.copy_in(heap)
+        with self.assertRaises(geosvm.NotOpen):
+            other.copy_in(raw)
 
     def test_a_copy_is_a_block_of_its_own(self):
         heap = self.doc.new_heap(user_id=7)
