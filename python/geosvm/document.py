@@ -12,8 +12,8 @@ from typing import Any, Literal
 from .arrays import Name, name_bytes
 from .blocks import Block, Heap, Raw
 from .errors import BrokenGroup, Error, GroupOpen, NoBlock, NoGroup, NotOpen, TooBig, from_code
-from .files import Path, make_locked, open_locked
-from .library import REPLY_MOST
+from .files import Path, Replacement, make_locked, open_locked, sync_folder
+from .library import FILE, REPLY_MOST, last_error
 from .places import Place, as_places
 from .session import Session
 
@@ -79,7 +79,8 @@ class Document:
         data: bytes = self.call("command", line.encode("utf-8", "surrogateescape"))
         reply = data.decode("ascii").rstrip("\n")
         if reply.startswith("no "):
-            raise from_code(int(reply.split()[1]), "command")
+            code = int(reply.split()[1])
+            raise from_code(code, "command", last_error() if code == FILE else 0)
         return reply
 
     def close(self) -> None:
@@ -146,6 +147,12 @@ class Document:
     def new_raw(self, size: int = 0, user_id: int = 0) -> Raw:
         """Makes a raw block of so many zeros."""
         return Raw(self, self.call("newraw", user_id, size))
+
+    def copy_in(self, block: Heap | Raw) -> Heap | Raw:
+        """Makes a block like one of another document: with its content, its user ID and type,
+        and its chunks under the same handles."""
+        handle = block.document._session.copy_block(block.handle, self._session)
+        return type(block)(self, handle)
 
     @property
     def map_block(self) -> Heap | Raw | None:
@@ -307,20 +314,52 @@ class Document:
         self.call("revert")
 
     def save_as(self, path: Path) -> None:
-        """Saves into another file, whatever was in it, and goes on in that.
+        """Saves into another file, and goes on in that.
 
-        The file that is left goes back to its saved document. Where it is refused the document
-        stays in its file, and the other one may have any bytes.
+        The file that is left goes back to its saved document. What the other file had in it is
+        replaced once the document is whole in a file beside it; so where this is refused the
+        document stays in its file, and the other one as it was.
         """
         if self.closed:
             raise NotOpen(f"save_as: {NotOpen.__doc__}")
-        file = make_locked(path)
+        old = make_locked(path)
+        if os.fstat(old).st_size == 0:
+            self._save_into_empty(old, path)
+            return
         try:
-            self.call("save_as", file)
-        except Error:  # after an interrupt the document may be in either file, so both stay open
+            self._replace(old, path)
+        finally:
+            os.close(old)
+
+    def _save_into_empty(self, file: int, path: Path) -> None:
+        """Saves into a file that has nothing in it, nor where this is refused."""
+        try:
+            self._save_into(file, path)
+        except Error:
+            with contextlib.suppress(OSError):
+                os.ftruncate(file, 0)
             os.close(file)
             raise
+
+    def _replace(self, old: int, path: Path) -> None:
+        """Saves into a new file that takes the place of an old one."""
+        new = Replacement(old, path)
+        try:
+            self._save_into(new.file, new.path)
+        except Error:
+            new.give_up()
+            raise
+        new.take_place()
+        self._be_at(path)
+        sync_folder(path)
+
+    def _save_into(self, file: int, path: Path) -> None:
+        """Goes on in a file. After an interrupt the document may be in either: both are open."""
+        self.call("save_as", file)
         self._session.take_file(file)
+        self._be_at(path)
+
+    def _be_at(self, path: Path) -> None:
         self.path = path
         self._finalizer.detach()
         self._finalizer = weakref.finalize(self, _drop, self._session, path)

@@ -5,6 +5,7 @@ from __future__ import annotations
 import errno
 import fcntl
 import os
+import tempfile
 from typing import Union
 
 from .errors import file_error, from_system
@@ -70,3 +71,50 @@ def make_locked(path: Path, must_be_empty: bool = False) -> int:
         os.close(number)
         raise
     return number
+
+
+class Replacement:
+    """A new file beside one that has something in it, whose place it takes once it is whole.
+
+    It has that file's owner and mode, and the lock of both is held meanwhile. Only a file with
+    one name can be replaced, since its other names would still lead to the old one.
+    """
+
+    def __init__(self, old: int, path: Path) -> None:
+        status = os.fstat(old)
+        if status.st_nlink != 1:
+            raise file_error(errno.EMLINK, "the file has several names", os.fsdecode(path))
+        self._path = os.path.realpath(os.fsdecode(path))
+        folder, name = os.path.split(self._path)
+        try:
+            number, self.path = tempfile.mkstemp(prefix=f"{name}.", dir=folder)
+        except OSError as error:
+            raise from_system(error) from None
+        self.file = number
+        try:
+            self.file = _above_streams(number)
+            _lock(self.file, self.path)
+            self._be_like(status)
+        except BaseException as error:
+            self.give_up()
+            if isinstance(error, OSError):
+                raise from_system(error) from None
+            raise
+
+    def _be_like(self, status: os.stat_result) -> None:
+        own = os.fstat(self.file)
+        if (own.st_uid, own.st_gid) != (status.st_uid, status.st_gid):
+            os.fchown(self.file, status.st_uid, status.st_gid)
+        os.fchmod(self.file, status.st_mode & 0o7777)
+
+    def take_place(self) -> None:
+        """Takes the old file's place. Where it can't, it keeps the name `path`."""
+        try:
+            os.rename(self.path, self._path)
+        except OSError as error:
+            raise from_system(error) from None
+
+    def give_up(self) -> None:
+        """Takes the new file away: the old one stays as it is."""
+        os.unlink(self.path)
+        os.close(self.file)

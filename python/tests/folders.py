@@ -17,6 +17,13 @@ class FolderCase(unittest.TestCase):
     def path(self, name="one.document"):
         return os.path.join(self.folder, name)
 
+    def make(self, name="one.document", data=b"abc"):
+        """A file with a document of a heap that has one chunk."""
+        with geosvm.open(self.path(name), "w+") as doc:
+            doc.new_heap(user_id=7).new_chunk(data)
+            doc.save()
+        return self.path(name)
+
 
 class DocumentCase(FolderCase):
     """Each test has an empty document."""

@@ -1,4 +1,5 @@
 """Documents in files: opened, shared, committed, closed and dropped."""
+import errno
 import gc
 import os
 import pathlib
@@ -13,12 +14,6 @@ from folders import DocumentCase, FolderCase, image
 
 
 class Opened(FolderCase):
-    def make(self, name="one.document", data=b"abc"):
-        with geosvm.open(self.path(name), "w+") as doc:
-            doc.new_heap(user_id=7).new_chunk(data)
-            doc.save()
-        return self.path(name)
-
     def content(self, path):
         with open(path, "rb") as file:
             return file.read()
@@ -309,6 +304,61 @@ class Commits(DocumentCase):
         self.assertEqual(self.doc.path, self.path())
         self.assertEqual(bytes(self.chunk), b"abc")
         self.doc.save()
+
+    def test_save_as_replaces_a_file_once_the_document_is_whole(self):
+        other = self.make("other.document")
+        os.chmod(other, 0o640)
+        os.symlink(other, self.path("link.document"))
+        before = os.stat(other)
+        self.chunk.write(0, b"x")
+        self.doc.save_as(self.path("link.document"))
+        after = os.stat(other)
+        self.assertTrue(os.path.islink(self.path("link.document")))
+        self.assertNotEqual(before.st_ino, after.st_ino)
+        self.assertEqual(after.st_mode & 0o7777, 0o640)
+        with self.assertRaises(BlockingIOError):
+            geosvm.open(other)
+        self.doc.close()
+        with geosvm.open(other) as doc:
+            self.assertEqual(bytes(doc[1][16]), b"xbc")
+        self.assertEqual(sorted(os.listdir(self.folder)),
+                         ["link.document", "one.document", "other.document"])
+
+    def test_a_refused_save_as_leaves_the_other_file_as_it_was(self):
+        other = self.make("other.document")
+        self.doc.save()
+        with open(other, "rb") as file:
+            bytes_before = file.read()
+        inode = os.stat(other).st_ino
+        numbers = len(os.listdir("/proc/self/fd"))
+        with self.doc.group(), self.assertRaises(geosvm.GroupOpen):
+            self.doc.save_as(other)
+        os.link(other, self.path("link.document"))
+        with self.assertRaises(geosvm.File) as refused:
+            self.doc.save_as(other)
+        self.assertEqual(refused.exception.errno, errno.EMLINK)
+        os.unlink(self.path("link.document"))
+        with mock.patch.object(os, "fchmod", side_effect=PermissionError(errno.EPERM, "no")), \
+                self.assertRaises(PermissionError):
+            self.doc.save_as(other)
+        with open(other, "rb") as file:
+            self.assertEqual(file.read(), bytes_before)
+        self.assertEqual(os.stat(other).st_ino, inode)
+        self.assertEqual(sorted(os.listdir(self.folder)), ["one.document", "other.document"])
+        self.assertEqual(len(os.listdir("/proc/self/fd")), numbers)
+        self.assertEqual(self.doc.path, self.path())
+
+    def test_a_save_as_that_cannot_take_the_place_goes_on_beside(self):
+        other = self.make("other.document")
+        with mock.patch.object(os, "rename", side_effect=PermissionError(errno.EPERM, "no")), \
+                self.assertRaises(PermissionError):
+            self.doc.save_as(other)
+        self.assertTrue(os.fspath(self.doc.path).startswith(other + "."))
+        before = image(self.doc)
+        path = self.doc.path
+        self.doc.close()
+        with geosvm.open(path) as doc:
+            self.assertEqual(image(doc), before)
 
     def test_a_refused_save_as_leaves_the_document_where_it_is(self):
         with self.doc.group(), self.assertRaises(geosvm.GroupOpen):

@@ -249,7 +249,7 @@ class Library(FolderCase):
     def test_one_of_another_major_version(self):
         library = self.compiled('const char *geosvm_version(void) { return "1.2.3"; }')
         self.assertEqual(self.imported(library), f"{library} is version 1.2.3 of geosvm: "
-                         "this package needs 0.x\n")
+                         "this package needs 0.2.x\n")
 
     def test_one_that_is_another_library(self):
         library = self.compiled("int other;")
