@@ -27,6 +27,9 @@ EXAMPLES = [
     ["tutorial_drawing"],
     ["tutorial_table", "tutorial_table_opened", "tutorial_table_copied"],
     ["tutorial_letter", "tutorial_letter_opened"],
+    ["designed_text"],
+    ["designed_drawing", "designed_drawing_opened"],
+    ["designed_database"],
 ]
 # What some are run with besides.
 OPTIONS = {"tutorial_letter_opened": ["--undo", "2"]}

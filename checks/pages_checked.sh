@@ -1,8 +1,8 @@
 #!/bin/sh
 # Needs: file groff man
 # Looks over the pages for newcomers: that the manual pages are in order, that geosvm.1 has the commands of SCRIPT.md, that the magic
-# lines tell a document, and that the commands and replies of TUTORIAL.md are those of its scripts. With a program it runs these scripts
-# too, on files.
+# lines tell a document, that the commands and replies of TUTORIAL.md are those of its scripts, and that what DESIGNING.md and RATTLE.md
+# quote of scripts and of a program stands there. With a program it runs the tutorial's scripts too, on files.
 #
 #     sh checks/pages_checked.sh [crates/geosvm/out/geosvm]
 set -u
@@ -91,16 +91,62 @@ if there file; then
     done
 fi
 
+# paired NAME: the commands of a script with their replies, as a page has them
+paired() {
+    grep -v '^[[:space:]]*\(#\|$\)' "$data/$1.script" | paste - "$data/$1.replies"
+}
+
 echo "-- the tutorial"
 names=$(sed -n 's/^```\(tutorial_[a-z_]*\)$/\1/p' docs/TUTORIAL.md | sort -u)
 for name in $names; do
     # A line of a block is a command, two spaces or more, and its reply.
-    grep -v '^[[:space:]]*\(#\|$\)' "$data/$name.script" | paste - "$data/$name.replies" >"$folder/wanted"
+    paired "$name" >"$folder/wanted"
     awk -v name="$name" '$0 == "```" name { on = 1; next } $0 == "```" { on = 0 } on' docs/TUTORIAL.md \
         | awk -F '  +' -v OFS='\t' '{ print $1, $2 }' >"$folder/got"
     same "$name has the lines of its script, in order: $(wc -l <"$folder/wanted" | tr -d ' ')"
 done
 told "all scripts are in it" "$(cd $data && ls tutorial_*.script | sed 's/\.script$//' | sort)" "$names"
+
+# quoted PAGE MARK FILE [columns]: how many blocks under this mark the page has, each of which has to stand in the file, in order and
+# without a gap; with `columns` a line is a command, two spaces or more, and its reply
+quoted() {
+    awk -F '  +' -v OFS='\t' -v mark="$2" -v by_columns="${4:-}" '
+        NR == FNR { rest = rest $0 "\n"; next }
+        $0 == "```" mark { on = 1; block = ""; next }
+        on && $0 == "```" {
+            on = 0
+            at = index("\n" rest, "\n" block)
+            if (at == 0) { print "not there, or not in order: " block; exit }
+            rest = substr(rest, at + length(block))
+            count++
+        }
+        on { if (by_columns) $1 = $1; block = block $0 "\n" }
+        END { print count + 0 " quoted" }' "$3" "$1"
+}
+
+# quotes PAGE MARK FILE [columns]: the page has blocks under this mark, and all of them are quoted
+quotes() {
+    count=$(grep -c -x "\`\`\`$2" "$1")
+    [ "$count" != 0 ] || count=some
+    told "$1 quotes $2" "$count quoted" "$(quoted "$@")"
+}
+
+echo "-- the designs, and the calls from Rattle"
+for name in $(cd $data && ls designed_*.script | sed 's/\.script$//'); do
+    paired "$name" >"$folder/pairs"
+    quotes docs/DESIGNING.md "$name" "$folder/pairs" columns
+done
+told "it quotes scripts alone" "" "$(sed -n 's/^```\(..*\)$/\1/p' docs/DESIGNING.md | grep -v '^designed_')"
+# A case has the name of its row, and its last weight is the number there.
+awk '/^case/ { if (name) print name, weight; name = substr($0, 6) } /^weight/ { weight = $2 } END { print name, weight }' \
+    crates/cases/data/designs.cases | sort >"$folder/wanted"
+sed -n '/^| A step |/,/^$/s/^| \([^|]*\) | \([0-9,]*\) |$/\1 \2/p' docs/DESIGNING.md \
+    | sed -e :again -e 's/,\([0-9]*\)$/\1/; t again' | sort >"$folder/got"
+same "what a step holds is as the cases say"
+quotes docs/RATTLE.md rust crates/session_example/src/main.rt
+quotes docs/RATTLE.md session_example crates/session_example/stdout
+quotes docs/RATTLE.md crates crates.txt
+told "it quotes these alone" "" "$(sed -n 's/^```\(..*\)$/\1/p' docs/RATTLE.md | grep -v -x -e rust -e session_example -e crates)"
 
 # run NAME WORD..: the script on the program with these words
 run() {
@@ -127,7 +173,8 @@ if [ -n "$program" ]; then
     run tutorial_letter_opened --undo 2 "$letter"
     told "the table is the saved one again" "bytes 6e61696c0a000000 blocks 0001 0002" \
         "$(printf 'aget 0002 0010 0\nlist\n' | "$program" "$table" | tr '\n' ' ' | sed 's/ $//')"
-    told "a file that isn't there" "geosvm: open 2 File" "$("$program" "$folder/missing" </dev/null 2>&1)"
+    told "a file that isn't there" "geosvm: open 2 File
+geosvm: $folder/missing: no such file" "$("$program" "$folder/missing" </dev/null 2>&1)"
     told "a file that is no document" "geosvm: open 4 NotDocument" "$("$program" "$folder/zeros" </dev/null 2>&1)"
     told "a save-as of a file to itself" "geosvm: FILE2 is FILE" "$("$program" --as "$copy" "$copy" </dev/null 2>&1)"
     document >"$folder/wanted"
