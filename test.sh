@@ -41,6 +41,7 @@ check() {
     heap_by_chance) python3 checks/heap_by_chance.py "$geosvm" $((times * 1000)) ;;
     memory_given_back) python3 checks/memory_given_back.py "$geosvm" ;;
     edits_by_chance) python3 checks/edits_by_chance.py "$geosvm" $times ;;
+    designs_measured) python3 checks/designs_measured.py "$geosvm" ;;
     examples) python3 checks/examples.py "$geosvm" ;;
     looks) python3 checks/looks.py "$geosvm" "$geosdoc" ;;
     stat_counted) python3 checks/stat_counted.py "$geosvm" "$geosdoc" $documents ;;
@@ -60,13 +61,16 @@ check() {
     installed) sh checks/installed.sh "$geosvm" "$geosdoc" embedding/out/libgeosvm.a ;;
     python_package) sh checks/python_package.sh "$geosvm" "$geosdoc" embedding/out/libgeosvm.a ;;
     cpp_header) sh checks/cpp_header.sh "$geosvm" "$geosdoc" embedding/out/libgeosvm.a ;;
+    rust_crate) sh checks/rust_crate.sh "$geosvm" "$geosdoc" embedding/out/libgeosvm.a ;;
+    outline_editor) python3 checks/outline_editor.py "$geosvm" "$geosdoc" embedding/out/libgeosvm.a $long ;;
     *) echo "there is no check $1"; return 2 ;;
     esac
 }
 # Those that take longest come first, and behind them what needs one of them.
 first="embedding lent_bytes each_request failing_calls limits dumped_documents looks memory_given_back edits_by_chance heap_by_chance bench"
-first="$first instructions made_beside stat_counted changed_bytes program_ends examples pages_checked ways_to_start prompts commands_listed"
-second="failing_calls_from_c installed cpp_header python_package"
+first="$first instructions made_beside stat_counted changed_bytes program_ends examples designs_measured pages_checked ways_to_start"
+first="$first prompts commands_listed"
+second="failing_calls_from_c outline_editor rust_crate installed cpp_header python_package"
 
 # script_of NAME: the file of a check.
 script_of() {
@@ -131,7 +135,7 @@ if [ "$named" ]; then
     second=
     for name in $named; do
         case $name in
-        failing_calls_from_c | installed | cpp_header | python_package) second="$second $name" ;;
+        failing_calls_from_c | installed | cpp_header | python_package | rust_crate | outline_editor) second="$second $name" ;;
         *) first="$first $name" ;;
         esac
     done
