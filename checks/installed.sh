@@ -1,5 +1,5 @@
 #!/bin/sh
-# Needs: gcc g++ nm objdump pkg-config file groff man dpkg dpkg-deb
+# Needs: gcc g++ rustc nm objdump pkg-config file groff man dpkg dpkg-deb
 # Installs the programs and the library for C into a folder of its own, by install.sh, and tries what lies there: a program in C and in C++
 # over the shared library and over the archive, the examples of embedding/ over the shared one, which names each exports, the version
 # that each tells, the pages and the magic lines, an install over an old one, what is left when it is removed, and a Debian package.
@@ -107,9 +107,28 @@ loaded() {
 }
 told "all five were linked, and the two that should load the shared library" "$prefix/lib/$soname $prefix/lib/$soname   " \
     "$(loaded ./c_shared) $(loaded ./cpp_shared) $(loaded ./c_archive) $(loaded ./cpp_archive) $(loaded ./c_static)"
+kit=$(sed -n 's/^Kit: \(rattle-[^ ]*\).*/\1/p' "$prefix/share/doc/geosvm/PROVED")
 for name in geosvm geosdoc; do
     told "$name has the version of geosvm.h" "$name $version" "$("$prefix/bin/$name" --version | cut -d , -f 1)"
+    told "$name tells the kit that PROVED has" "proved by $kit" "$("$prefix/bin/$name" --version | sed 's/.*, //')"
 done
+
+echo "-- the lines of the library's page, where nothing else is"
+mkdir own own/empty
+cp "$root/embedding/try.c" own/program.c && cp "$root/embedding/try.rs" own/program.rs
+sed -n '/^```sh/,/^```/p' "$root/embedding/README.md" | grep -v '^```' | sed "s,PREFIX,$prefix,g" >own/lines
+told "the page exports, compiles and links so often" "1 2 1" "$(grep -c '^export ' own/lines) $(grep -c '^gcc ' own/lines) $(grep -c '^rustc ' own/lines)"
+# made LINE MADE OUTPUT: the line, behind that which exports, makes this, which prints that
+made() {
+    (cd own && rm -f a.out program && eval "$(grep '^export ' lines)" && eval "$1" && cd empty && rm -f ./* && "../$2" >../said) 2>own/errors
+    told "$1" "0 " "$? $(cat own/errors)$(diff "$root/embedding/$3" own/said 2>&1 | head -n 6)"
+}
+while read -r line; do
+    case $line in
+    gcc*) made "$line" a.out try_c.output ;;
+    rustc*) made "$line" program try_rs.output ;;
+    esac
+done <own/lines
 
 echo "-- pages"
 for page in "$prefix"/share/man/man1/*.1; do

@@ -181,8 +181,8 @@ geosvm: $folder/missing: no such file" "$("$program" "$folder/missing" </dev/nul
     "$program" --new "$folder/got" </dev/null
     told "a new document has the bytes that the magic lines were tried on" "" "$(cmp "$folder/wanted" "$folder/got" 2>&1)"
     printf 'newheap 7\n# a note\nvfree 0002\nlist' | "$program" --new --bail --echo "$folder/bailed" >"$folder/got" 2>"$folder/errors"
-    told "a run that bails" "1 geosvm: refused" "$? $(cat "$folder/errors")"
-    awk '/^writes this, and ends with status 1:$/ { found = 1 } found && $0 == "```" { if (on) exit; on = 1; next } on' docs/SCRIPT.md >"$folder/wanted"
+    told "a run that bails" "1 geosvm: line 3 is refused" "$? $(cat "$folder/errors")"
+    awk '/writes this, and ends with status 1:$/ { found = 1 } found && $0 == "```" { if (on) exit; on = 1; next } on' docs/SCRIPT.md >"$folder/wanted"
     same "it writes what SCRIPT.md shows"
     if there file; then
         for made in "$book" "$drawing" "$table" "$copy" "$letter"; do

@@ -81,8 +81,14 @@ def try_geosvm(ends, geosvm):
     ends.ends("geosvm, a damaged document", [geosvm, "damaged"], 1, "", "geosvm: open 3 Damaged\n")
     ends.ends("geosvm, refusals", [geosvm, "document"], 0, "no 5 NoBlock\nbytes 616263\nno 25 BadCommand\n", "",
               "vfree 0009\nvread 0001\nnothing\n")
-    ends.ends("geosvm --bail", [geosvm, "--bail", "document"], 1, "bytes 616263\nno 5 NoBlock\n", "geosvm: refused\n",
+    ends.ends("geosvm --bail", [geosvm, "--bail", "document"], 1, "bytes 616263\nno 5 NoBlock\n", "geosvm: line 2 is refused\n",
               "vread 0001\nvfree 0009\nvread 0001\n")
+    # Each line counts, one that gets no reply and one that no read gives as a whole too.
+    ends.ends("geosvm --bail, notes and empty lines", [geosvm, "--bail", "document"], 1, "no 5 NoBlock\n", "geosvm: line 5 is refused\n",
+              "# a note\n\n \t\r\n" + "#" * 100_000 + "\nvfree 0009\n")
+    ends.ends("geosvm --bail, the last line", [geosvm, "--bail", "document"], 1, "bytes 616263\nno 25 BadCommand\n",
+              "geosvm: line 100002 is refused\n", "\n" * 100_000 + "vread 0001\nnothing")
+    ends.ends("geosvm --bail, the first line", [geosvm, "--bail", "document"], 1, "no 5 NoBlock\n", "geosvm: line 1 is refused\n", "vfree 0009")
     ends.ends("geosvm --echo", [geosvm, "--echo", "document"], 0, "# a note\nvread 0001\nbytes 616263\n", "", "# a note\nvread 0001")
     folder = os.open(ends.folder, os.O_RDONLY)
     ends.ends("geosvm, a script that can't be read", [geosvm, "document"], 1, "", "geosvm: read fault\n", stdin=folder)
@@ -169,7 +175,7 @@ def try_geosdoc(ends, geosdoc):
     ends.told("geosdoc restore, a script that can't be read", (1, "", "geosdoc: read fault\n"), ends.run([geosdoc, "restore", "half"], stdin=folder))
     os.close(folder)
     os.remove(ends.path("half"))
-    wanted = 1, "", "geosdoc: half: a line of the script is refused: no 5 NoBlock\n"
+    wanted = 1, "", "geosdoc: half: line " + str(MADE.count("\n") + 1) + " of the script is refused: no 5 NoBlock\n"
     ends.told("geosdoc restore, a line that is refused", wanted, ends.run([geosdoc, "restore", "half"], MADE + "vfree 0009\n"))
     os.remove(ends.path("half"))
     ends.told("geosdoc restore", (0, "", ""), ends.run([geosdoc, "restore", "again"], MADE))

@@ -1,25 +1,37 @@
-# Needs: python3
+# Needs: python3 tmux
 """Types to geosvm where its standard streams are terminals and where they are pipes, and looks at the prompts, the replies, what is told
 and the exit status. A prompt comes just where standard input and standard error are both terminals, and there alone a line may ask for
-help, have texts in quotes, or end the script; everywhere else the same bytes are a script, as they stand.
+help, have texts in quotes, or end the script, and it is asked once before edits that aren't saved are given up; everywhere else the same
+bytes are a script, as they stand. A whole session is typed in tmux, whose screens are those of checks/screens/.
 
-    python3 checks/prompts.py crates/geosvm/out/geosvm
+    python3 checks/prompts.py crates/geosvm/out/geosvm [--write]    --write makes the screens anew
 """
 
+import contextlib
 import os
+import pathlib
 import pty
+import shlex
 import subprocess
 import sys
 import tempfile
 import termios
 import threading
+import time
 import tty
 
+SCREENS = pathlib.Path(__file__).resolve().parent / "screens"
 PROMPT = b"geosvm> "
-TYPED = b"newraw 7 2\nlist\n"
-REPLIES = b"block 0001\nblocks 0001\n"
-# One before each line, and one that is answered by the end of the script.
-PROMPTS = PROMPT * 3 + b"\n"
+QUESTION = b"Edits aren't saved. Type save or update to keep them, quit again to drop them.\n"
+# Ctrl-D, and what is told then.
+KEY, ENDED = b"\x04", b"\n"
+# It is asked, and dropped.
+DROPPED = ENDED + QUESTION + ENDED
+EDIT, MADE = b"newraw 7 2\n", b"block 0001\n"
+TYPED = EDIT + b"list\n"
+REPLIES = MADE + b"blocks 0001\n"
+# One before each line, and two that are answered by the end of the script.
+PROMPTS = PROMPT * 3 + ENDED + QUESTION + PROMPT + ENDED
 
 
 def read_all(descriptor):
@@ -45,8 +57,9 @@ def ends(is_terminal):
     return ours, theirs
 
 
-def run(program, typed, input_is_terminal=True, errors_are_terminal=True, words=("--new", "document"), ends_by_key=True):
-    """The status, the replies and what is told, of lines that are typed or come from a pipe."""
+def run(program, typed, input_is_terminal=True, errors_are_terminal=True, words=("--new", "document"), ends_by_key=True, there=None):
+    """The status, the replies and what is told, of lines that are typed or come from a pipe. Two keys end what is typed: the second one
+    is read only where the first one didn't end it."""
     errors, errors_of_program = ends(errors_are_terminal)
     if input_is_terminal:
         typing, script = pty.openpty()
@@ -55,7 +68,7 @@ def run(program, typed, input_is_terminal=True, errors_are_terminal=True, words=
         termios.tcsetattr(script, termios.TCSANOW, attributes)
     else:
         script, typing = os.pipe()
-    with tempfile.TemporaryDirectory() as folder:
+    with contextlib.nullcontext(there) if there else tempfile.TemporaryDirectory() as folder:
         started = subprocess.Popen([program, *words], stdin=script, stdout=subprocess.PIPE, stderr=errors_of_program, cwd=folder)
         os.close(script)
         os.close(errors_of_program)
@@ -69,7 +82,7 @@ def run(program, typed, input_is_terminal=True, errors_are_terminal=True, words=
         os.write(typing, typed)
         if input_is_terminal:
             if ends_by_key:
-                os.write(typing, b"\x04")
+                os.write(typing, KEY * 2)
             replies = started.stdout.read()
             os.close(typing)
         else:
@@ -123,12 +136,12 @@ def look_at_texts(looks):
         ("a text that would be a note", b'"#####"', b"#####"),
     ):
         typed = made + b"write 0001 0010 0 " + text + b"\nread 0001 0010\n"
-        looks.types(name, typed, replies + b"ok\nbytes " + bytes_of.hex().encode() + b"\n", b"\n")
+        looks.types(name, typed, replies + b"ok\nbytes " + bytes_of.hex().encode() + b"\n", DROPPED)
     looks.types("a name and a part", b'newheap 7\nncreate 0001 2\nnadd 0001 0010 "Ada" "20" set\nntext 0001 0010 0000\n',
-                b"block 0001\nchunk 0010\ntoken 0000\nbytes 416461\n", b"\n")
+                b"block 0001\nchunk 0010\ntoken 0000\nbytes 416461\n", DROPPED)
     looks.types("a note with a quote", b'# "a note\n# "two" of them\nlist\n', b"blocks\n", b"\n")
     looks.types("the line that is echoed", b'newraw 7 2\nvwrite 0001 0 "hi"\n# "hi"\n',
-                b'newraw 7 2\nblock 0001\nvwrite 0001 0 6869\nok\n# "hi"\n', b"\n", words=("--new", "--echo", "document"))
+                b'newraw 7 2\nblock 0001\nvwrite 0001 0 6869\nok\n# "hi"\n', DROPPED, words=("--new", "--echo", "document"))
 
 
 def look_at_reasons(looks):
@@ -193,11 +206,96 @@ def look_at_help(looks):
     looks.types("help of what is no command", b"help nothing\n", b"", b"no command is called nothing, help lists them\n\n")
 
 
+def look_at_end(looks, name, typed, replies, told, left, **how):
+    """What is typed ends the run, is answered so, this is told, and the file has these blocks then."""
+    with tempfile.TemporaryDirectory() as folder:
+        given = run(looks.program, typed, there=folder, ends_by_key=False, **how)
+        has = subprocess.run([looks.program, "document"], input=b"list\n", stdout=subprocess.PIPE, cwd=folder, check=True).stdout
+    looks.told(name, (0, replies, told, left), (*given, has))
+
+
 def look_at_ends(looks):
-    looks.told("quit", (0, b"block 0001\n", PROMPT * 2), run(looks.program, b"newraw 7 2\nquit\n", ends_by_key=False))
-    looks.told("quit with blanks", (0, b"", PROMPT), run(looks.program, b"  quit \t\n", ends_by_key=False))
+    none, one, ok = b"blocks\n", b"blocks 0001\n", b"ok\n"
+    for end, typed, told in (("Ctrl-D", KEY, ENDED), ("quit", b"quit\n", b"")):
+        leaves = PROMPT + told
+        asked = leaves + QUESTION
+        look_at_end(looks, f"{end} at once", typed, b"", leaves, none)
+        look_at_end(looks, f"{end} twice, edits aren't saved", EDIT + typed * 2, MADE, PROMPT + asked + leaves, none)
+        for commit in (b"save\n", b"update\n"):
+            name = commit.decode().strip()
+            look_at_end(looks, f"{end} behind {name}", EDIT + commit + typed, MADE + ok, PROMPT * 2 + leaves, one)
+            look_at_end(looks, f"{end}, {name}, {end}", EDIT + typed + commit + typed, MADE + ok, PROMPT + asked + PROMPT + leaves, one)
+        look_at_end(looks, f"{end}, a line, {end} twice", EDIT + typed + b"list\n" + typed * 2, MADE + one,
+                    PROMPT + asked + PROMPT + asked + leaves, none)
+        look_at_end(looks, f"{end} behind an undo", EDIT + b"undo\n" + typed, MADE + ok, PROMPT * 2 + leaves, none)
+        look_at_end(looks, f"{end} twice, one edit is saved", EDIT + b"save\n" + EDIT + typed * 2, MADE + ok + b"block 0002\n",
+                    PROMPT * 3 + asked + leaves, one)
+        look_at_end(looks, f"{end} twice, a revert", EDIT + typed + b"revert\n" + typed, MADE + ok, PROMPT + asked + PROMPT + leaves, none)
+    look_at_end(looks, "quit with blanks", b"  quit \t\n", b"", PROMPT, none)
+    look_at_end(looks, "quit, Ctrl-D", EDIT + b"quit\n" + KEY, MADE, PROMPT * 2 + QUESTION + PROMPT + ENDED, none)
     # Ctrl-D ends a line first, where one has begun.
-    looks.told("a line without a line feed", (0, b"blocks\n", PROMPT * 2 + b"\n"), run(looks.program, b"list\x04"))
+    look_at_end(looks, "a line without a line feed", b"list" + KEY * 2, none, PROMPT * 2 + ENDED, none)
+    look_at_end(looks, "an edit without a line feed", EDIT[:-1] + KEY * 3, MADE, PROMPT * 2 + ENDED + QUESTION + PROMPT + ENDED, none)
+    # Nobody is asked of a script.
+    look_at_end(looks, "an edit in a script", EDIT, MADE, b"", none, input_is_terminal=False)
+    look_at_end(looks, "an edit that is typed, errors elsewhere", EDIT + KEY, MADE, b"", none, errors_are_terminal=False)
+
+
+# What is typed, a screen of its own each: prompts, a text, why a line is no command, help; and ends.
+SESSIONS = {
+    "prompt": ("newheap 7", "alloc 0001 5", 'write 0001 0010 0 "hello"', "read 0001 0010", "", "# a note", "lost", "alloc 1 3", 'free 0001 "x',
+               "help write", "help nothing", "save", "quit"),
+    "question": ("newraw 7 2", "quit", "save", "newraw 7 2", KEY.decode(), "list", KEY.decode(), "quit"),
+}
+
+
+class Screen:
+    """A session of geosvm in tmux, behind which its status is shown."""
+
+    def __init__(self, program, folder, name):
+        # Its own socket: the server of the session before may not have ended yet, and would refuse this one.
+        self.base = ["tmux", "-u", "-L", f"prompts-{os.getpid()}-{name}", "-f", "/dev/null"]
+        command = f"{shlex.quote(program)} --new document; echo status $?; exec sleep 60"
+        environment = dict(os.environ, LANG="C.UTF-8", LC_ALL="C.UTF-8")
+        subprocess.run([*self.base, "new-session", "-d", "-x", "80", "-y", "50", command], check=True, cwd=folder, env=environment)
+
+    def tmux(self, *words):
+        return subprocess.run([*self.base, *words], check=True, capture_output=True, text=True).stdout
+
+    def shown(self):
+        return self.tmux("capture-pane", "-p").rstrip("\n") + "\n"
+
+    def wait(self, is_there):
+        """What is shown once it is so, or after a while."""
+        end = time.monotonic() + 30
+        while not is_there(self.shown()) and time.monotonic() < end:
+            time.sleep(0.05)
+        return self.shown()
+
+    def type(self, line):
+        # Each line behind the prompt for it, so that what is typed stands there.
+        prompt = PROMPT.decode().rstrip()
+        before = self.wait(lambda shown: shown.splitlines()[-1] == prompt)
+        self.tmux("send-keys", "-l", line)
+        if line != KEY.decode():
+            self.tmux("send-keys", "Enter")
+        self.wait(lambda shown: shown != before)
+
+
+def look_at_screens(looks, writes):
+    for name, lines in SESSIONS.items():
+        with tempfile.TemporaryDirectory() as folder:
+            screen = Screen(looks.program, folder, name)
+            try:
+                for line in lines:
+                    screen.type(line)
+                shown = screen.wait(lambda shown: "\nstatus " in shown)
+            finally:
+                screen.tmux("kill-server")
+        kept = SCREENS / f"{name}.txt"
+        if writes:
+            kept.write_text(shown)
+        looks.told(f"the screen {name}", kept.read_text().splitlines(), shown.splitlines())
 
 
 def main():
@@ -207,6 +305,7 @@ def main():
     look_at_reasons(looks)
     look_at_help(looks)
     look_at_ends(looks)
+    look_at_screens(looks, "--write" in sys.argv[2:])
     print(f"{looks.passed} passed, {looks.failed} failed")
     sys.exit(looks.failed != 0)
 

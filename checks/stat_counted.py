@@ -10,69 +10,16 @@ checks/dumped_documents.py, and half have arrays of each kind, and chunks that a
 import json
 import os
 import random
+import resource
 import subprocess
 import sys
 import tempfile
 
-from dumped_documents import CAPACITY, Scripts, document_at, run, slots_of, word
+from dumped_documents import CAPACITY, Arrays, Scripts, chunk_array, chunks_of, document_at, is_name_array, run, slots_of, used_elements, word
 
-NO_TOKEN = 0xFFFF
 
 
 # Arrays, read by the bytes.
-
-def chunk_array(data):
-    """The extra bytes, the size and the elements; None where the bytes are no chunk array."""
-    if len(data) < 8:
-        return None
-    count, size, zero, start = (word(data, at) for at in (0, 2, 4, 6))
-    if zero != 0 or start < 8 or start > len(data):
-        return None
-    if size:
-        if len(data) != start + count * size:
-            return None
-        return data[8:start], size, [data[start + i * size:start + (i + 1) * size] for i in range(count)]
-    if len(data) < start + 2 * count:
-        return None
-    places = [word(data, start + 2 * i) for i in range(count)] + [len(data)]
-    if places[0] != start + 2 * count or any(a > b for a, b in zip(places, places[1:])):
-        return None
-    return data[8:start], 0, [data[a:b] for a, b in zip(places, places[1:])]
-
-
-def used_elements(array, extra):
-    """The bytes of the used elements behind their counts; None where the array isn't one of slots with so many extra bytes."""
-    more, size, elements = array
-    if len(more) != extra or 0 < size < 4:
-        return None
-    free, used = set(), []
-    for token, element in enumerate(elements):
-        if len(element) < 3:
-            return None
-        if element[2] == 0xFF:
-            if size == 0 and len(element) != 3 or any(element[3:]):
-                return None
-            free.add(token)
-        elif word(element, 0, 3) == 0:
-            return None
-        else:
-            used.append(element[3:])
-    token, met = word(more, 0), set()
-    while token != NO_TOKEN:
-        if token not in free or token in met:
-            return None
-        met.add(token)
-        token = word(elements[token], 0)
-    return used if met == free else None
-
-
-def is_name_array(array):
-    used = used_elements(array, 4)
-    if used is None or array[1] != 0:
-        return False
-    part = word(array[0], 2)
-    return part <= 64 and all(part + 1 <= len(element) <= part + 256 for element in used)
-
 
 def kind_of(data):
     """The kind of the array that the bytes read as, and how many elements it has."""
@@ -95,20 +42,6 @@ def tally(unit, items):
         if largest is None or item[unit] > largest[unit]:
             largest = item
     return {"count": len(items), unit: sum(item[unit] for item in items), "largest": largest}
-
-
-def chunks_of(image):
-    """The chunks of a heap's image under their handles, and the bytes that the heap needs."""
-    length = word(image, 1)
-    at, chunks, need = 3 + 2 * length, {}, 16 + 4 * ((length + 1) // 2)
-    for i in range(length):
-        size = word(image, 3 + 2 * i)
-        if size != 0xFFFF:
-            chunks[16 + 2 * i] = image[at:at + size]
-            at += size
-            need += 4 * ((size + 5) // 4) if size else 0
-    assert at == len(image)
-    return chunks, need
 
 
 def counted(map_block, blocks):
@@ -206,39 +139,6 @@ def text_of(stat):
     return "\n".join(lines) + "\n"
 
 
-class Arrays(Scripts):
-    """Heaps whose chunks are arrays, whole ones and some of which a byte is changed."""
-
-    def array_edit(self, block):
-        chance, chunk = self.chance, "%04x" % (16 + 2 * self.chance.randint(0, 5))
-        data = chance.randbytes(chance.randint(1, 9)).hex()
-        token = chance.randint(0, 4)
-        return chance.choice([
-            f"acreate {block} {chance.choice([0, 1, 2, 3, 7])} {chance.choice([0, 0, 2, 4, 6])}",
-            f"ecreate {block} {chance.choice([0, 1, 4])}",
-            f"ncreate {block} {chance.choice([0, 0, 1, 64])}",
-            f"eadd {block} {chunk} {data}",
-            f"eadd {block} {chunk} {data[:2]}",
-            f"edelete {block} {chunk} {token}",
-            f"eunref {block} {chunk} {token}",
-            f"nadd {block} {chunk} {data} {chance.randbytes(1).hex()} keep",
-            f"nadd {block} {chunk} {data} - keep",
-            f"nunref {block} {chunk} {token}",
-            f"ainsert {block} {chunk} 0 {data}",
-            f"write {block} {chunk} {chance.randint(0, 24)} {chance.choice(['00', 'ff', '01', data])}",
-            f"resize {block} {chunk} {chance.randint(0, 40)}",
-            f"alloc {block} {chance.randint(0, 12)}",
-            f"settype {block} {chance.randint(0, 3)}",
-        ])
-
-    def script(self):
-        lines = [f"newheap {i}" for i in range(self.chance.randint(1, 4))] + ["newraw 9 3"]
-        for _ in range(self.chance.choice([1, 2, 3])):
-            lines += [self.array_edit("%04x" % self.chance.randint(1, 4)) for _ in range(self.chance.randint(0, 60))]
-            lines.append(self.chance.choice(["save", "update", "update"]))
-        return "\n".join(lines) + "\n"
-
-
 def try_one(geosvm, geosdoc, folder, seed):
     """One random document; the arrays that it has."""
     path = os.path.join(folder, "document")
@@ -270,6 +170,28 @@ def try_damaged(geosdoc, folder):
     assert run_check(geosdoc, path) == "opens: no, NotDocument"
 
 
+def try_hole(geosvm, geosdoc, folder):
+    """A file with a hole of 40 GB behind it: what lies in it is told in as much time and memory as before."""
+    path = os.path.join(folder, "document")
+    run([geosvm, "--new", path], Scripts(random.Random(1)).script())
+    looks = [[geosdoc, "stat", "--json", path], [geosdoc, "dump", path], [geosdoc, "dump", "--other", path]]
+    small = [run(look) for look in looks]
+    length = 40 << 30
+    os.truncate(path, length)
+    grown = [subprocess.run(look, stdout=subprocess.PIPE, check=True, timeout=10, text=True, preexec_fn=few_bytes).stdout for look in looks]
+    assert grown[1:] == small[1:], "another dump"
+    told, was = json.loads(grown[0]), json.loads(small[0])
+    more = length // 512 - was["pages"]
+    assert (told["bytes"], told["pages"]) == (length, length // 512), told
+    assert told["free_pages"]["count"] == was["free_pages"]["count"] + more and told["free_pages"]["longest"] >= more, told
+    assert told["updated"] == was["updated"] and told["saved"] == was["saved"], told
+
+
+def few_bytes():
+    """As much memory as a document of a few blocks takes."""
+    resource.setrlimit(resource.RLIMIT_AS, (256 << 20, 256 << 20))
+
+
 def run_check(geosdoc, path):
     done = subprocess.run([geosdoc, "check", path], stdout=subprocess.PIPE, text=True)
     assert done.returncode == 1
@@ -293,8 +215,13 @@ def main():
         except AssertionError as wrong:
             failed += 1
             print(f"FAILED  a damaged document: {wrong}")
+        try:
+            try_hole(geosvm, geosdoc, folder)
+        except (AssertionError, subprocess.SubprocessError) as wrong:
+            failed += 1
+            print(f"FAILED  a file with a hole: {wrong}")
     print(f"        {count} documents, with {arrays[0]} chunk arrays, {arrays[1]} element arrays and {arrays[2]} name arrays")
-    print(f"{count + 1 - failed} passed, {failed} failed")
+    print(f"{count + 2 - failed} passed, {failed} failed")
     sys.exit(failed != 0)
 
 

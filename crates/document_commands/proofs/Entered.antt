@@ -44,6 +44,10 @@ asked_by m name rows request named has is = subst (λ o. IsAskedBy o request) (s
 pub file_named : (f : Found) (file : Text) → Some file ≡ first_value f (codes "file") → first_of (codes "file") (rows_of f) ≡ Some file
 file_named f file is = sym (is ∙ first_value-rows f (codes "file"))
 
+-- the second file that it names
+pub second_named : (f : Found) (file : Text) → Some file ≡ first_value f (codes "file2") → first_of (codes "file2") (rows_of f) ≡ Some file
+second_named f file is = sym (is ∙ first_value-rows f (codes "file2"))
+
 -- a command of which nothing is global
 pub no_globals : (c : Command) (a : App) → app_of c ≡ a → a.top.is_plain ≡ true → (out-Command c).has_globals ≡ false
 no_globals c a is plain =

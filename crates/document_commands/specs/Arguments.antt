@@ -21,6 +21,13 @@ file_operand = record (new_rule (codes "file")) {
   required = true;
 }
 
+abbrev pub second_operand : Rule
+second_operand = record (new_rule (codes "file2")) {
+  action = Some Set;
+  value_names = 1;
+  required = true;
+}
+
 -- a command that tells its version
 abbrev pub with_version : App → App
 with_version = on_top (λ s. record s { has_version = true })

@@ -2,8 +2,10 @@
 use Rattle.std.specs.Prelude.{◌≡◌, true, false, List, [], Option, Some, None, codes, if◌then◌else◌}
 use Rattle.clap.specs.Simple.{on_top}
 use Rattle.clap.specs.Words.{App, Row, Rule, Text, first_of, new_app, with_rule, with_subcommand}
-use Rattle.document_commands.specs.Arguments.{file_operand, flag, has_flag, with_version}
+use Rattle.document_commands.specs.Arguments.{file_operand, flag, has_flag, second_operand, with_version}
 use Rattle.document_commands.specs.declared.requested.Asked.TheVariants as asked
+use Rattle.document_commands.specs.declared.requested.DiffScope.{DiffScope}
+use Rattle.document_commands.specs.declared.requested.DiffScope.TheVariants as scopes
 use Rattle.document_commands.specs.declared.requested.DumpScope.{DumpScope}
 use Rattle.document_commands.specs.declared.requested.DumpScope.TheVariants.{Both, Other, Saved}
 use Rattle.document_commands.specs.declared.requested.Form.{Form}
@@ -37,6 +39,15 @@ stat_command = with_rule (with_rule (new_app (codes "stat")) (flag (codes "json"
 abbrev pub map_command : App
 map_command = with_rule (with_rule (new_app (codes "map")) (flag (codes "svg"))) file_operand
 
+-- diff [--saved] FILE FILE2
+abbrev pub diff_command : App
+diff_command =
+    with_rule (with_rule (with_rule (new_app (codes "diff")) (flag (codes "saved"))) file_operand) second_operand
+
+-- salvage FILE
+abbrev pub salvage_command : App
+salvage_command = with_rule (new_app (codes "salvage")) file_operand
+
 -- restore FILE
 abbrev pub restore_command : App
 restore_command = with_rule (new_app (codes "restore")) file_operand
@@ -51,7 +62,7 @@ geosdoc =
     let looks = with_subcommand
     (with_subcommand (with_subcommand (with_subcommand start check_command.top) dump_command.top) stat_command.top)
     map_command.top in
-    with_subcommand looks restore_command.top
+    with_subcommand (with_subcommand (with_subcommand looks diff_command.top) salvage_command.top) restore_command.top
 
 -- ---- what a command asks for
 
@@ -65,6 +76,9 @@ form_by rows = if has_flag (codes "json") rows then forms.Json else forms.Column
 abbrev pub map_format_by : List Row → MapFormat
 map_format_by rows = if has_flag (codes "svg") rows then pictures.Svg else pictures.Text
 
+abbrev pub diff_scope_by : List Row → DiffScope
+diff_scope_by rows = if has_flag (codes "saved") rows then scopes.Saved else scopes.Updated
+
 -- The request is that of the command of this name, with these matches, and of the file that they name.
 abbrev pub IsAsked : Text → List Row → Request → Type 0
 IsAsked name rows (requests.Check file) = (name ≡ codes "check") × (first_of (codes "file") rows ≡ Some file.now)
@@ -74,6 +88,11 @@ IsAsked name rows (requests.Look (asked.Stat form) file) =
     (name ≡ codes "stat") × (form ≡ form_by rows) × (first_of (codes "file") rows ≡ Some file.now)
 IsAsked name rows (requests.Look (asked.Map picture) file) =
     (name ≡ codes "map") × (picture ≡ map_format_by rows) × (first_of (codes "file") rows ≡ Some file.now)
+IsAsked name rows (requests.Look asked.Salvage file) =
+    (name ≡ codes "salvage") × (first_of (codes "file") rows ≡ Some file.now)
+IsAsked name rows (requests.Diff scope file second) =
+    (name ≡ codes "diff") × (scope ≡ diff_scope_by rows) × (first_of (codes "file") rows ≡ Some file.now)
+    × (first_of (codes "file2") rows ≡ Some second.now)
 IsAsked name rows (requests.Restore file) = (name ≡ codes "restore") × (first_of (codes "file") rows ≡ Some file.now)
 
 -- a command was named, and the request is its

@@ -1,7 +1,7 @@
 //! Arguments that both programs take.
 ghost use Rattle.std.specs.Prelude.{◌≡◌, false};
 ghost use Rattle.clap.specs.Words.{rule_of};
-ghost use Rattle.document_commands.specs.Arguments.{file_operand, flag};
+ghost use Rattle.document_commands.specs.Arguments.{file_operand, flag, second_operand};
 
 use clap::{Arg, ArgAction, value_parser};
 use std::alloc::Global;
@@ -26,4 +26,15 @@ pub(crate) fn file_operand<'a>(alloc: Global) -> Arg<'a>
         .value_name("FILE")
         .required(true)
         .help("The file of the document")
+}
+
+/// The name of a second document's file, which has to be there too.
+pub(crate) fn second_operand<'a>(alloc: Global) -> Arg<'a>
+    ensures { (rule_of result ≡ second_operand) × (result.global ≡ false) }
+{
+    Arg::new(alloc, "file2")
+        .action(ArgAction::Set)
+        .value_name("FILE2")
+        .required(true)
+        .help("The file of the document that it is compared with")
 }

@@ -1,12 +1,12 @@
-//! The words of `geosdoc COMMAND [FLAG] FILE`.
+//! The words of `geosdoc COMMAND [FLAG] FILE..`.
 ghost use Rattle.std.specs.Prelude.{◌≡◌, IfErr, IfOk, IfSome, map, true};
 ghost use Rattle.clap.specs.Words.{app_of, found_of, kind_of, rows_of, subcommand_of, subcommand_rows_of, takes};
 ghost use Rattle.clap.specs.declared.error.kind.ErrorKind.TheVariants.{OutOfMemory};
 ghost use Rattle.document_commands.specs.Arguments.{has_flag};
-ghost use Rattle.document_commands.specs.Requests.{IsAskedBy, check_command, dump_command, dump_scope_by, form_by, geosdoc, map_command, map_format_by, restore_command, stat_command};
+ghost use Rattle.document_commands.specs.Requests.{IsAskedBy, check_command, diff_command, diff_scope_by, dump_command, dump_scope_by, form_by, geosdoc, map_command, map_format_by, restore_command, salvage_command, stat_command};
 
-use crate::arguments::{file_operand, flag};
-use crate::requested::{Asked, DumpScope, Form, MapFormat, NoRequest, Request};
+use crate::arguments::{file_operand, flag, second_operand};
+use crate::requested::{Asked, DiffScope, DumpScope, Form, MapFormat, NoRequest, Request};
 use clap::error::ErrorKind;
 use clap::{ArgMatches, Command, Error};
 use geos_model::Bytes;
@@ -37,7 +37,7 @@ fn command<'a>(alloc: Global) -> Result<Command<'a>, AllocError>
     ensures { IfOk result (λ c. app_of c ≡ geosdoc) }
 {
     Command::new(alloc, "geosdoc")
-        .version("0.2.0, for files of version 1 and 2")
+        .version("0.2.0, for files of version 1 and 2, proved by rattle-kit-13f")
         .about("Tells what is in a document file, and writes none but one that restore makes")
         .subcommand_required(true)
         .arg_required_else_help(true)
@@ -45,6 +45,8 @@ fn command<'a>(alloc: Global) -> Result<Command<'a>, AllocError>
         .subcommand(dump_command(alloc)?)?
         .subcommand(stat_command(alloc)?)?
         .subcommand(map_command(alloc)?)?
+        .subcommand(diff_command(alloc)?)?
+        .subcommand(salvage_command(alloc)?)?
         .subcommand(restore_command(alloc)?)
 }
 
@@ -89,6 +91,26 @@ fn map_command<'a>(alloc: Global) -> Result<Command<'a>, AllocError>
         .arg(file_operand(alloc))
 }
 
+fn diff_command<'a>(alloc: Global) -> Result<Command<'a>, AllocError>
+    ensures { IfOk result (λ c. app_of c ≡ diff_command) }
+{
+    Command::new(alloc, "diff")
+        .about(
+            "Tells what differs between two documents: 0 for nothing, 1 for anything, 2 for a fault",
+        )
+        .arg(flag(alloc, "saved", "The saved documents"))?
+        .arg(file_operand(alloc))?
+        .arg(second_operand(alloc))
+}
+
+fn salvage_command<'a>(alloc: Global) -> Result<Command<'a>, AllocError>
+    ensures { IfOk result (λ c. app_of c ≡ salvage_command) }
+{
+    Command::new(alloc, "salvage")
+        .about("Writes a script of all that can be read of a file that doesn't open")
+        .arg(file_operand(alloc))
+}
+
 fn restore_command<'a>(alloc: Global) -> Result<Command<'a>, AllocError>
     ensures { IfOk result (λ c. app_of c ≡ restore_command) }
 {
@@ -108,6 +130,11 @@ fn request_of<'a>(matches: &ArgMatches<'a>) -> Option<Request<'a>>
         "dump" => Some(Request::Look(Asked::Dump(dumped(matches)), file)),
         "stat" => Some(Request::Look(Asked::Stat(form(matches)), file)),
         "map" => Some(Request::Look(Asked::Map(picture(matches)), file)),
+        "diff" => {
+            let second = matches.get_str("file2")?;
+            Some(Request::Diff(compared(matches), file, second))
+        }
+        "salvage" => Some(Request::Look(Asked::Salvage, file)),
         "restore" => Some(Request::Restore(file)),
         _ => None,
     }
@@ -142,6 +169,16 @@ fn picture(matches: &ArgMatches<'_>) -> MapFormat
         MapFormat::Svg
     } else {
         MapFormat::Text
+    }
+}
+
+fn compared(matches: &ArgMatches<'_>) -> DiffScope
+    ensures { result ≡ diff_scope_by (rows_of (found_of matches.now)) }
+{
+    if is_set(matches, "saved") {
+        DiffScope::Saved
+    } else {
+        DiffScope::Updated
     }
 }
 

@@ -10,6 +10,8 @@ pub enum Asked {
     Stat(Form),
     /// A picture of what lies in the file.
     Map(MapFormat),
+    /// A script that makes all anew that can be read of the file.
+    Salvage,
 }
 
 /// How numbers are told.
@@ -39,6 +41,15 @@ pub enum DumpScope {
     Other,
 }
 
+/// Which documents of two files are compared.
+#[derive(Clone, Copy)]
+pub enum DiffScope {
+    /// The updated ones.
+    Updated,
+    /// The saved ones.
+    Saved,
+}
+
 /// What a command line asks for.
 #[derive(Clone, Copy)]
 pub enum Request<'a> {
@@ -46,6 +57,8 @@ pub enum Request<'a> {
     Check(&'a str),
     /// This is to be told of a file.
     Look(Asked, &'a str),
+    /// Documents of the first file and of the second one are to be compared.
+    Diff(DiffScope, &'a str, &'a str),
     /// A file is to be made by a script.
     Restore(&'a str),
 }

@@ -1,9 +1,12 @@
+pub mod ArraysMade
 pub mod Changed
 pub mod Dumped
 pub mod Failing
 pub mod Handles
 pub mod Images
 pub mod Joined
+pub mod Listed
+pub mod RowsMade
 pub mod Stages
 pub mod Steps
 pub mod Texts

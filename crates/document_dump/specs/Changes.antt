@@ -1,6 +1,7 @@
 -- The edits that make one document of another.
 use Rattle.std.specs.Prelude.{ℕ, List, [], ◌∷◌, ◌++◌, ◌+◌, ◌*◌, ◌/◌, Bool, not, ◌==◌, ◌&&◌, ◌||◌, nat_lt, length, take, drop, replicate, if◌then◌else◌, Option, Some, None}
-use Rattle.std.specs.List.{range_with_len, flat_map, list_all}
+use Rattle.std.specs.List.{range_with_len, flat_map}
+use Rattle.std.specs.Option.{option_map_or}
 use Rattle.std.specs.FinMap.{get, keys}
 use Rattle.geos_model.specs.Bytes.{same_bytes}
 use Rattle.geos_model.specs.Heap.{ChunkMap, handle_of, table_len}
@@ -13,6 +14,8 @@ use Rattle.geos_model.specs.declared.command.Body.{Body}
 use Rattle.geos_model.specs.declared.command.Body.TheVariants.{Raw, Heap}
 use Rattle.geos_model.specs.declared.command.Edit.{Edit}
 use Rattle.geos_model.specs.declared.command.Edit.TheVariants as edits
+use Rattle.document_dump.specs.Arrays.{is_zeros, array_to_make}
+use Rattle.document_dump.specs.Rows.{array_edits}
 use Rattle.document_dump.specs.declared.bodies.Pass.{Pass}
 use Rattle.document_dump.specs.declared.bodies.Pass.TheVariants as passes
 use Rattle.document_dump.specs.declared.bodies.Target.{Target}
@@ -34,9 +37,6 @@ piece_length = 32
 abbrev pub piece_at : List ℕ → ℕ → List ℕ
 piece_at bytes k = take piece_length (drop (piece_length * k) bytes)
 
-abbrev pub is_zeros : List ℕ → Bool
-is_zeros bytes = list_all (λ x. x == 0) bytes
-
 -- into a raw block, or a chunk
 abbrev pub write_of : Target → ℕ → List ℕ → Edit
 write_of (targets.Raw b) at bytes = edits.WriteRaw b at bytes
@@ -52,9 +52,13 @@ bytes_written target bytes = flat_map (piece_written target bytes) (range_with_l
 -- Chunks: one is made for each entry of the table, so that each gets its handle, and those that aren't live are freed
 -- again. These are empty, so that the heap never needs more room than in the end.
 
+abbrev pub bytes_made : VmHandle → ChunkHandle → List ℕ → List Edit
+bytes_made b c bytes = edits.Alloc b (length bytes) ∷ bytes_written (targets.Chunk b c) bytes
+
+-- by the elements of an array, where the bytes are one
 abbrev pub chunk_made : VmHandle → ChunkHandle → Option (List ℕ) → List Edit
 chunk_made b c None = edits.Alloc b 0 ∷ []
-chunk_made b c (Some bytes) = edits.Alloc b (length bytes) ∷ bytes_written (targets.Chunk b c) bytes
+chunk_made b c (Some bytes) = option_map_or (array_edits b c) (array_to_make bytes) (bytes_made b c bytes)
 
 abbrev pub chunk_freed : VmHandle → ChunkHandle → Option (List ℕ) → List Edit
 chunk_freed b c None = edits.Free b c ∷ []

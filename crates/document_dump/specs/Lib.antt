@@ -1,6 +1,9 @@
+pub mod Arrays
 pub mod Changes
 pub mod Dumps
+pub mod Entries
 pub mod Faults
 pub mod Lines
+pub mod Rows
 pub mod Steps
 pub mod Versions

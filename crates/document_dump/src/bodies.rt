@@ -1,7 +1,7 @@
 //! The edits that make a block.
 #![tactic(auto, using(crate::proofs::Texts::texts))]
 
-ghost use Rattle.std.specs.Prelude.{◌≡◌, ◌++◌, ◌+◌, ◌*◌, ◌≤◌, ◌<◌, ℕ, true, IfErr, OnOk, length};
+ghost use Rattle.std.specs.Prelude.{◌≡◌, ◌++◌, ◌+◌, ◌*◌, ◌≤◌, ◌<◌, ℕ, true, Some, IfErr, OnOk, length};
 ghost use Rattle.std.specs.Option.{option_copied};
 ghost use Rattle.std.specs.FinMap.{get, keys};
 ghost use Rattle.geos_model.specs.Document.{is_valid_body};
@@ -11,12 +11,15 @@ ghost use Rattle.geos_model.specs.declared.command.Body.{Body};
 ghost use Rattle.geos_model.specs.declared.command.Body.TheVariants as model_bodies;
 ghost use Rattle.document_dump.specs.Faults.{IsHeapBodyImage, IsBodyImage, IsRefusalOf};
 ghost use Rattle.document_dump.specs.Lines.{line, text};
-ghost use Rattle.document_dump.specs.Changes.{write_of, piece_at, is_zeros, piece_written, bytes_written, chunk_name, entries_passed, entry_edits, block_made, type_set};
+ghost use Rattle.document_dump.specs.Arrays.{is_zeros};
+ghost use Rattle.document_dump.specs.Changes.{write_of, piece_at, piece_written, bytes_written, bytes_made, chunk_made, chunk_name, entries_passed, entry_edits, block_made, type_set};
 
+use crate::arrays::{array_to_make, is_zeros};
 use crate::fault::DumpFault;
 use crate::lines::{
     push_alloc, push_free, push_new_heap, push_new_raw, push_type, push_write, push_write_raw,
 };
+use crate::rows::push_array_edits;
 use file_report::read_heap;
 use geos_model::{Attributes, ChunkHandle, VmHandle};
 use lmem_heap::Heap;
@@ -53,12 +56,6 @@ fn piece_at(bytes: &[u8], k: usize) -> &[u8]
 {
     let rest = &bytes[PIECE * k..];
     &rest[..PIECE.min(rest.len())]
-}
-
-fn is_zeros(bytes: &[u8]) -> bool
-    ensures { result ≡ is_zeros bytes.now }
-{
-    bytes.iter().all(|x| *x == 0)
 }
 
 // A piece, over zeros.
@@ -103,6 +100,32 @@ pub enum Pass {
     Freeing,
 }
 
+fn push_bytes_chunk(
+    out: &mut Vec<u8>,
+    block: VmHandle,
+    chunk: ChunkHandle,
+    bytes: &[u8],
+) -> Result<(), AllocError>
+    ensures { OnOk result (out.new.items ≡ out.old.items ++ text (bytes_made block chunk bytes.now)) }
+{
+    push_alloc(out, block, bytes.len())?;
+    push_pieces(out, Target::Chunk(block, chunk), bytes)
+}
+
+fn push_live_chunk(
+    out: &mut Vec<u8>,
+    block: VmHandle,
+    chunk: ChunkHandle,
+    bytes: &[u8],
+) -> Result<(), AllocError>
+    ensures { OnOk result (out.new.items ≡ out.old.items ++ text (chunk_made block chunk (Some bytes.now))) }
+{
+    match array_to_make(bytes) {
+        Some(array) => push_array_edits(out, block, chunk, bytes, &array),
+        None => push_bytes_chunk(out, block, chunk, bytes),
+    }
+}
+
 fn push_chunk(
     out: &mut Vec<u8>,
     pass: Pass,
@@ -115,10 +138,7 @@ fn push_chunk(
 {
     match (pass, bytes) {
         (Pass::Making, None) => push_alloc(out, block, 0),
-        (Pass::Making, Some(bytes)) => {
-            push_alloc(out, block, bytes.len())?;
-            push_pieces(out, Target::Chunk(block, chunk), bytes)
-        }
+        (Pass::Making, Some(bytes)) => push_live_chunk(out, block, chunk, bytes),
         (Pass::Freeing, None) => push_free(out, block, chunk),
         (Pass::Freeing, Some(_)) => Ok(()),
     }

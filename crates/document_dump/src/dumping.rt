@@ -30,7 +30,7 @@ pub enum Which {
     Saved,
 }
 
-fn send<W: Write>(bytes: &[u8], writer: &mut W) -> Result<bool, DumpFault>
+pub(crate) fn send<W: Write>(bytes: &[u8], writer: &mut W) -> Result<bool, DumpFault>
     ensures err { IfErr result IsWriteFault }
     ensures ok { IfOk result (λ some. (some ≡ is_some_text bytes.now)
         × Appends (W.contents writer.old) (W.contents writer.new) bytes.now) }
@@ -43,14 +43,14 @@ fn send<W: Write>(bytes: &[u8], writer: &mut W) -> Result<bool, DumpFault>
 
 /// What was written.
 #[derive(Clone, Copy)]
-struct Written {
+pub(crate) struct Written {
     /// Whether there were any edits.
-    some: bool,
+    pub some: bool,
     /// How far the blocks are made.
-    progress: Progress,
+    pub progress: Progress,
 }
 
-fn either(first: bool, second: bool) -> bool
+pub(crate) fn either(first: bool, second: bool) -> bool
     ensures { result ≡ first || second }
 {
     first || second

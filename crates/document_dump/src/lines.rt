@@ -1,7 +1,7 @@
 //! The lines of a script, each put behind those before it. Where memory runs out, a part of one may stand there.
 #![tactic(auto, unfolding(geos_script::specs::Printing::edit_text))]
 
-ghost use Rattle.std.specs.Prelude.{◌≡◌, ◌++◌, ◌∷◌, [], OnOk};
+ghost use Rattle.std.specs.Prelude.{◌≡◌, ◌++◌, ◌∷◌, [], OnOk, false};
 ghost use Rattle.std.specs.List.{flat_map};
 ghost use Rattle.geos_model.specs.Script.{line_feed};
 ghost use Rattle.geos_model.specs.declared.command.Edit.TheVariants as edits;
@@ -123,4 +123,131 @@ pub fn push_write(
             Word::Bytes(bytes),
         ],
     )
+}
+
+pub fn push_create_array(
+    out: &mut Vec<u8>,
+    block: VmHandle,
+    size: usize,
+    extra: usize,
+) -> Result<(), AllocError>
+    ensures { OnOk result (out.new.items ≡ out.old.items ++ line (edits.CreateArray block size extra)) }
+{
+    push_line(
+        out,
+        "acreate",
+        &[
+            Word::Handle(block.0),
+            Word::Number(size as u64),
+            Word::Number(extra as u64),
+        ],
+    )
+}
+
+/// In front of the other elements.
+pub fn push_insert(
+    out: &mut Vec<u8>,
+    block: VmHandle,
+    chunk: ChunkHandle,
+    element: &[u8],
+) -> Result<(), AllocError>
+    ensures { OnOk result (out.new.items ≡ out.old.items ++ line (edits.InsertElement block chunk 0 element.now)) }
+{
+    push_line(
+        out,
+        "ainsert",
+        &[
+            Word::Handle(block.0),
+            Word::Handle(chunk.0),
+            Word::Number(0),
+            Word::Bytes(element),
+        ],
+    )
+}
+
+pub fn push_set_element(
+    out: &mut Vec<u8>,
+    block: VmHandle,
+    chunk: ChunkHandle,
+    i: usize,
+    element: &[u8],
+) -> Result<(), AllocError>
+    ensures { OnOk result (out.new.items ≡ out.old.items ++ line (edits.SetElement block chunk i element.now)) }
+{
+    push_line(
+        out,
+        "aset",
+        &[
+            Word::Handle(block.0),
+            Word::Handle(chunk.0),
+            Word::Number(i as u64),
+            Word::Bytes(element),
+        ],
+    )
+}
+
+pub fn push_create_elements(
+    out: &mut Vec<u8>,
+    block: VmHandle,
+    size: usize,
+) -> Result<(), AllocError>
+    ensures { OnOk result (out.new.items ≡ out.old.items ++ line (edits.CreateElementArray block size)) }
+{
+    push_line(
+        out,
+        "ecreate",
+        &[Word::Handle(block.0), Word::Number(size as u64)],
+    )
+}
+
+pub fn push_add_element(
+    out: &mut Vec<u8>,
+    block: VmHandle,
+    chunk: ChunkHandle,
+    element: &[u8],
+) -> Result<(), AllocError>
+    ensures { OnOk result (out.new.items ≡ out.old.items ++ line (edits.AddElement block chunk element.now)) }
+{
+    push_line(
+        out,
+        "eadd",
+        &[
+            Word::Handle(block.0),
+            Word::Handle(chunk.0),
+            Word::Bytes(element),
+        ],
+    )
+}
+
+pub fn push_create_names(out: &mut Vec<u8>, block: VmHandle, part: usize) -> Result<(), AllocError>
+    ensures { OnOk result (out.new.items ≡ out.old.items ++ line (edits.CreateNameArray block part)) }
+{
+    push_line(
+        out,
+        "ncreate",
+        &[Word::Handle(block.0), Word::Number(part as u64)],
+    )
+}
+
+pub fn push_add_name(
+    out: &mut Vec<u8>,
+    block: VmHandle,
+    chunk: ChunkHandle,
+    name: &[u8],
+    part: &[u8],
+) -> Result<(), AllocError>
+    ensures { OnOk result (out.new.items ≡ out.old.items ++ line (edits.AddName block chunk name.now part.now false)) }
+{
+    // One array's words have one lifetime, which that of the last one is.
+    push_words(
+        out,
+        "nadd",
+        &[
+            Word::Handle(block.0),
+            Word::Handle(chunk.0),
+            Word::Bytes(name),
+        ],
+    )?;
+    push_words(out, "", &[Word::Bytes(part)])?;
+    push_line(out, "", &[Word::Flag(false)])
 }

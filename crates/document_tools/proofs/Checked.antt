@@ -11,18 +11,18 @@ use Rattle.file_report.specs.declared.checking.SlotReport.{SlotReport}
 use Rattle.document_tools.specs.Checks.{ChecksStore, IsCheckText, SendsReport, PrintsReport}
 use Rattle.document_tools.specs.Endings.{EndsUnread, IsRefusedFor}
 use Rattle.document_tools.specs.Pages.{ReportsCounting}
-use Rattle.document_tools.specs.Reports.{report_text}
+use Rattle.document_tools.specs.Reports.{next_line, report_text}
 use Rattle.document_tools.specs.declared.ending.Ending.{Ending}
 use Rattle.document_tools.specs.declared.ending.Ending.TheVariants as endings
 use Rattle.document_tools.specs.declared.obstacle.Obstacle.TheVariants.{Unread}
 
 -- the lines of a report and those of the pages are its text
 pub text_told : (r : Report) (counting : Option SlotReport) (pages told text : List ℕ) → counting ≡ counting_between r.first r.second
-    → ReportsCounting r.file_length counting pages → told ≡ pages → text ≡ report_text r ++ told → IsCheckText r text
+    → ReportsCounting r.file_length counting pages → told ≡ pages → text ≡ report_text r ++ told ++ next_line r → IsCheckText r text
 text_told r counting pages told text counts tells same is = record {
   pages = pages;
   counting = subst (λ (o : Option SlotReport). ReportsCounting r.file_length o pages) counts tells;
-  is = subst (λ (l : List ℕ). text ≡ report_text r ++ l) same is;
+  is = subst (λ (l : List ℕ). text ≡ report_text r ++ l ++ next_line r) same is;
 }
 
 -- the status of a report that was written is that of its verdict
@@ -39,6 +39,8 @@ checked writes file old new r from to (endings.Refused line) so told = absurd to
 checked writes file old new r from to endings.Memory so told = told
 checked writes file old new r from to endings.ReadFault so told = absurd told
 checked writes file old new r from to endings.WriteFault so told = (r, so, told)
+checked writes file old new r from to endings.Different so told = absurd told
+checked writes file old new r from to (endings.Uncompared trouble) so told = absurd told
 
 refused_unread : {W : Type 0} (writes : WriteCalls W) (file : List ℕ) (old new : StoreFacts) (from to : W) (ending : Ending) → FailedSince old new → to ≡ from
     → IsRefusedFor file Unread ending → ChecksStore writes file old new from to ending
@@ -48,6 +50,8 @@ refused_unread writes file old new from to (endings.Refused line) failed same is
 refused_unread writes file old new from to endings.Memory failed same is = same
 refused_unread writes file old new from to endings.ReadFault failed same is = absurd is
 refused_unread writes file old new from to endings.WriteFault failed same is = absurd is
+refused_unread writes file old new from to endings.Different failed same is = absurd is
+refused_unread writes file old new from to (endings.Uncompared trouble) failed same is = absurd is
 
 -- a reading failed for lack of memory, or since the store failed
 pub unchecked : {W : Type 0} (writes : WriteCalls W) (file : List ℕ) (old new : StoreFacts) (fault : Fault) (from to : W) (ending : Ending)

@@ -47,8 +47,10 @@ refused_or_memory P file obstacle by_line memory (endings.Refused line) is = by_
 refused_or_memory P file obstacle by_line memory endings.Memory is = memory
 refused_or_memory P file obstacle by_line memory endings.ReadFault is = absurd is
 refused_or_memory P file obstacle by_line memory endings.WriteFault is = absurd is
+refused_or_memory P file obstacle by_line memory endings.Different is = absurd is
+refused_or_memory P file obstacle by_line memory (endings.Uncompared trouble) is = absurd is
 
-opens_so : (stood : List ℕ → Result (Document × Document) Fault) (old : StoreFacts) (fault : Fault) → (fault ≡ faults.Memory → ⊥) → (fault ≡ faults.File → ⊥)
+pub opens_so : (stood : List ℕ → Result (Document × Document) Fault) (old : StoreFacts) (fault : Fault) → (fault ≡ faults.Memory → ⊥) → (fault ≡ faults.File → ⊥)
     → IsResourceFault fault ⊎ (stood old.content ≡ Err fault) → stood old.content ≡ Err fault
 opens_so stood old fault no_memory no_file (inl (inl e)) = absurd (no_memory e)
 opens_so stood old fault no_memory no_file (inl (inr e)) = absurd (no_file e)
@@ -75,12 +77,18 @@ stated writes file form old new s from to (endings.Refused line) so told = absur
 stated writes file form old new s from to endings.Memory so told = told
 stated writes file form old new s from to endings.ReadFault so told = absurd told
 stated writes file form old new s from to endings.WriteFault so told = (s, so, told)
+stated writes file form old new s from to endings.Different so told = absurd told
+stated writes file form old new s from to (endings.Uncompared trouble) so told = absurd told
 
 -- the pieces of a picture that is drawn reach the writer below
-pub drawn_through : (picture : List ℕ → List Part → ℕ → List ℕ) (file : List ℕ) (from first mid to : Option (List ℕ)) → first ≡ from → Keeps mid to → IsDrawn picture file first mid
+pub drawn_through : (picture : List ℕ → List Part → List Part → ℕ → List ℕ) (file : List ℕ) (from first mid to : Option (List ℕ)) → first ≡ from → Keeps mid to → IsDrawn picture file first mid
     → IsDrawn picture file from to
 drawn_through picture file from first mid to begun keeps d =
-    subst (λ (known : Option (List ℕ)). IsDrawn picture file known to) begun (record { usages = d.usages; list = d.list; appends = Appends-kept first mid to _ d.appends keeps })
+    subst (λ (known : Option (List ℕ)). IsDrawn picture file known to) begun (record {
+      usages = d.usages;
+      list = d.list;
+      drawn = record { by_handle = d.drawn.by_handle; are = d.drawn.are; appends = Appends-kept first mid to _ d.drawn.appends keeps };
+    })
 
 pub on_ok : {E : Type 0} (P Q : Type 0) (result : Result (Unit {0}) E) → (P → Q) → OnOk result P → OnOk result Q
 on_ok P Q (Ok v) makes so = makes so
@@ -161,3 +169,5 @@ dumped_stood facts contents writes name which stood told store from to old new (
 dumped_stood facts contents writes name which stood told store from to old new endings.Memory opened so dumps = tt
 dumped_stood facts contents writes name which stood told store from to old new endings.ReadFault opened so dumps = absurd dumps
 dumped_stood facts contents writes name which stood told store from to old new endings.WriteFault opened so dumps = dumps
+dumped_stood facts contents writes name which stood told store from to old new endings.Different opened so dumps = absurd dumps
+dumped_stood facts contents writes name which stood told store from to old new (endings.Uncompared trouble) opened so dumps = absurd dumps

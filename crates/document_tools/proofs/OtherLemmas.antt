@@ -30,6 +30,8 @@ failed_before file a b c (endings.Refused line) reads (inr fails) = inr (fails.0
 failed_before file a b c endings.Memory reads fails = tt
 failed_before file a b c endings.ReadFault reads fails = absurd fails
 failed_before file a b c endings.WriteFault reads fails = absurd fails
+failed_before file a b c endings.Different reads fails = absurd fails
+failed_before file a b c (endings.Uncompared trouble) reads fails = absurd fails
 
 slot_before : {W : Type 0} (contents : W → Option (List ℕ)) (writes : WriteCalls W) (file : List ℕ) (slot : ℕ) (a b c : StoreFacts) (old new : W) (ending : Ending) → OnlyReadsStore a b
     → DumpsSlot contents writes file slot b c old new ending → DumpsSlot contents writes file slot a c old new ending
@@ -43,6 +45,8 @@ slot_before contents writes file slot a b c old new (endings.Refused line) reads
 slot_before contents writes file slot a b c old new endings.Memory reads dumps = tt
 slot_before contents writes file slot a b c old new endings.ReadFault reads dumps = absurd dumps
 slot_before contents writes file slot a b c old new endings.WriteFault reads dumps = dumps
+slot_before contents writes file slot a b c old new endings.Different reads dumps = absurd dumps
+slot_before contents writes file slot a b c old new (endings.Uncompared trouble) reads dumps = absurd dumps
 
 pub other_before : {W : Type 0} (contents : W → Option (List ℕ)) (writes : WriteCalls W) (file : List ℕ) (a b c : StoreFacts) (old new : W) (ending : Ending) → OnlyReadsStore a b
     → DumpsOther contents writes file b c old new ending → DumpsOther contents writes file a c old new ending

@@ -1,5 +1,5 @@
 -- Why the run of a restore ends.
-use Rattle.std.proofs.Common.{◌≡◌, Result, Ok, Err, IfErr}
+use Rattle.std.proofs.Common.{Result, Ok, Err, IfErr}
 use Rattle.geos_shell.specs.RunFaults.{HasCause}
 use Rattle.geos_shell.specs.declared.runner.RunFault.{RunFault}
 use Rattle.geos_shell.specs.declared.runner.RunFault.TheVariants as run_faults
@@ -11,4 +11,4 @@ caused reading writing (Ok v) none cause = cause
 caused reading writing (Err run_faults.Read) none cause = cause
 caused reading writing (Err run_faults.Write) none cause = none cause
 caused reading writing (Err run_faults.Memory) none cause = cause
-caused reading writing (Err run_faults.Refused) none cause = cause
+caused reading writing (Err (run_faults.Refused number)) none cause = cause

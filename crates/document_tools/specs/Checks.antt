@@ -9,17 +9,17 @@ use Rattle.file_report.specs.declared.checking.Report.{Report}
 use Rattle.document_tools.specs.Endings.{IsRefusedFor}
 use Rattle.document_tools.specs.Obstacles.{refusal_line}
 use Rattle.document_tools.specs.Pages.{ReportsCounting}
-use Rattle.document_tools.specs.Reports.{report_text}
+use Rattle.document_tools.specs.Reports.{next_line, report_text}
 use Rattle.document_tools.specs.Views.{LooksAt, Views}
 use Rattle.document_tools.specs.declared.ending.Ending.{Ending}
 use Rattle.document_tools.specs.declared.ending.Ending.TheVariants as endings
 use Rattle.document_tools.specs.declared.obstacle.Obstacle.TheVariants.{Unread, Unviewed}
 
--- the lines of a report, and behind them those of the pages
+-- the lines of a report, behind them those of the pages, and what can be done of a file that doesn't open
 pub record IsCheckText (r : Report) (text : List ℕ) : Type 0 where
   pub pages : List ℕ
   pub counting : ReportsCounting r.file_length (counting_between r.first r.second) pages
-  pub is : text ≡ report_text r ++ pages
+  pub is : text ≡ report_text r ++ pages ++ next_line r
 
 -- all of that was written in one write, which had this result
 pub record SendsReport {W : Type 0} (writes : WriteCalls W) (r : Report) (old : W)
@@ -36,8 +36,7 @@ PrintsReport writes r old new endings.Done = IsOk r.verdict × SendsReport write
 PrintsReport writes r old new endings.Unsound = IsErr r.verdict × SendsReport writes r old (Ok tt) new
 PrintsReport writes r old new endings.Memory = new ≡ old
 PrintsReport writes r old new endings.WriteFault = (fault : WriteFault) × SendsReport writes r old (Err fault) new
-PrintsReport writes r old new endings.ReadFault = ⊥
-PrintsReport writes r old new (endings.Refused line) = ⊥
+PrintsReport writes r old new ending = ⊥
 
 -- What a check of a store comes to. That it can't be read is told only where the store failed in this very call, and
 -- then nothing else is told.

@@ -7,6 +7,8 @@ use Rattle.geos_shell.specs.declared.streams.WriteFault.{WriteFault}
 use Rattle.document_tools.specs.Obstacles.{refusal_line}
 use Rattle.document_tools.specs.declared.ending.Ending.{Ending}
 use Rattle.document_tools.specs.declared.ending.Ending.TheVariants as endings
+use Rattle.document_tools.specs.declared.ending.Trouble.{Trouble}
+use Rattle.document_tools.specs.declared.ending.Trouble.TheVariants as troubles
 use Rattle.document_tools.specs.declared.obstacle.Obstacle.{Obstacle}
 use Rattle.document_tools.specs.declared.obstacle.Obstacle.TheVariants.{Unread}
 
@@ -18,6 +20,13 @@ ending_status (endings.Refused line) = 1
 ending_status endings.Memory = 1
 ending_status endings.ReadFault = 1
 ending_status endings.WriteFault = 1
+ending_status endings.Different = 1
+ending_status (endings.Uncompared trouble) = 2
+
+abbrev pub trouble_line : Trouble → List ℕ
+trouble_line (troubles.Refused line) = line
+trouble_line troubles.Memory = codes "geosdoc: memory\n"
+trouble_line troubles.WriteFault = codes "geosdoc: write fault\n"
 
 -- the line for standard error, if there is one
 abbrev pub error_line : Ending → Option (List ℕ)
@@ -27,6 +36,8 @@ error_line (endings.Refused line) = Some line
 error_line endings.Memory = Some (codes "geosdoc: memory\n")
 error_line endings.ReadFault = Some (codes "geosdoc: read fault\n")
 error_line endings.WriteFault = Some (codes "geosdoc: write fault\n")
+error_line endings.Different = None
+error_line (endings.Uncompared trouble) = Some (trouble_line trouble)
 
 -- a line is written, whatever comes of the write, or nothing where there is no line
 abbrev pub PrintsLine : {E : Type 0} → WriteCalls E → Option (List ℕ) → E → E → Type 0
@@ -38,6 +49,12 @@ abbrev pub IsRefusedFor : List ℕ → Obstacle → Ending → Type 0
 IsRefusedFor file obstacle (endings.Refused line) = line ≡ refusal_line file obstacle
 IsRefusedFor file obstacle endings.Memory = ⊤
 IsRefusedFor file obstacle ending = ⊥
+
+-- the same of two files that are to be compared
+abbrev pub IsUncomparedFor : List ℕ → Obstacle → Ending → Type 0
+IsUncomparedFor file obstacle (endings.Uncompared (troubles.Refused line)) = line ≡ refusal_line file obstacle
+IsUncomparedFor file obstacle (endings.Uncompared troubles.Memory) = ⊤
+IsUncomparedFor file obstacle ending = ⊥
 
 -- What comes of a reading that failed: lack of memory is told as such, all else as a file that can't be read.
 pub record EndsUnread (file : List ℕ) (fault : Fault) (ending : Ending) : Type 0 where

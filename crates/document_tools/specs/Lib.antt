@@ -1,4 +1,5 @@
 pub mod Checks
+pub mod Comparisons
 pub mod DumpedFiles
 pub mod Endings
 pub mod Looks
@@ -10,5 +11,6 @@ pub mod Reports
 pub mod Requests
 pub mod Restores
 pub mod Runs
+pub mod Salvages
 pub mod Stats
 pub mod Views

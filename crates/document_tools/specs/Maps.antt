@@ -16,7 +16,7 @@ use Rattle.document_commands.specs.declared.requested.MapFormat.{MapFormat}
 use Rattle.document_commands.specs.declared.requested.MapFormat.TheVariants.{Text, Svg}
 use Rattle.document_tools.specs.declared.obstacle.Obstacle.TheVariants.{Unopened, Unread, Unviewed}
 
-abbrev pub picture_of : MapFormat → List ℕ → List Part → ℕ → List ℕ
+abbrev pub picture_of : MapFormat → List ℕ → List Part → List Part → ℕ → List ℕ
 picture_of Text = map_text
 picture_of Svg = svg_of
 

@@ -27,6 +27,7 @@ obstacle_text obstacles.Unread = codes "it can't be read"
 obstacle_text obstacles.Changed = codes "a block of it has other bytes than when it was opened"
 obstacle_text (obstacles.Unopened fault) = codes "it doesn't open, " ++ name_of_fault fault
 obstacle_text (obstacles.NoOther fault) = codes "the other slot doesn't open, " ++ name_of_fault fault
+obstacle_text obstacles.Unsalvaged = codes "no directory of it can be read"
 obstacle_text (obstacles.Unmade fault) = make_fault_text fault
 
 -- of which file it is told, and why

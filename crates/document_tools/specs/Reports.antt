@@ -1,5 +1,5 @@
 -- The text of a check's report, one fact a line.
-use Rattle.std.specs.Prelude.{ℕ, List, ◌++◌, codes, Option, Some, None, Result, Ok, Err}
+use Rattle.std.specs.Prelude.{ℕ, List, [], ◌++◌, Bool, true, false, ◌&&◌, ◌||◌, if◌then◌else◌, codes, Option, Some, None, is_some, Result, Ok, Err, is_ok}
 use Rattle.std.specs.List.{flat_map}
 use Rattle.std.specs.Fmt.{decimal}
 use Rattle.geos_model.specs.Refusal.{name_of_fault}
@@ -58,3 +58,31 @@ abbrev pub report_text : Report → List ℕ
 report_text r =
     opens_line r.verdict ++ (codes "length: " ++ decimal r.file_length ++ codes " bytes\n")
     ++ slot_lines 0 r.first ++ slot_lines 1 r.second ++ counts_line (counting_number r.first r.second) r.first
+
+-- What can be done of a file that doesn't open.
+
+-- there is a slot, open or closed
+abbrev pub is_marked : SlotState → Bool
+is_marked Short = false
+is_marked NoMark = false
+is_marked state = true
+
+-- it is open, and its documents stand
+abbrev pub is_standing : SlotState → Bool
+is_standing (Open r) = is_ok r.verdict
+is_standing state = false
+
+-- One counts and one stands. Where the file doesn't open that isn't the same.
+abbrev pub has_other : Report → Bool
+has_other r = is_some (counting_number r.first r.second) && (is_standing r.first || is_standing r.second)
+
+abbrev pub step_text : Report → List ℕ
+step_text r =
+    if has_other r then codes "next: geosdoc dump --other FILE | geosdoc restore FILE2 makes the documents of the commit before\n"
+    else if is_marked r.first || is_marked r.second then
+    codes "next: geosdoc salvage FILE | geosdoc restore FILE2 makes a document of the blocks that can be read\n"
+    else codes "next: see whether this is the right file; nothing of a document is where its slots would be\n"
+
+-- nothing where it opens
+abbrev pub next_line : Report → List ℕ
+next_line r = if is_ok r.verdict then [] else step_text r

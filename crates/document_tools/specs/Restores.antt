@@ -1,5 +1,6 @@
 -- A restore: a script makes the document of a file that wasn't there.
 use Rattle.std.specs.Prelude.{◌≡◌, ◌≢◌, ◌⊎◌, ℕ, List, [], ◌++◌, codes, true, false, IsTrue, Option, None, Result, Ok, Err, IfErr, ⊤}
+use Rattle.std.specs.Fmt.{decimal}
 use Rattle.vm_store.specs.Facts.{StoreFacts}
 use Rattle.vm_store.specs.Files.{Opener}
 use Rattle.vm_store.specs.declared.fault.StoreFault.{StoreFault}
@@ -66,23 +67,27 @@ script_options = record { bails = true; echoes = false }
 abbrev pub frames : ℕ
 frames = 8
 
--- the line that tells of a reply that is a refusal
-abbrev pub refused_line : List ℕ → List ℕ → List ℕ
-refused_line file reply =
-    codes "geosdoc: " ++ file ++ codes ": a line of the script is refused: " ++ reply ++ codes "\n"
+-- the line that tells which line of the script is refused, by this reply
+abbrev pub refused_start : List ℕ → ℕ → List ℕ
+refused_start file number =
+    codes "geosdoc: " ++ file ++ codes ": line " ++ decimal number ++ codes " of the script is refused: "
 
-abbrev pub EndsByRefusal : List ℕ → Ending → Type 0
-EndsByRefusal file (endings.Refused line) = (reply : List ℕ) × (line ≡ refused_line file reply)
-EndsByRefusal file endings.Memory = ⊤
-EndsByRefusal file ending = ⊥
+abbrev pub refused_line : List ℕ → ℕ → List ℕ → List ℕ
+refused_line file number reply = refused_start file number ++ reply ++ codes "\n"
+
+-- it is told that the line of this number is refused, or that there is no memory for that
+abbrev pub EndsByRefusal : List ℕ → ℕ → Ending → Type 0
+EndsByRefusal file number (endings.Refused line) = (reply : List ℕ) × (line ≡ refused_line file number reply)
+EndsByRefusal file number endings.Memory = ⊤
+EndsByRefusal file number ending = ⊥
 
 -- how a restore ends, by what the run of its script came to
 abbrev pub EndsRun : List ℕ → Result (Unit {0}) RunFault → Ending → Type 0
 EndsRun file (Ok v) ending = ending ≡ endings.Done
 EndsRun file (Err run_faults.Read) ending = ending ≡ endings.ReadFault
 EndsRun file (Err run_faults.Memory) ending = ending ≡ endings.Memory
-EndsRun file (Err run_faults.Write) ending = EndsByRefusal file ending
-EndsRun file (Err run_faults.Refused) ending = EndsByRefusal file ending
+EndsRun file (Err run_faults.Write) ending = ending ≡ endings.WriteFault
+EndsRun file (Err (run_faults.Refused number)) ending = EndsByRefusal file number ending
 
 -- The script is run on a session, up to the first line that is refused, and then the file is closed. All replies are
 -- taken, so that the run ends by no write fault.

@@ -5,16 +5,22 @@ use Rattle.vm_store.specs.Files.{Opener}
 use Rattle.geos_shell.specs.Streams.{ReadCalls, StopsReading, WriteCalls}
 use Rattle.document_commands.specs.declared.requested.Asked.{Asked}
 use Rattle.document_commands.specs.declared.requested.Asked.TheVariants as asked
+use Rattle.document_commands.specs.declared.requested.DiffScope.{DiffScope}
+use Rattle.document_commands.specs.declared.requested.DiffScope.TheVariants as scopes
 use Rattle.document_commands.specs.declared.requested.DumpScope.{DumpScope}
 use Rattle.document_commands.specs.declared.requested.DumpScope.TheVariants as documents
 use Rattle.document_commands.specs.declared.requested.Request.{Request}
 use Rattle.document_commands.specs.declared.requested.Request.TheVariants as requests
+use Rattle.document_diff.specs.declared.version.Version.{Version}
+use Rattle.document_diff.specs.declared.version.Version.TheVariants as versions
 use Rattle.document_dump.specs.declared.dumping.Which.TheVariants as which
 use Rattle.document_tools.specs.Checks.{ChecksFile}
+use Rattle.document_tools.specs.Comparisons.{ComparesFiles}
 use Rattle.document_tools.specs.DumpedFiles.{DumpsFile}
 use Rattle.document_tools.specs.Maps.{MapsFile}
 use Rattle.document_tools.specs.OtherSlots.{DumpsOtherFile}
 use Rattle.document_tools.specs.Restores.{MakeCalls, Restores}
+use Rattle.document_tools.specs.Salvages.{SalvagesFile}
 use Rattle.document_tools.specs.Stats.{StatsFile}
 use Rattle.document_tools.specs.Views.{Views}
 use Rattle.document_tools.specs.declared.ending.Ending.{Ending}
@@ -41,6 +47,12 @@ CarriesOutLook views facts contents writes (asked.Stat form) file old new from t
     StatsFile views facts writes file form old new from to ending
 CarriesOutLook views facts contents writes (asked.Map picture) file old new from to ending =
     MapsFile views facts contents writes file picture old new from to ending
+CarriesOutLook views facts contents writes asked.Salvage file old new from to ending =
+    SalvagesFile views facts contents writes file old new from to ending
+
+abbrev pub version_of_scope : DiffScope → Version
+version_of_scope scopes.Updated = versions.Updated
+version_of_scope scopes.Saved = versions.Saved
 
 -- no file is opened but to be read alone, none is made, and no script is read
 abbrev pub OnlyLooks : {V F M R : Type 0} → Machine V F M R → Machine V F M R → Type 0
@@ -55,6 +67,10 @@ CarriesOut views viewed calls facts makes remaining reads contents writes (reque
 CarriesOut views viewed calls facts makes remaining reads contents writes (requests.Look looked file) old new from to
     ending =
     CarriesOutLook views viewed contents writes looked file.now old.viewer new.viewer from to ending × OnlyLooks old new
+CarriesOut views viewed calls facts makes remaining reads contents writes (requests.Diff scope first second) old new
+    from to ending =
+    ComparesFiles views viewed contents writes first.now second.now (version_of_scope scope) old.viewer new.viewer from to
+    ending × OnlyLooks old new
 CarriesOut views viewed calls facts makes remaining reads contents writes (requests.Restore file) old new from to ending =
     Restores calls facts makes file.now old.files old.maker new.files new.maker (remaining old.reader)
     (remaining new.reader) (StopsReading reads (2 ^ 24) old.reader new.reader) ending

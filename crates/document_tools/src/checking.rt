@@ -3,10 +3,11 @@ ghost use Rattle.std.specs.Prelude.{◌≡◌, ◌++◌, IfOk, MatchResult};
 ghost use Rattle.vm_file.specs.Opened.{OnlyReadsStore};
 ghost use Rattle.file_report.specs.Checked.{counting_number};
 ghost use Rattle.document_tools.specs.Checks.{ChecksFile, ChecksStore, IsCheckText, PrintsReport};
-ghost use Rattle.document_tools.specs.Reports.{report_text};
+ghost use Rattle.document_tools.specs.Reports.{next_line, report_text};
 ghost use Rattle.document_tools.specs.declared.ending.Ending.TheVariants as endings;
 
 use crate::ending::{Ending, refused, unread};
+use crate::next_step::next_line;
 use crate::obstacle::Obstacle;
 use crate::pages_text::counting_text;
 use crate::report_text::push_report;
@@ -17,7 +18,7 @@ use geos_shell::Sink;
 use std::alloc::{AllocError, Global};
 use vm_store::Store;
 
-// The lines of a report, and these behind them.
+// The lines of a report, these behind them, and the next step.
 fn report_lines(
     alloc: Global,
     report: &Report,
@@ -25,11 +26,12 @@ fn report_lines(
     pages: &[u8],
 ) -> Result<Vec<u8>, AllocError>
     requires { counts ≡ counting_number report.now.first report.now.second }
-    ensures { IfOk result (λ text. text.items ≡ report_text report.now ++ pages.now) }
+    ensures { IfOk result (λ text. text.items ≡ report_text report.now ++ pages.now ++ next_line report.now) }
 {
     let mut text = Vec::new(alloc);
     push_report(&mut text, report, counts)?;
     text.extend_from_slice(pages)?;
+    text.extend_from_slice(next_line(report))?;
     Ok(text)
 }
 
@@ -90,7 +92,8 @@ fn check_store<S: Store, W: Sink>(
 }
 
 /// Opens the file of a name to be read alone, and writes whether it opens, its length, what stands at its slots and
-/// what is wrong with them, which of its extents overlap, and how many of its pages nothing lies on. It is one write.
+/// what is wrong with them, which of its extents overlap, how many of its pages nothing lies on, and where it doesn't
+/// open what can be done. It is one write.
 pub fn check_file<V: Viewer, W: Sink>(
     alloc: Global,
     viewer: &mut V,

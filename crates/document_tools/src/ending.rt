@@ -1,7 +1,7 @@
 //! How a tool ends.
 ghost use Rattle.std.specs.Prelude.{◌≡◌, Some};
 ghost use Rattle.vm_file.specs.Calls.{IsResourceFault};
-ghost use Rattle.document_tools.specs.Endings.{EndsUnread, IsRefusedFor, PrintsLine, ending_status, error_line};
+ghost use Rattle.document_tools.specs.Endings.{EndsUnread, IsRefusedFor, IsUncomparedFor, PrintsLine, ending_status, error_line, trouble_line};
 
 use crate::obstacle::{Obstacle, push_refusal};
 use geos_model::{Bytes, Fault};
@@ -22,6 +22,32 @@ pub enum Ending {
     ReadFault,
     /// What was asked for couldn't be written.
     WriteFault,
+    /// The documents differ that were to be compared, and it is told in what.
+    Different,
+    /// They can't be compared.
+    Uncompared(Trouble),
+}
+
+/// Why documents can't be compared.
+#[derive(Drop)]
+pub enum Trouble {
+    /// One of the files can't be looked at. The line says which, and why.
+    Refused(Bytes),
+    Memory,
+    /// What differs couldn't be written.
+    WriteFault,
+}
+
+impl Trouble {
+    fn line(&self) -> &[u8]
+        ensures { result.now ≡ trouble_line self.now }
+    {
+        match self {
+            Trouble::Refused(line) => line.as_slice(),
+            Trouble::Memory => b"geosdoc: memory\n",
+            Trouble::WriteFault => b"geosdoc: write fault\n",
+        }
+    }
 }
 
 impl Ending {
@@ -35,7 +61,9 @@ impl Ending {
             | Ending::Refused(_)
             | Ending::Memory
             | Ending::ReadFault
+            | Ending::Different
             | Ending::WriteFault => 1,
+            Ending::Uncompared(_) => 2,
         }
     }
 
@@ -52,11 +80,12 @@ impl Ending {
         ensures { PrintsLine E.writes (error_line self.now) errors.old errors.new }
     {
         match self {
-            Ending::Done | Ending::Unsound => {}
+            Ending::Done | Ending::Unsound | Ending::Different => {}
             Ending::Refused(line) => complain(errors, line.as_slice()),
             Ending::Memory => complain(errors, b"geosdoc: memory\n"),
             Ending::ReadFault => complain(errors, b"geosdoc: read fault\n"),
             Ending::WriteFault => complain(errors, b"geosdoc: write fault\n"),
+            Ending::Uncompared(trouble) => complain(errors, trouble.line()),
         }
     }
 }
@@ -86,5 +115,16 @@ pub fn unread(alloc: Global, file: &str, fault: Fault) -> Ending
     match fault {
         Fault::Memory => Ending::Memory,
         _ => refused(alloc, file, Obstacle::Unread),
+    }
+}
+
+/// What is told where this stands against a comparison.
+pub fn uncompared(alloc: Global, file: &str, obstacle: Obstacle) -> Ending
+    ensures { IsUncomparedFor file.now obstacle result }
+{
+    let mut line = Vec::new(alloc);
+    match push_refusal(&mut line, file, obstacle) {
+        Ok(()) => Ending::Uncompared(Trouble::Refused(Bytes::from_vec(line))),
+        Err(_) => Ending::Uncompared(Trouble::Memory),
     }
 }

@@ -47,6 +47,8 @@ pub enum Obstacle {
     Unopened(Fault),
     /// What the slot leads to that doesn't count doesn't open, or there is no such slot.
     NoOther(Fault),
+    /// It doesn't open, and no directory of it can be read.
+    Unsalvaged,
     /// It can't be made, or no document in it.
     Unmade(MakeFault),
 }
@@ -97,6 +99,7 @@ fn push_obstacle(out: &mut Vec<u8>, obstacle: Obstacle) -> Result<(), AllocError
         }
         Obstacle::Unopened(fault) => push_named(out, b"it doesn't open, ", fault),
         Obstacle::NoOther(fault) => push_named(out, b"the other slot doesn't open, ", fault),
+        Obstacle::Unsalvaged => out.extend_from_slice(b"no directory of it can be read"),
         Obstacle::Unmade(fault) => out.extend_from_slice(fault.text().as_bytes()),
     }
 }

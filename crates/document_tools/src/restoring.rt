@@ -2,9 +2,10 @@
 ghost use Rattle.std.specs.Prelude.{◌≡◌, ◌++◌, ◌^◌, [], true, IfErr, IfOk, IsTrue, None, Ok, OnErr, OnOk};
 ghost use Rattle.vm_file.specs.Opened.{OnlyReadsStore};
 ghost use Rattle.geos_shell.specs.Streams.{StopsReading};
-ghost use Rattle.document_tools.specs.Restores.{EndsRun, EndsUncreated, IsUnusable, MakesFile, MakesNone, Restores, RestoresIn, RunsScript, EndsByRefusal, refused_line};
+ghost use Rattle.document_tools.specs.Restores.{EndsRun, EndsUncreated, IsUnusable, MakesFile, MakesNone, Restores, RestoresIn, RunsScript, EndsByRefusal, refused_line, refused_start};
 
 use crate::ending::{Ending, refused};
+use crate::lines::push_decimal;
 use crate::obstacle::{MakeFault, Obstacle};
 use arrayvec::ArrayVec;
 use geos_model::{Bytes, Fault};
@@ -123,21 +124,34 @@ fn make<F: Files, M: MakesNew>(
     }
 }
 
-fn push_refused_line(out: &mut Vec<u8>, file: &str, reply: &[u8]) -> Result<(), AllocError>
-    ensures { OnOk result (out.new.items ≡ out.old.items ++ refused_line file.now reply.now) }
+fn push_refused_start(out: &mut Vec<u8>, file: &str, number: u64) -> Result<(), AllocError>
+    ensures { OnOk result (out.new.items ≡ out.old.items ++ refused_start file.now number) }
 {
     out.extend_from_slice(b"geosdoc: ")?;
     out.extend_from_slice(file.as_bytes())?;
-    out.extend_from_slice(b": a line of the script is refused: ")?;
-    out.extend_from_slice(reply)?;
-    Ok(out.extend_from_slice(b"\n")?)
+    out.extend_from_slice(b": line ")?;
+    push_decimal(out, number)?;
+    Ok(out.extend_from_slice(b" of the script is refused: ")?)
 }
 
-fn refused_by(alloc: Global, file: &str, reply: &[u8]) -> Ending
-    ensures { EndsByRefusal file.now result }
+fn push_refused_line(
+    out: &mut Vec<u8>,
+    file: &str,
+    number: u64,
+    reply: &[u8],
+) -> Result<(), AllocError>
+    ensures { OnOk result (out.new.items ≡ out.old.items ++ refused_line file.now number reply.now) }
+{
+    push_refused_start(out, file, number)?;
+    out.extend_from_slice(reply)?;
+    Ok(out.push(b'\n')?)
+}
+
+fn refused_by(alloc: Global, file: &str, number: u64, reply: &[u8]) -> Ending
+    ensures { EndsByRefusal file.now number result }
 {
     let mut line = Vec::new(alloc);
-    match push_refused_line(&mut line, file, reply) {
+    match push_refused_line(&mut line, file, number, reply) {
         Ok(()) => Ending::Refused(Bytes::from_vec(line)),
         Err(_) => Ending::Memory,
     }
@@ -150,8 +164,9 @@ fn end_of_run(alloc: Global, file: &str, ended: Result<(), RunFault>, reply: &[u
     match ended {
         Ok(()) => Ending::Done,
         Err(RunFault::Read) => Ending::ReadFault,
+        Err(RunFault::Write) => Ending::WriteFault,
         Err(RunFault::Memory) => Ending::Memory,
-        Err(RunFault::Refused | RunFault::Write) => refused_by(alloc, file, reply),
+        Err(RunFault::Refused(number)) => refused_by(alloc, file, number, reply),
     }
 }
 

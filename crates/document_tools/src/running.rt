@@ -2,19 +2,23 @@
 ghost use Rattle.std.specs.Prelude.{◌≡◌};
 ghost use Rattle.document_tools.specs.Endings.{PrintsLine, ending_status, error_line};
 ghost use Rattle.document_tools.specs.Checks.{ChecksFile};
+ghost use Rattle.document_tools.specs.Comparisons.{ComparesFiles};
 ghost use Rattle.document_tools.specs.Stats.{StatsFile};
-ghost use Rattle.document_tools.specs.Runs.{CarriesOut, DumpsRequested, CarriesOutLook};
+ghost use Rattle.document_tools.specs.Runs.{CarriesOut, DumpsRequested, CarriesOutLook, version_of_scope};
 ghost use Rattle.document_tools.specs.declared.ending.Ending.{Ending};
 
 use crate::checking::check_file;
+use crate::comparing::{Names, diff_files};
 use crate::dumping::dump_file;
 use crate::ending::Ending;
 use crate::mapping::map_file;
 use crate::other_slot::dump_other;
 use crate::restoring::{MakesNew, restore};
+use crate::salvaging::salvage_file;
 use crate::stating::stat_file;
 use crate::viewer::Viewer;
-use document_commands::{Asked, DumpScope, Form, Request};
+use document_commands::{Asked, DiffScope, DumpScope, Form, Request};
+use document_diff::Version;
 use document_dump::Which;
 use geos_shell::{Sink, Source};
 use std::alloc::Global;
@@ -89,6 +93,25 @@ fn look<V: Viewer, W: Sink + Drop>(
         Asked::Dump(dumped) => dump_asked(alloc, viewer, file, dumped, writer),
         Asked::Stat(form) => counted(alloc, viewer, file, form, writer),
         Asked::Map(picture) => map_file(alloc, viewer, file, picture, writer),
+        Asked::Salvage => salvage_file(alloc, viewer, file, writer),
+    }
+}
+
+fn diff_asked<V: Viewer, W: Sink + Drop>(
+    alloc: Global,
+    viewer: &mut V,
+    scope: DiffScope,
+    first: &str,
+    second: &str,
+    writer: W,
+) -> (W, Ending)
+    ensures { ComparesFiles V.views V.Opened.facts W.contents W.writes first.now second.now (version_of_scope scope)
+        viewer.old viewer.new writer result.0 result.1 }
+{
+    let names = Names { first, second };
+    match scope {
+        DiffScope::Updated => diff_files(alloc, viewer, names, Version::Updated, writer),
+        DiffScope::Saved => diff_files(alloc, viewer, names, Version::Saved, writer),
     }
 }
 
@@ -104,6 +127,9 @@ fn carry_out<V: Viewer, F: Files, M: MakesNew, R: Source, W: Sink + Drop>(
     match request {
         Request::Check(file) => checked(alloc, &mut machine.viewer, file, writer),
         Request::Look(asked, file) => look(alloc, &mut machine.viewer, file, asked, writer),
+        Request::Diff(scope, first, second) => {
+            diff_asked(alloc, &mut machine.viewer, scope, first, second, writer)
+        }
         Request::Restore(file) => {
             let Machine {
                 files,

@@ -27,7 +27,7 @@ use Rattle.vm_store.specs.Facts.{StoreFacts}
 use Rattle.vm_format.specs.Reading.{OnlyReadsStore}
 use Rattle.vm_format.proofs.LooksLemmas.{held_before}
 use Rattle.std.specs.Io.KnownBytes.{Appends}
-use Rattle.file_map.specs.Drawn.{IsDrawn, IsFileMap}
+use Rattle.file_map.specs.Drawn.{IsDrawn, IsDrawnOf, IsFileMap}
 use Rattle.file_map.specs.Faults.{IsLack, IsMapRefusal, IsUncounted}
 use Rattle.file_map.specs.declared.fault.MapFault.{MapFault}
 use Rattle.file_map.specs.declared.fault.MapFault.TheVariants.{Memory, File, Unopened, Write}
@@ -200,17 +200,18 @@ pub lacks_refuse : {T : Type 0} (store : StoreFacts) (r : Result T MapFault) →
 lacks_refuse store (Ok t) is = tt
 lacks_refuse store (Err fault) is = lack_is store fault is
 
-drawn_of : (picture : List ℕ → List Part → ℕ → List ℕ) (file : List ℕ) (m : FileMap) (from to : Option (List ℕ)) → IsFileMap file m → Appends from to (picture file m.parts.items m.pages)
-    → IsDrawn picture file from to
+drawn_of : (picture : List ℕ → List Part → List Part → ℕ → List ℕ) (file : List ℕ) (m : FileMap) (from to : Option (List ℕ)) → IsFileMap file m
+    → IsDrawnOf picture file m.parts.items m.pages from to → IsDrawn picture file from to
 drawn_of picture file m from to is sent = record {
   usages = is.usages;
   list = is.list;
-  appends = subst (Appends from to) (ap₂ (picture file) is.parts is.pages) sent;
+  drawn = subst (λ (ps : List Part). IsDrawnOf picture file ps (pages_of (length file)) from to) is.parts
+      (subst (λ (n : ℕ). IsDrawnOf picture file m.parts.items n from to) is.pages sent);
 }
 
 -- The whole picture, which was drawn of a file as it was read.
-pub picture_drawn : (picture : List ℕ → List Part → ℕ → List ℕ) (old read : StoreFacts) (m : FileMap) (from to : Option (List ℕ)) (end : Result (Unit {0}) MapFault)
-    → OnlyReadsStore old read → (IsTrue old.honest → IsFileMap old.content m) → OnOk end (IsTrue read.honest → Appends from to (picture read.content m.parts.items m.pages))
+pub picture_drawn : (picture : List ℕ → List Part → List Part → ℕ → List ℕ) (old read : StoreFacts) (m : FileMap) (from to : Option (List ℕ)) (end : Result (Unit {0}) MapFault)
+    → OnlyReadsStore old read → (IsTrue old.honest → IsFileMap old.content m) → OnOk end (IsTrue read.honest → IsDrawnOf picture read.content m.parts.items m.pages from to)
     → OnOk end (IsTrue old.honest → IsDrawn picture old.content from to)
 picture_drawn picture old read m from to end looks is sent =
-    on_ok_weaker end (λ told so. drawn_of picture old.content m from to (is so) (held_before (λ f. Appends from to (picture f m.parts.items m.pages)) old read looks told so)) sent
+    on_ok_weaker end (λ told so. drawn_of picture old.content m from to (is so) (held_before (λ f. IsDrawnOf picture f m.parts.items m.pages from to) old read looks told so)) sent

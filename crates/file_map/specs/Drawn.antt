@@ -9,7 +9,7 @@ use Rattle.file_report.specs.declared.pages.Usage.{Usage}
 use Rattle.file_map.specs.Bars.{bars_drawn}
 use Rattle.file_map.specs.Heaps.{heap_lines}
 use Rattle.file_map.specs.Pages.{page_picture}
-use Rattle.file_map.specs.Parts.{drawn_parts, is_heap_part, part_of_usage}
+use Rattle.file_map.specs.Parts.{drawn_parts, handle_rank, is_heap_part, part_of_usage}
 use Rattle.file_map.specs.Svg.{gaps, heaps_top, labels, parts_drawn, start_drawn}
 use Rattle.file_map.specs.declared.heaps.TheConstants.{HEADING}
 use Rattle.file_map.specs.declared.part.Part.{Part}
@@ -30,21 +30,34 @@ pub record IsFileMap (file : List ℕ) (m : FileMap) : Type 0 where
   pub parts : m.parts.items ≡ map (part_of_usage file) usages
   pub pages : m.pages ≡ pages_of (length file)
 
--- the picture as text, of the parts of a file of so many pages: the pages, and behind a blank line the heaps
-abbrev pub map_text : List ℕ → List Part → ℕ → List ℕ
-map_text file ps pages = page_picture ps pages ++ HEADING.now ++ heap_lines file (drawn_parts ps)
+-- The same parts by their blocks' handles. Of two of one block that of the saved document alone stands behind the other.
+pub record AreByHandle (ps : List Part) (by_handle : List Part) : Type 0 where
+  pub same : IsPermutation ps by_handle
+  pub sorted : IsNonDecreasingBy handle_rank by_handle
+
+-- The picture as text, of the parts of a file of so many pages, and of what is drawn of them by handle: the pages, and
+-- behind a blank line the heaps.
+abbrev pub map_text : List ℕ → List Part → List Part → ℕ → List ℕ
+map_text file ps by_handle pages = page_picture ps pages ++ HEADING.now ++ heap_lines file by_handle
 
 -- and as SVG: the pages with what lies on them, and below them the heaps
-abbrev pub svg_of : List ℕ → List Part → ℕ → List ℕ
-svg_of file ps pages =
+abbrev pub svg_of : List ℕ → List Part → List Part → ℕ → List ℕ
+svg_of file ps by_handle pages =
     let once = drawn_parts ps in
     let top = heaps_top pages in
     start_drawn pages (top + 34 * count_by is_heap_part once) ++ labels pages ++ parts_drawn once ++ gaps pages
-    ++ bars_drawn file top once ++ codes "</svg>\n"
+    ++ bars_drawn file top by_handle ++ codes "</svg>\n"
+
+-- known bytes grow by a picture of such parts
+pub record IsDrawnOf (picture : List ℕ → List Part → List Part → ℕ → List ℕ) (file : List ℕ) (ps : List Part) (pages : ℕ)
+    (from to : Option (List ℕ)) : Type 0 where
+  pub by_handle : List Part
+  pub are : AreByHandle (drawn_parts ps) by_handle
+  pub appends : Appends from to (picture file ps by_handle pages)
 
 -- known bytes grow by a picture of the file
-pub record IsDrawn (picture : List ℕ → List Part → ℕ → List ℕ) (file : List ℕ) (from to : Option (List ℕ))
+pub record IsDrawn (picture : List ℕ → List Part → List Part → ℕ → List ℕ) (file : List ℕ) (from to : Option (List ℕ))
     : Type 0 where
   pub usages : List Usage
   pub list : IsUsageList file usages
-  pub appends : Appends from to (picture file (map (part_of_usage file) usages) (pages_of (length file)))
+  pub drawn : IsDrawnOf picture file (map (part_of_usage file) usages) (pages_of (length file)) from to

@@ -75,6 +75,6 @@ heap_numbers table = counts_text (count_by is_chunk_size table) (length table) +
 abbrev pub line_of : List ℕ → Part → List ℕ
 line_of file p = if is_heap_part p then heap_line p.block p.users (sizes (bytes_in file p.extent)) else []
 
--- one line a heap, in the order of their pages
+-- one line a heap, in their order
 abbrev pub heap_lines : List ℕ → List Part → List ℕ
 heap_lines file ps = flat_map (line_of file) ps

@@ -1,5 +1,5 @@
 -- What lies in the extents of a file, and whose it is.
-use Rattle.std.specs.Prelude.{ℕ, ◌-◌, ◌*◌, ◌==◌, ◌&&◌, Bool, true, false, not, List, [], ◌∷◌, ◌++◌, fold, take, slice_get, Option, None, Some, length, if◌then◌else◌}
+use Rattle.std.specs.Prelude.{ℕ, ◌-◌, ◌+◌, ◌*◌, ◌==◌, ◌&&◌, Bool, true, false, not, List, [], ◌∷◌, ◌++◌, fold, take, slice_get, Option, None, Some, length, if◌then◌else◌}
 use Rattle.geos_model.specs.declared.file.Extent.{Extent}
 use Rattle.vm_store.specs.Facts.{byte}
 use Rattle.vm_format.specs.Kinds.{is_heap_kind, body_kind_of}
@@ -108,3 +108,7 @@ drawn_more ps p = take (length ps - 1) ps ++ joined (slice_get ps (length ps - 1
 -- each part once: what both documents have, one behind the other, is one part
 abbrev pub drawn_parts : List Part → List Part
 drawn_parts ps = fold drawn_more [] ps
+
+-- by this heaps are drawn one below the other
+abbrev pub handle_rank : Part → ℕ
+handle_rank p = 2 * p.block.0 + (if is_updated p then 0 else 1)

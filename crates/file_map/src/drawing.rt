@@ -6,7 +6,7 @@ ghost use Rattle.geos_model.specs.File.{bytes_in};
 ghost use Rattle.geos_model.specs.Heap.{most_chunks};
 ghost use Rattle.vm_store.specs.Facts.{FailedSince};
 ghost use Rattle.vm_format.specs.Reading.{OnlyReadsStore};
-ghost use Rattle.file_map.specs.Drawn.{IsDrawn, svg_of, map_text};
+ghost use Rattle.file_map.specs.Drawn.{AreByHandle, IsDrawn, IsDrawnOf, svg_of, map_text};
 ghost use Rattle.file_map.specs.Faults.{IsLack, IsMapRefusal, IsWriteLack};
 ghost use Rattle.file_map.specs.Heaps.{heap_lines, line_of, sizes};
 ghost use Rattle.file_map.specs.Parts.{drawn_parts, is_heap_part};
@@ -40,6 +40,16 @@ fn draw_once(alloc: Global, parts: &[Part]) -> Result<Vec<Part>, AllocError>
         return Err(AllocError);
     }
     Ok(once)
+}
+
+// These parts by handle.
+fn by_handle(once: Vec<Part>) -> Result<Vec<Part>, AllocError>
+    ensures parts { IfOk result (λ parts. AreByHandle once.items parts.items) }
+    ensures few { IfOk result (λ parts. length parts.items ≡ length once.items) }
+{
+    let mut parts = once;
+    parts.sort_by_key(|part| part.handle_rank())?;
+    Ok(parts)
 }
 
 // The line of a part that is a heap. Memory, File, Write.
@@ -101,15 +111,16 @@ fn write_text<S: Store, W: Write>(
     requires few { map.now.pages < 2 ^ 56 }
     ensures looks { OnlyReadsStore (S.facts store.old) (S.facts store.new) }
     ensures text { OnOk result (IsTrue (S.facts store.old).honest
-        → Appends (W.contents writer.old) (W.contents writer.new)
-        (map_text (S.facts store.old).content map.now.parts.items map.now.pages)) }
+        → IsDrawnOf map_text (S.facts store.old).content map.now.parts.items map.now.pages
+        (W.contents writer.old) (W.contents writer.new)) }
     ensures file { IsErrOf result MapFault.File → FailedSince (S.facts store.old) (S.facts store.new) }
     ensures refusals { IfErr result IsLack }
 {
     write_pages(alloc, &map.parts, map.pages, writer)?;
     write_heading(writer)?;
     let once = draw_once(alloc, &map.parts)?;
-    write_heaps(alloc, store, &once, writer)
+    let heaps = by_handle(once)?;
+    write_heaps(alloc, store, &heaps, writer)
 }
 
 /// Writes a picture of a file as text: a character for each page in rows of 64, what the characters mean with how many
@@ -157,8 +168,8 @@ fn write_svg<S: Store, W: Write>(
     requires { map.now.pages < 2 ^ 56 }
     ensures looks { OnlyReadsStore (S.facts store.old) (S.facts store.new) }
     ensures text { OnOk result (IsTrue (S.facts store.old).honest
-        → Appends (W.contents writer.old) (W.contents writer.new)
-        (svg_of (S.facts store.old).content map.now.parts.items map.now.pages)) }
+        → IsDrawnOf svg_of (S.facts store.old).content map.now.parts.items map.now.pages
+        (W.contents writer.old) (W.contents writer.new)) }
     ensures file { IsErrOf result MapFault.File → FailedSince (S.facts store.old) (S.facts store.new) }
     ensures refusals { IfErr result IsLack }
 {
@@ -167,7 +178,8 @@ fn write_svg<S: Store, W: Write>(
     write_start(alloc, map.pages, height(&once, top), writer)?;
     write_parts(alloc, &once, writer)?;
     write_gaps(alloc, map.pages, writer)?;
-    write_bars(alloc, store, &once, top, writer)?;
+    let heaps = by_handle(once)?;
+    write_bars(alloc, store, &heaps, top, writer)?;
     send(b"</svg>\n", writer)
 }
 

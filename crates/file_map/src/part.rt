@@ -1,6 +1,6 @@
 //! What lies in an extent of a file, and whose it is.
 ghost use Rattle.std.specs.Prelude.{◌≡◌, OnOk};
-ghost use Rattle.file_map.specs.Parts.{drawn_more, is_directory_part, is_heap_part, is_raw_part, is_same, is_saved, is_shared, is_slots, is_updated, users_of};
+ghost use Rattle.file_map.specs.Parts.{drawn_more, handle_rank, is_directory_part, is_heap_part, is_raw_part, is_same, is_saved, is_shared, is_slots, is_updated, users_of};
 
 use file_report::Named;
 use geos_model::{Extent, VmHandle};
@@ -82,6 +82,13 @@ impl Part {
         ensures { result ≡ is_saved self.now }
     {
         !matches!(self.users, Users::Updated)
+    }
+
+    /// By this heaps are drawn one below the other: the blocks' handles, and of one block the saved document's comes last.
+    pub fn handle_rank(&self) -> u32
+        ensures { result ≡ handle_rank self.now }
+    {
+        2 * u32::from(self.block.0) + u32::from(!self.is_updated())
     }
 
     // Whether they are of one kind, in one place and of one block.

@@ -25,7 +25,7 @@ refused_cause P Q none outcome is = subst (λ (o : Outcome). HasRunCause o P Q) 
 -- where the words couldn't be read
 pub unread_cause : (P Q : Type 0) (outcome : Outcome) → IsUnread outcome → HasRunCause outcome P Q
 unread_cause P Q (outcomes.Run faults.Memory) h = tt
-unread_cause P Q (outcomes.Run faults.Refused) h = tt
+unread_cause P Q (outcomes.Run (faults.Refused line)) h = tt
 unread_cause P Q (outcomes.Run faults.Read) h = absurd h
 unread_cause P Q (outcomes.Run faults.Write) h = absurd h
 unread_cause P Q (outcomes.Usage text) h = tt

@@ -257,5 +257,5 @@ AnswersOf-plain {S} {facts} {old} {new} {asked} {written} a exact =
     }
 
 -- and no refusal ends the run
-pub Refused-plain : {S : Type 0} {facts : S → StoreFacts} {old new : Holding S} {from to before after : Option (List ℕ)} → EndsBy faults.Refused facts plain old from to before after new → ⊥
+pub Refused-plain : {S : Type 0} {facts : S → StoreFacts} {old new : Holding S} {from to before after : Option (List ℕ)} {line : ℕ} → EndsBy (faults.Refused line) facts plain old from to before after new → ⊥
 Refused-plain ended = let bails : false ≡ true = ended.stopped.0 in cc bails

@@ -28,14 +28,14 @@ pub record Ran {S : Type 0} (facts : S → StoreFacts) (manner : ScriptOptions) 
 
 -- nothing was read
 pub Ran-none : {S : Type 0} (facts : S → StoreFacts) (manner : ScriptOptions) (reader writer : Option (List ℕ)) (h : Holding S) (kept : Answering)
-    → kept.begun.items ≡ [] → kept.replies.items ≡ [] → Ran facts manner h reader reader writer writer (moment h kept)
-Ran-none facts manner reader writer h kept begun replies =
+    → kept.begun.items ≡ [] → kept.replies.items ≡ [] → kept.ended ≡ 0 → Ran facts manner h reader reader writer writer (moment h kept)
+Ran-none facts manner reader writer h kept begun replies ended =
     record {
       read = [];
       consumed = Consumes-nil reader;
       written = [];
       appended = Appends-nil writer;
-      progress = rw (begun, replies) (Progress-none facts manner h);
+      progress = rw (begun, replies, ended) (Progress-none facts manner h);
       none_left = replies;
     }
 
@@ -129,7 +129,7 @@ pub EndsBy-or : {S P Q : Type 0} (fault : RunFault) (facts : S → StoreFacts) (
     → ((fault ≡ faults.Write) × P) ⊎ Q → EndsBy fault facts manner old from to before after new
 EndsBy-or fault facts manner old from to before after new unsent stopped (inl failed) = rw (failed.0) (unsent failed.1)
 EndsBy-or faults.Memory facts manner old from to before after new unsent stopped (inr stops) = stopped stops
-EndsBy-or faults.Refused facts manner old from to before after new unsent stopped (inr stops) = stopped stops
+EndsBy-or (faults.Refused line) facts manner old from to before after new unsent stopped (inr stops) = stopped stops
 EndsBy-or faults.Read facts manner old from to before after new unsent stopped (inr stops) = absurd (stopped stops).stopped
 EndsBy-or faults.Write facts manner old from to before after new unsent stopped (inr stops) = absurd (stopped stops).stopped
 
@@ -138,7 +138,7 @@ module _ {S : Type 0} (facts : S → StoreFacts) (manner : ScriptOptions) where
   stopped_with : (fault : RunFault) (start : Holding S) (read written : List ℕ) (new : Holding S) → StopsBy fault facts manner start read written new
       → (replies : List ℕ) × StoppedWith facts manner start (lines read) replies new
   stopped_with faults.Memory start read written new stops = (written, stops.0)
-  stopped_with faults.Refused start read written new stops =
+  stopped_with (faults.Refused line) start read written new stops =
       let at = stops.1 in
       (at.before, record { answered = at.answered; others = _; parts = at.parts; mid = at.mid; run = at.run; next = inr (Refused at.refuses.fault, at.refuses.answers) })
   stopped_with faults.Read start read written new stops = absurd stops
@@ -173,13 +173,13 @@ module _ {S : Type 0} (facts : S → StoreFacts) (manner : ScriptOptions) where
         (stopped_with fault start read _ new.holding (stops start read sent p).1)
 
     -- the front of bytes was answered, and the replies are sent
-    pub piece_sent : (bytes : List ℕ) (left : Moment S) (before after : Option (List ℕ)) → left.holding ≡ new.holding → left.kept.begun ≡ new.kept.begun → GoesOver facts manner old bytes new
+    pub piece_sent : (bytes : List ℕ) (left : Moment S) (before after : Option (List ℕ)) → left.holding ≡ new.holding → left.kept.begun ≡ new.kept.begun → left.kept.ended ≡ new.kept.ended → GoesOver facts manner old bytes new
         → left.kept.replies.items ≡ [] → Appends before after new.kept.replies.items → AnswersPiece facts manner old bytes left before after
-    piece_sent bytes left before after held begun goes none appended =
+    piece_sent bytes left before after held begun ended goes none appended =
         record {
           written = new.kept.replies.items;
           appended = appended;
-          goes = λ start read sent p. rw (none, append-nil (sent ++ new.kept.replies.items), held, begun) (goes start read sent p);
+          goes = λ start read sent p. rw (none, append-nil (sent ++ new.kept.replies.items), held, begun, ended) (goes start read sent p);
         }
 
   -- nothing was answered
@@ -214,7 +214,7 @@ pub HasCause-more : {P Q P' Q' : Type 0} (fault : RunFault) → (P → P') → (
 HasCause-more faults.Read f g h = f h
 HasCause-more faults.Write f g h = g h
 HasCause-more faults.Memory f g h = tt
-HasCause-more faults.Refused f g h = tt
+HasCause-more (faults.Refused line) f g h = tt
 
 -- the session of a run that ended well is exact
 pub exact_after : {S : Type 0} (facts : S → StoreFacts) (manner : ScriptOptions) (old new : Holding S) (from to before after : Option (List ℕ)) (result : Result (Unit {0}) RunFault) → result ≡ Ok tt

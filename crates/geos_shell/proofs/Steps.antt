@@ -13,7 +13,7 @@ use Rattle.geos_shell.proofs.Lines.{lines-at_feed, lines-one, lines-some, finish
 use Rattle.geos_shell.proofs.Manners.{AnswersLines-StandsFor, AnswersLines-append, AnswersLines-none, RefusesRequest-StandsFor}
 
 -- nothing was read
-pub Progress-none : {S : Type 0} (facts : S → StoreFacts) (manner : ScriptOptions) (start : Holding S) → Progress facts manner start [] [] start []
+pub Progress-none : {S : Type 0} (facts : S → StoreFacts) (manner : ScriptOptions) (start : Holding S) → Progress facts manner start [] [] start [] 0
 Progress-none facts manner start =
     record {
       answered = [];
@@ -23,6 +23,7 @@ Progress-none facts manner start =
       unfinished = tt;
       stands = refl;
       run = AnswersLines-none facts manner start;
+      counted = refl;
     }
 
 -- a line that has begun is one of what was read
@@ -38,9 +39,9 @@ none_next : {S : Type 0} (facts : S → StoreFacts) (h : Holding S) (others : Li
 none_next facts h [] = refl
 none_next facts h (line ∷ others) = inl refl
 
-module _ {S : Type 0} {facts : S → StoreFacts} {manner : ScriptOptions} {start now : Holding S} {read written kept : List ℕ} (p : Progress facts manner start read written now kept) where
+module _ {S : Type 0} {facts : S → StoreFacts} {manner : ScriptOptions} {start now : Holding S} {read written kept : List ℕ} {count : ℕ} (p : Progress facts manner start read written now kept count) where
   -- bytes with no line feed
-  pub Progress-part : (part new : List ℕ) → HasNoFeed part → StandsFor (kept ++ part) new → Progress facts manner start (read ++ part) written now new
+  pub Progress-part : (part new : List ℕ) → HasNoFeed part → StandsFor (kept ++ part) new → Progress facts manner start (read ++ part) written now new count
   Progress-part part new free h =
       record {
         answered = p.answered;
@@ -50,6 +51,7 @@ module _ {S : Type 0} {facts : S → StoreFacts} {manner : ScriptOptions} {start
         unfinished = HasNoFeed-append p.begun part p.unfinished free;
         stands = StandsFor-trans p.begun kept part new p.stands h;
         run = p.run;
+        counted = p.counted;
       }
 
   same_command : command kept ≡ command p.begun
@@ -67,7 +69,7 @@ module _ {S : Type 0} {facts : S → StoreFacts} {manner : ScriptOptions} {start
   with_line a = AnswersLines-append p.run (AnswersLines-StandsFor p.stands a)
 
   -- the end of a line
-  pub Progress-feed : {new : Holding S} {more : List ℕ} → AnswersLines facts manner now (kept ∷ []) more new → Progress facts manner start (read ++ 10 ∷ []) (written ++ more) new []
+  pub Progress-feed : {new : Holding S} {more : List ℕ} → AnswersLines facts manner now (kept ∷ []) more new → Progress facts manner start (read ++ 10 ∷ []) (written ++ more) new [] (count + 1)
   Progress-feed a =
       let line = p.begun in
       record {
@@ -78,6 +80,7 @@ module _ {S : Type 0} {facts : S → StoreFacts} {manner : ScriptOptions} {start
         unfinished = tt;
         stands = refl;
         run = with_line a;
+        counted = omega (arith, p.counted, length-append p.answered (line ∷ []));
       }
 
   -- a run that stops, whatever else was read
@@ -93,13 +96,14 @@ module _ {S : Type 0} {facts : S → StoreFacts} {manner : ScriptOptions} {start
 
   -- the line is refused
   with_refusal : {new : Holding S} {more : List ℕ} (all others : List (List ℕ)) → all ≡ p.answered ++ p.begun ∷ others → RefusesRequest facts manner now kept more new
-      → StoppedByRefusal facts manner start all (written ++ more) new
+      → StoppedByRefusal facts manner start all (count + 1) (written ++ more) new
   with_refusal {new} {more} all others parts r =
       record {
         answered = p.answered;
         line = p.begun;
         others = others;
         parts = parts;
+        numbered = ap (λ n. n + 1) p.counted;
         mid = now;
         before = written;
         run = p.run;
@@ -115,7 +119,7 @@ module _ {S : Type 0} {facts : S → StoreFacts} {manner : ScriptOptions} {start
     (p.begun ∷ finished_lines rest, finished_with_feed rest),
   )
 
-  pub Refused-feed : {new : Holding S} {more : List ℕ} (rest : List ℕ) → RefusesRequest facts manner now kept more new → StoppedByRefusal facts manner start (lines (read ++ 10 ∷ rest)) (written ++ more) new
+  pub Refused-feed : {new : Holding S} {more : List ℕ} (rest : List ℕ) → RefusesRequest facts manner now kept more new → StoppedByRefusal facts manner start (lines (read ++ 10 ∷ rest)) (count + 1) (written ++ more) new
   Refused-feed rest r = with_refusal (lines (read ++ 10 ∷ rest)) (lines rest) (lines_with_feed rest) r
 
   all_finished : finished_lines read ≡ p.answered
@@ -155,7 +159,7 @@ module _ {S : Type 0} {facts : S → StoreFacts} {manner : ScriptOptions} {start
     ([], all_finished ∙ sym (append-nil p.answered)),
   )
 
-  pub Refused-last : {new : Holding S} {more : List ℕ} → 0 < length kept → RefusesRequest facts manner now kept more new → StoppedByRefusal facts manner start (lines read) (written ++ more) new
+  pub Refused-last : {new : Holding S} {more : List ℕ} → 0 < length kept → RefusesRequest facts manner now kept more new → StoppedByRefusal facts manner start (lines read) (count + 1) (written ++ more) new
   Refused-last some r = with_refusal (lines read) [] (with_last some) r
 
 module _ {S : Type 0} (facts : S → StoreFacts) (manner : ScriptOptions) where

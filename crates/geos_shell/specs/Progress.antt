@@ -20,17 +20,17 @@ abbrev pub IsAnsweredInRun : {S : Type 0} → (S → StoreFacts) → ScriptOptio
 IsAnsweredInRun facts manner old line new before after =
     (written : List ℕ) × AnswersLines facts manner old (line ∷ []) written new × (after ≡ before ++ written)
 
--- The run stopped in the line: there was no memory for it, or it is refused, which only a run doesn't outlast that
--- bails.
-abbrev pub IsStopped : {S : Type 0} → RunFault → (S → StoreFacts) → ScriptOptions → Holding S → List ℕ → Holding S
+-- The run stopped in the line of this number: there was no memory for it, or it is refused, which only a run doesn't
+-- outlast that bails.
+abbrev pub IsStopped : {S : Type 0} → RunFault → (S → StoreFacts) → ScriptOptions → ℕ → Holding S → List ℕ → Holding S
     → List ℕ
     → List ℕ → Type 0
-IsStopped faults.Memory facts manner old line new before after =
+IsStopped faults.Memory facts manner number old line new before after =
     MayServe facts old (command line) new × (after ≡ before)
-IsStopped faults.Refused facts manner old line new before after =
-    IsTrue manner.bails
+IsStopped (faults.Refused refused) facts manner number old line new before after =
+    (refused ≡ number) × IsTrue manner.bails
     × ((written : List ℕ) × RefusesRequest facts manner old line written new × (after ≡ before ++ written))
-IsStopped fault facts manner old line new before after = ⊥
+IsStopped fault facts manner number old line new before after = ⊥
 
 -- ---- lines that come in parts
 
@@ -42,11 +42,11 @@ HasNoFeed (x ∷ xs) = (x == line_feed ≡ false) × HasNoFeed xs
 abbrev pub StandsFor : List ℕ → List ℕ → Type 0
 StandsFor begun kept = take longest_kept kept ≡ take longest_kept begun
 
--- Of what was read since start, the finished lines are answered, by which this is written, and what is kept stands for
--- the line that has begun.
+-- Of what was read since start, the finished lines are answered, which are so many and by which this is written, and
+-- what is kept stands for the line that has begun.
 pub record Progress {S : Type 0} (facts : S → StoreFacts) (manner : ScriptOptions) (start : Holding S)
     (read written : List ℕ)
-    (now : Holding S) (kept : List ℕ) : Type 0 where
+    (now : Holding S) (kept : List ℕ) (count : ℕ) : Type 0 where
   pub answered : List (List ℕ)
   pub begun : List ℕ
   pub in_lines : (more : List ℕ) → lines (read ++ more) ≡ answered ++ lines (begun ++ more)
@@ -54,6 +54,7 @@ pub record Progress {S : Type 0} (facts : S → StoreFacts) (manner : ScriptOpti
   pub unfinished : HasNoFeed begun
   pub stands : StandsFor begun kept
   pub run : AnswersLines facts manner start answered written now
+  pub counted : count ≡ length answered
 
 -- what the caller holds, and what is kept of the script
 pub record Moment (S : Type 0) : Type 0 where
@@ -67,7 +68,7 @@ moment holding kept = record { holding = holding; kept = kept }
 abbrev pub ProgressOf : {S : Type 0} → (S → StoreFacts) → ScriptOptions → Holding S → List ℕ → List ℕ → Moment S
     → Type 0
 ProgressOf facts manner start read sent now =
-    Progress facts manner start read (sent ++ now.kept.replies.items) now.holding now.kept.begun.items
+    Progress facts manner start read (sent ++ now.kept.replies.items) now.holding now.kept.begun.items now.kept.ended
 
 -- From one moment the run comes to another by these bytes.
 abbrev pub GoesOver : {S : Type 0} → (S → StoreFacts) → ScriptOptions → Moment S → List ℕ → Moment S → Type 0

@@ -114,13 +114,14 @@ pub record RefusesRequest {S : Type 0} (facts : S → StoreFacts) (manner : Scri
   pub text : written ≡ lead manner.echoes line ++ reply_line (Refused fault)
 
 -- The first ones of the lines are answered, none of them by a refusal, and the next is refused, whose reply is written
--- too. Those behind it are not looked at.
+-- too. Its number counts all lines up to it, also those that get no reply. Those behind it are not looked at.
 pub record StoppedByRefusal {S : Type 0} (facts : S → StoreFacts) (manner : ScriptOptions) (old : Holding S)
-    (lines : List (List ℕ)) (written : List ℕ) (new : Holding S) : Type 0 where
+    (lines : List (List ℕ)) (number : ℕ) (written : List ℕ) (new : Holding S) : Type 0 where
   pub answered : List (List ℕ)
   pub line : List ℕ
   pub others : List (List ℕ)
   pub parts : lines ≡ answered ++ line ∷ others
+  pub numbered : number ≡ length answered + 1
   pub mid : Holding S
   pub before : List ℕ
   pub run : AnswersLines facts manner old answered before mid
@@ -129,14 +130,14 @@ pub record StoppedByRefusal {S : Type 0} (facts : S → StoreFacts) (manner : Sc
   pub text : written ≡ before ++ last
 
 -- What was done where the run stopped in a line of what was read: for lack of memory all before was answered, of lines
--- that a line feed ends; by a refusal, which only a run does that bails, this line too.
+-- that a line feed ends; by a refusal, which only a run does that bails, this line too, whose number it tells.
 abbrev pub StopsBy : {S : Type 0} → RunFault → (S → StoreFacts) → ScriptOptions → Holding S → List ℕ → List ℕ
     → Holding S
     → Type 0
 StopsBy faults.Memory facts manner old read written new =
     (stopped : StoppedWith facts manner old (lines read) written new) × AreFirst stopped.answered (finished_lines read)
-StopsBy faults.Refused facts manner old read written new =
-    IsTrue manner.bails × StoppedByRefusal facts manner old (lines read) written new
+StopsBy (faults.Refused number) facts manner old read written new =
+    IsTrue manner.bails × StoppedByRefusal facts manner old (lines read) number written new
 StopsBy fault facts manner old read written new = ⊥
 
 -- Something was read, and the run stopped in a line of it. What is said to be written then is written, and nothing

@@ -1,5 +1,5 @@
 //! The lines of a script and their replies, as the script comes piece by piece.
-ghost use Rattle.std.specs.Prelude.{◌≡◌, ◌++◌, ◌∷◌, [], ◌≤◌, ◌<◌, ℕ, List, drop, take, length, IfOk, IfErr, OnOk, OnErr};
+ghost use Rattle.std.specs.Prelude.{◌≡◌, ◌++◌, ◌∷◌, [], ◌≤◌, ◌<◌, ◌+◌, ◌^◌, ℕ, List, drop, take, length, IfOk, IfErr, OnOk, OnErr};
 ghost use Rattle.geos_model.specs.Script.{command, line_feed};
 ghost use Rattle.geos_replies.specs.Holdings.{MayServe, holding};
 ghost use Rattle.geos_shell.specs.Manners.{begins_with_no, lead};
@@ -30,6 +30,8 @@ pub(crate) struct Answering {
     pub(crate) begun: Vec<u8>,
     /// The replies that are not written yet, each behind its line where lines are echoed.
     pub(crate) replies: Vec<u8>,
+    /// How many lines have ended.
+    pub(crate) ended: u64,
 }
 
 impl Answering {
@@ -44,10 +46,12 @@ impl Answering {
         former: &mut Option<S>,
         piece: &[u8],
     ) -> Result<usize, RunFault>
+        requires { self.old.ended + length piece.now < 2 ^ 64 }
         ensures ok { IfOk result (λ used.
             GoesOver S.facts manner (moment (holding session.old target.old former.old) self.old) (take used piece.now)
             (moment (holding session.new target.new former.new) self.new)) }
         ensures used { IfOk result (λ used. (used ≤ length piece.now) × (0 < length piece.now → 0 < used)) }
+        ensures counted { IfOk result (λ used. self.new.ended ≤ self.old.ended + used) }
         ensures err { IfErr result
             (λ fault. StopsIn fault S.facts manner (moment (holding session.old target.old former.old) self.old)
             piece.now (moment (holding session.new target.new former.new) self.new)) }
@@ -75,6 +79,8 @@ impl Answering {
         former: &mut Option<S>,
         tail: &[u8],
     ) -> Result<(), RunFault>
+        requires { self.old.ended + 1 < 2 ^ 64 }
+        ensures one { OnOk result (self.new.ended ≡ self.old.ended + 1) }
         ensures ok { OnOk result (HasNoFeed tail.now
             → GoesOver S.facts manner (moment (holding session.old target.old former.old) self.old)
             (tail.now ++ line_feed ∷ []) (moment (holding session.new target.new former.new) self.new)) }
@@ -83,12 +89,25 @@ impl Answering {
             (tail.now ++ line_feed ∷ rest) (moment (holding session.new target.new former.new) self.new)) }
         ensures cause { IfErr result (λ fault. HasCause fault ⊥ ⊥) }
     {
+        self.ended += 1;
+        let number = self.ended;
         let replies = &mut self.replies;
         if self.begun.is_empty() {
-            return answer(spare, manner, session, target, former, tail, replies);
+            return answer(
+                spare, manner, number, session, target, former, tail, replies,
+            );
         }
         keep(&mut self.begun, tail)?;
-        answer(spare, manner, session, target, former, &self.begun, replies)?;
+        answer(
+            spare,
+            manner,
+            number,
+            session,
+            target,
+            former,
+            &self.begun,
+            replies,
+        )?;
         self.begun.clear();
         Ok(())
     }
@@ -102,6 +121,7 @@ impl Answering {
         target: &mut Option<S>,
         former: &mut Option<S>,
     ) -> Result<(), RunFault>
+        requires { self.old.ended + 1 < 2 ^ 64 }
         ensures ok { OnOk result
             (Ends S.facts manner (moment (holding session.old target.old former.old) self.old)
             (moment (holding session.new target.new former.new) self.new)) }
@@ -113,15 +133,27 @@ impl Answering {
         if self.begun.is_empty() {
             return Ok(());
         }
+        let number = self.ended + 1;
         let replies = &mut self.replies;
-        answer(spare, manner, session, target, former, &self.begun, replies)
+        answer(
+            spare,
+            manner,
+            number,
+            session,
+            target,
+            former,
+            &self.begun,
+            replies,
+        )
     }
 }
 
-/// Answers a line, behind the line itself where lines are echoed. Where the run bails, a refusal stops it.
+/// Answers the line of this number, behind the line itself where lines are echoed. Where the run bails, a refusal stops
+/// it.
 fn answer<S: Store>(
     spare: &mut Spare,
     manner: ScriptOptions,
+    number: u64,
     session: &mut Session<S>,
     target: &mut Option<S>,
     former: &mut Option<S>,
@@ -131,13 +163,13 @@ fn answer<S: Store>(
     ensures ok { OnOk result (IsAnsweredInRun S.facts manner (holding session.old target.old former.old) line.now
         (holding session.new target.new former.new) out.old.items out.new.items) }
     ensures err { IfErr result
-        (λ fault. IsStopped fault S.facts manner (holding session.old target.old former.old) line.now
+        (λ fault. IsStopped fault S.facts manner number (holding session.old target.old former.old) line.now
         (holding session.new target.new former.new) out.old.items out.new.items) }
     ensures cause { IfErr result (λ fault. HasCause fault ⊥ ⊥) }
 {
     let start = out.len();
     match push_lines(spare, manner.echoes, session, target, former, line, out) {
-        Ok(is_refusal) if is_refusal && manner.bails => Err(RunFault::Refused),
+        Ok(is_refusal) if is_refusal && manner.bails => Err(RunFault::Refused(number)),
         Ok(_) => Ok(()),
         Err(_) => {
             out.truncate(start);

@@ -1,5 +1,5 @@
 //! A run over a script: pieces are read, their lines answered, and the replies written.
-ghost use Rattle.std.specs.Prelude.{◌≡◌, ◌^◌, [], IfErr, OnOk, Ok, None};
+ghost use Rattle.std.specs.Prelude.{◌≡◌, ◌+◌, ◌<◌, ◌≤◌, ◌^◌, [], length, IfErr, OnOk, Ok, None};
 ghost use Rattle.std.specs.Io.KnownBytes.{Appends};
 ghost use Rattle.undo_log.specs.Sessions.{IsExact};
 ghost use Rattle.geos_replies.specs.Holdings.{AreExact, holding};
@@ -41,8 +41,9 @@ pub enum RunFault {
     Write,
     /// A line, the bytes of its command or the text of a reply found no memory.
     Memory,
-    /// A command was refused, in a run that bails.
-    Refused,
+    /// The command in the line of this number was refused, in a run that bails. All lines of the script are counted, from
+    /// 1 on.
+    Refused(u64),
 }
 
 impl fmt::Display for RunFault {
@@ -56,7 +57,7 @@ impl fmt::Display for RunFault {
             RunFault::Read => f.write_str("read fault"),
             RunFault::Write => f.write_str("write fault"),
             RunFault::Memory => f.write_str("memory"),
-            RunFault::Refused => f.write_str("refused"),
+            RunFault::Refused(line) => write!(f, "line {line} is refused"),
         }
     }
 }
@@ -161,7 +162,8 @@ pub fn run_in<S: Store, R: Source, W: Sink>(
 /// Answers a script as `run_in` does, in a manner of the caller's, and in so many reads at most: a reader that hasn't
 /// ended after them has failed. Where lines are echoed, the line and a line feed go before its reply; of a line of more
 /// than 140,001 bytes, which is no command, so many. A run that bails ends by `Refused` behind the first reply that is
-/// a refusal, and carries out nothing further, whatever else was read.
+/// a refusal, and carries out nothing further, whatever else was read. Each read is told whether there are edits then that
+/// the file wouldn't have.
 pub fn run_in_manner<S: Store, R: Source, W: Sink>(
     alloc: Global,
     manner: ScriptOptions,
@@ -182,10 +184,12 @@ pub fn run_in_manner<S: Store, R: Source, W: Sink>(
     let mut answering = Answering {
         begun: Vec::new(alloc),
         replies: Vec::new(alloc),
+        ended: 0,
     };
     let mut piece = [0u8; PIECE];
     for _ in 0..reads {
-        match reader.read_piece(&mut piece) {
+        let has_unsaved = !session.is_updated();
+        match reader.read_piece(has_unsaved, &mut piece) {
             Ok(0) => {
                 return answer_rest(
                     &mut spare,
@@ -228,6 +232,8 @@ fn answer_piece<S: Store, W: Sink>(
     piece: &[u8],
     writer: &mut W,
 ) -> Result<(), RunFault>
+    requires { answering.old.ended + length piece.now < 2 ^ 64 }
+    ensures counted { OnOk result (answering.new.ended ≤ answering.old.ended + length piece.now) }
     ensures ok { OnOk result (AnswersPiece S.facts manner
         (moment (holding session.old target.old former.old) answering.old) piece.now
         (moment (holding session.new target.new former.new) answering.new)
@@ -257,6 +263,7 @@ fn answer_rest<S: Store, W: Sink>(
     former: &mut Option<S>,
     writer: &mut W,
 ) -> Result<(), RunFault>
+    requires { answering.old.ended + 1 < 2 ^ 64 }
     ensures ok { OnOk result (AnswersRest S.facts manner
         (moment (holding session.old target.old former.old) answering.old)
         (holding session.new target.new former.new) (W.contents writer.old) (W.contents writer.new)) }

@@ -27,8 +27,10 @@ pub trait Source {
 
     ghost reads: { ReadCalls Self };
 
-    /// Reads bytes into the front of the piece, and tells how many: none only at the end.
-    fn read_piece(&mut self, piece: &mut [u8]) -> Result<usize, ReadFault>
+    /// Reads bytes into the front of the piece, and tells how many: none only at the end. `has_unsaved` says whether
+    /// there are edits now that the file wouldn't have, were this the end, so that somebody can be asked. It says
+    /// nothing of what is read.
+    fn read_piece(&mut self, has_unsaved: bool, piece: &mut [u8]) -> Result<usize, ReadFault>
         ensures bound { ReadsAtMost result piece.new }
         ensures bytes { ReadConsumes (remaining self.old) (remaining self.new) result piece.new }
         ensures call { reads self.old result self.new };
@@ -54,7 +56,8 @@ impl<R: Read> Source for R {
 
     ghost reads = { λ _ _ _. Unit {0} };
 
-    fn read_piece(&mut self, piece: &mut [u8]) -> Result<usize, ReadFault> {
+    // Bytes are what they are, also where edits would be lost.
+    fn read_piece(&mut self, _has_unsaved: bool, piece: &mut [u8]) -> Result<usize, ReadFault> {
         match self.read(piece) {
             Ok(count) => Ok(count),
             Err(error) if error.kind() == ErrorKind::Interrupted => Err(ReadFault::Interrupted),

@@ -1,13 +1,17 @@
-//! Where a script comes from: bytes as they are, or lines of a person, who is prompted, helped and told why a line is no
-//! command.
+//! Where a script comes from: bytes as they are, or lines of a person, who is prompted, helped, told why a line is no
+//! command, and asked once before edits that aren't saved are given up.
 ghost use Rattle.std.specs.Prelude.{◌≤◌, None, is_some, if◌then◌else◌, length};
 ghost use Rattle.std.specs.Io.{ReadsAtMost};
 
+use geos_shell::{ReadFault, Source};
 use std::alloc::{AllocError, Global};
-use std::io::{self, Read, Write};
+use std::io::{Read, Write};
 use typed_lines::{Typed, read_typed};
 
 const PROMPT: &[u8] = b"geosvm> ";
+
+const QUESTION: &[u8] =
+    b"Edits aren't saved. Type save or update to keep them, quit again to drop them.\n";
 
 /// How many bytes a read of a terminal may give. It gives no more of a line.
 const PIECE: usize = 4_096;
@@ -31,6 +35,8 @@ pub(crate) struct Typing<W: Write + Drop> {
     ready: Vec<u8>,
     given: usize,
     has_ended: bool,
+    // Since the last line nothing was typed but ends, before one of which it was asked.
+    was_asked: bool,
 }
 
 impl<W: Write + Drop> Typing<W> {
@@ -43,6 +49,7 @@ impl<W: Write + Drop> Typing<W> {
             ready: Vec::new(alloc),
             given: 0,
             has_ended: false,
+            was_asked: false,
         }
     }
 
@@ -51,9 +58,20 @@ impl<W: Write + Drop> Typing<W> {
         let _ = self.errors.write_all(text);
     }
 
-    // Whether a prompt is to be answered before anything can be given.
-    fn wants_more(&self) -> bool {
-        self.given == self.ready.len() && !self.has_ended
+    // Whether there are bytes to give.
+    fn is_ready(&self) -> bool {
+        self.given < self.ready.len()
+    }
+
+    // Whether the script ends here. Before edits are given up it is asked, and goes on.
+    fn ends(&mut self, has_unsaved: bool) -> bool {
+        if !self.has_ended || self.was_asked || !has_unsaved {
+            return self.has_ended;
+        }
+        self.tell(QUESTION);
+        self.was_asked = true;
+        self.has_ended = false;
+        false
     }
 
     // Takes what a read gave, line by line.
@@ -88,6 +106,7 @@ impl<W: Write + Drop> Typing<W> {
     fn take_line(&mut self) -> Result<(), AllocError> {
         let typed = read_typed(self.alloc, &self.begun)?;
         self.begun.clear();
+        self.was_asked &= matches!(&typed, Typed::Quit);
         match typed {
             Typed::Command(line) => self.hand_on(&line)?,
             Typed::Refused(line, reason) => {
@@ -122,15 +141,17 @@ impl<W: Write + Drop> Typing<W> {
     }
 }
 
-impl<R: Read + Drop, W: Write + Drop> Read for Prompting<R, W> {
+impl<R: Read + Drop, W: Write + Drop> Source for Prompting<R, W> {
     // What a person types isn't known.
     ghost remaining = { λ prompting. if is_some prompting.typing then None else R.remaining prompting.reader };
 
-    fn read(&mut self, piece: &mut [u8]) -> io::Result<usize> {
+    ghost reads = { λ _ _ _. Unit {0} };
+
+    fn read_piece(&mut self, has_unsaved: bool, piece: &mut [u8]) -> Result<usize, ReadFault> {
         let Some(typing) = &mut self.typing else {
-            return self.reader.read(piece);
+            return self.reader.read_piece(has_unsaved, piece);
         };
-        read_typing(&mut self.reader, typing, piece)
+        read_typing(&mut self.reader, typing, has_unsaved, piece)
     }
 }
 
@@ -138,18 +159,21 @@ impl<R: Read + Drop, W: Write + Drop> Read for Prompting<R, W> {
 fn read_typing<R: Read, W: Write + Drop>(
     reader: &mut R,
     typing: &mut Typing<W>,
+    has_unsaved: bool,
     piece: &mut [u8],
-) -> io::Result<usize>
+) -> Result<usize, ReadFault>
     ensures { ReadsAtMost result piece.new }
 {
     let mut typed = [0; PIECE];
     for _ in 0..u64::MAX {
-        if !typing.wants_more() {
+        if typing.is_ready() || typing.ends(has_unsaved) {
             break;
         }
         typing.tell(PROMPT);
-        let count = reader.read(&mut typed)?;
-        typing.take(&typed[..count])?;
+        let count = reader.read_piece(has_unsaved, &mut typed)?;
+        if typing.take(&typed[..count]).is_err() {
+            return Err(ReadFault::Failed);
+        }
     }
     Ok(typing.give(piece))
 }

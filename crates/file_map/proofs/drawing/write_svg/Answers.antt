@@ -3,6 +3,7 @@ use Rattle.std.specs.Prelude.{count_by}
 use Rattle.std.proofs.lemmas.Result.{on_ok_weaker}
 use Rattle.std.specs.Io.KnownBytes.{Appends}
 use Rattle.file_map.specs.Bars.{bars_drawn}
+use Rattle.file_map.specs.Drawn.{AreByHandle}
 use Rattle.file_map.specs.Parts.{drawn_parts, is_heap_part}
 use Rattle.file_map.specs.Svg.{gaps, heaps_top, labels, parts_drawn, start_drawn}
 use Rattle.file_map.specs.declared.part.Part.{Part}
@@ -25,9 +26,14 @@ returns-clause-text g c =
     let w3 = g.W.Write.contents c.write_gaps.new.writer in
     let w4 = g.W.Write.contents c.write_bars.new.writer in
     let w5 = g.W.Write.contents c.send.new.writer in
+    let heaps = c.in_ok-heaps.heaps.items in
     on_ok_weaker c.send.result
-    (λ sent so. sent5 w0 w1 w2 w3 w4 w5 (start_drawn pages height ++ labels pages) (parts_drawn once) (gaps pages) (bars_drawn file top once) (codes "</svg>\n")
-    (subst (λ (n : ℕ). Appends w0 w1 (start_drawn pages n ++ labels pages)) height_is c.in_ok-write_start.ensures.text)
-    (subst (λ (l : List Part). Appends w1 w2 (parts_drawn l)) (c.deref-3.ensures.value ∙ once_is) c.in_ok-write_parts.ensures.text) c.in_ok-write_gaps.ensures.text
-    (subst (Appends w3 w4) (ap₂ (bars_drawn file) c.heaps_top-top.ensures.value (c.deref-4.ensures.value ∙ once_is)) (c.in_ok-write_bars.ensures.text so)) sent)
+    (λ sent so. record {
+      by_handle = heaps;
+      are = subst (λ (l : List Part). AreByHandle l heaps) once_is c.in_ok-heaps.ensures.parts;
+      appends = sent5 w0 w1 w2 w3 w4 w5 (start_drawn pages height ++ labels pages) (parts_drawn once) (gaps pages) (bars_drawn file top heaps) (codes "</svg>\n")
+          (subst (λ (n : ℕ). Appends w0 w1 (start_drawn pages n ++ labels pages)) height_is c.in_ok-write_start.ensures.text)
+          (subst (λ (l : List Part). Appends w1 w2 (parts_drawn l)) (c.deref-3.ensures.value ∙ once_is) c.in_ok-write_parts.ensures.text) c.in_ok-write_gaps.ensures.text
+          (subst (Appends w3 w4) (ap₂ (bars_drawn file) c.heaps_top-top.ensures.value c.deref-4.ensures.value) (c.in_ok-write_bars.ensures.text so)) sent;
+    })
     c.send.ensures.text

@@ -1,4 +1,4 @@
-use Rattle.std.proofs.Common.{◌&&◌, ◌∙◌, ap, length, drop, ◌++◌, sym}
+use Rattle.std.proofs.Common.{◌&&◌, ◌∙◌, ap, length, drop, ◌++◌, refl, sym}
 use Rattle.geos_replies.specs.Holdings.{holding}
 use Rattle.geos_shell.specs.Manners.{begins_with_no, lead}
 use Rattle.geos_shell.proofs.Manners.{answered, none_so, refused}
@@ -9,6 +9,7 @@ pub returns-in-Ok-clause-err : goal.returns-in-Ok-clause-err
 returns-in-Ok-clause-err g c =
     let old = holding c.args.session.now c.args.target.now c.args.former.now in
     let new = holding c.push_lines.new.session c.push_lines.new.target c.push_lines.new.former in (
+      refl,
       c.if-manner.true,
       refused g.S.Store.facts c.args.manner old new c.args.line.now c.args.out.now.items c.push_lines.new.out.items c.in-Ok.ensures.ok (sym c.in-Ok.ensures.refused ∙ c.if-is_refusal.true),
     )

@@ -1,4 +1,4 @@
-use Rattle.std.proofs.Common.{◌≡◌, ◌∙◌, ◌++◌, [], List, ap, drop, inl, inr, refl, sym, take}
+use Rattle.std.proofs.Common.{◌≡◌, ◌∙◌, ◌++◌, [], List, ap, arith, drop, inl, inr, length-drop, refl, sym, take}
 use Rattle.std.proofs.lemmas.List.{append_assoc, take-append-drop, take_rest}
 use Rattle.std.proofs.lemmas.Result.{err_from_is_err_and}
 use Rattle.geos_replies.specs.Holdings.{holding}
@@ -9,14 +9,14 @@ use Rattle.geos_shell.proofs.runner.answer_piece.Goals as goal
 pub loop-rest-init : goal.loop-rest-init
 loop-rest-init g c =
     let old = moment (holding c.args.session.now c.args.target.now c.args.former.now) c.args.answering.now in
-    ([], refl, AnswersPiece-none g.S.Store.facts c.args.manner old (g.W.Sink.contents c.args.writer.now), λ none. none)
+    ([], refl, AnswersPiece-none g.S.Store.facts c.args.manner old (g.W.Sink.contents c.args.writer.now), λ none. none, omega arith)
 
 -- The writer failed behind the front of what was left.
 pub returns-in_err-send-clause-err : goal.returns-in_err-send-clause-err
 returns-in_err-send-clause-err g c =
     let facts = g.S.Store.facts in
     let manner = c.args.manner in
-    let (used, cut, goes, none) = c.loop-rest.invariant in
+    let (used, cut, goes, none, counted) = c.loop-rest.invariant in
     let rest = c.loop-rest.rest.now in
     let first = moment (holding c.args.session.now c.args.target.now c.args.former.now) c.args.answering.now in
     let before = moment (holding c.loop-rest.session c.loop-rest.target c.loop-rest.former) c.loop-rest.answering in
@@ -31,7 +31,7 @@ pub returns-in_err-rest-clause-err : goal.returns-in_err-rest-clause-err
 returns-in_err-rest-clause-err g c =
     let facts = g.S.Store.facts in
     let manner = c.args.manner in
-    let (used, cut, goes, none) = c.loop-rest.invariant in
+    let (used, cut, goes, none, counted) = c.loop-rest.invariant in
     let rest = c.loop-rest.rest.now in
     let first = moment (holding c.args.session.now c.args.target.now c.args.former.now) c.args.answering.now in
     let before = moment (holding c.loop-rest.session c.loop-rest.target c.loop-rest.former) c.loop-rest.answering in
@@ -47,7 +47,7 @@ pub loop-rest-preserved : goal.loop-rest-preserved
 loop-rest-preserved g c =
     let facts = g.S.Store.facts in
     let manner = c.args.manner in
-    let (used, cut, goes, none) = c.loop-rest.invariant in
+    let (used, cut, goes, none, counted) = c.loop-rest.invariant in
     let rest = c.loop-rest.rest.now in
     let first = moment (holding c.args.session.now c.args.target.now c.args.former.now) c.args.answering.now in
     let before = moment (holding c.loop-rest.session c.loop-rest.target c.loop-rest.former) c.loop-rest.answering in
@@ -62,6 +62,7 @@ loop-rest-preserved g c =
     let all : c.args.piece.now ≡ (used ++ fed) ++ drop n rest = cut ∙ ap (λ l. used ++ l) (sym (take-append-drop n rest)) ∙ sym (append_assoc used fed (drop n rest)) in (
       used ++ fed,
       rw (take_rest rest n) all,
-      AnswersPiece-trans facts manner first before used fed (g.W.Sink.contents c.args.writer.now) out end goes left (piece_sent facts manner before after fed left out end refl refl c.in_ok-rest.ensures.ok sent.0 sent.1),
+      AnswersPiece-trans facts manner first before used fed (g.W.Sink.contents c.args.writer.now) out end goes left (piece_sent facts manner before after fed left out end refl refl refl c.in_ok-rest.ensures.ok sent.0 sent.1),
       λ _. sent.0,
+      omega (arith, counted, c.in_ok-rest.ensures.counted, c.in_ok-rest.ensures.used, length-drop n rest),
     )

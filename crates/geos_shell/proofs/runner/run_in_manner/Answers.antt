@@ -11,9 +11,10 @@ use Rattle.geos_shell.proofs.runner.run_in_manner.Goals.{in-Err-Interrupted, in-
 
 pub loop-init : goal.loop-init
 loop-init g c = (
-  Ran-none g.S.Store.facts c.args.manner _ _ (holding c.args.session.now c.args.target.now c.args.former.now) (record { begun = c.new.result; replies = c.new-2.result }) c.new.ensures.items c.new-2.ensures.items,
+  Ran-none g.S.Store.facts c.args.manner _ _ (holding c.args.session.now c.args.target.now c.args.former.now) (record { begun = c.new.result; replies = c.new-2.result; ended = 0 }) c.new.ensures.items c.new-2.ensures.items refl,
   ReadsOften-none g.R.Source.reads c.args.reader.now,
   c.new-2.ensures.items,
+  omega arith,
 )
 
 -- a read that gave nothing
@@ -62,12 +63,12 @@ returns-in_err-answer_piece-in-Ok-clause-runs g c =
 -- One more read.
 pub loop-preserved : goal.loop-preserved
 loop-preserved g c =
-    let (ran, often, none) = c.loop.invariant in
+    let (ran, often, none, counted) = c.loop.invariant in
     let more = ReadsOften-one g.R.Source.reads c.loop.counter _ c.args.reader.now c.loop.reader c.read_piece.new.self c.read_piece.result refl often c.read_piece.ensures.call in
     elim c.match-read_piece.branch [
       | in-Err-Interrupted w ↦
           let gives = w.in-Err-Interrupted.ensures.bytes in
-          rw (w.writer-is, w.answering-is, w.session-is, w.target-is, w.former-is) (Ran-kept ran _ gives, more, none)
+          rw (w.writer-is, w.answering-is, w.session-is, w.target-is, w.former-is) (Ran-kept ran _ gives, more, none, omega (arith, counted))
       | in-Ok+in_ok-answer_piece-in-Ok w ↦
           let gives = w.in-Ok.ensures in
           let sent = w.in_ok-answer_piece-in-Ok.ensures.sent none in
@@ -76,6 +77,7 @@ loop-preserved g c =
             Ran-piece ran _ _ bytes _ gives.bytes.0 w.in_ok-answer_piece-in-Ok.ensures.ok sent,
             more,
             sent,
+            omega (arith, counted, gives.bound, w.in_ok-answer_piece-in-Ok.ensures.counted, length-take w.in-Ok.count c.read_piece.new.piece),
           )
     ]
 

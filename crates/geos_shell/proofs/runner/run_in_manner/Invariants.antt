@@ -1,5 +1,5 @@
 -- What was read is answered, in as many reads as turns, and the replies are sent.
-use Rattle.std.proofs.Common.{◌≡◌, []}
+use Rattle.std.proofs.Common.{◌≡◌, ◌*◌, ◌≤◌, []}
 use Rattle.geos_replies.specs.Holdings.{holding}
 use Rattle.geos_shell.specs.Progress.{moment}
 use Rattle.geos_shell.specs.Streams.{ReadsOften}
@@ -12,3 +12,4 @@ invariant-loop g l =
     (moment (holding l.session l.target l.former) l.answering)
     × ReadsOften g.R.Source.reads l.counter l.initial.reader l.reader
     × (l.answering.replies.items ≡ [])
+    × (l.answering.ended ≤ l.counter * 16384)

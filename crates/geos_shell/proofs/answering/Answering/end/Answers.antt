@@ -21,7 +21,7 @@ returns-clause-ok g c =
     let new = holding c.answer.new.session c.answer.new.target c.answer.new.former in
     let some : 0 < length old.begun.items = grind (arith, nat_tests, old.begun.ok.0) in
     on_ok_weaker c.answer.result (λ answers start read sent p.
-    last_answered g.S.Store.facts c.args.manner start now new read old.begun.items sent old.replies.items c.answer.new.out.items c.deref.result.now c.deref.ensures.value some answers p) c.answer.ensures.ok
+    last_answered g.S.Store.facts c.args.manner start now new read old.begun.items sent old.replies.items c.answer.new.out.items old.ended c.deref.result.now c.deref.ensures.value some answers p) c.answer.ensures.ok
 
 -- The run stops in it.
 pub returns-clause-err : goal.returns-clause-err
@@ -31,4 +31,4 @@ returns-clause-err g c =
     let new = holding c.answer.new.session c.answer.new.target c.answer.new.former in
     let some : 0 < length old.begun.items = grind (arith, nat_tests, old.begun.ok.0) in
     IfErr-weaker c.answer.result _ _ (λ fault stops start read sent p.
-    last_stopped g.S.Store.facts c.args.manner start now new read old.begun.items sent old.replies.items c.answer.new.out.items fault c.deref.result.now c.deref.ensures.value some stops p) c.answer.ensures.err
+    last_stopped g.S.Store.facts c.args.manner start now new read old.begun.items sent old.replies.items c.answer.new.out.items old.ended fault c.deref.result.now c.deref.ensures.value some stops p) c.answer.ensures.err

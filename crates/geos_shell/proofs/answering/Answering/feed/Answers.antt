@@ -1,4 +1,4 @@
-use Rattle.std.proofs.Common.{◌≡◌, ◌++◌, ◌∷◌, [], ◌+◌, ◌<◌, length, take, drop, arith, sym, ap, ◌∙◌, refl}
+use Rattle.std.proofs.Common.{◌≡◌, ◌++◌, ◌∷◌, [], ◌+◌, ◌<◌, length, length-drop, take, drop, arith, sym, ap, ◌∙◌, refl}
 use Rattle.std.proofs.lemmas.List.{append_assoc, take_all, take_rest}
 use Rattle.std.proofs.lemmas.Result.{err_from_is_err_and}
 use Rattle.geos_replies.specs.Holdings.{holding}
@@ -12,7 +12,7 @@ use Rattle.geos_shell.proofs.answering.Answering.feed.Goals as goal
 pub returns-in_err-end_line-clause-err : goal.returns-in_err-end_line-clause-err
 returns-in_err-end_line-clause-err g c =
     let facts = g.S.Store.facts in
-    let (used, cut, goes) = c.loop-end.invariant in
+    let (used, cut, goes, counted) = c.loop-end.invariant in
     let rest = c.loop-end.rest.now in
     let end = c.in-Some.end in
     let found = c.in-Some.ensures in
@@ -29,7 +29,7 @@ returns-in_err-end_line-clause-err g c =
 -- A line ends.
 pub loop-end-preserved : goal.loop-end-preserved
 loop-end-preserved g c =
-    let (used, cut, goes) = c.loop-end.invariant in
+    let (used, cut, goes, counted) = c.loop-end.invariant in
     let rest = c.loop-end.rest.now in
     let end = c.in-Some.end in
     let found = c.in-Some.ensures in
@@ -41,12 +41,12 @@ loop-end-preserved g c =
     let first = moment (holding c.args.session.now c.args.target.now c.args.former.now) c.args.self.now in
     let before = moment (holding c.loop-end.session c.loop-end.target c.loop-end.former) c.loop-end.self in
     let after = moment (holding c.end_line.new.session c.end_line.new.target c.end_line.new.former) c.end_line.new.self in
-    (used ++ line, rw (take_rest rest (end + 1)) all, GoesOver-trans g.S.Store.facts c.args.manner first before after used line goes (c.in_ok-end_line.ensures.ok free))
+    (used ++ line, rw (take_rest rest (end + 1)) all, GoesOver-trans g.S.Store.facts c.args.manner first before after used line goes (c.in_ok-end_line.ensures.ok free), omega (arith, counted, c.in_ok-end_line.ensures.one, within, length-drop (end + 1) rest))
 
 -- The replies are to be sent before the next line.
 pub returns-then-len-gt-HELD-clause-ok : goal.returns-then-len-gt-HELD-clause-ok
 returns-then-len-gt-HELD-clause-ok g c start read sent p =
-    let (used, cut, goes) = c.loop-end.invariant in
+    let (used, cut, goes, counted) = c.loop-end.invariant in
     let rest = c.loop-end.rest.now in
     let end = c.in-Some.end in
     let found = c.in-Some.ensures in
@@ -63,7 +63,7 @@ returns-then-len-gt-HELD-clause-ok g c start read sent p =
 -- The rest of the piece is kept.
 pub returns-clause-ok : goal.returns-clause-ok
 returns-clause-ok g c start read sent p =
-    let (used, cut, goes) = c.loop-end.invariant in
+    let (used, cut, goes, counted) = c.loop-end.invariant in
     let rest = c.loop-end.rest.now in
     let held = holding c.loop-end.session c.loop-end.target c.loop-end.former in
     let first = moment (holding c.args.session.now c.args.target.now c.args.former.now) c.args.self.now in
@@ -77,7 +77,7 @@ returns-clause-ok g c start read sent p =
 pub returns-in_err-keep-clause-err : goal.returns-in_err-keep-clause-err
 returns-in_err-keep-clause-err g c =
     let facts = g.S.Store.facts in
-    let (used, cut, goes) = c.loop-end.invariant in
+    let (used, cut, goes, counted) = c.loop-end.invariant in
     let rest = c.loop-end.rest.now in
     let held = holding c.loop-end.session c.loop-end.target c.loop-end.former in
     let first = moment (holding c.args.session.now c.args.target.now c.args.former.now) c.args.self.now in

@@ -1,0 +1,10 @@
+use Rattle.std.proofs.Common.{◌≡◌, ◌∙◌, ap, ap₂, codes}
+use Rattle.std.proofs.lemmas.Result.{IfOk-weaker}
+use Rattle.clap.specs.Simple.{app_of_fields}
+use Rattle.clap.specs.Words.{app_of, new_app, with_rule}
+use Rattle.document_commands.proofs.commands.salvage_command.Goals as goal
+
+pub returns : goal.returns
+returns c =
+    let start : app_of c.about.result ≡ new_app (codes "salvage") = ap app_of_fields c.about.ensures ∙ c.new.ensures.app in
+    IfOk-weaker c.arg.result _ _ (λ r h. h.shape c.file_operand.ensures.1 ∙ ap₂ with_rule start c.file_operand.ensures.0) c.arg.ensures

@@ -1,0 +1,37 @@
+-- Texts of differences, one after another.
+use Rattle.std.proofs.Common.{◌≡◌, ℕ, suc, zero, ◌+◌, List, [], ◌∷◌, ◌++◌, refl, sym, ap, ◌∙◌, arith, append_assoc, append-nil, add-one, flat_map, map}
+use Rattle.std.proofs.lemmas.List.Concat.{flat_map-append}
+use Rattle.std.specs.List.{range_with_len}
+use Rattle.geos_model.specs.Heap.{chunk_handles, handle_of, most_chunks}
+use Rattle.document_diff.specs.Lines.{line, text}
+use Rattle.document_diff.specs.declared.difference.Difference.{Difference}
+
+pub text_append : (xs ys : List Difference) → text (xs ++ ys) ≡ text xs ++ text ys
+text_append xs ys = flat_map-append line xs ys
+
+-- one more number at the end of a range
+pub flat_more : (f : ℕ → List Difference) (a n : ℕ) → flat_map f (range_with_len a (suc n)) ≡ flat_map f (range_with_len a n) ++ f (a + n)
+flat_more f a zero = let at : a ≡ a + 0 = omega arith in append-nil (f a) ∙ ap f at
+flat_more f a (suc n) =
+    let at : a + 1 + n ≡ a + suc n = omega arith in
+    ap (λ (r : List Difference). f a ++ r) (flat_more f (a + 1) n ∙ ap (λ (k : ℕ). flat_map f (range_with_len (a + 1) n) ++ f k) at)
+    ∙ sym (append_assoc (f a) (flat_map f (range_with_len (a + 1) n)) (f (a + suc n)))
+
+pub text_more : (f : ℕ → List Difference) (a n j : ℕ) (start now new : List ℕ) → a + n ≡ j → now ≡ start ++ text (flat_map f (range_with_len a n)) → new ≡ now ++ text (f j)
+    → new ≡ start ++ text (flat_map f (range_with_len a (n + 1)))
+text_more f a n j start now new at so_far step =
+    let before = flat_map f (range_with_len a n) in
+    let more : flat_map f (range_with_len a (n + 1)) ≡ before ++ f j = rw add-one (flat_more f a n ∙ ap (λ (k : ℕ). before ++ f k) at) in
+    step ∙ ap (λ (l : List ℕ). l ++ text (f j)) so_far ∙ append_assoc start (text before) (text (f j))
+    ∙ ap (λ (l : List ℕ). start ++ l) (sym (text_append before (f j))) ∙ ap (λ (ds : List Difference). start ++ text ds) (sym more)
+
+-- by their places in a table
+flat_mapped : (f : ℕ → List Difference) (g : ℕ → ℕ) (xs : List ℕ) → flat_map f (map g xs) ≡ flat_map (λ x. f (g x)) xs
+flat_mapped f g [] = refl
+flat_mapped f g (x ∷ xs) = ap (λ (r : List Difference). f (g x) ++ r) (flat_mapped f g xs)
+
+pub by_chunks : (f : ℕ → List Difference) → flat_map f chunk_handles ≡ flat_map (λ i. f (handle_of i)) (range_with_len 0 most_chunks)
+unfolding chunk_handles
+by_chunks f = flat_mapped f handle_of (range_with_len 0 most_chunks)
+
+pub ruleset texts = (text_append)

@@ -1,0 +1,5 @@
+pub mod Blocks
+pub mod Differences
+pub mod Diffs
+pub mod Faults
+pub mod Lines

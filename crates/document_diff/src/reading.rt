@@ -1,0 +1,57 @@
+//! Blocks that are read.
+ghost use Rattle.std.specs.Prelude.{◌≡◌, IfErr, IfOk, IsTrue, Some, true};
+ghost use Rattle.std.specs.FinMap.{get};
+ghost use Rattle.geos_model.specs.Document.{attributes_of, is_live};
+ghost use Rattle.vm_file.specs.StoredDocuments.{OnlyReadsDocuments};
+ghost use Rattle.document_diff.specs.Blocks.{block_of, found_block};
+ghost use Rattle.document_diff.specs.Diffs.{document_of};
+ghost use Rattle.document_diff.specs.Faults.{IsReadRefusal};
+
+use crate::block::{BlockRead, read_body};
+use crate::version::Version;
+use geos_model::{Attributes, Fault, VmHandle};
+use std::alloc::Global;
+use vm_file::StoredDocuments;
+use vm_store::Store;
+
+// The block under a handle, which is live.
+fn read_live<S: Store>(
+    alloc: Global,
+    file: &mut StoredDocuments<S>,
+    version: Version,
+    block: VmHandle,
+    attributes: Attributes,
+) -> Result<BlockRead, Fault>
+    requires live { is_live (document_of version file.old) block.0 ≡ true }
+    requires attributes { attributes ≡ attributes_of (document_of version file.old) block.0 }
+    ensures reads { OnlyReadsDocuments S.facts file.old file.new }
+    ensures fails { IfErr result (IsReadRefusal (S.facts file.old.store) (S.facts file.new.store)) }
+    ensures ok { IfOk result (λ read. IsTrue (S.facts file.old.store).honest
+        → Some (block_of read) ≡ get (document_of version file.old).blocks block.0) }
+{
+    file.reveal_invariant();
+    let image = version.read(file, block)?;
+    let body = read_body(alloc, image)?;
+    Ok(BlockRead { attributes, body })
+}
+
+/// The block under a handle, None where none is live.
+pub fn read_block<S: Store>(
+    alloc: Global,
+    file: &mut StoredDocuments<S>,
+    version: Version,
+    block: VmHandle,
+) -> Result<Option<BlockRead>, Fault>
+    ensures reads { OnlyReadsDocuments S.facts file.old file.new }
+    ensures fails { IfErr result (IsReadRefusal (S.facts file.old.store) (S.facts file.new.store)) }
+    ensures ok { IfOk result (λ found. IsTrue (S.facts file.old.store).honest
+        → found_block found ≡ get (document_of version file.old).blocks block.0) }
+{
+    match version.attributes(file, block) {
+        None => Ok(None),
+        Some(attributes) => {
+            let read = read_live(alloc, file, version, block, attributes)?;
+            Ok(Some(read))
+        }
+    }
+}

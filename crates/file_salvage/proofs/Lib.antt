@@ -1,0 +1,3 @@
+pub mod PlaceLemmas
+pub mod EntryLemmas
+pub mod ScriptLemmas

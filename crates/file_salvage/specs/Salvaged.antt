@@ -1,0 +1,72 @@
+-- What is salvaged of a file: the document of the entries that are whole, and its script.
+use Rattle.std.specs.Prelude.{◌≡◌, ◌⊎◌, ℕ, List, [], ◌∷◌, ◌++◌, Bool, true, false, ◌==◌, if◌then◌else◌, Option, None, Some, codes}
+use Rattle.std.specs.Io.KnownBytes.{Appends}
+use Rattle.std.specs.Option.{option_and_then, option_map}
+use Rattle.geos_model.specs.Document.{Document}
+use Rattle.geos_model.specs.File.{bytes_in, document_of}
+use Rattle.geos_model.specs.Words.{word_at}
+use Rattle.geos_model.specs.declared.file.Entry.{Entry}
+use Rattle.geos_model.specs.Script.{four_digits}
+use Rattle.document_dump.specs.Dumps.{saved_text}
+use Rattle.document_dump.specs.Entries.{listing}
+use Rattle.document_dump.specs.declared.fault.DumpFault.{DumpFault}
+use Rattle.document_dump.specs.declared.fault.DumpFault.TheVariants.{Memory, Write}
+use Rattle.file_report.specs.Texts.{name_text}
+use Rattle.file_salvage.specs.Entries.{entry_count, has_handle, notes, whole_entries}
+use Rattle.file_salvage.specs.Places.{salvaged_place}
+use Rattle.file_salvage.specs.declared.place.Place.{Place}
+
+-- the bytes of a directory, as far as the file has them
+abbrev pub bytes_of : List ℕ → Place → List ℕ
+bytes_of file p = bytes_in file p.extent
+
+-- the entries that are whole
+abbrev pub salvaged_entries : List ℕ → Place → List Entry
+salvaged_entries file p = whole_entries file p.version (bytes_of file p) (entry_count (bytes_of file p))
+
+-- the map block, where one of these entries has it, or else none
+abbrev pub map_kept : ℕ → List Entry → ℕ
+map_kept map_block entries = if has_handle map_block entries then map_block else 0
+
+abbrev pub map_of : List ℕ → Place → ℕ
+map_of file p = word_at (bytes_of file p) 8
+
+-- the document that is salvaged
+abbrev pub salvaged_document : List ℕ → Place → Option Document
+salvaged_document file p =
+    document_of file (listing (map_kept (map_of file p) (salvaged_entries file p)) (salvaged_entries file p))
+
+-- Lines before its script: of which document it is, which blocks are left out, and whether the map block is.
+
+abbrev pub place_note : Place → List ℕ
+place_note p =
+    codes "# what can be read of the " ++ name_text p.name
+    ++ (if p.second then codes " document of slot 1\n" else codes " document of slot 0\n")
+
+abbrev pub lost_map : ℕ → List ℕ
+lost_map map_block = codes "# map block" ++ 32 ∷ four_digits map_block ++ codes " is left out\n"
+
+abbrev pub map_note : ℕ → ℕ → List ℕ
+map_note map_block kept = if map_block == kept then [] else lost_map map_block
+
+abbrev pub notes_of : List ℕ → Place → List ℕ
+notes_of file p =
+    place_note p ++ notes file p.version (bytes_of file p) (entry_count (bytes_of file p))
+    ++ map_note (map_of file p) (map_kept (map_of file p) (salvaged_entries file p))
+
+-- the script of what a directory has, with those lines
+abbrev pub script_of : List ℕ → Place → Option (List ℕ)
+script_of file p = option_map (λ d. notes_of file p ++ saved_text d) (salvaged_document file p)
+
+-- the script of what a file has, if one of its directories can be read
+abbrev pub salvage_text : List ℕ → Option (List ℕ)
+salvage_text file = option_and_then (script_of file) (salvaged_place file)
+
+-- it is told whether there is a script, and it is written
+abbrev pub IsSalvage : Option (List ℕ) → Bool → Option (List ℕ) → Option (List ℕ) → Type 0
+IsSalvage None some from to = (some ≡ false) × (to ≡ from)
+IsSalvage (Some script) some from to = (some ≡ true) × Appends from to script
+
+-- why a line isn't written
+abbrev pub IsNoteFault : DumpFault → Type 0
+IsNoteFault fault = (fault ≡ Memory) ⊎ (fault ≡ Write)

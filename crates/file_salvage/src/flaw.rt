@@ -1,0 +1,26 @@
+//! Why a block is left out.
+ghost use Rattle.std.specs.Prelude.{◌≡◌};
+ghost use Rattle.file_salvage.specs.Entries.{flaw_words};
+
+/// Why the block of an entry is left out.
+#[derive(Clone, Copy)]
+pub enum Flaw {
+    /// The text of the entry is none that can be there.
+    Entry,
+    /// Where it says is no image of a body that can have its type.
+    Image,
+    /// An entry before it, which is whole, has its handle.
+    Twice,
+}
+
+impl Flaw {
+    pub fn words(self) -> &'static str
+        ensures { result.now ≡ flaw_words self }
+    {
+        match self {
+            Flaw::Entry => " is left out: its entry is damaged\n",
+            Flaw::Image => " is left out: its image is damaged\n",
+            Flaw::Twice => " is left out: an entry before has its handle\n",
+        }
+    }
+}

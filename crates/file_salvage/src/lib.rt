@@ -1,0 +1,10 @@
+//! What can be read of a document file that doesn't open, as a script of commands.
+#![tactic(auto)]
+
+mod entries;
+mod flaw;
+mod place;
+mod places;
+mod salvaging;
+
+pub use salvaging::salvage;

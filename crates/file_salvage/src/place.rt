@@ -1,0 +1,15 @@
+//! Where a directory lies that is tried.
+use file_report::Named;
+use geos_model::Extent;
+
+/// Where a directory lies that a slot names.
+#[derive(Clone, Copy)]
+pub struct Place {
+    /// Whether slot 1 names it.
+    pub second: bool,
+    /// Of which of its documents.
+    pub name: Named,
+    /// The version of the slot.
+    pub version: u8,
+    pub extent: Extent,
+}

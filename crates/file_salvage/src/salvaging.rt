@@ -1,0 +1,151 @@
+//! A salvage: the script of what can be read of a file.
+ghost use Rattle.std.specs.Prelude.{◌≡◌, ◌++◌, ◌≤◌, IfErr, IfOk, IsTrue, OnOk, length, true};
+ghost use Rattle.std.specs.Io.KnownBytes.{Appends};
+ghost use Rattle.geos_model.specs.Words.{word_at};
+ghost use Rattle.vm_format.specs.Reading.{OnlyReadsStore};
+ghost use Rattle.document_dump.specs.Faults.{IsDumpRefusal};
+ghost use Rattle.file_salvage.specs.Places.{is_place};
+ghost use Rattle.file_salvage.specs.Salvaged.{IsNoteFault, IsSalvage, lost_map, map_kept, map_note, place_note, salvage_text, script_of};
+
+use crate::entries::{Listing, has_handle, send, take_entries};
+use crate::place::Place;
+use crate::places::{find_place, read_place};
+use byteorder::{ByteOrder, LittleEndian};
+use document_dump::{DumpFault, dump_entries};
+use file_report::Named;
+use geos_model::{Entry, VmHandle};
+use geos_script::{Word, push_words};
+use std::alloc::{AllocError, Global};
+use std::io::Write;
+use vm_format::read_length;
+use vm_store::Store;
+
+fn push_place_note(out: &mut Vec<u8>, place: Place) -> Result<(), AllocError>
+    ensures { OnOk result (out.new.items ≡ out.old.items ++ place_note place) }
+{
+    out.extend_from_slice(b"# what can be read of the ")?;
+    out.extend_from_slice(match place.name {
+        Named::Updated => b"updated",
+        Named::Saved => b"saved",
+    })?;
+    if place.second {
+        out.extend_from_slice(b" document of slot 1\n")
+    } else {
+        out.extend_from_slice(b" document of slot 0\n")
+    }
+}
+
+// The map block of a directory, 0 where there is none.
+fn map_of(bytes: &[u8]) -> u16
+    requires { 16 ≤ length bytes.now }
+    ensures { result ≡ word_at bytes.now 8 }
+{
+    LittleEndian::read_u16(&bytes[8..])
+}
+
+fn map_kept(map_block: u16, entries: &[Entry]) -> u16
+    ensures { result ≡ map_kept map_block entries.now }
+{
+    if has_handle(map_block, entries) {
+        map_block
+    } else {
+        0
+    }
+}
+
+fn push_lost_map(out: &mut Vec<u8>, map_block: u16) -> Result<(), AllocError>
+    ensures { OnOk result (out.new.items ≡ out.old.items ++ lost_map map_block) }
+{
+    push_words(out, "# map block", &[Word::Handle(map_block)])?;
+    out.extend_from_slice(b" is left out\n")?;
+    Ok(())
+}
+
+fn push_map_note(out: &mut Vec<u8>, map_block: u16, kept: u16) -> Result<(), AllocError>
+    ensures { OnOk result (out.new.items ≡ out.old.items ++ map_note map_block kept) }
+{
+    if map_block == kept {
+        return Ok(());
+    }
+    push_lost_map(out, map_block)
+}
+
+fn send_place_note<W: Write>(alloc: Global, place: Place, writer: &mut W) -> Result<(), DumpFault>
+    ensures err { IfErr result IsNoteFault }
+    ensures ok { OnOk result (Appends (W.contents writer.old) (W.contents writer.new) (place_note place)) }
+{
+    let mut note = Vec::new(alloc);
+    push_place_note(&mut note, place)?;
+    send(note.as_slice(), writer)?;
+    Ok(())
+}
+
+fn send_map_note<W: Write>(
+    alloc: Global,
+    map_block: u16,
+    kept: u16,
+    writer: &mut W,
+) -> Result<(), DumpFault>
+    ensures err { IfErr result IsNoteFault }
+    ensures ok { OnOk result (Appends (W.contents writer.old) (W.contents writer.new) (map_note map_block kept)) }
+{
+    let mut note = Vec::new(alloc);
+    push_map_note(&mut note, map_block, kept)?;
+    send(note.as_slice(), writer)?;
+    Ok(())
+}
+
+// The script of what a directory has.
+fn salvage_place<S: Store, W: Write>(
+    alloc: Global,
+    store: &mut S,
+    file_length: u64,
+    place: Place,
+    writer: &mut W,
+) -> Result<(), DumpFault>
+    requires size { IsTrue (S.facts store.old).honest → file_length ≡ length (S.facts store.old).content }
+    requires place { is_place file_length place ≡ true }
+    ensures reads { OnlyReadsStore (S.facts store.old) (S.facts store.new) }
+    ensures fails { IfErr result (IsDumpRefusal (S.facts store.old) (S.facts store.new)) }
+    ensures ok { OnOk result (IsTrue (S.facts store.old).honest
+        → IsSalvage (script_of (S.facts store.old).content place) true (W.contents writer.old) (W.contents writer.new)) }
+{
+    let directory = read_place(alloc, store, file_length, place)?;
+    let bytes = directory.as_slice();
+    send_place_note(alloc, place, writer)?;
+    let listing = Listing {
+        file_version: place.version,
+        file_length,
+        bytes,
+    };
+    let found = take_entries(alloc, store, listing, writer)?;
+    let entries = found.as_slice();
+    let map_block = map_of(bytes);
+    let kept = map_kept(map_block, entries);
+    send_map_note(alloc, map_block, kept, writer)?;
+    dump_entries(alloc, store, entries, VmHandle(kept), writer)?;
+    Ok(())
+}
+
+/// Writes a script of commands that makes all anew that can be read of a file, whether or not it opens, with lines
+/// before it that tell which blocks are left out. False where no directory can be read; then nothing is written.
+/// Nothing is written to the store. The writer gets many short pieces, so it should be buffered.
+pub fn salvage<S: Store, W: Write>(
+    alloc: Global,
+    store: &mut S,
+    writer: &mut W,
+) -> Result<bool, DumpFault>
+    ensures reads { OnlyReadsStore (S.facts store.old) (S.facts store.new) }
+    ensures fails { IfErr result (IsDumpRefusal (S.facts store.old) (S.facts store.new)) }
+    ensures ok { IfOk result (λ some. IsTrue (S.facts store.old).honest
+        → IsSalvage (salvage_text (S.facts store.old).content) some (W.contents writer.old) (W.contents writer.new)) }
+{
+    let file_length = read_length(store)?;
+    match find_place(alloc, store, file_length)? {
+        None => Ok(false),
+        Some(place) => {
+            salvage_place(alloc, store, file_length, place, writer)?;
+            Ok(true)
+        }
+    }
+}
