@@ -1,12 +1,16 @@
--- The entries that are whole, and the lines of those that aren't.
-use Rattle.std.proofs.Common.{◌≡◌, ℕ, zero, suc, ◌+◌, Bool, true, false, not, List, [], ◌∷◌, ◌++◌, length, Option, None, Some, is_some, cond, flat_map, refl, sym, ap, subst, ◌∙◌, arith, append_assoc, append-nil}
+-- The entries that are taken, and the lines of those that aren't.
+use Rattle.std.proofs.Common.{◌≡◌, ℕ, zero, suc, ◌+◌, ◌<◌, ◌≤◌, Bool, true, false, not, List, [], ◌∷◌, ◌++◌, map, length, slice_index, slice_index_or, Option, None, Some, is_some, cond, flat_map, refl, sym, ap, subst, ◌∙◌, arith, append_assoc, append-nil}
 use Rattle.std.specs.List.{range_with_len}
+use Rattle.std.proofs.lemmas.List.FromFn.{get_or-map-range_with_len, length-map-range_with_len, map-range_with_len_more}
 use Rattle.geos_model.specs.Document.{Block}
 use Rattle.geos_model.specs.File.{block_of, blocks_of_entries, prepended}
 use Rattle.geos_model.specs.declared.file.Entry.{Entry}
 use Rattle.document_dump.specs.Entries.{HasBlocks}
-use Rattle.file_salvage.specs.Entries.{damage_at, entry_at, if_whole, is_right, note_at, notes, whole_entries}
+use Rattle.file_salvage.specs.Entries.{damage_at, damages, entry_at, entry_count, free_at, free_below, frees, is_right, note_at, notes, taken_entries}
+use Rattle.file_salvage.specs.Rows.{IsRow}
+use Rattle.file_salvage.specs.declared.flaw.Flaw.{Flaw}
 use Rattle.file_salvage.specs.declared.flaw.Flaw.TheVariants as flaws
+use Rattle.file_salvage.proofs.RowLemmas.{is_row}
 
 -- one more number at the end of a range
 flat_more : {X : Type 0} (f : ℕ → List X) (a n : ℕ) → flat_map f (range_with_len a (suc n)) ≡ flat_map f (range_with_len a n) ++ f (a + n)
@@ -16,36 +20,26 @@ flat_more {X} f a (suc n) =
     ap (λ (r : List X). f a ++ r) (flat_more f (a + 1) n ∙ ap (λ (k : ℕ). flat_map f (range_with_len (a + 1) n) ++ f k) at)
     ∙ sym (append_assoc (f a) (flat_map f (range_with_len (a + 1) n)) (f (a + suc n)))
 
-module _ (file : List ℕ) (version : ℕ) (bytes : List ℕ) where
-  pub entries_none : whole_entries file version bytes 0 ≡ []
-  unfolding whole_entries
-  entries_none = refl
+-- one more step of a list by places
+pub places_more : {X : Type 0} (f : ℕ → X) (i : ℕ) → map f (range_with_len 0 (i + 1)) ≡ map f (range_with_len 0 i) ++ f i ∷ []
+places_more f i = map-range_with_len_more f 0 i i (omega arith)
 
-  entries_suc : (i : ℕ) → whole_entries file version bytes (suc i) ≡ whole_entries file version bytes i ++ if_whole (damage_at file version bytes i) (entry_at bytes i)
-  unfolding whole_entries
-  entries_suc i =
-      let f : ℕ → List Entry = λ k. if_whole (damage_at file version bytes k) (entry_at bytes k) in
-      let at : 0 + i ≡ i = omega arith in
-      flat_more f 0 i ∙ ap (λ (k : ℕ). flat_map f (range_with_len 0 i) ++ f k) at
-
-  pub entries_more : (i : ℕ) → whole_entries file version bytes (i + 1) ≡ whole_entries file version bytes i ++ if_whole (damage_at file version bytes i) (entry_at bytes i)
-  entries_more i = let next : i + 1 ≡ suc i = omega arith in ap (whole_entries file version bytes) next ∙ entries_suc i
-
-  pub notes_none : notes file version bytes 0 ≡ []
+module _ (bytes : List ℕ) (damages : List (Option Flaw)) (row : List ℕ) where
+  pub notes_none : notes bytes damages row 0 ≡ []
   unfolding notes
   notes_none = refl
 
-  notes_suc : (i : ℕ) → notes file version bytes (suc i) ≡ notes file version bytes i ++ note_at file version bytes i
+  notes_suc : (i : ℕ) → notes bytes damages row (suc i) ≡ notes bytes damages row i ++ note_at bytes damages row i
   unfolding notes
   notes_suc i =
-      let f : ℕ → List ℕ = note_at file version bytes in
+      let f : ℕ → List ℕ = note_at bytes damages row in
       let at : 0 + i ≡ i = omega arith in
       flat_more f 0 i ∙ ap (λ (k : ℕ). flat_map f (range_with_len 0 i) ++ f k) at
 
-  pub notes_more : (i : ℕ) → notes file version bytes (i + 1) ≡ notes file version bytes i ++ note_at file version bytes i
-  notes_more i = let next : i + 1 ≡ suc i = omega arith in ap (notes file version bytes) next ∙ notes_suc i
+  pub notes_more : (i : ℕ) → notes bytes damages row (i + 1) ≡ notes bytes damages row i ++ note_at bytes damages row i
+  notes_more i = let next : i + 1 ≡ suc i = omega arith in ap (notes bytes damages row) next ∙ notes_suc i
 
--- Each entry that is whole has its block.
+-- Each entry that is taken is whole, and so has its block.
 
 abbrev pub Numbered : Type 0
 Numbered = ℕ × Block
@@ -55,31 +49,41 @@ has_both None others a b = absurd (cc a)
 has_both (Some x) None a b = absurd (cc b)
 has_both (Some x) (Some xs) a b = refl
 
-has_parts : (first : Option Numbered) (others : Option (List Numbered)) → is_some (prepended first others) ≡ true → (is_some first ≡ true) × (is_some others ≡ true)
-has_parts None others e = absurd (cc e)
-has_parts (Some x) None e = absurd (cc e)
-has_parts (Some x) (Some xs) e = (refl, refl)
+undamaged : (file : List ℕ) (e : Entry) (right has : Bool) → is_some (block_of file e) ≡ has → cond (not right) (Some flaws.Entry) (cond (not has) (Some flaws.Image) None) ≡ None
+    → is_some (block_of file e) ≡ true
+undamaged file e false has is none = absurd (cc none)
+undamaged file e true false is none = absurd (cc none)
+undamaged file e true true is none = is
 
-has_append : (file : List ℕ) (xs ys : List Entry) → HasBlocks file xs → HasBlocks file ys → HasBlocks file (xs ++ ys)
-has_append file [] ys a b = b
-has_append file (x ∷ xs) ys a b =
-    let parts = has_parts (block_of file x) (blocks_of_entries file xs) a in
-    has_both (block_of file x) (blocks_of_entries file (xs ++ ys)) parts.0 (has_append file xs ys parts.1 b)
+sound : (i : ℕ) (e : Entry) (damage : Option Flaw) → 1 ≤ free_below i e damage → damage ≡ None
+sound i e None free = refl
+sound i e (Some flaw) free = absurd (omega (arith, free))
 
-has_one : (file : List ℕ) (e : Entry) → is_some (block_of file e) ≡ true → HasBlocks file (e ∷ [])
-has_one file e is = has_both (block_of file e) (Some []) is refl
+module _ (file : List ℕ) (version : ℕ) (bytes : List ℕ) where
+  pub damages_count : length (damages file version bytes) ≡ entry_count bytes
+  damages_count = length-map-range_with_len (damage_at file version bytes) 0 (entry_count bytes)
 
-by_damage : (file : List ℕ) (e : Entry) (right has : Bool) → is_some (block_of file e) ≡ has
-    → HasBlocks file (if_whole (cond (not right) (Some flaws.Entry) (cond (not has) (Some flaws.Image) None)) e)
-by_damage file e false has is = refl
-by_damage file e true false is = refl
-by_damage file e true true is = has_one file e is
+  frees_count : length (frees bytes (damages file version bytes)) ≡ entry_count bytes
+  frees_count = length-map-range_with_len (free_at bytes (damages file version bytes)) 0 (length (damages file version bytes)) ∙ damages_count
 
-whole_has : (file : List ℕ) (version : ℕ) (bytes : List ℕ) (i : ℕ) → HasBlocks file (if_whole (damage_at file version bytes i) (entry_at bytes i))
-whole_has file version bytes i = by_damage file (entry_at bytes i) (is_right version (length file) bytes i) (is_some (block_of file (entry_at bytes i))) refl
+  whole : (i : ℕ) → i < entry_count bytes → 1 ≤ slice_index (frees bytes (damages file version bytes)) i → is_some (block_of file (entry_at bytes i)) ≡ true
+  whole i below some =
+      let all : List (Option Flaw) = damages file version bytes in
+      let at : 0 + i ≡ i = omega arith in
+      let count = damages_count in
+      let free : slice_index (frees bytes all) i ≡ free_at bytes all i = get_or-map-range_with_len (free_at bytes all) 0 (length all) i i 0 (omega (arith, below, count)) at in
+      let none : slice_index_or all i None ≡ None = sound i (entry_at bytes i) (slice_index_or all i None) (subst (λ (x : ℕ). 1 ≤ x) free some) in
+      let is : slice_index_or all i None ≡ damage_at file version bytes i = get_or-map-range_with_len (damage_at file version bytes) 0 (entry_count bytes) i i None below at in
+      undamaged file (entry_at bytes i) (is_right version (length file) bytes i) (is_some (block_of file (entry_at bytes i))) refl (sym is ∙ none)
 
-pub entries_have : (file : List ℕ) (version : ℕ) (bytes : List ℕ) (n : ℕ) → HasBlocks file (whole_entries file version bytes n)
-entries_have file version bytes zero = subst (HasBlocks file) (sym (entries_none file version bytes)) refl
-entries_have file version bytes (suc n) =
-    let more : whole_entries file version bytes (suc n) ≡ whole_entries file version bytes n ++ if_whole (damage_at file version bytes n) (entry_at bytes n) = entries_suc file version bytes n in
-    subst (HasBlocks file) (sym more) (has_append file (whole_entries file version bytes n) (if_whole (damage_at file version bytes n) (entry_at bytes n)) (entries_have file version bytes n) (whole_has file version bytes n))
+  row_has : (n most : ℕ) (row : List ℕ) → n ≤ entry_count bytes → IsRow (frees bytes (damages file version bytes)) n most row → HasBlocks file (map (entry_at bytes) row)
+  row_has n most [] few is = refl
+  row_has n most (i ∷ row) few is =
+      has_both (block_of file (entry_at bytes i)) (blocks_of_entries file (map (entry_at bytes) row)) (whole i (omega (arith, few, is.0)) is.1)
+      (row_has i (slice_index (frees bytes (damages file version bytes)) i) row (omega (arith, few, is.0)) is.3)
+
+  pub entries_have : HasBlocks file (taken_entries bytes (damages file version bytes))
+  entries_have =
+      let numbers : List ℕ = frees bytes (damages file version bytes) in
+      let count = frees_count in
+      row_has (length numbers) 65535 _ (omega (arith, count)) (is_row numbers (length numbers) 65535)

@@ -1,3 +1,4 @@
 pub mod PlaceLemmas
+pub mod RowLemmas
 pub mod EntryLemmas
 pub mod ScriptLemmas

@@ -16,9 +16,9 @@ use Rattle.document_dump.specs.Entries.{HasBlocks, IsListed}
 use Rattle.document_dump.specs.Faults.{IsDumpRefusal}
 use Rattle.document_dump.specs.declared.fault.DumpFault.{DumpFault}
 use Rattle.document_dump.specs.declared.fault.DumpFault.TheVariants as faults
-use Rattle.file_salvage.specs.Entries.{entry_count, notes, whole_entries}
+use Rattle.file_salvage.specs.Entries.{all_notes, damages, taken_entries}
 use Rattle.file_salvage.specs.Places.{salvaged_place}
-use Rattle.file_salvage.specs.Salvaged.{IsNoteFault, IsSalvage, bytes_of, map_kept, map_note, map_of, notes_of, place_note, salvage_text, salvaged_entries, script_of}
+use Rattle.file_salvage.specs.Salvaged.{IsNoteFault, IsSalvage, bytes_of, map_kept, map_note, map_of, notes_of, place_note, salvage_text, damages_of, salvaged_entries, script_of}
 use Rattle.file_salvage.specs.declared.place.Place.{Place}
 use Rattle.file_salvage.proofs.EntryLemmas.{Numbered, entries_have}
 
@@ -32,14 +32,14 @@ listed_document file map_block es has = document_some map_block (blocks_of_entri
 
 -- the parts of a script, one after another
 pub scripted : (file : List ℕ) (p : Place) (from one two three to : Option (List ℕ)) → Appends from one (place_note p)
-    → Appends one two (notes file p.version (bytes_of file p) (entry_count (bytes_of file p)))
+    → Appends one two (all_notes (bytes_of file p) (damages_of file p))
     → Appends two three (map_note (map_of file p) (map_kept (map_of file p) (salvaged_entries file p)))
     → ((d : Document) → IsListed file (map_kept (map_of file p) (salvaged_entries file p)) (salvaged_entries file p) d → Appends three to (saved_text d))
     → IsSalvage (script_of file p) true from to
 scripted file p from one two three to a b c dumped =
-    let lines = notes file p.version (bytes_of file p) (entry_count (bytes_of file p)) in
+    let lines = all_notes (bytes_of file p) (damages_of file p) in
     let map_line = map_note (map_of file p) (map_kept (map_of file p) (salvaged_entries file p)) in
-    let d = listed_document file (map_kept (map_of file p) (salvaged_entries file p)) (salvaged_entries file p) (entries_have file p.version (bytes_of file p) (entry_count (bytes_of file p))) in
+    let d = listed_document file (map_kept (map_of file p) (salvaged_entries file p)) (salvaged_entries file p) (entries_have file p.version (bytes_of file p)) in
     let before : Appends from three (notes_of file p) = Appends-trans from two three (place_note p ++ lines) map_line (Appends-trans from one two (place_note p) lines a b) c in
     let all : Appends from to (notes_of file p ++ saved_text d.0) = Appends-trans from three to (notes_of file p) (saved_text d.0) before (dumped d.0 d.1) in
     subst (λ (o : Option (List ℕ)). IsSalvage o true from to) (sym (ap (option_map (λ x. notes_of file p ++ saved_text x)) d.1)) (refl, all)
@@ -57,15 +57,15 @@ refused_by_note a b fault (inr write) = rw write tt
 
 -- the same, by what was read
 pub written : (file : List ℕ) (p : Place) (bytes : List ℕ) (es : List Entry) (map_block kept : ℕ) (from one two three to : Option (List ℕ)) → bytes ≡ bytes_of file p
-    → es ≡ whole_entries file p.version bytes (entry_count bytes) → map_block ≡ word_at bytes 8 → kept ≡ map_kept map_block es → Appends from one (place_note p)
-    → Appends one two (notes file p.version bytes (entry_count bytes)) → Appends two three (map_note map_block kept) → ((d : Document) → IsListed file kept es d → Appends three to (saved_text d))
+    → es ≡ taken_entries bytes (damages file p.version bytes) → map_block ≡ word_at bytes 8 → kept ≡ map_kept map_block es → Appends from one (place_note p)
+    → Appends one two (all_notes bytes (damages file p.version bytes)) → Appends two three (map_note map_block kept) → ((d : Document) → IsListed file kept es d → Appends three to (saved_text d))
     → IsSalvage (script_of file p) true from to
 written file p bytes es map_block kept from one two three to bytes_is es_is map_is kept_is a b c dumped =
     let whole = salvaged_entries file p in
-    let es_are : es ≡ whole = es_is ∙ ap (λ (x : List ℕ). whole_entries file p.version x (entry_count x)) bytes_is in
+    let es_are : es ≡ whole = es_is ∙ ap (λ (x : List ℕ). taken_entries x (damages file p.version x)) bytes_is in
     let map_now : map_block ≡ map_of file p = map_is ∙ ap (λ (x : List ℕ). word_at x 8) bytes_is in
     let kept_now : kept ≡ map_kept (map_of file p) whole = kept_is ∙ ap₂ map_kept map_now es_are in
-    scripted file p from one two three to a (subst (λ (x : List ℕ). Appends one two (notes file p.version x (entry_count x))) bytes_is b)
+    scripted file p from one two three to a (subst (λ (x : List ℕ). Appends one two (all_notes x (damages file p.version x))) bytes_is b)
     (subst (λ (k : ℕ). Appends two three (map_note (map_of file p) k)) kept_now (subst (λ (m : ℕ). Appends two three (map_note m kept)) map_now c))
     (λ d listed. dumped d (subst (λ (e : List Entry). IsListed file kept e d) (sym es_are) (subst (λ (k : ℕ). IsListed file k whole d) (sym kept_now) listed)))
 

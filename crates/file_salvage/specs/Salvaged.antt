@@ -1,4 +1,4 @@
--- What is salvaged of a file: the document of the entries that are whole, and its script.
+-- What is salvaged of a file: the document of the entries that are taken, and its script.
 use Rattle.std.specs.Prelude.{◌≡◌, ◌⊎◌, ℕ, List, [], ◌∷◌, ◌++◌, Bool, true, false, ◌==◌, if◌then◌else◌, Option, None, Some, codes}
 use Rattle.std.specs.Io.KnownBytes.{Appends}
 use Rattle.std.specs.Option.{option_and_then, option_map}
@@ -12,17 +12,22 @@ use Rattle.document_dump.specs.Entries.{listing}
 use Rattle.document_dump.specs.declared.fault.DumpFault.{DumpFault}
 use Rattle.document_dump.specs.declared.fault.DumpFault.TheVariants.{Memory, Write}
 use Rattle.file_report.specs.Texts.{name_text}
-use Rattle.file_salvage.specs.Entries.{entry_count, has_handle, notes, whole_entries}
+use Rattle.file_salvage.specs.Entries.{all_notes, damages, has_handle, taken_entries}
 use Rattle.file_salvage.specs.Places.{salvaged_place}
+use Rattle.file_salvage.specs.declared.flaw.Flaw.{Flaw}
 use Rattle.file_salvage.specs.declared.place.Place.{Place}
 
 -- the bytes of a directory, as far as the file has them
 abbrev pub bytes_of : List ℕ → Place → List ℕ
 bytes_of file p = bytes_in file p.extent
 
--- the entries that are whole
+-- why each of its entries isn't whole
+abbrev pub damages_of : List ℕ → Place → List (Option Flaw)
+damages_of file p = damages file p.version (bytes_of file p)
+
+-- the entries that are taken of it
 abbrev pub salvaged_entries : List ℕ → Place → List Entry
-salvaged_entries file p = whole_entries file p.version (bytes_of file p) (entry_count (bytes_of file p))
+salvaged_entries file p = taken_entries (bytes_of file p) (damages_of file p)
 
 -- the map block, where one of these entries has it, or else none
 abbrev pub map_kept : ℕ → List Entry → ℕ
@@ -51,7 +56,7 @@ map_note map_block kept = if map_block == kept then [] else lost_map map_block
 
 abbrev pub notes_of : List ℕ → Place → List ℕ
 notes_of file p =
-    place_note p ++ notes file p.version (bytes_of file p) (entry_count (bytes_of file p))
+    place_note p ++ all_notes (bytes_of file p) (damages_of file p)
     ++ map_note (map_of file p) (map_kept (map_of file p) (salvaged_entries file p))
 
 -- the script of what a directory has, with those lines

@@ -1,15 +1,16 @@
 //! Which entries of a directory are whole.
-ghost use Rattle.std.specs.Prelude.{◌≡◌, ◌++◌, ◌+◌, ◌*◌, ◌-◌, ◌≤◌, IfErr, IfOk, IsErrOf, IsTrue, OnOk, length, drop};
+ghost use Rattle.std.specs.Prelude.{◌≡◌, ◌++◌, ◌+◌, ◌*◌, ◌-◌, ◌<◌, ◌≤◌, All, IfErr, IfOk, IsErrOf, IsTrue, OnOk, length, drop, map};
 ghost use Rattle.std.specs.Io.KnownBytes.{Appends};
 ghost use Rattle.vm_store.specs.Facts.{FailedSince};
-ghost use Rattle.geos_model.specs.Words.{word_at};
 ghost use Rattle.vm_format.specs.Reading.{IsResourceFault, OnlyReadsStore};
 ghost use Rattle.geos_model.specs.File as file;
-ghost use Rattle.file_report.specs.Findings.{are_zeros, entry_text_at, handle_before, zeros_of};
+ghost use Rattle.file_report.specs.Findings.{are_zeros, entry_text_at, zeros_of};
 ghost use Rattle.document_dump.specs.Faults.{IsDumpRefusal, IsWriteFault};
-ghost use Rattle.file_salvage.specs.Entries.{damage_at, entry_at, entry_count, flaw_behind, handle_behind, has_handle, if_whole, is_misplaced, is_right, note_at, note_of, notes, version_in, whole_entries};
+ghost use Rattle.file_salvage.specs.Entries.{all_notes, damage_at, damages, entry_at, entry_count, flaw_beside, free_below, frees, has_handle, is_right, is_taken, note_of, notes, taken, taken_entries, version_in};
+ghost use Rattle.file_salvage.specs.Salvaged.{IsNoteFault};
 
 use crate::flaw::Flaw;
+use crate::rows::longest_row;
 use byteorder::{ByteOrder, LittleEndian};
 use document_dump::DumpFault;
 use file_report::read_image;
@@ -19,9 +20,6 @@ use std::alloc::{AllocError, Global};
 use std::io::Write;
 use vm_format::{ENTRY_LENGTH, HEADER_LENGTH, LONGEST_IMAGE, is_in_file, most_handles, read_entry};
 use vm_store::Store;
-
-/// Above the handles that blocks can have.
-const NO_HANDLE: u32 = 8_193;
 
 /// The bytes of a directory, and of what file it is.
 #[derive(Clone, Copy)]
@@ -70,37 +68,6 @@ fn entry_at(bytes: &[u8], i: usize) -> Entry
     read_entry(version_in(bytes), text_at(bytes, i))
 }
 
-fn handle_at(bytes: &[u8], i: usize) -> u16
-    requires { 16 + 16 * i + 16 ≤ length bytes.now }
-    ensures { result ≡ word_at bytes.now (16 + 16 * i) }
-{
-    LittleEndian::read_u16(&bytes[HEADER_LENGTH + ENTRY_LENGTH * i..])
-}
-
-fn handle_before(bytes: &[u8], i: usize) -> u16
-    requires { 16 + 16 * i + 16 ≤ length bytes.now }
-    ensures { result ≡ handle_before bytes.now i }
-{
-    if i == 0 { 0 } else { handle_at(bytes, i - 1) }
-}
-
-fn handle_behind(bytes: &[u8], i: usize) -> u32
-    requires { 16 + 16 * i + 16 ≤ length bytes.now }
-    ensures { result ≡ handle_behind bytes.now i }
-{
-    if i + 1 < entry_count(bytes) {
-        u32::from(handle_at(bytes, i + 1))
-    } else {
-        NO_HANDLE
-    }
-}
-
-fn is_misplaced(before: u32, handle: u32, behind: u32) -> bool
-    ensures { result ≡ is_misplaced before handle behind }
-{
-    before < behind && !(before < handle && handle < behind)
-}
-
 // How many zeros an entry ends in, in a directory of this version.
 fn zeros_of(version: u16) -> usize
     ensures value { result ≡ zeros_of version }
@@ -139,11 +106,9 @@ fn is_right(listing: Listing<'_>, i: usize) -> bool
     let bytes = listing.bytes;
     let version = version_in(bytes);
     let entry = entry_at(bytes, i);
-    let before = u32::from(handle_before(bytes, i));
     entry.handle.0 >= 1
         && is_entry(listing, version, entry)
         && has_zeros(version, text_at(bytes, i))
-        && !is_misplaced(before, u32::from(entry.handle.0), handle_behind(bytes, i))
 }
 
 // Why an entry isn't whole. Memory, File.
@@ -171,18 +136,97 @@ fn damage_at<S: Store>(
     Ok(None)
 }
 
+// Why each entry isn't whole. Memory, File.
+fn damages<S: Store>(
+    alloc: Global,
+    store: &mut S,
+    listing: Listing<'_>,
+) -> Result<Vec<Option<Flaw>>, Fault>
+    requires size { IsTrue (S.facts store.old).honest → listing.file_length ≡ length (S.facts store.old).content }
+    ensures looks { OnlyReadsStore (S.facts store.old) (S.facts store.new) }
+    ensures count { IfOk result (λ found. length found.items ≡ entry_count listing.entry.bytes.now) }
+    ensures damages { IfOk result (λ found. IsTrue (S.facts store.old).honest
+        → found.items ≡ damages (S.facts store.old).content listing.entry.file_version listing.entry.bytes.now) }
+    ensures file { IsErrOf result Fault.File → FailedSince (S.facts store.old) (S.facts store.new) }
+    ensures refusals { IfErr result IsResourceFault }
+{
+    let mut found = Vec::new(alloc);
+    for i in 0..entry_count(listing.bytes) {
+        let damage = damage_at(alloc, store, listing, i)?;
+        found.push(damage)?;
+    }
+    Ok(found)
+}
+
+fn free_below(i: usize, entry: Entry, damage: Option<Flaw>) -> u16
+    ensures { result ≡ free_below i entry damage }
+{
+    match damage {
+        None => usize::from(entry.handle.0).saturating_sub(i) as u16,
+        Some(_) => 0,
+    }
+}
+
+fn frees(
+    alloc: Global,
+    bytes: &[u8],
+    damages: &[Option<Flaw>],
+) -> Result<Vec<u16>, AllocError>
+    requires { length damages.now ≡ entry_count bytes.now }
+    ensures { IfOk result (λ numbers. numbers.items ≡ frees bytes.now damages.now) }
+{
+    let mut frees = Vec::new(alloc);
+    for i in 0..damages.len() {
+        frees.push(free_below(i, entry_at(bytes, i), damages[i]))?;
+    }
+    Ok(frees)
+}
+
+// The places of the entries that are taken, the last one first.
+fn taken(
+    alloc: Global,
+    bytes: &[u8],
+    damages: &[Option<Flaw>],
+) -> Result<Vec<usize>, AllocError>
+    requires { length damages.now ≡ entry_count bytes.now }
+    ensures row { IfOk result (λ row. row.items ≡ taken bytes.now damages.now) }
+    ensures within { IfOk result (λ row. All (λ i. i < entry_count bytes.now) row.items) }
+{
+    let frees = frees(alloc, bytes, damages)?;
+    let row = longest_row(alloc, frees.as_slice())?;
+    Ok(row)
+}
+
+fn entries_at(alloc: Global, bytes: &[u8], row: &[usize]) -> Result<Vec<Entry>, AllocError>
+    requires { All (λ i. i < entry_count bytes.now) row.now }
+    ensures { IfOk result (λ entries. entries.items ≡ map (entry_at bytes.now) row.now) }
+{
+    let mut entries = Vec::new(alloc);
+    for i in row {
+        entries.push(entry_at(bytes, *i))?;
+    }
+    Ok(entries)
+}
+
 pub fn has_handle(handle: u16, entries: &[Entry]) -> bool
     ensures { result ≡ has_handle handle entries.now }
 {
     entries.iter().any(|entry| entry.handle.0 == handle)
 }
 
-fn flaw_behind(before: &[Entry], entry: Entry, damage: Option<Flaw>) -> Option<Flaw>
-    ensures { result ≡ flaw_behind before.now entry damage }
+fn is_taken(i: usize, row: &[usize]) -> bool
+    ensures { result ≡ is_taken i row.now }
+{
+    row.iter().any(|place| *place == i)
+}
+
+fn flaw_beside(row: &[usize], i: usize, damage: Option<Flaw>) -> Option<Flaw>
+    ensures { result ≡ flaw_beside row.now i damage }
 {
     match damage {
-        None if has_handle(entry.handle.0, before) => Some(Flaw::Twice),
-        _ => damage,
+        None if is_taken(i, row) => None,
+        None => Some(Flaw::Order),
+        Some(_) => damage,
     }
 }
 
@@ -198,51 +242,42 @@ fn push_note(out: &mut Vec<u8>, handle: u16, flaw: Option<Flaw>) -> Result<(), A
     }
 }
 
-fn push_whole(
-    entries: &mut Vec<Entry>,
-    entry: Entry,
-    damage: Option<Flaw>,
-) -> Result<(), AllocError>
-    ensures { OnOk result (entries.new.items ≡ entries.old.items ++ if_whole damage entry) }
-{
-    match damage {
-        None => Ok(entries.push(entry)?),
-        Some(_) => Ok(()),
-    }
-}
-
-// An entry goes to the whole ones, or a line tells why its block is left out.
-fn take_entry<S: Store, W: Write>(
+// A line tells why the block of an entry is left out, where it is.
+fn send_note<W: Write>(
     alloc: Global,
-    store: &mut S,
-    listing: Listing<'_>,
-    i: usize,
-    entries: &mut Vec<Entry>,
+    entry: Entry,
+    flaw: Option<Flaw>,
     writer: &mut W,
 ) -> Result<(), DumpFault>
-    requires within { 16 + 16 * i + 16 ≤ length listing.bytes.now }
-    requires size { IsTrue (S.facts store.old).honest → listing.file_length ≡ length (S.facts store.old).content }
-    requires so_far { IsTrue (S.facts store.old).honest
-        → entries.old.items ≡ whole_entries (S.facts store.old).content listing.file_version listing.bytes.now i }
-    ensures reads { OnlyReadsStore (S.facts store.old) (S.facts store.new) }
-    ensures fails { IfErr result (IsDumpRefusal (S.facts store.old) (S.facts store.new)) }
-    ensures entries { OnOk result (IsTrue (S.facts store.old).honest → entries.new.items
-        ≡ whole_entries (S.facts store.old).content listing.entry.file_version listing.entry.bytes.now (i + 1)) }
-    ensures told { OnOk result (IsTrue (S.facts store.old).honest
-        → Appends (W.contents writer.old) (W.contents writer.new)
-        (note_at (S.facts store.old).content listing.entry.file_version listing.entry.bytes.now i)) }
+    ensures err { IfErr result IsNoteFault }
+    ensures ok { OnOk result (Appends (W.contents writer.old) (W.contents writer.new) (note_of entry.handle.0 flaw)) }
 {
-    let entry = entry_at(listing.bytes, i);
-    let damage = damage_at(alloc, store, listing, i)?;
-    let flaw = flaw_behind(entries.as_slice(), entry, damage);
     let mut note = Vec::new(alloc);
     push_note(&mut note, entry.handle.0, flaw)?;
-    push_whole(entries, entry, damage)?;
     send(note.as_slice(), writer)?;
     Ok(())
 }
 
-/// The entries that are whole. Lines tell which blocks are left out.
+fn send_notes<W: Write>(
+    alloc: Global,
+    bytes: &[u8],
+    damages: &[Option<Flaw>],
+    row: &[usize],
+    writer: &mut W,
+) -> Result<(), DumpFault>
+    requires { length damages.now ≡ entry_count bytes.now }
+    ensures err { IfErr result IsNoteFault }
+    ensures ok { OnOk result (Appends (W.contents writer.old) (W.contents writer.new)
+        (notes bytes.now damages.now row.now (length damages.now))) }
+{
+    for i in 0..damages.len() {
+        let flaw = flaw_beside(row, i, damages[i]);
+        send_note(alloc, entry_at(bytes, i), flaw, writer)?;
+    }
+    Ok(())
+}
+
+/// The entries that are taken. Lines tell which blocks are left out.
 pub fn take_entries<S: Store, W: Write>(
     alloc: Global,
     store: &mut S,
@@ -252,17 +287,17 @@ pub fn take_entries<S: Store, W: Write>(
     requires size { IsTrue (S.facts store.old).honest → listing.file_length ≡ length (S.facts store.old).content }
     ensures reads { OnlyReadsStore (S.facts store.old) (S.facts store.new) }
     ensures fails { IfErr result (IsDumpRefusal (S.facts store.old) (S.facts store.new)) }
-    ensures entries { IfOk result (λ entries. IsTrue (S.facts store.old).honest → entries.items
-        ≡ whole_entries (S.facts store.old).content listing.entry.file_version listing.entry.bytes.now
-        (entry_count listing.entry.bytes.now)) }
+    ensures entries { IfOk result (λ entries. IsTrue (S.facts store.old).honest
+        → entries.items ≡ taken_entries listing.entry.bytes.now
+        (damages (S.facts store.old).content listing.entry.file_version listing.entry.bytes.now)) }
     ensures told { OnOk result (IsTrue (S.facts store.old).honest
-        → Appends (W.contents writer.old) (W.contents writer.new)
-        (notes (S.facts store.old).content listing.entry.file_version listing.entry.bytes.now
-        (entry_count listing.entry.bytes.now))) }
+        → Appends (W.contents writer.old) (W.contents writer.new) (all_notes listing.entry.bytes.now
+        (damages (S.facts store.old).content listing.entry.file_version listing.entry.bytes.now))) }
 {
-    let mut entries = Vec::new(alloc);
-    for i in 0..entry_count(listing.bytes) {
-        take_entry(alloc, store, listing, i, &mut entries, writer)?;
-    }
+    let bytes = listing.bytes;
+    let damages = damages(alloc, store, listing)?;
+    let row = taken(alloc, bytes, damages.as_slice())?;
+    send_notes(alloc, bytes, damages.as_slice(), row.as_slice(), writer)?;
+    let entries = entries_at(alloc, bytes, row.as_slice())?;
     Ok(entries)
 }

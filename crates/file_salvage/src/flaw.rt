@@ -9,8 +9,8 @@ pub enum Flaw {
     Entry,
     /// Where it says is no image of a body that can have its type.
     Image,
-    /// An entry before it, which is whole, has its handle.
-    Twice,
+    /// Its handle doesn't lie between those of the entries that are taken, or could not leave them apart.
+    Order,
 }
 
 impl Flaw {
@@ -20,7 +20,7 @@ impl Flaw {
         match self {
             Flaw::Entry => " is left out: its entry is damaged\n",
             Flaw::Image => " is left out: its image is damaged\n",
-            Flaw::Twice => " is left out: an entry before has its handle\n",
+            Flaw::Order => " is left out: its handle isn't in order\n",
         }
     }
 }

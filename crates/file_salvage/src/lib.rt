@@ -5,6 +5,8 @@ mod entries;
 mod flaw;
 mod place;
 mod places;
+mod rows;
 mod salvaging;
 
+pub use rows::longest_row;
 pub use salvaging::salvage;

@@ -1,59 +1,37 @@
-use Rattle.std.proofs.Common.{◌≡◌, ◌+◌, ℕ, List, length, subst, sym, ◌∙◌, arith}
-use Rattle.std.proofs.KnownBytes.{Appends-nil, Appends-trans}
+use Rattle.std.proofs.Common.{◌≡◌, ◌<◌, All, ℕ, List, Option, length, map, ap, ap₂, subst, sym, ◌∙◌}
+use Rattle.std.proofs.lemmas.Result.{err_from_is_err_and}
 use Rattle.std.specs.Io.KnownBytes.{Appends}
-use Rattle.vm_format.proofs.LooksLemmas.{OnlyReadsStore-refl, OnlyReadsStore-trans, still, same_bytes_then, still_holds}
-use Rattle.file_salvage.specs.Entries.{entry_count, note_at, notes, whole_entries}
-use Rattle.file_salvage.proofs.EntryLemmas.{entries_none, notes_none, notes_more}
+use Rattle.file_salvage.specs.Entries.{damages, entry_at, entry_count, notes, taken, taken_entries}
+use Rattle.file_salvage.specs.declared.flaw.Flaw.{Flaw}
+use Rattle.file_salvage.proofs.ScriptLemmas.{refused_by_note}
 use Rattle.file_salvage.proofs.entries.take_entries.Goals as goal
 
-pub loop-i-init : goal.loop-i-init
-loop-i-init g c =
-    let file = (g.S.Store.facts c.args.store.now).content in
-    let version = c.args.listing.file_version in
-    let bytes = c.args.listing.bytes.now in
-    let from = g.W.Write.contents c.args.writer.now in
-    record {
-      reads = OnlyReadsStore-refl (g.S.Store.facts c.args.store.now);
-      whole = λ so. c.new-entries.ensures.items ∙ sym (entries_none file version bytes);
-      told = λ so. subst (λ (l : List ℕ). Appends from from l) (sym (notes_none file version bytes)) (Appends-nil from);
-    }
+pub taken-requires : goal.taken-requires
+taken-requires g c = ap length c.as_slice.ensures.value ∙ c.in_ok-damages.ensures.count
 
-pub loop-i-preserved : goal.loop-i-preserved
-loop-i-preserved g c =
-    let a = g.S.Store.facts c.args.store.now in
-    let b = g.S.Store.facts c.loop-i.store in
-    let version = c.args.listing.file_version in
-    let bytes = c.args.listing.bytes.now in
-    let i = c.loop-i.i in
-    let reads = c.loop-i.invariant.reads in
-    let from = g.W.Write.contents c.args.writer.now in
-    let mid = g.W.Write.contents c.loop-i.writer in
-    let to = g.W.Write.contents c.take_entry.new.writer in
-    record {
-      reads = OnlyReadsStore-trans a b _ (g.met.S.Store.timely c.args.store.now) reads c.take_entry.ensures.reads;
-      whole = λ so. subst (λ (file : List ℕ). c.take_entry.new.entries.items ≡ whole_entries file version bytes (i + 1)) (same_bytes_then a b reads so) (c.in_ok-take_entry.ensures.entries (still a b reads so));
-      told = λ so.
-          let now = subst (λ (file : List ℕ). Appends mid to (note_at file version bytes i)) (same_bytes_then a b reads so) (c.in_ok-take_entry.ensures.told (still a b reads so)) in
-          subst (λ (l : List ℕ). Appends from to l) (sym (notes_more a.content version bytes i)) (Appends-trans from mid to (notes a.content version bytes i) (note_at a.content version bytes i) (c.loop-i.invariant.told so) now);
-    }
+pub send_notes-requires : goal.send_notes-requires
+send_notes-requires g c = ap length c.as_slice-2.ensures.value ∙ c.in_ok-damages.ensures.count
 
-pub take_entry-requires-clause-size : goal.take_entry-requires-clause-size
-take_entry-requires-clause-size g c = still_holds (λ (file : List ℕ). c.args.listing.file_length ≡ length file) (g.S.Store.facts c.args.store.now) (g.S.Store.facts c.loop-i.store) c.loop-i.invariant.reads c.requires.size
-
-pub take_entry-requires-clause-so_far : goal.take_entry-requires-clause-so_far
-take_entry-requires-clause-so_far g c =
-    still_holds (λ (file : List ℕ). c.loop-i.entries.items ≡ whole_entries file c.args.listing.file_version c.args.listing.bytes.now c.loop-i.i) (g.S.Store.facts c.args.store.now) (g.S.Store.facts c.loop-i.store) c.loop-i.invariant.reads
-    c.loop-i.invariant.whole
-
-pub returns-in_err-take_entry-clause-reads : goal.returns-in_err-take_entry-clause-reads
-returns-in_err-take_entry-clause-reads g c = OnlyReadsStore-trans (g.S.Store.facts c.args.store.now) (g.S.Store.facts c.loop-i.store) _ (g.met.S.Store.timely c.args.store.now) c.loop-i.invariant.reads c.take_entry.ensures.reads
+pub entries_at-requires : goal.entries_at-requires
+entries_at-requires g c = subst (λ (l : List ℕ). All (λ (i : ℕ). i < entry_count c.args.listing.bytes.now) l) (sym c.as_slice-4.ensures.value) c.in_ok-row.ensures.within
 
 pub returns-clause-entries : goal.returns-clause-entries
 returns-clause-entries g c = λ so.
-    let end : c.loop-i.i ≡ entry_count c.args.listing.bytes.now = omega (arith, c.entry_count-i-end.ensures) in
-    subst (λ (n : ℕ). c.loop-i.entries.items ≡ whole_entries (g.S.Store.facts c.args.store.now).content c.args.listing.file_version c.args.listing.bytes.now n) end (c.loop-i.invariant.whole so)
+    let bytes = c.args.listing.bytes.now in
+    let found = c.as_slice.ensures.value ∙ c.in_ok-damages.ensures.damages so in
+    let row = c.as_slice-4.ensures.value ∙ c.in_ok-row.ensures.row ∙ ap (λ (d : List (Option Flaw)). taken bytes d) found in
+    c.in_ok-entries.ensures ∙ ap (λ (l : List ℕ). map (entry_at bytes) l) row
 
 pub returns-clause-told : goal.returns-clause-told
 returns-clause-told g c = λ so.
-    let end : c.loop-i.i ≡ entry_count c.args.listing.bytes.now = omega (arith, c.entry_count-i-end.ensures) in
-    subst (λ (n : ℕ). Appends (g.W.Write.contents c.args.writer.now) (g.W.Write.contents c.loop-i.writer) (notes (g.S.Store.facts c.args.store.now).content c.args.listing.file_version c.args.listing.bytes.now n)) end (c.loop-i.invariant.told so)
+    let bytes = c.args.listing.bytes.now in
+    let found = c.as_slice.ensures.value ∙ c.in_ok-damages.ensures.damages so in
+    let all = c.as_slice-2.ensures.value ∙ c.in_ok-damages.ensures.damages so in
+    let row = c.as_slice-3.ensures.value ∙ c.in_ok-row.ensures.row ∙ ap (λ (d : List (Option Flaw)). taken bytes d) found in
+    subst (λ (l : List ℕ). Appends (g.W.Write.contents c.args.writer.now) (g.W.Write.contents c.send_notes.new.writer) l)
+    (ap₂ (λ (d : List (Option Flaw)) (r : List ℕ). notes bytes d r (length d)) all row) c.in_ok-send_notes.ensures.ok
+
+pub returns-in_err-send_notes-clause-fails : goal.returns-in_err-send_notes-clause-fails
+returns-in_err-send_notes-clause-fails g c =
+    let p = err_from_is_err_and c.from_residual-in_err-send_notes.result c.from_residual-in_err-send_notes.ensures.1 in
+    rw (p.1, p.2) (refused_by_note (g.S.Store.facts c.args.store.now) (g.S.Store.facts c.damages.new.store) _ c.in_err-send_notes.ensures.err)
