@@ -1,5 +1,5 @@
 -- Which entries of a directory are whole. Its bytes may be fewer than its header tells: then entries are missing.
-use Rattle.std.specs.Prelude.{ℕ, List, [], ◌∷◌, ◌++◌, ◌+◌, ◌*◌, ◌-◌, ◌/◌, Bool, not, ◌==◌, ◌&&◌, nat_le, length, map, drop, slice_index_or, if◌then◌else◌, Option, None, Some, is_some, codes}
+use Rattle.std.specs.Prelude.{ℕ, List, [], ◌∷◌, ◌++◌, ◌-◌, ◌/◌, Bool, not, ◌==◌, ◌&&◌, nat_le, length, map, drop, slice_index_or, if◌then◌else◌, Option, None, Some, is_some, codes}
 use Rattle.std.specs.List.{flat_map, list_any, range_with_len}
 use Rattle.geos_model.specs.Words.{word_at}
 use Rattle.geos_model.specs.File.{block_of, entry_read, is_entry}

@@ -167,11 +167,7 @@ fn free_below(i: usize, entry: Entry, damage: Option<Flaw>) -> u16
     }
 }
 
-fn frees(
-    alloc: Global,
-    bytes: &[u8],
-    damages: &[Option<Flaw>],
-) -> Result<Vec<u16>, AllocError>
+fn frees(alloc: Global, bytes: &[u8], damages: &[Option<Flaw>]) -> Result<Vec<u16>, AllocError>
     requires { length damages.now ≡ entry_count bytes.now }
     ensures { IfOk result (λ numbers. numbers.items ≡ frees bytes.now damages.now) }
 {
@@ -183,11 +179,7 @@ fn frees(
 }
 
 // The places of the entries that are taken, the last one first.
-fn taken(
-    alloc: Global,
-    bytes: &[u8],
-    damages: &[Option<Flaw>],
-) -> Result<Vec<usize>, AllocError>
+fn taken(alloc: Global, bytes: &[u8], damages: &[Option<Flaw>]) -> Result<Vec<usize>, AllocError>
     requires { length damages.now ≡ entry_count bytes.now }
     ensures row { IfOk result (λ row. row.items ≡ taken bytes.now damages.now) }
     ensures within { IfOk result (λ row. All (λ i. i < entry_count bytes.now) row.items) }

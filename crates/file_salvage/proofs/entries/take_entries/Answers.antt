@@ -1,7 +1,7 @@
-use Rattle.std.proofs.Common.{◌≡◌, ◌<◌, All, ℕ, List, Option, length, map, ap, ap₂, subst, sym, ◌∙◌}
+use Rattle.std.proofs.Common.{◌<◌, All, ℕ, List, Option, length, map, ap, ap₂, subst, sym, ◌∙◌}
 use Rattle.std.proofs.lemmas.Result.{err_from_is_err_and}
 use Rattle.std.specs.Io.KnownBytes.{Appends}
-use Rattle.file_salvage.specs.Entries.{damages, entry_at, entry_count, notes, taken, taken_entries}
+use Rattle.file_salvage.specs.Entries.{entry_at, entry_count, notes, taken}
 use Rattle.file_salvage.specs.declared.flaw.Flaw.{Flaw}
 use Rattle.file_salvage.proofs.ScriptLemmas.{refused_by_note}
 use Rattle.file_salvage.proofs.entries.take_entries.Goals as goal
