@@ -5,8 +5,9 @@ byte and handle for handle.
     python3 checks/salvaged.py GEOSVM GEOSDOC [COUNT] [SEED]
 
 GEOSVM and GEOSDOC are the programs of `crates/geosvm` and `crates/geosdoc`. Of each document 1 to 10 blocks of about 100 are damaged, in
-their entries or their images; of some a slot or the header of a directory as well, and some files are cut. A damage is one that can be
-seen: another byte within a raw block can't. Files are read here by docs/FORMAT.md alone.
+their entries or their images; of some a slot or the header of a directory as well, and some files are cut. Of one document in four more
+just one entry has another handle, and all other blocks must come back. A damage is one that can be seen: another byte within a raw block
+can't. Files are read here by docs/FORMAT.md alone.
 """
 import os
 import random
@@ -120,6 +121,27 @@ def damage(chance, data, place):
     return {entries[i][1] for i in chosen}
 
 
+def damaged_handle(chance, data):
+    """Gives one entry, often the last one or the one before it, another handle, often one just above that of the entry behind it, and tells
+    what must be salvaged. Handles that rise tell nothing, and are left aside. So are those with which it could be the entry before it that
+    is wrong: they leave it below that one and no other."""
+    whole, place = bytes(data), places_of(bytes(data))[0]
+    entries = entries_of(data, place)[1]
+    handles = [entry[1] for entry in entries]
+    free = [handle - i for i, handle in enumerate(handles)]
+    last = len(handles) - 1
+    while True:
+        i = chance.choice([last, last - 1, chance.randint(0, last)])
+        behind = handles[min(i + 1, last)]
+        handle = chance.choice([behind, behind + 1, behind + 2, handles[i] ^ 1 << chance.randrange(13), chance.randint(1, 8192)])
+        is_above = i < last and handle - i > free[i + 1]
+        is_below = handle - i < (free[i - 2] if i >= 2 else 1)
+        if 1 <= handle <= 8192 and (is_above or is_below):
+            break
+    data[entries[i][0]:entries[i][0] + 2] = handle.to_bytes(2, "little")
+    return document_in(whole, place, len(whole), {handles[i]})
+
+
 def salvage(geosdoc, path):
     done = subprocess.run([geosdoc, "salvage", path], stdout=subprocess.PIPE, stderr=subprocess.PIPE, text=True)
     return done.returncode, done.stdout, done.stderr
@@ -169,8 +191,8 @@ def damaged_file(chance, data):
     return document_in(whole, place, len(whole), damage(chance, data, place))
 
 
-def try_one(geosvm, geosdoc, folder, seed):
-    """One random document. How many blocks were salvaged of it, and how many weren't."""
+def try_one(geosvm, geosdoc, folder, seed, damaged):
+    """One random document, damaged in a way. How many blocks were salvaged of it, and how many weren't."""
     chance = random.Random(seed)
     path, again = os.path.join(folder, "damaged"), os.path.join(folder, "again")
     run([geosvm, "--new", path], script_of(chance))
@@ -178,7 +200,7 @@ def try_one(geosvm, geosdoc, folder, seed):
     assert (status, script, told) == (0, run([geosdoc, "dump", path]), ""), "no dump of a file that opens"
     with open(path, "rb") as file:
         data = bytearray(file.read())
-    wanted = damaged_file(chance, data)
+    wanted = damaged(chance, data)
     with open(path, "wb") as file:
         file.write(data)
     status, script, told = salvage(geosdoc, path)
@@ -201,15 +223,17 @@ def main():
     count = int(sys.argv[3]) if len(sys.argv) > 3 else 300
     start = int(sys.argv[4]) if len(sys.argv) > 4 else 1
     salvaged = left = failed = 0
+    tried = [(seed, damaged_file) for seed in [*range(start, start + count), *ONCE_WRONG]]
+    tried += [(seed, damaged_handle) for seed in range(start, start + (count + 3) // 4)]
     with tempfile.TemporaryDirectory() as folder:
-        for seed in [*range(start, start + count), *ONCE_WRONG]:
+        for seed, damaged in tried:
             try:
-                done = try_one(geosvm, geosdoc, folder, seed)
+                done = try_one(geosvm, geosdoc, folder, seed, damaged)
                 salvaged, left = salvaged + done[0], left + done[1]
             except AssertionError as wrong:
                 failed += 1
-                print(f"FAILED  the document of seed {seed}: {wrong}")
-    count += len(ONCE_WRONG)
+                print(f"FAILED  the document of seed {seed}, by {damaged.__name__}: {wrong}")
+    count = len(tried)
     print(f"        {count} files, {salvaged} blocks salvaged of them, {left} left out")
     print(f"{count - failed} passed, {failed} failed")
     sys.exit(failed != 0)

@@ -38,8 +38,8 @@ damage_at file version bytes i =
 abbrev pub damages : List ℕ → ℕ → List ℕ → List (Option Flaw)
 damages file version bytes = map (damage_at file version bytes) (range_with_len 0 (entry_count bytes))
 
--- How many handles below that of an entry the entries before it leave free, 0 for an entry that isn't whole. In a
--- directory handles rise, so each entry leaves as many free as the one before it, or more.
+-- How many handles up to that of an entry, its own among them, the entries before it leave free; 0 for one that isn't
+-- whole. In a directory handles rise, so this is at least 1 and never falls.
 
 abbrev pub free_below : ℕ → Entry → Option Flaw → ℕ
 free_below i e None = e.handle.0 - i

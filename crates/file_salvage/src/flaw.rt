@@ -9,7 +9,7 @@ pub enum Flaw {
     Entry,
     /// Where it says is no image of a body that can have its type.
     Image,
-    /// Its handle doesn't lie between those of the entries that are taken, or could not leave them apart.
+    /// It is whole, but not in the longest row of entries whose handles can stand together.
     Order,
 }
 
