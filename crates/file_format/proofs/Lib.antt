@@ -1,0 +1,9 @@
+pub mod DirectoryLemmas
+pub mod FileDocuments
+pub mod FileExamples
+pub mod FileStands
+pub mod Files
+pub mod KindsLemmas
+pub mod LooksLemmas
+pub mod StoredDirectoryLemmas
+pub mod StoredSlotLemmas
