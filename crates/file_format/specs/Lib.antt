@@ -1,3 +1,4 @@
+pub mod Damage
 pub mod File
 pub mod FileLaws
 pub mod Kinds

@@ -20,7 +20,7 @@ pub use directory::{
 };
 pub use file::{Entry, Extent, PAGE, Slot, SlotSums, VERSION};
 pub use kind::BodyKind;
-pub use law::file_law;
+pub use law::{damage_law, file_law};
 pub use pages::{FIRST_PAGE, is_in_file, page_behind, page_count, start_of};
 pub use reading::{read_extent, read_length};
 pub use slot::{LONGEST_SLOT, SLOT_MARK, SlotText, own_sum, read_slot, write_slot};
