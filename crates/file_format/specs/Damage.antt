@@ -6,8 +6,8 @@ use Rattle.file_format.specs.File.{slot_fields, open_slot, counting_slot, is_sea
 use Rattle.geos_model.specs.declared.fault.Fault.{Fault}
 use Rattle.file_format.specs.declared.file.Slot.{Slot}
 
--- The bytes of a file that has room for its slots, and the bytes that are read in their place: the same, but maybe for up
--- to 32 bits in a row, anywhere.
+-- The bytes of a file that has room for its slots, and those that are read in their place: the same, but maybe for
+-- up to 32 bits in a row, anywhere.
 pub record MaybeDamaged (file other : List ℕ) : Type 0 where
   pub long : 1024 ≤ length file
   pub same_length : length other ≡ length file
@@ -31,8 +31,8 @@ pub record Counts (file : List ℕ) (page : ℕ) : Type 0 where
   pub opened : open_slot file page ≡ Some (slot_at file page)
   pub counts : counting_slot (open_slot file 0) (open_slot file 1) ≡ Ok (slot_at file page)
 
--- The damage made the slot at another page count. What it leads to, the file has too; and where it is of version 3 and its
--- sum is right, damaged or not, it is what the file's own slot there leads to.
+-- The damage made the slot at another page count. What it leads to, the file has too; and where it is of version 3 in
+-- both and its sum was right, it is what the file's own slot there leads to.
 pub record CountsInstead (file other : List ℕ) (page : ℕ) (found : Pair) : Type 0 where
   pub counts : Counts other page
   pub leads : pair_of file (slot_at other page) ≡ Ok found
