@@ -1,3 +1,5 @@
+pub mod DamagedParts
+pub mod DamagedSlots
 pub mod DirectoryLemmas
 pub mod FileDocuments
 pub mod FileExamples
