@@ -32,12 +32,12 @@ pub record Begins (first : Option HasSequence) (others : Option (List HasSequenc
   pub others_are : others ≡ Some rest
   pub all : block ∷ rest ≡ blocks
 
-prepended-some : (first : Option HasSequence) (others : Option (List HasSequence)) (blocks : List HasSequence) → prepended first others ≡ Some blocks → Begins first others blocks
+pub prepended-some : (first : Option HasSequence) (others : Option (List HasSequence)) (blocks : List HasSequence) → prepended first others ≡ Some blocks → Begins first others blocks
 prepended-some None others blocks e = absurd (cc e)
 prepended-some (Some b) None blocks e = absurd (cc e)
 prepended-some (Some b) (Some bs) blocks e = record { block = b; rest = bs; first_is = refl; others_are = refl; all = cc e }
 
-body_there : (h : ℕ) (a : Attributes) (o : Option Body) (b : HasSequence) → option_map (λ body. let made : HasSequence = (h, record { attributes = a; body = body }) in made) o ≡ Some b → (body : Body) × ((o ≡ Some body) × (b ≡ (let made : HasSequence = (h, record { attributes = a; body = body }) in made)))
+pub body_there : (h : ℕ) (a : Attributes) (o : Option Body) (b : HasSequence) → option_map (λ body. let made : HasSequence = (h, record { attributes = a; body = body }) in made) o ≡ Some b → (body : Body) × ((o ≡ Some body) × (b ≡ (let made : HasSequence = (h, record { attributes = a; body = body }) in made)))
 body_there h a None b e = absurd (cc e)
 body_there h a (Some body) b e = (body, (refl, cc e))
 
@@ -117,12 +117,12 @@ blocks_are file_version n version file last (e ∷ es) blocks is rising all user
       live = λ k l. live_at m begins.block e es here.0 rest.live k l;
     })
 
-document_there : (d : Directory) (o : Option (List HasSequence)) (result : Document) → option_map (λ blocks. let made : Document = record { blocks = from_entries blocks; map_block = d.map_block } in made) o ≡ Some result
+pub document_there : (d : Directory) (o : Option (List HasSequence)) (result : Document) → option_map (λ blocks. let made : Document = record { blocks = from_entries blocks; map_block = d.map_block } in made) o ≡ Some result
     → (blocks : List HasSequence) × ((o ≡ Some blocks) × ((let made : Document = record { blocks = from_entries blocks; map_block = d.map_block } in made) ≡ result))
 document_there d None result e = absurd (cc e)
 document_there d (Some blocks) result e = (blocks, (refl, cc e))
 
-directory_there : (file : List ℕ) (o : Option Directory) (result : Document) → option_and_then (document_of file) o ≡ Some result → (d : Directory) × ((o ≡ Some d) × (document_of file d ≡ Some result))
+pub directory_there : (file : List ℕ) (o : Option Directory) (result : Document) → option_and_then (document_of file) o ≡ Some result → (d : Directory) × ((o ≡ Some d) × (document_of file d ≡ Some result))
 directory_there file None result e = absurd (cc e)
 directory_there file (Some d) result e = (d, (refl, e))
 
@@ -209,7 +209,7 @@ directory-kept file_version n m d is within =
       map_block = parts.map_block;
     })
 
-blocks_of-kept : (file_version n version : ℕ) (old new : List ℕ) (es : List Entry) → n ≤ length old → list_all (is_entry file_version n version) es ≡ true → All (λ e. KeepsExtent old new e.extent) es → blocks_of_entries new es ≡ blocks_of_entries old es
+pub blocks_of-kept : (file_version n version : ℕ) (old new : List ℕ) (es : List Entry) → n ≤ length old → list_all (is_entry file_version n version) es ≡ true → All (λ e. KeepsExtent old new e.extent) es → blocks_of_entries new es ≡ blocks_of_entries old es
 blocks_of-kept file_version n version old new [] l all keeps = refl
 blocks_of-kept file_version n version old new (e ∷ es) l all keeps =
     let each = and_parts (is_entry file_version n version e) (list_all (is_entry file_version n version) es) all in

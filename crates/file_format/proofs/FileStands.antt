@@ -22,6 +22,15 @@ slot_bytes file page = take 44 (drop (512 * page) file)
 abbrev pub IsVersion : ℕ → Type 0
 IsVersion v = (v ≡ 1) ⊎ ((v ≡ 2) ⊎ (v ≡ 3))
 
+-- The documents of a slot, whether or not it counts.
+pub record LeadsTo (file : List ℕ) (s : Slot) (updated saved : Document) : Type 0 where
+  pub version : IsVersion s.version
+  pub reserved : s.reserved ≡ 0
+  pub sequence : 1 ≤ s.sequence
+  pub sealed : is_sealed s ≡ true
+  pub working : summed_document s.version file (working_sum s) s.working ≡ Some updated
+  pub saved_is : summed_document s.version file (saved_sum s) s.saved ≡ Some saved
+
 -- The slot that counts, and its documents.
 pub record StandsBy (file : List ℕ) (s : Slot) (updated saved : Document) : Type 0 where
   pub long : 1024 ≤ length file
@@ -57,13 +66,17 @@ tested : (s : Slot) → s.reserved ≡ 0 → 1 ≤ s.sequence → is_sealed s �
 tested s none some sealed =
     ap₂ (λ (a b : Bool). not a || b) (eq-eqb s.reserved 0 none) (ap₂ (λ (a b : Bool). a || not b) (ne_eqb s.sequence 0 (λ e. absurd (omega (arith, some, e)))) sealed)
 
+pub pair_of-from : (file : List ℕ) (s : Slot) (updated saved : Document) → LeadsTo file s updated saved → pair_of file s ≡ Ok (updated, saved)
+pair_of-from file s updated saved leads =
+    cond-false _ _ _ (versioned s.version leads.version)
+    ∙ cond-false _ _ _ (tested s leads.reserved leads.sequence leads.sealed)
+    ∙ ap₂ both leads.working leads.saved_is
+
 pub stands-from : (file : List ℕ) (s : Slot) (updated saved : Document) → StandsBy file s updated saved → stands file ≡ Ok (updated, saved)
 stands-from file s updated saved by =
     cond-false _ _ _ (le-ltb (length file) 1024 by.long)
     ∙ ap (pair_of_counting file) by.counts
-    ∙ cond-false _ _ _ (versioned s.version by.version)
-    ∙ cond-false _ _ _ (tested s by.reserved by.sequence by.sealed)
-    ∙ ap₂ both by.working by.saved_is
+    ∙ pair_of-from file s updated saved (record { version = by.version; reserved = by.reserved; sequence = by.sequence; sealed = by.sealed; working = by.working; saved_is = by.saved_is })
 
 -- which slot counts
 
@@ -142,28 +155,46 @@ passed test fault other pair e = elim (cases_Bool test) [
   | inr other_way ↦ (other_way, sym (cond-false _ _ _ other_way) ∙ e)
 ]
 
-pub stands-by : (file : List ℕ) (pair : Pair) → stands file ≡ Ok pair → (s : Slot) × StandsBy file s pair.0 pair.1
-stands-by file pair e =
-    let long = passed (nat_lt (length file) 1024) NotDocument (pair_of_counting file (counting_slot (open_slot file 0) (open_slot file 1))) pair e in
-    let slot = slot_there file (counting_slot (open_slot file 0) (open_slot file 1)) pair long.1 in
-    let s : Slot = slot.0 in
+pub pair_of-by : (file : List ℕ) (s : Slot) (pair : Pair) → pair_of file s ≡ Ok pair → LeadsTo file s pair.0 pair.1
+pair_of-by file s pair e =
     let working : Option Document = summed_document s.version file (working_sum s) s.working in
     let saved : Option Document = summed_document s.version file (saved_sum s) s.saved in
-    let version = passed (not (is_version s.version)) NotDocument (cond (is_wrong s) (Err Damaged) (both working saved)) pair slot.1.1 in
+    let version = passed (not (is_version s.version)) NotDocument (cond (is_wrong s) (Err Damaged) (both working saved)) pair e in
     let fields = passed (is_wrong s) Damaged (both working saved) pair version.1 in
     let zeros = or_parts (not (s.reserved == 0)) (s.sequence == 0 || not (is_sealed s)) fields.0 in
     let more = or_parts (s.sequence == 0) (not (is_sealed s)) zeros.1 in
     let documents = both_there working saved pair fields.1 in
-    let some : s.sequence ≢ 0 = λ z. absurd (cc (sym (eq-eqb s.sequence 0 z) ∙ more.0)) in (
+    let some : s.sequence ≢ 0 = λ z. absurd (cc (sym (eq-eqb s.sequence 0 z) ∙ more.0)) in
+    record {
+      version = version_of s.version version.0;
+      reserved = eqb-true s.reserved 0 (not_false (s.reserved == 0) zeros.0);
+      sequence = omega (arith, some);
+      sealed = not_false (is_sealed s) more.1;
+      working = documents.0;
+      saved_is = documents.1;
+    }
+
+-- the slot that counts, and what it leads to
+pub stands-slot : (file : List ℕ) (pair : Pair) → stands file ≡ Ok pair → (1024 ≤ length file) × ((s : Slot) × ((counting_slot (open_slot file 0) (open_slot file 1) ≡ Ok s) × (pair_of file s ≡ Ok pair)))
+stands-slot file pair e =
+    let counting : Result Slot Fault = counting_slot (open_slot file 0) (open_slot file 1) in
+    let long = passed (nat_lt (length file) 1024) NotDocument (pair_of_counting file counting) pair e in
+    (ltb-false (length file) 1024 long.0, slot_there file counting pair long.1)
+
+pub stands-by : (file : List ℕ) (pair : Pair) → stands file ≡ Ok pair → (s : Slot) × StandsBy file s pair.0 pair.1
+stands-by file pair e =
+    let found = stands-slot file pair e in
+    let s : Slot = found.1.0 in
+    let leads = pair_of-by file s pair found.1.1.1 in (
       s,
       record {
-        long = ltb-false (length file) 1024 long.0;
-        counts = slot.1.0;
-        version = version_of s.version version.0;
-        reserved = eqb-true s.reserved 0 (not_false (s.reserved == 0) zeros.0);
-        sequence = omega (arith, some);
-        sealed = not_false (is_sealed s) more.1;
-        working = documents.0;
-        saved_is = documents.1;
+        long = found.0;
+        counts = found.1.1.0;
+        version = leads.version;
+        reserved = leads.reserved;
+        sequence = leads.sequence;
+        sealed = leads.sealed;
+        working = leads.working;
+        saved_is = leads.saved_is;
       },
     )

@@ -1,3 +1,4 @@
+pub mod DamagedDocuments
 pub mod DamagedParts
 pub mod DamagedSlots
 pub mod DirectoryLemmas
