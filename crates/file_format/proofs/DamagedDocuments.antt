@@ -69,7 +69,7 @@ three_is : (version : ℕ) → VersionsAgree 3 version → version ≡ 3
 three_is version (inl older) = absurd (older.0 refl)
 three_is version (inr three) = three.0
 
-directory_summed : (file : List ℕ) (e : Extent) (d : Directory) → directory_of 3 file e ≡ Some d → (d.version ≡ 3) × All (λ x. FitsSum 3 x.sum) d.entries
+pub directory_summed : (file : List ℕ) (e : Extent) (d : Directory) → directory_of 3 file e ≡ Some d → (d.version ≡ 3) × All (λ x. FitsSum 3 x.sum) d.entries
 directory_summed file e d is =
     let found = directory_in-some 3 (length file) (bytes_in file e) d (directory_of-some 3 file e d is).1 in
     let three = three_is d.version (is_version_in-parts 3 d.version (is_directory-parts 3 (length file) d found.0).version) in

@@ -1,4 +1,5 @@
 pub mod DamagedDocuments
+pub mod DamagedFiles
 pub mod DamagedParts
 pub mod DamagedSlots
 pub mod DirectoryLemmas
