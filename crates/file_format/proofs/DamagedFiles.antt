@@ -215,9 +215,11 @@ instead file other page found t d low was counts leads opened differs =
     let q : ℕ = 1 - page in
     let is : t ≡ slot_at other q = (open_slot-is other q t opened).0 in
     let there : pair_of other (slot_at other q) ≡ Ok found = ap (pair_of other) (sym is) ∙ leads in
-    let stays : pair_of file (slot_at other q) ≡ Ok found = pair_stays file other (slot_at other q) found (beyond file other page t d low was counts differs) d.same_length there in
+    let behind : drop 1024 file ≡ drop 1024 other = beyond file other page t d low was counts differs in
+    let stays : pair_of file (slot_at other q) ≡ Ok found = pair_stays file other (slot_at other q) found behind d.same_length there in
     let less : q < 2 = omega arith in
     record {
+      behind = sym behind;
       counts = counts_from other q t counts opened;
       leads = stays;
       same = λ three three_other sealed.

@@ -31,9 +31,10 @@ pub record Counts (file : List ℕ) (page : ℕ) : Type 0 where
   pub opened : open_slot file page ≡ Some (slot_at file page)
   pub counts : counting_slot (open_slot file 0) (open_slot file 1) ≡ Ok (slot_at file page)
 
--- The damage made the slot at another page count. What it leads to, the file has too; and where it is of version 3 in
--- both and its sum was right, it is what the file's own slot there leads to.
+-- The damage lies in the slots' pages and made the slot at another page count. What it leads to, the file has too; and
+-- where it is of version 3 in both and its sum was right, it is what the file's own slot there leads to.
 pub record CountsInstead (file other : List ℕ) (page : ℕ) (found : Pair) : Type 0 where
+  pub behind : drop 1024 other ≡ drop 1024 file
   pub counts : Counts other page
   pub leads : pair_of file (slot_at other page) ≡ Ok found
   pub same : (slot_at file page).version ≡ 3 → (slot_at other page).version ≡ 3
