@@ -1,14 +1,13 @@
 -- Documents that rest on sums are the ones that were written.
-use Rattle.std.proofs.Common.{◌≡◌, ◌≢◌, ◌⊎◌, ◌≤◌, ℕ, zero, suc, ◌+◌, ◌*◌, ◌<◌, ◌==◌, ◌&&◌, true, List, [], ◌∷◌, length, drop, Option, Some, None, Result, Ok, All, refl, sym, ap, ap₂, subst, ◌∙◌, arith, inl, inr, eqb-true, get_or-drop}
+use Rattle.std.proofs.Common.{◌≡◌, ℕ, suc, ◌&&◌, true, List, [], ◌∷◌, length, Option, Some, None, Ok, All, refl, sym, ap, ap₂, subst, ◌∙◌, arith, inl, inr, eqb-true}
 use Rattle.std.specs.Option.{option_and_then, option_map}
 use Rattle.std.specs.FinMap.{from_entries}
-use Rattle.std.proofs.lemmas.Bool.{and_parts}
 use Rattle.checksum.specs.Crc32c.{crc32c}
 use Rattle.geos_model.specs.Bytes.{same_bytes}
-use Rattle.geos_model.specs.Document.{Block, Document}
+use Rattle.geos_model.specs.Document.{Document}
 use Rattle.geos_model.specs.declared.command.Body.{Body}
 use Rattle.file_format.specs.File.{Directory, bytes_in, directory_text, directory_read, is_directory, directory_in, directory_of, has_sum, summed_directory, if_typed, summed_body, block_of, blocks_of_entries, document_of, summed_document, working_sum, saved_sum, pair_of}
-use Rattle.file_format.specs.FileLaws.{FitsSum, KeepsExtent}
+use Rattle.file_format.specs.FileLaws.{FitsSum}
 use Rattle.file_format.specs.Damage.{MaybeDamaged, Pair}
 use Rattle.file_format.specs.declared.file.Extent.{Extent}
 use Rattle.file_format.specs.declared.file.Entry.{Entry}
@@ -16,7 +15,7 @@ use Rattle.file_format.specs.declared.file.Slot.{Slot}
 use Rattle.file_format.specs.declared.file.SlotSums.{SlotSums}
 use Rattle.file_format.proofs.Files.{some_if, VersionsAgree, is_version_in-parts, is_directory-parts, directory_in-some}
 use Rattle.file_format.proofs.FileDocuments.{HasSequence, prepended-some, body_there, if_typed-some, summed_body-some, document_there, directory_there, directory_of-some, summed_directory-some}
-use Rattle.file_format.proofs.FileStands.{LeadsTo, pair_of-by}
+use Rattle.file_format.proofs.FileStands.{pair_of-by}
 use Rattle.file_format.proofs.DamagedParts.{extent_same}
 
 -- the bytes of an extent that have a sum in both

@@ -1,5 +1,5 @@
 -- What is read in the place of a file of version 3 opens to its documents, or to those of its other slot.
-use Rattle.std.proofs.Common.{◌≡◌, ◌≢◌, ◌⊎◌, ◌≤◌, ℕ, zero, suc, ◌+◌, ◌-◌, ◌*◌, ◌<◌, ◌==◌, nat_lt, Bool, true, false, cond, not, ◌||◌, List, length, take, drop, slice_index, Option, Some, None, Result, Ok, Err, All, refl, sym, ap, ap₂, subst, ◌∙◌, arith, inl, inr, eqb-true, eq-eqb, get_or, get_or-take, get_or-drop, drop-drop}
+use Rattle.std.proofs.Common.{◌≡◌, ◌≢◌, ◌⊎◌, ◌≤◌, ℕ, zero, suc, ◌+◌, ◌-◌, ◌*◌, ◌<◌, ◌==◌, nat_lt, Bool, cond, not, ◌||◌, List, length, take, drop, slice_index, Option, Some, None, Result, Ok, Err, All, sym, ap, ap₂, subst, ◌∙◌, arith, inl, inr, eqb-true, eq-eqb, get_or, get_or-take, get_or-drop, drop-drop}
 use Rattle.std.specs.Option.{option_and_then, option_map}
 use Rattle.std.specs.FinMap.{from_entries}
 use Rattle.std.proofs.lemmas.Bool.{cases_Bool, cond-true, cond-false, eqb-false}
@@ -16,8 +16,8 @@ use Rattle.file_format.specs.declared.file.Extent.{Extent}
 use Rattle.file_format.specs.declared.file.Entry.{Entry}
 use Rattle.file_format.specs.declared.file.Slot.{Slot}
 use Rattle.file_format.proofs.Files.{no_entry, get_or_same, each_entry, is_entry-parts, is_version_in-older, is_directory-parts, directory_in-some}
-use Rattle.file_format.proofs.FileDocuments.{HasSequence, directory_there, directory_of-some, is_in_file-parts, summed_directory-some, summed_directory-kept, blocks_of-kept}
-use Rattle.file_format.proofs.FileStands.{slot_bytes, LeadsTo, pair_of-from, pair_of-by, stands-slot, open_slot-kept}
+use Rattle.file_format.proofs.FileDocuments.{directory_there, directory_of-some, is_in_file-parts, summed_directory-some, summed_directory-kept, blocks_of-kept}
+use Rattle.file_format.proofs.FileStands.{slot_bytes, pair_of-from, pair_of-by, stands-slot, open_slot-kept}
 use Rattle.file_format.proofs.DamagedParts.{one_side_same, later_same, part_of_first, part_of_rest}
 use Rattle.file_format.proofs.DamagedSlots.{sums_behind, fields_behind, slot_is, slot_same, open_slot-is}
 use Rattle.file_format.proofs.DamagedDocuments.{directory_in-read, directory_summed, pair_same}

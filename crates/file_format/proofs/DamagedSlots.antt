@@ -1,20 +1,19 @@
 -- A slot of version 3 whose own sum is right is the one that was written, but maybe for its mark and its gate.
-use Rattle.std.proofs.Common.{◌≡◌, ◌⊎◌, ◌<◌, ◌≤◌, ℕ, ◌+◌, ◌*◌, ◌==◌, true, false, cond, List, [], ◌∷◌, ◌++◌, length, take, drop, slice_index, Option, Some, None, take_all, drop-drop, drop-cons, length-take, length-drop, refl, sym, ap, ap₂, subst, ◌∙◌, arith, inl, inr, eqb-true, eq-eqb}
+use Rattle.std.proofs.Common.{◌≡◌, ◌<◌, ◌≤◌, ℕ, ◌+◌, ◌*◌, ◌==◌, true, cond, List, [], ◌∷◌, ◌++◌, length, take, drop, slice_index, Some, None, take_all, drop-drop, drop-cons, length-take, length-drop, refl, sym, ap, ap₂, subst, ◌∙◌, arith, inl, inr, eqb-true, eq-eqb}
 use Rattle.std.proofs.lemmas.Bool.{cases_Bool, cond-true, cond-false}
 use Rattle.std.proofs.lemmas.List.{drop_all, take-append-drop}
 use Rattle.std.proofs.lemmas.List.Elements.{All-take, All-drop, All-same}
 use Rattle.std.specs.Option.{option_and_then}
 use Rattle.byteorder.specs.Endian.{little_bytes, little_number}
 use Rattle.byteorder.specs.Numbers.{little_from-take}
-use Rattle.checksum.specs.Crc32c.{bits, crc32c, AgreeOutsideBurst}
+use Rattle.checksum.specs.Crc32c.{crc32c, AgreeOutsideBurst}
 use Rattle.checksum.proofs.Bytes as bytes_law
 use Rattle.checksum.proofs.Parts.{part_agrees}
 use Rattle.checksum.proofs.Seals.{seal_told}
 use Rattle.geos_model.specs.Bytes.{same_bytes}
 use Rattle.geos_model.specs.Words.{word, double_word, quad_word, word_at, double_word_at, quad_word_at}
-use Rattle.geos_model.proofs.Arrays.{same_bytes-is}
 use Rattle.geos_model.proofs.Numbers.{number_law}
-use Rattle.file_format.specs.File.{extent_at, extent_text, slot_mark, slot_fields, slot_of, if_open, open_slot, sealed_text, is_sealed, is_sealed_by}
+use Rattle.file_format.specs.File.{extent_at, extent_text, slot_mark, slot_fields, if_open, open_slot, sealed_text, is_sealed, is_sealed_by}
 use Rattle.file_format.specs.Damage.{MaybeDamaged, slot_at}
 use Rattle.file_format.specs.declared.file.Slot.{Slot}
 use Rattle.file_format.specs.declared.file.SlotSums.{SlotSums}

@@ -14,7 +14,7 @@ use Rattle.geos_model.specs.Bytes.{same_bytes}
 use Rattle.file_format.specs.File.{Directory, header_text, entry_length, entry_text, directory_text, sum_at, entry_read, entry_start, directory_read, is_rising, is_entry, is_map_block, is_version_in, is_directory, directory_in}
 use Rattle.file_format.specs.declared.file.Entry.{Entry}
 use Rattle.geos_model.proofs.Arrays.{same_bytes-is, same_bytes-refl}
-use Rattle.file_format.proofs.Files.{no_entry, length-entry, entries-more, length-entries, drop-entries, is_directory-parts, is_directory-from, length-directory, some_if}
+use Rattle.file_format.proofs.Files.{no_entry, length-entry, entries-more, drop-entries, is_directory-parts, is_directory-from, length-directory, some_if}
 use Rattle.file_format.specs.Listed.{version_read, HasHeader, IsNextEntry, entries_read, are_entries}
 
 -- one entry more

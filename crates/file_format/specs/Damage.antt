@@ -1,5 +1,5 @@
 -- Damage to a file of version 3: where up to 32 of its bits in a row are others, it isn't read as another document.
-use Rattle.std.specs.Prelude.{◌≡◌, ◌⊎◌, ◌*◌, ◌-◌, ◌<◌, ◌≤◌, ℕ, List, All, true, Option, Some, Result, Ok, length, take, drop}
+use Rattle.std.specs.Prelude.{◌≡◌, ◌⊎◌, ◌*◌, ◌-◌, ◌<◌, ◌≤◌, ℕ, List, All, true, Some, Result, Ok, length, take, drop}
 use Rattle.checksum.specs.Crc32c.{AgreeOutsideBurst}
 use Rattle.geos_model.specs.Document.{Document}
 use Rattle.file_format.specs.File.{slot_fields, open_slot, counting_slot, is_sealed, pair_of, stands}

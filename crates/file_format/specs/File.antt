@@ -321,7 +321,7 @@ pair_of file s =
     if not (is_version s.version) then Err NotDocument
     else if not (s.reserved == 0) || (s.sequence == 0 || not (is_sealed s)) then Err Damaged
     else both (summed_document s.version file (working_sum s) s.working)
-      (summed_document s.version file (saved_sum s) s.saved)
+    (summed_document s.version file (saved_sum s) s.saved)
 
 abbrev pub pair_of_counting : List ℕ → Result Slot Fault → Result (Document × Document) Fault
 pair_of_counting file (Err fault) = Err fault

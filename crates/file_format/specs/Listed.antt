@@ -1,5 +1,5 @@
 -- Directories as code reads them.
-use Rattle.std.specs.Prelude.{◌≡◌, ◌+◌, ◌*◌, ◌<◌, ℕ, List, Bool, true, ◌&&◌, length, take, drop}
+use Rattle.std.specs.Prelude.{◌≡◌, ◌<◌, ℕ, List, Bool, true, ◌&&◌, length, take, drop}
 use Rattle.std.specs.List.{flat_map, list_all}
 use Rattle.geos_model.specs.Words.{word_at}
 use Rattle.geos_model.specs.Bytes.{same_bytes}

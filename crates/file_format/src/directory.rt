@@ -6,9 +6,9 @@ ghost use Rattle.geos_model.specs.declared.fault.Fault.TheVariants.{Memory, Dama
 ghost use Rattle.file_format.specs.Listed.{as_directory, HasHeader, IsNextEntry, entries_read, are_entries};
 
 use crate::extent::{extent_of_text, write_extent};
+use crate::file::Entry;
 use crate::pages::is_in_file;
 use byteorder::{ByteOrder, LittleEndian};
-use crate::file::Entry;
 use geos_model::{Attributes, CAPACITY, Fault, MOST_BLOCKS, MOST_BLOCKS_OF_VERSION_1, VmHandle};
 use std::alloc::{AllocError, Global};
 

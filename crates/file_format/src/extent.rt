@@ -2,8 +2,8 @@
 ghost use Rattle.std.specs.Prelude.{◌≡◌, ◌≤◌, ◌+◌, ◌++◌, length, drop};
 ghost use Rattle.file_format.specs.File.{extent_text, extent_at};
 
-use byteorder::{ByteOrder, LittleEndian};
 use crate::file::Extent;
+use byteorder::{ByteOrder, LittleEndian};
 
 pub(crate) fn write_extent(text: &mut [u8], extent: Extent)
     requires { 8 ≤ length text.old }

@@ -25,7 +25,7 @@ pub use pages::{FIRST_PAGE, is_in_file, page_behind, page_count, start_of};
 pub use reading::{read_extent, read_length};
 pub use slot::{LONGEST_SLOT, SLOT_MARK, SlotText, own_sum, read_slot, write_slot};
 pub use stored_directory::{ReadDirectory, look_for_directory, read_directory};
-pub use sum::has_sum;
 pub use stored_slot::{
     FoundSlot, RawSlot, check_slot, choose, find_slot, is_version, read_open_slot, read_raw_slot,
 };
+pub use sum::has_sum;

@@ -4,8 +4,8 @@ ghost use Rattle.file_format.specs.File.{bytes_in};
 ghost use Rattle.vm_store.specs.Facts.{FailedSince, Holds};
 ghost use Rattle.file_format.specs.Reading.{IsResourceFault, OnlyReadsStore};
 
-use crate::pages::start_of;
 use crate::file::Extent;
+use crate::pages::start_of;
 use geos_model::Fault;
 use std::alloc::Global;
 use vm_store::Store;

@@ -4,10 +4,10 @@ ghost use Rattle.checksum.specs.Crc32c.{crc32c};
 ghost use Rattle.file_format.specs.File.{sealed_text, slot_fields, slot_of, slot_sums_at, slot_sums_text, slot_text};
 
 use crate::extent::{extent_of_text, write_extent};
+use crate::file::{Slot, SlotSums};
 use arrayvec::ArrayVec;
 use byteorder::{ByteOrder, LittleEndian};
 use checksum::crc32c;
-use crate::file::{Slot, SlotSums};
 
 /// How many bytes a slot's text has at most: 32, and twelve for three sums.
 pub const LONGEST_SLOT: usize = 44;

@@ -6,10 +6,10 @@ ghost use Rattle.file_format.specs.Listed.{as_directory};
 ghost use Rattle.file_format.specs.Reading.{IsDirectoryPlace, IsFormedRead, IsDirectoryRead, IsReadRefusal, IsResourceFault, OnlyReadsStore};
 
 use crate::directory::{Directory, HEADER_LENGTH, LONGEST_DIRECTORY, read_dir};
+use crate::file::Extent;
 use crate::pages::is_in_file;
 use crate::reading::read_extent;
 use crate::sum::has_sum;
-use crate::file::Extent;
 use geos_model::Fault;
 use std::alloc::Global;
 use vm_store::Store;

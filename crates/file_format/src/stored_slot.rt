@@ -6,8 +6,8 @@ ghost use Rattle.vm_store.specs.Facts.{FailedSince};
 ghost use Rattle.file_format.specs.Reading.{IsOpenRefusal, IsResourceFault, OnlyReadsStore};
 ghost use Rattle.file_format.specs.Slots.{Beaten, IsVersion, IsFoundSlot, IsRawSlot, chosen_by, header_verdict, number_of, slot_stands};
 
-use crate::slot::{LONGEST_SLOT, own_sum, read_slot};
 use crate::file::{PAGE, Slot};
+use crate::slot::{LONGEST_SLOT, own_sum, read_slot};
 use geos_model::Fault;
 use vm_store::Store;
 

@@ -1,4 +1,4 @@
-use Rattle.std.proofs.Common.{◌≡◌, ℕ, length, eqb-true, ap, sym, ◌∙◌}
+use Rattle.std.proofs.Common.{◌≡◌, length, eqb-true, ap, sym, ◌∙◌}
 use Rattle.byteorder.specs.Endian.{little_number}
 use Rattle.file_format.specs.File.{entry_start}
 use Rattle.file_format.proofs.DirectoryLemmas.{has_header, header-read}

@@ -1,4 +1,3 @@
-use Rattle.std.proofs.Common.{◌≡◌}
 use Rattle.file_format.proofs.DamagedFiles.{documents_same, file_told}
 use Rattle.file_format.proofs.DamagedSlots.{open_same}
 use Rattle.file_format.proofs.law.damage_law.Goals as goal

@@ -1,7 +1,7 @@
 use Rattle.std.proofs.Common.{◌≡◌, ℕ, List, drop, slice_index, Option, ap, ap₂, ◌∙◌, drop-drop}
 use Rattle.byteorder.specs.Endian.{little_number}
 use Rattle.geos_model.specs.Words.{word_at, quad_word_at}
-use Rattle.file_format.specs.File.{extent_at, slot_sums_at}
+use Rattle.file_format.specs.File.{extent_at}
 use Rattle.file_format.specs.declared.file.Extent.{Extent}
 use Rattle.file_format.specs.declared.file.Slot.{Slot}
 use Rattle.file_format.specs.declared.file.SlotSums.{SlotSums}
