@@ -1,0 +1,13 @@
+pub mod DamagedDocuments
+pub mod DamagedFiles
+pub mod DamagedParts
+pub mod DamagedSlots
+pub mod DirectoryLemmas
+pub mod FileDocuments
+pub mod FileExamples
+pub mod FileStands
+pub mod Files
+pub mod KindsLemmas
+pub mod LooksLemmas
+pub mod StoredDirectoryLemmas
+pub mod StoredSlotLemmas
