@@ -1,0 +1,2 @@
+pub mod PlacingLemmas
+pub mod SpaceLemmas

@@ -1,0 +1,8 @@
+//! Space in a document file: which pages are free, and which free extent bytes get.
+#![tactic(auto)]
+
+mod free_space;
+mod limit;
+
+pub use free_space::FreeSpace;
+pub use limit::{MOST_EXTENTS, MOST_LONG};
