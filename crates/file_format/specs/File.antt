@@ -1,6 +1,7 @@
 -- A document file: two slots, of which one counts and names the directories of the updated and of the saved document.
--- The file is of the version of the slot that counts, 1 to 3, and a directory has a version of its own. In version 3 what
--- is read is held to what was written: a slot has the sums of its directories and its own, a directory those of the images.
+-- The file is of the version of the slot that counts, 1 to 3, and a directory has a version of its own. In version 3
+-- what is read is held to what was written: a slot has the sums of its directories and its own, a directory those of
+-- the images.
 use Rattle.std.specs.Prelude.{ℕ, List, [], ◌∷◌, ◌++◌, ◌+◌, ◌*◌, ◌/◌, Bool, true, not, ◌==◌, ◌&&◌, ◌||◌, nat_le, nat_lt, length, map, take, drop, slice_index, if◌then◌else◌, Option, Some, None, Result, Ok, Err}
 use Rattle.std.specs.List.{range_with_len, flat_map, list_all, list_any}
 use Rattle.std.specs.Option.{option_and_then, option_map}
