@@ -1,10 +1,10 @@
 -- Which log a session begins with on a file that is opened.
 use Rattle.std.proofs.Common.{◌≡◌, ◌∙◌, ℕ, Bool, true, false, IsTrue, IfOk, MatchResult, Some, Ok, Err, ap, refl, sym}
 use Rattle.geos_model.specs.Document.{Document}
-use Rattle.geos_model.specs.File.{stands}
+use Rattle.file_format.specs.File.{stands}
 use Rattle.geos_model.specs.Machine.{Machine, opened_machine}
 use Rattle.vm_store.specs.Facts.{StoreFacts}
-use Rattle.vm_file.specs.Documents.{has_one_directory, sequence_in}
+use Rattle.document_file.specs.Documents.{has_one_directory, sequence_in}
 use Rattle.vm_blocks.specs.Opening.{IsOpenedFrom, IsNotOpened}
 use Rattle.undo_log.specs.Logging.{Log, fresh_log}
 use Rattle.undo_log.specs.Sessions.{file_of, machine_of}

@@ -4,7 +4,7 @@ use Rattle.geos_model.specs.declared.fault.Fault.{Fault}
 use Rattle.geos_model.specs.declared.fault.Fault.TheVariants.{File, Memory}
 use Rattle.vm_store.specs.Facts.{StoreFacts}
 use Rattle.vm_store.specs.declared.fault.StoreFault.{StoreFault}
-use Rattle.vm_file.specs.declared.file.Refused.{Refused}
+use Rattle.document_file.specs.declared.file.Refused.{Refused}
 use Rattle.undo_log.specs.Sessions.{SessionState}
 use Rattle.c_sessions.specs.declared.files.FileNumber.{FileNumber}
 

@@ -5,7 +5,7 @@ use Rattle.geos_model.specs.Reply.{Accepted, Refused}
 use Rattle.geos_model.specs.declared.command.Command.TheVariants as commands
 use Rattle.geos_model.specs.declared.fault.Fault.{Fault}
 use Rattle.vm_store.specs.Facts.{StoreFacts}
-use Rattle.vm_file.specs.Documents.{has_one_directory}
+use Rattle.document_file.specs.Documents.{has_one_directory}
 use Rattle.vm_blocks.specs.SavingAs.{IsSavedAs}
 use Rattle.vm_blocks.specs.Opening.{IsOpenedFrom, IsNotOpened, IsMadeIn, IsNotMade}
 use Rattle.undo_log.specs.Committing.{IsBusy, IsSaveAsRefused}

@@ -5,10 +5,10 @@ ghost use Rattle.c_sessions.specs.Keeping.{IsCreation, IsMoved, IsNotMoved, IsOp
 
 use crate::codes::{BAD_ARGUMENT, code_of};
 use crate::files::{FileNumber, ProgramFiles};
+use document_file::Refused;
 use geos_model::Fault;
 use std::alloc::Global;
 use undo_log::Session;
-use vm_file::Refused;
 use vm_store::Store;
 
 /// A session, and the number of the file that it is in.

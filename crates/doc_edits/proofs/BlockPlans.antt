@@ -23,7 +23,7 @@ use Rattle.geos_model.specs.declared.command.Kind.TheVariants.{Plain, Made, Free
 use Rattle.geos_model.specs.declared.block.Attributes.{Attributes}
 use Rattle.vm_blocks.specs.ChangePlaces.{member_places}
 use Rattle.vm_blocks.specs.Changes.{HasAttributes, IsFreeHandle, AreFree, CanRemove, CanRemoveAll}
-use Rattle.vm_file.specs.Members.{imaged_blocks}
+use Rattle.document_file.specs.Members.{imaged_blocks}
 use Rattle.vm_blocks.specs.declared.change.Change.TheVariants as changes
 use Rattle.vm_blocks.specs.declared.change.Change.TheVariants.{BlocksIn, BlocksOut}
 use Rattle.vm_blocks.proofs.KindLemmas.{attributes_for_kind-same}

@@ -25,10 +25,10 @@ use Rattle.vm_blocks.specs.Changes.{CanApply}
 use Rattle.vm_blocks.specs.Keeping.{KeepsBlocks, IsEnvironmentFault, IsHonest, is_full}
 use Rattle.vm_blocks.proofs.KeepingLaws.{keeps-refl}
 use Rattle.vm_blocks.specs.Preparing.{CanCarryOut}
-use Rattle.vm_file.specs.Members.{imaged_blocks}
+use Rattle.document_file.specs.Members.{imaged_blocks}
 use Rattle.vm_blocks.specs.declared.change.Change.{Change}
 use Rattle.vm_blocks.specs.declared.change.Change.TheVariants.{BlocksIn, BlocksOut}
-use Rattle.vm_file.specs.declared.member.Member.{Member}
+use Rattle.document_file.specs.declared.member.Member.{Member}
 use Rattle.vm_blocks.specs.declared.member.Members.{Members}
 use Rattle.vm_chains.specs.Answers.{RefusesChain}
 use Rattle.doc_edits.specs.Found.{AreLate}

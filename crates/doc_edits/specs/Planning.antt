@@ -18,7 +18,7 @@ use Rattle.geos_model.specs.declared.command.Kind.TheVariants.{Plain, In, Made, 
 use Rattle.chunk_edits.specs.Patching.{total_given, total_taken}
 use Rattle.vm_store.specs.Facts.{StoreFacts}
 use Rattle.vm_blocks.specs.State.{CacheState}
-use Rattle.vm_file.specs.Members.{imaged_blocks}
+use Rattle.document_file.specs.Members.{imaged_blocks}
 use Rattle.vm_blocks.specs.ChangePlaces.{change_places}
 use Rattle.vm_blocks.specs.Changes.{after_change, content_bytes, CanApply}
 use Rattle.vm_blocks.specs.declared.change.Change.{Change}

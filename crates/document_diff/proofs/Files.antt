@@ -1,10 +1,10 @@
 -- Files that are only read.
 use Rattle.std.proofs.Common.{◌≡◌, IsTrue, sym, subst}
 use Rattle.vm_store.specs.Facts.{StoreFacts}
-use Rattle.vm_format.proofs.LooksLemmas.{raised_later, still}
-use Rattle.vm_format.specs.Reading.{OnlyReadsStore}
-use Rattle.vm_file.specs.Disk.{IsFileDocument}
-use Rattle.vm_file.specs.StoredDocuments.{AreFileDocuments, OnlyReadsDocuments, StoredState}
+use Rattle.file_format.proofs.LooksLemmas.{raised_later, still}
+use Rattle.file_format.specs.Reading.{OnlyReadsStore}
+use Rattle.document_file.specs.Disk.{IsFileDocument}
+use Rattle.document_file.specs.StoredDocuments.{AreFileDocuments, OnlyReadsDocuments, StoredState}
 use Rattle.document_diff.specs.Diffs.{document_of}
 use Rattle.document_diff.specs.Faults.{IsDiffRefusal}
 use Rattle.document_diff.specs.declared.fault.DiffFault.{DiffFault}

@@ -1,7 +1,7 @@
 -- What differs between two documents, as text.
 use Rattle.std.specs.Prelude.{◌≡◌, ℕ, List, Bool, true, ◌==◌, length}
 use Rattle.geos_model.specs.Document.{Document}
-use Rattle.vm_file.specs.StoredDocuments.{StoredState}
+use Rattle.document_file.specs.StoredDocuments.{StoredState}
 use Rattle.document_diff.specs.Differences.{compared}
 use Rattle.document_diff.specs.Lines.{text}
 use Rattle.document_diff.specs.declared.version.Version.{Version}

@@ -6,10 +6,10 @@ ghost use Rattle.geos_model.specs.declared.command.Body.{Body};
 ghost use Rattle.document_diff.specs.Blocks.{body_of};
 ghost use Rattle.document_diff.specs.Faults.{IsImageRefusal};
 
+use file_format::BodyKind;
 use geos_model::{Attributes, Fault};
 use lmem_heap::Heap;
 use std::alloc::Global;
-use vm_format::BodyKind;
 
 /// The body of a block.
 #[derive(Drop)]

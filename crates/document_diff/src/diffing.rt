@@ -3,7 +3,7 @@
 
 ghost use Rattle.std.specs.Prelude.{◌≡◌, ◌&&◌, IfErr, IfOk, IsTrue, OnOk};
 ghost use Rattle.std.specs.Io.KnownBytes.{Appends};
-ghost use Rattle.vm_file.specs.StoredDocuments.{OnlyReadsDocuments};
+ghost use Rattle.document_file.specs.StoredDocuments.{OnlyReadsDocuments};
 ghost use Rattle.document_diff.specs.Differences.{blocks_compared, compared_at, map_compared};
 ghost use Rattle.document_diff.specs.Diffs.{TellsSame, diff_text, document_of, is_no_text};
 ghost use Rattle.document_diff.specs.Faults.{IsDiffRefusal, IsOwnRefusal, IsWriteFault};
@@ -13,10 +13,10 @@ use crate::comparing::{push_blocks, push_map_blocks};
 use crate::fault::{DiffFault, Side};
 use crate::reading::read_block;
 use crate::version::Version;
+use document_file::StoredDocuments;
 use geos_model::{MOST_BLOCKS, VmHandle};
 use std::alloc::Global;
 use std::io::Write;
-use vm_file::StoredDocuments;
 use vm_store::Store;
 
 fn send<W: Write>(bytes: &[u8], writer: &mut W) -> Result<bool, DiffFault>

@@ -2,16 +2,16 @@
 ghost use Rattle.std.specs.Prelude.{◌≡◌, IfErr, IfOk, IsTrue, Some, true};
 ghost use Rattle.std.specs.FinMap.{get};
 ghost use Rattle.geos_model.specs.Document.{attributes_of, is_live};
-ghost use Rattle.vm_file.specs.StoredDocuments.{OnlyReadsDocuments};
+ghost use Rattle.document_file.specs.StoredDocuments.{OnlyReadsDocuments};
 ghost use Rattle.document_diff.specs.Blocks.{block_of, found_block};
 ghost use Rattle.document_diff.specs.Diffs.{document_of};
 ghost use Rattle.document_diff.specs.Faults.{IsReadRefusal};
 
 use crate::block::{BlockRead, read_body};
 use crate::version::Version;
+use document_file::StoredDocuments;
 use geos_model::{Attributes, Fault, VmHandle};
 use std::alloc::Global;
-use vm_file::StoredDocuments;
 use vm_store::Store;
 
 // The block under a handle, which is live.

@@ -2,12 +2,12 @@
 ghost use Rattle.std.specs.Prelude.{◌≡◌, IfOk, IfSome, IsTrue, is_some, true};
 ghost use Rattle.geos_model.specs.Document.{attributes_of, block_at, is_live};
 ghost use Rattle.geos_model.specs.Image.{image};
-ghost use Rattle.vm_file.specs.Effects.{Fails, NoFault};
-ghost use Rattle.vm_file.specs.StoredDocuments.{OnlyReadsDocuments};
+ghost use Rattle.document_file.specs.Effects.{Fails, NoFault};
+ghost use Rattle.document_file.specs.StoredDocuments.{OnlyReadsDocuments};
 ghost use Rattle.document_diff.specs.Diffs.{document_of};
 
+use document_file::StoredDocuments;
 use geos_model::{Attributes, Fault, VmHandle};
-use vm_file::StoredDocuments;
 use vm_store::Store;
 
 /// Which documents of files are compared.

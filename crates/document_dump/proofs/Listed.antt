@@ -5,13 +5,13 @@ use Rattle.std.specs.Option.{option_and_then, option_map, option_map_or, unwrap_
 use Rattle.std.specs.Ordering.{nat_cmp}
 use Rattle.std.specs.FinMap.{FinMap, get, get-empty, from_entries}
 use Rattle.geos_model.specs.Document.{Block, Document, attributes_of, block_at, empty_document, is_live, is_valid_body, no_attributes, no_block}
-use Rattle.geos_model.specs.File.{bytes_in, blocks_of_entries, block_of, if_typed, prepended}
-use Rattle.geos_model.specs.Image.{body_of, image}
+use Rattle.file_format.specs.File.{bytes_in, blocks_of_entries, block_of, if_typed, prepended, summed_body}
+use Rattle.geos_model.specs.Image.{image}
 use Rattle.geos_model.specs.declared.block.Attributes.{Attributes}
 use Rattle.geos_model.specs.declared.command.Body.{Body}
-use Rattle.geos_model.specs.declared.file.Entry.{Entry}
-use Rattle.geos_model.proofs.Files.{body_of-some}
-use Rattle.geos_model.proofs.FileDocuments.{if_typed-some}
+use Rattle.file_format.specs.declared.file.Entry.{Entry}
+use Rattle.file_format.proofs.Files.{body_of-some}
+use Rattle.file_format.proofs.FileDocuments.{if_typed-some, summed_body-some}
 use Rattle.geos_model.proofs.HeapEdits.{get-put_same, get-put_other}
 use Rattle.geos_model.specs.declared.command.Edit.{Edit}
 use Rattle.geos_model.specs.declared.command.Edit.TheVariants as edits
@@ -51,9 +51,9 @@ pub record IsBlockOf (file : List ℕ) (e : Entry) (b : Block) : Type 0 where
 
 block_there : (file : List ℕ) (e : Entry) (b : Numbered) → block_of file e ≡ Some b → (b.0 ≡ e.handle.0) × IsBlockOf file e b.1
 block_there file e b is =
-    let body = body_there e.handle.0 e.attributes (option_and_then (if_typed e.attributes.heap_type) (body_of (bytes_in file e.extent))) b is in
-    let typed = if_typed-some e.attributes.heap_type (body_of (bytes_in file e.extent)) body.0 body.1.0 in
-    let good = body_of-some (bytes_in file e.extent) body.0 typed.0 in
+    let body = body_there e.handle.0 e.attributes (option_and_then (if_typed e.attributes.heap_type) (summed_body e.sum (bytes_in file e.extent))) b is in
+    let typed = if_typed-some e.attributes.heap_type (summed_body e.sum (bytes_in file e.extent)) body.0 body.1.0 in
+    let good = body_of-some (bytes_in file e.extent) body.0 (summed_body-some e.sum (bytes_in file e.extent) body.0 typed.0).1 in
     subst (λ (x : Numbered). (x.0 ≡ e.handle.0) × IsBlockOf file e x.1) (sym body.1.1) (refl, record { attributes = refl; valid = good.0; image_is = good.1 })
 
 abbrev pub map_of : List Numbered → FinMap nat_cmp Block

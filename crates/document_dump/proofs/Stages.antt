@@ -1,7 +1,7 @@
 -- The documents of a stage stay while a file is only read.
 use Rattle.std.proofs.Common.{◌≡◌, IsTrue, refl, sym, subst}
 use Rattle.vm_store.specs.Facts.{StoreFacts}
-use Rattle.vm_file.specs.StoredDocuments.{OnlyReadsDocuments, StoredState}
+use Rattle.document_file.specs.StoredDocuments.{OnlyReadsDocuments, StoredState}
 use Rattle.document_dump.specs.Versions.{old_in, new_in}
 use Rattle.document_dump.specs.declared.versions.Stage.{Stage}
 use Rattle.document_dump.specs.declared.versions.Stage.TheVariants as stages

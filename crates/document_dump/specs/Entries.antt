@@ -1,8 +1,8 @@
 -- A document by its entries.
 use Rattle.std.specs.Prelude.{◌≡◌, ◌==◌, ℕ, true, List, Option, Some, find, is_some}
 use Rattle.geos_model.specs.Document.{Document}
-use Rattle.geos_model.specs.File.{Directory, blocks_of_entries, document_of}
-use Rattle.geos_model.specs.declared.file.Entry.{Entry}
+use Rattle.file_format.specs.File.{Directory, blocks_of_entries, document_of}
+use Rattle.file_format.specs.declared.file.Entry.{Entry}
 
 -- a directory of this map block and these entries
 abbrev pub listing : ℕ → List Entry → Directory

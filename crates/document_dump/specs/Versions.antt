@@ -1,6 +1,6 @@
 -- The documents of a file between which a dump's edits lead.
 use Rattle.geos_model.specs.Document.{Document, empty_document}
-use Rattle.vm_file.specs.StoredDocuments.{StoredState}
+use Rattle.document_file.specs.StoredDocuments.{StoredState}
 use Rattle.document_dump.specs.declared.versions.Stage.{Stage}
 use Rattle.document_dump.specs.declared.versions.Stage.TheVariants as stages
 

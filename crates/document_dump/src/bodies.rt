@@ -20,11 +20,11 @@ use crate::lines::{
     push_alloc, push_free, push_new_heap, push_new_raw, push_type, push_write, push_write_raw,
 };
 use crate::rows::push_array_edits;
+use file_format::BodyKind;
 use file_report::read_heap;
 use geos_model::{Attributes, ChunkHandle, VmHandle};
 use lmem_heap::Heap;
 use std::alloc::{AllocError, Global};
-use vm_format::BodyKind;
 
 /// How many bytes a write has at most.
 const PIECE: usize = 32;

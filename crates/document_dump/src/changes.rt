@@ -5,7 +5,7 @@ ghost use Rattle.std.specs.Prelude.{◌≡◌, ◌++◌, ◌+◌, ◌≤◌, ◌
 ghost use Rattle.geos_model.specs.Bytes.{same_bytes};
 ghost use Rattle.geos_model.specs.Document.{Document, attributes_of, empty_document, is_live};
 ghost use Rattle.geos_model.specs.declared.command.Edit.TheVariants as edits;
-ghost use Rattle.vm_file.specs.StoredDocuments.{OnlyReadsDocuments};
+ghost use Rattle.document_file.specs.StoredDocuments.{OnlyReadsDocuments};
 ghost use Rattle.document_dump.specs.Faults.{IsDumpRefusal, IsRefusalOf, IsChangeOf};
 ghost use Rattle.document_dump.specs.Lines.{text};
 ghost use Rattle.document_dump.specs.Changes.{after_block, attributes_set, block_changed, block_name, filler, map_set, taken_out, user_id_set};
@@ -16,9 +16,9 @@ use crate::bodies::{push_block, push_type_set};
 use crate::fault::DumpFault;
 use crate::lines::{push_free_block, push_map, push_new_raw, push_user_id};
 use crate::versions::Stage;
+use document_file::StoredDocuments;
 use geos_model::{Attributes, VmHandle};
 use std::alloc::{AllocError, Global};
-use vm_file::StoredDocuments;
 use vm_store::Store;
 
 /// What is done of the block under a handle.

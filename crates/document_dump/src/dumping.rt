@@ -4,7 +4,7 @@
 ghost use Rattle.std.specs.Prelude.{◌≡◌, ◌++◌, ◌+◌, ◌≤◌, ◌<◌, ◌||◌, [], OnOk, IfErr, IfOk, IsTrue, codes};
 ghost use Rattle.std.specs.Io.KnownBytes.{Appends};
 ghost use Rattle.geos_model.specs.Document.{vm_handles};
-ghost use Rattle.vm_file.specs.StoredDocuments.{OnlyReadsDocuments};
+ghost use Rattle.document_file.specs.StoredDocuments.{OnlyReadsDocuments};
 ghost use Rattle.document_dump.specs.Faults.{IsDumpRefusal, IsWriteFault};
 ghost use Rattle.document_dump.specs.Lines.{text};
 ghost use Rattle.document_dump.specs.Changes.{after_block, block_changed, block_freed, blocks_changed, blocks_freed, changes, first_progress, progress_after};
@@ -15,10 +15,10 @@ use crate::changes::{Progress, change_of, push_change, push_map_set};
 use crate::fault::DumpFault;
 use crate::lines::push_free_block;
 use crate::versions::Stage;
+use document_file::StoredDocuments;
 use geos_model::{MOST_BLOCKS, VmHandle};
 use std::alloc::{AllocError, Global};
 use std::io::Write;
-use vm_file::StoredDocuments;
 use vm_store::Store;
 
 /// Which documents of a file are dumped.

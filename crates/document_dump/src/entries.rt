@@ -4,7 +4,7 @@
 ghost use Rattle.std.specs.Prelude.{◌≡◌, ◌++◌, ◌+◌, ◌≤◌, ◌<◌, ℕ, List, OnOk, IfErr, IfOk, IsTrue, is_some};
 ghost use Rattle.std.specs.Io.KnownBytes.{Appends};
 ghost use Rattle.geos_model.specs.Document.{Document, empty_document, vm_handles};
-ghost use Rattle.vm_format.specs.Reading.{OnlyReadsStore};
+ghost use Rattle.file_format.specs.Reading.{OnlyReadsStore};
 ghost use Rattle.document_dump.specs.Changes.{after_block, block_changed, block_freed, blocks_changed, blocks_freed, changes, first_progress, progress_after};
 ghost use Rattle.document_dump.specs.Dumps.{is_some_text, saved_text};
 ghost use Rattle.document_dump.specs.Entries.{HasBlocks, IsListed, entry_with};
@@ -16,10 +16,10 @@ use crate::changes::{Change, Progress, push_change, push_map_set};
 use crate::dumping::{Written, either, send};
 use crate::fault::DumpFault;
 use crate::lines::push_free_block;
-use geos_model::{Entry, MOST_BLOCKS, VmHandle};
+use file_format::{Entry, read_extent};
+use geos_model::{MOST_BLOCKS, VmHandle};
 use std::alloc::{AllocError, Global};
 use std::io::Write;
-use vm_format::read_extent;
 use vm_store::Store;
 
 fn entry_with(entries: &[Entry], block: VmHandle) -> Option<Entry>

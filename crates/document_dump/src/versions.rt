@@ -3,8 +3,8 @@ ghost use Rattle.std.specs.Prelude.{◌≡◌, IfSome, is_some};
 ghost use Rattle.geos_model.specs.Document.{attributes_of, is_live};
 ghost use Rattle.document_dump.specs.Versions.{new_in, old_in};
 
+use document_file::StoredDocuments;
 use geos_model::VmHandle;
-use vm_file::StoredDocuments;
 use vm_store::Store;
 
 /// A part of a dump.

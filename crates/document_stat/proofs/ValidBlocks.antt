@@ -10,14 +10,13 @@ use Rattle.std.proofs.lemmas.List.{length-map, length-append}
 use Rattle.std.proofs.lemmas.List.Elements.{All-nil, All-cons, All-head, All-tail, All-weaker}
 use Rattle.std.proofs.lemmas.List.Sums.{length-filter, count_by-le-length}
 use Rattle.geos_model.specs.Document.{Block, chunks_of_body, is_valid_body}
-use Rattle.geos_model.specs.File.{block_of, blocks_of_entries, bytes_in, if_typed, is_entry, is_rising, prepended}
-use Rattle.geos_model.specs.Image.{body_of}
+use Rattle.file_format.specs.File.{block_of, blocks_of_entries, bytes_in, if_typed, is_entry, is_rising, prepended, summed_body}
 use Rattle.geos_model.specs.declared.block.Attributes.{Attributes}
 use Rattle.geos_model.specs.declared.command.Body.{Body}
 use Rattle.geos_model.specs.declared.command.Body.TheVariants.{Raw, Heap}
-use Rattle.geos_model.specs.declared.file.Entry.{Entry}
-use Rattle.geos_model.proofs.FileDocuments.{if_typed-some}
-use Rattle.geos_model.proofs.Files.{body_of-some, entry-low, is_entry-parts}
+use Rattle.file_format.specs.declared.file.Entry.{Entry}
+use Rattle.file_format.proofs.FileDocuments.{if_typed-some, summed_body-some}
+use Rattle.file_format.proofs.Files.{body_of-some, entry-low, is_entry-parts}
 use Rattle.document_stat.specs.Arrays.{is_kind, kind_of_array}
 use Rattle.document_stat.specs.Counted.{Blocks, IsBlockStat, IsCount, all_array_items, all_chunk_items, array_item, array_items, block_item, chunk_item, chunk_items, chunks_of_block, heap_items, raw_items, typed_items}
 use Rattle.document_stat.specs.Tallies.{most_items}
@@ -41,9 +40,9 @@ body_there h a (Some body) b is = (body, refl, cc is)
 
 block_is : (file : List ℕ) (e : Entry) (b : ℕ × Block) → block_of file e ≡ Some b → (b.0 ≡ e.handle.0) × (is_valid_body b.1.body ≡ true)
 block_is file e b is =
-    let body = body_there e.handle.0 e.attributes (option_and_then (if_typed e.attributes.heap_type) (body_of (bytes_in file e.extent))) b is in
-    let typed = if_typed-some e.attributes.heap_type (body_of (bytes_in file e.extent)) body.0 body.1 in
-    let good = body_of-some (bytes_in file e.extent) body.0 typed.0 in
+    let body = body_there e.handle.0 e.attributes (option_and_then (if_typed e.attributes.heap_type) (summed_body e.sum (bytes_in file e.extent))) b is in
+    let typed = if_typed-some e.attributes.heap_type (summed_body e.sum (bytes_in file e.extent)) body.0 body.1 in
+    let good = body_of-some (bytes_in file e.extent) body.0 (summed_body-some e.sum (bytes_in file e.extent) body.0 typed.0).1 in
     subst (λ (x : ℕ × Block). (x.0 ≡ e.handle.0) × (is_valid_body x.1.body ≡ true)) body.2 (refl, good.0)
 
 rank-less : (x y : ℕ) → x < y → T (is_lt (nat_cmp x y))

@@ -3,12 +3,12 @@ use Rattle.std.specs.Prelude.{◌≡◌, ◌⊎◌, ◌≤◌, ℕ, IsTrue, List
 use Rattle.std.specs.FinMap.{entries}
 use Rattle.vm_store.specs.Facts.{StoreFacts}
 use Rattle.geos_model.specs.Document.{Document}
-use Rattle.geos_model.specs.File.{counting_slot, directory_of, document_at, open_slot, pages_of, stands}
+use Rattle.file_format.specs.File.{counting_slot, open_slot, pages_of, saved_sum, stands, summed_directory, summed_document, working_sum}
 use Rattle.geos_model.specs.declared.fault.Fault.{Fault}
-use Rattle.geos_model.specs.declared.file.Slot.{Slot}
-use Rattle.vm_format.specs.Listed.{as_directory}
-use Rattle.vm_format.specs.Reading.{IsResourceFault}
-use Rattle.vm_format.specs.Slots.{header_verdict}
+use Rattle.file_format.specs.declared.file.Slot.{Slot}
+use Rattle.file_format.specs.Listed.{as_directory}
+use Rattle.file_format.specs.Reading.{IsResourceFault}
+use Rattle.file_format.specs.Slots.{header_verdict}
 use Rattle.file_report.specs.Pages.{AreFreePages, file_usages, slot_usages}
 use Rattle.file_report.specs.declared.pages.Usage.{Usage}
 use Rattle.document_stat.specs.Counted.{IsBlockStat}
@@ -26,8 +26,9 @@ pub record IsChosen (file : List ℕ) (s : Slot) : Type 0 where
 
 pub record IsCountingSlot (file : List ℕ) (c : CountingSlot) : Type 0 where
   pub chosen : IsChosen file c.slot
-  pub updated : directory_of c.slot.version file c.slot.working ≡ Some (as_directory c.updated)
-  pub saved : directory_of c.slot.version file c.slot.saved ≡ Some (as_directory c.saved)
+  pub updated : summed_directory c.slot.version file (working_sum c.slot) c.slot.working
+      ≡ Some (as_directory c.updated)
+  pub saved : summed_directory c.slot.version file (saved_sum c.slot) c.slot.saved ≡ Some (as_directory c.saved)
 
 -- what it leads to
 abbrev pub counting_usages : CountingSlot → List Usage
@@ -46,7 +47,8 @@ pub record IsDocumentStat (d : Document) (s : DocumentStat) : Type 0 where
 -- the saved document of a slot is told of, or is the updated one
 abbrev pub IsSavedStat : List ℕ → Slot → Option DocumentStat → Type 0
 IsSavedStat file s None = s.saved ≡ s.working
-IsSavedStat file s (Some stat) = (d : Document) × (document_at s.version file s.saved ≡ Some d) × IsDocumentStat d stat
+IsSavedStat file s (Some stat) =
+    (d : Document) × (summed_document s.version file (saved_sum s) s.saved ≡ Some d) × IsDocumentStat d stat
 
 pub record IsFileStat (file : List ℕ) (s : FileStat) : Type 0 where
   pub slot : Slot

@@ -11,12 +11,12 @@ ghost use Rattle.document_stat.specs.Tallies.{AddsIfAny, most_items};
 
 use crate::chunks::ChunkStat;
 use crate::tally::{Item, Subject, Tally};
+use document_file::Image;
 use file_report::read_heap;
 use geos_model::{Attributes, CAPACITY, Fault, VmHandle};
 use lmem_heap::Heap;
 use std::alloc::{AllocError, Global};
 use std::collections::BTreeMap;
-use vm_file::Image;
 
 /// The blocks of a document. A raw block's size is the number of its bytes, and a heap's the number of bytes that it
 /// needs of the 65,520 that each heap has.

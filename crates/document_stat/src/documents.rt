@@ -1,15 +1,16 @@
 //! The blocks of a directory, read and counted.
 ghost use Rattle.std.specs.Prelude.{◌≡◌, IsTrue, IfOk, IfErr, IsErrOf, Some, None};
-ghost use Rattle.geos_model.specs.File.{block_of, blocks_of_entries};
+ghost use Rattle.file_format.specs.File.{block_of, blocks_of_entries};
 ghost use Rattle.vm_store.specs.Facts.{FailedSince};
-ghost use Rattle.vm_format.specs.Reading.{IsReadRefusal, OnlyReadsStore};
+ghost use Rattle.file_format.specs.Reading.{IsReadRefusal, OnlyReadsStore};
 ghost use Rattle.file_report.specs.Reading.{block_with};
 ghost use Rattle.document_stat.specs.Counted.{Blocks, IsCount};
 
 use crate::blocks::BlockStat;
-use geos_model::{Entry, Fault};
+use document_file::Image;
+use file_format::Entry;
+use geos_model::Fault;
 use std::alloc::Global;
-use vm_file::Image;
 use vm_store::Store;
 
 // The image of an entry, of a body that can have its type. Damaged, Memory, File.

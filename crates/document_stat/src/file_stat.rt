@@ -1,20 +1,20 @@
 //! What a document file has, counted.
 ghost use Rattle.std.specs.Prelude.{◌≡◌, ℕ, true, IsTrue, IfOk, IfErr, IsErrOf, Some, None};
 ghost use Rattle.geos_model.specs.Document.{Document};
-ghost use Rattle.geos_model.specs.File.{document_of, is_directory};
-ghost use Rattle.vm_format.specs.Listed.{as_directory};
+ghost use Rattle.file_format.specs.File.{document_of, is_directory};
+ghost use Rattle.file_format.specs.Listed.{as_directory};
 ghost use Rattle.vm_store.specs.Facts.{FailedSince};
-ghost use Rattle.vm_format.specs.Reading.{IsReadRefusal, OnlyReadsStore};
+ghost use Rattle.file_format.specs.Reading.{IsReadRefusal, OnlyReadsStore};
 ghost use Rattle.document_stat.specs.Files.{IsCountingSlot, IsDocumentStat, IsFileStat, IsRefusal, IsSavedStat};
 
 use crate::blocks::BlockStat;
 use crate::counting::{CountingSlot, read_counting_slot};
 use crate::documents::count_blocks;
 use crate::pages::count_pages;
+use file_format::{Directory, page_count, read_length};
 use file_report::FreePages;
 use geos_model::{Fault, VmHandle};
 use std::alloc::Global;
-use vm_format::{Directory, page_count, read_length};
 use vm_store::Store;
 
 /// What a document has.

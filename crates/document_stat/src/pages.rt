@@ -1,13 +1,13 @@
 //! The pages of a file on which nothing lies.
 ghost use Rattle.std.specs.Prelude.{IfOk};
-ghost use Rattle.geos_model.specs.File.{pages_of};
+ghost use Rattle.file_format.specs.File.{pages_of};
 ghost use Rattle.file_report.specs.Pages.{AreFreePages};
 ghost use Rattle.document_stat.specs.Files.{counting_usages};
 
 use crate::counting::CountingSlot;
+use file_format::page_count;
 use file_report::{FreePages, free_pages, slot_usages};
 use std::alloc::{AllocError, Global};
-use vm_format::page_count;
 
 /// Of a file of so many bytes the pages on which nothing lies that the slot that counts leads to.
 pub fn count_pages(

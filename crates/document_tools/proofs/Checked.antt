@@ -3,7 +3,7 @@ use Rattle.std.proofs.Common.{◌≡◌, ℕ, List, ◌++◌, Option, Result, Ok
 use Rattle.geos_model.specs.declared.fault.Fault.{Fault}
 use Rattle.geos_model.specs.declared.fault.Fault.TheVariants as faults
 use Rattle.vm_store.specs.Facts.{StoreFacts, FailedSince}
-use Rattle.vm_file.specs.Calls.{IsResourceFault}
+use Rattle.document_file.specs.Calls.{IsResourceFault}
 use Rattle.geos_shell.specs.Streams.{WriteCalls}
 use Rattle.file_report.specs.Checked.{IsReport, counting_between}
 use Rattle.file_report.specs.declared.checking.Report.{Report}

@@ -2,15 +2,15 @@
 use Rattle.std.proofs.Common.{◌≡◌, ◌⊎◌, ℕ, List, Bool, true, false, Option, Result, Ok, Err, IfOk, IfErr, IsTrue, refl, sym, ◌∙◌, inl, inr}
 use Rattle.std.proofs.Math.Logic.{∥∥₁_map}
 use Rattle.std.specs.Io.KnownBytes.{Appends}
-use Rattle.geos_model.specs.File.{stands}
+use Rattle.file_format.specs.File.{stands}
 use Rattle.geos_model.specs.declared.fault.Fault.{Fault}
 use Rattle.geos_model.specs.declared.fault.Fault.TheVariants as faults
 use Rattle.vm_store.specs.Facts.{StoreFacts, FailedSince}
-use Rattle.vm_file.specs.Calls.{IsResourceFault}
-use Rattle.vm_file.specs.Opened.{OnlyReadsStore}
-use Rattle.vm_file.specs.StoredDocuments.{StoredState}
+use Rattle.document_file.specs.Calls.{IsResourceFault}
+use Rattle.document_file.specs.Opened.{OnlyReadsStore}
+use Rattle.document_file.specs.StoredDocuments.{StoredState}
 use Rattle.geos_shell.specs.Streams.{StopsWriting, WriteCalls}
-use Rattle.vm_format.proofs.LooksLemmas.{raised_later, still}
+use Rattle.file_format.proofs.LooksLemmas.{raised_later, still}
 use Rattle.document_diff.specs.Diffs.{TellsSame, diff_text, document_of}
 use Rattle.document_diff.specs.Faults.{IsDiffRefusal}
 use Rattle.document_diff.specs.declared.fault.DiffFault.{DiffFault}

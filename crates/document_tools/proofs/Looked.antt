@@ -8,11 +8,11 @@ use Rattle.geos_model.specs.Document.{Document}
 use Rattle.geos_model.specs.declared.fault.Fault.{Fault}
 use Rattle.geos_model.specs.declared.fault.Fault.TheVariants as faults
 use Rattle.vm_store.specs.Facts.{StoreFacts, FailedSince}
-use Rattle.vm_file.specs.Calls.{IsResourceFault}
+use Rattle.document_file.specs.Calls.{IsResourceFault}
 use Rattle.geos_shell.specs.Streams.{StopsWriting, WriteCalls}
-use Rattle.vm_file.specs.Opened.{OnlyReadsStore}
-use Rattle.vm_file.specs.StoredDocuments.{StoredState}
-use Rattle.vm_format.proofs.LooksLemmas.{raised_later, still}
+use Rattle.document_file.specs.Opened.{OnlyReadsStore}
+use Rattle.document_file.specs.StoredDocuments.{StoredState}
+use Rattle.file_format.proofs.LooksLemmas.{raised_later, still}
 use Rattle.document_dump.specs.Dumps.{dump_text}
 use Rattle.document_dump.specs.Faults.{IsDumpRefusal}
 use Rattle.document_dump.specs.declared.dumping.Which.{Which}

@@ -2,12 +2,12 @@
 use Rattle.std.specs.Option.{option_map}
 use Rattle.std.specs.Result.{result_ok}
 use Rattle.std.proofs.Common.{◌≡◌, ℕ, List, Option, None, Result, Ok, Err, refl, subst, inl, inr}
-use Rattle.geos_model.specs.File.{stands}
+use Rattle.file_format.specs.File.{stands}
 use Rattle.geos_model.specs.declared.fault.Fault.{Fault}
 use Rattle.vm_store.specs.Facts.{StoreFacts}
-use Rattle.vm_file.specs.Opened.{OnlyReadsStore}
-use Rattle.vm_format.specs.Slots.{slot_stands}
-use Rattle.vm_format.proofs.LooksLemmas.{held_before, raised_later, same_bytes_then, still}
+use Rattle.document_file.specs.Opened.{OnlyReadsStore}
+use Rattle.file_format.specs.Slots.{slot_stands}
+use Rattle.file_format.proofs.LooksLemmas.{held_before, raised_later, same_bytes_then, still}
 use Rattle.geos_shell.specs.Streams.{WriteCalls}
 use Rattle.file_report.specs.Checked.{IsReport, counting_between, counting_number}
 use Rattle.file_report.specs.declared.checking.SlotReport.{SlotReport}

@@ -1,7 +1,7 @@
 -- What is told of pages, by what was found.
 use Rattle.std.proofs.Common.{◌≡◌, ℕ, List, ◌++◌, All, IsPermutation, flat_map, subst, sym}
 use Rattle.std.specs.List.Sorted.{IsNonDecreasingBy}
-use Rattle.geos_model.specs.File.{pages_of}
+use Rattle.file_format.specs.File.{pages_of}
 use Rattle.file_report.specs.Pages.{AreFreePages, AreReportedIn, DoOverlap, usages_of}
 use Rattle.file_report.specs.declared.checking.SlotReport.{SlotReport}
 use Rattle.file_report.specs.declared.free.FreePages.{FreePages}

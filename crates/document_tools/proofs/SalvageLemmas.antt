@@ -4,14 +4,14 @@ use Rattle.std.proofs.Math.Logic.{∥∥₁_map}
 use Rattle.std.proofs.KnownBytes.{Appends-kept}
 use Rattle.std.specs.Io.KnownBytes.{Appends, Keeps}
 use Rattle.geos_model.specs.Document.{Document}
-use Rattle.geos_model.specs.File.{stands}
+use Rattle.file_format.specs.File.{stands}
 use Rattle.geos_model.specs.declared.fault.Fault.{Fault}
 use Rattle.geos_model.specs.declared.fault.Fault.TheVariants as faults
 use Rattle.vm_store.specs.Facts.{StoreFacts, FailedSince}
-use Rattle.vm_file.specs.Calls.{IsResourceFault}
-use Rattle.vm_file.specs.Opened.{OnlyReadsStore}
-use Rattle.vm_file.specs.StoredDocuments.{StoredState}
-use Rattle.vm_format.proofs.LooksLemmas.{raised_later, same_bytes_then, still}
+use Rattle.document_file.specs.Calls.{IsResourceFault}
+use Rattle.document_file.specs.Opened.{OnlyReadsStore}
+use Rattle.document_file.specs.StoredDocuments.{StoredState}
+use Rattle.file_format.proofs.LooksLemmas.{raised_later, same_bytes_then, still}
 use Rattle.geos_shell.specs.Streams.{StopsWriting, WriteCalls}
 use Rattle.document_dump.specs.Dumps.{dump_text}
 use Rattle.document_dump.specs.Faults.{IsDumpRefusal}

@@ -1,7 +1,7 @@
 -- What a check tells, and how it ends.
 use Rattle.std.specs.Prelude.{◌≡◌, ℕ, List, ◌++◌, Result, Ok, Err, IsOk, IsErr, IsTrue}
 use Rattle.vm_store.specs.Facts.{StoreFacts, FailedSince}
-use Rattle.vm_file.specs.Opened.{OnlyReadsStore}
+use Rattle.document_file.specs.Opened.{OnlyReadsStore}
 use Rattle.geos_shell.specs.Streams.{WriteCalls}
 use Rattle.geos_shell.specs.declared.streams.WriteFault.{WriteFault}
 use Rattle.file_report.specs.Checked.{IsReport, counting_between}

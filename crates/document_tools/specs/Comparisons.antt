@@ -2,13 +2,13 @@
 use Rattle.std.specs.Prelude.{◌≡◌, ◌≢◌, ◌⊎◌, ℕ, List, Bool, true, false, IsTrue, Option, Result, Ok, Err, ⊤}
 use Rattle.std.specs.Io.KnownBytes.{Appends}
 use Rattle.geos_model.specs.Document.{Document}
-use Rattle.geos_model.specs.File.{stands}
+use Rattle.file_format.specs.File.{stands}
 use Rattle.geos_model.specs.declared.fault.Fault.{Fault}
 use Rattle.geos_model.specs.declared.fault.Fault.TheVariants as faults
 use Rattle.vm_store.specs.Facts.{StoreFacts, FailedSince}
-use Rattle.vm_file.specs.Opened.{OnlyReadsStore}
+use Rattle.document_file.specs.Opened.{OnlyReadsStore}
 use Rattle.geos_shell.specs.Streams.{StopsWriting, WriteCalls}
-use Rattle.vm_file.specs.StoredDocuments.{StoredState}
+use Rattle.document_file.specs.StoredDocuments.{StoredState}
 use Rattle.document_diff.specs.Diffs.{diff_text, document_of}
 use Rattle.document_diff.specs.declared.fault.DiffFault.{DiffFault}
 use Rattle.document_diff.specs.declared.fault.DiffFault.TheVariants as diff_faults

@@ -1,6 +1,6 @@
 -- What is told of a file that can't be looked at, and of a text that is written.
 use Rattle.std.specs.Prelude.{◌≡◌, ◌≢◌, ◌⊎◌, ℕ, List, IsTrue, Ok, Err}
-use Rattle.geos_model.specs.File.{stands}
+use Rattle.file_format.specs.File.{stands}
 use Rattle.geos_model.specs.declared.fault.Fault.{Fault}
 use Rattle.geos_model.specs.declared.fault.Fault.TheVariants.{File, Memory}
 use Rattle.vm_store.specs.Facts.{StoreFacts, FailedSince}

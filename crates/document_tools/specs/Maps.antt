@@ -1,7 +1,7 @@
 -- What is told of a file as a picture.
 use Rattle.std.specs.Prelude.{◌≡◌, ℕ, List, Bool, true, false, IsTrue, Option, Result, Ok, Err, ⊤}
 use Rattle.vm_store.specs.Facts.{StoreFacts}
-use Rattle.vm_file.specs.Opened.{OnlyReadsStore}
+use Rattle.document_file.specs.Opened.{OnlyReadsStore}
 use Rattle.geos_shell.specs.Streams.{StopsWriting, WriteCalls}
 use Rattle.file_map.specs.Drawn.{IsDrawn, svg_of, map_text}
 use Rattle.file_map.specs.declared.fault.MapFault.{MapFault}

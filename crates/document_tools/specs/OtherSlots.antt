@@ -1,8 +1,8 @@
 -- What is told of a file as a script that makes the documents again to which the slot leads that doesn't count.
 use Rattle.std.specs.Prelude.{◌≡◌, ◌==◌, ◌⊎◌, ℕ, List, IsTrue, Option, Some, ⊤}
 use Rattle.vm_store.specs.Facts.{StoreFacts}
-use Rattle.vm_format.specs.Slots.{number_of, slot_stands}
-use Rattle.vm_file.specs.Opened.{OnlyReadsStore}
+use Rattle.file_format.specs.Slots.{number_of, slot_stands}
+use Rattle.document_file.specs.Opened.{OnlyReadsStore}
 use Rattle.geos_shell.specs.Streams.{WriteCalls}
 use Rattle.file_report.specs.Checked.{IsReport, counting_number}
 use Rattle.file_report.specs.declared.checking.Report.{Report}

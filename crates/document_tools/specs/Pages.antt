@@ -3,7 +3,7 @@ use Rattle.std.specs.Prelude.{◌≡◌, ℕ, List, [], ◌++◌, codes, All, Is
 use Rattle.std.specs.Fmt.{decimal}
 use Rattle.std.specs.List.{flat_map}
 use Rattle.std.specs.List.Sorted.{IsNonDecreasingBy}
-use Rattle.geos_model.specs.File.{pages_of}
+use Rattle.file_format.specs.File.{pages_of}
 use Rattle.file_report.specs.Pages.{AreFreePages, AreReportedIn, DoOverlap, usages_of}
 use Rattle.file_report.specs.Texts.{extent_words, handle_text, name_text}
 use Rattle.file_report.specs.declared.checking.SlotReport.{SlotReport}

@@ -4,7 +4,7 @@ use Rattle.std.specs.Fmt.{decimal}
 use Rattle.vm_store.specs.Facts.{StoreFacts}
 use Rattle.vm_store.specs.Files.{Opener}
 use Rattle.vm_store.specs.declared.fault.StoreFault.{StoreFault}
-use Rattle.vm_file.specs.Opened.{OnlyReadsStore}
+use Rattle.document_file.specs.Opened.{OnlyReadsStore}
 use Rattle.geos_model.specs.declared.fault.Fault.{Fault}
 use Rattle.geos_model.specs.declared.fault.Fault.TheVariants.{Memory}
 use Rattle.undo_log.specs.Sessions.{SessionState}

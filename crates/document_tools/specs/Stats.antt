@@ -1,7 +1,7 @@
 -- What is told of what a file has, counted.
 use Rattle.std.specs.Prelude.{◌≡◌, ℕ, List, IsTrue}
 use Rattle.vm_store.specs.Facts.{StoreFacts}
-use Rattle.vm_file.specs.Opened.{OnlyReadsStore}
+use Rattle.document_file.specs.Opened.{OnlyReadsStore}
 use Rattle.geos_shell.specs.Streams.{WriteCalls}
 use Rattle.document_stat.specs.Files.{IsFileStat}
 use Rattle.document_stat.specs.declared.file_stat.FileStat.{FileStat}

@@ -1,6 +1,6 @@
 //! The check of a file.
 ghost use Rattle.std.specs.Prelude.{◌≡◌, ◌++◌, IfOk, MatchResult};
-ghost use Rattle.vm_file.specs.Opened.{OnlyReadsStore};
+ghost use Rattle.document_file.specs.Opened.{OnlyReadsStore};
 ghost use Rattle.file_report.specs.Checked.{counting_number};
 ghost use Rattle.document_tools.specs.Checks.{ChecksFile, ChecksStore, IsCheckText, PrintsReport};
 ghost use Rattle.document_tools.specs.Reports.{next_line, report_text};

@@ -1,8 +1,8 @@
 //! What differs between the documents of two files.
 ghost use Rattle.std.specs.Prelude.{◌≡◌, IfErr, IfOk, IsTrue};
 ghost use Rattle.std.specs.Io.KnownBytes.{Appends};
-ghost use Rattle.vm_file.specs.Opened.{OnlyReadsStore};
-ghost use Rattle.vm_file.specs.StoredDocuments.{OnlyReadsDocuments};
+ghost use Rattle.document_file.specs.Opened.{OnlyReadsStore};
+ghost use Rattle.document_file.specs.StoredDocuments.{OnlyReadsDocuments};
 ghost use Rattle.geos_shell.specs.Streams.{StopsWriting};
 ghost use Rattle.document_diff.specs.Diffs.{TellsSame, diff_text, document_of};
 ghost use Rattle.document_diff.specs.Faults.{IsDiffRefusal};
@@ -14,10 +14,10 @@ use crate::obstacle::Obstacle;
 use crate::pieces::{Pieces, Watched};
 use crate::viewer::Viewer;
 use document_diff::{DiffFault, Side, Version, diff};
+use document_file::{StoredDocuments, VmFile};
 use geos_model::Fault;
 use geos_shell::Sink;
 use std::alloc::Global;
-use vm_file::{StoredDocuments, VmFile};
 use vm_store::Store;
 
 /// The names of the files that are compared.

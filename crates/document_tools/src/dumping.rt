@@ -1,8 +1,8 @@
 //! A dump: a script that makes documents of a file again.
 ghost use Rattle.std.specs.Prelude.{◌≡◌, IfErr, IsTrue, OnOk};
 ghost use Rattle.std.specs.Io.KnownBytes.{Appends};
-ghost use Rattle.vm_file.specs.Opened.{OnlyReadsStore};
-ghost use Rattle.vm_file.specs.StoredDocuments.{OnlyReadsDocuments};
+ghost use Rattle.document_file.specs.Opened.{OnlyReadsStore};
+ghost use Rattle.document_file.specs.StoredDocuments.{OnlyReadsDocuments};
 ghost use Rattle.geos_shell.specs.Streams.{StopsWriting};
 ghost use Rattle.document_dump.specs.Dumps.{dump_text};
 ghost use Rattle.document_dump.specs.Faults.{IsDumpRefusal};
@@ -14,9 +14,9 @@ use crate::obstacle::Obstacle;
 use crate::pieces::{Pieces, Watched};
 use crate::viewer::Viewer;
 use document_dump::{DumpFault, Which, dump};
+use document_file::{StoredDocuments, VmFile};
 use geos_shell::Sink;
 use std::alloc::Global;
-use vm_file::{StoredDocuments, VmFile};
 use vm_store::Store;
 
 // How a dump ended whose pieces were gathered, by whether the last write of them failed. A piece that couldn't be

@@ -1,6 +1,6 @@
 //! How a tool ends.
 ghost use Rattle.std.specs.Prelude.{◌≡◌, Some};
-ghost use Rattle.vm_file.specs.Calls.{IsResourceFault};
+ghost use Rattle.document_file.specs.Calls.{IsResourceFault};
 ghost use Rattle.document_tools.specs.Endings.{EndsUnread, IsRefusedFor, IsUncomparedFor, PrintsLine, ending_status, error_line, trouble_line};
 
 use crate::obstacle::{Obstacle, push_refusal};

@@ -1,7 +1,7 @@
 //! A picture of a file.
 ghost use Rattle.std.specs.Prelude.{◌≡◌, IfErr, IsErrOf, IsTrue, OnOk};
 ghost use Rattle.vm_store.specs.Facts.{FailedSince};
-ghost use Rattle.vm_file.specs.Opened.{OnlyReadsStore};
+ghost use Rattle.document_file.specs.Opened.{OnlyReadsStore};
 ghost use Rattle.geos_shell.specs.Streams.{StopsWriting};
 ghost use Rattle.file_map.specs.Drawn.{IsDrawn};
 ghost use Rattle.file_map.specs.Faults.{IsMapRefusal};

@@ -1,11 +1,11 @@
 //! A dump of what the slot leads to that doesn't count.
 ghost use Rattle.std.specs.Prelude.{◌≡◌, IsTrue, MatchResult, Some};
-ghost use Rattle.vm_file.specs.Opened.{OnlyReadsStore};
+ghost use Rattle.document_file.specs.Opened.{OnlyReadsStore};
 ghost use Rattle.file_report.specs.Checked.{IsReport, counting_number};
 ghost use Rattle.file_map.specs.Faults.{IsUncounted};
 ghost use Rattle.file_map.specs.declared.fault.MapFault.TheVariants.{Unopened};
 ghost use Rattle.document_tools.specs.OtherSlots.{DumpsOther, DumpsOtherFile, DumpsSlot};
-ghost use Rattle.vm_format.specs.Slots.{number_of};
+ghost use Rattle.file_format.specs.Slots.{number_of};
 
 use crate::dumping::dump_open;
 use crate::ending::{Ending, refused};
@@ -13,11 +13,11 @@ use crate::looking::unopened;
 use crate::obstacle::Obstacle;
 use crate::viewer::Viewer;
 use document_dump::Which;
+use document_file::StoredDocuments;
 use file_report::{Report, check};
 use geos_model::Fault;
 use geos_shell::Sink;
 use std::alloc::Global;
-use vm_file::StoredDocuments;
 use vm_store::Store;
 
 // The slot that counts. Where none does it is told why: the file opens in no such case.

@@ -6,10 +6,9 @@ ghost use Rattle.file_report.specs.Texts.{extent_words};
 ghost use Rattle.document_tools.specs.Pages.{ReportsCounting, ReportsPages, content_text, overlap_line, unused_line, usage_text};
 
 use crate::lines::{push_decimal, push_handle, push_shown};
+use file_format::{Extent, page_count};
 use file_report::{Content, SlotReport, Usage, free_pages, overlaps, usages};
-use geos_model::Extent;
 use std::alloc::{AllocError, Global};
-use vm_format::page_count;
 
 fn push_content(out: &mut Vec<u8>, content: Content) -> Result<(), AllocError>
     ensures { OnOk result (out.new.items ≡ out.old.items ++ content_text content) }

@@ -7,8 +7,9 @@ ghost use Rattle.file_report.specs.Checked.{counting_number};
 ghost use Rattle.document_tools.specs.Reports.{counts_line, finding_line, none_line, words_and_number, open_line, opens_line, report_text, slot_lines, slot_start, stands_text};
 
 use crate::lines::{push_decimal, push_shown};
+use file_format::Slot;
 use file_report::{Finding, Report, SlotReport, SlotState};
-use geos_model::{Fault, Slot};
+use geos_model::Fault;
 use std::alloc::AllocError;
 
 fn push_verdict(out: &mut Vec<u8>, verdict: Result<(), Fault>) -> Result<(), AllocError>

@@ -1,6 +1,6 @@
 //! A restore: a script makes the document of a file that wasn't there.
 ghost use Rattle.std.specs.Prelude.{◌≡◌, ◌++◌, ◌^◌, [], true, IfErr, IfOk, IsTrue, None, Ok, OnErr, OnOk};
-ghost use Rattle.vm_file.specs.Opened.{OnlyReadsStore};
+ghost use Rattle.document_file.specs.Opened.{OnlyReadsStore};
 ghost use Rattle.geos_shell.specs.Streams.{StopsReading};
 ghost use Rattle.document_tools.specs.Restores.{EndsRun, EndsUncreated, IsUnusable, MakesFile, MakesNone, Restores, RestoresIn, RunsScript, EndsByRefusal, refused_line, refused_start};
 

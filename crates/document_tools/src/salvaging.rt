@@ -1,6 +1,6 @@
 //! A salvage: a script of all that can be read of a file.
 ghost use Rattle.std.specs.Prelude.{◌≡◌, IfErr, IfOk, IsTrue};
-ghost use Rattle.vm_file.specs.Opened.{OnlyReadsStore};
+ghost use Rattle.document_file.specs.Opened.{OnlyReadsStore};
 ghost use Rattle.geos_shell.specs.Streams.{StopsWriting};
 ghost use Rattle.document_dump.specs.Faults.{IsDumpRefusal};
 ghost use Rattle.file_salvage.specs.Salvaged.{salvage_text};
@@ -13,11 +13,11 @@ use crate::obstacle::Obstacle;
 use crate::pieces::{Pieces, Watched};
 use crate::viewer::Viewer;
 use document_dump::{DumpFault, Which};
+use document_file::VmFile;
 use file_salvage::salvage;
 use geos_model::Fault;
 use geos_shell::Sink;
 use std::alloc::Global;
-use vm_file::VmFile;
 use vm_store::Store;
 
 // How a salvage ended whose pieces were gathered, by whether the last write of them failed. A piece that couldn't be

@@ -1,6 +1,6 @@
 //! What a file has, counted.
 ghost use Rattle.std.specs.Prelude.{◌≡◌, ◌++◌, IfOk, OnOk};
-ghost use Rattle.vm_file.specs.Opened.{OnlyReadsStore};
+ghost use Rattle.document_file.specs.Opened.{OnlyReadsStore};
 ghost use Rattle.document_tools.specs.Stats.{StatsFile, StatsStore, PrintsStat, stat_text};
 
 use crate::ending::{Ending, refused};

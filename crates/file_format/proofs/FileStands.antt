@@ -42,7 +42,7 @@ pub record StandsBy (file : List ℕ) (s : Slot) (updated saved : Document) : Ty
   pub working : summed_document s.version file (working_sum s) s.working ≡ Some updated
   pub saved_is : summed_document s.version file (saved_sum s) s.saved ≡ Some saved
 
-versioned : (v : ℕ) → IsVersion v → not (is_version v) ≡ false
+pub versioned : (v : ℕ) → IsVersion v → not (is_version v) ≡ false
 versioned v (inl one) = subst (λ k. not (is_version k) ≡ false) (sym one) refl
 versioned v (inr (inl two)) = subst (λ k. not (is_version k) ≡ false) (sym two) refl
 versioned v (inr (inr three)) = subst (λ k. not (is_version k) ≡ false) (sym three) refl
@@ -62,7 +62,7 @@ version_of v h = elim (cases_Bool (v == 1)) [
 abbrev pub is_wrong : Slot → Bool
 is_wrong s = not (s.reserved == 0) || (s.sequence == 0 || not (is_sealed s))
 
-tested : (s : Slot) → s.reserved ≡ 0 → 1 ≤ s.sequence → is_sealed s ≡ true → is_wrong s ≡ false
+pub tested : (s : Slot) → s.reserved ≡ 0 → 1 ≤ s.sequence → is_sealed s ≡ true → is_wrong s ≡ false
 tested s none some sealed =
     ap₂ (λ (a b : Bool). not a || b) (eq-eqb s.reserved 0 none) (ap₂ (λ (a b : Bool). a || not b) (ne_eqb s.sequence 0 (λ e. absurd (omega (arith, some, e)))) sealed)
 

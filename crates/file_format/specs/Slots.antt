@@ -1,5 +1,5 @@
 -- The slots of a file as they are read, and which one counts.
-use Rattle.std.specs.Prelude.{◌≡◌, ◌⊎◌, ℕ, ◌+◌, ◌*◌, ◌<◌, ◌≤◌, ◌==◌, ◌||◌, not, nat_lt, Bool, List, Option, None, Some, Result, Ok, Err, length, take, drop, if◌then◌else◌}
+use Rattle.std.specs.Prelude.{◌≡◌, ◌⊎◌, ℕ, ◌+◌, ◌*◌, ◌<◌, ◌≤◌, ◌==◌, ◌||◌, not, nat_lt, Bool, List, Option, None, Some, is_some, Result, Ok, Err, length, take, drop, if◌then◌else◌}
 use Rattle.vm_store.specs.Facts.{byte}
 use Rattle.geos_model.specs.Document.{Document}
 use Rattle.file_format.specs.File.{slot_of, open_slot, counting_slot, is_sealed, is_version, pair_of}
@@ -27,6 +27,10 @@ chosen_by (Some a) (Some b) = if a.0 == b.0 then Err Damaged else if nat_lt a.0 
 -- the slot isn't open, or has a lower number
 abbrev pub Beaten : Option Slot → ℕ → Type 0
 Beaten slot n = (slot ≡ None) ⊎ ((t : Slot) × (slot ≡ Some t) × (t.sequence < n))
+
+-- a slot that is read has sums in version 3 alone
+abbrev pub HasItsSums : Slot → Type 0
+HasItsSums s = is_some s.sums ≡ (s.version == 3)
 
 -- a version of the format
 abbrev pub IsVersion : ℕ → Type 0

@@ -1,10 +1,10 @@
 //! Reading the slots of a file: the bytes of each, and which one counts.
-ghost use Rattle.std.specs.Prelude.{◌≡◌, ◌⊎◌, ◌<◌, ◌≤◌, ◌^◌, ℕ, List, IsTrue, OnOk, MatchResult, IfOk, IfErr, IsErrOf, Some, Ok, Err, true, ◌==◌, ◌||◌, if◌then◌else◌, length, slice_index};
+ghost use Rattle.std.specs.Prelude.{◌≡◌, ◌⊎◌, ◌<◌, ◌≤◌, ◌^◌, ℕ, List, IsTrue, OnOk, MatchResult, IfOk, IfErr, IfSome, IsErrOf, Some, Ok, Err, true, ◌==◌, ◌||◌, if◌then◌else◌, length, slice_index};
 ghost use Rattle.std.specs.Option.{option_and_then, option_map};
 ghost use Rattle.file_format.specs.File.{counting_slot, if_open, is_sealed, is_version, pair_of, stands};
 ghost use Rattle.vm_store.specs.Facts.{FailedSince};
 ghost use Rattle.file_format.specs.Reading.{IsOpenRefusal, IsResourceFault, OnlyReadsStore};
-ghost use Rattle.file_format.specs.Slots.{Beaten, IsVersion, IsFoundSlot, IsRawSlot, chosen_by, header_verdict, number_of, slot_stands};
+ghost use Rattle.file_format.specs.Slots.{Beaten, HasItsSums, IsVersion, IsFoundSlot, IsRawSlot, chosen_by, header_verdict, number_of, slot_stands};
 
 use crate::file::{PAGE, Slot};
 use crate::slot::{LONGEST_SLOT, own_sum, read_slot};
@@ -29,6 +29,7 @@ pub fn read_raw_slot<S: Store>(store: &mut S, page: u32) -> Result<RawSlot, Faul
     ensures looks { OnlyReadsStore (S.facts store.old) (S.facts store.new) }
     ensures raw { IfOk result (λ raw. IsTrue (S.facts store.old).honest
         → IsRawSlot (S.facts store.old).content page raw) }
+    ensures summed { IfOk result (λ raw. IfSome raw.slot HasItsSums) }
     ensures file { IsErrOf result Fault.File → FailedSince (S.facts store.old) (S.facts store.new) }
     ensures refusals { IfErr result (λ fault. fault ≡ Fault.File) }
 {
@@ -166,6 +167,7 @@ pub fn read_open_slot<S: Store>(
     // The slot.
     ensures slot { IfOk result (λ slot. IsTrue (S.facts store.old).honest
         → slot_stands (S.facts store.old).content (number_of second) ≡ pair_of (S.facts store.old).content slot) }
+    ensures summed { IfOk result HasItsSums }
     // Refusals.
     ensures refused { IfErr result (λ fault. IsTrue (S.facts store.old).honest
         → IsResourceFault fault ⊎ (slot_stands (S.facts store.old).content (number_of second) ≡ Err fault)) }

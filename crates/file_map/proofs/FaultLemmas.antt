@@ -1,7 +1,7 @@
 -- Lack of memory, and stores and writers that fail.
 use Rattle.std.proofs.Common.{◌≡◌, Result, Ok, Err, inl, inr}
 use Rattle.std.specs.Prelude.{IfErr}
-use Rattle.vm_format.specs.Reading.{IsResourceFault}
+use Rattle.file_format.specs.Reading.{IsResourceFault}
 use Rattle.geos_model.specs.declared.fault.Fault.{Fault}
 use Rattle.geos_model.specs.declared.fault.Fault.TheVariants as faults
 use Rattle.file_report.specs.declared.checking.Report.{Report}

@@ -9,13 +9,13 @@ use Rattle.std.proofs.lemmas.Result.{on_ok_weaker}
 use Rattle.std.proofs.lemmas.List as lists
 use Rattle.std.proofs.lemmas.List.{length-map}
 use Rattle.geos_model.specs.Document.{Document}
-use Rattle.geos_model.specs.File.{counting_slot, open_slot, pages_of, pair_of, pair_of_counting, stands}
+use Rattle.file_format.specs.File.{counting_slot, open_slot, pages_of, pair_of, pair_of_counting, stands}
 use Rattle.geos_model.specs.declared.fault.Fault.{Fault}
 use Rattle.geos_model.specs.declared.fault.Fault.TheVariants.{Damaged, NotDocument}
-use Rattle.geos_model.specs.declared.file.Slot.{Slot}
+use Rattle.file_format.specs.declared.file.Slot.{Slot}
 use Rattle.file_report.proofs.SlotLemmas.{pair_wrong}
 use Rattle.file_report.proofs.StandsLemmas.{state_opened, file_verdict}
-use Rattle.vm_format.specs.Slots.{header_verdict}
+use Rattle.file_format.specs.Slots.{header_verdict}
 use Rattle.file_report.specs.Checked.{IsReport, IsSlotReport, IsState, chosen, counting_between, opened, verdict_by, verdict_of}
 use Rattle.file_report.specs.Pages.{file_usages, slot_usages, slots_usage, usages_of}
 use Rattle.file_report.specs.declared.checking.Report.{Report}
@@ -24,8 +24,8 @@ use Rattle.file_report.specs.declared.checking.SlotState.{SlotState}
 use Rattle.file_report.specs.declared.checking.SlotState.TheVariants.{Short, NoMark, Closed, Open}
 use Rattle.file_report.specs.declared.pages.Usage.{Usage}
 use Rattle.vm_store.specs.Facts.{StoreFacts}
-use Rattle.vm_format.specs.Reading.{OnlyReadsStore}
-use Rattle.vm_format.proofs.LooksLemmas.{held_before}
+use Rattle.file_format.specs.Reading.{OnlyReadsStore}
+use Rattle.file_format.proofs.LooksLemmas.{held_before}
 use Rattle.std.specs.Io.KnownBytes.{Appends}
 use Rattle.file_map.specs.Drawn.{IsDrawn, IsDrawnOf, IsFileMap}
 use Rattle.file_map.specs.Faults.{IsLack, IsMapRefusal, IsUncounted}

@@ -7,9 +7,9 @@ use Rattle.std.proofs.lemmas.List.{drop_more, get_or-drop}
 use Rattle.std.proofs.lemmas.List.Folds.{list_any_none}
 use Rattle.std.proofs.lemmas.Option.{slice_get-get_or, slice_get_cases}
 use Rattle.std.proofs.lemmas.List.{length-drop}
-use Rattle.geos_model.specs.File.{end_page}
-use Rattle.vm_space.specs.Space.{is_on, is_within}
-use Rattle.vm_space.proofs.SpaceLemmas.{within_no}
+use Rattle.file_format.specs.File.{end_page}
+use Rattle.file_space.specs.Space.{is_on, is_within}
+use Rattle.file_space.proofs.SpaceLemmas.{within_no}
 use Rattle.file_map.specs.Pages.{lies, page_content, content_at, users}
 use Rattle.file_map.specs.Walks.{AreEnds, Covers, IsPast, IsPartWalk, begins_by, begins_by_of, ends_behind, further}
 use Rattle.file_map.specs.declared.part.Part.{Part}

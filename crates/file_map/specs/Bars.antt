@@ -1,6 +1,6 @@
 -- Heaps as SVG.
 use Rattle.std.specs.Prelude.{ℕ, ◌+◌, Bool, false, not, List, [], ◌∷◌, ◌++◌, codes, if◌then◌else◌}
-use Rattle.geos_model.specs.File.{bytes_in}
+use Rattle.file_format.specs.File.{bytes_in}
 use Rattle.geos_model.specs.Heap.{handle_of}
 use Rattle.geos_model.specs.Script.{four_digits}
 use Rattle.file_map.specs.Heaps.{header, heap_numbers, is_chunk_size, sizes, chunk_space}

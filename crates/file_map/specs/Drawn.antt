@@ -2,8 +2,8 @@
 use Rattle.std.specs.Prelude.{◌≡◌, ℕ, List, ◌+◌, ◌*◌, ◌++◌, map, length, count_by, codes, Option, Ok, IsOk, IsPermutation}
 use Rattle.std.specs.List.Sorted.{IsNonDecreasingBy}
 use Rattle.std.specs.Io.KnownBytes.{Appends}
-use Rattle.geos_model.specs.File.{counting_slot, open_slot, pages_of, stands}
-use Rattle.geos_model.specs.declared.file.Slot.{Slot}
+use Rattle.file_format.specs.File.{counting_slot, open_slot, pages_of, stands}
+use Rattle.file_format.specs.declared.file.Slot.{Slot}
 use Rattle.file_report.specs.Pages.{file_usages}
 use Rattle.file_report.specs.declared.pages.Usage.{Usage}
 use Rattle.file_map.specs.Bars.{bars_drawn}

@@ -1,6 +1,6 @@
 -- How a fault of a store's reading is told, and when each comes.
 use Rattle.std.specs.Prelude.{◌≡◌, ◌⊎◌, IsTrue, IsOk, None, Err}
-use Rattle.geos_model.specs.File.{stands}
+use Rattle.file_format.specs.File.{stands}
 use Rattle.geos_model.specs.declared.fault.Fault.{Fault}
 use Rattle.geos_model.specs.declared.fault.Fault.TheVariants as faults
 use Rattle.vm_store.specs.Facts.{StoreFacts}

@@ -1,7 +1,7 @@
 -- The table of a heap's image, and the line of the heap.
 use Rattle.std.specs.Prelude.{ℕ, ◌+◌, ◌-◌, ◌*◌, ◌/◌, ◌==◌, Bool, not, nat_lt, min, List, [], ◌∷◌, ◌++◌, map, take, drop, length, replicate, count_by, sum_by, codes, if◌then◌else◌}
 use Rattle.std.specs.List.{range_with_len, flat_map}
-use Rattle.geos_model.specs.File.{bytes_in}
+use Rattle.file_format.specs.File.{bytes_in}
 use Rattle.geos_model.specs.Heap.{capacity, most_chunks, space_of}
 use Rattle.geos_model.specs.Image.{no_chunk}
 use Rattle.geos_model.specs.Script.{four_digits, line_feed}

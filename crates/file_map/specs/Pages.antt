@@ -2,7 +2,7 @@
 use Rattle.std.specs.Prelude.{ℕ, ◌+◌, ◌-◌, ◌*◌, ◌/◌, ◌==◌, ◌&&◌, Bool, true, false, min, List, [], ◌∷◌, ◌++◌, map, count_by, codes, if◌then◌else◌}
 use Rattle.std.specs.List.{range_with_len, flat_map, list_any}
 use Rattle.geos_model.specs.Script.{line_feed}
-use Rattle.vm_space.specs.Space.{is_on}
+use Rattle.file_space.specs.Space.{is_on}
 use Rattle.file_map.specs.Lines.{padded}
 use Rattle.file_map.specs.Parts.{is_slots, is_directory_part, is_raw_part, is_heap_part, is_updated, is_saved}
 use Rattle.file_map.specs.declared.part.Part.{Part}

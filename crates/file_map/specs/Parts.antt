@@ -1,8 +1,8 @@
 -- What lies in the extents of a file, and whose it is.
 use Rattle.std.specs.Prelude.{ℕ, ◌-◌, ◌+◌, ◌*◌, ◌==◌, ◌&&◌, Bool, true, false, not, List, [], ◌∷◌, ◌++◌, fold, take, slice_get, Option, None, Some, length, if◌then◌else◌}
-use Rattle.geos_model.specs.declared.file.Extent.{Extent}
+use Rattle.file_format.specs.declared.file.Extent.{Extent}
 use Rattle.vm_store.specs.Facts.{byte}
-use Rattle.vm_format.specs.Kinds.{is_heap_kind, body_kind_of}
+use Rattle.file_format.specs.Kinds.{is_heap_kind, body_kind_of}
 use Rattle.file_report.specs.declared.finding.Named.{Named}
 use Rattle.file_report.specs.declared.finding.Named.TheVariants as names
 use Rattle.file_report.specs.declared.pages.Content.{Content}

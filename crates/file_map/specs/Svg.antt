@@ -1,7 +1,7 @@
 -- The pages of a file as SVG.
 use Rattle.std.specs.Prelude.{ℕ, ◌+◌, ◌-◌, ◌*◌, ◌/◌, ◌%◌, ◌==◌, ◌||◌, max, min, List, [], ◌++◌, codes, if◌then◌else◌}
 use Rattle.std.specs.List.{range_with_len, flat_map}
-use Rattle.geos_model.specs.File.{end_page}
+use Rattle.file_format.specs.File.{end_page}
 use Rattle.geos_model.specs.Script.{four_digits}
 use Rattle.file_map.specs.Lines.{numbered}
 use Rattle.file_map.specs.Pages.{name, content_number}

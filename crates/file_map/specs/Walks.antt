@@ -1,6 +1,6 @@
 -- How far a walk over parts by their first pages has come.
 use Rattle.std.specs.Prelude.{◌≡◌, ℕ, ◌≤◌, ◌||◌, Bool, false, max, nat_le, nat_lt, List, length, drop, slice_get, Option, None, Some, if◌then◌else◌}
-use Rattle.geos_model.specs.File.{end_page}
+use Rattle.file_format.specs.File.{end_page}
 use Rattle.file_map.specs.Pages.{lies}
 use Rattle.file_map.specs.Parts.{is_slots, is_directory_part, is_raw_part, is_heap_part, is_updated, is_saved}
 use Rattle.file_map.specs.declared.part.Part.{Part}

@@ -1,10 +1,10 @@
 //! Heaps as SVG: a bar for each, with its chunks.
 ghost use Rattle.std.specs.Prelude.{◌≡◌, false, ◌≤◌, ◌<◌, ◌+◌, ◌*◌, ◌-◌, ◌^◌, ◌++◌, IfErr, IfOk, IsErrOf, IsTrue, OnOk, length};
 ghost use Rattle.std.specs.Io.KnownBytes.{Appends};
-ghost use Rattle.geos_model.specs.File.{bytes_in};
+ghost use Rattle.file_format.specs.File.{bytes_in};
 ghost use Rattle.geos_model.specs.Heap.{most_chunks};
 ghost use Rattle.vm_store.specs.Facts.{FailedSince};
-ghost use Rattle.vm_format.specs.Reading.{OnlyReadsStore};
+ghost use Rattle.file_format.specs.Reading.{OnlyReadsStore};
 ghost use Rattle.file_map.specs.Bars.{bar_drawn, bar_of, bars_drawn, below, caption, chunk_drawn, chunk_place, chunk_start, chunk_title, chunks_drawn, flipped, room};
 ghost use Rattle.file_map.specs.Faults.{IsLack, IsWriteLack};
 ghost use Rattle.file_map.specs.Heaps.{header};

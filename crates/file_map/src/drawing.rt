@@ -2,10 +2,10 @@
 ghost use Rattle.std.specs.Prelude.{◌≡◌, ◌≤◌, ◌<◌, ◌+◌, ◌*◌, ◌^◌, IsTrue, IfOk, IfErr, IsErrOf, OnOk, count_by, length};
 ghost use Rattle.std.specs.List.Sorted.{IsNonDecreasingBy};
 ghost use Rattle.std.specs.Io.KnownBytes.{Appends};
-ghost use Rattle.geos_model.specs.File.{bytes_in};
+ghost use Rattle.file_format.specs.File.{bytes_in};
 ghost use Rattle.geos_model.specs.Heap.{most_chunks};
 ghost use Rattle.vm_store.specs.Facts.{FailedSince};
-ghost use Rattle.vm_format.specs.Reading.{OnlyReadsStore};
+ghost use Rattle.file_format.specs.Reading.{OnlyReadsStore};
 ghost use Rattle.file_map.specs.Drawn.{AreByHandle, IsDrawn, IsDrawnOf, svg_of, map_text};
 ghost use Rattle.file_map.specs.Faults.{IsLack, IsMapRefusal, IsWriteLack};
 ghost use Rattle.file_map.specs.Heaps.{heap_lines, line_of, sizes};

@@ -2,8 +2,9 @@
 ghost use Rattle.std.specs.Prelude.{◌≡◌, OnOk};
 ghost use Rattle.file_map.specs.Parts.{drawn_more, handle_rank, is_directory_part, is_heap_part, is_raw_part, is_same, is_saved, is_shared, is_slots, is_updated, users_of};
 
+use file_format::Extent;
 use file_report::Named;
-use geos_model::{Extent, VmHandle};
+use geos_model::VmHandle;
 use std::alloc::AllocError;
 
 /// Which of a slot's documents use an extent.

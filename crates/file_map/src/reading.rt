@@ -2,7 +2,7 @@
 ghost use Rattle.std.specs.Prelude.{◌≡◌, ◌≤◌, ◌<◌, ◌^◌, IsTrue, IfOk, IfErr, IsErrOf, IsOk, IsPermutation, OnOk, Some, map, length};
 ghost use Rattle.file_report.specs.Checked.{IsReport, counting_between};
 ghost use Rattle.std.specs.List.Sorted.{IsNonDecreasingBy};
-ghost use Rattle.vm_format.specs.Reading.{OnlyReadsStore};
+ghost use Rattle.file_format.specs.Reading.{OnlyReadsStore};
 ghost use Rattle.vm_store.specs.Facts.{FailedSince, byte};
 ghost use Rattle.file_map.specs.Drawn.{IsFileMap};
 ghost use Rattle.file_map.specs.Faults.{IsMapRefusal, IsReadLack, IsUncounted};
@@ -10,10 +10,10 @@ ghost use Rattle.file_map.specs.Parts.{is_heap_at, kind_at, part_of_usage};
 
 use crate::fault::MapFault;
 use crate::part::{Kind, Part, Users, users_of};
+use file_format::{BodyKind, Extent, page_count, start_of};
 use file_report::{Content, Report, SlotReport, Usage, check, usages};
-use geos_model::{Extent, Fault, VmHandle};
+use geos_model::{Fault, VmHandle};
 use std::alloc::{AllocError, Global};
-use vm_format::{BodyKind, page_count, start_of};
 use vm_store::Store;
 
 /// What lies in a file.

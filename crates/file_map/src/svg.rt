@@ -9,9 +9,9 @@ use crate::fault::MapFault;
 use crate::lines::{push_decimal, push_handle, push_numbered, send};
 use crate::pages::{Content, LEGEND};
 use crate::part::{Kind, Part, Users};
+use file_format::page_count;
 use std::alloc::{AllocError, Global};
 use std::io::Write;
-use vm_format::page_count;
 
 /// How many pages a row has.
 const ROW: u64 = 64;

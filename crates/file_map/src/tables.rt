@@ -1,17 +1,16 @@
 //! The tables of heaps.
 ghost use Rattle.std.specs.Prelude.{◌≡◌, ◌≤◌, IsTrue, IfOk, IfErr, IsErrOf, length};
-ghost use Rattle.geos_model.specs.File.{bytes_in};
+ghost use Rattle.file_format.specs.File.{bytes_in};
 ghost use Rattle.geos_model.specs.Heap.{most_chunks};
 ghost use Rattle.vm_store.specs.Facts.{FailedSince};
-ghost use Rattle.vm_format.specs.Reading.{OnlyReadsStore};
+ghost use Rattle.file_format.specs.Reading.{OnlyReadsStore};
 ghost use Rattle.file_map.specs.Faults.{IsReadLack};
 ghost use Rattle.file_map.specs.Heaps.{sizes};
 
 use crate::fault::MapFault;
 use crate::heaps::read_sizes;
-use geos_model::Extent;
+use file_format::{Extent, read_extent};
 use std::alloc::Global;
-use vm_format::read_extent;
 use vm_store::Store;
 
 /// The table of the heap in an extent. Memory, File.

@@ -6,7 +6,7 @@ ghost use Rattle.file_map.specs.Walks.{IsPast, IsPartWalk, begins_by, ends_behin
 
 use crate::pages::{Content, make_content, users};
 use crate::part::Part;
-use vm_format::page_behind;
+use file_format::page_behind;
 
 /// Behind which page the parts of a kind end that have begun, and those of a document.
 #[derive(Clone, Copy)]

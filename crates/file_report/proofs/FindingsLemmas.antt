@@ -3,8 +3,8 @@ use Rattle.std.proofs.Common.{◌≡◌, ℕ, zero, suc, ◌≤◌, ◌++◌, �
 use Rattle.std.proofs.lemmas.List.{append-nil, append_assoc, length-append}
 use Rattle.std.proofs.lemmas.List.Elements.{All-append}
 use Rattle.geos_model.specs.Words.{word_at}
-use Rattle.geos_model.specs.File.{entry_read}
-use Rattle.geos_model.specs.declared.file.Entry.{Entry}
+use Rattle.file_format.specs.File.{entry_read}
+use Rattle.file_format.specs.declared.file.Entry.{Entry}
 use Rattle.geos_model.specs.declared.handle.VmHandle.{VmHandle}
 use Rattle.file_report.specs.Findings.{FindsMore, IsNoted, IsSeen, IsUnlisted, IsHeaderFault, IsEntryFault, handle_before, entry_text_at}
 use Rattle.file_report.specs.declared.finding.Named.{Named}

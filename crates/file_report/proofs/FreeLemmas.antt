@@ -6,11 +6,11 @@ use Rattle.std.proofs.lemmas.List.Folds.{list_any_more}
 use Rattle.std.specs.Prelude.{IsPermutation}
 use Rattle.std.proofs.lemmas.List.Sorted.{list_any-IsPermutation}
 use Rattle.std.specs.List.Sorted.{IsNonDecreasingBy}
-use Rattle.geos_model.proofs.Files.{get_or_same}
-use Rattle.geos_model.specs.File.{end_page}
-use Rattle.geos_model.specs.declared.file.Extent.{Extent}
-use Rattle.vm_space.specs.Space.{is_on}
-use Rattle.vm_space.proofs.SpaceLemmas.{within_yes, within_no}
+use Rattle.file_format.proofs.Files.{get_or_same}
+use Rattle.file_format.specs.File.{end_page}
+use Rattle.file_format.specs.declared.file.Extent.{Extent}
+use Rattle.file_space.specs.Space.{is_on}
+use Rattle.file_space.proofs.SpaceLemmas.{within_yes, within_no}
 use Rattle.file_report.specs.Pages.{AreFreePages, AreRuns, IsLongest, IsFreePageRun, IsPageWalk, PassesFree, begins_run, is_free_page, is_used, pages_with}
 use Rattle.file_report.specs.declared.free.FreePages.{FreePages}
 use Rattle.file_report.specs.declared.free.Walk.{Walk}

@@ -1,8 +1,8 @@
 -- The blocks of entries, one after another.
 use Rattle.std.proofs.Common.{◌≡◌, ℕ, ◌++◌, ◌∷◌, [], ◌&&◌, ◌⊎◌, inl, inr, List, Option, Some, None, Bool, true, false, is_some, refl, sym, ap, ◌∙◌}
 use Rattle.geos_model.specs.Document.{Block}
-use Rattle.geos_model.specs.File.{block_of, blocks_of_entries, prepended}
-use Rattle.geos_model.specs.declared.file.Entry.{Entry}
+use Rattle.file_format.specs.File.{block_of, blocks_of_entries, prepended}
+use Rattle.file_format.specs.declared.file.Entry.{Entry}
 
 some_prepended : (b : Option (ℕ × Block)) (bs : Option (List (ℕ × Block))) → is_some (prepended b bs) ≡ (is_some b && is_some bs)
 some_prepended None None = refl
@@ -29,7 +29,3 @@ some_with file (x ∷ es) e =
 pub and_false : (a b : Bool) → (a && b) ≡ false → (a ≡ false) ⊎ (b ≡ false)
 and_false false b is = inl refl
 and_false true b is = inr is
-
-pub none_where : {X : Type 0} (o : Option X) → is_some o ≡ false → o ≡ None
-none_where None is = refl
-none_where (Some x) is = absurd (cc is)

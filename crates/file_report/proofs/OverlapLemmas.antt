@@ -4,14 +4,14 @@ use Rattle.std.proofs.lemmas.Bool.{cases_eq}
 use borrow.Author.Tests.{ltb-true}
 use Rattle.std.specs.List.{Contains}
 use Rattle.std.specs.List.Sorted.{IsNonDecreasingBy}
-use Rattle.geos_model.proofs.Files.{get_or_same}
+use Rattle.file_format.proofs.Files.{get_or_same}
 use Rattle.std.proofs.lemmas.List.{get_or-take, length-take, take_more}
 use Rattle.std.proofs.lemmas.List.Elements.{Contains-append_left, Contains-push, Contains-push_cases}
-use Rattle.geos_model.specs.File.{end_page}
-use Rattle.vm_space.proofs.SpaceLemmas.{within_high, within_low, within_yes}
+use Rattle.file_format.specs.File.{end_page}
+use Rattle.file_space.proofs.SpaceLemmas.{within_high, within_low, within_yes}
 use Rattle.file_report.specs.Pages.{AreReportedIn, DoOverlap, IsShared, IsReportedIn, part_of_content}
 use Rattle.geos_model.specs.declared.handle.VmHandle.{VmHandle}
-use Rattle.geos_model.specs.declared.file.Extent.{Extent}
+use Rattle.file_format.specs.declared.file.Extent.{Extent}
 use Rattle.file_report.specs.declared.pages.Part.{Part}
 use Rattle.file_report.specs.declared.pages.Part.TheVariants as parts
 use Rattle.file_report.specs.declared.pages.Usage.{Usage}

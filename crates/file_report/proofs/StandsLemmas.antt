@@ -4,10 +4,10 @@ use Rattle.std.specs.Prelude.{if◌then◌else◌, nat_lt}
 use Rattle.std.specs.Option.{option_map, option_and_then}
 use Rattle.std.specs.Result.{result_map_both}
 use Rattle.std.proofs.lemmas.Bool.{cond-true, cond-false, le-ltb}
-use Rattle.geos_model.specs.File.{counting_slot, if_open, open_slot, pair_of, pair_of_counting, stands}
+use Rattle.file_format.specs.File.{counting_slot, if_open, open_slot, pair_of, pair_of_counting, stands}
 use Rattle.geos_model.specs.declared.fault.Fault.{Fault}
 use Rattle.geos_model.specs.declared.fault.Fault.TheVariants.{Damaged}
-use Rattle.vm_format.specs.Slots.{chosen_by}
+use Rattle.file_format.specs.Slots.{chosen_by}
 use Rattle.file_report.specs.Checked.{IsState, chosen, chosen_between, opened, verdict_by, verdict_of}
 use Rattle.file_report.specs.declared.checking.SlotReport.{SlotReport}
 use Rattle.file_report.specs.declared.checking.SlotState.{SlotState}

@@ -1,16 +1,17 @@
 -- What a check tells of a file.
 use Rattle.std.specs.Prelude.{◌≡◌, ◌≢◌, ℕ, ◌*◌, ◌<◌, IsErr, IsOk, All, List, Option, None, Some, Result, Ok, Err, length, is_some, take, drop}
-use Rattle.std.specs.Option.{option_map}
+use Rattle.std.specs.Option.{option_and_then, option_map}
 use Rattle.std.specs.Result.{result_ok}
 use Rattle.geos_model.specs.Document.{Document}
-use Rattle.geos_model.specs.File.{directory_of, document_at, slot_of, pair_of, stands}
+use Rattle.file_format.specs.File.{document_of, slot_of, pair_of, stands}
 use Rattle.geos_model.specs.declared.fault.Fault.{Fault}
-use Rattle.geos_model.specs.declared.file.Extent.{Extent}
-use Rattle.geos_model.specs.declared.file.Slot.{Slot}
-use Rattle.vm_format.specs.Listed.{as_directory}
-use Rattle.vm_format.specs.Slots.{chosen_by, header_verdict}
+use Rattle.file_format.specs.declared.file.Slot.{Slot}
+use Rattle.file_format.specs.Listed.{as_directory}
+use Rattle.file_format.specs.Slots.{chosen_by, header_verdict}
 use Rattle.file_report.specs.declared.document.CheckedDocument.{CheckedDocument}
-use Rattle.file_report.specs.Findings.{IsSo}
+use Rattle.file_report.specs.Findings.{IsSo, named_directory}
+use Rattle.file_report.specs.declared.finding.Named.{Named}
+use Rattle.file_report.specs.declared.finding.Named.TheVariants.{Updated, Saved}
 use Rattle.file_report.specs.declared.checking.SlotReport.{SlotReport}
 use Rattle.file_report.specs.declared.checking.SlotState.{SlotState}
 use Rattle.file_report.specs.declared.checking.SlotState.TheVariants.{Short, NoMark, Closed, Open}
@@ -21,10 +22,14 @@ abbrev pub verdict_of : Result (Document × Document) Fault → Result (Unit {0}
 verdict_of (Ok documents) = Ok tt
 verdict_of (Err fault) = Err fault
 
--- whether one of a slot's documents stands, and its directory if it has one
-pub record IsChecked (file : List ℕ) (version : ℕ) (e : Extent) (d : CheckedDocument) : Type 0 where
-  pub directory : option_map as_directory d.directory ≡ directory_of version file e
-  pub stands : d.stands ≡ is_some (document_at version file e)
+-- one of a slot's documents, if it stands
+abbrev pub named_document : List ℕ → Slot → Named → Option Document
+named_document file s name = option_and_then (document_of file) (named_directory file s name)
+
+-- whether it stands, and its directory if it has one
+pub record IsChecked (file : List ℕ) (s : Slot) (name : Named) (d : CheckedDocument) : Type 0 where
+  pub directory : option_map as_directory d.directory ≡ named_directory file s name
+  pub stands : d.stands ≡ is_some (named_document file s name)
 
 -- whether a slot's documents stand, and what is wrong where they don't; and the directories that it leads to, where it
 -- isn't wrong itself
@@ -33,17 +38,16 @@ pub record IsSlotReport (file : List ℕ) (r : SlotReport) : Type 0 where
   pub so : All (IsSo file r.slot) r.findings.items
   pub some : IsErr r.verdict → 0 < length r.findings.items
   pub updated : IsOk (header_verdict r.slot)
-      → option_map as_directory r.updated ≡ directory_of r.slot.version file r.slot.working
-  pub saved : IsOk (header_verdict r.slot) → option_map as_directory r.saved
-      ≡ directory_of r.slot.version file r.slot.saved
+      → option_map as_directory r.updated ≡ named_directory file r.slot Updated
+  pub saved : IsOk (header_verdict r.slot) → option_map as_directory r.saved ≡ named_directory file r.slot Saved
 
 -- what stands at a slot's page
 abbrev pub IsState : List ℕ → ℕ → SlotState → Type 0
 IsState file page Short = length file < 1024
-IsState file page NoMark = slot_of (take 32 (drop (512 * page) file)) ≡ None
-IsState file page (Closed s) = (slot_of (take 32 (drop (512 * page) file)) ≡ Some s) × (s.gate ≢ 1)
+IsState file page NoMark = slot_of (take 44 (drop (512 * page) file)) ≡ None
+IsState file page (Closed s) = (slot_of (take 44 (drop (512 * page) file)) ≡ Some s) × (s.gate ≢ 1)
 IsState file page (Open r) =
-    (slot_of (take 32 (drop (512 * page) file)) ≡ Some r.slot) × (r.slot.gate ≡ 1) × IsSlotReport file r
+    (slot_of (take 44 (drop (512 * page) file)) ≡ Some r.slot) × (r.slot.gate ≡ 1) × IsSlotReport file r
 
 -- what was found of a slot, where it is open
 abbrev pub opened : SlotState → Option SlotReport

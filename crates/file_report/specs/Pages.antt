@@ -2,12 +2,13 @@
 use Rattle.std.specs.Prelude.{◌≡◌, ◌⊎◌, ◌<◌, ◌≤◌, true, false, ℕ, zero, suc, ◌+◌, ◌-◌, min, max, Bool, not, ◌&&◌, cond, List, [], ◌∷◌, ◌++◌, map, Option, None, Some}
 use Rattle.std.specs.List.{Contains, list_any}
 use Rattle.std.specs.Option.{option_map}
-use Rattle.geos_model.specs.File.{Directory, directory_of}
-use Rattle.geos_model.specs.declared.file.Extent.{Extent}
-use Rattle.geos_model.specs.declared.file.Entry.{Entry}
-use Rattle.geos_model.specs.declared.file.Slot.{Slot}
-use Rattle.vm_space.specs.Space.{is_on}
-use Rattle.vm_format.specs.Listed.{as_directory}
+use Rattle.file_format.specs.File.{Directory}
+use Rattle.file_format.specs.declared.file.Extent.{Extent}
+use Rattle.file_format.specs.declared.file.Entry.{Entry}
+use Rattle.file_format.specs.declared.file.Slot.{Slot}
+use Rattle.file_space.specs.Space.{is_on}
+use Rattle.file_format.specs.Listed.{as_directory}
+use Rattle.file_report.specs.Findings.{named_directory}
 use Rattle.file_report.specs.declared.finding.Named.{Named}
 use Rattle.file_report.specs.declared.finding.Named.TheVariants.{Updated, Saved}
 use Rattle.file_report.specs.declared.checking.SlotReport.{SlotReport}
@@ -41,7 +42,7 @@ usages_of r = slot_usages r.slot (option_map as_directory r.updated) (option_map
 
 -- with those that are in a file
 abbrev pub file_usages : List ℕ → Slot → List Usage
-file_usages file s = slot_usages s (directory_of s.version file s.working) (directory_of s.version file s.saved)
+file_usages file s = slot_usages s (named_directory file s Updated) (named_directory file s Saved)
 
 -- something lies on a page
 abbrev pub is_used : List Usage → ℕ → Bool

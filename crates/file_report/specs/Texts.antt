@@ -1,8 +1,7 @@
 -- What is told of a finding: the text that it prints.
 use Rattle.std.specs.Prelude.{ℕ, List, [], ◌++◌, codes, false}
 use Rattle.std.specs.Fmt.{decimal, digits, format_spec, padded_integral}
-use Rattle.geos_model.specs.declared.file.Extent.{Extent}
-use Rattle.geos_model.specs.declared.file.Entry.{Entry}
+use Rattle.file_format.specs.declared.file.Extent.{Extent}
 use Rattle.file_report.specs.declared.finding.Named.{Named}
 use Rattle.file_report.specs.declared.finding.Named.TheVariants.{Updated, Saved}
 use Rattle.file_report.specs.declared.finding.HeaderFault.{HeaderFault}
@@ -40,16 +39,21 @@ abbrev pub finding_text : Finding → List ℕ
 finding_text (finding.SlotVersion v) = codes "its version is " ++ decimal v
 finding_text finding.SlotZeros = codes "its zeros are not"
 finding_text finding.SlotSequence = codes "its sequence number is 0"
+finding_text finding.SlotSum = codes "the slot's own sum is wrong"
 finding_text (finding.NoDirectory name e) = name_text name ++ codes " document: no directory at " ++ extent_words e
 finding_text (finding.Outside name e) = name_text name ++ codes " directory: not in the file: " ++ extent_words e
 finding_text (finding.NoLength name e) =
     name_text name ++ codes " directory: none has such a length: " ++ extent_words e
+finding_text (finding.DirectorySum name) = name_text name ++ codes " document: the directory's sum is wrong"
 finding_text (finding.Header name fault) = name_text name ++ codes " directory: " ++ header_fault_words fault
 finding_text (finding.MapBlock name h) =
     name_text name ++ codes " directory: its map block " ++ handle_text h.0 ++ codes " is not listed"
 finding_text (finding.Entry name i e fault) =
     name_text name ++ codes " directory: entry " ++ decimal i ++ codes ", block " ++ handle_text e.handle.0
     ++ codes ", image at " ++ extent_words e.extent ++ codes ": " ++ entry_fault_words fault
+finding_text (finding.Sum name e) =
+    name_text name ++ codes " document: block " ++ handle_text e.handle.0 ++ codes ", image at "
+    ++ extent_words e.extent ++ codes ": its sum is wrong"
 finding_text (finding.Image name e) =
     name_text name ++ codes " document: block " ++ handle_text e.handle.0 ++ codes " of type "
     ++ decimal e.attributes.heap_type ++ codes ": no image of one at " ++ extent_words e.extent

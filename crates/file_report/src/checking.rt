@@ -3,19 +3,21 @@ ghost use Rattle.std.specs.Prelude.{◌≡◌, ◌≤◌, ◌<◌, ◌&&◌, if�
 ghost use Rattle.std.specs.Option.{option_map};
 ghost use Rattle.std.specs.Result.{result_map_both};
 ghost use Rattle.vm_store.specs.Facts.{FailedSince};
-ghost use Rattle.vm_format.specs.Reading.{IsResourceFault, OnlyReadsStore};
+ghost use Rattle.file_format.specs.File.{is_sealed};
+ghost use Rattle.file_format.specs.Reading.{IsResourceFault, OnlyReadsStore};
 ghost use Rattle.file_report.specs.Findings.{FindsMore};
 ghost use Rattle.file_report.specs.Reading.{IsSoOfSlot};
-ghost use Rattle.vm_format.specs.Slots.{chosen_by, header_verdict};
+ghost use Rattle.file_format.specs.Slots.{chosen_by, header_verdict};
 ghost use Rattle.file_report.specs.Checked.{IsReport, IsSlotReport, IsState, chosen_between, counting_between, counting_number, with_sequence, opened, verdict_by};
 
 use crate::document::check_document;
 use crate::finding::{Finding, Named, note_unless};
-use geos_model::{Fault, PAGE, Slot};
-use std::alloc::{AllocError, Global};
-use vm_format::{
-    Directory, check_slot as check_header, choose, is_version, read_length, read_raw_slot,
+use file_format::{
+    Directory, PAGE, Slot, check_slot as check_header, choose, is_version, own_sum, read_length,
+    read_raw_slot,
 };
+use geos_model::Fault;
+use std::alloc::{AllocError, Global};
 use vm_store::Store;
 
 /// What was found of an open slot, as if it counted.
@@ -70,7 +72,19 @@ fn slot_findings(alloc: Global, slot: &Slot) -> Result<Vec<Finding>, AllocError>
     note_unless(zeros, Finding::SlotZeros, &mut findings)?;
     let numbered = is_sequence(slot.sequence);
     note_unless(numbered, Finding::SlotSequence, &mut findings)?;
+    let sealed = is_sealed(slot);
+    note_unless(sealed, Finding::SlotSum, &mut findings)?;
     Ok(findings)
+}
+
+// Whether a slot's own sum is right, where it has one.
+fn is_sealed(slot: &Slot) -> bool
+    ensures { result ≡ is_sealed slot.now }
+{
+    match &slot.sums {
+        None => true,
+        Some(sums) => sums.own == own_sum(slot, sums),
+    }
 }
 
 // Whether a slot can have the sequence number.

@@ -1,6 +1,6 @@
 //! What is wrong with the directory of one of a slot's documents.
-ghost use Rattle.std.specs.Prelude.{◌≡◌, ◌+◌, ◌*◌, ◌<◌, ◌≤◌, OnOk, length};
-ghost use Rattle.file_report.specs.Findings.{FindsMore, IsSeen, directory_extent};
+ghost use Rattle.std.specs.Prelude.{◌≡◌, ◌<◌, ◌≤◌, OnOk, length};
+ghost use Rattle.file_report.specs.Findings.{FindsMore, HasEntry, IsSeen, directory_extent, directory_sum};
 ghost use Rattle.file_report.specs.Reading.{IsSoOf, IsSoOfRead, IsWrong};
 
 use crate::entry::{
@@ -9,9 +9,11 @@ use crate::entry::{
     version_of, whole_entries,
 };
 use crate::finding::{EntryFault, Finding, HeaderFault, Named, note_unless};
-use geos_model::{Extent, Slot, VmHandle};
+use file_format::{
+    Extent, HEADER_LENGTH, ReadDirectory, Slot, has_sum, is_in_file, is_known, read_entry,
+};
+use geos_model::VmHandle;
 use std::alloc::AllocError;
-use vm_format::{HEADER_LENGTH, ReadDirectory, is_in_file, is_known, read_entry};
 
 /// Where the directory of one of a slot's documents lies.
 pub fn directory_extent(slot: &Slot, name: Named) -> Extent
@@ -20,6 +22,17 @@ pub fn directory_extent(slot: &Slot, name: Named) -> Extent
     match name {
         Named::Updated => slot.working,
         Named::Saved => slot.saved,
+    }
+}
+
+/// The sum of that directory, if there is one.
+pub fn directory_sum(slot: &Slot, name: Named) -> Option<u32>
+    ensures { result ≡ directory_sum slot.now name }
+{
+    let sums = slot.sums?;
+    match name {
+        Named::Updated => Some(sums.working),
+        Named::Saved => Some(sums.saved),
     }
 }
 
@@ -65,7 +78,7 @@ fn note_entry(
     i: usize,
     findings: &mut Vec<Finding>,
 ) -> Result<(), AllocError>
-    requires { 16 + 16 * i + 16 ≤ length bytes.now }
+    requires { HasEntry bytes.now i }
     ensures { OnOk result (FindsMore (IsSeen file_version file_length bytes.now name)
         findings.old.items findings.new.items) }
 {
@@ -114,6 +127,7 @@ fn note_entries(
     name: Named,
     findings: &mut Vec<Finding>,
 ) -> Result<(), AllocError>
+    requires { 16 ≤ length bytes.now }
     ensures { OnOk result (FindsMore (IsSeen file_version file_length bytes.now name)
         findings.old.items findings.new.items) }
 {
@@ -208,6 +222,8 @@ pub fn note_directory(
         }
         ReadDirectory::Wrong(bytes) => {
             findings.push(Finding::NoDirectory(name, extent))?;
+            let summed = has_sum(directory_sum(slot, name), bytes);
+            note_unless(summed, Finding::DirectorySum(name), findings)?;
             note_bytes(bytes, file_length, slot.version, name, findings)?;
             Ok(())
         }

@@ -1,20 +1,30 @@
 //! The entries of a directory that may be wrong, by their bytes.
-ghost use Rattle.std.specs.Prelude.{◌≡◌, ◌+◌, ◌*◌, ◌<◌, ◌≤◌, ◌≢◌, ◌⊎◌, ◌-◌, ℕ, false, length, take, drop};
+ghost use Rattle.std.specs.Prelude.{◌≡◌, ◌<◌, ◌≤◌, ◌≢◌, ◌⊎◌, ◌-◌, ℕ, false, length, take, drop};
 ghost use Rattle.geos_model.specs.Words.{word_at};
-ghost use Rattle.geos_model.specs.File.{directory_mark, greatest_handle, longest_directory, longest_image};
-ghost use Rattle.file_report.specs.Findings.{are_zeros, handle_before, entry_text_at, zeros_of};
+ghost use Rattle.file_format.specs.File.{directory_mark, entry_length, entry_start, greatest_handle, longest_directory, longest_image};
+ghost use Rattle.file_report.specs.Findings.{HasEntry, are_zeros, handle_at, handle_before, entry_text_at, zeros_of};
 
 use byteorder::{ByteOrder, LittleEndian};
-use vm_format::{ENTRY_LENGTH, HEADER_LENGTH, LONGEST_DIRECTORY, LONGEST_IMAGE, most_handles};
+use file_format::{
+    HEADER_LENGTH, LONGEST_DIRECTORY, LONGEST_IMAGE, entry_length, entry_start, most_handles,
+};
+
+// Where an entry begins.
+fn start_of_entry(bytes: &[u8], i: usize) -> usize
+    requires { HasEntry bytes.now i }
+    ensures { result ≡ entry_start (word_at bytes.now 4) i }
+{
+    HEADER_LENGTH + entry_length(version_of(bytes)) * i
+}
 
 /// The text of an entry.
 pub fn text_at(bytes: &[u8], i: usize) -> &[u8]
-    requires { 16 + 16 * i + 16 ≤ length bytes.now }
+    requires { HasEntry bytes.now i }
     ensures text { result.now ≡ entry_text_at bytes.now i }
-    ensures size { length result.now ≡ ENTRY_LENGTH }
+    ensures size { length result.now ≡ entry_length (word_at bytes.now 4) }
 {
-    let at = HEADER_LENGTH + ENTRY_LENGTH * i;
-    &bytes[at..at + ENTRY_LENGTH]
+    let at = start_of_entry(bytes, i);
+    &bytes[at..at + entry_length(version_of(bytes))]
 }
 
 /// Whether a directory has its mark.
@@ -42,9 +52,10 @@ pub fn map_block_of(bytes: &[u8]) -> u16
 
 /// Whether a directory has the bytes of so many entries.
 pub fn is_whole(bytes: &[u8], count: u16) -> bool
-    ensures { result ≡ false → length bytes.now ≢ 16 + 16 * count }
+    requires { 16 ≤ length bytes.now }
+    ensures { result ≡ false → length bytes.now ≢ entry_start (word_at bytes.now 4) count }
 {
-    bytes.len() == HEADER_LENGTH + ENTRY_LENGTH * usize::from(count)
+    bytes.len() == entry_start(version_of(bytes), usize::from(count))
 }
 
 /// Whether a header ends in zeros.
@@ -83,12 +94,12 @@ pub fn is_image_length(length: u32) -> bool
     length >= 1 && length as usize <= LONGEST_IMAGE
 }
 
-/// Whether an entry of a directory of this version ends in zeros.
+/// Whether an entry of a directory of this version has its zeros.
 pub fn has_entry_zeros(version: u16, text: &[u8]) -> bool
-    requires { length text.now ≡ 16 }
-    ensures { result ≡ are_zeros (drop (16 - zeros_of version) text.now) }
+    requires { 16 ≤ length text.now }
+    ensures { result ≡ are_zeros (drop (16 - zeros_of version) (take 16 text.now)) }
 {
-    are_zeros(&text[ENTRY_LENGTH - zeros_of(version)..])
+    are_zeros(&text[..16][16 - zeros_of(version)..])
 }
 
 /// The version of a directory.
@@ -101,21 +112,21 @@ pub fn version_of(bytes: &[u8]) -> u16
 
 // The handle of an entry.
 fn handle_at(bytes: &[u8], i: usize) -> u16
-    requires { 16 + 16 * i + 16 ≤ length bytes.now }
-    ensures { result ≡ word_at bytes.now (16 + 16 * i) }
+    requires { HasEntry bytes.now i }
+    ensures { result ≡ handle_at bytes.now i }
 {
-    LittleEndian::read_u16(&bytes[HEADER_LENGTH + ENTRY_LENGTH * i..])
+    LittleEndian::read_u16(&bytes[start_of_entry(bytes, i)..])
 }
 
 /// The handle of the entry before one, 0 before the first.
 pub fn handle_before(bytes: &[u8], i: usize) -> u16
-    requires { 16 + 16 * i + 16 ≤ length bytes.now }
+    requires { HasEntry bytes.now i }
     ensures { result ≡ handle_before bytes.now i }
 {
     if i == 0 { 0 } else { handle_at(bytes, i - 1) }
 }
 
-// How many zeros an entry ends in, in a directory of this version.
+// How many zeros an entry has, in a directory of this version.
 fn zeros_of(version: u16) -> usize
     ensures value { result ≡ zeros_of version }
     ensures few { result ≤ 4 }
@@ -132,16 +143,17 @@ fn are_zeros(bytes: &[u8]) -> bool
 
 /// How many entries have their bytes whole.
 pub fn whole_entries(bytes: &[u8]) -> usize
-    ensures within { (i : ℕ) → i < result → 16 + 16 * i + 16 ≤ length bytes.now }
-    ensures all { length bytes.now < 16 + 16 * result + 16 }
+    requires { 16 ≤ length bytes.now }
+    ensures within { (i : ℕ) → i < result → HasEntry bytes.now i }
+    ensures all { (i : ℕ) → HasEntry bytes.now i → i < result }
 {
-    bytes.len().saturating_sub(HEADER_LENGTH) / ENTRY_LENGTH
+    (bytes.len() - HEADER_LENGTH) / entry_length(version_of(bytes))
 }
 
 // Whether an entry has this handle.
 fn lists(bytes: &[u8], handle: u16) -> bool
-    ensures { result ≡ false → (i : ℕ) → 16 + 16 * i + 16 ≤ length bytes.now
-        → word_at bytes.now (16 + 16 * i) ≢ handle }
+    requires { 16 ≤ length bytes.now }
+    ensures { result ≡ false → (i : ℕ) → HasEntry bytes.now i → handle_at bytes.now i ≢ handle }
 {
     for i in 0..whole_entries(bytes) {
         if handle_at(bytes, i) == handle {
@@ -153,8 +165,9 @@ fn lists(bytes: &[u8], handle: u16) -> bool
 
 /// Whether a directory has no map block or lists it.
 pub fn is_map_block(bytes: &[u8], map_block: u16) -> bool
-    ensures { result ≡ false → (map_block ≢ 0) × ((i : ℕ) → 16 + 16 * i + 16 ≤ length bytes.now
-        → word_at bytes.now (16 + 16 * i) ≢ map_block) }
+    requires { 16 ≤ length bytes.now }
+    ensures { result ≡ false
+        → (map_block ≢ 0) × ((i : ℕ) → HasEntry bytes.now i → handle_at bytes.now i ≢ map_block) }
 {
     map_block == 0 || lists(bytes, map_block)
 }

@@ -2,7 +2,8 @@
 ghost use Rattle.std.specs.Prelude.{◌≡◌, ◌<◌, OnOk, false, length};
 ghost use Rattle.file_report.specs.Findings.{FindsMore, IsNoted};
 
-use geos_model::{Entry, Extent, VmHandle};
+use file_format::{Entry, Extent};
+use geos_model::VmHandle;
 use std::alloc::AllocError;
 use std::fmt;
 
@@ -37,31 +38,37 @@ pub enum EntryFault {
     Length,
     /// Its image doesn't lie in the file, behind the slots and on pages that can be used.
     Outside,
-    /// Its last two bytes aren't zeros, or its last four in a directory of version 1.
+    /// The last two of its first 16 bytes aren't zeros, or the last four in a directory of version 1.
     Zeros,
 }
 
 /// One fact that keeps a document from standing.
 #[derive(Clone, Copy)]
 pub enum Finding {
-    /// The slot has this version, neither 1 nor 2.
+    /// The slot has this version, none of 1 to 3.
     SlotVersion(u8),
     /// The two zeros of the slot aren't.
     SlotZeros,
     /// The sequence number of the slot is 0.
     SlotSequence,
-    /// In this extent is no directory that can be in the file.
+    /// The slot hasn't its own sum.
+    SlotSum,
+    /// In this extent is no directory that can be in the file and that has the sum that the slot names.
     NoDirectory(Named, Extent),
     /// The extent of the directory doesn't lie in the file, behind the slots and on pages that can be used.
     Outside(Named, Extent),
     /// No directory is as long as the extent.
     NoLength(Named, Extent),
+    /// The bytes of the directory haven't the sum that the slot names.
+    DirectorySum(Named),
     /// The header of the directory is wrong.
     Header(Named, HeaderFault),
     /// The map block of the directory isn't listed in it.
     MapBlock(Named, VmHandle),
     /// The entry of the directory with this number, from 0 on, is wrong.
     Entry(Named, usize, Entry, EntryFault),
+    /// The directory lists this entry, and the bytes in its extent haven't its sum.
+    Sum(Named, Entry),
     /// The directory lists this entry, and in its extent is no image of a body that can have its type.
     Image(Named, Entry),
 }
@@ -156,6 +163,7 @@ impl fmt::Display for Finding {
             Finding::SlotVersion(version) => write!(f, "its version is {version}"),
             Finding::SlotZeros => write!(f, "its zeros are not"),
             Finding::SlotSequence => write!(f, "its sequence number is 0"),
+            Finding::SlotSum => write!(f, "the slot's own sum is wrong"),
             Finding::NoDirectory(name, extent) => {
                 write!(f, "{name} document: no directory at {}", At(*extent))
             }
@@ -169,6 +177,9 @@ impl fmt::Display for Finding {
                     At(*extent)
                 )
             }
+            Finding::DirectorySum(name) => {
+                write!(f, "{name} document: the directory's sum is wrong")
+            }
             Finding::Header(name, fault) => write!(f, "{name} directory: {fault}"),
             Finding::MapBlock(name, block) => {
                 write!(
@@ -180,6 +191,12 @@ impl fmt::Display for Finding {
             Finding::Entry(name, i, entry, fault) => write!(
                 f,
                 "{name} directory: entry {i}, block {:04x}, image at {}: {fault}",
+                entry.handle.0,
+                At(entry.extent)
+            ),
+            Finding::Sum(name, entry) => write!(
+                f,
+                "{name} document: block {:04x}, image at {}: its sum is wrong",
                 entry.handle.0,
                 At(entry.extent)
             ),

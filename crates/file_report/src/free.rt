@@ -1,12 +1,11 @@
 //! The pages of a file on which nothing lies.
 ghost use Rattle.std.specs.Prelude.{◌≤◌, ◌||◌, ℕ, Bool};
 ghost use Rattle.std.specs.List.Sorted.{IsNonDecreasingBy};
-ghost use Rattle.vm_space.specs.Space.{is_on};
+ghost use Rattle.file_space.specs.Space.{is_on};
 ghost use Rattle.file_report.specs.Pages.{AreFreePages, IsPageWalk, PassesFree};
 
 use crate::pages::Usage;
-use geos_model::Extent;
-use vm_format::page_behind;
+use file_format::{Extent, page_behind};
 
 /// The pages of a file on which nothing lies.
 #[derive(Clone, Copy, Debug, PartialEq, Eq)]

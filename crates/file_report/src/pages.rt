@@ -3,16 +3,16 @@ ghost use Rattle.std.specs.Prelude.{◌≡◌, ◌⊎◌, ◌↔◌, ◌≤◌, 
 ghost use Rattle.std.specs.List.{Contains};
 ghost use Rattle.std.specs.List.Sorted.{IsNonDecreasingBy};
 ghost use Rattle.std.specs.Option.{option_copied, option_map};
-ghost use Rattle.geos_model.specs.File.{end_page};
-ghost use Rattle.vm_format.specs.Listed.{as_directory};
+ghost use Rattle.file_format.specs.File.{end_page};
+ghost use Rattle.file_format.specs.Listed.{as_directory};
 ghost use Rattle.file_report.specs.Pages.{AreReportedIn, DoOverlap, IsShared, IsReportedIn, image_usage, part_of_content, slot_usages, usages_in, usages_of};
 ghost use Rattle.file_report.specs.declared.pages.Usage.{Usage};
 
 use crate::checking::SlotReport;
 use crate::finding::Named;
-use geos_model::{Extent, PAGE, Slot, VmHandle};
+use file_format::{Directory, Extent, PAGE, Slot, page_behind};
+use geos_model::VmHandle;
 use std::alloc::{AllocError, Global};
-use vm_format::{Directory, page_behind};
 
 /// What an extent holds.
 #[derive(Clone, Copy)]

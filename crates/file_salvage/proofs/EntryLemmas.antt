@@ -3,10 +3,10 @@ use Rattle.std.proofs.Common.{◌≡◌, ℕ, zero, suc, ◌+◌, ◌<◌, ◌�
 use Rattle.std.specs.List.{range_with_len}
 use Rattle.std.proofs.lemmas.List.FromFn.{get_or-map-range_with_len, length-map-range_with_len, map-range_with_len_more}
 use Rattle.geos_model.specs.Document.{Block}
-use Rattle.geos_model.specs.File.{block_of, blocks_of_entries, prepended}
-use Rattle.geos_model.specs.declared.file.Entry.{Entry}
+use Rattle.file_format.specs.File.{block_of, blocks_of_entries, prepended}
+use Rattle.file_format.specs.declared.file.Entry.{Entry}
 use Rattle.document_dump.specs.Entries.{HasBlocks}
-use Rattle.file_salvage.specs.Entries.{damage_at, damages, entry_at, entry_count, free_at, free_below, frees, is_right, note_at, notes, taken_entries}
+use Rattle.file_salvage.specs.Entries.{damage_at, damages, entry_at, entry_count, free_at, free_below, frees, image_flaw, is_right, note_at, notes, taken_entries}
 use Rattle.file_salvage.specs.Rows.{IsRow}
 use Rattle.file_salvage.specs.declared.flaw.Flaw.{Flaw}
 use Rattle.file_salvage.specs.declared.flaw.Flaw.TheVariants as flaws
@@ -49,11 +49,20 @@ has_both None others a b = absurd (cc a)
 has_both (Some x) None a b = absurd (cc b)
 has_both (Some x) (Some xs) a b = refl
 
-undamaged : (file : List ℕ) (e : Entry) (right has : Bool) → is_some (block_of file e) ≡ has → cond (not right) (Some flaws.Entry) (cond (not has) (Some flaws.Image) None) ≡ None
+undamaged : (file : List ℕ) (e : Entry) (flaw : Flaw) (right has : Bool) → is_some (block_of file e) ≡ has → cond (not right) (Some flaws.Entry) (cond (not has) (Some flaw) None) ≡ None
     → is_some (block_of file e) ≡ true
-undamaged file e false has is none = absurd (cc none)
-undamaged file e true false is none = absurd (cc none)
-undamaged file e true true is none = is
+undamaged file e flaw false has is none = absurd (cc none)
+undamaged file e flaw true false is none = absurd (cc none)
+undamaged file e flaw true true is none = is
+
+-- why an entry hasn't its block, if its text is right
+pub flawed : (file : List ℕ) (version : ℕ) (bytes : List ℕ) (i : ℕ) (flaw : Flaw) → is_right version (length file) bytes i ≡ true → is_some (block_of file (entry_at bytes i)) ≡ false
+    → flaw ≡ image_flaw file (entry_at bytes i) → Some flaw ≡ damage_at file version bytes i
+flawed file version bytes i flaw right hasnt is =
+    let found : Flaw = image_flaw file (entry_at bytes i) in
+    ap (λ (f : Flaw). Some f) is
+    ∙ sym (ap (λ (b : Bool). cond (not b) (Some flaws.Entry) (cond (not (is_some (block_of file (entry_at bytes i)))) (Some found) None)) right
+    ∙ ap (λ (b : Bool). cond (not b) (Some found) None) hasnt)
 
 sound : (i : ℕ) (e : Entry) (damage : Option Flaw) → 1 ≤ free_below i e damage → damage ≡ None
 sound i e None free = refl
@@ -74,7 +83,7 @@ module _ (file : List ℕ) (version : ℕ) (bytes : List ℕ) where
       let free : slice_index (frees bytes all) i ≡ free_at bytes all i = get_or-map-range_with_len (free_at bytes all) 0 (length all) i i 0 (omega (arith, below, count)) at in
       let none : slice_index_or all i None ≡ None = sound i (entry_at bytes i) (slice_index_or all i None) (subst (λ (x : ℕ). 1 ≤ x) free some) in
       let is : slice_index_or all i None ≡ damage_at file version bytes i = get_or-map-range_with_len (damage_at file version bytes) 0 (entry_count bytes) i i None below at in
-      undamaged file (entry_at bytes i) (is_right version (length file) bytes i) (is_some (block_of file (entry_at bytes i))) refl (sym is ∙ none)
+      undamaged file (entry_at bytes i) (image_flaw file (entry_at bytes i)) (is_right version (length file) bytes i) (is_some (block_of file (entry_at bytes i))) refl (sym is ∙ none)
 
   row_has : (n most : ℕ) (row : List ℕ) → n ≤ entry_count bytes → IsRow (frees bytes (damages file version bytes)) n most row → HasBlocks file (map (entry_at bytes) row)
   row_has n most [] few is = refl

@@ -3,8 +3,8 @@ use Rattle.std.proofs.Common.{◌≡◌, ℕ, ◌≤◌, ◌<◌, Bool, true, fa
 use Rattle.std.specs.Option.{option_or}
 use Rattle.std.proofs.lemmas.List.{take_all}
 use Rattle.std.proofs.lemmas.Bool.{cases_lt, le-ltb, lt-ltb}
-use Rattle.geos_model.specs.File.{bytes_in}
-use Rattle.geos_model.specs.declared.file.Slot.{Slot}
+use Rattle.file_format.specs.File.{bytes_in}
+use Rattle.file_format.specs.declared.file.Slot.{Slot}
 use Rattle.file_salvage.specs.Places.{head_of, if_readable, is_header, is_place, is_second_first, readable_in, readable_of, salvaged_place, slot_at}
 use Rattle.file_salvage.specs.declared.place.Place.{Place}
 

@@ -6,11 +6,11 @@ use Rattle.std.specs.Io.KnownBytes.{Appends}
 use Rattle.std.specs.Option.{option_and_then, option_map}
 use Rattle.vm_store.specs.Facts.{StoreFacts}
 use Rattle.geos_model.specs.Document.{Document}
-use Rattle.geos_model.specs.File.{blocks_of_entries}
+use Rattle.file_format.specs.File.{blocks_of_entries}
 use Rattle.geos_model.specs.Words.{word_at}
-use Rattle.geos_model.specs.declared.file.Entry.{Entry}
-use Rattle.vm_format.specs.Reading.{OnlyReadsStore}
-use Rattle.vm_format.proofs.LooksLemmas.{raised_later, still}
+use Rattle.file_format.specs.declared.file.Entry.{Entry}
+use Rattle.file_format.specs.Reading.{OnlyReadsStore}
+use Rattle.file_format.proofs.LooksLemmas.{raised_later, still}
 use Rattle.document_dump.specs.Dumps.{saved_text}
 use Rattle.document_dump.specs.Entries.{HasBlocks, IsListed}
 use Rattle.document_dump.specs.Faults.{IsDumpRefusal}

@@ -1,38 +1,57 @@
 -- Which entries of a directory are whole. Its bytes may be fewer than its header tells: then entries are missing.
-use Rattle.std.specs.Prelude.{ℕ, List, [], ◌∷◌, ◌++◌, ◌-◌, ◌/◌, Bool, not, ◌==◌, ◌&&◌, nat_le, length, map, drop, slice_index_or, if◌then◌else◌, Option, None, Some, is_some, codes}
-use Rattle.std.specs.List.{flat_map, list_any, range_with_len}
+use Rattle.std.specs.Prelude.{ℕ, List, [], ◌∷◌, ◌++◌, ◌-◌, ◌/◌, Bool, not, ◌==◌, ◌&&◌, nat_le, length, map, take, drop, slice_index_or, if◌then◌else◌, Option, None, Some, is_some, codes}
+use Rattle.std.specs.List.{flat_map, list_all, list_any, range_with_len}
 use Rattle.geos_model.specs.Words.{word_at}
-use Rattle.geos_model.specs.File.{block_of, entry_read, is_entry}
-use Rattle.geos_model.specs.declared.file.Entry.{Entry}
+use Rattle.file_format.specs.File.{block_of, entry_length, entry_read, entry_start, is_entry}
+use Rattle.file_format.specs.declared.file.Entry.{Entry}
 use Rattle.geos_model.specs.Script.{four_digits}
-use Rattle.file_report.specs.Findings.{are_zeros, entry_text_at, zeros_of}
 use Rattle.file_salvage.specs.Rows.{longest_row}
 use Rattle.file_salvage.specs.declared.flaw.Flaw.{Flaw}
 use Rattle.file_salvage.specs.declared.flaw.Flaw.TheVariants as flaws
-
--- how many entries these bytes of a directory have whole
-abbrev pub entry_count : List ℕ → ℕ
-entry_count bytes = (length bytes - 16) / 16
 
 -- the version of a directory
 abbrev pub version_in : List ℕ → ℕ
 version_in bytes = word_at bytes 4
 
+-- how many entries these bytes of a directory have whole
+abbrev pub entry_count : List ℕ → ℕ
+entry_count bytes = (length bytes - 16) / entry_length (version_in bytes)
+
+-- the text of an entry
+abbrev pub text_at : List ℕ → ℕ → List ℕ
+text_at bytes i = take (entry_length (version_in bytes)) (drop (entry_start (version_in bytes) i) bytes)
+
 abbrev pub entry_at : List ℕ → ℕ → Entry
-entry_at bytes i = entry_read (version_in bytes) (entry_text_at bytes i)
+entry_at bytes i = entry_read (version_in bytes) (text_at bytes i)
+
+-- where the zeros of an entry begin, in a directory of a version: in version 1 they stand for its type too
+abbrev pub zeros_start : ℕ → ℕ
+zeros_start version = if version == 1 then 12 else 14
+
+-- the text of an entry has these zeros, which a sum may follow
+abbrev pub has_zeros : ℕ → List ℕ → Bool
+has_zeros version text = list_all (λ b. b == 0) (drop (zeros_start version) (take 16 text))
 
 -- the text of an entry is one of a directory in a file of a version and of n bytes
 abbrev pub is_right : ℕ → ℕ → List ℕ → ℕ → Bool
 is_right file_version n bytes i =
     let e = entry_at bytes i in
     nat_le 1 e.handle.0 && is_entry file_version n (version_in bytes) e
-    && are_zeros (drop (16 - zeros_of (version_in bytes)) (entry_text_at bytes i))
+    && has_zeros (version_in bytes) (text_at bytes i)
+
+-- an entry without its sum
+abbrev pub unsummed : Entry → Entry
+unsummed e = record { handle = e.handle; attributes = e.attributes; extent = e.extent; sum = None }
+
+-- why an entry hasn't its block: there is an image, but with another sum, or there is none
+abbrev pub image_flaw : List ℕ → Entry → Flaw
+image_flaw file e = if is_some (block_of file (unsummed e)) then flaws.Sum else flaws.Image
 
 -- why an entry isn't whole
 abbrev pub damage_at : List ℕ → ℕ → List ℕ → ℕ → Option Flaw
 damage_at file version bytes i =
     if not (is_right version (length file) bytes i) then Some flaws.Entry
-    else if not (is_some (block_of file (entry_at bytes i))) then Some flaws.Image else None
+    else if not (is_some (block_of file (entry_at bytes i))) then Some (image_flaw file (entry_at bytes i)) else None
 
 -- the same of each entry of a directory
 abbrev pub damages : List ℕ → ℕ → List ℕ → List (Option Flaw)
@@ -70,6 +89,7 @@ flaw_beside row i (Some flaw) = Some flaw
 abbrev pub flaw_words : Flaw → List ℕ
 flaw_words flaws.Entry = codes " is left out: its entry is damaged\n"
 flaw_words flaws.Image = codes " is left out: its image is damaged\n"
+flaw_words flaws.Sum = codes " is left out: its sum is wrong\n"
 flaw_words flaws.Order = codes " is left out: its handle isn't in order\n"
 
 -- the line that tells it

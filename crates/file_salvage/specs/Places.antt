@@ -3,9 +3,9 @@ use Rattle.std.specs.Prelude.{ℕ, List, ◌+◌, ◌*◌, Bool, true, false, �
 use Rattle.std.specs.Option.{option_or}
 use Rattle.geos_model.specs.Bytes.{same_bytes}
 use Rattle.geos_model.specs.Words.{word_at}
-use Rattle.geos_model.specs.File.{bytes_in, directory_mark, is_version_in, longest_directory, slot_of}
-use Rattle.geos_model.specs.declared.file.Extent.{Extent}
-use Rattle.geos_model.specs.declared.file.Slot.{Slot}
+use Rattle.file_format.specs.File.{bytes_in, directory_mark, entry_start, is_version, is_version_in, longest_directory, slot_of}
+use Rattle.file_format.specs.declared.file.Extent.{Extent}
+use Rattle.file_format.specs.declared.file.Slot.{Slot}
 use Rattle.file_report.specs.Findings.{directory_extent}
 use Rattle.file_report.specs.declared.finding.Named.{Named}
 use Rattle.file_report.specs.declared.finding.Named.TheVariants.{Updated, Saved}
@@ -23,12 +23,13 @@ head_of e = record { page = e.page; length = 16 }
 -- a header of a directory of n bytes in a file of a version. Its last bytes, which are zeros, aren't looked at.
 abbrev pub is_header : ℕ → ℕ → List ℕ → Bool
 is_header version n head =
-    same_bytes (take 4 head) directory_mark && is_version_in version (word_at head 4) && n == 16 + 16 * word_at head 6
+    same_bytes (take 4 head) directory_mark && is_version_in version (word_at head 4)
+    && n == entry_start (word_at head 4) (word_at head 6)
 
 -- a directory can begin there
 abbrev pub is_place : ℕ → Place → Bool
 is_place file_length p =
-    (p.version == 1 || p.version == 2) && nat_le 16 p.extent.length && nat_le p.extent.length longest_directory
+    is_version p.version && nat_le 16 p.extent.length && nat_le p.extent.length longest_directory
     && nat_le (512 * p.extent.page + 16) file_length
 
 -- its header can be read
@@ -47,7 +48,7 @@ readable_in file second (Some s) =
 
 -- the slot at a page, whether or not it is open
 abbrev pub slot_at : List ℕ → ℕ → Option Slot
-slot_at file page = slot_of (take 32 (drop (512 * page) file))
+slot_at file page = slot_of (take 44 (drop (512 * page) file))
 
 -- the second slot is tried first: it is open and the first isn't, or has the greater number where both are or neither
 abbrev pub is_second_first : Option Slot → Option Slot → Bool

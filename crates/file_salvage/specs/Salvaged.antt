@@ -3,9 +3,9 @@ use Rattle.std.specs.Prelude.{◌≡◌, ◌⊎◌, ℕ, List, [], ◌∷◌, �
 use Rattle.std.specs.Io.KnownBytes.{Appends}
 use Rattle.std.specs.Option.{option_and_then, option_map}
 use Rattle.geos_model.specs.Document.{Document}
-use Rattle.geos_model.specs.File.{bytes_in, document_of}
+use Rattle.file_format.specs.File.{bytes_in, document_of}
 use Rattle.geos_model.specs.Words.{word_at}
-use Rattle.geos_model.specs.declared.file.Entry.{Entry}
+use Rattle.file_format.specs.declared.file.Entry.{Entry}
 use Rattle.geos_model.specs.Script.{four_digits}
 use Rattle.document_dump.specs.Dumps.{saved_text}
 use Rattle.document_dump.specs.Entries.{listing}

@@ -1,24 +1,26 @@
 //! Which entries of a directory are whole.
-ghost use Rattle.std.specs.Prelude.{◌≡◌, ◌++◌, ◌+◌, ◌*◌, ◌-◌, ◌<◌, ◌≤◌, All, IfErr, IfOk, IsErrOf, IsTrue, OnOk, length, drop, map};
+ghost use Rattle.std.specs.Prelude.{◌≡◌, ◌++◌, ◌<◌, ◌≤◌, All, IfErr, IfOk, IsErrOf, IsTrue, OnOk, is_some, length, map};
 ghost use Rattle.std.specs.Io.KnownBytes.{Appends};
 ghost use Rattle.vm_store.specs.Facts.{FailedSince};
-ghost use Rattle.vm_format.specs.Reading.{IsResourceFault, OnlyReadsStore};
-ghost use Rattle.geos_model.specs.File as file;
-ghost use Rattle.file_report.specs.Findings.{are_zeros, entry_text_at, zeros_of};
+ghost use Rattle.file_format.specs.Reading.{IsResourceFault, OnlyReadsStore};
+ghost use Rattle.file_format.specs.File as file;
+ghost use Rattle.file_format.specs.File.{block_of, entry_length};
 ghost use Rattle.document_dump.specs.Faults.{IsDumpRefusal, IsWriteFault};
-ghost use Rattle.file_salvage.specs.Entries.{all_notes, damage_at, damages, entry_at, entry_count, flaw_beside, free_below, frees, has_handle, is_right, is_taken, note_of, notes, taken, taken_entries, version_in};
+ghost use Rattle.file_salvage.specs.Entries.{all_notes, damage_at, damages, entry_at, entry_count, flaw_beside, free_below, frees, has_handle, has_zeros, image_flaw, is_right, is_taken, note_of, notes, taken, taken_entries, text_at, version_in, zeros_start};
 ghost use Rattle.file_salvage.specs.Salvaged.{IsNoteFault};
 
 use crate::flaw::Flaw;
 use crate::rows::longest_row;
 use byteorder::{ByteOrder, LittleEndian};
 use document_dump::DumpFault;
+use file_format::{
+    Entry, HEADER_LENGTH, LONGEST_IMAGE, entry_length, is_in_file, most_handles, read_entry,
+};
 use file_report::read_image;
-use geos_model::{Entry, Fault};
+use geos_model::Fault;
 use geos_script::{Word, push_words};
 use std::alloc::{AllocError, Global};
 use std::io::Write;
-use vm_format::{ENTRY_LENGTH, HEADER_LENGTH, LONGEST_IMAGE, is_in_file, most_handles, read_entry};
 use vm_store::Store;
 
 /// The bytes of a directory, and of what file it is.
@@ -39,21 +41,6 @@ pub fn send<W: Write>(bytes: &[u8], writer: &mut W) -> Result<(), DumpFault>
     }
 }
 
-pub fn entry_count(bytes: &[u8]) -> usize
-    ensures { result ≡ entry_count bytes.now }
-{
-    bytes.len().saturating_sub(HEADER_LENGTH) / ENTRY_LENGTH
-}
-
-fn text_at(bytes: &[u8], i: usize) -> &[u8]
-    requires { 16 + 16 * i + 16 ≤ length bytes.now }
-    ensures text { result.now ≡ entry_text_at bytes.now i }
-    ensures size { length result.now ≡ ENTRY_LENGTH }
-{
-    let at = HEADER_LENGTH + ENTRY_LENGTH * i;
-    &bytes[at..at + ENTRY_LENGTH]
-}
-
 fn version_in(bytes: &[u8]) -> u16
     requires { 16 ≤ length bytes.now }
     ensures { result ≡ version_in bytes.now }
@@ -61,33 +48,44 @@ fn version_in(bytes: &[u8]) -> u16
     LittleEndian::read_u16(&bytes[4..])
 }
 
+fn entry_count(bytes: &[u8]) -> usize
+    requires { 16 ≤ length bytes.now }
+    ensures { result ≡ entry_count bytes.now }
+{
+    (bytes.len() - HEADER_LENGTH) / entry_length(version_in(bytes))
+}
+
+fn text_at(bytes: &[u8], i: usize) -> &[u8]
+    requires { i < entry_count bytes.now }
+    ensures text { result.now ≡ text_at bytes.now i }
+    ensures size { length result.now ≡ entry_length (version_in bytes.now) }
+{
+    let length = entry_length(version_in(bytes));
+    let at = HEADER_LENGTH + length * i;
+    &bytes[at..at + length]
+}
+
 fn entry_at(bytes: &[u8], i: usize) -> Entry
-    requires { 16 + 16 * i + 16 ≤ length bytes.now }
+    requires { i < entry_count bytes.now }
     ensures { result ≡ entry_at bytes.now i }
 {
     read_entry(version_in(bytes), text_at(bytes, i))
 }
 
-// How many zeros an entry ends in, in a directory of this version.
-fn zeros_of(version: u16) -> usize
-    ensures value { result ≡ zeros_of version }
-    ensures few { result ≤ 4 }
+// Where the zeros of an entry begin, in a directory of this version.
+fn zeros_start(version: u16) -> usize
+    ensures value { result ≡ zeros_start version }
+    ensures within { result ≤ 16 }
 {
-    if version == 1 { 4 } else { 2 }
+    if version == 1 { 12 } else { 14 }
 }
 
-fn are_zeros(bytes: &[u8]) -> bool
-    ensures { result ≡ are_zeros bytes.now }
-{
-    bytes.iter().all(|byte| *byte == 0)
-}
-
-// Whether the text of an entry ends in zeros, in a directory of this version.
+// Whether the text of an entry has its zeros, in a directory of this version.
 fn has_zeros(version: u16, text: &[u8]) -> bool
-    requires { length text.now ≡ 16 }
-    ensures { result ≡ are_zeros (drop (16 - zeros_of version) text.now) }
+    requires { 16 ≤ length text.now }
+    ensures { result ≡ has_zeros version text.now }
 {
-    are_zeros(&text[ENTRY_LENGTH - zeros_of(version)..])
+    text[zeros_start(version)..16].iter().all(|byte| *byte == 0)
 }
 
 fn is_entry(listing: Listing<'_>, version: u16, entry: Entry) -> bool
@@ -100,7 +98,7 @@ fn is_entry(listing: Listing<'_>, version: u16, entry: Entry) -> bool
 }
 
 fn is_right(listing: Listing<'_>, i: usize) -> bool
-    requires { 16 + 16 * i + 16 ≤ length listing.bytes.now }
+    requires { i < entry_count listing.bytes.now }
     ensures { result ≡ is_right listing.entry.file_version listing.entry.file_length listing.entry.bytes.now i }
 {
     let bytes = listing.bytes;
@@ -111,6 +109,33 @@ fn is_right(listing: Listing<'_>, i: usize) -> bool
         && has_zeros(version, text_at(bytes, i))
 }
 
+// Whether an entry has its block. Memory, File.
+fn has_block<S: Store>(alloc: Global, store: &mut S, entry: Entry) -> Result<bool, Fault>
+    ensures looks { OnlyReadsStore (S.facts store.old) (S.facts store.new) }
+    ensures block { IfOk result (λ has. IsTrue (S.facts store.old).honest
+        → has ≡ is_some (block_of (S.facts store.old).content entry)) }
+    ensures file { IsErrOf result Fault.File → FailedSince (S.facts store.old) (S.facts store.new) }
+    ensures refusals { IfErr result IsResourceFault }
+{
+    Ok(read_image(alloc, store, &entry)?.is_some())
+}
+
+// Why an entry hasn't its block. Memory, File.
+fn image_flaw<S: Store>(alloc: Global, store: &mut S, entry: Entry) -> Result<Flaw, Fault>
+    ensures looks { OnlyReadsStore (S.facts store.old) (S.facts store.new) }
+    ensures flaw { IfOk result (λ flaw. IsTrue (S.facts store.old).honest
+        → flaw ≡ image_flaw (S.facts store.old).content entry) }
+    ensures file { IsErrOf result Fault.File → FailedSince (S.facts store.old) (S.facts store.new) }
+    ensures refusals { IfErr result IsResourceFault }
+{
+    let unsummed = Entry { sum: None, ..entry };
+    if has_block(alloc, store, unsummed)? {
+        Ok(Flaw::Sum)
+    } else {
+        Ok(Flaw::Image)
+    }
+}
+
 // Why an entry isn't whole. Memory, File.
 fn damage_at<S: Store>(
     alloc: Global,
@@ -118,7 +143,7 @@ fn damage_at<S: Store>(
     listing: Listing<'_>,
     i: usize,
 ) -> Result<Option<Flaw>, Fault>
-    requires within { 16 + 16 * i + 16 ≤ length listing.bytes.now }
+    requires within { i < entry_count listing.bytes.now }
     requires size { IsTrue (S.facts store.old).honest → listing.file_length ≡ length (S.facts store.old).content }
     ensures looks { OnlyReadsStore (S.facts store.old) (S.facts store.new) }
     ensures damage { IfOk result (λ flaw. IsTrue (S.facts store.old).honest
@@ -130,10 +155,12 @@ fn damage_at<S: Store>(
         return Ok(Some(Flaw::Entry));
     }
     let entry = entry_at(listing.bytes, i);
-    if read_image(alloc, store, &entry)?.is_none() {
-        return Ok(Some(Flaw::Image));
+    let has = has_block(alloc, store, entry)?;
+    if has {
+        return Ok(None);
     }
-    Ok(None)
+    let flaw = image_flaw(alloc, store, entry)?;
+    Ok(Some(flaw))
 }
 
 // Why each entry isn't whole. Memory, File.
@@ -142,6 +169,7 @@ fn damages<S: Store>(
     store: &mut S,
     listing: Listing<'_>,
 ) -> Result<Vec<Option<Flaw>>, Fault>
+    requires header { 16 ≤ length listing.bytes.now }
     requires size { IsTrue (S.facts store.old).honest → listing.file_length ≡ length (S.facts store.old).content }
     ensures looks { OnlyReadsStore (S.facts store.old) (S.facts store.new) }
     ensures count { IfOk result (λ found. length found.items ≡ entry_count listing.entry.bytes.now) }
@@ -276,6 +304,7 @@ pub fn take_entries<S: Store, W: Write>(
     listing: Listing<'_>,
     writer: &mut W,
 ) -> Result<Vec<Entry>, DumpFault>
+    requires header { 16 ≤ length listing.bytes.now }
     requires size { IsTrue (S.facts store.old).honest → listing.file_length ≡ length (S.facts store.old).content }
     ensures reads { OnlyReadsStore (S.facts store.old) (S.facts store.new) }
     ensures fails { IfErr result (IsDumpRefusal (S.facts store.old) (S.facts store.new)) }

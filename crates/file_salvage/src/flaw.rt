@@ -9,6 +9,8 @@ pub enum Flaw {
     Entry,
     /// Where it says is no image of a body that can have its type.
     Image,
+    /// There is such an image, but it hasn't the sum that the entry gives.
+    Sum,
     /// It is whole, but not in the longest row of entries whose handles can stand together.
     Order,
 }
@@ -20,6 +22,7 @@ impl Flaw {
         match self {
             Flaw::Entry => " is left out: its entry is damaged\n",
             Flaw::Image => " is left out: its image is damaged\n",
+            Flaw::Sum => " is left out: its sum is wrong\n",
             Flaw::Order => " is left out: its handle isn't in order\n",
         }
     }

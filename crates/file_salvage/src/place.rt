@@ -1,6 +1,6 @@
 //! Where a directory lies that is tried.
+use file_format::Extent;
 use file_report::Named;
-use geos_model::Extent;
 
 /// Where a directory lies that a slot names.
 #[derive(Clone, Copy)]

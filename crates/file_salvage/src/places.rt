@@ -1,18 +1,19 @@
 //! Which directory of a file is salvaged.
 ghost use Rattle.std.specs.Prelude.{◌≡◌, ◌≤◌, IfErr, IfOk, IfSome, IsErrOf, IsTrue, if◌then◌else◌, length, true};
 ghost use Rattle.vm_store.specs.Facts.{FailedSince};
-ghost use Rattle.geos_model.specs.File.{bytes_in, longest_directory};
-ghost use Rattle.vm_format.specs.Reading.{IsResourceFault, OnlyReadsStore};
+ghost use Rattle.file_format.specs.File.{bytes_in, longest_directory};
+ghost use Rattle.file_format.specs.Reading.{IsResourceFault, OnlyReadsStore};
 ghost use Rattle.file_salvage.specs.Places.{head_of, if_readable, is_header, is_place, is_second_first, place_of, readable_in, readable_of, salvaged_place};
 
 use crate::place::Place;
 use byteorder::{ByteOrder, LittleEndian};
-use file_report::Named;
-use geos_model::{Extent, Fault, PAGE, Slot};
-use std::alloc::Global;
-use vm_format::{
-    HEADER_LENGTH, LONGEST_DIRECTORY, is_known, is_version, read_extent, read_raw_slot, start_of,
+use file_format::{
+    Extent, HEADER_LENGTH, LONGEST_DIRECTORY, PAGE, Slot, entry_start, is_known, is_version,
+    read_extent, read_raw_slot, start_of,
 };
+use file_report::Named;
+use geos_model::Fault;
+use std::alloc::Global;
 use vm_store::Store;
 
 fn place_of(second: bool, slot: Slot, name: Named) -> Place
@@ -47,13 +48,15 @@ fn is_place(file_length: u64, place: Place) -> bool
         && start_of(place.extent) + 16 <= file_length
 }
 
-fn is_header(version: u8, directory_length: u32, head: &[u8]) -> bool
+fn is_header(file_version: u8, directory_length: u32, head: &[u8]) -> bool
     requires { length head.now ≡ HEADER_LENGTH }
-    ensures { result ≡ is_header version directory_length head.now }
+    ensures { result ≡ is_header file_version directory_length head.now }
 {
+    let version = LittleEndian::read_u16(&head[4..]);
+    let count = LittleEndian::read_u16(&head[6..]);
     head.starts_with(b"GDIR")
-        && is_known(LittleEndian::read_u16(&head[4..]), version)
-        && directory_length == 16 + 16 * u32::from(LittleEndian::read_u16(&head[6..]))
+        && is_known(version, file_version)
+        && directory_length as usize == entry_start(version, usize::from(count))
 }
 
 // The place, where a directory's header can be read there. Memory, File.

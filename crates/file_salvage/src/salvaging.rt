@@ -2,7 +2,7 @@
 ghost use Rattle.std.specs.Prelude.{◌≡◌, ◌++◌, ◌≤◌, IfErr, IfOk, IsTrue, OnOk, length, true};
 ghost use Rattle.std.specs.Io.KnownBytes.{Appends};
 ghost use Rattle.geos_model.specs.Words.{word_at};
-ghost use Rattle.vm_format.specs.Reading.{OnlyReadsStore};
+ghost use Rattle.file_format.specs.Reading.{OnlyReadsStore};
 ghost use Rattle.document_dump.specs.Faults.{IsDumpRefusal};
 ghost use Rattle.file_salvage.specs.Places.{is_place};
 ghost use Rattle.file_salvage.specs.Salvaged.{IsNoteFault, IsSalvage, lost_map, map_kept, map_note, place_note, salvage_text, script_of};
@@ -12,12 +12,12 @@ use crate::place::Place;
 use crate::places::{find_place, read_place};
 use byteorder::{ByteOrder, LittleEndian};
 use document_dump::{DumpFault, dump_entries};
+use file_format::{Entry, read_length};
 use file_report::Named;
-use geos_model::{Entry, VmHandle};
+use geos_model::VmHandle;
 use geos_script::{Word, push_words};
 use std::alloc::{AllocError, Global};
 use std::io::Write;
-use vm_format::read_length;
 use vm_store::Store;
 
 fn push_place_note(out: &mut Vec<u8>, place: Place) -> Result<(), AllocError>

@@ -12,7 +12,7 @@ use Rattle.geos_model.specs.declared.fault.Fault.{Fault}
 use Rattle.geos_model.specs.declared.fault.Fault.TheVariants.{Memory, NothingToUndo, NothingToRedo}
 use Rattle.chunk_edits.specs.declared.direction.Direction.TheVariants.{Forwards, Backwards}
 use Rattle.vm_store.specs.Facts.{StoreFacts}
-use Rattle.vm_file.specs.Effects.{Fails, IsWorn}
+use Rattle.document_file.specs.Effects.{Fails, IsWorn}
 use Rattle.vm_blocks.specs.Locking.{GainsLock, LosesLock}
 use Rattle.undo_log.specs.Committing.{IsBusy, IsSessionCommit}
 use Rattle.undo_log.specs.Logging.{forgotten_log, joined_log, named_log, next_moved, reverted_log, saved_log, updated_log, with_group_closed}

@@ -13,7 +13,7 @@ use Rattle.geos_model.specs.declared.fault.Fault.{Fault}
 use Rattle.geos_model.specs.declared.fault.Fault.TheVariants.{Locked, Memory}
 use Rattle.geos_model.specs.declared.handle.VmHandle.{VmHandle}
 use Rattle.vm_store.specs.Facts.{StoreFacts}
-use Rattle.vm_file.specs.Disk.{KeepsCommitted}
+use Rattle.document_file.specs.Disk.{KeepsCommitted}
 use Rattle.vm_blocks.specs.Keeping.{IsEnvironmentFault, is_loaded}
 use Rattle.doc_edits.specs.Planning.{IsChainEditFault, RefusesEdit}
 use Rattle.doc_edits.specs.Room.{lacks_frames, ReadsNothing}

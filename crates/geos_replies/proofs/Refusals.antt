@@ -4,9 +4,9 @@ use Rattle.std.specs.Prelude.{OnErr, IfErr, MatchResult}
 use Rattle.geos_model.specs.Document.{Document}
 use Rattle.geos_model.specs.declared.fault.Fault.{Fault}
 use Rattle.vm_store.specs.Facts.{StoreFacts}
-use Rattle.vm_file.specs.Disk.{SameUnlessCorrupt}
-use Rattle.vm_file.specs.Documents.{Documents}
-use Rattle.vm_file.proofs.PassingLemmas.{SameUnlessCorrupt-refl}
+use Rattle.document_file.specs.Disk.{SameUnlessCorrupt}
+use Rattle.document_file.specs.Documents.{Documents}
+use Rattle.document_file.proofs.PassingLemmas.{SameUnlessCorrupt-refl}
 use Rattle.undo_log.specs.Committing.{IsSaveAsRefused, IsSessionCommit}
 use Rattle.undo_log.specs.Sessions.{SessionState, KeepsSession, locks_in}
 use Rattle.undo_log.specs.Turning.{busy_fault}

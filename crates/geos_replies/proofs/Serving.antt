@@ -9,9 +9,9 @@ use Rattle.geos_model.specs.declared.fault.Fault.TheVariants.{File}
 use Rattle.geos_model.specs.declared.command.Command.{Command}
 use Rattle.geos_model.specs.declared.command.Command.TheVariants as commands
 use Rattle.vm_store.specs.Facts.{StoreFacts, FailedSince}
-use Rattle.vm_file.specs.Disk.{Disk, MayCommit, KeepsCommitted}
-use Rattle.vm_file.specs.Effects.{IsNewFile, SameStore}
-use Rattle.vm_file.specs.Documents.{Documents}
+use Rattle.document_file.specs.Disk.{Disk, MayCommit, KeepsCommitted}
+use Rattle.document_file.specs.Effects.{IsNewFile, SameStore}
+use Rattle.document_file.specs.Documents.{Documents}
 use Rattle.vm_blocks.specs.Locking.{GainsLock}
 use Rattle.undo_log.specs.Logging.{Log}
 use Rattle.undo_log.specs.Sessions.{SessionState, IsExact, IsStep, KeepsSession, cache_of, machine_of, failed_since}

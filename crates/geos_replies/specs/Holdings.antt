@@ -9,8 +9,8 @@ use Rattle.geos_model.specs.declared.command.Kind.{Kind}
 use Rattle.geos_model.specs.declared.command.Kind.TheVariants.{In}
 use Rattle.geos_model.specs.declared.handle.VmHandle.{VmHandle}
 use Rattle.vm_store.specs.Facts.{StoreFacts, FailedSince}
-use Rattle.vm_file.specs.Disk.{Disk, MayCommit, IsCrashConsistent, HasSequence, KeepsCommitted, SameUnlessCorrupt}
-use Rattle.vm_file.specs.Documents.{Documents}
+use Rattle.document_file.specs.Disk.{Disk, MayCommit, IsCrashConsistent, HasSequence, KeepsCommitted, SameUnlessCorrupt}
+use Rattle.document_file.specs.Documents.{Documents}
 use Rattle.vm_blocks.specs.Keeping.{is_loaded}
 use Rattle.undo_log.specs.Sessions.{SessionState, IsExact, cache_of, locks_in, machine_of, failed_since}
 use Rattle.undo_log.specs.Logging.{kind_of_entry, open_changes}

@@ -2,10 +2,10 @@
 use Rattle.std.proofs.Common.{◌≡◌, ◌≤◌, ◌∙◌, ℕ, Bool, [], IsTrue, Ok, Option, Some, None, ap, subst, sym}
 use Rattle.geos_model.specs.Document.{Document}
 use Rattle.geos_model.specs.Machine.{Machine, empty_machine, opened_machine, with_undo_limit}
-use Rattle.geos_model.specs.File.{stands}
+use Rattle.file_format.specs.File.{stands}
 use Rattle.vm_store.specs.Facts.{StoreFacts, IsUnchanged}
-use Rattle.vm_file.specs.Disk.{Disk, IsCrashConsistent, HasSequence}
-use Rattle.vm_file.specs.Documents.{has_one_directory, sequence_in}
+use Rattle.document_file.specs.Disk.{Disk, IsCrashConsistent, HasSequence}
+use Rattle.document_file.specs.Documents.{has_one_directory, sequence_in}
 use Rattle.undo_log.specs.Sessions.{SessionState, IsExact, machine_of}
 use Rattle.geos_shell.specs.Program.{IsCreated, IsOpened}
 

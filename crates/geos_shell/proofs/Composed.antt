@@ -4,7 +4,7 @@ use Rattle.std.proofs.lemmas.List.Sums.{sum_by-cons}
 use Rattle.geos_model.specs.Machine.{Request, Call, Step, failed_calls}
 use Rattle.geos_model.specs.Reply.{Reply}
 use Rattle.vm_store.specs.Facts.{StoreFacts}
-use Rattle.vm_file.specs.Documents.{Documents}
+use Rattle.document_file.specs.Documents.{Documents}
 use Rattle.geos_replies.specs.Holdings.{AnswersCalls, AnswersRequest, AreExact, Holding, ServesRequest, failed_since_in, machine}
 use Rattle.geos_shell.specs.Runs.{AddsNoPair, AfterFailures, CountsFailures, ServesCalls}
 use Rattle.geos_shell.proofs.Failures.{after_serves}

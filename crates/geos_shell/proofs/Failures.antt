@@ -6,9 +6,9 @@ use Rattle.geos_model.specs.Machine.{Request}
 use Rattle.geos_model.specs.declared.fault.Fault.{Fault}
 use Rattle.geos_model.specs.declared.command.Command.TheVariants as commands
 use Rattle.vm_store.specs.Facts.{StoreFacts, FailedSince, last_count, raised}
-use Rattle.vm_file.specs.Disk.{Disk, KeepsCommitted}
-use Rattle.vm_file.specs.Documents.{Documents}
-use Rattle.vm_file.proofs.PassingLemmas.{KeepsCommitted-refl}
+use Rattle.document_file.specs.Disk.{Disk, KeepsCommitted}
+use Rattle.document_file.specs.Documents.{Documents}
+use Rattle.document_file.proofs.PassingLemmas.{KeepsCommitted-refl}
 use Rattle.undo_log.specs.Sessions.{failed_since}
 use Rattle.undo_log.proofs.Keeping.{failed_true}
 use Rattle.geos_replies.specs.Holdings.{AreExact, CommitsAsReplied, CommitsNothing, Holding, LeavesFiles, SavesAs, ServesRequest, SameFiles, CommitsOrKeeps, failed_with, failed_since_in}

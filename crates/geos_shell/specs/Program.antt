@@ -1,13 +1,13 @@
 -- What a run of the program comes to, and what becomes of the files that its words name.
 use Rattle.std.specs.Prelude.{◌≡◌, ◌≢◌, ◌⊎◌, ℕ, ◌≤◌, List, [], Bool, true, false, Option, Some, None, IsTrue, Ok, Err}
-use Rattle.geos_model.specs.File.{stands}
+use Rattle.file_format.specs.File.{stands}
 use Rattle.geos_model.specs.Machine.{empty_machine, opened_machine, with_undo_limit}
 use Rattle.geos_model.specs.declared.fault.Fault.{Fault}
 use Rattle.geos_model.specs.declared.fault.Fault.TheVariants.{File}
 use Rattle.vm_store.specs.Facts.{StoreFacts, FailedSince, IsUnchanged}
-use Rattle.vm_file.specs.Calls.{IsResourceFault, IsOpenRefusal}
-use Rattle.vm_file.specs.Disk.{IsCrashConsistent, HasSequence}
-use Rattle.vm_file.specs.Documents.{has_one_directory, sequence_in}
+use Rattle.document_file.specs.Calls.{IsResourceFault, IsOpenRefusal}
+use Rattle.document_file.specs.Disk.{IsCrashConsistent, HasSequence}
+use Rattle.document_file.specs.Documents.{has_one_directory, sequence_in}
 use Rattle.undo_log.specs.Sessions.{SessionState, IsExact, machine_of}
 use Rattle.vm_store.specs.Files.{Opener}
 use Rattle.command_lines.specs.Options.{CommandLine, IsUsable, RefusesWords, Text, command_line}

@@ -2,8 +2,9 @@
 #![tactic(auto)]
 
 ghost use Rattle.std.specs.Prelude.{◌≡◌, ◌≢◌, [], Ok, IsTrue, MatchResult};
-ghost use Rattle.geos_model.specs.File.{stands};
+ghost use Rattle.file_format.specs.File.{stands};
 
+use document_file::Refused;
 use geos_model::{
     BlockLookUp, Bytes, ChunkHandle, ChunkLookUp, Done, Edit, Fault, LookUp, Reply, VmHandle,
 };
@@ -12,7 +13,6 @@ use std::env;
 use std::io::{self, Write};
 use std::process::ExitCode;
 use undo_log::Session;
-use vm_file::Refused;
 use vm_store::{Files, Store, machine_files};
 
 /// How many blocks may be in memory at a time, 1 to 64.

@@ -3,14 +3,14 @@ use Rattle.std.proofs.Common.{◌≡◌, ℕ, Bool, IsTrue, List, [], Some, sym,
 use Rattle.std.specs.Prelude.{Result, Ok, Err, IfOk, MatchResult}
 use Rattle.std.specs.Option.{option_map}
 use Rattle.geos_model.specs.Document.{Document, IsValid}
-use Rattle.geos_model.specs.File.{stands}
+use Rattle.file_format.specs.File.{stands}
 use Rattle.geos_model.specs.Machine.{opened_machine}
 use Rattle.vm_store.specs.Facts.{StoreFacts, IsTimely}
 use Rattle.chunk_edits.specs.declared.direction.Direction.TheVariants.{Backwards, Forwards}
-use Rattle.vm_file.specs.Documents.{Documents, sequence_in}
-use Rattle.vm_file.specs.Disk.{FileState}
+use Rattle.document_file.specs.Documents.{Documents, sequence_in}
+use Rattle.document_file.specs.Disk.{FileState}
 use Rattle.vm_blocks.specs.SavingAs.{IsSavedAs}
-use Rattle.vm_file.proofs.ContentLemmas.{committed_content}
+use Rattle.document_file.proofs.ContentLemmas.{committed_content}
 use Rattle.undo_log.specs.Logging.{Log, before, fresh_log, group_of, reverted_log, steps, to_redo, to_undo}
 use Rattle.undo_log.specs.Sessions.{SessionState, file_of, locks_in, machine_of, AreSteps, IsExact}
 

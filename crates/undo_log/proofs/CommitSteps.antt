@@ -13,11 +13,11 @@ use Rattle.geos_model.specs.declared.command.Command.TheVariants as commands
 use Rattle.geos_model.specs.declared.fault.Fault.{Fault}
 use Rattle.geos_model.specs.declared.fault.Fault.TheVariants.{Memory, File, GroupOpen, Locked, Worn}
 use Rattle.vm_store.specs.Facts.{StoreFacts}
-use Rattle.vm_file.specs.Calls.{IsCommitRefusal, IsResourceFault, last_sequence}
-use Rattle.vm_file.specs.Disk.{MayCommit, SameUnlessCorrupt, IsCrashConsistent}
-use Rattle.vm_file.proofs.PassingLemmas.{MayCommit-refused, KeepsCommitted-refl}
-use Rattle.vm_file.specs.Effects.{IsCommit, Fails, IsWorn}
-use Rattle.vm_file.specs.Documents.{Documents}
+use Rattle.document_file.specs.Calls.{IsCommitRefusal, IsResourceFault, last_sequence}
+use Rattle.document_file.specs.Disk.{MayCommit, SameUnlessCorrupt, IsCrashConsistent}
+use Rattle.document_file.proofs.PassingLemmas.{MayCommit-refused, KeepsCommitted-refl}
+use Rattle.document_file.specs.Effects.{IsCommit, Fails, IsWorn}
+use Rattle.document_file.specs.Documents.{Documents}
 use Rattle.vm_blocks.specs.State.{CacheState, as_file}
 use Rattle.chunk_edits.specs.declared.direction.Direction.TheVariants.{Backwards}
 use Rattle.undo_log.specs.Committing.{IsBusy, IsSessionCommit}

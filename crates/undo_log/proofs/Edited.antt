@@ -25,8 +25,8 @@ use Rattle.geos_model.specs.declared.handle.ChunkHandle.{ChunkHandle}
 use Rattle.geos_model.specs.declared.handle.VmHandle.{VmHandle}
 use Rattle.geos_model.specs.declared.target.ArrayEdit.{ArrayEdit}
 use Rattle.vm_store.specs.Facts.{StoreFacts}
-use Rattle.vm_file.specs.Disk.{SameUnlessCorrupt}
-use Rattle.vm_file.proofs.PassingLemmas.{KeepsCommitted-trans, SameUnlessCorrupt-trans}
+use Rattle.document_file.specs.Disk.{SameUnlessCorrupt}
+use Rattle.document_file.proofs.PassingLemmas.{KeepsCommitted-trans, SameUnlessCorrupt-trans}
 use Rattle.geos_model.proofs.FirstRefusals.{edit-judged, edit-locked, edit-passed}
 use Rattle.vm_blocks.specs.State.{CacheState, ResidentBlock, KeepsLocks, locks_of}
 use Rattle.vm_blocks.specs.Changes.{after_change, incoming_blocks}

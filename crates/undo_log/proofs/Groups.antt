@@ -7,7 +7,7 @@ use Rattle.geos_model.specs.Machine.{IsValidGroup, Step}
 use Rattle.geos_model.specs.Reply.{Accepted}
 use Rattle.geos_model.specs.declared.command.Command.TheVariants as commands
 use Rattle.vm_store.specs.Facts.{StoreFacts}
-use Rattle.vm_file.specs.Disk.{IsFileDocument}
+use Rattle.document_file.specs.Disk.{IsFileDocument}
 use Rattle.vm_blocks.specs.State.{CacheState}
 use Rattle.vm_blocks.specs.Changes.{directed}
 use Rattle.vm_blocks.specs.Preparing.{CanApplyAllByHandle, AreApplied}

@@ -11,7 +11,7 @@ use Rattle.geos_model.specs.declared.command.Command.{Command}
 use Rattle.geos_model.specs.declared.fault.Fault.{Fault}
 use Rattle.geos_model.specs.declared.fault.Fault.TheVariants.{Memory, File}
 use Rattle.vm_store.specs.Facts.{StoreFacts, FailedSince, raised}
-use Rattle.vm_file.specs.Disk.{SameUnlessCorrupt, MarkSameUnlessCorrupt, KeepsCommitted}
+use Rattle.document_file.specs.Disk.{SameUnlessCorrupt, MarkSameUnlessCorrupt, KeepsCommitted}
 use Rattle.vm_blocks.specs.State.{CacheState, KeepsLocks}
 use Rattle.vm_blocks.specs.Keeping.{KeepsBlocks, IsEnvironmentFault}
 use Rattle.vm_blocks.specs.declared.change.Change.{Change}

@@ -10,9 +10,9 @@ use Rattle.geos_model.specs.ElementArray.{all_distinct}
 use Rattle.geos_model.proofs.BlockLists.{put_stands, put_map_block}
 use Rattle.geos_model.proofs.HeapEdits.{get-put_same, get-put_other, get-taken_same, get-taken_other}
 use Rattle.geos_model.specs.declared.block.Attributes.{Attributes}
-use Rattle.vm_file.specs.Disk.{SameUnlessCorrupt, IsFileDocument}
+use Rattle.document_file.specs.Disk.{SameUnlessCorrupt, IsFileDocument}
 use Rattle.vm_blocks.specs.Changes.{attributes_for_kind, after_change, reversed, after_part, directed, AreFree, HasMap, IsFreeHandle}
-use Rattle.vm_file.specs.Members.{imaged_blocks}
+use Rattle.document_file.specs.Members.{imaged_blocks}
 use Rattle.vm_blocks.specs.Preparing.{CanApplyAllByHandle, CanRemoveByHandle, CanApplyByHandle}
 use Rattle.vm_blocks.specs.declared.change.Change.{Change}
 use Rattle.vm_blocks.specs.declared.change.Change.TheVariants as changes

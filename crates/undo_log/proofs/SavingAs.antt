@@ -12,10 +12,10 @@ use Rattle.geos_model.specs.declared.command.Command.TheVariants as commands
 use Rattle.geos_model.specs.declared.fault.Fault.{Fault}
 use Rattle.geos_model.specs.declared.fault.Fault.TheVariants.{Memory, File, Damaged, GroupOpen, Locked, NoTarget, Worn}
 use Rattle.vm_store.specs.Facts.{StoreFacts, FailedSince}
-use Rattle.vm_file.specs.Calls.{IsCommitRefusal, last_sequence}
-use Rattle.vm_file.specs.Disk.{MayCommit, IsCrashConsistent}
-use Rattle.vm_file.proofs.PassingLemmas.{MayCommit-refused, KeepsCommitted-refl}
-use Rattle.vm_file.specs.Documents.{Documents}
+use Rattle.document_file.specs.Calls.{IsCommitRefusal, last_sequence}
+use Rattle.document_file.specs.Disk.{MayCommit, IsCrashConsistent}
+use Rattle.document_file.proofs.PassingLemmas.{MayCommit-refused, KeepsCommitted-refl}
+use Rattle.document_file.specs.Documents.{Documents}
 use Rattle.vm_blocks.specs.SavingAs.{IsSavedAs, IsNotSavedAs}
 use Rattle.vm_blocks.specs.State.{CacheState, as_file}
 use Rattle.undo_log.specs.Committing.{IsBusy, IsSaveAsRefused}

@@ -14,7 +14,7 @@ use Rattle.geos_model.specs.declared.command.Kind.{Kind}
 use Rattle.geos_model.specs.declared.fault.Fault.{Fault}
 use Rattle.geos_model.specs.declared.fault.Fault.TheVariants.{GroupOpen, Locked, NoGroup, NothingToUndo, NothingToRedo}
 use Rattle.vm_store.specs.Facts.{StoreFacts}
-use Rattle.vm_file.specs.Disk.{SameUnlessCorrupt, KeepsCommitted}
+use Rattle.document_file.specs.Disk.{SameUnlessCorrupt, KeepsCommitted}
 use Rattle.vm_blocks.specs.State.{CacheState, KeepsLocks, ResidentBlock, locks_of}
 use Rattle.vm_blocks.specs.Changes.{after_change, directed, CanApply}
 use Rattle.vm_blocks.specs.Keeping.{IsEnvironmentFault, is_full}

@@ -4,9 +4,9 @@ use Rattle.geos_model.specs.Document.{Document}
 use Rattle.geos_model.specs.declared.fault.Fault.{Fault}
 use Rattle.geos_model.specs.declared.fault.Fault.TheVariants.{File}
 use Rattle.vm_store.specs.Facts.{StoreFacts, FailedSince}
-use Rattle.vm_file.specs.Disk.{MayCommit, KeepsCommitted}
-use Rattle.vm_file.specs.Documents.{Documents}
-use Rattle.vm_file.specs.Effects.{IsCommit, SameStore}
+use Rattle.document_file.specs.Disk.{MayCommit, KeepsCommitted}
+use Rattle.document_file.specs.Documents.{Documents}
+use Rattle.document_file.specs.Effects.{IsCommit, SameStore}
 use Rattle.vm_blocks.specs.SavingAs.{IsNotSavedAs}
 use Rattle.undo_log.specs.Sessions.{SessionState, file_of}
 use Rattle.undo_log.specs.Turning.{busy_fault}

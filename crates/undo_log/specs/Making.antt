@@ -11,7 +11,7 @@ use Rattle.geos_model.specs.declared.command.Kind.TheVariants.{Made, Plain}
 use Rattle.geos_model.specs.declared.fault.Fault.{Fault}
 use Rattle.geos_model.specs.declared.fault.Fault.TheVariants.{CacheFull}
 use Rattle.vm_store.specs.Facts.{StoreFacts}
-use Rattle.vm_file.specs.Disk.{SameUnlessCorrupt}
+use Rattle.document_file.specs.Disk.{SameUnlessCorrupt}
 use Rattle.vm_blocks.specs.State.{CacheState}
 use Rattle.vm_blocks.specs.Keeping.{IsEnvironmentFault, KeepsBlocks}
 use Rattle.vm_blocks.specs.Preparing.{CanApplyByHandle, IsApplied}

@@ -15,7 +15,7 @@ use Rattle.geos_model.specs.declared.command.Edit.{Edit}
 use Rattle.geos_model.specs.declared.look_up.LookUp.{LookUp}
 use Rattle.geos_model.specs.declared.look_up.LookUp.TheVariants as look_ups
 use Rattle.vm_store.specs.Facts.{StoreFacts, raised}
-use Rattle.vm_file.specs.Disk.{Disk, FileState}
+use Rattle.document_file.specs.Disk.{Disk, FileState}
 use Rattle.vm_blocks.specs.State.{CacheState, ResidentBlock, is_block_locked, as_file}
 use Rattle.vm_blocks.specs.Changes.{after_directed, directed, CanApply}
 use Rattle.vm_blocks.specs.Keeping.{KeepsBlocks}

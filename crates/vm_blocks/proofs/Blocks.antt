@@ -9,11 +9,11 @@ use Rattle.std.specs.Map.{remove_entry, keys_of}
 use Rattle.std.specs.FinMap.{get}
 use Rattle.geos_model.specs.Document.{Block, Document, with_block, without_block}
 use Rattle.geos_model.proofs.HeapEdits.{get-put_same, get-put_other, get-taken_same, get-taken_other}
-use Rattle.vm_file.specs.Calls.{put_all}
-use Rattle.vm_file.specs.Members.{imaged_block}
-use Rattle.vm_file.specs.declared.member.Member.{Member}
+use Rattle.document_file.specs.Calls.{put_all}
+use Rattle.document_file.specs.Members.{imaged_block}
+use Rattle.document_file.specs.declared.member.Member.{Member}
 use Rattle.lru.specs.LruCache.{LruCache, lru_cache}
-use Rattle.vm_file.specs.Disk.{FileState}
+use Rattle.document_file.specs.Disk.{FileState}
 use Rattle.vm_blocks.specs.Frames.{frame_of, residents, overlay, shown, IsFrameOf, AreFramesOf}
 use Rattle.vm_blocks.specs.declared.frame.Frame.{Frame}
 use Rattle.vm_blocks.proofs.DocumentUnderFrames.{cover, heap_by, get-overlay, overlay_map, same_document, cover_by, body_by}

@@ -3,10 +3,10 @@ use Rattle.std.proofs.Common.{ℕ, List, All, sym, subst}
 use Rattle.std.specs.Prelude.{Result, Ok, Err, MatchResult}
 use Rattle.vm_store.specs.Facts.{StoreFacts}
 use Rattle.geos_model.specs.declared.fault.Fault.{Fault}
-use Rattle.vm_file.specs.Calls.{put_all}
-use Rattle.vm_file.specs.Disk.{FileState, SameUnlessCorrupt}
-use Rattle.vm_file.specs.Effects.{LeavesDocument}
-use Rattle.vm_file.specs.declared.member.Member.{Member}
+use Rattle.document_file.specs.Calls.{put_all}
+use Rattle.document_file.specs.Disk.{FileState, SameUnlessCorrupt}
+use Rattle.document_file.specs.Effects.{LeavesDocument}
+use Rattle.document_file.specs.declared.member.Member.{Member}
 use Rattle.vm_blocks.specs.Frames.{overlay, with_frames, AreFramesOf}
 use Rattle.vm_blocks.specs.declared.frame.Frame.{Frame}
 use Rattle.vm_blocks.proofs.Blocks.{IsAway, overlay_puts, kept_puts}

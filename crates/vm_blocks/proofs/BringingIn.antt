@@ -11,9 +11,9 @@ use Rattle.geos_model.proofs.BlockLists.{put_map_block, put_stands}
 use Rattle.vm_store.specs.Facts.{StoreFacts}
 use Rattle.chunk_edits.specs.declared.direction.Direction.{Direction}
 use Rattle.chunk_edits.specs.declared.direction.Direction.TheVariants.{Forwards, Backwards}
-use Rattle.vm_file.specs.Disk.{Disk, IsFileDocument, KeepsCommitted, SameUnlessCorrupt}
-use Rattle.vm_file.specs.Members.{imaged_blocks}
-use Rattle.vm_file.proofs.PassingLemmas.{KeepsCommitted-refl, KeepsCommitted-trans, SameUnlessCorrupt-refl, SameUnlessCorrupt-trans}
+use Rattle.document_file.specs.Disk.{Disk, IsFileDocument, KeepsCommitted, SameUnlessCorrupt}
+use Rattle.document_file.specs.Members.{imaged_blocks}
+use Rattle.document_file.proofs.PassingLemmas.{KeepsCommitted-refl, KeepsCommitted-trans, SameUnlessCorrupt-refl, SameUnlessCorrupt-trans}
 use Rattle.vm_blocks.specs.State.{CacheState, KeepsLocks, ResidentBlock, is_resident, locked_count}
 use Rattle.vm_blocks.proofs.Locks.{keeps_refl}
 use Rattle.vm_blocks.specs.Changes.{AreFree, IsFreeHandle, after_change, directed, directed_all, incoming_blocks}

@@ -2,8 +2,8 @@
 use Rattle.std.proofs.Common.{◌≡◌, ◌≤◌, ℕ, List, ◌∷◌, None, true, IsTrue, refl, ap, sym, subst, ◌∙◌}
 use Rattle.vm_store.specs.Facts.{StoreFacts}
 use Rattle.geos_model.specs.Document.{Document, block_at, is_heap, is_heap_body, is_live}
-use Rattle.vm_file.specs.Disk.{FileState, KeepsCommitted, SameUnlessCorrupt}
-use Rattle.vm_file.proofs.PassingLemmas.{KeepsCommitted-refl, KeepsCommitted-trans, SameUnlessCorrupt-refl, SameUnlessCorrupt-trans}
+use Rattle.document_file.specs.Disk.{FileState, KeepsCommitted, SameUnlessCorrupt}
+use Rattle.document_file.proofs.PassingLemmas.{KeepsCommitted-refl, KeepsCommitted-trans, SameUnlessCorrupt-refl, SameUnlessCorrupt-trans}
 use Rattle.vm_blocks.specs.State.{CacheState, KeepsDocument}
 use Rattle.vm_blocks.specs.Bodies.{body_value}
 use Rattle.vm_blocks.specs.Frames.{frame_of, overlay, shown, AreFramesOf, KeepsOverlay}

@@ -21,8 +21,8 @@ use Rattle.chunk_edits.specs.declared.runs.ArrayRuns.{ArrayRuns}
 use Rattle.chunk_edits.specs.Splicing.{Splice, OccursAt, forwards, backwards}
 use Rattle.chunk_edits.proofs.PatchingLemmas.{patch_leads_back, pieces_length, reversed_peak, reversed_twice}
 use Rattle.chunk_edits.proofs.SplicingLemmas.{leads_back}
-use Rattle.vm_file.specs.Members.{imaged_block, imaged_blocks}
-use Rattle.vm_file.specs.declared.member.Member.{Member}
+use Rattle.document_file.specs.Members.{imaged_block, imaged_blocks}
+use Rattle.document_file.specs.declared.member.Member.{Member}
 use Rattle.vm_blocks.specs.declared.change.Change.{Change}
 use Rattle.vm_blocks.specs.declared.change.Change.TheVariants as changes
 use Rattle.vm_blocks.specs.declared.change.Content.{Content}

@@ -10,12 +10,12 @@ use Rattle.geos_model.specs.declared.command.Body.{Body}
 use Rattle.geos_model.specs.declared.fault.Fault.{Fault}
 use Rattle.geos_model.specs.declared.fault.Fault.TheVariants.{File, Memory, CacheFull}
 use Rattle.vm_store.specs.Facts.{StoreFacts, FailedSince}
-use Rattle.vm_file.specs.Calls.{put_all}
-use Rattle.vm_file.specs.Disk.{Disk, SameUnlessCorrupt, KeepsCommitted}
-use Rattle.vm_file.specs.Effects.{Fails, IsDamage, LeavesDocument, NoFault}
-use Rattle.vm_file.specs.Members.{imaged_blocks}
-use Rattle.vm_file.specs.declared.member.Member.{Member}
-use Rattle.vm_file.proofs.PassingLemmas.{KeepsCommitted-refl, SameUnlessCorrupt-refl}
+use Rattle.document_file.specs.Calls.{put_all}
+use Rattle.document_file.specs.Disk.{Disk, SameUnlessCorrupt, KeepsCommitted}
+use Rattle.document_file.specs.Effects.{Fails, IsDamage, LeavesDocument, NoFault}
+use Rattle.document_file.specs.Members.{imaged_blocks}
+use Rattle.document_file.specs.declared.member.Member.{Member}
+use Rattle.document_file.proofs.PassingLemmas.{KeepsCommitted-refl, SameUnlessCorrupt-refl}
 use Rattle.vm_blocks.specs.State.{CacheState, ResidentBlock, is_resident, after_load, as_file, KeepsLocks, KeepsDocument}
 use Rattle.vm_blocks.proofs.KeepingLaws.{lacks-damaged, loaded-resident, resident-open}
 use Rattle.vm_blocks.proofs.Locks.{keeps_refl}

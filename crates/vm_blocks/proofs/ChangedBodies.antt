@@ -10,7 +10,7 @@ use Rattle.std.specs.FinMap.{get}
 use Rattle.geos_model.specs.Document.{Document, is_heap, is_heap_body, is_live, attributes_of, with_body}
 use Rattle.geos_model.proofs.HeapEdits.{get-put_same, get-put_other}
 use Rattle.vm_blocks.specs.Bodies.{body_value}
-use Rattle.vm_file.specs.Disk.{Disk}
+use Rattle.document_file.specs.Disk.{Disk}
 use Rattle.vm_blocks.specs.Frames.{frame_of, overlay, residents, IsFrameOf, AreFramesOf}
 use Rattle.vm_blocks.specs.declared.frame.Frame.{Frame}
 use Rattle.vm_blocks.specs.State.{CacheState}

@@ -5,10 +5,10 @@ use Rattle.std.proofs.lemmas.List.{drop_more, at_drop_all}
 use Rattle.vm_store.specs.Facts.{StoreFacts}
 use Rattle.geos_model.specs.Document.{Document, IsValid, handles_of}
 use Rattle.geos_model.specs.declared.fault.Fault.{Fault}
-use Rattle.vm_file.specs.Disk.{Disk, SameUnlessCorrupt, MarkSameUnlessCorrupt, KeepsCommitted, unmarked}
-use Rattle.vm_file.specs.Effects.{Fails, NoFault}
-use Rattle.vm_file.specs.Members.{imaged_blocks}
-use Rattle.vm_file.proofs.PassingLemmas.{KeepsCommitted-refl, KeepsCommitted-trans, SameUnlessCorrupt-refl, SameUnlessCorrupt-trans}
+use Rattle.document_file.specs.Disk.{Disk, SameUnlessCorrupt, MarkSameUnlessCorrupt, KeepsCommitted, unmarked}
+use Rattle.document_file.specs.Effects.{Fails, NoFault}
+use Rattle.document_file.specs.Members.{imaged_blocks}
+use Rattle.document_file.proofs.PassingLemmas.{KeepsCommitted-refl, KeepsCommitted-trans, SameUnlessCorrupt-refl, SameUnlessCorrupt-trans}
 use Rattle.vm_blocks.specs.State.{CacheState, ResidentBlock, locks_of, locked_count, KeepsLocks, Marks}
 use Rattle.vm_blocks.proofs.Locks.{keeps_refl, none_locked}
 use Rattle.vm_blocks.proofs.Marking.{none_marked}

@@ -3,8 +3,8 @@ use Rattle.std.proofs.Common.{◌≡◌, Bool, List, inl, inr, sym, subst, ◌�
 use Rattle.geos_model.specs.Document.{Document, without_blocks}
 use Rattle.geos_model.specs.declared.fault.Fault.{Fault}
 use Rattle.vm_store.specs.Facts.{StoreFacts}
-use Rattle.vm_file.specs.Disk.{Disk, SameUnlessCorrupt, KeepsCommitted}
-use Rattle.vm_file.proofs.PassingLemmas.{KeepsCommitted-trans, SameUnlessCorrupt-trans}
+use Rattle.document_file.specs.Disk.{Disk, SameUnlessCorrupt, KeepsCommitted}
+use Rattle.document_file.proofs.PassingLemmas.{KeepsCommitted-trans, SameUnlessCorrupt-trans}
 use Rattle.vm_blocks.specs.State.{CacheState, KeepsLocks}
 use Rattle.vm_blocks.specs.InMemory.{all_in_place, all_outgoing}
 use Rattle.vm_blocks.specs.Keeping.{KeepsBlocks}

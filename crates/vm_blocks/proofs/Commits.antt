@@ -5,13 +5,13 @@ use Rattle.geos_model.specs.Document.{Document}
 use Rattle.geos_model.specs.declared.fault.Fault.{Fault}
 use Rattle.geos_model.specs.declared.fault.Fault.TheVariants.{Worn}
 use Rattle.vm_store.specs.Facts.{StoreFacts, IsTimely}
-use Rattle.vm_file.specs.Calls.{last_sequence}
-use Rattle.vm_file.specs.Documents.{Documents}
-use Rattle.vm_file.specs.Disk.{FileState, IsCrashConsistent, SameUnlessCorrupt}
-use Rattle.vm_file.specs.Effects.{IsCommit}
-use Rattle.vm_file.proofs.EffectsLemmas.{settled_after, committed}
-use Rattle.vm_file.proofs.PassingLemmas.{KeepsCommitted-fails, SameUnlessCorrupt-trans}
-use Rattle.vm_file.proofs.ResultLemmas.{either_way, any_way}
+use Rattle.document_file.specs.Calls.{last_sequence}
+use Rattle.document_file.specs.Documents.{Documents}
+use Rattle.document_file.specs.Disk.{FileState, IsCrashConsistent, SameUnlessCorrupt}
+use Rattle.document_file.specs.Effects.{IsCommit}
+use Rattle.document_file.proofs.EffectsLemmas.{settled_after, committed}
+use Rattle.document_file.proofs.PassingLemmas.{KeepsCommitted-fails, SameUnlessCorrupt-trans}
+use Rattle.document_file.proofs.ResultLemmas.{either_way, any_way}
 use Rattle.vm_blocks.specs.Frames.{overlay, with_frames, AreFramesOf, KeepsOverlay}
 use Rattle.vm_blocks.specs.declared.frame.Frame.{Frame}
 use Rattle.vm_blocks.proofs.DocumentUnderFrames.{kept_drifts, overlay_drifts}

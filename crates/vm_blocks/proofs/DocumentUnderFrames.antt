@@ -10,7 +10,7 @@ use Rattle.geos_model.specs.Document.{Block, Document, IsValidBlock, IsValid, bl
 use Rattle.geos_model.specs.declared.command.Body.{Body}
 use Rattle.geos_model.proofs.HeapEdits.{get-put_same, get-put_other}
 use Rattle.geos_model.specs.declared.block.Attributes.{Attributes}
-use Rattle.vm_file.specs.Disk.{SameUnlessCorrupt, IsFileDocument}
+use Rattle.document_file.specs.Disk.{SameUnlessCorrupt, IsFileDocument}
 use Rattle.vm_blocks.specs.Bodies.{body_value}
 use Rattle.vm_blocks.specs.Frames.{frame_of, overlay, with_frame, is_changed_in, IsFrameOf, AreFramesOf}
 use Rattle.vm_blocks.specs.declared.frame.Frame.{Frame}

@@ -10,7 +10,7 @@ use Rattle.std.proofs.lemmas.List.Elements.{All-nil, All-cons}
 use Rattle.geos_model.specs.Document.{Block, Document, block_at, handles_of, is_heap, is_heap_body, is_live, is_vm_handle, no_attributes, no_block, with_attributes, with_block, with_blocks, without_block, without_blocks}
 use Rattle.geos_model.specs.declared.block.Attributes.{Attributes}
 use Rattle.geos_model.proofs.HeapEdits.{get-put_same, get-put_other, get-taken_same, get-taken_other}
-use Rattle.vm_file.specs.Members.{imaged_blocks}
+use Rattle.document_file.specs.Members.{imaged_blocks}
 use Rattle.vm_blocks.specs.Changes.{after_change, after_part, attributes_for_kind, incoming_blocks, CanApply, CanApplyPart}
 use Rattle.vm_blocks.specs.Exactness.{IsExactPart}
 use Rattle.vm_blocks.specs.InMemory.{in_place, all_in_place, outgoing, all_outgoing, CanTakeOut, IsListed, AreListed, FitsInPlace, AllFit}

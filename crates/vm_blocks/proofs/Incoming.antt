@@ -9,8 +9,8 @@ use Rattle.geos_model.specs.ElementArray.{all_distinct}
 use Rattle.geos_model.specs.Document.{Block, Document, block_at, handles_of, is_heap, is_heap_body, is_live, with_attributes, with_block, with_blocks, without_blocks}
 use Rattle.geos_model.proofs.BlockLists.{distinct-first, distinct-rest}
 use Rattle.geos_model.proofs.HeapEdits.{get-put_same, get-put_other}
-use Rattle.vm_file.specs.Disk.{SameUnlessCorrupt}
-use Rattle.vm_file.specs.Members.{imaged_blocks}
+use Rattle.document_file.specs.Disk.{SameUnlessCorrupt}
+use Rattle.document_file.specs.Members.{imaged_blocks}
 use Rattle.vm_blocks.specs.State.{CacheState}
 use Rattle.vm_blocks.specs.Changes.{after_change, after_part, attributes_for_kind, incoming_blocks, AreFree, IsFreeHandle}
 use Rattle.vm_blocks.specs.Incoming.{CanComeIn, CanAllComeIn, others, with_incoming, with_other}

@@ -7,9 +7,9 @@ use Rattle.std.specs.Option.{option_map_or}
 use Rattle.geos_model.specs.Document.{Block, is_heap_body, is_live}
 use Rattle.geos_model.specs.declared.fault.Fault.{Fault}
 use Rattle.geos_model.specs.declared.fault.Fault.TheVariants.{Damaged, File, Memory}
-use Rattle.vm_file.specs.Disk.{KeepsCommitted, SameUnlessCorrupt}
-use Rattle.vm_file.specs.Effects.{IsDamage}
-use Rattle.vm_file.proofs.PassingLemmas.{KeepsCommitted-refl, KeepsCommitted-trans, SameUnlessCorrupt-refl, SameUnlessCorrupt-trans}
+use Rattle.document_file.specs.Disk.{KeepsCommitted, SameUnlessCorrupt}
+use Rattle.document_file.specs.Effects.{IsDamage}
+use Rattle.document_file.proofs.PassingLemmas.{KeepsCommitted-refl, KeepsCommitted-trans, SameUnlessCorrupt-refl, SameUnlessCorrupt-trans}
 use Rattle.vm_blocks.specs.State.{CacheState, is_resident, locks_of, locked_count, all_frames_locked, KeepsLocks, KeepsDocument}
 use Rattle.vm_blocks.proofs.Locks.{keeps_refl, each_locked}
 use Rattle.vm_blocks.proofs.OrderOfUse.{locked_there, some_free}

@@ -11,11 +11,11 @@ use Rattle.geos_model.proofs.Chains.{contains_first, contains_later}
 use Rattle.geos_model.proofs.HeapEdits.{get-taken_same}
 use Rattle.geos_model.proofs.Validity.{without_block-valid}
 use Rattle.vm_blocks.proofs.MapLemmas.{put_taken, taken_put, put_past_taken}
-use Rattle.vm_file.specs.Members.{imaged_block, imaged_blocks}
+use Rattle.document_file.specs.Members.{imaged_block, imaged_blocks}
 use Rattle.vm_blocks.specs.State.{ResidentBlock, locks_of}
 use Rattle.vm_blocks.specs.Changes.{AreFree, CanRemoveAll, IsFreeHandle}
 use Rattle.vm_blocks.specs.Preparing.{CanRemoveByHandle}
-use Rattle.vm_file.specs.declared.member.Member.{Member}
+use Rattle.document_file.specs.declared.member.Member.{Member}
 
 -- What holds of each of a list that is made of another.
 pub All-from_map : {X Y : Type 0} (P : X → Type 0) (f : Y → X) (ys : List Y) → All P (map f ys) → All (λ y. P (f y)) ys

@@ -3,8 +3,8 @@ use Rattle.std.proofs.Common.{◌≡◌, ℕ, Bool, List, refl, ap, subst}
 use Rattle.std.specs.Prelude.{Option, None, Some, Result, Ok, Err, OnErr}
 use Rattle.vm_store.specs.Facts.{StoreFacts}
 use Rattle.geos_model.specs.Document.{Document}
-use Rattle.vm_file.specs.Disk.{FileState, KeepsCommitted, SameUnlessCorrupt, MarkSameUnlessCorrupt}
-use Rattle.vm_file.proofs.PassingLemmas.{SameUnlessCorrupt-trans}
+use Rattle.document_file.specs.Disk.{FileState, KeepsCommitted, SameUnlessCorrupt, MarkSameUnlessCorrupt}
+use Rattle.document_file.proofs.PassingLemmas.{SameUnlessCorrupt-trans}
 use Rattle.vm_blocks.specs.State.{Marks}
 use Rattle.vm_blocks.specs.Frames.{overlay, shown, AreClean, KeepsOverlay}
 use Rattle.vm_blocks.specs.declared.frame.Frame.{Frame}

@@ -11,9 +11,9 @@ use Rattle.geos_model.proofs.HeapEdits.{get-put_same, get-put_other, get-taken_s
 use Rattle.geos_model.specs.declared.fault.Fault.{Fault}
 use Rattle.geos_model.specs.declared.fault.Fault.TheVariants.{Memory}
 use Rattle.vm_store.specs.Facts.{StoreFacts}
-use Rattle.vm_file.specs.Disk.{SameUnlessCorrupt}
+use Rattle.document_file.specs.Disk.{SameUnlessCorrupt}
 use Rattle.vm_blocks.specs.State.{CacheState, is_resident}
-use Rattle.vm_file.specs.Members.{imaged_blocks}
+use Rattle.document_file.specs.Members.{imaged_blocks}
 use Rattle.vm_blocks.specs.Changes.{attributes_for_kind, directed, directed_part, after_change, after_part, CanApply, CanApplyPart, CanRemoveAll}
 use Rattle.vm_blocks.specs.Keeping.{KeepsBlocks, IsHonest, IsEnvironmentFault, is_loaded}
 use Rattle.vm_blocks.specs.Parts.{AllowsPart}

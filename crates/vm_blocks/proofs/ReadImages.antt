@@ -8,9 +8,9 @@ use Rattle.geos_model.specs.Image.{image, body_of}
 use Rattle.geos_model.specs.declared.command.Body.{Body}
 use Rattle.geos_model.specs.declared.fault.Fault.{Fault}
 use Rattle.geos_model.specs.declared.fault.Fault.TheVariants.{Memory, Damaged}
-use Rattle.geos_model.proofs.Files.{body_of-image}
-use Rattle.vm_file.specs.Calls.{IsResourceFault}
-use Rattle.vm_file.specs.Effects.{Fails, IsDamage}
+use Rattle.file_format.proofs.Files.{body_of-image}
+use Rattle.document_file.specs.Calls.{IsResourceFault}
+use Rattle.document_file.specs.Effects.{Fails, IsDamage}
 
 pub body_is : (body other : Body) (bytes : List ℕ) → body_of bytes ≡ Some body → bytes ≡ image other → is_valid_body other ≡ true → other ≡ body
 body_is body other bytes read is valid =

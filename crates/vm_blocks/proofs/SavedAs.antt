@@ -6,11 +6,11 @@ use Rattle.geos_model.specs.Document.{Document, is_live, is_vm_handle}
 use Rattle.geos_model.specs.declared.fault.Fault.{Fault}
 use Rattle.geos_model.specs.declared.fault.Fault.TheVariants.{File, Damaged, Worn}
 use Rattle.vm_store.specs.Facts.{StoreFacts, FailedSince, IsTimely}
-use Rattle.vm_file.specs.Calls.{IsResourceFault, IsCommitRefusal, last_sequence}
-use Rattle.vm_file.specs.Disk.{FileState, IsCrashConsistent, SameUnlessCorrupt, KeepsCommitted, MayCommit}
-use Rattle.vm_file.specs.Effects.{SameStore, IsNewFile, OnlyReads, IsCommit, Fails, NoFault, IsWorn}
-use Rattle.vm_file.proofs.EffectsLemmas.{settled_after}
-use Rattle.vm_file.proofs.PassingLemmas.{KeepsCommitted-refl, KeepsCommitted-trans, KeepsCommitted-fails, KeepsCommitted-MayCommit, MayCommit-refused, SameUnlessCorrupt-refl, SameUnlessCorrupt-trans}
+use Rattle.document_file.specs.Calls.{IsResourceFault, IsCommitRefusal, last_sequence}
+use Rattle.document_file.specs.Disk.{FileState, IsCrashConsistent, SameUnlessCorrupt, KeepsCommitted, MayCommit}
+use Rattle.document_file.specs.Effects.{SameStore, IsNewFile, OnlyReads, IsCommit, Fails, NoFault, IsWorn}
+use Rattle.document_file.proofs.EffectsLemmas.{settled_after}
+use Rattle.document_file.proofs.PassingLemmas.{KeepsCommitted-refl, KeepsCommitted-trans, KeepsCommitted-fails, KeepsCommitted-MayCommit, MayCommit-refused, SameUnlessCorrupt-refl, SameUnlessCorrupt-trans}
 use Rattle.vm_blocks.specs.SavingAs.{IsSavedAs, IsNotSavedAs}
 use Rattle.vm_blocks.specs.Frames.{overlay, with_frames, is_changed_in, AreFramesOf, KeepsOverlay}
 use Rattle.vm_blocks.specs.declared.frame.Frame.{Frame}

@@ -10,9 +10,9 @@ use Rattle.geos_model.specs.declared.fault.Fault.{Fault}
 use Rattle.geos_model.proofs.Validity.{attributes-typed, empty_document-valid, with_body-valid, with_attributes-valid, without_block-valid}
 use Rattle.geos_model.specs.declared.block.Attributes.{Attributes}
 use Rattle.vm_store.specs.Facts.{StoreFacts}
-use Rattle.vm_file.specs.Disk.{FileState, IsFileDocument, SameUnlessCorrupt}
-use Rattle.vm_file.specs.Documents.{Documents}
-use Rattle.vm_file.specs.Effects.{IsCommit, LeavesDocument}
+use Rattle.document_file.specs.Disk.{FileState, IsFileDocument, SameUnlessCorrupt}
+use Rattle.document_file.specs.Documents.{Documents}
+use Rattle.document_file.specs.Effects.{IsCommit, LeavesDocument}
 use Rattle.vm_blocks.specs.Frames.{frame_of, residents, overlay, shown, with_frames, AreFramesOf, KeepsOverlay}
 use Rattle.vm_blocks.specs.SavingAs.{IsSavedAs, IsNotSavedAs}
 use Rattle.vm_blocks.specs.State.{CacheState, as_file, is_resident}

@@ -5,8 +5,8 @@ use Rattle.std.specs.Map.{keys_of}
 use Rattle.std.specs.Option.{option_map}
 use Rattle.lru.specs.LruCache.{LruCache, lru_cache, promoted}
 use Rattle.vm_store.specs.Facts.{StoreFacts}
-use Rattle.vm_file.specs.Disk.{FileState, SameUnlessCorrupt}
-use Rattle.vm_file.proofs.PassingLemmas.{SameUnlessCorrupt-refl}
+use Rattle.document_file.specs.Disk.{FileState, SameUnlessCorrupt}
+use Rattle.document_file.proofs.PassingLemmas.{SameUnlessCorrupt-refl}
 use Rattle.vm_blocks.specs.Frames.{frame_of, residents, overlay, shown}
 use Rattle.vm_blocks.specs.Keeping.{KeepsBlocks}
 use Rattle.vm_blocks.specs.Sound.{AreBlocksOf}

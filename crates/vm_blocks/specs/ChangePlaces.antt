@@ -10,8 +10,8 @@ use Rattle.chunk_edits.specs.Runs.{runs_places}
 use Rattle.chunk_edits.specs.Splicing.{Splice}
 use Rattle.chunk_edits.specs.declared.direction.Direction.{Direction}
 use Rattle.chunk_edits.specs.declared.direction.Direction.TheVariants.{Forwards, Backwards}
-use Rattle.vm_file.specs.Members.{imaged_blocks}
-use Rattle.vm_file.specs.declared.member.Member.{Member}
+use Rattle.document_file.specs.Members.{imaged_blocks}
+use Rattle.document_file.specs.declared.member.Member.{Member}
 use Rattle.vm_blocks.specs.declared.change.Change.{Change}
 use Rattle.vm_blocks.specs.declared.change.Change.TheVariants as changes
 use Rattle.vm_blocks.specs.declared.change.PartChange.{PartChange}

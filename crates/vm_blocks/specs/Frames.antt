@@ -7,7 +7,7 @@ use Rattle.std.specs.Map.{keys_of, lookup, set_value}
 use Rattle.vm_store.specs.Facts.{StoreFacts}
 use Rattle.geos_model.specs.Document.{Document, block_at, chunks_of_body, is_heap, is_heap_body, is_live, with_body}
 use Rattle.geos_model.specs.Heap.{ChunkMap}
-use Rattle.vm_file.specs.Disk.{FileState, KeepsCommitted, SameUnlessCorrupt}
+use Rattle.document_file.specs.Disk.{FileState, KeepsCommitted, SameUnlessCorrupt}
 use Rattle.vm_blocks.specs.Bodies.{body_value}
 use Rattle.vm_blocks.specs.State.{CacheState, ResidentBlock}
 use Rattle.vm_blocks.specs.declared.body.BlockBody.{BlockBody}

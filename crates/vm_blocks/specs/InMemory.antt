@@ -4,7 +4,7 @@ use Rattle.std.specs.Prelude.{◌≡◌, ◌≢◌, ◌++◌, ℕ, List, [], ◌
 use Rattle.geos_model.specs.Document.{Document, attributes_of, block_at, handles_of, is_heap, is_live, with_attributes, without_blocks}
 use Rattle.chunk_edits.specs.Directions.{opposite}
 use Rattle.chunk_edits.specs.declared.direction.Direction.{Direction}
-use Rattle.vm_file.specs.Members.{imaged_blocks}
+use Rattle.document_file.specs.Members.{imaged_blocks}
 use Rattle.vm_blocks.specs.State.{CacheState}
 use Rattle.vm_blocks.specs.Changes.{after_part, attributes_for_kind, directed, reversed_part}
 use Rattle.vm_blocks.specs.Exactness.{IsExactPart}

@@ -5,7 +5,7 @@ use Rattle.geos_model.specs.Document.{Block, Document, handles_of, is_live, with
 use Rattle.vm_store.specs.Facts.{StoreFacts}
 use Rattle.chunk_edits.specs.Directions.{opposite}
 use Rattle.chunk_edits.specs.declared.direction.Direction.{Direction}
-use Rattle.vm_file.specs.Disk.{SameUnlessCorrupt, KeepsCommitted}
+use Rattle.document_file.specs.Disk.{SameUnlessCorrupt, KeepsCommitted}
 use Rattle.vm_blocks.specs.State.{CacheState, KeepsLocks}
 use Rattle.vm_blocks.specs.Changes.{directed, directed_all, incoming_blocks, AreFree}
 use Rattle.vm_blocks.specs.InMemory.{outgoing}

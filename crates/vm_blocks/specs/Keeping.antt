@@ -5,7 +5,7 @@ use Rattle.vm_store.specs.Facts.{StoreFacts, FailedSince}
 use Rattle.geos_model.specs.Document.{is_live}
 use Rattle.geos_model.specs.declared.fault.Fault.{Fault}
 use Rattle.geos_model.specs.declared.fault.Fault.TheVariants.{File, Memory, CacheFull}
-use Rattle.vm_file.specs.Effects.{IsDamage}
+use Rattle.document_file.specs.Effects.{IsDamage}
 use Rattle.vm_blocks.specs.State.{CacheState, is_resident, locks_of, all_frames_locked, KeepsLocks, KeepsDocument}
 
 -- nothing is committed, the document stays, as far as the store gives back what it has, and each block is locked as

@@ -1,15 +1,15 @@
 -- What opening a document file gives, and making a new one.
 use Rattle.std.specs.Prelude.{◌≡◌, ◌≢◌, ◌⊎◌, IsTrue, [], None, Some, Ok, Err, true, length}
 use Rattle.geos_model.specs.Document.{empty_document}
-use Rattle.geos_model.specs.File.{stands}
+use Rattle.file_format.specs.File.{stands}
 use Rattle.geos_model.specs.declared.fault.Fault.{Fault}
 use Rattle.geos_model.specs.declared.fault.Fault.TheVariants.{File}
 use Rattle.vm_store.specs.Facts.{StoreFacts, FailedSince, IsUnchanged}
-use Rattle.vm_file.specs.Calls.{IsResourceFault, IsOpenRefusal}
-use Rattle.vm_file.specs.Disk.{FileState, IsCrashConsistent, HasSequence}
-use Rattle.vm_file.specs.Documents.{has_one_directory, sequence_in}
-use Rattle.vm_file.specs.Effects.{SameStore, IsNewFile}
-use Rattle.vm_file.specs.Making.{first_file}
+use Rattle.document_file.specs.Calls.{IsResourceFault, IsOpenRefusal}
+use Rattle.document_file.specs.Disk.{FileState, IsCrashConsistent, HasSequence}
+use Rattle.document_file.specs.Documents.{has_one_directory, sequence_in}
+use Rattle.document_file.specs.Effects.{SameStore, IsNewFile}
+use Rattle.document_file.specs.Making.{first_file}
 
 -- A file that was opened. Over an honest store nothing was written, and it has the documents that the bytes stand for,
 -- the updated one as it is now, under the number of the slot that counts, all of which is on the disk from then on;

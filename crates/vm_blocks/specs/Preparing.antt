@@ -8,11 +8,11 @@ use Rattle.geos_model.specs.ElementArray.{all_distinct}
 use Rattle.geos_model.specs.declared.fault.Fault.{Fault}
 use Rattle.geos_model.specs.declared.fault.Fault.TheVariants.{Damaged, CacheFull}
 use Rattle.vm_store.specs.Facts.{StoreFacts}
-use Rattle.vm_file.specs.Disk.{SameUnlessCorrupt, KeepsCommitted}
+use Rattle.document_file.specs.Disk.{SameUnlessCorrupt, KeepsCommitted}
 use Rattle.vm_blocks.specs.State.{CacheState, ResidentBlock, locks_of, KeepsLocks}
 use Rattle.vm_blocks.specs.Changes.{after_change, incoming_blocks, CanApply, AreFree, HasMap}
 use Rattle.vm_blocks.specs.Keeping.{KeepsBlocks, IsHonest, IsEnvironmentFault, is_loaded, has_no_frame_for}
-use Rattle.vm_file.specs.Members.{imaged_blocks}
+use Rattle.document_file.specs.Members.{imaged_blocks}
 use Rattle.vm_blocks.specs.Parts.{AllowsPart}
 use Rattle.vm_blocks.specs.declared.change.Change.{Change}
 use Rattle.vm_blocks.specs.declared.change.Change.TheVariants as changes

@@ -4,9 +4,9 @@ use Rattle.geos_model.specs.Document.{is_live}
 use Rattle.geos_model.specs.declared.fault.Fault.{Fault}
 use Rattle.geos_model.specs.declared.fault.Fault.TheVariants.{File, Damaged, Worn}
 use Rattle.vm_store.specs.Facts.{StoreFacts, FailedSince}
-use Rattle.vm_file.specs.Calls.{IsCommitRefusal}
-use Rattle.vm_file.specs.Disk.{Disk, FileState, MayCommit, SameUnlessCorrupt, KeepsCommitted}
-use Rattle.vm_file.specs.Effects.{SameStore, IsNewFile}
+use Rattle.document_file.specs.Calls.{IsCommitRefusal}
+use Rattle.document_file.specs.Disk.{Disk, FileState, MayCommit, SameUnlessCorrupt, KeepsCommitted}
+use Rattle.document_file.specs.Effects.{SameStore, IsNewFile}
 
 -- A save-as that was accepted: the old file has committed its saved document, and its store came back; the target is a
 -- new file, with the handles of the document, over two honest stores of the document itself, and takes the file's

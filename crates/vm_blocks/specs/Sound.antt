@@ -2,7 +2,7 @@
 use Rattle.std.specs.Prelude.{◌≤◌, ℕ, IsTrue, List}
 use Rattle.geos_model.specs.Document.{IsValid}
 use Rattle.vm_store.specs.Facts.{StoreFacts}
-use Rattle.vm_file.specs.Disk.{FileState}
+use Rattle.document_file.specs.Disk.{FileState}
 use Rattle.vm_blocks.specs.Frames.{AreFramesOf, shown}
 use Rattle.vm_blocks.specs.State.{CacheState}
 use Rattle.vm_blocks.specs.declared.frame.Frame.{Frame}

@@ -6,8 +6,8 @@ use Rattle.std.specs.Coded.{Coded, code_by, coded×, coded_ℕ, coded_list}
 use Rattle.vm_store.specs.Facts.{StoreFacts}
 use Rattle.geos_model.specs.Document.{Document}
 use Rattle.geos_model.proofs.Codes.{document_code}
-use Rattle.vm_file.specs.Disk.{Disk, FileState, disk_code, SameUnlessCorrupt, MarkSameUnlessCorrupt, KeepsCommitted, unmarked}
-use Rattle.vm_file.specs.Effects.{LeavesDocument}
+use Rattle.document_file.specs.Disk.{Disk, FileState, disk_code, SameUnlessCorrupt, MarkSameUnlessCorrupt, KeepsCommitted, unmarked}
+use Rattle.document_file.specs.Effects.{LeavesDocument}
 use Rattle.lru.specs.LruCache.{promoted}
 
 -- A block in memory: its handle, and how often it is locked.

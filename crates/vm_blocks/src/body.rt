@@ -7,12 +7,12 @@ ghost use Rattle.geos_model.specs.Heap.{chunk_bytes};
 ghost use Rattle.lmem_heap.specs.Known.{is_array_of};
 ghost use Rattle.vm_blocks.specs.Bodies.{body_value};
 
+use document_file::Image;
+use file_format::BodyKind;
 use geos_model::ChunkHandle;
 use lmem_heap::{ArrayKind, Heap};
 use raw_region::{RawBody, Region, SIZE};
 use std::alloc::{AllocError, Global};
-use vm_file::Image;
-use vm_format::BodyKind;
 
 /// What a block in memory holds, in a region of its own.
 #[derive(Drop)]

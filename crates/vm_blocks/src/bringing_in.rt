@@ -4,7 +4,7 @@ ghost use Rattle.std.specs.Prelude.{◌≡◌, [], true, IfErr, IsOk, MatchOptio
 ghost use Rattle.std.specs.List.{All, list_any};
 ghost use Rattle.geos_model.specs.Document.{handles_of, is_live, is_vm_handle};
 ghost use Rattle.geos_model.specs.ElementArray.{all_distinct};
-ghost use Rattle.vm_file.specs.Members.{imaged_blocks};
+ghost use Rattle.document_file.specs.Members.{imaged_blocks};
 ghost use Rattle.vm_blocks.specs.State.{KeepsLocks, locked_count};
 ghost use Rattle.vm_blocks.specs.Changes.{directed, directed_all, incoming_blocks};
 ghost use Rattle.vm_blocks.specs.Incoming.{AreBroughtIn, CanGoAgain, IsBroughtIn, IsObstacle, without_again};

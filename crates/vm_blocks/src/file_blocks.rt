@@ -5,8 +5,8 @@ ghost use Rattle.std.specs.FinMap.{get, keys};
 ghost use Rattle.geos_model.specs.Document.{IsValid, is_heap, next_handle, is_live, is_vm_handle, attributes_of, IsTyped};
 ghost use Rattle.geos_model.specs.ElementArray.{all_distinct};
 ghost use Rattle.geos_model.specs.Reply.{found};
-ghost use Rattle.vm_file.specs.Disk.{IsFileDocument, IsCrashConsistent};
-ghost use Rattle.vm_file.specs.Documents.{has_one_directory};
+ghost use Rattle.document_file.specs.Disk.{IsFileDocument, IsCrashConsistent};
+ghost use Rattle.document_file.specs.Documents.{has_one_directory};
 ghost use Rattle.vm_blocks.specs.Bodies.{body_value};
 ghost use Rattle.vm_blocks.specs.State.{is_resident, locks_of, locked_count, as_file};
 ghost use Rattle.vm_blocks.specs.Keeping.{is_full, is_loaded};
@@ -20,12 +20,12 @@ mod locking;
 
 use crate::BlockBody;
 use crate::frame::{Frame, all_locked, body_in, locks_of};
+use document_file::{Refused, VmFile};
 use geos_model::{Attributes, Fault, VmHandle};
 use lru::LruCache;
 use std::alloc::{AllocError, Global};
 use std::marker::Model;
 use std::num::NonZeroUsize;
-use vm_file::{Refused, VmFile};
 use vm_store::Store;
 
 /// A document file with its blocks, so many of which may be in memory. Contracts see the document that callers see:

@@ -1,7 +1,7 @@
 //! Blocks that come in or go together.
 ghost use Rattle.std.specs.Prelude.{◌≡◌, ◌≤◌, ◌∷◌, [], IfOk, length};
 ghost use Rattle.geos_model.specs.Document.{most_blocks};
-ghost use Rattle.vm_file.specs.Members.{imaged_block, imaged_blocks};
+ghost use Rattle.document_file.specs.Members.{imaged_block, imaged_blocks};
 
 use crate::{BlockImage, Member};
 use geos_model::VmHandle;

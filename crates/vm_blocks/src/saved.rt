@@ -2,7 +2,7 @@
 ghost use Rattle.std.specs.Prelude.{◌≡◌, IfOk};
 ghost use Rattle.vm_blocks.specs.Bodies.{body_value};
 ghost use Rattle.geos_model.specs.Document.{IsTyped, is_heap_body};
-ghost use Rattle.vm_file.specs.Members.{imaged_block};
+ghost use Rattle.document_file.specs.Members.{imaged_block};
 
 use crate::{BlockBody, BlockImage};
 use geos_model::Attributes;

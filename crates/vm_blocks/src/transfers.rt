@@ -1,19 +1,19 @@
 //! Bodies that go from memory into the file, and come from there.
 ghost use Rattle.std.specs.Prelude.{◌≡◌, ◌≢◌, ◌⊎◌, ◌<◌, ℕ, false, true, cond, nat_lt, List, [], ◌∷◌, length, IsTrue, is_some, None, Some, IfOk, OnOk, OnErr, MatchOption};
 ghost use Rattle.geos_model.specs.Document.{Document, block_at, is_heap, is_heap_body, is_live, with_body};
-ghost use Rattle.vm_file.specs.Calls.{IsPut, put_all, last_sequence};
-ghost use Rattle.vm_file.specs.Documents.{Documents};
-ghost use Rattle.vm_file.specs.Effects.{IsCommit, OnlyReads, Fails, NoFault, IsDamage, IsWorn};
+ghost use Rattle.document_file.specs.Calls.{IsPut, put_all, last_sequence};
+ghost use Rattle.document_file.specs.Documents.{Documents};
+ghost use Rattle.document_file.specs.Effects.{IsCommit, OnlyReads, Fails, NoFault, IsDamage, IsWorn};
 ghost use Rattle.vm_blocks.specs.Bodies.{body_value};
 ghost use Rattle.vm_blocks.specs.Frames.{frame_of, residents, overlay, with_frames, changed_in, is_changed_in, AreClean, IsChangedBody, AreFramesOf, KeepsOverlay};
 
 use crate::body::{BlockBody, read_image};
 use crate::frame::{Frame, mark};
+use document_file::{BlockImage, Member, VmFile};
 use geos_model::{Fault, VmHandle};
 use lru::LruCache;
 use raw_region::Region;
 use std::alloc::{AllocError, Global};
-use vm_file::{BlockImage, Member, VmFile};
 use vm_store::Store;
 
 // A block in memory, of the kind that it has in the file, as it is put there.

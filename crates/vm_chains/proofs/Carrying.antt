@@ -16,17 +16,17 @@ use Rattle.geos_model.proofs.Refusals.{none_applies, or_none}
 use Rattle.geos_model.proofs.Chains.{chain-members}
 use Rattle.geos_model.proofs.ChainCopies.{new-new}
 use Rattle.geos_model.proofs.ChainEdits.{blocks_of-handles}
-use Rattle.vm_file.specs.Members.{imaged_block, imaged_blocks}
+use Rattle.document_file.specs.Members.{imaged_block, imaged_blocks}
 use Rattle.vm_blocks.specs.Changes.{AreFree, CanRemoveAll, CanRemove}
 use Rattle.vm_blocks.specs.declared.member.Members.{Members}
-use Rattle.vm_file.specs.declared.member.Member.{Member}
+use Rattle.document_file.specs.declared.member.Member.{Member}
 use Rattle.geos_model.specs.declared.handle.VmHandle.{VmHandle}
 use Rattle.vm_chains.specs.Numbers.{numbers}
 use Rattle.vm_chains.specs.Answers.{AnswersChain}
 use Rattle.vm_blocks.specs.Preparing.{CanRemoveByHandle}
 use Rattle.vm_chains.specs.Stepping.{AreMet}
 use Rattle.vm_chains.specs.Walking.{BeginsWith}
-use Rattle.vm_file.specs.Disk.{SameUnlessCorrupt}
+use Rattle.document_file.specs.Disk.{SameUnlessCorrupt}
 
 none_there : (o : Option Block) → is_some o ≡ false → o ≡ None
 none_there None no_ = refl

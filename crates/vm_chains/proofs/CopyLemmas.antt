@@ -6,9 +6,9 @@ use Rattle.std.specs.List.{zip, filter, range_with_len}
 use Rattle.geos_model.specs.Chain.{free_handles, name_of, relinked_block}
 use Rattle.geos_model.specs.Document.{Block, Document, block_at, is_live, most_blocks, vm_handles}
 use Rattle.geos_model.specs.declared.handle.VmHandle.{VmHandle}
-use Rattle.vm_file.specs.Members.{imaged_block, imaged_blocks}
+use Rattle.document_file.specs.Members.{imaged_block, imaged_blocks}
 use Rattle.vm_chains.specs.Numbers.{numbers}
-use Rattle.vm_file.specs.declared.member.Member.{Member}
+use Rattle.document_file.specs.declared.member.Member.{Member}
 
 -- some blocks of a chain under new handles, with the names that all of them get
 abbrev pub copies_from : Document → List VmHandle → List VmHandle → List VmHandle → List VmHandle → List (ℕ × Block)

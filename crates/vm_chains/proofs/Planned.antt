@@ -4,8 +4,8 @@ use Rattle.std.proofs.lemmas.List.{map-append, take_more}
 use Rattle.geos_model.specs.Chain.{chain_blocks_of}
 use Rattle.geos_model.specs.Document.{Block, Document, block_at, handles_of}
 use Rattle.geos_model.specs.declared.handle.VmHandle.{VmHandle}
-use Rattle.vm_file.specs.Members.{imaged_block, imaged_blocks}
-use Rattle.vm_file.specs.declared.member.Member.{Member}
+use Rattle.document_file.specs.Members.{imaged_block, imaged_blocks}
+use Rattle.document_file.specs.declared.member.Member.{Member}
 use Rattle.vm_chains.specs.Numbers.{numbers}
 
 module _ (plan : List Member) (m : Member) where

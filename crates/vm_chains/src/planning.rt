@@ -7,7 +7,7 @@ ghost use Rattle.geos_model.specs.declared.fault.Fault.TheVariants.{BadChain, No
 ghost use Rattle.vm_blocks.specs.Changes.{CanApply};
 ghost use Rattle.vm_blocks.specs.Keeping.{KeepsBlocks, IsHonest, IsEnvironmentFault, is_full};
 ghost use Rattle.vm_blocks.specs.Kinds.{IsWrongBlock};
-ghost use Rattle.vm_file.specs.Members.{imaged_blocks};
+ghost use Rattle.document_file.specs.Members.{imaged_blocks};
 ghost use Rattle.vm_blocks.specs.Preparing.{CanRemoveByHandle};
 ghost use Rattle.vm_blocks.specs.declared.change.Change.TheVariants as changes;
 ghost use Rattle.vm_chains.specs.Answers.{AnswersChain, IsChainFault};

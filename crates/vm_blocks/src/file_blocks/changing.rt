@@ -2,9 +2,9 @@
 ghost use Rattle.std.specs.Prelude.{◌≡◌, ◌≢◌, [], Some, None, Err, true, is_some, IsTrue, IsOk, IfErr, IfSome, OnOk, OnErr};
 ghost use Rattle.std.specs.List.{All};
 ghost use Rattle.geos_model.specs.Document.{IsValid, block_at, is_heap, is_live, handles_of, with_attributes, without_block, without_blocks};
-ghost use Rattle.vm_file.specs.Disk.{KeepsCommitted, unmarked};
-ghost use Rattle.vm_file.specs.Effects.{Fails, NoFault};
-ghost use Rattle.vm_file.specs.Members.{imaged_blocks};
+ghost use Rattle.document_file.specs.Disk.{KeepsCommitted, unmarked};
+ghost use Rattle.document_file.specs.Effects.{Fails, NoFault};
+ghost use Rattle.document_file.specs.Members.{imaged_blocks};
 ghost use Rattle.vm_blocks.specs.State.{locks_of, locked_count, KeepsDocument, KeepsLocks, Marks};
 ghost use Rattle.vm_blocks.specs.Changes.{attributes_for_kind, after_change, after_part, directed, directed_all, directed_part, incoming_blocks, AreFree};
 ghost use Rattle.vm_blocks.specs.Keeping.{KeepsBlocks, IsEnvironmentFault, is_loaded, has_no_frame_for};

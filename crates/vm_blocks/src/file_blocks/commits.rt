@@ -1,17 +1,17 @@
 //! Commits, and a save-as.
 ghost use Rattle.std.specs.Prelude.{◌≡◌, ◌↔◌, [], OnOk, OnErr, MatchResult};
 ghost use Rattle.std.specs.Result.{IsErrAnd};
-ghost use Rattle.vm_file.specs.Calls.{last_sequence};
-ghost use Rattle.vm_file.specs.Effects.{IsCommit, Fails, IsWorn};
+ghost use Rattle.document_file.specs.Calls.{last_sequence};
+ghost use Rattle.document_file.specs.Effects.{IsCommit, Fails, IsWorn};
 ghost use Rattle.vm_blocks.specs.State.{as_file};
 ghost use Rattle.vm_blocks.specs.SavingAs.{IsSavedAs, IsNotSavedAs};
 
 use super::FileBlocks;
 use crate::frame::mark_all;
 use crate::transfers::{begin_commit, flush};
+use document_file::Refused;
 use geos_model::Fault;
 use std::mem::replace;
-use vm_file::Refused;
 use vm_store::Store;
 
 impl<S: Store> FileBlocks<S> {

@@ -4,7 +4,7 @@ ghost use Rattle.std.specs.FinMap.{contains_key};
 ghost use Rattle.geos_model.specs.Document.{chunks_of, is_heap, is_raw, is_live};
 ghost use Rattle.geos_model.specs.Heap.{chunk_bytes};
 ghost use Rattle.lmem_heap.specs.Known.{is_array_of};
-ghost use Rattle.vm_file.specs.Effects.{Fails, NoFault, IsDamage};
+ghost use Rattle.document_file.specs.Effects.{Fails, NoFault, IsDamage};
 ghost use Rattle.vm_blocks.specs.State.{is_resident, all_frames_locked, after_load, evicted, victim, KeepsDocument};
 ghost use Rattle.vm_blocks.specs.Keeping.{KeepsBlocks, IsEnvironmentFault, IsCacheFull, is_loaded, has_no_frame_for};
 ghost use Rattle.vm_blocks.specs.Kinds.{IsWrongBlock};

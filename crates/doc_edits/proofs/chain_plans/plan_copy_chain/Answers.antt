@@ -1,6 +1,6 @@
 use Rattle.std.proofs.Common.{refl, ap, ◌∙◌}
 use Rattle.std.proofs.lemmas.List.{get_or_read}
-use Rattle.vm_file.specs.declared.member.Member.{Member}
+use Rattle.document_file.specs.declared.member.Member.{Member}
 use Rattle.doc_edits.proofs.ChainPlans.{copy_planned, first_copy, plan_given, plan_missed, plan_refused}
 use Rattle.doc_edits.proofs.chain_plans.plan_copy_chain.Goals as goal
 

@@ -2,7 +2,7 @@ use Rattle.std.proofs.Common.{◌≡◌, ◌≢◌, ℕ, List, get_or, slice_ind
 use Rattle.std.proofs.lemmas.Bool.Decides.{nat_tests}
 use Rattle.std.proofs.lemmas.Result.{err_from_is_err_and}
 use Rattle.geos_model.specs.declared.command.Body.TheVariants.{Raw}
-use Rattle.vm_format.proofs.KindsLemmas.{told_raw, told_heap}
+use Rattle.file_format.proofs.KindsLemmas.{told_raw, told_heap}
 use Rattle.document_diff.proofs.Images.{some_image, raw_image, heap_refused, same_body}
 use Rattle.document_diff.proofs.block.read_body.Goals as goal
 

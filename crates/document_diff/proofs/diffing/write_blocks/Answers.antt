@@ -1,6 +1,6 @@
 use Rattle.std.proofs.Common.{◌≡◌, arith}
 use Rattle.geos_model.specs.Document.{most_blocks}
-use Rattle.vm_file.proofs.StoredDocumentsLemmas.{OnlyReadsDocuments-refl, OnlyReadsDocuments-trans}
+use Rattle.document_file.proofs.StoredDocumentsLemmas.{OnlyReadsDocuments-refl, OnlyReadsDocuments-trans}
 use Rattle.document_diff.specs.Differences.{compared_at}
 use Rattle.document_diff.specs.Diffs.{document_of}
 use Rattle.std.proofs.lemmas.Result.{err_from_is_err_and}

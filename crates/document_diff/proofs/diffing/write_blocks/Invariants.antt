@@ -1,5 +1,5 @@
 use Rattle.std.proofs.Common.{IsTrue}
-use Rattle.vm_file.specs.StoredDocuments.{OnlyReadsDocuments}
+use Rattle.document_file.specs.StoredDocuments.{OnlyReadsDocuments}
 use Rattle.document_diff.specs.Differences.{compared_at}
 use Rattle.document_diff.specs.Diffs.{document_of}
 use Rattle.document_diff.proofs.Went.{IsWritten, text_to}

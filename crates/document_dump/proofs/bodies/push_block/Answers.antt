@@ -7,7 +7,7 @@ use Rattle.document_dump.specs.Changes.{block_made}
 use Rattle.std.proofs.lemmas.Result.{IfErr-weaker}
 use Rattle.document_dump.specs.Faults.{IsHeapBodyImage, IsBodyImage, IsRefusalOf}
 use Rattle.document_dump.proofs.Failing.{image-of_heap, part-narrower}
-use Rattle.vm_format.proofs.KindsLemmas.{told_raw, told_heap}
+use Rattle.file_format.proofs.KindsLemmas.{told_raw, told_heap}
 use Rattle.file_report.proofs.HeapLemmas.{image-not_empty}
 use Rattle.document_dump.proofs.Images.{raw_image}
 use Rattle.document_dump.proofs.bodies.push_block.Goals as goal

@@ -1,7 +1,7 @@
 use Rattle.std.proofs.Common.{not, sym, ap, ◌∙◌}
 use Rattle.geos_model.specs.Document.{Document, block_at}
 use Rattle.geos_model.specs.Image.{image}
-use Rattle.vm_file.proofs.StoredDocumentsLemmas.{OnlyReadsDocuments-trans}
+use Rattle.document_file.proofs.StoredDocumentsLemmas.{OnlyReadsDocuments-trans}
 use Rattle.document_dump.proofs.Stages.{still_honest}
 use Rattle.document_dump.proofs.Steps.{made-both}
 use Rattle.document_dump.proofs.changes.both_change.Goals as goal

@@ -1,6 +1,6 @@
 use Rattle.std.proofs.Common.{sym}
 use Rattle.geos_model.specs.Document.{empty_document}
-use Rattle.vm_file.proofs.StoredDocumentsLemmas.{OnlyReadsDocuments-refl}
+use Rattle.document_file.proofs.StoredDocumentsLemmas.{OnlyReadsDocuments-refl}
 use Rattle.document_dump.proofs.Steps.{made-gone, made-new, live-empty}
 use Rattle.document_dump.proofs.changes.first_change.Goals as goal
 

@@ -1,5 +1,5 @@
 use Rattle.std.proofs.Common.{sym}
-use Rattle.vm_file.proofs.StoredDocumentsLemmas.{OnlyReadsDocuments-refl}
+use Rattle.document_file.proofs.StoredDocumentsLemmas.{OnlyReadsDocuments-refl}
 use Rattle.document_dump.proofs.Steps.{made-gone, made-new}
 use Rattle.document_dump.proofs.changes.new_change.Goals as goal
 

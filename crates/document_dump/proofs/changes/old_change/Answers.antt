@@ -1,5 +1,5 @@
 use Rattle.std.proofs.Common.{sym}
-use Rattle.vm_file.proofs.StoredDocumentsLemmas.{OnlyReadsDocuments-refl}
+use Rattle.document_file.proofs.StoredDocumentsLemmas.{OnlyReadsDocuments-refl}
 use Rattle.document_dump.proofs.Steps.{made-gone}
 use Rattle.document_dump.proofs.changes.old_change.Goals as goal
 

@@ -1,4 +1,4 @@
-use Rattle.vm_file.proofs.StoredDocumentsLemmas.{OnlyReadsDocuments-trans}
+use Rattle.document_file.proofs.StoredDocumentsLemmas.{OnlyReadsDocuments-trans}
 use Rattle.document_dump.proofs.Dumped.{dumped_saved, dumped_both}
 use Rattle.document_dump.proofs.Stages.{still_honest}
 use Rattle.document_dump.proofs.dumping.dump.Goals as goal

@@ -1,5 +1,5 @@
 use Rattle.std.proofs.Common.{◌≡◌, ℕ, subst, arith}
-use Rattle.vm_file.proofs.StoredDocumentsLemmas.{OnlyReadsDocuments-refl, OnlyReadsDocuments-trans}
+use Rattle.document_file.proofs.StoredDocumentsLemmas.{OnlyReadsDocuments-refl, OnlyReadsDocuments-trans}
 use Rattle.document_dump.specs.Versions.{new_in, old_in}
 use Rattle.document_dump.proofs.Stages.{still_honest, old_same, new_same}
 use Rattle.document_dump.proofs.Went.{Went, went_none, went_next, went_all}

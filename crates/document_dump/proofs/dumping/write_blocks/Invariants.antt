@@ -1,5 +1,5 @@
 use Rattle.std.proofs.Common.{◌≤◌, IsTrue}
-use Rattle.vm_file.specs.StoredDocuments.{OnlyReadsDocuments}
+use Rattle.document_file.specs.StoredDocuments.{OnlyReadsDocuments}
 use Rattle.document_dump.specs.Versions.{new_in, old_in}
 use Rattle.document_dump.proofs.Went.{Went}
 use Rattle.document_dump.proofs.dumping.write_blocks.Given as goal

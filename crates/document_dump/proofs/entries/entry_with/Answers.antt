@@ -1,6 +1,6 @@
 use Rattle.std.proofs.Common.{◌<◌, ◌≤◌, length, sym, ap, refl, ◌∙◌, arith, add-one, eq-eqb, ne_eqb}
 use Rattle.std.proofs.lemmas.List.{take_all}
-use Rattle.geos_model.proofs.Files.{no_entry}
+use Rattle.file_format.proofs.Files.{no_entry}
 use Rattle.document_dump.specs.Entries.{entry_with}
 use Rattle.document_dump.proofs.Listed.{found_at, none_next}
 use Rattle.document_dump.proofs.entries.entry_with.Goals as goal

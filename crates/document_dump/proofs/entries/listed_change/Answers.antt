@@ -1,5 +1,5 @@
 use Rattle.std.proofs.Common.{sym, ◌∙◌}
-use Rattle.vm_format.proofs.LooksLemmas.{OnlyReadsStore-refl}
+use Rattle.file_format.proofs.LooksLemmas.{OnlyReadsStore-refl}
 use Rattle.document_dump.proofs.Listed.{block_under, free_change}
 use Rattle.document_dump.proofs.Steps.{live-empty}
 use Rattle.document_dump.proofs.entries.listed_change.Goals as goal

@@ -1,5 +1,5 @@
 use Rattle.std.proofs.Common.{◌≡◌, ℕ, List, subst, sym, arith}
-use Rattle.vm_format.proofs.LooksLemmas.{OnlyReadsStore-refl, OnlyReadsStore-trans, still, same_bytes_then, still_holds}
+use Rattle.file_format.proofs.LooksLemmas.{OnlyReadsStore-refl, OnlyReadsStore-trans, still, same_bytes_then, still_holds}
 use Rattle.geos_model.specs.Document.{empty_document}
 use Rattle.document_dump.specs.Changes.{first_progress}
 use Rattle.document_dump.specs.Entries.{HasBlocks, IsListed}

@@ -1,6 +1,6 @@
 use Rattle.std.proofs.Common.{◌≤◌, ℕ, IsTrue}
 use Rattle.geos_model.specs.Document.{Document, empty_document}
-use Rattle.vm_format.specs.Reading.{OnlyReadsStore}
+use Rattle.file_format.specs.Reading.{OnlyReadsStore}
 use Rattle.document_dump.specs.Changes.{first_progress}
 use Rattle.document_dump.specs.Entries.{IsListed}
 use Rattle.document_dump.proofs.Went.{Went}

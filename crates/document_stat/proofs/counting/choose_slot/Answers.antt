@@ -1,6 +1,6 @@
 use Rattle.std.proofs.Common.{inr}
 use Rattle.std.proofs.lemmas.Result.{err_from_is_err_and}
-use Rattle.vm_format.specs.Slots.{IsFoundSlot}
+use Rattle.file_format.specs.Slots.{IsFoundSlot}
 use Rattle.document_stat.proofs.Files.{refused_header}
 use Rattle.document_stat.proofs.counting.choose_slot.Goals as goal
 

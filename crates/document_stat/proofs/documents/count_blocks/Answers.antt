@@ -2,11 +2,11 @@ use Rattle.std.proofs.Common.{◌≡◌, ◌<◌, ◌++◌, ◌∷◌, [], ℕ, 
 use Rattle.std.proofs.lemmas.List.{take_more, take_all}
 use Rattle.std.proofs.lemmas.Result.{err_from_is_err_and}
 use Rattle.geos_model.specs.Document.{Block}
-use Rattle.geos_model.specs.File.{block_of, blocks_of_entries}
+use Rattle.file_format.specs.File.{block_of, blocks_of_entries}
 use Rattle.geos_model.specs.declared.fault.Fault.TheVariants.{Damaged}
-use Rattle.geos_model.proofs.Files.{no_entry}
-use Rattle.vm_format.proofs.LooksLemmas.{OnlyReadsStore-refl, OnlyReadsStore-trans, held_before}
-use Rattle.vm_file.proofs.OpenedDirectoryLemmas.{no_blocks}
+use Rattle.file_format.proofs.Files.{no_entry}
+use Rattle.file_format.proofs.LooksLemmas.{OnlyReadsStore-refl, OnlyReadsStore-trans, held_before}
+use Rattle.document_file.proofs.OpenedDirectoryLemmas.{no_blocks}
 use Rattle.document_stat.proofs.Adding.{adds_no_block, counted_more}
 use Rattle.document_stat.proofs.ValidBlocks.{blocks_more}
 use Rattle.document_stat.proofs.documents.count_blocks.Goals as goal

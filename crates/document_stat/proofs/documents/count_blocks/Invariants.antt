@@ -1,6 +1,6 @@
 use Rattle.std.proofs.Common.{◌≡◌, IsTrue, Some, take}
-use Rattle.geos_model.specs.File.{blocks_of_entries}
-use Rattle.vm_format.specs.Reading.{OnlyReadsStore}
+use Rattle.file_format.specs.File.{blocks_of_entries}
+use Rattle.file_format.specs.Reading.{OnlyReadsStore}
 use Rattle.document_stat.specs.Counted.{Blocks, IsCount}
 use Rattle.document_stat.proofs.documents.count_blocks.Given as goal
 

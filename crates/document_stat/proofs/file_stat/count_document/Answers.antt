@@ -1,7 +1,7 @@
 use Rattle.std.proofs.Common.{◌≤◌, length, refl, ap, subst, sym, ◌∙◌, arith}
-use Rattle.geos_model.specs.File.{blocks_of_entries}
-use Rattle.geos_model.proofs.Files.{is_directory-parts}
-use Rattle.vm_format.specs.Listed.{as_directory}
+use Rattle.file_format.specs.File.{blocks_of_entries}
+use Rattle.file_format.proofs.Files.{is_directory-parts}
+use Rattle.file_format.specs.Listed.{as_directory}
 use Rattle.document_stat.specs.Counted.{Blocks, IsBlockStat}
 use Rattle.document_stat.proofs.Files.{document_made, made_of}
 use Rattle.document_stat.proofs.ValidBlocks.{are_blocks, entries_made, few_rising, stat_of}

@@ -1,6 +1,6 @@
 use Rattle.std.proofs.Common.{List, ℕ, subst, sym}
 use Rattle.std.specs.List.Sorted.{IsNonDecreasingBy}
-use Rattle.geos_model.specs.File.{pages_of}
+use Rattle.file_format.specs.File.{pages_of}
 use Rattle.file_report.specs.Pages.{AreFreePages}
 use Rattle.file_report.specs.declared.pages.Usage.{Usage}
 use Rattle.file_report.proofs.FreeLemmas.{free_moved}

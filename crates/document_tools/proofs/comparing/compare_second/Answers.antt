@@ -1,7 +1,7 @@
 use Rattle.std.proofs.Common.{Ok, ap₂, sym, subst, ◌∙◌, inr}
-use Rattle.vm_file.specs.Opened.{OnlyReadsStore}
-use Rattle.vm_format.proofs.LooksLemmas.{OnlyReadsStore-trans}
-use Rattle.vm_file.proofs.StoredDocumentsLemmas.{OnlyReadsDocuments-refl}
+use Rattle.document_file.specs.Opened.{OnlyReadsStore}
+use Rattle.file_format.proofs.LooksLemmas.{OnlyReadsStore-trans}
+use Rattle.document_file.proofs.StoredDocumentsLemmas.{OnlyReadsDocuments-refl}
 use Rattle.document_diff.specs.Diffs.{document_of}
 use Rattle.document_tools.specs.Comparisons.{ComparesStored}
 use Rattle.document_tools.proofs.Compared.{compared_stored, unread_one}

@@ -1,6 +1,6 @@
 use Rattle.std.proofs.Common.{Ok, ap₂, sym, subst, ◌∙◌, inl}
-use Rattle.vm_file.specs.Opened.{OnlyReadsStore}
-use Rattle.vm_format.proofs.LooksLemmas.{OnlyReadsStore-refl, OnlyReadsStore-trans}
+use Rattle.document_file.specs.Opened.{OnlyReadsStore}
+use Rattle.file_format.proofs.LooksLemmas.{OnlyReadsStore-refl, OnlyReadsStore-trans}
 use Rattle.document_tools.specs.Comparisons.{ComparesStores}
 use Rattle.document_tools.proofs.Compared.{compared_stores, unread_one}
 use Rattle.document_tools.proofs.comparing.compare_stores.Goals as goal

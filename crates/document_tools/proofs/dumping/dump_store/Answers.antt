@@ -1,7 +1,7 @@
 use Rattle.std.proofs.Common.{Ok, ap₂, sym, subst, ◌∙◌, inl, inr}
-use Rattle.geos_model.specs.File.{stands}
-use Rattle.vm_file.specs.Opened.{OnlyReadsStore}
-use Rattle.vm_format.proofs.LooksLemmas.{OnlyReadsStore-trans}
+use Rattle.file_format.specs.File.{stands}
+use Rattle.document_file.specs.Opened.{OnlyReadsStore}
+use Rattle.file_format.proofs.LooksLemmas.{OnlyReadsStore-trans}
 use Rattle.document_tools.specs.DumpedFiles.{DumpsStore}
 use Rattle.document_tools.specs.declared.obstacle.Obstacle.TheVariants.{Unopened}
 use Rattle.document_tools.proofs.Looked.{dumped_stood, unlooked_at}

@@ -1,5 +1,5 @@
 use Rattle.std.proofs.Common.{inl, inr, refl}
-use Rattle.vm_format.proofs.LooksLemmas.{OnlyReadsStore-refl}
+use Rattle.file_format.proofs.LooksLemmas.{OnlyReadsStore-refl}
 use Rattle.file_map.specs.declared.fault.MapFault.TheVariants as map_faults
 use Rattle.file_map.proofs.MapLemmas.{uncounted}
 use Rattle.document_tools.specs.OtherSlots.{FailsLook}

@@ -1,13 +1,20 @@
-use Rattle.std.proofs.Common.{Err, ap, inl, inr, refl}
-use Rattle.geos_model.specs.File.{stands}
-use Rattle.vm_format.proofs.LooksLemmas.{OnlyReadsStore-trans}
+use Rattle.std.proofs.Common.{Err, ap, inl, inr, refl, IsTrue, subst, sym}
+use Rattle.file_format.specs.File.{stands}
+use Rattle.file_format.proofs.LooksLemmas.{OnlyReadsStore-trans}
 use Rattle.document_tools.specs.OtherSlots.{FailsLook}
 use Rattle.document_tools.specs.declared.obstacle.Obstacle.TheVariants.{Unopened}
 use Rattle.document_tools.proofs.Looked.{unlooked_at}
 use Rattle.document_tools.proofs.OtherLemmas.{other_before}
+use Rattle.file_report.specs.Checked.{IsReport}
 use Rattle.document_tools.proofs.other_slot.dump_other_of.Goals as goal
 
 -- The file was looked through, or it couldn't be read.
+
+pub dump_by_report-requires : goal.dump_by_report-requires
+dump_by_report-requires g c so =
+    let looks = c.check.ensures.looks in
+    let first = subst IsTrue looks.honest so in
+    subst (λ file. IsReport file c.in-Ok.report) (sym (looks.unchanged first).content) (c.in-Ok.ensures.report first)
 
 pub returns-in-Ok : goal.returns-in-Ok
 returns-in-Ok g c =

@@ -1,7 +1,7 @@
 use Rattle.std.proofs.Common.{inl, inr}
-use Rattle.vm_file.specs.Opened.{OnlyReadsStore}
-use Rattle.vm_format.specs.Slots.{number_of, slot_stands}
-use Rattle.vm_format.proofs.LooksLemmas.{OnlyReadsStore-trans}
+use Rattle.document_file.specs.Opened.{OnlyReadsStore}
+use Rattle.file_format.specs.Slots.{number_of, slot_stands}
+use Rattle.file_format.proofs.LooksLemmas.{OnlyReadsStore-trans}
 use Rattle.document_dump.specs.declared.dumping.Which.TheVariants.{Both}
 use Rattle.document_tools.specs.OtherSlots.{DumpsSlot}
 use Rattle.document_tools.specs.declared.obstacle.Obstacle.TheVariants.{NoOther}

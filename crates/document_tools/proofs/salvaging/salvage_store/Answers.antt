@@ -1,6 +1,6 @@
 use Rattle.std.proofs.Common.{Ok, ap₂, sym, subst, ◌∙◌}
-use Rattle.vm_file.specs.Opened.{OnlyReadsStore}
-use Rattle.vm_format.proofs.LooksLemmas.{OnlyReadsStore-trans}
+use Rattle.document_file.specs.Opened.{OnlyReadsStore}
+use Rattle.file_format.proofs.LooksLemmas.{OnlyReadsStore-trans}
 use Rattle.document_tools.proofs.SalvageLemmas.{opened_script, unopened_script}
 use Rattle.document_tools.proofs.salvaging.salvage_store.Goals as goal
 

@@ -1,5 +1,5 @@
 use Rattle.std.proofs.Common.{inl, inr, refl}
-use Rattle.vm_format.proofs.LooksLemmas.{OnlyReadsStore-refl}
+use Rattle.file_format.proofs.LooksLemmas.{OnlyReadsStore-refl}
 use Rattle.document_tools.proofs.salvaging.salvage_unopened.Goals as goal
 
 pub returns-in-Memory : goal.returns-in-Memory

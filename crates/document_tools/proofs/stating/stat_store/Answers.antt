@@ -1,5 +1,5 @@
 use Rattle.std.proofs.Common.{Err, ap, refl, inl, inr}
-use Rattle.geos_model.specs.File.{stands}
+use Rattle.file_format.specs.File.{stands}
 use Rattle.document_tools.specs.Stats.{StatsStore}
 use Rattle.document_tools.specs.declared.obstacle.Obstacle.TheVariants.{Unopened}
 use Rattle.document_tools.proofs.Looked.{stated, unlooked_at}

@@ -1,6 +1,6 @@
 use Rattle.std.proofs.Common.{◌+◌, List, ℕ, drop, get_or, arith, subst, sym}
 use Rattle.std.specs.Io.KnownBytes.{Appends}
-use Rattle.vm_format.proofs.LooksLemmas.{OnlyReadsStore-trans, held_before}
+use Rattle.file_format.proofs.LooksLemmas.{OnlyReadsStore-trans, held_before}
 use Rattle.file_map.specs.Bars.{bar_of, bars_drawn, below}
 use Rattle.file_map.proofs.PartLemmas.{bars_more, below_most, no_part}
 use Rattle.file_map.proofs.TextLemmas.{Gone, gone_more}

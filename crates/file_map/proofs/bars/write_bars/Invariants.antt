@@ -1,5 +1,5 @@
 use Rattle.std.proofs.Common.{◌*◌, ◌+◌, ◌≤◌, drop, IsTrue}
-use Rattle.vm_format.specs.Reading.{OnlyReadsStore}
+use Rattle.file_format.specs.Reading.{OnlyReadsStore}
 use Rattle.file_map.specs.Bars.{bars_drawn}
 use Rattle.file_map.proofs.TextLemmas.{Gone}
 use Rattle.file_map.proofs.bars.write_bars.Given as goal

@@ -2,7 +2,7 @@ use Rattle.std.proofs.Common.{rules, ◌≡◌, ◌∙◌, [], true, false, ap, 
 use Rattle.std.specs.Io.KnownBytes.{Appends}
 use Rattle.std.proofs.KnownBytes.{Appends-nil}
 use Rattle.std.proofs.lemmas.Bool.{cond-true, cond-false}
-use Rattle.geos_model.specs.File.{bytes_in}
+use Rattle.file_format.specs.File.{bytes_in}
 use Rattle.file_map.specs.Bars.{bar_drawn}
 use Rattle.file_map.specs.Heaps.{sizes}
 use Rattle.file_map.specs.Parts.{is_heap_part}

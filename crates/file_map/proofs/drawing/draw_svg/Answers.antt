@@ -1,4 +1,4 @@
-use Rattle.vm_format.proofs.LooksLemmas.{OnlyReadsStore-trans}
+use Rattle.file_format.proofs.LooksLemmas.{OnlyReadsStore-trans}
 use Rattle.file_map.specs.Drawn.{svg_of}
 use Rattle.file_map.proofs.MapLemmas.{lacks_refuse, picture_drawn}
 use Rattle.file_map.proofs.drawing.draw_svg.Goals as goal

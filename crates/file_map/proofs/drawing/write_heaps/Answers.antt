@@ -1,6 +1,6 @@
 use Rattle.std.proofs.Common.{get_or}
 use Rattle.std.specs.Io.KnownBytes.{Appends}
-use Rattle.vm_format.proofs.LooksLemmas.{OnlyReadsStore-trans, held_before}
+use Rattle.file_format.proofs.LooksLemmas.{OnlyReadsStore-trans, held_before}
 use Rattle.file_map.specs.Heaps.{line_of}
 use Rattle.file_map.proofs.PartLemmas.{no_part}
 use Rattle.file_map.proofs.TextLemmas.{sent_take}

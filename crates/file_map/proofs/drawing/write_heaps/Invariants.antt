@@ -1,6 +1,6 @@
 use Rattle.std.proofs.Common.{take, flat_map, IsTrue}
 use Rattle.std.specs.Io.KnownBytes.{Appends}
-use Rattle.vm_format.specs.Reading.{OnlyReadsStore}
+use Rattle.file_format.specs.Reading.{OnlyReadsStore}
 use Rattle.file_map.specs.Heaps.{line_of}
 use Rattle.file_map.proofs.drawing.write_heaps.Given as goal
 

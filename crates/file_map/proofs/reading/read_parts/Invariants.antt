@@ -1,5 +1,5 @@
 use Rattle.std.proofs.Common.{◌≡◌, take, map, IsTrue}
-use Rattle.vm_format.specs.Reading.{OnlyReadsStore}
+use Rattle.file_format.specs.Reading.{OnlyReadsStore}
 use Rattle.file_map.specs.Parts.{part_of_usage}
 use Rattle.file_map.proofs.reading.read_parts.Given as goal
 

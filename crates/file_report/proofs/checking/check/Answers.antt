@@ -1,5 +1,5 @@
 use Rattle.std.proofs.Common.{◌≤◌, length, arith, ◌∙◌}
-use Rattle.vm_format.proofs.LooksLemmas.{OnlyReadsStore-trans, held_before}
+use Rattle.file_format.proofs.LooksLemmas.{OnlyReadsStore-trans, held_before}
 use Rattle.file_report.specs.Checked.{IsState}
 use Rattle.file_report.proofs.StandsLemmas.{file_verdict}
 use Rattle.file_report.proofs.checking.check.Goals as goal

@@ -1,4 +1,4 @@
-use Rattle.vm_format.proofs.LooksLemmas.{OnlyReadsStore-trans}
+use Rattle.file_format.proofs.LooksLemmas.{OnlyReadsStore-trans}
 use Rattle.file_report.proofs.checking.check_page.Goals as goal
 
 pub returns-in_ok-check_slot-in-Some-2-clause-looks : goal.returns-in_ok-check_slot-in-Some-2-clause-looks

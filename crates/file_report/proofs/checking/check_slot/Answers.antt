@@ -1,10 +1,10 @@
 use Rattle.std.proofs.Common.{rules, ◌≡◌, ◌&&◌, [], Err, arith, inl, inr, refl, sym, subst, ap₂, ◌∙◌}
 use Rattle.std.specs.Prelude.{if◌then◌else◌, IsErr}
 use Rattle.geos_model.specs.declared.fault.Fault.TheVariants.{Damaged}
-use Rattle.vm_format.proofs.LooksLemmas.{OnlyReadsStore-trans, held_before}
-use Rattle.vm_format.specs.Slots.{header_verdict}
+use Rattle.file_format.proofs.LooksLemmas.{OnlyReadsStore-trans, held_before}
+use Rattle.file_format.specs.Slots.{header_verdict}
 use Rattle.file_report.specs.Checked.{IsChecked}
-use Rattle.file_report.specs.Findings.{IsSo, directory_extent}
+use Rattle.file_report.specs.Findings.{IsSo}
 use Rattle.file_report.specs.Reading.{IsSoIn, IsSoOfSlot}
 use Rattle.file_report.specs.declared.finding.Named.TheVariants.{Saved}
 use Rattle.file_report.proofs.FindingsLemmas.{finds_both, finds_as, finds_length, all_found}
@@ -39,7 +39,7 @@ returns-clause-report g c so =
     let looks = c.check_document.ensures.looks in
     let right : header_verdict s ≡ right_header = search rules in
     let updated = (c.in_ok-updated.ensures.document so).stands in
-    let saved_document = held_before (λ f. IsChecked f s.version (directory_extent s Saved) c.in_ok-saved.saved) _ _ looks c.in_ok-saved.ensures.document so in
+    let saved_document = held_before (λ f. IsChecked f s Saved c.in_ok-saved.saved) _ _ looks c.in_ok-saved.ensures.document so in
     let saved = saved_document.stands in
     let later = finds_length _ _ _ c.in_ok-saved.ensures.found in
     record {

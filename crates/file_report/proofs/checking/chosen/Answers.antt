@@ -1,5 +1,5 @@
 use Rattle.std.proofs.Common.{Bor, ap, ap₂, ◌∙◌}
-use Rattle.vm_format.specs.Slots.{chosen_by}
+use Rattle.file_format.specs.Slots.{chosen_by}
 use Rattle.file_report.specs.declared.checking.SlotReport.{SlotReport}
 use Rattle.file_report.proofs.StandsLemmas.{chosen_mapped, in_choice}
 use Rattle.file_report.proofs.checking.chosen.Goals as goal

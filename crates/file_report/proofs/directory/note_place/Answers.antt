@@ -1,5 +1,5 @@
 use Rattle.std.proofs.Common.{◌≡◌, false, sym, subst, ◌∙◌}
-use Rattle.geos_model.specs.File.{is_in_file}
+use Rattle.file_format.specs.File.{is_in_file}
 use Rattle.file_report.specs.Reading.{IsSoOf}
 use Rattle.file_report.specs.declared.finding.Finding.TheVariants as finding
 use Rattle.file_report.proofs.FindingsLemmas.{finds_both, noted}

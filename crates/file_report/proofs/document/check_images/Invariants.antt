@@ -1,6 +1,6 @@
 use Rattle.std.proofs.Common.{◌≡◌, ◌<◌, false, IsTrue, is_some, length, take}
-use Rattle.geos_model.specs.File.{blocks_of_entries}
-use Rattle.vm_format.specs.Reading.{OnlyReadsStore}
+use Rattle.file_format.specs.File.{blocks_of_entries}
+use Rattle.file_format.specs.Reading.{OnlyReadsStore}
 use Rattle.file_report.specs.Findings.{FindsMore}
 use Rattle.file_report.specs.Reading.{IsSoOfEntries}
 use Rattle.file_report.proofs.document.check_images.Given as goal

@@ -1,8 +1,8 @@
 use Rattle.std.proofs.Common.{subst}
 use Rattle.std.specs.Prelude.{IfOk, IsPermutation, Option}
 use Rattle.std.specs.Option.{option_copied, option_map}
-use Rattle.vm_format.specs.Listed.{as_directory}
-use Rattle.vm_format.specs.declared.directory.Directory.{Directory}
+use Rattle.file_format.specs.Listed.{as_directory}
+use Rattle.file_format.specs.declared.directory.Directory.{Directory}
 use Rattle.file_report.specs.Pages.{slot_usages}
 use Rattle.file_report.proofs.pages.usages.Goals as goal
 

@@ -1,6 +1,6 @@
 use Rattle.std.proofs.Common.{◌≡◌, IsTrue, length, map}
 use Rattle.std.specs.List.{range_with_len}
-use Rattle.vm_format.specs.Reading.{OnlyReadsStore}
+use Rattle.file_format.specs.Reading.{OnlyReadsStore}
 use Rattle.file_salvage.specs.Entries.{damage_at}
 use Rattle.file_salvage.proofs.entries.damages.Given as goal
 

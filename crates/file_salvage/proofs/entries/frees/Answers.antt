@@ -1,6 +1,6 @@
 use Rattle.std.proofs.Common.{◌≡◌, ◌<◌, ◌++◌, ◌∷◌, [], ℕ, List, Option, None, length, ap₂, sym, ◌∙◌, arith}
 use Rattle.std.proofs.lemmas.List.{get_or_default}
-use Rattle.geos_model.specs.declared.file.Entry.{Entry}
+use Rattle.file_format.specs.declared.file.Entry.{Entry}
 use Rattle.file_salvage.specs.Entries.{free_at, free_below}
 use Rattle.file_salvage.specs.declared.flaw.Flaw.{Flaw}
 use Rattle.file_salvage.proofs.EntryLemmas.{places_more}

@@ -1,7 +1,7 @@
 use Rattle.std.proofs.Common.{◌≡◌, ◌≤◌, ◌<◌, List, ℕ, length, subst, arith}
 use Rattle.std.proofs.lemmas.Result.{IfOk-weaker}
-use Rattle.vm_format.specs.Slots.{IsRawSlot}
-use Rattle.vm_format.proofs.LooksLemmas.{OnlyReadsStore-trans, held_before, still, same_bytes_then}
+use Rattle.file_format.specs.Slots.{IsRawSlot}
+use Rattle.file_format.proofs.LooksLemmas.{OnlyReadsStore-trans, held_before, still, same_bytes_then}
 use Rattle.file_salvage.specs.Places.{readable_of}
 use Rattle.file_salvage.proofs.PlaceLemmas.{found_of, too_short}
 use Rattle.file_salvage.proofs.places.find_place.Goals as goal

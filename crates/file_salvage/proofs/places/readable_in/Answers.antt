@@ -1,7 +1,7 @@
 use Rattle.std.proofs.Common.{◌≡◌, ℕ, List, Option, subst, sym, ap, ◌∙◌}
 use Rattle.std.proofs.lemmas.Result.{IfOk-weaker}
-use Rattle.vm_format.proofs.LooksLemmas.{still, same_bytes_then}
-use Rattle.geos_model.specs.declared.file.Slot.{Slot}
+use Rattle.file_format.proofs.LooksLemmas.{still, same_bytes_then}
+use Rattle.file_format.specs.declared.file.Slot.{Slot}
 use Rattle.file_report.specs.declared.finding.Named.TheVariants.{Updated, Saved}
 use Rattle.file_salvage.specs.Places.{if_readable, place_of, readable_in}
 use Rattle.file_salvage.specs.declared.place.Place.{Place}

@@ -1,6 +1,6 @@
 use Rattle.std.proofs.Common.{◌≡◌, ℕ, List, not, subst, sym, ◌∙◌}
 use Rattle.std.proofs.lemmas.Result.{IfOk-weaker}
-use Rattle.vm_format.proofs.LooksLemmas.{still, same_bytes_then}
+use Rattle.file_format.proofs.LooksLemmas.{still, same_bytes_then}
 use Rattle.file_salvage.specs.Places.{readable_in}
 use Rattle.file_salvage.proofs.PlaceLemmas.{in_turn, or_else}
 use Rattle.file_salvage.proofs.places.readable_of.Goals as goal

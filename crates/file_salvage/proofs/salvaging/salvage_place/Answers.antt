@@ -1,7 +1,7 @@
 use Rattle.std.proofs.Common.{◌≡◌, ℕ, List, length, subst, sym, ◌∙◌}
 use Rattle.std.proofs.lemmas.Result.{err_from_is_err_and}
 use Rattle.std.specs.Io.KnownBytes.{Appends}
-use Rattle.vm_format.proofs.LooksLemmas.{OnlyReadsStore-trans, still, same_bytes_then, still_holds}
+use Rattle.file_format.proofs.LooksLemmas.{OnlyReadsStore-trans, still, same_bytes_then, still_holds}
 use Rattle.document_dump.specs.Entries.{HasBlocks, IsListed}
 use Rattle.file_salvage.specs.Entries.{all_notes, damages, taken_entries}
 use Rattle.file_salvage.proofs.EntryLemmas.{entries_have}
@@ -78,7 +78,5 @@ returns-clause-reads g c =
     let second = OnlyReadsStore-trans (g.S.Store.facts c.args.store.now) (g.S.Store.facts c.read_place.new.store) (g.S.Store.facts c.take_entries.new.store) (g.met.S.Store.timely c.args.store.now) c.read_place.ensures.looks c.take_entries.ensures.reads in
     OnlyReadsStore-trans (g.S.Store.facts c.args.store.now) (g.S.Store.facts c.take_entries.new.store) _ (g.met.S.Store.timely c.args.store.now) second c.dump_entries.ensures.reads
 
-pub take_entries-requires : goal.take_entries-requires
-take_entries-requires g c = record {
-  size = still_holds (λ (file : List ℕ). c.args.file_length ≡ length file) (g.S.Store.facts c.args.store.now) (g.S.Store.facts c.read_place.new.store) c.read_place.ensures.looks c.requires.size;
-}
+pub take_entries-requires-clause-size : goal.take_entries-requires-clause-size
+take_entries-requires-clause-size g c = still_holds (λ (file : List ℕ). c.args.file_length ≡ length file) (g.S.Store.facts c.args.store.now) (g.S.Store.facts c.read_place.new.store) c.read_place.ensures.looks c.requires.size

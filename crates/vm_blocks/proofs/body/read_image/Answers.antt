@@ -3,8 +3,8 @@ use Rattle.std.specs.Prelude.{Some}
 use Rattle.std.proofs.lemmas.Bool.{eqb-false}
 use Rattle.std.proofs.lemmas.List.{take_all}
 use Rattle.geos_model.specs.declared.command.Body.TheVariants.{Raw}
-use Rattle.vm_format.proofs.KindsLemmas.{told_raw, told_heap}
-use Rattle.vm_file.proofs.ImageLemmas.{empty_none, long_none, heap_none}
+use Rattle.file_format.proofs.KindsLemmas.{told_raw, told_heap}
+use Rattle.document_file.proofs.ImageLemmas.{empty_none, long_none, heap_none}
 use Rattle.vm_blocks.proofs.FileImages.{raw_read, heap_read, no_heap_image}
 use Rattle.vm_blocks.proofs.body.read_image.Goals as goal
 

@@ -3,10 +3,10 @@ use Rattle.std.specs.Prelude.{Err, OnErr}
 use Rattle.std.proofs.lemmas.Result.{err_from_is_err_and}
 use Rattle.geos_model.specs.Document.{Document}
 use Rattle.geos_model.specs.declared.fault.Fault.TheVariants.{Worn}
-use Rattle.vm_file.specs.Calls.{last_sequence}
-use Rattle.vm_file.specs.Documents.{Documents}
-use Rattle.vm_file.specs.Effects.{IsCommit, NoFault, IsWorn}
-use Rattle.vm_file.proofs.EffectsLemmas.{refused, unworn, Fails-as}
+use Rattle.document_file.specs.Calls.{last_sequence}
+use Rattle.document_file.specs.Documents.{Documents}
+use Rattle.document_file.specs.Effects.{IsCommit, NoFault, IsWorn}
+use Rattle.document_file.proofs.EffectsLemmas.{refused, unworn, Fails-as}
 use Rattle.vm_blocks.specs.Frames.{with_frames}
 use Rattle.vm_blocks.proofs.Commits.{not_committed}
 use Rattle.vm_blocks.proofs.CallAfterCall.{moves_none}

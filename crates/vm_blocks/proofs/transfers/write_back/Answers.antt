@@ -2,8 +2,8 @@ use Rattle.std.proofs.Common.{◌≡◌, ℕ, List, [], ◌∷◌, false, cond, 
 use Rattle.std.proofs.lemmas.Bool.{ne_eqb}
 use Rattle.std.specs.Option.{option_map, option_map_or}
 use Rattle.geos_model.specs.Document.{is_heap_body, with_body}
-use Rattle.vm_file.specs.Disk.{SameUnlessCorrupt}
-use Rattle.vm_file.specs.Calls.{put_all}
+use Rattle.document_file.specs.Disk.{SameUnlessCorrupt}
+use Rattle.document_file.specs.Calls.{put_all}
 use Rattle.std.specs.Map.{set_value}
 use Rattle.lru.specs.LruCache.{LruCache}
 use Rattle.vm_blocks.specs.Bodies.{body_value}

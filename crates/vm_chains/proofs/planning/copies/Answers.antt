@@ -9,9 +9,9 @@ use Rattle.geos_model.specs.Document.{Block, Document, attributes_of, block_at, 
 use Rattle.geos_model.specs.declared.fault.Fault.TheVariants.{Memory}
 use Rattle.geos_model.specs.declared.handle.VmHandle.{VmHandle}
 use Rattle.vm_chains.specs.Naming.{name_in}
-use Rattle.vm_file.specs.Members.{imaged_blocks}
+use Rattle.document_file.specs.Members.{imaged_blocks}
 use Rattle.vm_chains.specs.Numbers.{numbers}
-use Rattle.vm_file.specs.declared.member.Member.{Member}
+use Rattle.document_file.specs.declared.member.Member.{Member}
 use Rattle.vm_blocks.proofs.KeepingLaws.{keeps-refl, keeps-same, keeps-trans, lacks-later, lacks-memory}
 use Rattle.vm_chains.proofs.CopyLemmas.{copies_from, copies_more}
 use Rattle.vm_chains.proofs.ChainLemmas.{renamed_block}

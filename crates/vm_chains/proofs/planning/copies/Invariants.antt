@@ -4,7 +4,7 @@ use Rattle.geos_model.specs.Chain.{name_of}
 use Rattle.vm_chains.specs.Naming.{name_in}
 use Rattle.geos_model.specs.Document.{handles_of}
 use Rattle.vm_blocks.specs.Keeping.{KeepsBlocks, IsHonest}
-use Rattle.vm_file.specs.Members.{imaged_blocks}
+use Rattle.document_file.specs.Members.{imaged_blocks}
 use Rattle.vm_chains.specs.Numbers.{numbers}
 use Rattle.vm_chains.proofs.CopyLemmas.{copies_from}
 use Rattle.vm_chains.proofs.planning.copies.Given as goal

@@ -8,7 +8,7 @@ use Rattle.geos_model.specs.declared.fault.Fault.TheVariants.{Memory, NoHandles}
 use Rattle.geos_model.specs.declared.handle.VmHandle.{VmHandle}
 use Rattle.vm_blocks.specs.Keeping.{IsEnvironmentFault}
 use Rattle.vm_blocks.specs.Kinds.{IsWrongBlock}
-use Rattle.vm_file.specs.Members.{imaged_blocks}
+use Rattle.document_file.specs.Members.{imaged_blocks}
 use Rattle.vm_blocks.proofs.KeepingLaws.{keeps-unless_corrupt, keeps-refl, keeps-same, keeps-trans, lacks-memory}
 use Rattle.vm_chains.specs.Answers.{IsChainFault}
 use Rattle.vm_chains.specs.Numbers.{numbers}

@@ -7,8 +7,8 @@ use Rattle.geos_model.specs.declared.fault.Fault.{Fault}
 use Rattle.geos_model.specs.declared.fault.Fault.TheVariants.{IsMap}
 use Rattle.vm_blocks.specs.Keeping.{IsEnvironmentFault}
 use Rattle.vm_blocks.specs.Kinds.{IsWrongBlock}
-use Rattle.vm_file.specs.Members.{imaged_blocks}
-use Rattle.vm_file.specs.declared.member.Member.{Member}
+use Rattle.document_file.specs.Members.{imaged_blocks}
+use Rattle.document_file.specs.declared.member.Member.{Member}
 use Rattle.vm_blocks.proofs.KeepingLaws.{keeps-refl, keeps-same}
 use Rattle.vm_chains.specs.Answers.{IsChainFault, RefusesChain}
 use Rattle.vm_chains.specs.Planning.{AreChainBlocks}

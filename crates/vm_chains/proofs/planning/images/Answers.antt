@@ -4,8 +4,8 @@ use Rattle.geos_model.specs.Chain.{chain_blocks_of}
 use Rattle.geos_model.specs.Document.{Document, block_at, handles_of}
 use Rattle.geos_model.specs.declared.fault.Fault.TheVariants.{Memory}
 use Rattle.vm_blocks.specs.Bodies.{body_value}
-use Rattle.vm_file.specs.Members.{imaged_block, imaged_blocks}
-use Rattle.vm_file.specs.declared.member.Member.{Member}
+use Rattle.document_file.specs.Members.{imaged_block, imaged_blocks}
+use Rattle.document_file.specs.declared.member.Member.{Member}
 use Rattle.vm_blocks.specs.Keeping.{is_loaded}
 use Rattle.vm_blocks.proofs.KeepingLaws.{keeps-refl, keeps-same, keeps-trans, lacks-memory, loaded-live}
 use Rattle.vm_blocks.proofs.KindLemmas.{typed_there}

@@ -2,7 +2,7 @@ use Rattle.std.proofs.Common.{◌≡◌}
 use Rattle.geos_model.specs.Chain.{chain_blocks_of}
 use Rattle.geos_model.specs.Document.{handles_of}
 use Rattle.vm_blocks.specs.Keeping.{IsHonest}
-use Rattle.vm_file.specs.Members.{imaged_blocks}
+use Rattle.document_file.specs.Members.{imaged_blocks}
 use Rattle.vm_chains.proofs.StepLemmas.{GoesAlong}
 use Rattle.vm_chains.proofs.planning.images.Given as goal
 

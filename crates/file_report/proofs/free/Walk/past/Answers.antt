@@ -1,5 +1,5 @@
 use Rattle.std.proofs.Common.{◌≡◌, ◌<◌, ◌≤◌, ℕ, min, max, arith, refl, subst}
-use Rattle.geos_model.specs.File.{end_page}
+use Rattle.file_format.specs.File.{end_page}
 use Rattle.file_report.specs.Pages.{PassesFree}
 use Rattle.file_report.proofs.FreeLemmas.{walk_more, walk_none}
 use Rattle.file_report.proofs.free.Walk.past.Goals as goal

@@ -3,7 +3,7 @@ use Rattle.std.specs.Prelude.{IfErr}
 use Rattle.std.proofs.lemmas.Result.{err_from_is_err_and}
 use Rattle.geos_model.specs.Reply.{Accepted, reply_by}
 use Rattle.geos_model.specs.declared.command.Command.TheVariants as commands
-use Rattle.vm_file.specs.Disk.{KeepsCommitted}
+use Rattle.document_file.specs.Disk.{KeepsCommitted}
 use Rattle.vm_blocks.specs.Changes.{directed}
 use Rattle.geos_model.specs.declared.fault.Fault.{Fault}
 use Rattle.vm_blocks.specs.Preparing.{AreInMemory, CanApplyAllByHandle, CantPrepareAll, AreApplied, NoneComesIn}

@@ -8,8 +8,8 @@ use Rattle.geos_model.specs.Reply.{reply_by, reply_of_done}
 use Rattle.geos_model.specs.declared.command.Command.TheVariants as commands
 use Rattle.geos_model.specs.declared.command.Kind.TheVariants.{Made}
 use Rattle.geos_model.specs.declared.fault.Fault.TheVariants.{Locked, Memory}
-use Rattle.vm_file.specs.Disk.{KeepsCommitted}
-use Rattle.vm_file.proofs.PassingLemmas.{KeepsCommitted-refl}
+use Rattle.document_file.specs.Disk.{KeepsCommitted}
+use Rattle.document_file.proofs.PassingLemmas.{KeepsCommitted-refl}
 use Rattle.vm_blocks.specs.Keeping.{IsEnvironmentFault}
 use Rattle.chunk_edits.specs.declared.direction.Direction.TheVariants.{Backwards}
 use Rattle.vm_blocks.proofs.KeepingLaws.{keeps-refl, keeps-passes, lacks-memory}

@@ -1,5 +1,5 @@
 use Rattle.std.proofs.Common.{◌≡◌, IsTrue, ap, sym, subst, ◌∙◌}
-use Rattle.vm_file.specs.Documents.{has_one_directory}
+use Rattle.document_file.specs.Documents.{has_one_directory}
 use Rattle.vm_blocks.specs.State.{CacheState, as_file}
 use Rattle.vm_blocks.specs.Opening.{IsOpenedFrom}
 use Rattle.undo_log.specs.Logging.{fresh_log}

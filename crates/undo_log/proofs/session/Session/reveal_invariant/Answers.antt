@@ -1,6 +1,6 @@
 use Rattle.std.proofs.Common.{◌≤◌, Bool, length, subst}
 use Rattle.geos_model.specs.Machine.{AreValidLocks, IsValidMachine}
-use Rattle.vm_file.specs.Disk.{IsFileDocument, IsCrashConsistent}
+use Rattle.document_file.specs.Disk.{IsFileDocument, IsCrashConsistent}
 use Rattle.undo_log.specs.Logging.{AreExclusive, open_changes}
 use Rattle.undo_log.specs.Sessions.{SessionState, machine_of, IsExact}
 use Rattle.undo_log.proofs.Groups.{group_valid}

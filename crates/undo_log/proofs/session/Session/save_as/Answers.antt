@@ -1,13 +1,13 @@
 use Rattle.std.proofs.Common.{◌≡◌, ◌||◌, false, true, IsTrue, Some, None, Result, Ok, Err, refl, sym, ap, subst, ◌∙◌}
 use Rattle.std.specs.Prelude.{◌↔◌}
 use Rattle.std.specs.Result.{IsErrAnd}
-use Rattle.geos_model.specs.File.{stands}
+use Rattle.file_format.specs.File.{stands}
 use Rattle.geos_model.specs.Machine.{Step}
 use Rattle.geos_model.specs.Reply.{Accepted, Refused as RefusedWith}
 use Rattle.geos_model.specs.declared.command.Command.TheVariants as commands
 use Rattle.geos_model.specs.declared.fault.Fault.TheVariants.{Worn}
-use Rattle.vm_file.specs.declared.file.Refused.{Refused}
-use Rattle.vm_file.specs.Calls.{last_sequence}
+use Rattle.document_file.specs.declared.file.Refused.{Refused}
+use Rattle.document_file.specs.Calls.{last_sequence}
 use Rattle.vm_blocks.specs.State.{as_file}
 use Rattle.undo_log.specs.Committing.{IsSaveAsRefused}
 use Rattle.undo_log.specs.Sessions.{SessionState, machine_of, failed_since, IsExact}

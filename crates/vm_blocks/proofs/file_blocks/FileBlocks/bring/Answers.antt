@@ -1,8 +1,8 @@
 use Rattle.std.proofs.Common.{◌≡◌, ◌∷◌, ap, subst, ◌∙◌}
 use Rattle.std.specs.Prelude.{Err, OnOk}
 use Rattle.std.proofs.lemmas.Result.{err_from_is_err_and}
-use Rattle.vm_file.specs.Effects.{Fails, NoFault, IsDamage}
-use Rattle.vm_file.proofs.EffectsLemmas.{Fails-after, Fails-as}
+use Rattle.document_file.specs.Effects.{Fails, NoFault, IsDamage}
+use Rattle.document_file.proofs.EffectsLemmas.{Fails-after, Fails-as}
 use Rattle.vm_blocks.proofs.CallAfterCall.{stays_both}
 use Rattle.vm_blocks.proofs.OrderOfUse.{still_away}
 use Rattle.vm_blocks.proofs.file_blocks.FileBlocks.bring.Goals as goal

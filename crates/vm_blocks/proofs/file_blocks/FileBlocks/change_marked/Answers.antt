@@ -2,7 +2,7 @@ use Rattle.std.proofs.Common.{◌≡◌, Some, [], ap, sym, subst, ◌∙◌}
 use Rattle.std.specs.Prelude.{Result, Err, IfErr}
 use Rattle.std.proofs.lemmas.Result.{err_from_is_err_and}
 use Rattle.geos_model.specs.declared.fault.Fault.{Fault}
-use Rattle.vm_file.specs.Disk.{unmarked}
+use Rattle.document_file.specs.Disk.{unmarked}
 use Rattle.vm_blocks.specs.State.{CacheState}
 use Rattle.vm_blocks.proofs.Marking.{on_err_always}
 use Rattle.vm_blocks.specs.Changes.{directed_all}

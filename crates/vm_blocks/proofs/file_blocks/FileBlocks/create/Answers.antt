@@ -1,9 +1,9 @@
 use Rattle.std.proofs.Common.{ℕ, ap₂, sym, subst, ap}
 use Rattle.geos_model.specs.Document.{IsValid}
-use Rattle.geos_model.specs.File.{counting_slot}
+use Rattle.file_format.specs.File.{counting_slot}
 use Rattle.geos_model.proofs.Validity.{empty_document-valid}
 use Rattle.lru.specs.LruCache.{LruCache}
-use Rattle.vm_file.specs.Documents.{is_for_both}
+use Rattle.document_file.specs.Documents.{is_for_both}
 use Rattle.vm_blocks.specs.Frames.{with_frames, residents}
 use Rattle.vm_blocks.specs.Sound.{AreBlocksOf}
 use Rattle.vm_blocks.specs.Opening.{IsMadeIn}

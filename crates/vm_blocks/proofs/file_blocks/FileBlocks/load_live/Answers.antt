@@ -3,7 +3,7 @@ use Rattle.std.specs.Prelude.{◌⊎◌, OnOk, OnErr}
 use Rattle.std.specs.List.{IsDistinct}
 use Rattle.std.specs.Map.{lookup, keys_of}
 use Rattle.geos_model.specs.Document.{is_live}
-use Rattle.vm_file.specs.Effects.{Fails, IsDamage}
+use Rattle.document_file.specs.Effects.{Fails, IsDamage}
 use Rattle.lru.specs.LruCache.{LruCache, promoted}
 use Rattle.vm_blocks.specs.Frames.{residents, shown}
 use Rattle.vm_blocks.specs.Keeping.{KeepsBlocks, IsEnvironmentFault, IsCacheFull, is_full}

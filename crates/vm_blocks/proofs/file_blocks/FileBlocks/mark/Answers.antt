@@ -1,5 +1,5 @@
 use Rattle.std.proofs.Common.{◌≡◌, None, ap, sym, subst, ◌∙◌}
-use Rattle.vm_file.specs.Disk.{FileState}
+use Rattle.document_file.specs.Disk.{FileState}
 use Rattle.vm_blocks.specs.Frames.{shown}
 use Rattle.vm_blocks.specs.State.{CacheState, Marks, KeepsDocument, locked_count}
 use Rattle.vm_blocks.proofs.Marking.{marks_by, on_err_always}

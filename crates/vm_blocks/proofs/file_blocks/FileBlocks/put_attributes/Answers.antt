@@ -1,6 +1,6 @@
 use Rattle.std.proofs.Common.{◌≡◌, true, Bool, arith, sym, ap, subst, ◌∙◌}
 use Rattle.geos_model.specs.Document.{Document, is_heap, is_live, with_attributes, IsTyped}
-use Rattle.vm_file.specs.Disk.{FileState}
+use Rattle.document_file.specs.Disk.{FileState}
 use Rattle.vm_blocks.specs.Changes.{attributes_for_kind}
 use Rattle.vm_blocks.specs.Frames.{overlay, shown}
 use Rattle.vm_blocks.specs.Sound.{AreBlocksOf, IsValidState}

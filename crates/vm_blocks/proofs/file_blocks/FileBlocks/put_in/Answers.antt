@@ -1,10 +1,10 @@
 use Rattle.std.proofs.Common.{◌≡◌, false, List, All, refl, sym, ap, subst, ◌∙◌}
 use Rattle.std.proofs.lemmas.List.Elements.{All-weaker}
 use Rattle.geos_model.specs.Document.{IsValid, handles_of}
-use Rattle.vm_file.specs.Calls.{IsPut, put_all}
-use Rattle.vm_file.specs.Disk.{FileState}
-use Rattle.vm_file.specs.Members.{imaged_blocks}
-use Rattle.vm_file.specs.declared.member.Member.{Member}
+use Rattle.document_file.specs.Calls.{IsPut, put_all}
+use Rattle.document_file.specs.Disk.{FileState}
+use Rattle.document_file.specs.Members.{imaged_blocks}
+use Rattle.document_file.specs.declared.member.Member.{Member}
 use Rattle.vm_blocks.specs.Changes.{AreFree}
 use Rattle.vm_blocks.specs.Frames.{frame_of, shown}
 use Rattle.vm_blocks.specs.Preparing.{AppliesChange}

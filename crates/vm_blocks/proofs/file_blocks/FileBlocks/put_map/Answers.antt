@@ -1,7 +1,7 @@
 use Rattle.std.proofs.Common.{◌≡◌, ◌≢◌, ◌⊎◌, true, inl, inr, sym, ap, subst, ◌∙◌}
 use Rattle.std.proofs.lemmas.Bool.{cases_eq}
 use Rattle.geos_model.specs.Document.{Document, is_live}
-use Rattle.vm_file.specs.Disk.{FileState}
+use Rattle.document_file.specs.Disk.{FileState}
 use Rattle.vm_blocks.specs.State.{CacheState}
 use Rattle.vm_blocks.specs.Frames.{overlay, shown}
 use Rattle.vm_blocks.specs.Sound.{AreBlocksOf, IsValidState}

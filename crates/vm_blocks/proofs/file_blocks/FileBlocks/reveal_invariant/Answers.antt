@@ -1,7 +1,7 @@
 use Rattle.std.proofs.Common.{◌≡◌, ◌≤◌, ℕ, true, map, IsTrue, sym, ap, subst, ◌∙◌}
 use Rattle.geos_model.specs.Document.{IsValid, is_live}
 use Rattle.geos_model.specs.ElementArray.{all_distinct}
-use Rattle.vm_file.specs.Disk.{IsFileDocument, IsCrashConsistent}
+use Rattle.document_file.specs.Disk.{IsFileDocument, IsCrashConsistent}
 use Rattle.vm_blocks.specs.State.{CacheState, is_resident, locks_of}
 use Rattle.vm_blocks.proofs.Locks.{seats_apart, few_locks}
 use Rattle.vm_blocks.specs.Frames.{overlay}

@@ -2,8 +2,8 @@ use Rattle.std.proofs.Common.{ℕ, [], refl, sym, ap, subst, ◌∙◌}
 use Rattle.std.specs.Prelude.{Ok, Err}
 use Rattle.std.proofs.lemmas.Result.{err_from_is_err_and}
 use Rattle.lru.specs.LruCache.{LruCache}
-use Rattle.vm_file.specs.Effects.{IsCommit, Fails, IsWorn}
-use Rattle.vm_file.proofs.EffectsLemmas.{Fails-as}
+use Rattle.document_file.specs.Effects.{IsCommit, Fails, IsWorn}
+use Rattle.document_file.proofs.EffectsLemmas.{Fails-as}
 use Rattle.vm_blocks.specs.Frames.{with_frames, residents}
 use Rattle.vm_blocks.specs.Sound.{AreBlocksOf}
 use Rattle.vm_blocks.specs.State.{CacheState, as_file, locked_count}

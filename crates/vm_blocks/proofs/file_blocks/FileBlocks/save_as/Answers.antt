@@ -3,9 +3,9 @@ use Rattle.std.specs.Prelude.{Err}
 use Rattle.std.proofs.lemmas.Result.{err_from_is_err_and}
 use Rattle.geos_model.specs.Document.{IsValid}
 use Rattle.geos_model.specs.declared.fault.Fault.TheVariants.{Worn}
-use Rattle.vm_file.specs.Calls.{last_sequence}
-use Rattle.vm_file.specs.Disk.{FileState}
-use Rattle.vm_file.specs.Effects.{SameStore}
+use Rattle.document_file.specs.Calls.{last_sequence}
+use Rattle.document_file.specs.Disk.{FileState}
+use Rattle.document_file.specs.Effects.{SameStore}
 use Rattle.vm_blocks.specs.SavingAs.{IsSavedAs, IsNotSavedAs}
 use Rattle.vm_blocks.specs.Frames.{overlay, shown, with_frames}
 use Rattle.vm_blocks.specs.Sound.{AreBlocksOf}

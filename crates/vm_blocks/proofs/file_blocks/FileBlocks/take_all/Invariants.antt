@@ -1,6 +1,6 @@
 use Rattle.std.proofs.Common.{◌≡◌, drop}
 use Rattle.geos_model.specs.Document.{handles_of, without_blocks}
-use Rattle.vm_file.specs.Members.{imaged_blocks}
+use Rattle.document_file.specs.Members.{imaged_blocks}
 use Rattle.vm_blocks.specs.State.{KeepsLocks}
 use Rattle.vm_blocks.proofs.file_blocks.FileBlocks.take_all.Given as goal
 

@@ -3,7 +3,7 @@ use Rattle.std.specs.Map.{remove_entry}
 use Rattle.geos_model.specs.Document.{without_block}
 use Rattle.geos_model.specs.declared.handle.VmHandle.{VmHandle}
 use Rattle.lru.specs.LruCache.{LruCache}
-use Rattle.vm_file.specs.Disk.{FileState}
+use Rattle.document_file.specs.Disk.{FileState}
 use Rattle.vm_blocks.specs.Frames.{shown, AreFramesOf, residents}
 use Rattle.vm_blocks.specs.Sound.{IsValidState}
 use Rattle.vm_blocks.specs.State.{CacheState, KeepsLocks, locked_count, locks_of}

@@ -5,7 +5,7 @@ use Rattle.std.proofs.lemmas.Result.{err_from_is_err_and}
 use Rattle.std.proofs.lemmas.Iterator.Adapters.{YieldsList-from_rev_slice}
 use Rattle.std.proofs.lemmas.Iterator.Consumers.{YieldsList-turn, YieldsList-end}
 use Rattle.geos_model.specs.declared.fault.Fault.{Fault}
-use Rattle.vm_file.proofs.PassingLemmas.{KeepsCommitted-trans}
+use Rattle.document_file.proofs.PassingLemmas.{KeepsCommitted-trans}
 use Rattle.vm_blocks.specs.Changes.{directed, directed_all}
 use Rattle.vm_blocks.specs.Preparing.{CantPrepareAll}
 use Rattle.vm_blocks.specs.declared.change.Change.{Change}

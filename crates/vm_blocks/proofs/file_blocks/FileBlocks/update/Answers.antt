@@ -1,9 +1,9 @@
 use Rattle.std.proofs.Common.{◌≡◌, IsTrue, sym, ap, subst, ◌∙◌}
 use Rattle.std.specs.Prelude.{Err}
 use Rattle.std.proofs.lemmas.Result.{err_from_is_err_and}
-use Rattle.vm_file.specs.Effects.{IsCommit, Fails, IsWorn}
-use Rattle.vm_file.proofs.EffectsLemmas.{Fails-after, Fails-as}
-use Rattle.vm_file.proofs.ResultLemmas.{any_way}
+use Rattle.document_file.specs.Effects.{IsCommit, Fails, IsWorn}
+use Rattle.document_file.proofs.EffectsLemmas.{Fails-after, Fails-as}
+use Rattle.document_file.proofs.ResultLemmas.{any_way}
 use Rattle.vm_blocks.specs.Frames.{overlay, with_frames}
 use Rattle.vm_blocks.specs.State.{CacheState, as_file, locked_count}
 use Rattle.vm_blocks.proofs.Commits.{kept_after, committed_under}

@@ -1,7 +1,7 @@
 use Rattle.std.proofs.Common.{◌≡◌, ◌≤◌, ◌*◌, take}
 use Rattle.geos_model.specs.Cost.{images_length}
-use Rattle.geos_model.specs.File.{longest_image}
-use Rattle.vm_file.specs.Members.{imaged_blocks}
+use Rattle.file_format.specs.File.{longest_image}
+use Rattle.document_file.specs.Members.{imaged_blocks}
 use Rattle.vm_blocks.proofs.member.Members.weight.Given as goal
 
 abbrev pub invariant-loop-member : goal.invariant-loop-member

@@ -1,0 +1,79 @@
+use Rattle.std.proofs.Common.{IsTrue, sym, subst, inr}
+use Rattle.document_file.specs.Slots.{pair_extents, FailedEarly, Failed, AreExtentsPlaced}
+use Rattle.document_file.proofs.RangesLemmas.{slots_keep}
+use Rattle.document_file.proofs.SlotsLemmas.{shut_kept, Outlives-trans, prepared_leaves, as_before, as_shut, as_early, as_prepared}
+use Rattle.document_file.proofs.ResultLemmas.{on_err}
+use Rattle.document_file.proofs.commit.commit_slots.Goals as goal
+
+pub returns-in_err-shut_gate-clause-crash : goal.returns-in_err-shut_gate-clause-crash
+returns-in_err-shut_gate-clause-crash g c file holds leaves keeps =
+    let slots = c.args.slots.now in
+    as_early slots slots c.args.pair file _ _ (as_before slots slots c.args.pair file _ _ (c.shut_gate.ensures.crash file holds leaves))
+
+pub returns-in_err-shut_gate-clause-early : goal.returns-in_err-shut_gate-clause-early
+returns-in_err-shut_gate-clause-early g c =
+    on_err c.from_residual.result _ (inr (λ file holds leaves. as_before c.args.slots.now c.args.slots.now c.args.pair file _ _ (c.shut_gate.ensures.crash file holds leaves)))
+
+pub returns-in_err-shut_gate-clause-leaves : goal.returns-in_err-shut_gate-clause-leaves
+returns-in_err-shut_gate-clause-leaves g c file holds leaves keeps = c.shut_gate.ensures.leaves file holds leaves
+
+pub fill_slot-requires-clause-kept : goal.fill_slot-requires-clause-kept
+fill_slot-requires-clause-kept g c = subst AreExtentsPlaced (sym c.in_ok-shut_gate.ensures.ok) (shut_kept c.args.slots.now c.requires.kept)
+
+pub returns-in_err-fill_slot-clause-crash : goal.returns-in_err-fill_slot-clause-crash
+returns-in_err-fill_slot-clause-crash g c file holds leaves keeps =
+    let slots = c.args.slots.now in
+    let pair = c.args.pair in
+    let still = subst IsTrue (sym c.shut_gate.ensures.honest) holds in
+    as_early slots slots pair file _ _ (Outlives-trans _ _ _ file (λ s. FailedEarly slots s) (as_before slots slots pair file _ _ (c.shut_gate.ensures.crash file holds leaves))
+    (as_shut slots c.shut_gate.new.slots pair file _ _ c.in_ok-shut_gate.ensures.ok (c.fill_slot.ensures.crash file still (c.shut_gate.ensures.leaves file holds leaves))))
+
+pub returns-in_err-fill_slot-clause-early : goal.returns-in_err-fill_slot-clause-early
+returns-in_err-fill_slot-clause-early g c =
+    let slots = c.args.slots.now in
+    let pair = c.args.pair in
+    on_err c.from_residual-in_err-fill_slot.result _ (inr (λ file holds leaves.
+    let still = subst IsTrue (sym c.shut_gate.ensures.honest) holds in
+    Outlives-trans _ _ _ file (λ s. FailedEarly slots s) (as_before slots slots pair file _ _ (c.shut_gate.ensures.crash file holds leaves))
+    (as_shut slots c.shut_gate.new.slots pair file _ _ c.in_ok-shut_gate.ensures.ok (c.fill_slot.ensures.crash file still (c.shut_gate.ensures.leaves file holds leaves)))))
+
+pub returns-in_err-fill_slot-clause-leaves : goal.returns-in_err-fill_slot-clause-leaves
+returns-in_err-fill_slot-clause-leaves g c file holds leaves keeps =
+    let still = subst IsTrue (sym c.shut_gate.ensures.honest) holds in
+    c.fill_slot.ensures.leaves file still (c.shut_gate.ensures.leaves file holds leaves)
+
+pub open_gate-requires-clause-kept : goal.open_gate-requires-clause-kept
+open_gate-requires-clause-kept g c = subst AreExtentsPlaced (sym c.in_ok-shut_gate.ensures.ok) (shut_kept c.args.slots.now c.requires.kept)
+
+pub returns-clause-crash : goal.returns-clause-crash
+returns-clause-crash g c file holds leaves keeps =
+    let slots = c.args.slots.now in
+    let now = c.shut_gate.new.slots in
+    let pair = c.args.pair in
+    let B = g.S.Store.facts c.shut_gate.new.store in
+    let C = g.S.Store.facts c.fill_slot.new.store in
+    let still = subst IsTrue (sym c.shut_gate.ensures.honest) holds in
+    let yet = subst IsTrue (sym c.fill_slot.ensures.honest) still in
+    let es = pair_extents pair in
+    let shut = c.shut_gate.ensures.leaves file holds leaves in
+    let filled = c.fill_slot.ensures.leaves file still shut in
+    let kept = slots_keep es file B.content C.content c.requires.placed (c.fill_slot.ensures.elsewhere still) (slots_keep es file _ B.content c.requires.placed (c.shut_gate.ensures.elsewhere holds) keeps) in
+    let prepared = prepared_leaves now pair file C (c.in_ok-fill_slot.ensures.durable still) (c.in_ok-fill_slot.ensures.marked still) (c.in_ok-fill_slot.ensures.rest still) kept filled in
+    Outlives-trans _ _ _ file (λ s. Failed slots pair s)
+    (as_early slots now pair file _ _ (Outlives-trans _ _ _ file (λ s. FailedEarly slots s) (as_before slots slots pair file _ _ (c.shut_gate.ensures.crash file holds leaves))
+    (as_shut slots now pair file _ _ c.in_ok-shut_gate.ensures.ok (c.fill_slot.ensures.crash file still shut))))
+    (as_prepared slots now pair file _ _ c.in_ok-shut_gate.ensures.ok (c.open_gate.ensures.crash file yet prepared))
+
+pub returns-clause-leaves : goal.returns-clause-leaves
+returns-clause-leaves g c file holds leaves keeps =
+    let now = c.shut_gate.new.slots in
+    let pair = c.args.pair in
+    let B = g.S.Store.facts c.shut_gate.new.store in
+    let C = g.S.Store.facts c.fill_slot.new.store in
+    let still = subst IsTrue (sym c.shut_gate.ensures.honest) holds in
+    let yet = subst IsTrue (sym c.fill_slot.ensures.honest) still in
+    let es = pair_extents pair in
+    let filled = c.fill_slot.ensures.leaves file still (c.shut_gate.ensures.leaves file holds leaves) in
+    let kept = slots_keep es file B.content C.content c.requires.placed (c.fill_slot.ensures.elsewhere still) (slots_keep es file _ B.content c.requires.placed (c.shut_gate.ensures.elsewhere holds) keeps) in
+    let prepared = prepared_leaves now pair file C (c.in_ok-fill_slot.ensures.durable still) (c.in_ok-fill_slot.ensures.marked still) (c.in_ok-fill_slot.ensures.rest still) kept filled in
+    c.open_gate.ensures.leaves file yet prepared

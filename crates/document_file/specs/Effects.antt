@@ -1,0 +1,81 @@
+-- What a call leaves of a file, and why it is refused: each layer from the file up to the session says it in these
+-- words.
+use Rattle.std.specs.Prelude.{◌≡◌, ◌≢◌, ◌⊎◌, ◌↔◌, ◌≤◌, Bool, IsTrue, [], None, Result, OnOk, IfErr, IsErrOf, MatchResult}
+use Rattle.vm_store.specs.Facts.{StoreFacts, FailedSince, IsUnchanged}
+use Rattle.geos_model.specs.Document.{Document, IsValid}
+use Rattle.geos_model.specs.declared.fault.Fault.{Fault}
+use Rattle.geos_model.specs.declared.fault.Fault.TheVariants.{File, Damaged, Worn}
+use Rattle.file_format.specs.Reading.{IsResourceFault}
+use Rattle.document_file.specs.Calls.{last_sequence}
+use Rattle.document_file.specs.Disk.{Disk, FileState, SameUnlessCorrupt, IsFileDocument, KeepsCommitted, MayCommit, IsCrashConsistent, HasSequence, ContentStands}
+use Rattle.document_file.specs.Documents.{Documents}
+
+-- What always holds of a file. Over an honest store a crash now leaves what may be read, the updated and the saved
+-- document are valid, and unless a commit failed in its last step the number is on the disk.
+pub record IsFile {S : Type 0} (facts : S → StoreFacts) (file : FileState S) : Type 0 where
+  pub document : IsFileDocument (facts file.disk.store).honest file.document
+  pub updated : IsFileDocument (facts file.disk.store).honest file.disk.updated
+  pub saved : IsFileDocument (facts file.disk.store).honest file.disk.saved
+  pub valid : IsTrue (facts file.disk.store).honest → IsValid file.disk.updated × IsValid file.disk.saved
+  pub crash_consistent : IsCrashConsistent facts file.disk
+  pub numbered : IsTrue (facts file.disk.store).honest → file.disk.in_doubt ≡ []
+      → HasSequence (facts file.disk.store) file.disk.sequence
+  pub sequence : (1 ≤ file.disk.sequence) × (file.disk.sequence ≤ last_sequence)
+
+-- The store is the one that was given: as honest, and no failure is forgotten.
+pub record SameStore {S : Type 0} (facts : S → StoreFacts) (given now : S) : Type 0 where
+  pub honest : (facts now).honest ≡ (facts given).honest
+  pub failures : (facts given).failures ≤ (facts now).failures
+
+-- The file was just made of a document, which is the updated and the saved one, under the first number.
+pub record IsNewFile {S : Type 0} (facts : S → StoreFacts) (d : Document) (disk : Disk S) : Type 0 where
+  pub updated : disk.updated ≡ d
+  pub saved : disk.saved ≡ d
+  pub in_doubt : disk.in_doubt ≡ []
+  pub unmarked : disk.marked ≡ None
+  pub sequence : disk.sequence ≡ 1
+  pub numbered : IsTrue (facts disk.store).honest → HasSequence (facts disk.store) 1
+  pub crash_consistent : IsCrashConsistent facts disk
+  pub content : ContentStands facts disk
+
+-- A call that only reads: nothing is written, nothing is committed, and the document stays as far as the store gives
+-- back what it has.
+pub record OnlyReads {S : Type 0} (facts : S → StoreFacts) (old new : FileState S) : Type 0 where
+  pub passes : KeepsCommitted facts old.disk new.disk
+  pub unchanged : IsTrue (facts old.disk.store).honest → IsUnchanged (facts old.disk.store) (facts new.disk.store)
+  pub document : SameUnlessCorrupt (facts old.disk.store).honest old.document new.document
+
+-- A call that commits nothing, with this document behind it.
+pub record LeavesDocument {S : Type 0} (facts : S → StoreFacts) (d : Document) (old new : FileState S) : Type 0 where
+  pub passes : KeepsCommitted facts old.disk new.disk
+  pub document : SameUnlessCorrupt (facts old.disk.store).honest d new.document
+
+-- A call that tries to commit a pair, with this document behind it where it does; where it is refused the document
+-- stays. Unless the store failed nothing is committed then. It is worn exactly where the number can't rise, and then it
+-- does nothing.
+pub record IsCommit {S : Type 0} (facts : S → StoreFacts) (pair : Documents) (d : Document) (old new : FileState S)
+    (result : Result (Unit {0}) Fault) : Type 0 where
+  pub commits : MayCommit facts pair old.disk new.disk result
+  pub content : OnOk result (ContentStands facts new.disk)
+  pub document : MatchResult result (λ _. SameUnlessCorrupt (facts old.disk.store).honest d new.document)
+      (λ _. SameUnlessCorrupt (facts old.disk.store).honest old.document new.document)
+  pub passes : IfErr result (λ fault. fault ≢ File → KeepsCommitted facts old.disk new.disk)
+  pub worn : IsErrOf result Worn ↔ (old.disk.sequence ≡ last_sequence)
+  pub early : IsErrOf result Worn → new ≡ old
+
+-- Refusals: lack of memory; a store that failed in this very call; one of these others.
+pub record Fails {S A : Type 0} (facts : S → StoreFacts) (IsOther : Fault → Type 0) (old new : S)
+    (result : Result A Fault) : Type 0 where
+  pub file : IsErrOf result File → FailedSince (facts old) (facts new)
+  pub faults : IfErr result (λ fault. IsResourceFault fault ⊎ IsOther fault)
+
+-- no other
+abbrev pub NoFault : Fault → Type 0
+NoFault fault = ⊥
+
+abbrev pub IsWorn : Fault → Type 0
+IsWorn fault = fault ≡ Worn
+
+-- bytes that are no image, which an honest store never gives
+abbrev pub IsDamage : Bool → Fault → Type 0
+IsDamage honest fault = (fault ≡ Damaged) × (IsTrue honest → ⊥)

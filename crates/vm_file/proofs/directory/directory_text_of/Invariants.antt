@@ -1,8 +1,0 @@
-use Rattle.std.proofs.Common.{take, length}
-use Rattle.geos_model.specs.File.{header_text}
-use Rattle.vm_file.specs.Documents.{entries_of}
-use Rattle.vm_file.proofs.TableDirectoryLemmas.{IsTextOfEntries}
-use Rattle.vm_file.proofs.directory.directory_text_of.Given as goal
-
-abbrev pub invariant-loop-i : goal.invariant-loop-i
-invariant-loop-i l = IsTextOfEntries (header_text 2 (length (entries_of 1 l.table.places.items)) l.table.map_block) (entries_of 1 (take l.i l.table.places.items)) l.text.items

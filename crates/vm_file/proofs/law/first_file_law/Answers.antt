@@ -1,5 +1,0 @@
-use Rattle.vm_file.proofs.FirstFileLemmas as first
-use Rattle.vm_file.proofs.law.first_file_law.Goals as goal
-
-pub returns : goal.returns
-returns c = first.first_file_law

@@ -1,6 +1,0 @@
-use Rattle.vm_file.proofs.CopiesLemmas.{same_stored}
-use Rattle.vm_file.proofs.opening.read_saved.Goals as goal
-
-pub returns-then-eq-clause-stored : goal.returns-then-eq-clause-stored
-returns-then-eq-clause-stored g c so =
-    same_stored c.args.version _ _ c.args.updated.now c.in_ok-shared.ensures (c.requires.stored so)

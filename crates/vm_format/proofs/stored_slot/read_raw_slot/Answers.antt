@@ -1,8 +1,0 @@
-use Rattle.std.proofs.Common.{◌≡◌, ◌*◌, length, refl, ap₂, arith}
-use Rattle.vm_format.proofs.StoredSlotLemmas.{raw_slot_read}
-use Rattle.vm_format.proofs.stored_slot.read_raw_slot.Goals as goal
-
-pub returns-clause-raw : goal.returns-clause-raw
-returns-clause-raw g c so =
-    let long : length c.read_at.new.buffer ≡ 32 = omega arith in
-    raw_slot_read _ c.read_at.new.buffer c.args.page _ _ (ap₂ (λ n m. n * m) c.from.ensures c.from-2.ensures) long c.are_bytes.ensures (c.in_ok-read_at.ensures.bytes so) refl c.read_slot.ensures

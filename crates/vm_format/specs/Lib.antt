@@ -1,4 +1,0 @@
-pub mod Kinds
-pub mod Listed
-pub mod Reading
-pub mod Slots

@@ -1,2 +1,0 @@
-pub mod PlacingLemmas
-pub mod SpaceLemmas

@@ -1,5 +1,0 @@
-use Rattle.vm_space.specs.Space.{AreCountsRaised}
-use Rattle.vm_space.proofs.free_space.count_down.Given as goal
-
-abbrev pub invariant-loop-page : goal.invariant-loop-page
-invariant-loop-page l = AreCountsRaised l.start l.page l.counts l.initial.counts
