@@ -13,8 +13,8 @@ for part in channel files sessions paths copying codes version; do
     gcc -std=c99 -pedantic -O2 -Wall -Wextra -Werror -fPIC -c "$here/$part.c" -o "$work/$part.o"
     objects="$objects $work/$part.o"
 done
-# The library's reads and writes go to channel.c, which hands them to the program, and sessions.c stands in front of four of its calls.
-for name in open create close save_as; do echo "geosvm_$name proved_geosvm_$name"; done >"$work/names"
+# The library's reads and writes go to channel.c, which hands them to the program, and sessions.c stands in front of six of its calls.
+for name in open create open_checksums create_checksums close save_as; do echo "geosvm_$name proved_geosvm_$name"; done >"$work/names"
 objcopy --redefine-sym read=geosvm_channel_read --redefine-sym write=geosvm_channel_write --redefine-syms="$work/names" "$1" "$work/part.a"
 # One object, so that its parts find each other where their names are hidden.
 # shellcheck disable=SC2086

@@ -169,7 +169,8 @@ int32_t geosvm_fault_name(int32_t code, uint8_t *name, size_t room, size_t *leng
 ** CAPI: Open by a path
 **
 ** geosvm_open_path opens the document of a file by its path, with 64 frames, and nothing to undo. The file is the session's: geosvm_close
-** closes it. `flags` is one of these, and anything else is GEOSVM_BAD_ARGUMENT, as a path that is NULL is, or isn't for MEMORY:
+** closes it. `flags` is one of these; beside any of them but READ, CHECKSUMS may be set too ("Checksums"). Anything else is
+** GEOSVM_BAD_ARGUMENT, as a path that is NULL is, or isn't for MEMORY:
 **
 **   - EXISTING: a file that is there, to be read and written.
 **   - CREATE: that, or an empty document where no file is. A file of 0 bytes is made one too: it has nothing to lose, and is what a stop
@@ -198,6 +199,14 @@ int32_t geosvm_fault_name(int32_t code, uint8_t *name, size_t room, size_t *leng
 ** GEOSVM_FILE, before anything is changed in the file (EROFS): of commits, of edits that make blocks, and where a block that was edited has
 ** to make room for another one; of geosvm_save_as and geosvm_save_as_path too, since the file that is left is written by them. What was
 ** edited so goes into another document by geosvm_copy_block.
+**
+** CAPI: Checksums
+**
+** By its checksums a file tells that bytes of it were changed elsewhere, as on a bad disk: an open is GEOSVM_DAMAGED then, where it would
+** be another document without them (docs/FORMAT.md). They are asked for by GEOSVM_PATH_CHECKSUMS, set beside one of the other flags, or by
+** geosvm_create_checksums and geosvm_open_checksums: an empty document that is made has them, and a file that is there and has none gets
+** them with its next commit. One that has them keeps them, however it is opened, and so has what it is saved into by geosvm_save_as or
+** geosvm_save_as_path. Such a file is of version 3, which a program that knows versions 1 and 2 alone doesn't open.
 */
 #define GEOSVM_PATH_EXISTING  0u
 #define GEOSVM_PATH_CREATE    1u
@@ -205,6 +214,7 @@ int32_t geosvm_fault_name(int32_t code, uint8_t *name, size_t room, size_t *leng
 #define GEOSVM_PATH_EMPTY     4u
 #define GEOSVM_PATH_READ      8u
 #define GEOSVM_PATH_MEMORY   16u
+#define GEOSVM_PATH_CHECKSUMS 32u
 int32_t geosvm_open_path(geosvm_session *s, const char *path, uint32_t flags);
 
 /*
@@ -216,11 +226,15 @@ int32_t geosvm_open_path(geosvm_session *s, const char *path, uint32_t flags);
 ** blocks are in memory at a time, 1 to 64. Where they answer anything but GEOSVM_OK the session is as it was; GEOSVM_MEMORY, FILE,
 ** DAMAGED, NOT_DOCUMENT, OPEN_ALREADY, BAD_ARGUMENT.
 **
+** geosvm_open_checksums and geosvm_create_checksums do the same, with checksums ("Checksums").
+**
 ** geosvm_close writes nothing: what was edited since the last commit is given up. A file that was opened by geosvm_open_path, or made by
 ** geosvm_save_as_path, is closed, which gives its lock back.
 */
 int32_t geosvm_open(geosvm_session *s, int32_t number, size_t frames);
 int32_t geosvm_create(geosvm_session *s, int32_t number, size_t frames);
+int32_t geosvm_open_checksums(geosvm_session *s, int32_t number, size_t frames);
+int32_t geosvm_create_checksums(geosvm_session *s, int32_t number, size_t frames);
 int32_t geosvm_close(geosvm_session *s);
 
 /*

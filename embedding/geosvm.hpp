@@ -26,7 +26,8 @@
 ** `save_as` write a new document beside a file that has bytes, under its name with a point and six letters behind
 ** it, and let it take the place of that file once it is whole, with its owner and mode: so where they are refused the
 ** old file stays, and where there was none there may be an empty one. Only a regular file with one name is replaced. A
-** descriptor stays the caller's, who locks it, as geosvm.h says.
+** descriptor stays the caller's, who locks it, as geosvm.h says. By `open_checksums`, `create_checksums` and
+** `open_or_create_checksums` a file has checksums from its next commit on, and one that is made from the start.
 */
 #ifndef GEOSVM_HPP
 #define GEOSVM_HPP
@@ -237,34 +238,48 @@ public:
      gives a closed session. */
 
   static session open(const std::filesystem::path &path, std::size_t frames = 64, report r = {}) {
-    session made;
-    std::error_code failed;
-    below::descriptor file = below::open_locked(path, 0, failed);
-    r = r.of(path);
-    if (!r.tell(failed) || !r.tell(geosvm_open(made.raw(), file.number(), frames))) return made;
-    made.at_->own = std::move(file);
-    return made;
+    return opened_at(path, geosvm_open, frames, r.of(path));
+  }
+  static session open_checksums(const std::filesystem::path &path, std::size_t frames = 64, report r = {}) {
+    return opened_at(path, geosvm_open_checksums, frames, r.of(path));
   }
   static session create(const std::filesystem::path &path, std::size_t frames = 64, report r = {}) {
-    return made_at(path, true, frames, r.of(path));
+    return made_at(path, true, geosvm_create, geosvm_open, frames, r.of(path));
+  }
+  static session create_checksums(const std::filesystem::path &path, std::size_t frames = 64, report r = {}) {
+    return made_at(path, true, geosvm_create_checksums, geosvm_open_checksums, frames, r.of(path));
   }
   /* Makes a document only where the file is missing or empty. */
   static session open_or_create(const std::filesystem::path &path, std::size_t frames = 64, report r = {}) {
-    return made_at(path, false, frames, r.of(path));
+    return made_at(path, false, geosvm_create, geosvm_open, frames, r.of(path));
+  }
+  static session open_or_create_checksums(const std::filesystem::path &path, std::size_t frames = 64, report r = {}) {
+    return made_at(path, false, geosvm_create_checksums, geosvm_open_checksums, frames, r.of(path));
   }
   static session open(std::int32_t number, std::size_t frames = 64, report r = {}) {
-    session made;
-    r.tell(geosvm_open(made.raw(), number, frames));
-    return made;
+    return begun_on(number, geosvm_open, frames, r);
+  }
+  static session open_checksums(std::int32_t number, std::size_t frames = 64, report r = {}) {
+    return begun_on(number, geosvm_open_checksums, frames, r);
   }
   static session create(std::int32_t number, std::size_t frames = 64, report r = {}) {
-    session made;
-    r.tell(geosvm_create(made.raw(), number, frames));
-    return made;
+    return begun_on(number, geosvm_create, frames, r);
+  }
+  static session create_checksums(std::int32_t number, std::size_t frames = 64, report r = {}) {
+    return begun_on(number, geosvm_create_checksums, frames, r);
   }
   template <class File> static session open(const File &file, report r) { return open(file, 64, r); }
+  template <class File> static session open_checksums(const File &file, report r) {
+    return open_checksums(file, 64, r);
+  }
   template <class File> static session create(const File &file, report r) { return create(file, 64, r); }
+  template <class File> static session create_checksums(const File &file, report r) {
+    return create_checksums(file, 64, r);
+  }
   static session open_or_create(const std::filesystem::path &path, report r) { return open_or_create(path, 64, r); }
+  static session open_or_create_checksums(const std::filesystem::path &path, report r) {
+    return open_or_create_checksums(path, 64, r);
+  }
 
   void close(report r = {}) {
     const std::int32_t code = geosvm_close(raw());
@@ -553,14 +568,32 @@ private:
   friend class group;
   friend class locked_block;
 
-  static session made_at(const std::filesystem::path &path, bool replaces, std::size_t frames, report r) {
+  /* A call that begins a session on a file by its number. */
+  using beginning = decltype(&geosvm_open);
+
+  static session begun_on(std::int32_t number, beginning begin, std::size_t frames, report r) {
+    session made;
+    r.tell(begin(made.raw(), number, frames));
+    return made;
+  }
+
+  static session opened_at(const std::filesystem::path &path, beginning open, std::size_t frames, report r) {
+    session made;
+    std::error_code failed;
+    below::descriptor file = below::open_locked(path, 0, failed);
+    if (!r.tell(failed) || !r.tell(open(made.raw(), file.number(), frames))) return made;
+    made.at_->own = std::move(file);
+    return made;
+  }
+
+  static session made_at(const std::filesystem::path &path, bool replaces, beginning create, beginning open,
+                         std::size_t frames, report r) {
     session made;
     std::error_code failed;
     made.raw();
     below::new_file file(path, replaces, failed);
     if (!r.tell(failed)) return made;
-    const auto call = file.is_new() ? geosvm_create : geosvm_open;
-    const std::int32_t code = call(made.raw(), file.number(), frames);
+    const std::int32_t code = (file.is_new() ? create : open)(made.raw(), file.number(), frames);
     if (code == GEOSVM_OK && file.is_new()) failed = file.take_place();
     if (code == GEOSVM_OK && !failed) {
       made.at_->own = file.release();

@@ -183,38 +183,46 @@ static int32_t failed(int error) {
 }
 
 /* Makes an empty document of a file, which is as it was where it was empty and that is refused. */
-static int32_t create_in(geosvm_session *s, const struct opened *file, const char *path) {
+static int32_t create_in(geosvm_session *s, const struct opened *file, const char *path, bool checksums) {
   int32_t code;
   if (path != NULL && (file->is_made || file->is_empty) && !has_kept_name(path)) return failed(errno);
-  code = geosvm_create(s, file->number, FRAMES);
+  code = checksums ? geosvm_create_checksums(s, file->number, FRAMES) : geosvm_create(s, file->number, FRAMES);
   if (code != GEOSVM_OK && file->is_empty) (void)!ftruncate(file->number, 0);
   return code;
 }
 
-static bool is_choice(const char *path, uint32_t flags) {
+static int32_t open_in(geosvm_session *s, const struct opened *file, bool checksums) {
+  return checksums ? geosvm_open_checksums(s, file->number, FRAMES) : geosvm_open(s, file->number, FRAMES);
+}
+
+/* What is read alone gets no checksums. */
+static bool is_choice(const char *path, uint32_t flags, bool checksums) {
   switch (flags) {
   case GEOSVM_PATH_EXISTING:
   case GEOSVM_PATH_CREATE:
   case GEOSVM_PATH_NEW:
   case GEOSVM_PATH_EMPTY:
-  case GEOSVM_PATH_READ:
     return path != NULL;
+  case GEOSVM_PATH_READ:
+    return path != NULL && !checksums;
   default:
     return flags == GEOSVM_PATH_MEMORY && path == NULL;
   }
 }
 
 int32_t geosvm_open_path(geosvm_session *s, const char *path, uint32_t flags) {
+  const bool checksums = (flags & GEOSVM_PATH_CHECKSUMS) != 0;
   struct opened file;
   bool is_new;
   int32_t code;
   if (s->private_is_open) return GEOSVM_OPEN_ALREADY;
-  if (!is_choice(path, flags)) return GEOSVM_BAD_ARGUMENT;
+  flags &= ~GEOSVM_PATH_CHECKSUMS;
+  if (!is_choice(path, flags, checksums)) return GEOSVM_BAD_ARGUMENT;
   if (owner_of_functions() != OF_LIBRARY) return failed(ENOTSUP);
   file = flags == GEOSVM_PATH_MEMORY ? open_unnamed() : open_locked(path, flags);
   if (file.number < 0) return failed(errno);
   is_new = flags == GEOSVM_PATH_CREATE ? file.is_empty : flags != GEOSVM_PATH_EXISTING && flags != GEOSVM_PATH_READ;
-  code = is_new ? create_in(s, &file, path) : geosvm_open(s, file.number, FRAMES);
+  code = is_new ? create_in(s, &file, path, checksums) : open_in(s, &file, checksums);
   if (code == GEOSVM_OK) s->private_file = file.number;
   else give_up(&file, path);
   return code;

@@ -155,7 +155,8 @@ static const struct opening openings[] = {
     {"an old one, or a new one", 1, GEOSVM_PATH_CREATE, 1}, {"one that is missing, made", -1, GEOSVM_PATH_CREATE, 0},
     {"a new one", -1, GEOSVM_PATH_NEW, 0}, {"an empty file", 0, GEOSVM_PATH_CREATE, 0},
     {"one that is missing, emptied", -1, GEOSVM_PATH_EMPTY, 0}, {"an old one, emptied", 1, GEOSVM_PATH_EMPTY, 0},
-    {"memory", -1, GEOSVM_PATH_MEMORY, 0},
+    {"memory", -1, GEOSVM_PATH_MEMORY, 0}, {"an old one, for checksums", 1, GEOSVM_PATH_CREATE | GEOSVM_PATH_CHECKSUMS, 1},
+    {"a new one with checksums", -1, GEOSVM_PATH_NEW | GEOSVM_PATH_CHECKSUMS, 0},
 };
 
 /* One try of it, in which one call fails; whether one did. */

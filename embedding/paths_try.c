@@ -111,13 +111,15 @@ static void arguments(void) {
   TELL(geosvm_open_path(&s, "a.document", GEOSVM_PATH_MEMORY));
   TELL(geosvm_open_path(&s, "a.document", GEOSVM_PATH_CREATE | GEOSVM_PATH_READ));
   TELL(geosvm_open_path(&s, "a.document", GEOSVM_PATH_NEW | GEOSVM_PATH_EMPTY));
-  TELL(geosvm_open_path(&s, "a.document", 32));
+  TELL(geosvm_open_path(&s, "a.document", GEOSVM_PATH_READ | GEOSVM_PATH_CHECKSUMS));
+  TELL(geosvm_open_path(&s, "a.document", 64));
   TELL(geosvm_open_path(&s, NULL, GEOSVM_PATH_MEMORY | GEOSVM_PATH_NEW));
   TELL(geosvm_save_as_path(&s, "a.document", 0));
   TELL(geosvm_open_path(&s, NULL, GEOSVM_PATH_MEMORY));
   TELL(geosvm_open_path(&s, "a.document", GEOSVM_PATH_CREATE));
   TELL(geosvm_save_as_path(&s, NULL, 0));
   TELL(geosvm_save_as_path(&s, "a.document", GEOSVM_PATH_EMPTY));
+  TELL(geosvm_save_as_path(&s, "a.document", GEOSVM_PATH_CHECKSUMS));
   TELL(geosvm_close(&s));
   s = GEOSVM_CLOSED;
   TELL(geosvm_close(&s));
@@ -158,6 +160,64 @@ static void ways(void) {
   TELL(geosvm_open_path(&s, "a.document", GEOSVM_PATH_EMPTY));
   printf("  mark %d\n", mark_of(&s));
   TELL(geosvm_close(&s));
+  unlink("b.document"), unlink("c.document");
+  printf("descriptors: %d\n", count_open());
+  free(before);
+}
+
+/* The versions of the two slots: 3 where it has checksums. */
+static void show_versions(const char *path) {
+  static struct bytes now;
+  read_file(path, &now);
+  printf("  %s: versions %d %d\n", path, now.bytes[5], now.bytes[517]);
+}
+
+/* Changes one byte of the block with a mark. */
+static void spoil(const char *path, uint8_t mark) {
+  static struct bytes now;
+  const uint8_t bytes[4] = {mark, mark, mark, mark};
+  const uint8_t *at;
+  read_file(path, &now);
+  at = memmem(now.bytes, now.length, bytes, sizeof bytes);
+  const int fd = open(path, O_WRONLY);
+  if (at == NULL || pwrite(fd, "?", 1, at - now.bytes) != 1) stop(path);
+  close(fd);
+}
+
+/* A document that is made has checksums where they are asked for, and one that is there has them with its next commit. */
+static void checksums(void) {
+  geosvm_session s = GEOSVM_CLOSED;
+  struct bytes *before = malloc(sizeof *before);
+  puts("-- checksums");
+  TELL(geosvm_open_path(&s, "b.document", GEOSVM_PATH_EXISTING | GEOSVM_PATH_CHECKSUMS));
+  TELL(geosvm_open_path(&s, "b.document", GEOSVM_PATH_NEW | GEOSVM_PATH_CHECKSUMS));
+  TELL(geosvm_close(&s));
+  show_versions("b.document");
+  TELL(geosvm_open_path(&s, "b.document", GEOSVM_PATH_EMPTY));
+  TELL(geosvm_close(&s));
+  show_versions("b.document");
+  TELL(geosvm_open_path(&s, "b.document", GEOSVM_PATH_EMPTY | GEOSVM_PATH_CHECKSUMS));
+  TELL(geosvm_close(&s));
+  show_versions("b.document");
+  make("b.document", 18);
+  read_file("b.document", before);
+  TELL(geosvm_open_path(&s, "b.document", GEOSVM_PATH_CREATE | GEOSVM_PATH_CHECKSUMS));
+  compare("b.document", before);
+  TELL(geosvm_update(&s));
+  TELL(geosvm_close(&s));
+  show_versions("b.document");
+  TELL(geosvm_open_path(&s, "b.document", GEOSVM_PATH_EXISTING));
+  printf("  mark %d\n", mark_of(&s));
+  TELL(geosvm_save_as_path(&s, "c.document", 0));
+  TELL(geosvm_close(&s));
+  show_versions("c.document");
+  spoil("c.document", 18);
+  TELL(geosvm_open_path(&s, "c.document", GEOSVM_PATH_EXISTING));
+  unlink("c.document");
+  TELL(geosvm_open_path(&s, NULL, GEOSVM_PATH_MEMORY | GEOSVM_PATH_CHECKSUMS));
+  TELL(geosvm_save_as_path(&s, "c.document", GEOSVM_PATH_NEW));
+  TELL(geosvm_close(&s));
+  show_versions("c.document");
   unlink("b.document"), unlink("c.document");
   printf("descriptors: %d\n", count_open());
   free(before);
@@ -482,6 +542,7 @@ int main(void) {
   for (int i = 3; i < 200; i++) close(i);
   arguments();
   ways();
+  checksums();
   others();
   links();
   locked();

@@ -22,6 +22,8 @@ enum owner owner_of_functions(void);
 /* The calls of crates/geos_c that sessions.c has others in front of. */
 int32_t proved_geosvm_open(geosvm_session *s, int32_t number, size_t frames);
 int32_t proved_geosvm_create(geosvm_session *s, int32_t number, size_t frames);
+int32_t proved_geosvm_open_checksums(geosvm_session *s, int32_t number, size_t frames);
+int32_t proved_geosvm_create_checksums(geosvm_session *s, int32_t number, size_t frames);
 int32_t proved_geosvm_close(geosvm_session *s);
 int32_t proved_geosvm_save_as(geosvm_session *s, int32_t number);
 

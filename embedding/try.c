@@ -601,6 +601,40 @@ static void *worker(void *at) {
   return (void *)bad;
 }
 
+/* The versions of the two slots: 3 where it has checksums. */
+static void show_versions(int fd) {
+  uint8_t first = 0, second = 0;
+  if (pread(fd, &first, 1, 5) != 1 || pread(fd, &second, 1, 517) != 1) perror("pread");
+  printf("versions: %d %d\n", first, second);
+}
+
+/* Checksums are asked for: a new document has them, and one that is there gets them with its next commit, and keeps them. */
+static void checksums(void) {
+  geosvm_session s = GEOSVM_CLOSED;
+  int fd = file("summed.document");
+  puts("-- checksums");
+  TELL(geosvm_create(&s, fd, 8));
+  TELL(geosvm_close(&s));
+  show_versions(fd);
+  TELL(geosvm_open_checksums(&s, fd, 8));
+  TELL(geosvm_close(&s));
+  show_versions(fd);
+  TELL(geosvm_open_checksums(&s, fd, 8));
+  TELL(geosvm_save(&s));
+  TELL(geosvm_close(&s));
+  show_versions(fd);
+  TELL(geosvm_open(&s, fd, 8));
+  TELL(geosvm_save(&s));
+  TELL(geosvm_close(&s));
+  show_versions(fd);
+  TELL(geosvm_create_checksums(&s, fd, 8));
+  TELL(geosvm_close(&s));
+  show_versions(fd);
+  TELL(geosvm_open_checksums(&s, fd, 0));
+  TELL(geosvm_create_checksums(&s, -7, 8));
+  close(fd);
+}
+
 int main(void) {
   geosvm_session s = GEOSVM_CLOSED;
   TELL(note("first.document", "abc"));
@@ -626,6 +660,7 @@ int main(void) {
   steps();
   step_names();
   places();
+  checksums();
   pthread_t thread[4];
   long bad = 0;
   void *result;

@@ -45,13 +45,16 @@ class Document:
     `doc[handle]` is a block, and going over the document gives all blocks, rising.
     """
 
-    def __init__(self, path: Path, mode: Mode = "r+", frames: int = FRAMES) -> None:
+    def __init__(self, path: Path, mode: Mode = "r+", frames: int = FRAMES,
+                 checksums: bool = False) -> None:
         if mode not in ("r+", "w+", "x+"):
             raise ValueError(f"a mode is r+, w+ or x+, to read and write, not {mode!r}")
         is_new = mode != "r+"
         file = make_locked(path, mode == "x+") if is_new else open_locked(path, 0)
         try:
-            self._session = Session(file, "create" if is_new else "open", frames)
+            made = "create_checksums" if checksums else "create"
+            opened = "open_checksums" if checksums else "open"
+            self._session = Session(file, made if is_new else opened, frames)
         except BaseException:
             os.close(file)
             raise
@@ -380,17 +383,22 @@ class Document:
         return not self.as_saved
 
 
-def open(path: Path, mode: Mode = "r+", frames: int = FRAMES) -> Document:  # noqa: A001
+def open(path: Path, mode: Mode = "r+", frames: int = FRAMES,  # noqa: A001
+         checksums: bool = False) -> Document:
     """Opens the document of a file.
 
     With the mode "w+" an empty document is made of the file, whatever was in it; with "x+" the
     file must be missing or empty, else it is a FileExistsError. At most `frames` blocks are in
     memory at a time, 1 to 64. Whoever opens a file that is open gets File, which is a
     BlockingIOError then.
+
+    With `checksums` the file has checksums from its next commit on, and one that is made from the
+    start: bytes of it that were changed elsewhere are Damaged then. It keeps them, and so has what
+    it is saved into.
     """
-    return Document(path, mode, frames)
+    return Document(path, mode, frames, checksums)
 
 
-def create(path: Path, frames: int = FRAMES) -> Document:
+def create(path: Path, frames: int = FRAMES, checksums: bool = False) -> Document:
     """Makes a document of a file that is missing or empty; one with bytes is FileExistsError."""
-    return Document(path, "x+", frames)
+    return Document(path, "x+", frames, checksums)

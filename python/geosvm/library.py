@@ -45,6 +45,8 @@ class PlaceFields(ctypes.Structure):
 SESSION_CALLS = """
 open i32 size
 create i32 size
+open_checksums i32 size
+create_checksums i32 size
 close
 command bytes -> bytes
 undo

@@ -57,6 +57,32 @@ class Opened(FolderCase):
         with geosvm.open(self.make(), "w+") as doc:
             self.assertEqual(len(doc), 0)
 
+    def version(self, path):
+        """The version of the first slot, which counts in a new file."""
+        return self.content(path)[5]
+
+    def test_a_file_is_made_with_checksums(self):
+        for name, checksums in (("with.document", True), ("without.document", False)):
+            geosvm.create(self.path(name), checksums=checksums).close()
+            self.assertEqual(self.version(self.path(name)), 3 if checksums else 2)
+        geosvm.open(self.path("with.document"), "w+").close()
+        self.assertEqual(self.version(self.path("with.document")), 2)
+        geosvm.open(self.path("with.document"), "w+", checksums=True).close()
+        self.assertEqual(self.version(self.path("with.document")), 3)
+
+    def test_a_file_gets_checksums_with_its_next_commit_and_keeps_them(self):
+        path, other = self.path("plain.document"), self.path("other.document")
+        with geosvm.create(path) as doc:
+            doc.save()
+        before = self.content(path)
+        with geosvm.open(path, checksums=True) as doc:
+            self.assertEqual(self.content(path), before)
+            doc.save()  # the third commit is in the first slot
+        self.assertEqual(self.version(path), 3)
+        with geosvm.open(path) as doc:
+            doc.save_as(other)
+        self.assertEqual(self.version(other), 3)
+
     def test_create_empties_no_file(self):
         path = self.make()
         before = self.content(path)

@@ -18,18 +18,18 @@ told_by_saved false false same = refl
 told_by_saved true false same = cc same
 told_by_saved false true same = cc same
 
-pub is_opening : {S : Type 0} (facts : S → StoreFacts) (frames : ℕ) (store : S) (begun : Begun S)
-    → MatchResult begun (λ session. IsOpenedFrom facts store (file_of session)) (λ refused. IsNotOpened facts store refused.store refused.fault)
+pub is_opening : {S : Type 0} (facts : S → StoreFacts) (frames : ℕ) (checksums : Bool) (store : S) (begun : Begun S)
+    → MatchResult begun (λ session. IsOpenedFrom facts store checksums (file_of session)) (λ refused. IsNotOpened facts store refused.store refused.fault)
     → IfOk begun (λ session. ((one : Bool) × (session.log ≡ fresh_log one)) × (session.frames ≡ frames))
     → IfOk begun (λ session. IsTrue (facts store).honest → (updated saved : Document) (sequence : ℕ) (target : Bool)
     → stands (facts store).content ≡ Ok (updated, saved) → sequence_in (facts store).content ≡ Some sequence
     → machine_of target session ≡ opened_machine updated saved (has_one_directory (facts store).content) sequence frames target)
-    → IsOpening facts frames store begun
-is_opening facts frames store (Ok session) opened fresh machine =
+    → IsOpening facts frames checksums store begun
+is_opening facts frames checksums store (Ok session) opened fresh machine =
     let begun : IsFresh (facts store) session.log = record {
       one = fresh.0.0;
       log_is = fresh.0.1;
       one_is = λ honest. told_by_saved fresh.0.0 (has_one_directory (facts store).content) (sym (ap (λ (l : Log). l.saved_at) fresh.0.1)
           ∙ ap (λ (m : Machine). m.saved_at) (machine honest _ _ _ true (opened.documents honest) (opened.sequence honest)));
     } in (opened, (begun, fresh.1))
-is_opening facts frames store (Err refused) opened fresh machine = (opened, tt)
+is_opening facts frames checksums store (Err refused) opened fresh machine = (opened, tt)

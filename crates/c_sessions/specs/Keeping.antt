@@ -23,17 +23,18 @@ pub record IsFresh (facts : StoreFacts) (log : Log) : Type 0 where
   pub log_is : log ≡ fresh_log one
   pub one_is : IsTrue facts.honest → one ≡ has_one_directory facts.content
 
--- a session on what a store has, with so many frames and nothing to undo, or why there is none
-abbrev pub IsOpening : {S : Type 0} → (S → StoreFacts) → ℕ → S → Begun S → Type 0
-IsOpening facts frames store begun =
-    MatchResult begun (λ session. IsOpenedFrom facts store (file_of session))
+-- a session on what a store has, with so many frames and nothing to undo, or why there is none; with checksums, where
+-- they are asked for or are there
+abbrev pub IsOpening : {S : Type 0} → (S → StoreFacts) → ℕ → Bool → S → Begun S → Type 0
+IsOpening facts frames checksums store begun =
+    MatchResult begun (λ session. IsOpenedFrom facts store checksums (file_of session))
     (λ refused. IsNotOpened facts store refused.store refused.fault)
     × IfOk begun (λ session. IsFresh (facts store) session.log × (session.frames ≡ frames))
 
--- likewise one on an empty document that a store was made
-abbrev pub IsCreation : {S : Type 0} → (S → StoreFacts) → ℕ → S → Begun S → Type 0
-IsCreation facts frames store begun =
-    MatchResult begun (λ session. IsMadeIn facts store (file_of session))
+-- likewise one on an empty document that a store was made, with checksums or without
+abbrev pub IsCreation : {S : Type 0} → (S → StoreFacts) → ℕ → Bool → S → Begun S → Type 0
+IsCreation facts frames checksums store begun =
+    MatchResult begun (λ session. IsMadeIn facts store checksums (file_of session))
     (λ refused. IsNotMade facts store refused.store refused.fault)
     × IfOk begun (λ session. (session.log ≡ fresh_log true) × (session.frames ≡ frames))
 

@@ -22,54 +22,77 @@ pub struct Kept<S: Store> {
 type Keeping<F> = Result<Box<Kept<<F as ProgramFiles>::Opened>>, Fault>;
 
 /// Opens the document of the file that has a number. File also where the file can't be opened, in which case nothing is
-/// done to it; where no session is begun its store is closed as it was left.
+/// done to it; where no session is begun its store is closed as it was left. With checksums the next commit gives the
+/// file those, if it has none.
 pub fn open<F: ProgramFiles>(
     alloc: Global,
     files: &mut F,
     number: FileNumber,
     frames: usize,
+    checksums: bool,
 ) -> Keeping<F>
     requires { (1 ≤ frames) × (frames ≤ 64) }
     ensures { MatchResult result
         (λ kept. (kept.value.number ≡ number)
-        × BeginsOn F.calls (IsOpening F.Opened.facts frames) number files.old kept.value.session files.new)
-        (λ fault. IsNotBegun F.calls (IsOpening F.Opened.facts frames) number files.old fault files.new) }
+        × BeginsOn F.calls (IsOpening F.Opened.facts frames checksums) number files.old kept.value.session files.new)
+        (λ fault. IsNotBegun F.calls (IsOpening F.Opened.facts frames checksums) number files.old fault files.new) }
 {
     let store = files.open(number, None)?;
-    keep(alloc, files, number, opened(alloc, store, frames))
+    keep(
+        alloc,
+        files,
+        number,
+        opened(alloc, store, frames, checksums),
+    )
 }
 
-/// Makes the file that has a number an empty document, likewise.
+/// Makes the file that has a number an empty document, likewise; with checksums, where they are asked for.
 pub fn create<F: ProgramFiles>(
     alloc: Global,
     files: &mut F,
     number: FileNumber,
     frames: usize,
+    checksums: bool,
 ) -> Keeping<F>
     requires { (1 ≤ frames) × (frames ≤ 64) }
     ensures { MatchResult result
         (λ kept. (kept.value.number ≡ number)
-        × BeginsOn F.calls (IsCreation F.Opened.facts frames) number files.old kept.value.session files.new)
-        (λ fault. IsNotBegun F.calls (IsCreation F.Opened.facts frames) number files.old fault files.new) }
+        × BeginsOn F.calls (IsCreation F.Opened.facts frames checksums) number files.old kept.value.session files.new)
+        (λ fault. IsNotBegun F.calls (IsCreation F.Opened.facts frames checksums) number files.old fault files.new) }
 {
     let store = files.open(number, None)?;
-    keep(alloc, files, number, created(alloc, store, frames))
+    keep(
+        alloc,
+        files,
+        number,
+        created(alloc, store, frames, checksums),
+    )
 }
 
 // A session on the document that a store has.
-fn opened<S: Store>(alloc: Global, store: S, frames: usize) -> Result<Session<S>, Refused<S>>
+fn opened<S: Store>(
+    alloc: Global,
+    store: S,
+    frames: usize,
+    checksums: bool,
+) -> Result<Session<S>, Refused<S>>
     requires { (1 ≤ frames) × (frames ≤ 64) }
-    ensures { IsOpening S.facts frames store result }
+    ensures { IsOpening S.facts frames checksums store result }
 {
-    Session::open(alloc, store, frames)
+    Session::open(alloc, store, frames, checksums)
 }
 
 // A session on an empty document that a store is made.
-fn created<S: Store>(alloc: Global, store: S, frames: usize) -> Result<Session<S>, Refused<S>>
+fn created<S: Store>(
+    alloc: Global,
+    store: S,
+    frames: usize,
+    checksums: bool,
+) -> Result<Session<S>, Refused<S>>
     requires { (1 ≤ frames) × (frames ≤ 64) }
-    ensures { IsCreation S.facts frames store result }
+    ensures { IsCreation S.facts frames checksums store result }
 {
-    Session::create(alloc, store, frames)
+    Session::create(alloc, store, frames, checksums)
 }
 
 // Keeps a session that was begun, or closes the store on which none was, or is kept.

@@ -31,9 +31,9 @@ impl Subject for Opened {
             return Err((Fault::Range, store));
         }
         let begun = if is_new {
-            Session::create(alloc, store, frames)
+            Session::create(alloc, store, frames, false)
         } else {
-            Session::open(alloc, store, frames)
+            Session::open(alloc, store, frames, false)
         };
         match begun {
             Ok(session) => Ok(Opened(session)),

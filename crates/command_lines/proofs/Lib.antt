@@ -1,3 +1,3 @@
+pub mod FlagWords
 pub mod Matched
-pub mod NewFlag
 pub mod Telling

@@ -189,7 +189,7 @@ reads old m p plain globals k d lt unique named own q parser t is =
 -- ---- the command line's own
 
 abbrev rules : List Rule
-rules = flag (codes "new") ∷ flag (codes "bail") ∷ flag (codes "echo") ∷ cache_option ∷ undo_option ∷ as_option ∷ file_operand ∷ []
+rules = flag (codes "new") ∷ flag (codes "checksums") ∷ flag (codes "bail") ∷ flag (codes "echo") ∷ cache_option ∷ undo_option ∷ as_option ∷ file_operand ∷ []
 
 -- the k-th of them
 abbrev rule_at : ℕ → Rule
@@ -237,7 +237,7 @@ module _ (c : Command) (m : ArgMatches) (same : app_of c ≡ geosvm) (p : IsPars
   are : map rule_of (args_of c) ≡ rules
   are = ap (λ (a : App). a.top.rules) same
 
-  count : length (args_of c) ≡ 7
+  count : length (args_of c) ≡ 8
   count = sym (length-map (args_of c) rule_of) ∙ ap length are
 
   is_at : (k : ℕ) (d : Arg) → k < length (args_of c) → rule_of (slice_index_or (args_of c) k d) ≡ rule_at k
@@ -256,7 +256,7 @@ module _ (c : Command) (m : ArgMatches) (same : app_of c ≡ geosvm) (p : IsPars
   )
 
   -- the k-th argument has this id, which no other has
-  module _ (k : ℕ) (id : List ℕ) (low : k < 7) (own : is_own k id ≡ true) (named : (rule_at k).id ≡ id) where
+  module _ (k : ℕ) (id : List ℕ) (low : k < 8) (own : is_own k id ≡ true) (named : (rule_at k).id ≡ id) where
     lt : k < length (args_of c)
     lt = omega (arith, count, low)
 
@@ -307,7 +307,7 @@ module _ (c : Command) (m : ArgMatches) (same : app_of c ≡ geosvm) (p : IsPars
         let has = required_has_value c m p is_plain no_globals negates k arg lt (ap (λ (r : Rule). r.required) rule ∙ required) (ap (λ (r : Rule). r.action) rule ∙ action) delimiter least unique not_empty not_auto in
         subst (λ (w : List ℕ). is_some (first_value (found_of m) w) ≡ true) key has
 
-  flag_read : (k : ℕ) (id : List ℕ) → k < 7 → is_own k id ≡ true → (rule_at k).id ≡ id → (rule_at k).parser ≡ Some parsers.Bool → IsFlag (found_of m) id
+  flag_read : (k : ℕ) (id : List ℕ) → k < 8 → is_own k id ≡ true → (rule_at k).id ≡ id → (rule_at k).parser ≡ Some parsers.Bool → IsFlag (found_of m) id
   flag_read k id low own named parser t is =
       let got = read_of_own k id low own named parsers.Bool parser t is in
       rw got.1 got.2
@@ -315,9 +315,10 @@ module _ (c : Command) (m : ArgMatches) (same : app_of c ≡ geosvm) (p : IsPars
   pub matched : IsMatched (found_of m)
   matched = record {
     new = flag_read 0 (codes "new") (omega arith) refl refl refl;
-    bail = flag_read 1 (codes "bail") (omega arith) refl refl refl;
-    echo = flag_read 2 (codes "echo") (omega arith) refl refl refl;
-    number = read_of_own 3 (codes "cache") (omega arith) refl refl (parsers.Signed (pos 1) (pos 64)) refl;
-    limit = read_of_own 4 (codes "undo") (omega arith) refl refl (parsers.Signed (pos 1) (pos 4294967295)) refl;
-    file = has_value 6 (codes "file") (omega arith) refl refl refl refl refl refl;
+    checksums = flag_read 1 (codes "checksums") (omega arith) refl refl refl;
+    bail = flag_read 2 (codes "bail") (omega arith) refl refl refl;
+    echo = flag_read 3 (codes "echo") (omega arith) refl refl refl;
+    number = read_of_own 4 (codes "cache") (omega arith) refl refl (parsers.Signed (pos 1) (pos 64)) refl;
+    limit = read_of_own 5 (codes "undo") (omega arith) refl refl (parsers.Signed (pos 1) (pos 4294967295)) refl;
+    file = has_value 7 (codes "file") (omega arith) refl refl refl refl refl refl;
   }

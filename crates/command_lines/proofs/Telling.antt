@@ -94,15 +94,16 @@ limit_told G only f r h none some =
     subst (λ (o : Option Text). IsTold o r) (one_text-rows f (codes "undo")) (limit_at G only _ r h.limit none some)
 
 -- all of them
-pub told_is : (f : Found) (is_new bails echoes : Bool) (cache : ℕ) (undo_limit : Option ℕ) (target : Option Text) (file : Text) → is_new ≡ has_flag (codes "new") (rows_of f)
+pub told_is : (f : Found) (is_new checksums bails echoes : Bool) (cache : ℕ) (undo_limit : Option ℕ) (target : Option Text) (file : Text) → is_new ≡ has_flag (codes "new") (rows_of f)
+    → checksums ≡ has_flag (codes "checksums") (rows_of f)
     → bails ≡ has_flag (codes "bail") (rows_of f) → echoes ≡ has_flag (codes "echo") (rows_of f)
     → cache ≡ number_in (one_of (codes "cache") (rows_of f)) → undo_limit ≡ option_map read_number (one_of (codes "undo") (rows_of f)) → target ≡ first_value f (codes "as") → Some file ≡ first_value f (codes "file")
-    → ◌≡◌ {A = CommandLine} (record { is_new = is_new; bails = bails; echoes = echoes; cache = cache; undo_limit = undo_limit; target = target; file = file }) (said (rows_of f))
-told_is f is_new bails echoes cache undo_limit target file n b e c u t w =
+    → ◌≡◌ {A = CommandLine} (record { is_new = is_new; checksums = checksums; bails = bails; echoes = echoes; cache = cache; undo_limit = undo_limit; target = target; file = file }) (said (rows_of f))
+told_is f is_new checksums bails echoes cache undo_limit target file n s b e c u t w =
     let target_is : target ≡ first_of (codes "as") (rows_of f) = t ∙ first_value-rows f (codes "as") in
     let file_is : file ≡ unwrap_or (first_of (codes "file") (rows_of f)) [] =
     ap (λ (o : Option Text). unwrap_or o []) (w ∙ first_value-rows f (codes "file")) in
-    λ i. record { is_new = n i; bails = b i; echoes = e i; cache = c i; undo_limit = u i; target = target_is i; file = file_is i }
+    λ i. record { is_new = n i; checksums = s i; bails = b i; echoes = e i; cache = c i; undo_limit = u i; target = target_is i; file = file_is i }
 
 -- ---- what an error comes to
 

@@ -17,7 +17,7 @@ use Rattle.command_lines.specs.declared.asked.Options.{Options}
 use Rattle.command_lines.specs.declared.asked.NoOptions.{NoOptions}
 use Rattle.command_lines.specs.declared.asked.NoOptions.TheVariants as no_options
 
--- ---- what the program takes: [--new] [--bail] [--echo] [--cache N] [--undo N] [--as FILE2] FILE
+-- ---- what the program takes: [--new] [--checksums] [--bail] [--echo] [--cache N] [--undo N] [--as FILE2] FILE
 
 abbrev pub flag : Text → Rule
 flag name = record (new_rule name) {
@@ -62,15 +62,16 @@ with_version = on_top (λ s. record s { has_version = true })
 
 abbrev pub geosvm : App
 geosvm =
-    let flags = with_rule (
-    with_rule (with_rule (with_version (new_app (codes "geosvm"))) (flag (codes "new"))) (flag (codes "bail")))
-    (flag (codes "echo")) in
+    let of_file = with_rule (with_rule (with_version (new_app (codes "geosvm"))) (flag (codes "new")))
+    (flag (codes "checksums")) in
+    let flags = with_rule (with_rule of_file (flag (codes "bail"))) (flag (codes "echo")) in
     with_rule (with_rule (with_rule (with_rule flags cache_option) undo_option) as_option) file_operand
 
 -- ---- what a command line says
 
 pub record CommandLine : Type 0 where
   pub is_new : Bool
+  pub checksums : Bool  -- the file's next commit makes it one of version 3
   pub bails : Bool
   pub echoes : Bool
   pub cache : ℕ
@@ -89,6 +90,7 @@ has_flag name rows = option_map_or (λ t. bytes_eq t (codes "true")) (one_of nam
 abbrev pub said : List Row → CommandLine
 said rows = record {
   is_new = has_flag (codes "new") rows;
+  checksums = has_flag (codes "checksums") rows;
   bails = has_flag (codes "bail") rows;
   echoes = has_flag (codes "echo") rows;
   cache = option_map_or read_number (one_of (codes "cache") rows) 8;
@@ -115,6 +117,7 @@ abbrev pub line_of_options : Options → CommandLine
 line_of_options o =
     record {
       is_new = o.new;
+      checksums = o.checksums;
       bails = o.bail;
       echoes = o.echo;
       cache = o.cache;
@@ -132,6 +135,7 @@ IsFlag found name =
 -- is there.
 pub record IsMatched (found : Found) : Type 0 where
   pub new : IsFlag found (codes "new")
+  pub checksums : IsFlag found (codes "checksums")
   pub bail : IsFlag found (codes "bail")
   pub echo : IsFlag found (codes "echo")
   pub number : (t : Text) → one_text found (codes "cache") ≡ Some t

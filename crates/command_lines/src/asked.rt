@@ -6,6 +6,8 @@ use geos_model::Bytes;
 pub struct Options<'a> {
     /// The file is made, or made anew; else it must be there.
     pub new: bool,
+    /// The file has checksums from its next commit on; one that is made has them from the start.
+    pub checksums: bool,
     /// The run ends behind the first refusal.
     pub bail: bool,
     /// Each line is written before its reply.

@@ -1,4 +1,4 @@
-//! The words of `geosvm [--new] [--bail] [--echo] [--cache N] [--undo N] [--as FILE2] FILE`.
+//! The words of `geosvm [--new] [--checksums] [--bail] [--echo] [--cache N] [--undo N] [--as FILE2] FILE`.
 ghost use Rattle.std.specs.Prelude.{◌≡◌, ◌≤◌, codes, drop, true, false, IfOk, IfErr, IfSome, map};
 ghost use Rattle.std.specs.List.{Contains};
 ghost use Rattle.clap.specs.Words.{FailsBy, app_of, fault_of, found_of, kind_of, matches_of, rows_of, rule_of};
@@ -31,6 +31,8 @@ pub fn options<'a, S: AsStr>(alloc: Global, words: &'a [S]) -> Result<Options<'a
     ensures ok { IfOk result
         (λ o. (command_line (map S.text words.entry.now) ≡ Some (line_of_options o)) × IsUsable (line_of_options o)) }
     ensures new { IfOk result (λ o. o.new ≡ true → Contains (drop 1 (map S.text words.entry.now)) (codes "--new")) }
+    ensures checksums { IfOk result
+        (λ o. o.checksums ≡ true → Contains (drop 1 (map S.text words.entry.now)) (codes "--checksums")) }
     ensures err { IfErr result (RefusesWords (map S.text words.entry.now)) }
 {
     let options = match parse(alloc, words) {
@@ -64,6 +66,11 @@ fn command<'a>(alloc: Global) -> Result<Command<'a>, AllocError>
             alloc,
             "new",
             "Make FILE; one that is there is emptied, without a question",
+        ))?
+        .arg(flag(
+            alloc,
+            "checksums",
+            "Give FILE checksums from its next commit on; with --new from the start",
         ))?
         .arg(flag(alloc, "bail", "End at the first refusal, with status 1"))?
         .arg(flag(alloc, "echo", "Write each line before its reply"))?
@@ -138,6 +145,7 @@ fn told<'a>(matches: &ArgMatches<'a>) -> Options<'a>
 {
     Options {
         new: matches.get_flag("new"),
+        checksums: matches.get_flag("checksums"),
         bail: matches.get_flag("bail"),
         echo: matches.get_flag("echo"),
         cache: matches.get_one::<u8>("cache").unwrap_or(FRAMES),

@@ -14,6 +14,8 @@ use Rattle.document_commands.specs.declared.requested.MapFormat.{MapFormat}
 use Rattle.document_commands.specs.declared.requested.MapFormat.TheVariants as pictures
 use Rattle.document_commands.specs.declared.requested.Request.{Request}
 use Rattle.document_commands.specs.declared.requested.Request.TheVariants as requests
+use Rattle.document_commands.specs.declared.requested.SalvageScope.{SalvageScope}
+use Rattle.document_commands.specs.declared.requested.SalvageScope.TheVariants as takings
 
 -- ---- what the program takes
 
@@ -44,9 +46,9 @@ abbrev pub diff_command : App
 diff_command =
     with_rule (with_rule (with_rule (new_app (codes "diff")) (flag (codes "saved"))) file_operand) second_operand
 
--- salvage FILE
+-- salvage [--all] FILE
 abbrev pub salvage_command : App
-salvage_command = with_rule (new_app (codes "salvage")) file_operand
+salvage_command = with_rule (with_rule (new_app (codes "salvage")) (flag (codes "all"))) file_operand
 
 -- restore FILE
 abbrev pub restore_command : App
@@ -76,6 +78,9 @@ form_by rows = if has_flag (codes "json") rows then forms.Json else forms.Column
 abbrev pub map_format_by : List Row → MapFormat
 map_format_by rows = if has_flag (codes "svg") rows then pictures.Svg else pictures.Text
 
+abbrev pub salvage_scope_by : List Row → SalvageScope
+salvage_scope_by rows = if has_flag (codes "all") rows then takings.All else takings.Whole
+
 abbrev pub diff_scope_by : List Row → DiffScope
 diff_scope_by rows = if has_flag (codes "saved") rows then scopes.Saved else scopes.Updated
 
@@ -88,8 +93,8 @@ IsAsked name rows (requests.Look (asked.Stat form) file) =
     (name ≡ codes "stat") × (form ≡ form_by rows) × (first_of (codes "file") rows ≡ Some file.now)
 IsAsked name rows (requests.Look (asked.Map picture) file) =
     (name ≡ codes "map") × (picture ≡ map_format_by rows) × (first_of (codes "file") rows ≡ Some file.now)
-IsAsked name rows (requests.Look asked.Salvage file) =
-    (name ≡ codes "salvage") × (first_of (codes "file") rows ≡ Some file.now)
+IsAsked name rows (requests.Look (asked.Salvage taken) file) =
+    (name ≡ codes "salvage") × (taken ≡ salvage_scope_by rows) × (first_of (codes "file") rows ≡ Some file.now)
 IsAsked name rows (requests.Diff scope file second) =
     (name ≡ codes "diff") × (scope ≡ diff_scope_by rows) × (first_of (codes "file") rows ≡ Some file.now)
     × (first_of (codes "file2") rows ≡ Some second.now)

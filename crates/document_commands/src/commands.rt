@@ -3,10 +3,12 @@ ghost use Rattle.std.specs.Prelude.{◌≡◌, IfErr, IfOk, IfSome, map, true};
 ghost use Rattle.clap.specs.Words.{app_of, found_of, kind_of, rows_of, subcommand_of, subcommand_rows_of, takes};
 ghost use Rattle.clap.specs.declared.error.kind.ErrorKind.TheVariants.{OutOfMemory};
 ghost use Rattle.document_commands.specs.Arguments.{has_flag};
-ghost use Rattle.document_commands.specs.Requests.{IsAskedBy, check_command, diff_command, diff_scope_by, dump_command, dump_scope_by, form_by, geosdoc, map_command, map_format_by, restore_command, salvage_command, stat_command};
+ghost use Rattle.document_commands.specs.Requests.{IsAskedBy, check_command, diff_command, diff_scope_by, dump_command, dump_scope_by, form_by, geosdoc, map_command, map_format_by, restore_command, salvage_command, salvage_scope_by, stat_command};
 
 use crate::arguments::{file_operand, flag, second_operand};
-use crate::requested::{Asked, DiffScope, DumpScope, Form, MapFormat, NoRequest, Request};
+use crate::requested::{
+    Asked, DiffScope, DumpScope, Form, MapFormat, NoRequest, Request, SalvageScope,
+};
 use clap::error::ErrorKind;
 use clap::{ArgMatches, Command, Error};
 use geos_model::Bytes;
@@ -108,6 +110,7 @@ fn salvage_command<'a>(alloc: Global) -> Result<Command<'a>, AllocError>
 {
     Command::new(alloc, "salvage")
         .about("Writes a script of all that can be read of a file that doesn't open")
+        .arg(flag(alloc, "all", "Blocks whose sum is wrong too"))?
         .arg(file_operand(alloc))
 }
 
@@ -134,7 +137,7 @@ fn request_of<'a>(matches: &ArgMatches<'a>) -> Option<Request<'a>>
             let second = matches.get_str("file2")?;
             Some(Request::Diff(compared(matches), file, second))
         }
-        "salvage" => Some(Request::Look(Asked::Salvage, file)),
+        "salvage" => Some(Request::Look(Asked::Salvage(taken(matches)), file)),
         "restore" => Some(Request::Restore(file)),
         _ => None,
     }
@@ -169,6 +172,16 @@ fn picture(matches: &ArgMatches<'_>) -> MapFormat
         MapFormat::Svg
     } else {
         MapFormat::Text
+    }
+}
+
+fn taken(matches: &ArgMatches<'_>) -> SalvageScope
+    ensures { result ≡ salvage_scope_by (rows_of (found_of matches.now)) }
+{
+    if is_set(matches, "all") {
+        SalvageScope::All
+    } else {
+        SalvageScope::Whole
     }
 }
 

@@ -6,4 +6,6 @@ mod commands;
 mod requested;
 
 pub use commands::request;
-pub use requested::{Asked, DiffScope, DumpScope, Form, MapFormat, NoRequest, Request};
+pub use requested::{
+    Asked, DiffScope, DumpScope, Form, MapFormat, NoRequest, Request, SalvageScope,
+};

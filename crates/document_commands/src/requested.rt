@@ -10,8 +10,8 @@ pub enum Asked {
     Stat(Form),
     /// A picture of what lies in the file.
     Map(MapFormat),
-    /// A script that makes all anew that can be read of the file.
-    Salvage,
+    /// A script that makes anew what can be read of the file.
+    Salvage(SalvageScope),
 }
 
 /// How numbers are told.
@@ -39,6 +39,15 @@ pub enum DumpScope {
     Saved,
     /// Both of the commit before the last one.
     Other,
+}
+
+/// Which blocks a salvage takes.
+#[derive(Clone, Copy)]
+pub enum SalvageScope {
+    /// Those that are whole.
+    Whole,
+    /// Beside these those whose image can be read, and hasn't its sum.
+    All,
 }
 
 /// Which documents of two files are compared.

@@ -2,7 +2,7 @@
 ghost use Rattle.std.specs.Prelude.{◌≡◌, IfOk, IfSome, IsTrue, is_some, true};
 ghost use Rattle.geos_model.specs.Document.{attributes_of, block_at, is_live};
 ghost use Rattle.geos_model.specs.Image.{image};
-ghost use Rattle.document_file.specs.Effects.{Fails, NoFault};
+ghost use Rattle.document_file.specs.Effects.{Fails, IsDamage};
 ghost use Rattle.document_file.specs.StoredDocuments.{OnlyReadsDocuments};
 ghost use Rattle.document_diff.specs.Diffs.{document_of};
 
@@ -49,7 +49,7 @@ impl Version {
         }
     }
 
-    /// The image of a block. Memory, File.
+    /// The image of a block. Damaged where its sum is another, which over an honest store never comes; Memory, File.
     pub fn read<S: Store>(
         self,
         file: &mut StoredDocuments<S>,
@@ -59,7 +59,8 @@ impl Version {
         ensures reads { OnlyReadsDocuments S.facts file.old file.new }
         ensures image { IfOk result (λ bytes. IsTrue (S.facts file.old.store).honest
             → bytes.items ≡ image (block_at (document_of self file.old) block.0).body) }
-        ensures fails { Fails S.facts NoFault file.old.store file.new.store result }
+        ensures fails { Fails S.facts (IsDamage (S.facts file.old.store).honest)
+            file.old.store file.new.store result }
     {
         match self {
             Version::Updated => file.read_block(block),

@@ -152,7 +152,8 @@ fn later_change<S: Store>(
     }
 }
 
-/// What is done of the block under a handle. Memory, File.
+/// What is done of the block under a handle. Damaged where what is read has another sum, which an honest store never
+/// gives; Memory, File.
 pub fn change_of<S: Store>(
     file: &mut StoredDocuments<S>,
     stage: Stage,

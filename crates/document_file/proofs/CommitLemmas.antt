@@ -12,9 +12,9 @@ use Rattle.document_file.specs.Ranges.{IsPlaced, KeepsAll, end_of}
 use Rattle.document_file.specs.Slots.{switched, FailedEarly, Failed, Outcome, CrashLeavesSlots, Outlives, AreExtentsPlaced, block_extents, stored_extents, pair_extents, prepared_extents, marked_extents}
 use Rattle.document_file.specs.Documents.{Documents, document_in, documents_in, attempted_in, AreImaged, AreStored, IsPreparedStored}
 use Rattle.document_file.specs.Disk.{recoverable, StandsForOne, Crash, MarkSameUnlessCorrupt, IsInDoubt, LeavesNoTrace, MayCommit}
-use Rattle.document_file.specs.Sound.{AreTables, IsFormed, IsWhole, IsSound, disk_of}
-use Rattle.document_file.specs.Sums.{AreSummed, has_sums, next_version}
-use Rattle.document_file.proofs.SumsLemmas.{next_version-is, next_version-sums}
+use Rattle.document_file.specs.Sound.{AreTables, IsFormed, IsTurning, IsWhole, IsSound, disk_of}
+use Rattle.document_file.specs.Sums.{AreSummed, has_sums}
+use Rattle.document_file.proofs.SumsLemmas.{next_is, next_stays}
 use Rattle.document_file.specs.declared.table.BlockTable.{BlockTable}
 use Rattle.document_file.specs.declared.table.Pair.{Pair}
 use Rattle.document_file.specs.declared.slot.SpareSlot.{SpareSlot}
@@ -27,20 +27,23 @@ use Rattle.document_file.proofs.SoundLemmas.{kept_marked, marked_imaged, marked_
 use Rattle.document_file.proofs.SlotsLemmas.{outcome_keeps, shut_kept, with_pair_kept, failed_kept, turned_kept, leaves_rebased}
 use Rattle.document_file.proofs.StandsLemmas.{outcome_stands, sound_readable, sound_settled, AreReadable, IsPreparedReadable, prepared_readable, sound_numbered}
 use Rattle.document_file.proofs.TableLemmas.{blocks_same, images_same, sums_same}
+use Rattle.document_file.proofs.TurningLemmas.{turning_same}
 
 -- What a file has, whatever a crash may leave of it.
 pub record HasAll (file : List ℕ) (live : BlockTable) (slots : Slots) : Type 0 where
   pub images : AreImaged file live.places.items
-  pub sums : AreSummed (has_sums slots.version) file live.places.items
+  pub sums : AreSummed (has_sums slots.next_version) file live.places.items
   pub within : All (λ e. end_of e ≤ length file) (block_extents live.places.items)
   pub committed : AreStored slots.version file slots.committed
-  pub prepared : IsPreparedStored slots.version file slots.spare
+  pub prepared : IsPreparedStored slots.next_version file slots.spare
   pub marked : IfSome slots.marked (λ t. AreImaged file t.places.items)
-  pub marked_sums : IfSome slots.marked (λ t. AreSummed (has_sums slots.version) file t.places.items)
+  pub marked_sums : IfSome slots.marked (λ t. AreSummed (has_sums slots.next_version) file t.places.items)
   pub marked_within : All (λ e. end_of e ≤ length file) (marked_extents slots.marked)
+  pub turning : IsTurning slots slots.saved_sums
+  pub saved_sums : IfSome slots.saved_sums (λ t. AreSummed (has_sums slots.next_version) file t.places.items)
 
-pub whole_has : (store : StoreFacts) (live : BlockTable) (slots : Slots) → IsWhole store live slots → HasAll store.content live slots
-whole_has store live slots whole = record { images = whole.images; sums = whole.sums; within = whole.within; committed = whole.committed; prepared = whole.prepared; marked = whole.marked; marked_sums = whole.marked_sums; marked_within = whole.marked_within }
+pub whole_has : (store : StoreFacts) (live : BlockTable) (slots : Slots) → IsFormed live slots → IsWhole store live slots → HasAll store.content live slots
+whole_has store live slots formed whole = record { images = whole.images; sums = whole.sums; within = whole.within; committed = whole.committed; prepared = whole.prepared; marked = whole.marked; marked_sums = whole.marked_sums; marked_within = whole.marked_within; turning = formed.turning; saved_sums = whole.saved_sums }
 
 -- The file is whole again, and so are its documents, after calls that keep the bytes.
 module _ (file : List ℕ) (b : StoreFacts) (live : BlockTable) (slots : Slots) (now : b.may_leave b.content) (has : HasAll file live slots) (keeps : KeepsAll (block_extents live.places.items) file b.content)
@@ -52,9 +55,9 @@ module _ (file : List ℕ) (b : StoreFacts) (live : BlockTable) (slots : Slots) 
   unfolding kept
   committed_now = pair_again slots.version file b.content slots.committed has.committed kept.0
 
-  attempted_now : IsPreparedStored slots.version b.content slots.spare × (attempted_in b.content slots.spare ≡ attempted_in file slots.spare)
+  attempted_now : IsPreparedStored slots.next_version b.content slots.spare × (attempted_in b.content slots.spare ≡ attempted_in file slots.spare)
   unfolding kept
-  attempted_now = prepared_again slots.version file b.content slots.spare has.prepared kept.1
+  attempted_now = prepared_again slots.next_version file b.content slots.spare has.prepared kept.1
 
   pub live_again : document_in b.content live ≡ document_in file live
   live_again = ap (λ (bs : List (Option Block)). record { blocks = table_map 1 1 bs; map_block = live.map_block }) (blocks_same file b.content live.places.items has.within keeps)
@@ -62,22 +65,24 @@ module _ (file : List ℕ) (b : StoreFacts) (live : BlockTable) (slots : Slots) 
   pub whole_again : IsWhole b live slots
   whole_again = record {
     images = images_same file b.content live.places.items has.within keeps has.images;
-    sums = sums_same (has_sums slots.version) file b.content live.places.items has.within keeps has.sums;
+    sums = sums_same (has_sums slots.next_version) file b.content live.places.items has.within keeps has.sums;
     within = keeps_within (block_extents live.places.items) file b.content keeps;
     committed = committed_now.0;
     prepared = attempted_now.0;
     marked = marked_imaged file b.content slots.marked has.marked_within keeps_marked has.marked;
-    marked_sums = marked_summed (has_sums slots.version) file b.content slots.marked has.marked_within keeps_marked has.marked_sums;
+    marked_sums = marked_summed (has_sums slots.next_version) file b.content slots.marked has.marked_within keeps_marked has.marked_sums;
     marked_within = keeps_within (marked_extents slots.marked) file b.content keeps_marked;
+    saved_sums = turning_same (has_sums slots.next_version) file b.content slots has.turning has.committed kept.0 has.saved_sums;
     leaves = leaves_rebased slots file b now leaves;
   }
 
 -- A commit of a pair that lies in the file.
-module _ (file : List ℕ) (slots : Slots) (pair : Pair) (was_readable : AreReadable slots file) (range : slots.sequence + 1 < 2 ^ 64) (tables : AreTables pair) (placed : All IsPlaced (pair_extents pair)) (stored : AreStored (next_version slots.version) file pair) where
+module _ (file : List ℕ) (slots : Slots) (pair : Pair) (was_readable : AreReadable slots file) (range : slots.sequence + 1 < 2 ^ 64) (tables : AreTables pair) (placed : All IsPlaced (pair_extents pair)) (stored : AreStored slots.next_version file pair) where
   -- with another slot that doesn't count
-  readable_with : (spare : SpareSlot) → AreExtentsPlaced (record slots { spare = spare }) → IsPreparedReadable slots.version file slots.sequence spare → AreReadable (record slots { spare = spare }) file
+  readable_with : (spare : SpareSlot) → AreExtentsPlaced (record slots { spare = spare }) → IsPreparedReadable slots.next_version file slots.sequence spare → AreReadable (record slots { spare = spare }) file
   readable_with spare kept prepared = record {
     versioned = was_readable.versioned;
+    next_versioned = was_readable.next_versioned;
     some = was_readable.some;
     in_range = was_readable.in_range;
     placed = kept;
@@ -135,13 +140,13 @@ module _ (file : List ℕ) (slots : Slots) (pair : Pair) (was_readable : AreRead
 
 -- The slots after a commit.
 
-failed_has : (file : List ℕ) (live : BlockTable) (slots now : Slots) (pair : Pair) → Failed slots pair now → HasAll file live slots → AreStored (next_version slots.version) file pair → HasAll file live now
+failed_has : (file : List ℕ) (live : BlockTable) (slots now : Slots) (pair : Pair) → Failed slots pair now → HasAll file live slots → AreStored slots.next_version file pair → HasAll file live now
 failed_has file live slots now pair failed has stored =
     let P : Slots → Type 0 = λ s. HasAll file live s in
     elim failed as (λ _. P now) [
       | inl (inl same) ↦ subst P (sym same) has
-      | inl (inr shut) ↦ subst P (sym shut) (record { images = has.images; sums = has.sums; within = has.within; committed = has.committed; prepared = tt; marked = has.marked; marked_sums = has.marked_sums; marked_within = has.marked_within })
-      | inr is_prepared ↦ subst P (sym is_prepared) (record { images = has.images; sums = has.sums; within = has.within; committed = has.committed; prepared = stored; marked = has.marked; marked_sums = has.marked_sums; marked_within = has.marked_within })
+      | inl (inr shut) ↦ subst P (sym shut) (record { images = has.images; sums = has.sums; within = has.within; committed = has.committed; prepared = tt; marked = has.marked; marked_sums = has.marked_sums; marked_within = has.marked_within; turning = has.turning; saved_sums = has.saved_sums })
+      | inr is_prepared ↦ subst P (sym is_prepared) (record { images = has.images; sums = has.sums; within = has.within; committed = has.committed; prepared = stored; marked = has.marked; marked_sums = has.marked_sums; marked_within = has.marked_within; turning = has.turning; saved_sums = has.saved_sums })
     ]
 
 failed_formed : (live : BlockTable) (slots now : Slots) (pair : Pair) → Failed slots pair now → IsFormed live slots → AreTables pair → All IsPlaced (pair_extents pair) → slots.sequence + 1 < 2 ^ 64 → IsFormed live now
@@ -150,8 +155,8 @@ failed_formed live slots now pair failed formed tables placed range =
     let kept = failed_kept slots now pair failed formed.kept placed in
     elim failed as (λ _. P now) [
       | inl (inl same) ↦ subst P (sym same) formed
-      | inl (inr shut) ↦ subst P (sym shut) (record { table = formed.table; placed = formed.placed; committed = formed.committed; prepared = tt; marked = formed.marked; kept = subst AreExtentsPlaced shut kept; version = formed.version; numbered = formed.numbered; in_range = formed.in_range })
-      | inr is_prepared ↦ subst P (sym is_prepared) (record { table = formed.table; placed = formed.placed; committed = formed.committed; prepared = (tables, range); marked = formed.marked; kept = subst AreExtentsPlaced is_prepared kept; version = formed.version; numbered = formed.numbered; in_range = formed.in_range })
+      | inl (inr shut) ↦ subst P (sym shut) (record { table = formed.table; placed = formed.placed; committed = formed.committed; prepared = tt; marked = formed.marked; kept = subst AreExtentsPlaced shut kept; version = formed.version; next_version = formed.next_version; turning = formed.turning; numbered = formed.numbered; in_range = formed.in_range })
+      | inr is_prepared ↦ subst P (sym is_prepared) (record { table = formed.table; placed = formed.placed; committed = formed.committed; prepared = (tables, range); marked = formed.marked; kept = subst AreExtentsPlaced is_prepared kept; version = formed.version; next_version = formed.next_version; turning = formed.turning; numbered = formed.numbered; in_range = formed.in_range })
     ]
 
 turned_formed : (live : BlockTable) (slots : Slots) (pair : Pair) → IsFormed live slots → AreTables pair → All IsPlaced (pair_extents pair) → slots.sequence + 1 < 2 ^ 64 → IsFormed live (switched slots pair)
@@ -162,7 +167,9 @@ turned_formed live slots pair formed tables placed range = record {
   prepared = tt;
   marked = formed.marked;
   kept = turned_kept slots pair formed.kept placed;
-  version = next_version-is slots.version;
+  version = next_is slots.version slots.next_version formed.next_version;
+  next_version = next_stays slots.version slots.next_version formed.next_version;
+  turning = refl;
   numbered = omega arith;
   in_range = range;
 }
@@ -174,7 +181,7 @@ pub record IsCommit {S : Type 0} (facts : S → StoreFacts) (a b : S) (live : Bl
   pub tables : AreTables pair
   pub placed : All IsPlaced (pair_extents pair)
   pub whole : IsTrue (facts a).honest → IsWhole (facts a) live slots
-  pub stored : IsTrue (facts a).honest → AreStored (next_version slots.version) (facts a).content pair
+  pub stored : IsTrue (facts a).honest → AreStored slots.next_version (facts a).content pair
   pub honest : (facts b).honest ≡ (facts a).honest
   pub failures : (facts a).failures ≤ (facts b).failures
   pub now_there : IsTrue (facts b).honest → (facts b).may_leave (facts b).content
@@ -194,8 +201,8 @@ counts_rise (Err x) a b more = omega (arith, more)
 module _ {S : Type 0} (facts : S → StoreFacts) (a b : S) (live : BlockTable) (slots now : Slots) (pair : Pair) (call : IsCommit facts a b live slots now pair) where
   pair_there : IsTrue (facts a).honest → KeepsAll (pair_extents pair) (facts a).content (facts a).content
   pair_there so =
-      let updated = stored_within (next_version slots.version) (facts a).content pair.updated (call.stored so).updated in
-      let saved = stored_within (next_version slots.version) (facts a).content pair.saved (call.stored so).saved in
+      let updated = stored_within slots.next_version (facts a).content pair.updated (call.stored so).updated in
+      let saved = stored_within slots.next_version (facts a).content pair.saved (call.stored so).saved in
       keeps_itself (pair_extents pair) (facts a).content (All-append (λ e. end_of e ≤ length (facts a).content) (stored_extents pair.updated) (stored_extents pair.saved)
       (All-cons (λ e. end_of e ≤ length (facts a).content) pair.updated.directory (block_extents pair.updated.table.value.places.items) updated.0 updated.1)
       (All-cons (λ e. end_of e ≤ length (facts a).content) pair.saved.directory (block_extents pair.saved.table.value.places.items) saved.0 saved.1))
@@ -255,7 +262,7 @@ module _ {S : Type 0} (facts : S → StoreFacts) (a b : S) (live : BlockTable) (
     now_formed = failed_formed live slots now pair failed call.formed call.tables call.placed call.range
 
     has_all : IsTrue (facts a).honest → HasAll (facts a).content live now
-    has_all so = failed_has (facts a).content live slots now pair failed (whole_has (facts a) live slots (call.whole so)) (call.stored so)
+    has_all so = failed_has (facts a).content live slots now pair failed (whole_has (facts a) live slots call.formed (call.whole so)) (call.stored so)
 
     pub err_sound : IsSound (facts b) live now
     unfolding now_formed has_all
@@ -275,13 +282,16 @@ module _ {S : Type 0} (facts : S → StoreFacts) (a b : S) (live : BlockTable) (
     same_number : now.sequence ≡ slots.sequence
     same_number = as_left (λ s. s.sequence ≡ slots.sequence) refl refl refl
 
+    same_sums : has_sums now.next_version ≡ has_sums slots.next_version
+    same_sums = as_left (λ s. has_sums s.next_version ≡ has_sums slots.next_version) refl refl refl
+
     same_mark : now.marked ≡ slots.marked
     same_mark = as_left (λ s. s.marked ≡ slots.marked) refl refl refl
 
     readable_now : IsTrue (facts a).honest → AreReadable now (facts a).content
     readable_now so =
         let has = has_all so in
-        record { versioned = now_formed.version; some = now_formed.numbered; in_range = now_formed.in_range; placed = now_formed.kept; tables = now_formed.committed; committed = has.committed; prepared = prepared_readable now.version (facts a).content now.sequence now.spare now_formed.prepared has.prepared }
+        record { versioned = now_formed.version; next_versioned = next_is now.version now.next_version now_formed.next_version; some = now_formed.numbered; in_range = now_formed.in_range; placed = now_formed.kept; tables = now_formed.committed; committed = has.committed; prepared = prepared_readable now.next_version (facts a).content now.sequence now.spare now_formed.prepared has.prepared }
 
     -- the pair is prepared, and one gate away
     prepared_tried : IsTrue (facts a).honest → now ≡ record slots { spare = Prepared pair } → IsInDoubt facts (documents_in (facts a).content pair) (disk_of facts b now)
@@ -314,7 +324,7 @@ module _ {S : Type 0} (facts : S → StoreFacts) (a b : S) (live : BlockTable) (
         ]
 
     pub err_commits : FailsEarly slots pair now (facts a) (facts b) → (fault : Fault) → MayCommit facts (documents_in (facts a).content pair) (disk_of facts a slots) (disk_of facts b now) (Err fault)
-    unfolding now_formed has_all same_pair added same_number same_mark
+    unfolding now_formed has_all same_pair added same_number same_sums same_mark
     err_commits early fault = record {
       honest = call.honest;
       failures = call.failures;
@@ -329,6 +339,7 @@ module _ {S : Type 0} (facts : S → StoreFacts) (a b : S) (live : BlockTable) (
       adds = added early;
       sequence = same_number;
       marked = commit_marked now_formed has_all same_mark;
+      checksums = same_sums;
     }
 
   -- one that was
@@ -337,7 +348,7 @@ module _ {S : Type 0} (facts : S → StoreFacts) (a b : S) (live : BlockTable) (
     turned_is = subst (λ s. IsFormed live s) (sym is) (turned_formed live slots pair call.formed call.tables call.placed call.range)
 
     turned_has : IsTrue (facts a).honest → HasAll (facts a).content live now
-    turned_has so = subst (λ s. HasAll (facts a).content live s) (sym is) (record { images = (call.whole so).images; sums = subst (λ b. AreSummed b (facts a).content live.places.items) (sym (next_version-sums slots.version)) (call.whole so).sums; within = (call.whole so).within; committed = call.stored so; prepared = tt; marked = (call.whole so).marked; marked_sums = subst (λ b. IfSome slots.marked (λ t. AreSummed b (facts a).content t.places.items)) (sym (next_version-sums slots.version)) (call.whole so).marked_sums; marked_within = (call.whole so).marked_within })
+    turned_has so = subst (λ s. HasAll (facts a).content live s) (sym is) (record { images = (call.whole so).images; sums = (call.whole so).sums; within = (call.whole so).within; committed = call.stored so; prepared = tt; marked = (call.whole so).marked; marked_sums = (call.whole so).marked_sums; marked_within = (call.whole so).marked_within; turning = refl; saved_sums = tt })
 
     pub ok_sound : IsSound (facts b) live now
     unfolding turned_is turned_has
@@ -361,4 +372,5 @@ module _ {S : Type 0} (facts : S → StoreFacts) (a b : S) (live : BlockTable) (
       adds = tt;
       sequence = ap (λ (s : Slots). s.sequence) is;
       marked = commit_marked turned_is turned_has (ap (λ (s : Slots). s.marked) is);
+      checksums = ap (λ (s : Slots). has_sums s.next_version) is;
     }

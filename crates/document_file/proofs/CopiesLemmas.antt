@@ -62,19 +62,19 @@ module _ (file : List ℕ) (pair : Pair) (updated saved : DocumentRef) (first : 
   pair_stored version u s = record { updated = same_stored version file pair.updated updated first u; saved = same_stored version file pair.saved saved second s }
 
 -- the saved document, as the live one
-pub sound_saved : (store : StoreFacts) (live copy : BlockTable) (slots : Slots) → IsCopy copy slots.committed.saved.table.value → IsSound store live slots → IsSound store copy slots
-sound_saved store live copy slots is sound =
+pub sound_saved : (store : StoreFacts) (live copy : BlockTable) (slots : Slots) → has_sums slots.version ≡ has_sums slots.next_version → IsCopy copy slots.committed.saved.table.value → IsSound store live slots → IsSound store copy slots
+sound_saved store live copy slots summed is sound =
     let saved = slots.committed.saved in
     let placed = all_right IsPlaced (stored_extents slots.committed.updated) (stored_extents saved) (kept_pair IsPlaced slots sound.formed.kept) in
     sound_live store live copy slots sound (copy_formed copy saved.table.value is sound.formed.committed.saved) (subst (λ ps. All IsPlaced (block_extents ps)) (sym is.places) (λ k d inside. placed (suc k) d (omega arith)))
-    (λ so. (subst (AreImaged store.content) (sym is.places) (sound.whole so).committed.saved.images, subst (AreSummed (has_sums slots.version) store.content) (sym is.places) (sound.whole so).committed.saved.sums))
+    (λ so. (subst (AreImaged store.content) (sym is.places) (sound.whole so).committed.saved.images, subst (λ b. AreSummed b store.content copy.places.items) summed (subst (AreSummed (has_sums slots.version) store.content) (sym is.places) (sound.whole so).committed.saved.sums)))
     (λ so. subst (λ ps. All (EndsIn store.content) (block_extents ps)) (sym is.places) (stored_within slots.version store.content saved (sound.whole so).committed.saved).1)
 
 -- and the live one marked
 pub sound_copied : (store : StoreFacts) (live copy : BlockTable) (slots : Slots) → IsCopy copy live → IsSound store live slots → IsSound store live (record slots { marked = Some copy })
 sound_copied store live copy slots is sound =
     sound_marked store live slots (Some copy) sound (copy_formed copy live is sound.formed.table) (subst (λ ps. All IsPlaced (block_extents ps)) (sym is.places) sound.formed.placed)
-    (λ so. (subst (AreImaged store.content) (sym is.places) (sound.whole so).images, subst (AreSummed (has_sums slots.version) store.content) (sym is.places) (sound.whole so).sums)) (λ so. subst (λ ps. All (EndsIn store.content) (block_extents ps)) (sym is.places) (sound.whole so).within)
+    (λ so. (subst (AreImaged store.content) (sym is.places) (sound.whole so).images, subst (AreSummed (has_sums slots.next_version) store.content) (sym is.places) (sound.whole so).sums)) (λ so. subst (λ ps. All (EndsIn store.content) (block_extents ps)) (sym is.places) (sound.whole so).within)
 
 pub copy_itself : (table : BlockTable) → IsCopy table table
 copy_itself table = record { map_block = refl; places = refl }
@@ -88,9 +88,10 @@ copy_drifts honest file c copy table is same =
 
 -- The saved document beside one that is to be committed: that one, or the one that was saved.
 
-pub beside_alike : (saves : Bool) (saved pending committed : DocumentRef) → IsSameStored saved (if saves then pending else committed) → IsSameStored saved committed ⊎ IsSameStored saved pending
-beside_alike true saved pending committed is = inr is
-beside_alike false saved pending committed is = inl is
+pub beside_alike : (saves : Bool) (Is : Type 0) (saved pending committed : DocumentRef) → (saves ≡ true) ⊎ Is → IsSameStored saved (if saves then pending else committed)
+    → (Is × IsSameStored saved committed) ⊎ IsSameStored saved pending
+beside_alike true Is saved pending committed still is = inr is
+beside_alike false Is saved pending committed still is = elim still as (λ _. (Is × IsSameStored saved committed) ⊎ IsSameStored saved pending) [ inl saves ↦ absurd (cc saves) | inr same ↦ inl (same, is) ]
 
 pub beside_document : (file : List ℕ) (saves : Bool) (saved pending committed : DocumentRef) (live : BlockTable) → IsSameStored saved (if saves then pending else committed) → IsCopy pending.table.value live
     → document_in file saved.table.value ≡ (if saves then document_in file live else document_in file committed.table.value)

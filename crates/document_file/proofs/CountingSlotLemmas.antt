@@ -230,5 +230,5 @@ active_slot_is file found spare is e =
       bytes = is.bytes;
       counts = is.counts;
       opened = is.opened;
-      beside = subst (λ o. IsBeside found.slot.version o page found.slot.sequence file file) (sym e) (beside_one found.slot.version file page found.slot.sequence found.other is.other is.beaten);
+      beside = λ next. subst (λ o. IsBeside next o page found.slot.sequence file file) (sym e) (beside_one next file page found.slot.sequence found.other is.other is.beaten);
     }

@@ -1,7 +1,7 @@
 -- Documents in another file that has their bytes.
-use Rattle.std.proofs.Common.{◌≡◌, ℕ, zero, suc, ◌+◌, ◌≤◌, true, List, [], ◌∷◌, length, Option, None, Some, All, refl, sym, ap, subst, ◌∙◌, arith, inl, inr, eqb-true, ◌≢◌, ◌==◌}
+use Rattle.std.proofs.Common.{◌≡◌, ℕ, zero, suc, ◌+◌, ◌≤◌, true, List, [], ◌∷◌, length, Option, None, Some, All, refl, sym, ap, subst, ◌∙◌, arith, inl, inr, eqb-true, ◌≢◌}
 use Rattle.std.specs.List.{list_all}
-use Rattle.std.proofs.lemmas.Bool.{and_parts, cases_Bool, cond-true, cond-false, eqb-false}
+use Rattle.std.proofs.lemmas.Bool.{and_parts}
 use Rattle.geos_model.specs.Document.{Block}
 use Rattle.file_format.specs.File.{Directory, is_entry, bytes_in}
 use Rattle.file_format.specs.declared.file.Entry.{Entry}
@@ -11,7 +11,8 @@ use Rattle.geos_model.proofs.Table.{table_map}
 use Rattle.document_file.specs.Ranges.{KeepsExtent, KeepsAll, end_of}
 use Rattle.document_file.specs.Slots.{block_extents, stored_extents, pair_extents, prepared_extents}
 use Rattle.document_file.specs.Documents.{Documents, document_in, documents_in, attempted_in, entries_of, directory_of_table, IsStored, AreStored, IsPreparedStored}
-use Rattle.document_file.specs.Sums.{AreSummed, has_sums, next_version, sum_for}
+use Rattle.document_file.specs.Sound.{IsNextVersion}
+use Rattle.document_file.specs.Sums.{AreSummed, has_sums, sum_for}
 use Rattle.document_file.specs.declared.table.Place.{Place}
 use Rattle.document_file.specs.declared.table.DocumentRef.{DocumentRef}
 use Rattle.document_file.specs.declared.table.Pair.{Pair}
@@ -42,7 +43,7 @@ stored_within version file s stored =
 
 -- They are the same in one that has their bytes.
 
-stored_again : (version : ℕ) (file c : List ℕ) (s : DocumentRef) → IsStored version file s → KeepsAll (stored_extents s) file c → IsStored version c s × (document_in c s.table.value ≡ document_in file s.table.value)
+pub stored_again : (version : ℕ) (file c : List ℕ) (s : DocumentRef) → IsStored version file s → KeepsAll (stored_extents s) file c → IsStored version c s × (document_in c s.table.value ≡ document_in file s.table.value)
 stored_again version file c s stored keeps =
     let within = (stored_within version file s stored).1 in
     let blocks : KeepsAll (block_extents s.table.value.places.items) file c = λ k x inside. keeps (suc k) x (omega arith) in (
@@ -65,23 +66,22 @@ pair_again version file c pair stored keeps =
 pub prepared_again : (version : ℕ) (file c : List ℕ) (spare : SpareSlot) → IsPreparedStored version file spare → KeepsAll (prepared_extents spare) file c → IsPreparedStored version c spare × (attempted_in c spare ≡ attempted_in file spare)
 prepared_again version file c Shut stored keeps = (tt, refl)
 prepared_again version file c Stale stored keeps = (tt, refl)
-prepared_again version file c (Prepared pair) stored keeps = let again = pair_again (next_version version) file c pair stored keeps in (again.0, ap (λ (d : Documents). d ∷ []) again.1)
+prepared_again version file c (Prepared pair) stored keeps = let again = pair_again version file c pair stored keeps in (again.0, ap (λ (d : Documents). d ∷ []) again.1)
 
 -- They lie as well in a file of the version that a commit writes.
 
-pub stored_newer : (version : ℕ) (file : List ℕ) (s : DocumentRef) → IsStored version file s → IsStored (next_version version) file s
-stored_newer version file s stored = elim (cases_Bool (version == 3)) [
-  | inl three ↦ subst (λ v. IsStored v file s) (eqb-true version 3 three ∙ sym (cond-true _ _ _ three)) stored
-  | inr older ↦
-      let next : next_version version ≡ 2 = cond-false _ _ _ older in
-      let not_three : version ≢ 3 = eqb-false version 3 older in
-      let summed : has_sums 2 ≡ has_sums version = sym older in
-      let newer : IsStored 2 file s = record {
-        version = stored.version;
-        directory = directory_of-newer version file s.directory (directory_of_table stored.version s.table.value) not_three stored.directory;
-        images = stored.images;
-        sum = stored.sum ∙ ap (λ b. sum_for b (bytes_in file s.directory)) (sym summed);
-        sums = subst (λ b. AreSummed b file s.table.value.places.items) (sym summed) stored.sums;
-      } in
-      subst (λ v. IsStored v file s) (sym next) newer
-]
+pub stored_newer : (version next : ℕ) (file : List ℕ) (s : DocumentRef) → IsNextVersion version next → has_sums next ≡ has_sums version → IsStored version file s → IsStored next file s
+stored_newer version next file s (inr three) same stored =
+    let old : version ≡ 3 = eqb-true version 3 (sym same ∙ ap has_sums three) in
+    subst (λ v. IsStored v file s) (old ∙ sym three) stored
+stored_newer version next file s (inl two) same stored =
+    let not_three : version ≢ 3 = two.1 in
+    let summed : has_sums 2 ≡ has_sums version = ap has_sums (sym two.0) ∙ same in
+    let newer : IsStored 2 file s = record {
+      version = stored.version;
+      directory = directory_of-newer version file s.directory (directory_of_table stored.version s.table.value) not_three stored.directory;
+      images = stored.images;
+      sum = stored.sum ∙ ap (λ b. sum_for b (bytes_in file s.directory)) (sym summed);
+      sums = subst (λ b. AreSummed b file s.table.value.places.items) (sym summed) stored.sums;
+    } in
+    subst (λ v. IsStored v file s) (sym two.0) newer

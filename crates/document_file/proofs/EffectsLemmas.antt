@@ -1,20 +1,22 @@
 -- What calls that commit leave of a file, and what always holds of one.
 use Rattle.std.proofs.Common.{◌≡◌, ◌≢◌, ◌↔◌, ◌≤◌, ℕ, Bool, IsTrue, List, refl, sym, ap, subst, ◌∙◌, arith, inl, inr}
-use Rattle.std.specs.Prelude.{◌⊎◌, Result, Ok, Err, IfErr, IsErrOf, MatchResult}
+use Rattle.std.specs.Prelude.{◌⊎◌, Some, Result, Ok, Err, IfErr, IsErrOf, MatchResult}
 use Rattle.std.proofs.lemmas.Result.{IfErr-weaker}
 use Rattle.std.specs.Option.{option_map}
 use Rattle.std.specs.Result.{IsErrAnd}
 use Rattle.geos_model.specs.Document.{Document, IsValid}
 use Rattle.geos_model.specs.declared.fault.Fault.{Fault}
-use Rattle.geos_model.specs.declared.fault.Fault.TheVariants.{Memory, File, Worn}
+use Rattle.geos_model.specs.declared.fault.Fault.TheVariants.{Memory, File, Damaged, Worn}
 use Rattle.file_format.proofs.FileDocuments.{document_at-valid}
-use Rattle.vm_store.specs.Facts.{StoreFacts, IsTimely, IsUnchanged}
-use Rattle.file_format.specs.Reading.{IsResourceFault, OnlyReadsStore}
+use Rattle.vm_store.specs.Facts.{StoreFacts, FailedSince, IsTimely, IsUnchanged}
+use Rattle.file_format.specs.Reading.{IsReadRefusal, IsResourceFault, OnlyReadsStore}
 use Rattle.document_file.specs.Calls.{last_sequence}
 use Rattle.document_file.specs.Documents.{Documents, blocks_in, document_in, IsStored}
 use Rattle.document_file.specs.Disk.{Disk, FileState, IsCrashConsistent, HasSequence, SameUnlessCorrupt, KeepsCommitted, MayCommit}
 use Rattle.document_file.specs.Effects.{IsFile, IsNewFile, OnlyReads, IsCommit, Fails, NoFault, IsDamage}
 use Rattle.document_file.specs.Making.{IsOne}
+use Rattle.document_file.specs.Sums.{has_sums, version_for}
+use Rattle.document_file.proofs.SumsLemmas.{for_sums}
 use Rattle.document_file.specs.Ranges.{KeepsAll}
 use Rattle.document_file.specs.Slots.{marked_extents}
 use Rattle.document_file.specs.Sound.{IsBlockTable, IsSound, disk_of}
@@ -27,7 +29,7 @@ use Rattle.document_file.proofs.RangesLemmas.{keeps_itself}
 use Rattle.document_file.proofs.TableLemmas.{listed, places_drift}
 use Rattle.file_format.proofs.LooksLemmas.{IsUnchanged-refl, IsUnchanged-trans}
 use Rattle.document_file.proofs.PassingLemmas.{KeepsCommitted-refl, KeepsCommitted-trans, KeepsCommitted-crash_consistent, KeepsCommitted-fails, KeepsCommitted-MayCommit, SameUnlessCorrupt-refl, SameUnlessCorrupt-trans, MayCommit-refused}
-use Rattle.document_file.proofs.StandsLemmas.{stored_document, sound_settled, sound_numbered}
+use Rattle.document_file.proofs.StandsLemmas.{sound_versioned, stored_document, sound_settled, sound_numbered}
 use Rattle.document_file.proofs.SlotsLemmas.{rests_leaves, rests_outlives}
 
 module _ {S : Type 0} (facts : S → StoreFacts) where
@@ -152,6 +154,15 @@ unworn fault is worn = elim is [ inl (inl memory) ↦ absurd (cc (memory, worn))
 pub unworn_damage : (honest : Bool) (fault : Fault) → IsResourceFault fault ⊎ IsDamage honest fault → fault ≢ Worn
 unworn_damage honest fault is worn = elim is [ inl (inl memory) ↦ absurd (cc (memory, worn)) | inl (inr file) ↦ absurd (cc (file, worn)) | inr damage ↦ absurd (cc (damage.0, worn)) ]
 
+-- of a call that reads images, whose sums an honest store has
+pub damage_fails : {S A : Type 0} (facts : S → StoreFacts) (a b : S) (result : Result A Fault) → (IsErrOf result File → FailedSince (facts a) (facts b)) → (IsErrOf result Damaged → IsTrue (facts a).honest → ⊥) → IfErr result IsReadRefusal
+    → Fails facts (IsDamage (facts a).honest) a b result
+damage_fails facts a b (Ok x) file damaged refusals = record { file = file; faults = tt }
+damage_fails facts a b (Err fault) file damaged refusals = record {
+  file = file;
+  faults = elim refusals as (λ _. IsResourceFault fault ⊎ IsDamage (facts a).honest fault) [ inl supply ↦ inl supply | inr wrong ↦ inr (wrong, damaged (ap Err wrong)) ];
+}
+
 -- of calls before which others were made
 pub Fails-after : {S A : Type 0} (facts : S → StoreFacts) (IsOther : Fault → Type 0) (a b c : S) (result : Result A Fault) → (facts a).failures ≤ (facts b).failures → Fails facts IsOther b c result → Fails facts IsOther a c result
 Fails-after facts IsOther a b c result more fails = record { file = λ is. let raised = fails.file is in omega (arith, more, raised); faults = fails.faults }
@@ -176,9 +187,9 @@ module _ {S : Type 0} (facts : S → StoreFacts) where
   }
 
 -- A file that was just made.
-pub made_file : {S : Type 0} (facts : S → StoreFacts) → ((store : S) → IsTrue (facts store).honest → IsTimely (facts store)) → (store : S) (live : BlockTable) (slots : Slots) → IsSound (facts store) live slots → IsOne (facts store).content live slots
+pub made_file : {S : Type 0} (facts : S → StoreFacts) → ((store : S) → IsTrue (facts store).honest → IsTimely (facts store)) → (checksums : Bool) (store : S) (live : BlockTable) (slots : Slots) → IsSound (facts store) live slots → IsOne checksums (facts store).content live slots
     → IsNewFile facts (document_in (facts store).content live) (disk_of facts store slots)
-made_file facts timely store live slots sound one =
+made_file facts timely checksums store live slots sound one =
     let crash_consistent = sound_settled facts store live slots sound in
     record {
       updated = one.updated;
@@ -189,4 +200,5 @@ made_file facts timely store live slots sound one =
       numbered = λ so. subst (HasSequence (facts store)) one.sequence (sound_numbered facts store live slots sound so one.in_doubt);
       crash_consistent = crash_consistent;
       content = settled_content facts timely (disk_of facts store slots) crash_consistent (λ _. one.in_doubt);
+      version = λ so. sound_versioned facts store live slots (timely store) sound one.in_doubt so ∙ ap (λ v. Some v) (one.version ∙ sym (ap version_for (ap has_sums one.next_version ∙ for_sums checksums)));
     }

@@ -1,13 +1,11 @@
 -- A slot that is whole but for its gate: with the gate open, a file that a crash leaves stands for what the slot leads to.
-use Rattle.std.proofs.Common.{◌≡◌, ◌≢◌, ℕ, ◌+◌, ◌*◌, List, [], ◌∷◌, All, refl, ap, subst, ◌∙◌, arith, inr}
+use Rattle.std.proofs.Common.{◌≡◌, ◌≢◌, ℕ, ◌+◌, ◌*◌, List, [], ◌∷◌, All, refl, ap, subst, ◌∙◌, arith}
 use Rattle.vm_store.specs.Facts.{StoreFacts, byte}
 use Rattle.vm_store.specs.Bytes.{writes-after_write, torn-after_write}
 use Rattle.document_file.specs.Ranges.{IsPlaced}
 use Rattle.document_file.specs.Slots.{prepared_extents, spare_of, LeadsTo, IsBeside, Outcome, CrashLeavesSlots}
 use Rattle.document_file.specs.Documents.{Documents, documents_in, attempted_in}
 use Rattle.document_file.specs.Disk.{with_gate_open, IsOneGateAway}
-use Rattle.document_file.specs.Sums.{next_version}
-use Rattle.document_file.proofs.SumsLemmas.{next_version-is}
 use Rattle.document_file.specs.declared.table.Pair.{Pair}
 use Rattle.document_file.specs.declared.slot.SpareSlot.{SpareSlot}
 use Rattle.document_file.specs.declared.slot.SpareSlot.TheVariants.{Shut, Stale, Prepared}
@@ -26,12 +24,12 @@ module _ (slots : Slots) (pair : Pair) (file : List ℕ) (is : slots.spare ≡ P
   fits : FitsPair slots.version slots.sequence slots.committed
   fits = fits_pair slots.version slots.sequence file slots.committed are.versioned are.some are.in_range are.tables are.committed (kept_pair IsPlaced slots are.placed)
 
-  held : IsPreparedReadable slots.version file slots.sequence (Prepared pair)
-  held = subst (IsPreparedReadable slots.version file slots.sequence) is are.prepared
+  held : IsPreparedReadable slots.next_version file slots.sequence (Prepared pair)
+  held = subst (IsPreparedReadable slots.next_version file slots.sequence) is are.prepared
 
-  fits_prepared : FitsPair (next_version slots.version) (slots.sequence + 1) pair
+  fits_prepared : FitsPair slots.next_version (slots.sequence + 1) pair
   unfolding held
-  fits_prepared = fits_pair (next_version slots.version) (slots.sequence + 1) file pair (next_version-is slots.version) (omega arith) held.1.1 held.1.0 held.0 (subst (λ o. All IsPlaced (prepared_extents o)) is (kept_prepared IsPlaced slots are.placed))
+  fits_prepared = fits_pair slots.next_version (slots.sequence + 1) file pair are.next_versioned (omega arith) held.1.1 held.1.0 held.0 (subst (λ o. All IsPlaced (prepared_extents o)) is (kept_prepared IsPlaced slots are.placed))
 
   module _ (c : List ℕ) (was : Outcome slots file c) where
     opened : List ℕ
@@ -47,9 +45,9 @@ module _ (slots : Slots) (pair : Pair) (file : List ℕ) (is : slots.spare ≡ P
         let here : 512 * spare_of slots + 4 ≡ 512 * spare_of slots + 4 + 0 = omega arith in
         ap (byte opened) here ∙ (writes-after_write (512 * spare_of slots + 4) (1 ∷ []) c).each 0 (omega arith)
 
-    leads : LeadsTo (spare_of slots) (next_version slots.version) (slots.sequence + 1) pair file opened
+    leads : LeadsTo (spare_of slots) slots.next_version (slots.sequence + 1) pair file opened
     unfolding opened outcome
-    leads = subst (λ o. IsBeside slots.version o (spare_of slots) slots.sequence file opened) is outcome.beside
+    leads = subst (λ o. IsBeside slots.next_version o (spare_of slots) slots.sequence file opened) is outcome.beside
 
   -- one gate away
   pub held_away : (store : StoreFacts) → CrashLeavesSlots store slots file → IsOneGateAway store (slots.sequence + 1) (documents_in file pair)
@@ -60,11 +58,11 @@ module _ (slots : Slots) (pair : Pair) (file : List ℕ) (is : slots.spare ≡ P
     stands_for = λ c left.
         let was = leaves c left in
         let now = outcome c was in
-        prepared_beats slots.second slots.version slots.sequence slots.committed pair file (opened c was) fits fits_prepared held.0 now.gate now.counts (gate c was) (leads c was);
+        prepared_beats slots.second slots.version slots.next_version slots.sequence slots.committed pair file (opened c was) fits fits_prepared held.0 now.gate now.counts (gate c was) (leads c was);
     numbered = λ c left.
         let was = leaves c left in
         let now = outcome c was in
-        prepared_numbered slots.second slots.version slots.sequence slots.committed pair file (opened c was) fits fits_prepared now.gate now.counts (gate c was) (leads c was);
+        prepared_numbered slots.second slots.version slots.next_version slots.sequence slots.committed pair file (opened c was) fits fits_prepared now.gate now.counts (gate c was) (leads c was);
   }
 
 away_of : (spare : SpareSlot) (store : StoreFacts) (slots : Slots) (file : List ℕ) (d : Documents) → slots.spare ≡ spare → attempted_in file spare ≡ d ∷ [] → AreReadable slots file → CrashLeavesSlots store slots file → IsOneGateAway store (slots.sequence + 1) d

@@ -9,6 +9,7 @@ pub mod FirstFileLemmas
 pub mod FollowLemmas
 pub mod FreeSpaceLemmas
 pub mod GateAwayLemmas
+pub mod GivenSumsLemmas
 pub mod ImageLemmas
 pub mod LaidOutLemmas
 pub mod ListingLemmas
@@ -24,6 +25,7 @@ pub mod PutBlocksLemmas
 pub mod RangesLemmas
 pub mod RawReadLemmas
 pub mod ResultLemmas
+pub mod SavedAnewLemmas
 pub mod SlotsLemmas
 pub mod SoundLemmas
 pub mod StandsLemmas
@@ -32,4 +34,5 @@ pub mod StoredDocumentsLemmas
 pub mod TableChangeLemmas
 pub mod TableDirectoryLemmas
 pub mod TableLemmas
+pub mod TurningLemmas
 pub mod WritingLemmas

@@ -1,7 +1,7 @@
 -- The directory in an extent of a file that was read.
 use Rattle.std.proofs.Common.{◌≡◌, ℕ, true, List, length, Option, None, Some, sym, ap, ap₂, subst, ◌∙◌, arith, ◌⊎◌, zero, suc, ◌+◌, ◌-◌, ◌<◌, ◌≤◌, [], ◌∷◌, ◌++◌, set, get_or, take, Err, is_some, All, refl, inl, inr, ltb-true, length-set, eqb-true, eq-eqb, ne_eqb, Bool}
 use Rattle.std.proofs.lemmas.Bool.{and_parts, cases_Bool, cases_lt}
-use Rattle.file_format.specs.File.{Directory, bytes_in, directory_in, is_directory, is_version_in, summed_directory, summed_document, document_of, both, is_rising, is_entry, is_map_block, blocks_of_entries, block_of, prepended, longest_image}
+use Rattle.file_format.specs.File.{Directory, bytes_in, is_directory, is_version_in, summed_directory, summed_document, document_of, both, is_rising, is_entry, is_map_block, blocks_of_entries, block_of, prepended, longest_image}
 use Rattle.file_format.specs.declared.file.Extent.{Extent}
 use Rattle.file_format.proofs.Files.{length-directory, directory_in-some}
 use Rattle.file_format.proofs.FileDocuments.{directory_of-some, is_in_file-parts, summed_directory-some}

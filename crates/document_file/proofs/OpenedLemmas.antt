@@ -1,5 +1,5 @@
 -- What a file that was read stands for, and that it is sound once it is synced.
-use Rattle.std.proofs.Common.{◌≡◌, ◌⊎◌, ℕ, suc, ◌+◌, ◌-◌, ◌*◌, ◌^◌, ◌<◌, ◌≤◌, ◌==◌, Bool, true, false, not, ◌||◌, IsTrue, List, length, get_or, None, is_some, Err, All, refl, sym, ap, ap₂, subst, ◌∙◌, arith, inl, inr, eq-eqb, ne_eqb}
+use Rattle.std.proofs.Common.{◌≡◌, ◌⊎◌, ℕ, suc, ◌+◌, ◌-◌, ◌*◌, ◌^◌, ◌<◌, ◌≤◌, Bool, true, false, not, ◌||◌, IsTrue, List, length, get_or, None, is_some, Err, All, refl, sym, ap, ap₂, subst, ◌∙◌, arith, inl, inr, eq-eqb, ne_eqb}
 use Rattle.std.specs.Prelude.{if◌then◌else◌}
 use Rattle.std.proofs.lemmas.Bool.{cond-false, le-ltb}
 use Rattle.std.proofs.lemmas.List.Elements.{All-append}
@@ -10,11 +10,11 @@ use Rattle.geos_model.specs.declared.fault.Fault.TheVariants.{Damaged}
 use Rattle.file_format.specs.declared.file.Slot.{Slot}
 use Rattle.file_format.proofs.FileStands.{stands-from, is_wrong}
 use Rattle.document_file.specs.Ranges.{IsPlaced, end_of}
-use Rattle.document_file.specs.Sums.{AreSummed, has_sums}
+use Rattle.document_file.specs.Sums.{AreSummed, has_sums, version_for}
 use Rattle.file_format.specs.Slots.{IsVersion}
 use Rattle.document_file.specs.Slots.{block_extents, stored_extents, pair_extents, prepared_extents, Outcome}
-use Rattle.document_file.specs.Documents.{AreImaged, AreStored, IsPreparedStored, document_in, sequence_of}
-use Rattle.document_file.specs.Sound.{ArePlaces, IsBlockTable, IsPreparedFormed, IsSound}
+use Rattle.document_file.specs.Documents.{AreImaged, AreStored, IsPreparedStored, document_in, is_of_version_3, sequence_of}
+use Rattle.document_file.specs.Sound.{ArePlaces, IsBlockTable, IsNextVersion, IsTurning, IsPreparedFormed, IsSound}
 use Rattle.file_format.specs.Reading.{OnlyReadsStore}
 use Rattle.document_file.specs.Opened.{AreReadDocuments, IsActiveSlot, IsReadSlots, IsReadWhole}
 use Rattle.document_file.specs.declared.slot.ActiveSlot.{ActiveSlot}
@@ -24,6 +24,7 @@ use Rattle.document_file.specs.declared.slot.Slots.{Slots}
 use Rattle.document_file.specs.declared.slot.SpareSlot.{SpareSlot}
 use Rattle.document_file.specs.declared.slot.SpareSlot.TheVariants.{Shut, Stale}
 use Rattle.document_file.proofs.StandsLemmas.{summed_stored}
+use Rattle.document_file.proofs.SumsLemmas.{for_next, for_sums}
 use Rattle.document_file.proofs.RangesLemmas.{all_left}
 use Rattle.document_file.proofs.SoundLemmas.{kept_all, nothing_kept, nothing_marked}
 use Rattle.file_format.proofs.LooksLemmas.{still_holds}
@@ -32,7 +33,7 @@ use Rattle.document_file.proofs.CountingSlotLemmas.{slot_leads}
 -- From any store.
 
 pub slots_formed : (n version sequence : ℕ) (second : Bool) (pair : Pair) (spare : SpareSlot) → AreReadDocuments n pair → IsVersion version → 1 ≤ sequence → sequence < 2 ^ 64 → (spare ≡ Shut) ⊎ (spare ≡ Stale)
-    → IsReadSlots (record { second = second; version = version; sequence = sequence; committed = pair; spare = spare; marked = None })
+    → IsReadSlots (record { second = second; version = version; next_version = version_for (has_sums version); sequence = sequence; committed = pair; spare = spare; marked = None; saved_sums = None })
 slots_formed n version sequence second pair spare are versioned some range alone = record {
   committed = record { updated = are.updated.table; saved = are.saved.table };
   placed = All-append IsPlaced (stored_extents pair.updated) (stored_extents pair.saved) are.updated.placed are.saved.placed;
@@ -41,6 +42,8 @@ slots_formed n version sequence second pair spare are versioned some range alone
   in_range = range;
   spare = alone;
   unmarked = refl;
+  unturned = refl;
+  next_version = refl;
 }
 
 -- From an honest one.
@@ -58,7 +61,7 @@ pub record IsChecked (s : Slot) : Type 0 where
 
 pub slots_whole : (file : List ℕ) (n : ℕ) (active : ActiveSlot) (pair : Pair) → n ≡ length file → IsActiveSlot file active → IsChecked active.slot → AreReadDocuments n pair → AreStored active.slot.version file pair
     → pair.updated.directory ≡ active.slot.working → pair.saved.directory ≡ active.slot.saved → pair.updated.sum ≡ working_sum active.slot → pair.saved.sum ≡ saved_sum active.slot
-    → IsReadWhole file (record { second = active.second; version = active.slot.version; sequence = active.slot.sequence; committed = pair; spare = active.spare; marked = None })
+    → IsReadWhole file (record { second = active.second; version = active.slot.version; next_version = version_for (has_sums active.slot.version); sequence = active.slot.sequence; committed = pair; spare = active.spare; marked = None; saved_sums = None })
 slots_whole file n active pair size is good are stored working saved first second =
     let inside : All (λ e. end_of e ≤ length file) (pair_extents pair) = subst (λ m. All (λ e. end_of e ≤ m) (pair_extents pair)) size
     (All-append (λ e. end_of e ≤ n) (stored_extents pair.updated) (stored_extents pair.saved) are.updated.within are.saved.within) in
@@ -66,7 +69,7 @@ slots_whole file n active pair size is good are stored working saved first secon
     record {
       stored = stored;
       within = inside;
-      outcome = record { gate = leads.0; counts = leads.1; beside = is.beside };
+      outcome = record { gate = leads.0; counts = leads.1; beside = is.beside (version_for (has_sums active.slot.version)) };
       stands = stands-from file active.slot (document_in file pair.updated.table.value) (document_in file pair.saved.table.value) (record {
         long = is.long;
         counts = is.counts;
@@ -78,6 +81,7 @@ slots_whole file n active pair size is good are stored working saved first secon
         saved_is = ap₂ (summed_document active.slot.version file) (sym second) (sym saved) ∙ summed_stored active.slot.version file pair.saved are.saved.table stored.saved;
       });
       numbered = ap sequence_of is.counts;
+      versioned = ap is_of_version_3 is.counts;
     }
 
 -- Refusals.
@@ -139,6 +143,8 @@ opened_sound old new live slots looks formed whole durable map items =
         marked = nothing_marked IsBlockTable slots.marked formed.unmarked;
         kept = kept_all IsPlaced slots formed.placed (no_extents slots.spare formed.spare) (nothing_kept IsPlaced slots.marked formed.unmarked);
         version = formed.version;
+        next_version = subst (IsNextVersion slots.version) (sym formed.next_version) (for_next slots.version);
+        turning = subst (IsTurning slots) (sym formed.unturned) (ap has_sums formed.next_version ∙ for_sums (has_sums slots.version));
         numbered = formed.numbered;
         in_range = formed.in_range;
       };
@@ -147,13 +153,14 @@ opened_sound old new live slots looks formed whole durable map items =
           let inside = all_left (λ e. end_of e ≤ length new.content) (stored_extents updated) (stored_extents slots.committed.saved) is.within in
           record {
             images = subst (AreImaged new.content) (sym items) is.stored.updated.images;
-            sums = subst (AreSummed (has_sums slots.version) new.content) (sym items) is.stored.updated.sums;
+            sums = subst (λ b. AreSummed b new.content live.places.items) (sym (ap has_sums formed.next_version ∙ for_sums (has_sums slots.version))) (subst (AreSummed (has_sums slots.version) new.content) (sym items) is.stored.updated.sums);
             within = subst (λ ps. All (λ e. end_of e ≤ length new.content) (block_extents ps)) (sym items) (λ k d within. inside (suc k) d (omega (arith, within)));
             committed = is.stored;
-            prepared = nothing_stored slots.version new.content slots.spare formed.spare;
+            prepared = nothing_stored slots.next_version new.content slots.spare formed.spare;
             marked = nothing_marked (λ t. AreImaged new.content t.places.items) slots.marked formed.unmarked;
-            marked_sums = nothing_marked (λ t. AreSummed (has_sums slots.version) new.content t.places.items) slots.marked formed.unmarked;
+            marked_sums = nothing_marked (λ t. AreSummed (has_sums slots.next_version) new.content t.places.items) slots.marked formed.unmarked;
             marked_within = nothing_kept (λ e. end_of e ≤ length new.content) slots.marked formed.unmarked;
+            saved_sums = nothing_marked (λ t. AreSummed (has_sums slots.next_version) new.content t.places.items) slots.saved_sums formed.unturned;
             leaves = λ c left. subst (Outcome slots new.content) (sym (durable so c left)) is.outcome;
           };
     }

@@ -69,7 +69,7 @@ module _ {S : Type 0} (facts : S → StoreFacts) where
   tried_unmarked pair a is = record { in_doubt = is.in_doubt; gate = is.gate }
 
   pub KeepsCommitted-refl : (a : Disk S) → KeepsCommitted facts a a
-  KeepsCommitted-refl a = record { honest = refl; failures = omega arith; updated = λ _. refl; saved = λ _. refl; in_doubt = λ _. refl; tried = λ so pair is. is; sequence = refl; marked = MarkSameUnlessCorrupt-refl _ a.marked; numbered = λ so none is. is; crash = λ _. Crash-refl _ _ }
+  KeepsCommitted-refl a = record { honest = refl; failures = omega arith; updated = λ _. refl; saved = λ _. refl; in_doubt = λ _. refl; tried = λ so pair is. is; sequence = refl; marked = MarkSameUnlessCorrupt-refl _ a.marked; numbered = λ so none is. is; crash = λ _. Crash-refl _ _; checksums = refl }
 
   -- the mark left aside
   pub KeepsCommitted-unmarked : (a b : Disk S) → KeepsCommitted facts a b → KeepsCommitted facts (unmarked a) (unmarked b)
@@ -84,6 +84,7 @@ module _ {S : Type 0} (facts : S → StoreFacts) where
     marked = refl;
     numbered = p.numbered;
     crash = p.crash;
+    checksums = p.checksums;
   }
 
   pub MayCommit-unmarked : (a b : Disk S) (pair : Documents) (result : Result (Unit {0}) Fault) → MayCommit facts pair a b result → MayCommit facts pair (unmarked a) (unmarked b) result
@@ -102,6 +103,7 @@ module _ {S : Type 0} (facts : S → StoreFacts) where
     still_numbered = p.still_numbered;
     sequence = p.sequence;
     marked = refl;
+    checksums = p.checksums;
   }
 
   pub same_readable : (a b : Disk S) → KeepsCommitted facts a b → IsTrue (facts a.store).honest → recoverable b ≡ recoverable a
@@ -127,6 +129,7 @@ module _ {S : Type 0} (facts : S → StoreFacts) where
     crash = λ so.
         let P : List Documents → Type 0 = λ ds. Crash (facts b.store) (facts c.store) ds in
         Crash-trans _ _ _ _ (p.crash so) (subst P (same_readable a b p so) (q.crash (still a b p.honest so)));
+    checksums = q.checksums ∙ p.checksums;
   }
 
   -- the number stays, where no other pair may be read
@@ -167,6 +170,7 @@ module _ {S : Type 0} (facts : S → StoreFacts) where
     adds = λ _. inr (record { crash = Crash-refl _ _; in_doubt = inl refl });
     sequence = refl;
     marked = MarkSameUnlessCorrupt-refl _ a.marked;
+    checksums = refl;
   }
 
   -- calls that commit nothing, before a commit that isn't tried
@@ -183,6 +187,7 @@ module _ {S : Type 0} (facts : S → StoreFacts) where
     adds = λ so. inr (KeepsCommitted-adds a b p so);
     sequence = p.sequence;
     marked = p.marked;
+    checksums = p.checksums;
   }
 
   -- calls that commit nothing, and then one of which nothing can be read
@@ -216,6 +221,7 @@ module _ {S : Type 0} (facts : S → StoreFacts) where
         ]) q.adds;
         sequence = subst (λ n. MatchResult result (λ _. c.sequence ≡ n + 1) (λ _. c.sequence ≡ n)) p.sequence q.sequence;
         marked = both_drift a b c p.honest p.marked q.marked;
+        checksums = q.checksums ∙ p.checksums;
       }
 
   -- what a commit that was tried may make readable
@@ -264,6 +270,7 @@ module _ {S : Type 0} (facts : S → StoreFacts) where
           ]) p.adds p.err;
           sequence = subst (λ n. MatchResult result (λ _. n ≡ a.sequence + 1) (λ _. n ≡ a.sequence)) (sym q.sequence) p.sequence;
           marked = both_drift a b c p.honest p.marked q.marked;
+          checksums = q.checksums ∙ p.checksums;
         }
 
     pub passing_law : PassingLaw facts

@@ -120,8 +120,8 @@ marked_long : (marked : Option BlockTable) → IfSome marked IsBlockTable → co
 marked_long None formed = refl
 marked_long (Some table) formed = blocks_short table formed
 
-pub few_long : (live : BlockTable) (slots : Slots) → IsFormed live slots → AreFewLong (block_extents live.places.items ++ referenced_extents slots)
-few_long live slots formed =
+four_long : (live : BlockTable) (slots : Slots) → IsFormed live slots → count_by is_long (block_extents live.places.items ++ referenced_extents slots) ≤ 4
+four_long live slots formed =
     let mine = blocks_short live formed.table in
     let pair = pair_long slots.committed formed.committed in
     let prepared = prepared_long slots.sequence slots.spare formed.prepared in
@@ -130,6 +130,17 @@ few_long live slots formed =
     let kept = joined_long (pair_extents slots.committed) (prepared_extents slots.spare ++ marked_extents slots.marked) in
     let all = joined_long (block_extents live.places.items) (referenced_extents slots) in
     omega (arith, mine, pair, prepared, marked, rest, kept, all)
+
+pub few_long : (live : BlockTable) (slots : Slots) → IsFormed live slots → AreFewLong (block_extents live.places.items ++ referenced_extents slots)
+few_long live slots formed = (let few = four_long live slots formed in omega (arith, few))
+
+-- with one directory more
+pub five_long : (live : BlockTable) (slots : Slots) (e : Extent) → IsFormed live slots → AreFewLong (e ∷ (block_extents live.places.items ++ referenced_extents slots))
+five_long live slots e formed =
+    let few = four_long live slots formed in
+    let whole = count_cons is_long e (block_extents live.places.items ++ referenced_extents slots) in
+    let one = one_at_most (is_long e) in
+    omega (arith, few, whole, one)
 
 -- the place of a block that is put can be
 written_place : (version : ℕ) (p : Member) (e : Extent) → e.length ≡ length (image p.block.image) → IsPlace (placed_at version p e)
@@ -163,8 +174,8 @@ module _ {S : Type 0} (facts : S → StoreFacts) (a b : S) (live : BlockTable) (
   images : IsTrue (facts a).honest → AreImaged (facts b).content live.places.items
   images so = images_same (facts a).content (facts b).content live.places.items (sound.whole so).within (kept so) (sound.whole so).images
 
-  sums : IsTrue (facts a).honest → AreSummed (has_sums slots.version) (facts b).content live.places.items
-  sums so = sums_same (has_sums slots.version) (facts a).content (facts b).content live.places.items (sound.whole so).within (kept so) (sound.whole so).sums
+  sums : IsTrue (facts a).honest → AreSummed (has_sums slots.next_version) (facts b).content live.places.items
+  sums so = sums_same (has_sums slots.next_version) (facts a).content (facts b).content live.places.items (sound.whole so).within (kept so) (sound.whole so).sums
 
   within : IsTrue (facts a).honest → All (EndsIn (facts b).content) (block_extents live.places.items)
   within so = keeps_within (block_extents live.places.items) (facts a).content (facts b).content (kept so)
@@ -183,7 +194,7 @@ module _ {S : Type 0} (facts : S → StoreFacts) (a b : S) (live : BlockTable) (
   module _ (puts : List Member) (extents : List Extent) (removals : List VmHandle) (new : BlockTable) (are : All IsPut puts) (taken : List Extent) (found : AreFor taken puts (length puts) extents)
       (written : IsTrue (facts a).honest → AreWritten (length puts) puts extents (facts b).content) (same : new.map_block ≡ live.map_block)
       (room : All (λ p. p.handle.0 ≤ length live.places.items) puts)
-      (is : new.places.items ≡ without_places removals (with_places slots.version puts extents live.places.items)) where
+      (is : new.places.items ≡ without_places removals (with_places slots.next_version puts extents live.places.items)) where
     bytes : (so : IsTrue (facts a).honest) (k : ℕ) (p : Member) (e : Extent) → k < length puts → bytes_in (facts b).content (get_or extents k e) ≡ image (get_or puts k p).block.image
     bytes so k p e low = bytes_held (facts b).content (image (get_or puts k p).block.image) (get_or extents k e) (sym (found.sizes k e p low)) (written so k e p low)
 
@@ -192,21 +203,21 @@ module _ {S : Type 0} (facts : S → StoreFacts) (a b : S) (live : BlockTable) (
         let honestly = (facts a).honest in
         let file = (facts b).content in
         let places = live.places.items in
-        let filled = with_places slots.version puts extents places in
+        let filled = with_places slots.next_version puts extents places in
         let P : Document → Type 0 = SameUnlessCorrupt honestly (remove_all removals (put_all puts (shown (facts a).content places live.map_block))) in
         let made : shown file new.places.items new.map_block ≡ remove_all removals (shown file filled live.map_block) =
         ap (λ m. shown file new.places.items m) same ∙ ap (λ ps. shown file ps live.map_block) is ∙ shown_without_all file removals filled live.map_block in
         subst P (sym made) (drifts_remove_all honestly removals _ _ (SameUnlessCorrupt-trans honestly _ _ _ (drifts_put_all honestly puts _ _ spared_drifts)
-        (filled_drifts slots.version honestly file puts extents places live.map_block room are found.count (λ k p e low so. bytes so k p e low))))
+        (filled_drifts slots.next_version honestly file puts extents places live.map_block room are found.count (λ k p e low so. bytes so k p e low))))
 
     module _ (stays : All (λ h. h.0 ≢ live.map_block) removals) where
-      each_new : (P : Place → Type 0) → ((k : ℕ) (p : Member) (e : Extent) → k < length puts → P (placed_at slots.version (get_or puts k p) (get_or extents k e))) → EachPlace P live.places.items → EachPlace P new.places.items
-      each_new P one each = subst (EachPlace P) (sym is) (each_without P removals (with_places slots.version puts extents live.places.items) (each_with slots.version P puts extents live.places.items one each))
+      each_new : (P : Place → Type 0) → ((k : ℕ) (p : Member) (e : Extent) → k < length puts → P (placed_at slots.next_version (get_or puts k p) (get_or extents k e))) → EachPlace P live.places.items → EachPlace P new.places.items
+      each_new P one each = subst (EachPlace P) (sym is) (each_without P removals (with_places slots.next_version puts extents live.places.items) (each_with slots.next_version P puts extents live.places.items one each))
 
       new_table : IsBlockTable new
       new_table = record {
-        size = (let long = ap length is ∙ length-without_places removals (with_places slots.version puts extents live.places.items) ∙ length-with_places slots.version puts extents live.places.items in let was = sound.formed.table.size in omega (arith, long, was));
-        places = each_new IsPlace (λ k p e low. written_place slots.version (get_or puts k p) (get_or extents k e) (found.sizes k e p low)) sound.formed.table.places;
+        size = (let long = ap length is ∙ length-without_places removals (with_places slots.next_version puts extents live.places.items) ∙ length-with_places slots.next_version puts extents live.places.items in let was = sound.formed.table.size in omega (arith, long, was));
+        places = each_new IsPlace (λ k p e low. written_place slots.next_version (get_or puts k p) (get_or extents k e) (found.sizes k e p low)) sound.formed.table.places;
         map_block = elim sound.formed.table.map_block as (λ _. (new.map_block ≡ 0) ⊎ ((1 ≤ new.map_block) × (is_some (slot_at new.places.items (new.map_block - 1)) ≡ true))) [
           | inl none ↦ inl (same ∙ none)
           | inr one ↦
@@ -215,7 +226,7 @@ module _ {S : Type 0} (facts : S → StoreFacts) (a b : S) (live : BlockTable) (
               inr (
                 omega (arith, same, one.0),
                 ap (λ m. is_some (slot_at new.places.items (m - 1))) same ∙ ap (λ ps. is_some (slot_at ps i)) is
-                    ∙ full_without removals (with_places slots.version puts extents live.places.items) i (λ k d inside gone. stays k d inside (gone ∙ back)) (full_with slots.version puts extents live.places.items i one.1),
+                    ∙ full_without removals (with_places slots.next_version puts extents live.places.items) i (λ k d inside gone. stays k d inside (gone ∙ back)) (full_with slots.next_version puts extents live.places.items i one.1),
               )
         ];
       }
@@ -230,13 +241,15 @@ module _ {S : Type 0} (facts : S → StoreFacts) (a b : S) (live : BlockTable) (
             marked = sound.formed.marked;
             kept = sound.formed.kept;
             version = sound.formed.version;
+            next_version = sound.formed.next_version;
+            turning = sound.formed.turning;
             numbered = sound.formed.numbered;
             in_range = sound.formed.in_range;
           })
           (λ so. (
             (
-              each_new (IsImaged (facts b).content) (λ k p e low. written_imaged slots.version (facts b).content (get_or puts k p) (get_or extents k e) (bytes so k p e low)) (images so),
-              each_new (IsSummed (has_sums slots.version) (facts b).content) (λ k p e low. written_summed slots.version (facts b).content (get_or puts k p) (get_or extents k e) (bytes so k p e low)) (sums so),
+              each_new (IsImaged (facts b).content) (λ k p e low. written_imaged slots.next_version (facts b).content (get_or puts k p) (get_or extents k e) (bytes so k p e low)) (images so),
+              each_new (IsSummed (has_sums slots.next_version) (facts b).content) (λ k p e low. written_summed slots.next_version (facts b).content (get_or puts k p) (get_or extents k e) (bytes so k p e low)) (sums so),
             ),
             extents_of (EndsIn (facts b).content) new.places.items (each_new (λ p. EndsIn (facts b).content p.extent)
                 (λ k p e low. let size = found.sizes k e p low in let ends = (written so k e p low).within in omega (arith, size, ends))

@@ -12,15 +12,15 @@ use Rattle.vm_store.specs.Facts.{Holds, byte}
 use Rattle.document_file.specs.Documents.{AreImaged}
 use Rattle.document_file.specs.Ranges.{start_of}
 use Rattle.document_file.specs.declared.table.Place.{Place}
-use Rattle.document_file.proofs.PlaceImageLemmas.{lying_image, read_image}
+use Rattle.document_file.proofs.PlaceImageLemmas.{lying_image}
+use Rattle.document_file.proofs.RangesLemmas.{bytes_held}
 use Rattle.document_file.proofs.TableLemmas.{shown}
 use Rattle.document_file.proofs.ImageLemmas.{first_byte, first_in}
 use Rattle.std.proofs.lemmas.Bool.{not-false}
 use Rattle.file_format.specs.declared.file.Extent.{Extent}
-use Rattle.std.proofs.Common.{◌≡◌, ℕ, ◌+◌, ◌++◌, ◌≤◌, List, [], length, take, drop, replicate, sym, ap, ◌∙◌, arith, slice_range}
-use Rattle.std.specs.List.{splice}
+use Rattle.std.proofs.Common.{◌≡◌, ℕ, ◌+◌, ◌++◌, ◌≤◌, List, length, take, drop, sym, ap, ◌∙◌, arith, slice_range}
 use Rattle.std.proofs.lemmas.List.Edits.{length-between}
-use Rattle.std.proofs.lemmas.List.{length-replicate, take_all, append-nil, drop_all}
+use Rattle.std.proofs.lemmas.List.{take_all, append-nil, drop_all}
 use Rattle.raw_region.specs.Bytes.{put}
 use Rattle.raw_region.proofs.Puts.{put_is}
 
@@ -61,12 +61,21 @@ kind_byte file e body some lies raw =
     let zero : (byte (bytes_in file e) 0 == 0) ≡ true = not-false _ (ap (λ (xs : List ℕ). not (byte xs 0 == 0)) lies ∙ first_byte body ∙ raw) in
     sym here ∙ eqb-true (byte (bytes_in file e) 0) 0 zero
 
-pub read_raw_image : (file bytes : List ℕ) (places : List (Option Place)) (map_block h : ℕ) (place : Place) → 1 ≤ h → slot_at places (h - 1) ≡ Some place → AreImaged file places → is_heap_body (block_at (shown file places map_block) h).body ≡ false
-    → length bytes + 1 ≡ place.extent.length → Holds file (start_of place.extent + 1) bytes → (block_at (shown file places map_block) h).body ≡ Raw bytes
-read_raw_image file bytes places map_block h place low at images raw size holds =
-    let body = (block_at (shown file places map_block) h).body in
-    let first = kind_byte file place.extent body (omega (arith, size)) (lying_image file places map_block h place low at images) raw in
-    raw_body body 0 bytes raw (read_image file (0 ∷ bytes) places map_block h place low at images (omega (arith, size)) (held_behind file bytes (start_of place.extent) 0 first holds))
+-- the first byte of a raw block's image
+pub raw_kind : (file : List ℕ) (places : List (Option Place)) (map_block h : ℕ) (place : Place) → 1 ≤ h → slot_at places (h - 1) ≡ Some place → AreImaged file places → is_heap_body (block_at (shown file places map_block) h).body ≡ false → 1 ≤ place.extent.length → byte file (start_of place.extent) ≡ 0
+raw_kind file places map_block h place low at images raw some = kind_byte file place.extent (block_at (shown file places map_block) h).body some (lying_image file places map_block h place low at images) raw
+
+-- what stands behind it makes the image
+pub raw_image : (file body : List ℕ) (e : Extent) → length body + 1 ≡ e.length → Holds file (start_of e + 1) body → byte file (start_of e) ≡ 0 → image (Raw body) ≡ bytes_in file e
+unfolding image
+raw_image file body e size holds first = sym (bytes_held file (0 ∷ body) e (omega (arith, size)) (held_behind file body (start_of e) 0 first holds))
+
+-- and the body
+pub read_raw_body : (file bytes : List ℕ) (places : List (Option Place)) (map_block h : ℕ) (place : Place) → 1 ≤ h → slot_at places (h - 1) ≡ Some place → AreImaged file places → is_heap_body (block_at (shown file places map_block) h).body ≡ false
+    → image (Raw bytes) ≡ bytes_in file place.extent → (block_at (shown file places map_block) h).body ≡ Raw bytes
+unfolding image
+read_raw_body file bytes places map_block h place low at images raw is =
+    raw_body (block_at (shown file places map_block) h).body 0 bytes raw (is ∙ lying_image file places map_block h place low at images)
 
 -- a block that isn't a heap has no heap's body
 pub raw_at : (d : Document) (h : ℕ) → is_heap d h ≡ false → is_heap_body (block_at d h).body ≡ false

@@ -8,7 +8,6 @@ use Rattle.vm_store.specs.Facts.{byte, Torn, Holds, StoreFacts, IsDurable, IsUnc
 use Rattle.file_format.specs.File.{slot_mark, extent_text, slot_sums_text}
 use Rattle.document_file.specs.Ranges.{start_of, end_of, IsPlaced, KeepsExtent, KeepsAll, IsOut, IsClear}
 use Rattle.document_file.specs.Slots.{pair_extents, prepared_extents, referenced_extents, counting_of, spare_of, switched, Failed, gate_text, behind_gate, sums_of, unsummed_slot, LeadsTo, IsUnmarked, IsOlder, IsBeside, Outcome, AreExtentsPlaced, IsBesideOut, Spares, FailedEarly, CrashLeavesSlots, Outlives}
-use Rattle.document_file.specs.Sums.{next_version}
 use Rattle.document_file.proofs.SumsLemmas.{behind_few}
 use Rattle.document_file.specs.declared.table.Pair.{Pair}
 use Rattle.document_file.specs.declared.slot.SpareSlot.{SpareSlot}
@@ -70,7 +69,7 @@ stale_torn at n slot sequence c d front behind torn was = elim was as (λ _. IsU
 beside_torn : (version : ℕ) (spare : SpareSlot) (at n slot sequence : ℕ) (file c d : List ℕ) → 512 * slot + 4 < length c → IsBesideOut spare slot at n → Torn at n c d → IsBeside version spare slot sequence file c → IsBeside version spare slot sequence file d
 beside_torn version Shut at n slot sequence file c d long out torn was = λ is. was (sym (torn_byte at n (512 * slot + 4) (512 * slot + 5) (512 * slot + 4) c d out torn (omega arith) (omega arith) long) ∙ is)
 beside_torn version Stale at n slot sequence file c d long out torn was = stale_torn at n slot sequence c d out.0 out.1 torn was
-beside_torn version (Prepared pair) at n slot sequence file c d long out torn was = leads_torn at n slot (next_version version) (sequence + 1) pair file c d out.0 out.1 out.2 torn was
+beside_torn version (Prepared pair) at n slot sequence file c d long out torn was = leads_torn at n slot version (sequence + 1) pair file c d out.0 out.1 out.2 torn was
 
 -- what is torn apart from all that the slots stand on
 pub outcome_torn : (at n : ℕ) (slots : Slots) (file c d : List ℕ) → AreExtentsPlaced slots → Spares at n slots → Torn at n c d → Outcome slots file c → Outcome slots file d
@@ -83,7 +82,7 @@ outcome_torn at n slots file c d kept spares torn was =
     record {
       gate = torn_byte at n (512 * slot) (512 * slot + 44) (512 * slot + 4) c d spares.slot torn (omega arith) (omega arith) (omega arith) ∙ was.gate;
       counts = leads_torn at n slot slots.version slots.sequence slots.committed file c d front back spares.committed torn was.counts;
-      beside = beside_torn slots.version slots.spare at n (spare_of slots) slots.sequence file c d (omega arith) spares.beside torn was.beside;
+      beside = beside_torn slots.next_version slots.spare at n (spare_of slots) slots.sequence file c d (omega arith) spares.beside torn was.beside;
     }
 
 -- Ranges that are.
@@ -140,7 +139,7 @@ spares_behind n slots few kept shut = spares_in_other slots 5 n (omega (arith, f
 pub outcome_shut : (slots : Slots) (file c : List ℕ) → byte c (512 * spare_of slots + 4) ≡ 0 → Outcome slots file c → Outcome (record slots { spare = Shut }) file c
 outcome_shut slots file c shut was = record { gate = was.gate; counts = was.counts; beside = λ is. omega (arith, shut, is) }
 
-pub outcome_held : (slots : Slots) (pair : Pair) (file c : List ℕ) → LeadsTo (spare_of slots) (next_version slots.version) (slots.sequence + 1) pair file c → Outcome slots file c → Outcome (record slots { spare = Prepared pair }) file c
+pub outcome_held : (slots : Slots) (pair : Pair) (file c : List ℕ) → LeadsTo (spare_of slots) slots.next_version (slots.sequence + 1) pair file c → Outcome slots file c → Outcome (record slots { spare = Prepared pair }) file c
 outcome_held slots pair file c leads was = record { gate = was.gate; counts = was.counts; beside = leads }
 
 not_other : (slots : Slots) (pair : Pair) → counting_of (switched slots pair) ≡ spare_of slots
@@ -163,7 +162,7 @@ outcome_turned slots pair file c gate was =
     let older : IsOlder (counting_of slots) (slots.sequence + 1) c = record { number = slots.sequence; lower = omega arith; there = numbered (counting_of slots) slots.version slots.sequence directories.updated.directory directories.saved.directory (slot_sums_text (sums_of (unsummed_slot slots.version slots.sequence directories) directories.updated.sum directories.saved.sum)) c was.counts.rest } in
     record {
       gate = ap (λ s. byte c (512 * s + 4)) (not_other slots pair) ∙ gate;
-      counts = subst (λ s. LeadsTo s (next_version slots.version) (slots.sequence + 1) pair file c) (sym (not_other slots pair)) was.beside;
+      counts = subst (λ s. LeadsTo s slots.next_version (slots.sequence + 1) pair file c) (sym (not_other slots pair)) was.beside;
       beside = inr (subst (λ s. IsOlder s (slots.sequence + 1) c) (sym (not_slot slots pair)) older);
     }
 
@@ -176,14 +175,14 @@ module _ (file now c : List ℕ) (same : (es : List Extent) → KeepsAll es file
   beside_rebased : (version : ℕ) (spare : SpareSlot) (slot sequence : ℕ) → IsBeside version spare slot sequence file now → IsBeside version spare slot sequence file c → IsBeside version spare slot sequence now c
   beside_rebased version Shut slot sequence here was = was
   beside_rebased version Stale slot sequence here was = was
-  beside_rebased version (Prepared pair) slot sequence here was = same_leads slot (next_version version) (sequence + 1) pair file now c (same (pair_extents pair) here.kept) was
+  beside_rebased version (Prepared pair) slot sequence here was = same_leads slot version (sequence + 1) pair file now c (same (pair_extents pair) here.kept) was
 
 -- the bytes may be taken from any file that a crash might have left
 pub outcome_rebased : (slots : Slots) (file now c : List ℕ) → Outcome slots file now → Outcome slots file c → Outcome slots now c
 outcome_rebased slots file now c here was = record {
   gate = was.gate;
   counts = same_leads (counting_of slots) slots.version slots.sequence slots.committed file now c (keeps_of_both (pair_extents slots.committed) file now c here.counts.kept) was.counts;
-  beside = beside_rebased file now c (λ es. keeps_of_both es file now c) slots.version slots.spare (spare_of slots) slots.sequence here.beside was.beside;
+  beside = beside_rebased file now c (λ es. keeps_of_both es file now c) slots.next_version slots.spare (spare_of slots) slots.sequence here.beside was.beside;
 }
 
 beside_keeps : (version : ℕ) (spare : SpareSlot) (slot sequence : ℕ) (file c : List ℕ) → IsBeside version spare slot sequence file c → KeepsAll (prepared_extents spare) file c
@@ -193,7 +192,7 @@ beside_keeps version (Prepared pair) slot sequence file c was = was.kept
 
 -- all that the slots stand on is in what a crash left
 pub outcome_keeps : (slots : Slots) (file c : List ℕ) → Outcome slots file c → KeepsAll (pair_extents slots.committed) file c × KeepsAll (prepared_extents slots.spare) file c
-outcome_keeps slots file c was = (was.counts.kept, beside_keeps slots.version slots.spare (spare_of slots) slots.sequence file c was.beside)
+outcome_keeps slots file c was = (was.counts.kept, beside_keeps slots.next_version slots.spare (spare_of slots) slots.sequence file c was.beside)
 
 -- What calls leave of the slots, and what a crash since left.
 
@@ -258,11 +257,11 @@ pub turned_leaves : (slots : Slots) (pair : Pair) (file : List ℕ) (a : StoreFa
 turned_leaves slots pair file a durable holds leaves c left = outcome_turned slots pair file c (durable_byte a (512 * spare_of slots + 4) 1 durable holds c left) (leaves c left)
 
 -- the other slot is whole but for its gate
-pub prepared_leaves : (slots : Slots) (pair : Pair) (file : List ℕ) (a : StoreFacts) → IsDurable a → Holds a.content (512 * spare_of slots) slot_mark → Holds a.content (512 * spare_of slots + 5) (behind_gate (next_version slots.version) (slots.sequence + 1) pair)
+pub prepared_leaves : (slots : Slots) (pair : Pair) (file : List ℕ) (a : StoreFacts) → IsDurable a → Holds a.content (512 * spare_of slots) slot_mark → Holds a.content (512 * spare_of slots + 5) (behind_gate slots.next_version (slots.sequence + 1) pair)
     → KeepsAll (pair_extents pair) file a.content → CrashLeavesSlots a slots file → CrashLeavesSlots a (record slots { spare = Prepared pair }) file
 prepared_leaves slots pair file a durable marked rest kept leaves c left =
-    let there : LeadsTo (spare_of slots) (next_version slots.version) (slots.sequence + 1) pair file a.content = record { marked = marked; rest = rest; kept = kept } in
-    outcome_held slots pair file c (subst (λ f. LeadsTo (spare_of slots) (next_version slots.version) (slots.sequence + 1) pair file f) (sym (durable c left)) there) (leaves c left)
+    let there : LeadsTo (spare_of slots) slots.next_version (slots.sequence + 1) pair file a.content = record { marked = marked; rest = rest; kept = kept } in
+    outcome_held slots pair file c (subst (λ f. LeadsTo (spare_of slots) slots.next_version (slots.sequence + 1) pair file f) (sym (durable c left)) there) (leaves c left)
 
 -- the bytes may be taken from the content
 pub leaves_rebased : (slots : Slots) (file : List ℕ) (a : StoreFacts) → a.may_leave a.content → CrashLeavesSlots a slots file → CrashLeavesSlots a slots a.content

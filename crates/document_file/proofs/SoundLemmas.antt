@@ -85,13 +85,14 @@ sound_rested a b live slots sound honest unchanged = record {
       let is : a.content ≡ b.content = sym (unchanged before).content in
       record {
         images = subst (λ f. AreImaged f live.places.items) is was.images;
-        sums = subst (λ f. AreSummed (has_sums slots.version) f live.places.items) is was.sums;
+        sums = subst (λ f. AreSummed (has_sums slots.next_version) f live.places.items) is was.sums;
         within = subst (λ f. All (EndsIn f) (block_extents live.places.items)) is was.within;
         committed = subst (λ f. AreStored slots.version f slots.committed) is was.committed;
-        prepared = subst (λ f. IsPreparedStored slots.version f slots.spare) is was.prepared;
+        prepared = subst (λ f. IsPreparedStored slots.next_version f slots.spare) is was.prepared;
         marked = subst (λ f. IfSome slots.marked (λ t. AreImaged f t.places.items)) is was.marked;
-        marked_sums = subst (λ f. IfSome slots.marked (λ t. AreSummed (has_sums slots.version) f t.places.items)) is was.marked_sums;
+        marked_sums = subst (λ f. IfSome slots.marked (λ t. AreSummed (has_sums slots.next_version) f t.places.items)) is was.marked_sums;
         marked_within = subst (λ f. All (EndsIn f) (marked_extents slots.marked)) is was.marked_within;
+        saved_sums = subst (λ f. IfSome slots.saved_sums (λ t. AreSummed (has_sums slots.next_version) f t.places.items)) is was.saved_sums;
         leaves = λ c left. subst (λ f. Outcome slots f c) is (was.leaves c ((unchanged before).crash c left));
       };
 }
@@ -104,11 +105,11 @@ abbrev pub AreRight : ℕ → List ℕ → List (Option Place) → Type 0
 AreRight version file places = AreImaged file places × AreSummed (has_sums version) file places
 
 -- another live table
-pub sound_live : (store : StoreFacts) (live new : BlockTable) (slots : Slots) → IsSound store live slots → IsBlockTable new → All IsPlaced (block_extents new.places.items) → (IsTrue store.honest → AreRight slots.version store.content new.places.items)
+pub sound_live : (store : StoreFacts) (live new : BlockTable) (slots : Slots) → IsSound store live slots → IsBlockTable new → All IsPlaced (block_extents new.places.items) → (IsTrue store.honest → AreRight slots.next_version store.content new.places.items)
     → (IsTrue store.honest → All (EndsIn store.content) (block_extents new.places.items)) → IsSound store new slots
 sound_live store live new slots sound table placed images within = record {
-  formed = record { table = table; placed = placed; committed = sound.formed.committed; prepared = sound.formed.prepared; marked = sound.formed.marked; kept = sound.formed.kept; version = sound.formed.version; numbered = sound.formed.numbered; in_range = sound.formed.in_range };
-  whole = λ so. let was = sound.whole so in record { images = (images so).0; sums = (images so).1; within = within so; committed = was.committed; prepared = was.prepared; marked = was.marked; marked_sums = was.marked_sums; marked_within = was.marked_within; leaves = was.leaves };
+  formed = record { table = table; placed = placed; committed = sound.formed.committed; prepared = sound.formed.prepared; marked = sound.formed.marked; kept = sound.formed.kept; version = sound.formed.version; next_version = sound.formed.next_version; turning = sound.formed.turning; numbered = sound.formed.numbered; in_range = sound.formed.in_range };
+  whole = λ so. let was = sound.whole so in record { images = (images so).0; sums = (images so).1; within = within so; committed = was.committed; prepared = was.prepared; marked = was.marked; marked_sums = was.marked_sums; marked_within = was.marked_within; saved_sums = was.saved_sums; leaves = was.leaves };
 }
 
 -- two properties of what may be there
@@ -122,7 +123,7 @@ both_if P Q (Some a) first second = (first, second)
 
 -- another mark, or none
 pub sound_marked : (store : StoreFacts) (live : BlockTable) (slots : Slots) (marked : Option BlockTable) → IsSound store live slots → IfSome marked IsBlockTable → All IsPlaced (marked_extents marked)
-    → (IsTrue store.honest → IfSome marked (λ t. AreRight slots.version store.content t.places.items)) → (IsTrue store.honest → All (EndsIn store.content) (marked_extents marked)) → IsSound store live (record slots { marked = marked })
+    → (IsTrue store.honest → IfSome marked (λ t. AreRight slots.next_version store.content t.places.items)) → (IsTrue store.honest → All (EndsIn store.content) (marked_extents marked)) → IsSound store live (record slots { marked = marked })
 sound_marked store live slots marked sound tables placed images within =
     let formed = sound.formed in
     record {
@@ -134,6 +135,8 @@ sound_marked store live slots marked sound tables placed images within =
         marked = tables;
         kept = kept_all IsPlaced (record slots { marked = marked }) (kept_pair IsPlaced slots formed.kept) (kept_prepared IsPlaced slots formed.kept) placed;
         version = formed.version;
+        next_version = formed.next_version;
+        turning = formed.turning;
         numbered = formed.numbered;
         in_range = formed.in_range;
       };
@@ -145,9 +148,10 @@ sound_marked store live slots marked sound tables placed images within =
             within = was.within;
             committed = was.committed;
             prepared = was.prepared;
-            marked = (if_both (λ t. AreImaged store.content t.places.items) (λ t. AreSummed (has_sums slots.version) store.content t.places.items) marked (images so)).0;
-            marked_sums = (if_both (λ t. AreImaged store.content t.places.items) (λ t. AreSummed (has_sums slots.version) store.content t.places.items) marked (images so)).1;
+            marked = (if_both (λ t. AreImaged store.content t.places.items) (λ t. AreSummed (has_sums slots.next_version) store.content t.places.items) marked (images so)).0;
+            marked_sums = (if_both (λ t. AreImaged store.content t.places.items) (λ t. AreSummed (has_sums slots.next_version) store.content t.places.items) marked (images so)).1;
             marked_within = within so;
+            saved_sums = was.saved_sums;
             leaves = λ c left. let is = was.leaves c left in record { gate = is.gate; counts = is.counts; beside = is.beside };
           };
     }
@@ -160,7 +164,7 @@ pub sound_back : (store : StoreFacts) (live back : BlockTable) (slots : Slots) �
 sound_back store live back slots is sound =
     let placed = kept_marked IsPlaced slots sound.formed.kept in
     sound_unmarked store back slots (sound_live store live back slots sound (subst (λ m. IfSome m IsBlockTable) is sound.formed.marked) (subst (λ m. All IsPlaced (marked_extents m)) is placed)
-    (λ so. subst (λ m. IfSome m (λ t. AreRight slots.version store.content t.places.items)) is (both_if (λ t. AreImaged store.content t.places.items) (λ t. AreSummed (has_sums slots.version) store.content t.places.items) slots.marked (sound.whole so).marked (sound.whole so).marked_sums)) (λ so. subst (λ m. All (EndsIn store.content) (marked_extents m)) is (sound.whole so).marked_within))
+    (λ so. subst (λ m. IfSome m (λ t. AreRight slots.next_version store.content t.places.items)) is (both_if (λ t. AreImaged store.content t.places.items) (λ t. AreSummed (has_sums slots.next_version) store.content t.places.items) slots.marked (sound.whole so).marked (sound.whole so).marked_sums)) (λ so. subst (λ m. All (EndsIn store.content) (marked_extents m)) is (sound.whole so).marked_within))
 
 -- one place has another block
 pub table_set : (live new : BlockTable) (i : ℕ) (place : Place) → IsBlockTable live → IsPlace place → new.map_block ≡ live.map_block → new.places.items ≡ set live.places.items i (Some place) → IsBlockTable new
@@ -189,8 +193,8 @@ sound_attributes store live new slots h attributes place sound at typed map_bloc
     let sums = (sound.whole so).sums in
     let was = each_at (IsImaged store.content) old i place at images in (
       subst (AreImaged store.content) (sym is) (each_set (IsImaged store.content) old i (Some one) (record { image = was.image; kind = was.kind }) images),
-      subst (AreSummed (has_sums slots.version) store.content) (sym is)
-          (each_set (IsSummed (has_sums slots.version) store.content) old i (Some one) (each_at (IsSummed (has_sums slots.version) store.content) old i place at sums) sums),
+      subst (AreSummed (has_sums slots.next_version) store.content) (sym is)
+          (each_set (IsSummed (has_sums slots.next_version) store.content) old i (Some one) (each_at (IsSummed (has_sums slots.next_version) store.content) old i place at sums) sums),
     ))
     (λ so. kept (EndsIn store.content) (sound.whole so).within)
 
@@ -208,5 +212,5 @@ sound_map store live new slots sound is map_block =
       ];
     })
     (subst (λ ps. All IsPlaced (block_extents ps)) (sym is) sound.formed.placed)
-    (λ so. (subst (AreImaged store.content) (sym is) (sound.whole so).images, subst (AreSummed (has_sums slots.version) store.content) (sym is) (sound.whole so).sums))
+    (λ so. (subst (AreImaged store.content) (sym is) (sound.whole so).images, subst (AreSummed (has_sums slots.next_version) store.content) (sym is) (sound.whole so).sums))
     (λ so. subst (λ ps. All (EndsIn store.content) (block_extents ps)) (sym is) (sound.whole so).within)

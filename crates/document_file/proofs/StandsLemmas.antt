@@ -14,7 +14,7 @@ use Rattle.vm_store.specs.Facts.{StoreFacts, byte, IsTimely}
 use Rattle.geos_model.specs.Bytes.{same_bytes}
 use Rattle.geos_model.specs.Document.{Block, IsTyped, is_heap_body}
 use Rattle.geos_model.specs.Image.{body_of, body_read}
-use Rattle.file_format.specs.File.{stands, open_slot, if_open, slot_text, slot_sums_text, slot_mark, slot_fields, counting_slot, document_at, document_of, blocks_of_entries, bytes_in, has_sum, is_in_file, prepended, summed_document}
+use Rattle.file_format.specs.File.{stands, open_slot, if_open, slot_text, slot_mark, slot_fields, counting_slot, document_at, document_of, blocks_of_entries, bytes_in, has_sum, prepended, summed_document}
 use Rattle.file_format.specs.declared.file.Extent.{Extent}
 use Rattle.file_format.specs.declared.file.Entry.{Entry}
 use Rattle.file_format.specs.declared.file.Slot.{Slot}
@@ -22,10 +22,10 @@ use Rattle.geos_model.proofs.Table.{table_entries, table_map}
 use Rattle.file_format.proofs.FileDocuments.{block_of-is, bytes_in-keeps, directory_of-some, document_at-kept, is_in_file-parts}
 use Rattle.file_format.proofs.FileStands.{stands-from, counts-first, counts-second, counts-first_newer, counts-second_newer, open_slot-text, open_slot-shut, slot_bytes}
 use Rattle.document_file.specs.Ranges.{IsPlaced, KeepsExtent, KeepsAll}
-use Rattle.document_file.specs.Sums.{AreSummed, IsSummed, has_sums, next_version, sum_for}
-use Rattle.document_file.proofs.SumsLemmas.{sum_for-has, sum_for-fits, sums_sealed, sums_fit, sums_working, sums_saved, behind_few, next_version-is}
+use Rattle.document_file.specs.Sums.{AreSummed, IsSummed, has_sums}
+use Rattle.document_file.proofs.SumsLemmas.{sum_for-has, sum_for-fits, sums_sealed, sums_fit, sums_working, sums_saved, behind_few, next_is}
 use Rattle.file_format.specs.Slots.{IsVersion}
-use Rattle.document_file.specs.Slots.{gate_text, behind_gate, slot_value, unsummed_slot, sums_of, LeadsTo, IsBeside, IsUnmarked, IsOlder, Outcome, block_extents, stored_extents, pair_extents, prepared_extents, switched, AreExtentsPlaced}
+use Rattle.document_file.specs.Slots.{gate_text, behind_gate, slot_value, unsummed_slot, LeadsTo, IsBeside, IsUnmarked, IsOlder, Outcome, block_extents, stored_extents, pair_extents, prepared_extents, switched, AreExtentsPlaced}
 use Rattle.document_file.specs.Documents.{blocks_in, document_in, documents_in, attempted_in, entries_of, directory_of_table, IsImaged, AreImaged, IsStored, AreStored, IsPreparedStored, sequence_of, sequence_in, version_of, version_in}
 use Rattle.document_file.specs.Disk.{StandsForOne, IsCrashConsistent, HasSequence}
 use Rattle.file_format.specs.Slots.{Beaten}
@@ -257,54 +257,55 @@ long_enough version sequence pair slot file c fits leads =
 abbrev pub IsPreparedReadable : ℕ → List ℕ → ℕ → SpareSlot → Type 0
 IsPreparedReadable version file sequence Shut = Unit {0}
 IsPreparedReadable version file sequence Stale = Unit {0}
-IsPreparedReadable version file sequence (Prepared pair) = AreStored (next_version version) file pair × IsPreparedFormed sequence (Prepared pair)
+IsPreparedReadable version file sequence (Prepared pair) = AreStored version file pair × IsPreparedFormed sequence (Prepared pair)
 
 -- the pairs that a crash may leave, with what is known of them
 pub record AreReadable (slots : Slots) (file : List ℕ) : Type 0 where
   pub versioned : IsVersion slots.version
+  pub next_versioned : IsVersion slots.next_version
   pub some : 1 ≤ slots.sequence
   pub in_range : slots.sequence < 2 ^ 64
   pub placed : AreExtentsPlaced slots
   pub tables : AreTables slots.committed
   pub committed : AreStored slots.version file slots.committed
-  pub prepared : IsPreparedReadable slots.version file slots.sequence slots.spare
+  pub prepared : IsPreparedReadable slots.next_version file slots.sequence slots.spare
 
 stale_beaten : (second : Bool) (sequence : ℕ) (c : List ℕ) → sequence < 2 ^ 64 → 1024 ≤ length c → IsUnmarked (if second then 0 else 1) c ⊎ IsOlder (if second then 0 else 1) sequence c → Beaten (open_slot c (if second then 0 else 1)) sequence
 stale_beaten second sequence c range long (inl unmarked) = inl (unmarked_shut (if second then 0 else 1) c (both_within c second long) unmarked)
 stale_beaten second sequence c range long (inr older) = older_beaten (if second then 0 else 1) sequence c range (both_within c second long) older
 
-pub prepared_beats : (second : Bool) (version sequence : ℕ) (committed held : Pair) (file c : List ℕ) → FitsPair version sequence committed → FitsPair (next_version version) (sequence + 1) held → AreStored (next_version version) file held → byte c (512 * (if second then 1 else 0) + 4) ≡ 1
-    → LeadsTo (if second then 1 else 0) version sequence committed file c → byte c (512 * (if second then 0 else 1) + 4) ≡ 1 → LeadsTo (if second then 0 else 1) (next_version version) (sequence + 1) held file c → stands c ≡ Ok (documents_in file held)
-prepared_beats true version sequence committed held file c fits fits_prepared stored gate leads prepared_gate prepared_leads =
-    lead_stands (next_version version) (sequence + 1) held file c false fits_prepared stored prepared_gate prepared_leads (inr (slot_value version sequence committed, lead_open 1 version sequence committed file c fits gate leads, omega arith))
-prepared_beats false version sequence committed held file c fits fits_prepared stored gate leads prepared_gate prepared_leads =
-    lead_stands (next_version version) (sequence + 1) held file c true fits_prepared stored prepared_gate prepared_leads (inr (slot_value version sequence committed, lead_open 0 version sequence committed file c fits gate leads, omega arith))
+pub prepared_beats : (second : Bool) (version next sequence : ℕ) (committed held : Pair) (file c : List ℕ) → FitsPair version sequence committed → FitsPair next (sequence + 1) held → AreStored next file held → byte c (512 * (if second then 1 else 0) + 4) ≡ 1
+    → LeadsTo (if second then 1 else 0) version sequence committed file c → byte c (512 * (if second then 0 else 1) + 4) ≡ 1 → LeadsTo (if second then 0 else 1) next (sequence + 1) held file c → stands c ≡ Ok (documents_in file held)
+prepared_beats true version next sequence committed held file c fits fits_prepared stored gate leads prepared_gate prepared_leads =
+    lead_stands next (sequence + 1) held file c false fits_prepared stored prepared_gate prepared_leads (inr (slot_value version sequence committed, lead_open 1 version sequence committed file c fits gate leads, omega arith))
+prepared_beats false version next sequence committed held file c fits fits_prepared stored gate leads prepared_gate prepared_leads =
+    lead_stands next (sequence + 1) held file c true fits_prepared stored prepared_gate prepared_leads (inr (slot_value version sequence committed, lead_open 0 version sequence committed file c fits gate leads, omega arith))
 
 -- so that its number counts
-pub prepared_numbered : (second : Bool) (version sequence : ℕ) (committed held : Pair) (file c : List ℕ) → FitsPair version sequence committed → FitsPair (next_version version) (sequence + 1) held → byte c (512 * (if second then 1 else 0) + 4) ≡ 1
-    → LeadsTo (if second then 1 else 0) version sequence committed file c → byte c (512 * (if second then 0 else 1) + 4) ≡ 1 → LeadsTo (if second then 0 else 1) (next_version version) (sequence + 1) held file c → sequence_in c ≡ Some (sequence + 1)
-prepared_numbered true version sequence committed held file c fits fits_prepared gate leads prepared_gate prepared_leads =
-    ap sequence_of (counts c false (slot_value (next_version version) (sequence + 1) held) (lead_open 0 (next_version version) (sequence + 1) held file c fits_prepared prepared_gate prepared_leads) (inr (slot_value version sequence committed, lead_open 1 version sequence committed file c fits gate leads, omega arith)))
-prepared_numbered false version sequence committed held file c fits fits_prepared gate leads prepared_gate prepared_leads =
-    ap sequence_of (counts c true (slot_value (next_version version) (sequence + 1) held) (lead_open 1 (next_version version) (sequence + 1) held file c fits_prepared prepared_gate prepared_leads) (inr (slot_value version sequence committed, lead_open 0 version sequence committed file c fits gate leads, omega arith)))
+pub prepared_numbered : (second : Bool) (version next sequence : ℕ) (committed held : Pair) (file c : List ℕ) → FitsPair version sequence committed → FitsPair next (sequence + 1) held → byte c (512 * (if second then 1 else 0) + 4) ≡ 1
+    → LeadsTo (if second then 1 else 0) version sequence committed file c → byte c (512 * (if second then 0 else 1) + 4) ≡ 1 → LeadsTo (if second then 0 else 1) next (sequence + 1) held file c → sequence_in c ≡ Some (sequence + 1)
+prepared_numbered true version next sequence committed held file c fits fits_prepared gate leads prepared_gate prepared_leads =
+    ap sequence_of (counts c false (slot_value next (sequence + 1) held) (lead_open 0 next (sequence + 1) held file c fits_prepared prepared_gate prepared_leads) (inr (slot_value version sequence committed, lead_open 1 version sequence committed file c fits gate leads, omega arith)))
+prepared_numbered false version next sequence committed held file c fits fits_prepared gate leads prepared_gate prepared_leads =
+    ap sequence_of (counts c true (slot_value next (sequence + 1) held) (lead_open 1 next (sequence + 1) held file c fits_prepared prepared_gate prepared_leads) (inr (slot_value version sequence committed, lead_open 0 version sequence committed file c fits gate leads, omega arith)))
 
-one_stands : (spare : SpareSlot) (second : Bool) (version sequence : ℕ) (committed : Pair) (file c : List ℕ) → FitsPair version sequence committed → AreStored version file committed → All IsPlaced (prepared_extents spare) → IsPreparedReadable version file sequence spare
-    → byte c (512 * (if second then 1 else 0) + 4) ≡ 1 → LeadsTo (if second then 1 else 0) version sequence committed file c → IsBeside version spare (if second then 0 else 1) sequence file c → StandsForOne (documents_in file committed ∷ attempted_in file spare) c
-one_stands Shut second version sequence committed file c fits stored placed held gate leads beside =
+one_stands : (spare : SpareSlot) (second : Bool) (version next sequence : ℕ) (committed : Pair) (file c : List ℕ) → IsVersion next → FitsPair version sequence committed → AreStored version file committed → All IsPlaced (prepared_extents spare) → IsPreparedReadable next file sequence spare
+    → byte c (512 * (if second then 1 else 0) + 4) ≡ 1 → LeadsTo (if second then 1 else 0) version sequence committed file c → IsBeside next spare (if second then 0 else 1) sequence file c → StandsForOne (documents_in file committed ∷ attempted_in file spare) c
+one_stands Shut second version next sequence committed file c is_next fits stored placed held gate leads beside =
     inl (lead_stands version sequence committed file c second fits stored gate leads (inl (open_slot-shut c (if second then 0 else 1) beside)))
-one_stands Stale second version sequence committed file c fits stored placed held gate leads beside =
+one_stands Stale second version next sequence committed file c is_next fits stored placed held gate leads beside =
     inl (lead_stands version sequence committed file c second fits stored gate leads (stale_beaten second sequence c fits.in_range (long_enough version sequence committed (if second then 1 else 0) file c fits leads) beside))
-one_stands (Prepared pair) second version sequence committed file c fits stored placed held gate leads beside =
+one_stands (Prepared pair) second version next sequence committed file c is_next fits stored placed held gate leads beside =
     let o : ℕ = if second then 0 else 1 in
     elim (cases_Bool (byte c (512 * o + 4) == 1)) as (λ _. StandsForOne (documents_in file committed ∷ documents_in file pair ∷ []) c) [
-      | inl opened ↦ inr (inl (prepared_beats second version sequence committed pair file c fits (fits_pair (next_version version) (sequence + 1) file pair (next_version-is version) (omega arith) held.1.1 held.1.0 held.0 placed) held.0 gate leads (eqb-true (byte c (512 * o + 4)) 1 opened) beside))
+      | inl opened ↦ inr (inl (prepared_beats second version next sequence committed pair file c fits (fits_pair next (sequence + 1) file pair is_next (omega arith) held.1.1 held.1.0 held.0 placed) held.0 gate leads (eqb-true (byte c (512 * o + 4)) 1 opened) beside))
       | inr shut ↦ inl (lead_stands version sequence committed file c second fits stored gate leads (inl (open_slot-shut c o (eqb-false (byte c (512 * o + 4)) 1 shut))))
     ]
 
 -- A file that a crash left stands for the pair that is committed, or for the one that is prepared.
 pub outcome_stands : (slots : Slots) (file c : List ℕ) → AreReadable slots file → Outcome slots file c → StandsForOne (documents_in file slots.committed ∷ attempted_in file slots.spare) c
 outcome_stands slots file c are was =
-    one_stands slots.spare slots.second slots.version slots.sequence slots.committed file c (fits_pair slots.version slots.sequence file slots.committed are.versioned are.some are.in_range are.tables are.committed (kept_pair IsPlaced slots are.placed))
+    one_stands slots.spare slots.second slots.version slots.next_version slots.sequence slots.committed file c are.next_versioned (fits_pair slots.version slots.sequence file slots.committed are.versioned are.some are.in_range are.tables are.committed (kept_pair IsPlaced slots are.placed))
     are.committed (kept_prepared IsPlaced slots are.placed) are.prepared was.gate was.counts was.beside
 
 pub prepared_readable : (version : ℕ) (file : List ℕ) (sequence : ℕ) (spare : SpareSlot) → IsPreparedFormed sequence spare → IsPreparedStored version file spare → IsPreparedReadable version file sequence spare
@@ -316,12 +317,13 @@ prepared_readable version file sequence (Prepared pair) formed stored = (stored,
 pub sound_readable : (store : StoreFacts) (live : BlockTable) (slots : Slots) → IsFormed live slots → IsWhole store live slots → AreReadable slots store.content
 sound_readable store live slots formed whole = record {
   versioned = formed.version;
+  next_versioned = next_is slots.version slots.next_version formed.next_version;
   some = formed.numbered;
   in_range = formed.in_range;
   placed = formed.kept;
   tables = formed.committed;
   committed = whole.committed;
-  prepared = prepared_readable slots.version store.content slots.sequence slots.spare formed.prepared whole.prepared;
+  prepared = prepared_readable slots.next_version store.content slots.sequence slots.spare formed.prepared whole.prepared;
 }
 
 -- what a crash now leaves stands for what may be read
@@ -332,19 +334,19 @@ sound_settled facts store live slots sound honest c left =
 
 -- The slot that counts, where no commit failed in its last step, and its number and version.
 
-counted_one : (spare : SpareSlot) (second : Bool) (version sequence : ℕ) (committed : Pair) (file c : List ℕ) → FitsPair version sequence committed → attempted_in file spare ≡ [] → byte c (512 * (if second then 1 else 0) + 4) ≡ 1 → LeadsTo (if second then 1 else 0) version sequence committed file c
-    → IsBeside version spare (if second then 0 else 1) sequence file c → counting_slot (open_slot c 0) (open_slot c 1) ≡ Ok (slot_value version sequence committed)
-counted_one Shut second version sequence committed file c fits none gate leads beside =
+counted_one : (spare : SpareSlot) (second : Bool) (version next sequence : ℕ) (committed : Pair) (file c : List ℕ) → FitsPair version sequence committed → attempted_in file spare ≡ [] → byte c (512 * (if second then 1 else 0) + 4) ≡ 1 → LeadsTo (if second then 1 else 0) version sequence committed file c
+    → IsBeside next spare (if second then 0 else 1) sequence file c → counting_slot (open_slot c 0) (open_slot c 1) ≡ Ok (slot_value version sequence committed)
+counted_one Shut second version next sequence committed file c fits none gate leads beside =
     counts c second (slot_value version sequence committed) (lead_open (if second then 1 else 0) version sequence committed file c fits gate leads) (inl (open_slot-shut c (if second then 0 else 1) beside))
-counted_one Stale second version sequence committed file c fits none gate leads beside =
+counted_one Stale second version next sequence committed file c fits none gate leads beside =
     counts c second (slot_value version sequence committed) (lead_open (if second then 1 else 0) version sequence committed file c fits gate leads)
     (stale_beaten second sequence c fits.in_range (long_enough version sequence committed (if second then 1 else 0) file c fits leads) beside)
-counted_one (Prepared pair) second version sequence committed file c fits none gate leads beside = absurd (cc none)
+counted_one (Prepared pair) second version next sequence committed file c fits none gate leads beside = absurd (cc none)
 
 outcome_counted : (slots : Slots) (file c : List ℕ) → AreReadable slots file → attempted_in file slots.spare ≡ [] → Outcome slots file c
     → counting_slot (open_slot c 0) (open_slot c 1) ≡ Ok (slot_value slots.version slots.sequence slots.committed)
 outcome_counted slots file c are none was =
-    counted_one slots.spare slots.second slots.version slots.sequence slots.committed file c (fits_pair slots.version slots.sequence file slots.committed are.versioned are.some are.in_range are.tables are.committed (kept_pair IsPlaced slots are.placed)) none was.gate was.counts was.beside
+    counted_one slots.spare slots.second slots.version slots.next_version slots.sequence slots.committed file c (fits_pair slots.version slots.sequence file slots.committed are.versioned are.some are.in_range are.tables are.committed (kept_pair IsPlaced slots are.placed)) none was.gate was.counts was.beside
 
 pub outcome_numbered : (slots : Slots) (file c : List ℕ) → AreReadable slots file → attempted_in file slots.spare ≡ [] → Outcome slots file c → sequence_in c ≡ Some slots.sequence
 outcome_numbered slots file c are none was = ap sequence_of (outcome_counted slots file c are none was)
@@ -368,13 +370,6 @@ sound_versioned facts store live slots timely sound none honest = ap version_of 
 
 -- after a commit that was acknowledged
 pub turned_versioned : {S : Type 0} (facts : S → StoreFacts) (store : S) (live : BlockTable) (old : Slots) (pair : Pair) (slots : Slots) → (IsTrue (facts store).honest → IsTimely (facts store)) → IsSound (facts store) live slots
-    → slots ≡ switched old pair → IsTrue (facts store).honest → version_in (facts store).content ≡ Some (next_version old.version)
+    → slots ≡ switched old pair → IsTrue (facts store).honest → version_in (facts store).content ≡ Some old.next_version
 turned_versioned facts store live old pair slots timely sound is honest =
     sound_versioned facts store live slots timely sound (ap (λ (s : Slots). attempted_in (facts store).content s.spare) is) honest ∙ ap (λ (s : Slots). Some s.version) is
-
--- so that it writes the version behind that which the file had, where no commit was in doubt
-pub turned_again : {S : Type 0} (facts : S → StoreFacts) (a b : S) (before live : BlockTable) (old : Slots) (pair : Pair) (slots : Slots) → (IsTrue (facts a).honest → IsTimely (facts a)) → (IsTrue (facts b).honest → IsTimely (facts b))
-    → IsSound (facts a) before old → IsSound (facts b) live slots → slots ≡ switched old pair → IsTrue (facts a).honest → IsTrue (facts b).honest → attempted_in (facts a).content old.spare ≡ []
-    → version_in (facts b).content ≡ option_map next_version (version_in (facts a).content)
-turned_again facts a b before live old pair slots timely later was sound is so still none =
-    turned_versioned facts b live old pair slots later sound is still ∙ sym (ap (option_map next_version) (sound_versioned facts a before old timely was none so))

@@ -8,11 +8,13 @@ use Rattle.document_file.specs.Disk.{SameUnlessCorrupt}
 use Rattle.document_file.specs.Documents.{AreImaged, AreStored, blocks_in, documents_in}
 use Rattle.document_file.specs.Opened.{AreReadDocuments}
 use Rattle.document_file.specs.StoredDocuments.{AreFileDocuments, LieIn, OnlyReadsDocuments, StoredState, stored_state}
+use Rattle.document_file.specs.Sums.{HaveSums}
 use Rattle.document_file.specs.declared.table.Pair.{Pair}
 use Rattle.file_format.proofs.LooksLemmas.{OnlyReadsStore-refl, OnlyReadsStore-trans, still_holds}
 use Rattle.document_file.proofs.OpenedLemmas.{IsChecked, pair_stands}
 use Rattle.document_file.proofs.PassingLemmas.{SameUnlessCorrupt-refl, SameUnlessCorrupt-trans}
 use Rattle.document_file.proofs.StandsLemmas.{summed_stored}
+use Rattle.document_file.proofs.SumsLemmas.{summed_have}
 use Rattle.document_file.proofs.TableLemmas.{listed, places_drift}
 
 -- What is read.
@@ -24,6 +26,8 @@ read_lie old new version n pair looks are stored =
       tables = record { updated = are.updated.table; saved = are.saved.table };
       updated = λ so. (now so).updated.images;
       saved = λ so. (now so).saved.images;
+      updated_sums = λ so. summed_have _ _ _ (now so).updated.sums;
+      saved_sums = λ so. summed_have _ _ _ (now so).saved.sums;
     }
 
 pub read_stands : (file : List ℕ) (n : ℕ) (s : Slot) (pair : Pair) → IsChecked s → AreReadDocuments n pair → AreStored s.version file pair → pair.updated.directory ≡ s.working → pair.saved.directory ≡ s.saved → pair.updated.sum ≡ working_sum s → pair.saved.sum ≡ saved_sum s
@@ -49,6 +53,8 @@ module _ {S : Type 0} (facts : S → StoreFacts) where
     tables = lie.tables;
     updated = still_holds (λ file. AreImaged file pair.updated.table.value.places.items) (facts a) (facts b) looks lie.updated;
     saved = still_holds (λ file. AreImaged file pair.saved.table.value.places.items) (facts a) (facts b) looks lie.saved;
+    updated_sums = still_holds (λ file. HaveSums file pair.updated.table.value.places.items) (facts a) (facts b) looks lie.updated_sums;
+    saved_sums = still_holds (λ file. HaveSums file pair.saved.table.value.places.items) (facts a) (facts b) looks lie.saved_sums;
   }
 
   -- Calls that only read.

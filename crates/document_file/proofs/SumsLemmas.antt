@@ -1,8 +1,8 @@
 -- Sums of what lies in a file of version 3.
-use Rattle.std.proofs.Common.{◌≡◌, ◌≢◌, ◌⊎◌, ℕ, suc, ◌+◌, ◌^◌, ◌<◌, ◌≤◌, ◌==◌, Bool, true, false, List, drop, length, length-append, get_or, Option, None, Some, is_some, All, refl, sym, ap, subst, ◌∙◌, arith, inl, inr, eq-eqb, eqb-true, ne_eqb, bit_xor}
+use Rattle.std.proofs.Common.{◌≡◌, ℕ, ◌^◌, ◌<◌, ◌≤◌, ◌==◌, Bool, true, false, List, drop, length, length-append, get_or, Option, None, Some, is_some, refl, sym, ap, subst, ◌∙◌, arith, inl, inr, eq-eqb, eqb-true, bit_xor}
 use Rattle.std.specs.Prelude.{IfSome}
 use Rattle.std.specs.Option.{option_map}
-use Rattle.std.proofs.lemmas.Bool.{cases_Bool, cond-true, cond-false}
+use Rattle.std.proofs.lemmas.Bool.{cases_Bool, cond-true, cond-false, eqb-false}
 use Rattle.std.proofs.lemmas.Nat.{xor_lt}
 use Rattle.checksum.specs.Crc32c.{crc32c, crc32c_after, register, bits, all_ones}
 use Rattle.checksum.proofs.Bursts.{bits_are, register_lt}
@@ -12,7 +12,8 @@ use Rattle.file_format.specs.Slots.{IsVersion}
 use Rattle.file_format.specs.declared.file.Extent.{Extent}
 use Rattle.file_format.specs.declared.file.Slot.{Slot}
 use Rattle.file_format.specs.declared.file.SlotSums.{SlotSums}
-use Rattle.document_file.specs.Sums.{has_sums, next_version, sum_for, HasSum, HaveSums, IsSummed, AreSummed}
+use Rattle.document_file.specs.Sums.{has_sums, kept_sum, version_for, sum_for, HasSum, HaveSums, IsSummed, AreSummed}
+use Rattle.document_file.specs.Sound.{IsNextVersion}
 use Rattle.document_file.specs.Slots.{behind_gate, gate_text, slot_value, sums_of, unsummed_slot}
 use Rattle.document_file.specs.declared.table.Place.{Place}
 use Rattle.document_file.specs.declared.table.Pair.{Pair}
@@ -40,6 +41,15 @@ pub sum_for-there : (summed : Bool) (bytes : List ℕ) → is_some (sum_for summ
 sum_for-there true bytes = refl
 sum_for-there false bytes = refl
 
+pub kept_sum-there : (checksums : Bool) (sum : Option ℕ) → is_some (kept_sum checksums sum) ≡ checksums
+kept_sum-there true sum = refl
+kept_sum-there false sum = refl
+
+-- a sum that is right is kept
+pub kept_sum-is : (checksums : Bool) (sum : Option ℕ) (bytes : List ℕ) → sum ≡ sum_for checksums bytes → kept_sum checksums sum ≡ sum_for checksums bytes
+kept_sum-is true sum bytes is = ap (λ o. kept_sum true o) is
+kept_sum-is false sum bytes is = refl
+
 -- a sum that fits a version's text
 pub sum_for-fits : (version : ℕ) (sum : Option ℕ) (bytes : List ℕ) → sum ≡ sum_for (has_sums version) bytes → FitsSum version sum
 sum_for-fits version sum bytes is = elim (cases_Bool (version == 3)) as (λ _. FitsSum version sum) [
@@ -61,17 +71,38 @@ summed_have summed file places are k d inside = summed_has summed file (get_or p
 
 -- Versions.
 
-pub next_version-sums : (version : ℕ) → has_sums (next_version version) ≡ has_sums version
-next_version-sums version = elim (cases_Bool (version == 3)) [
-  | inl three ↦ ap has_sums (cond-true _ _ _ three) ∙ sym three
-  | inr older ↦ ap has_sums (cond-false _ _ _ older) ∙ sym older
+pub for_sums : (b : Bool) → has_sums (version_for b) ≡ b
+for_sums true = refl
+for_sums false = refl
+
+pub for_version : (b : Bool) → IsVersion (version_for b)
+for_version true = inr (inr refl)
+for_version false = inr (inl refl)
+
+pub for_new : (b : Bool) → IsNextVersion (version_for b) (version_for b)
+for_new true = inr refl
+for_new false = inl (refl, λ e. absurd (omega (arith, e)))
+
+-- what commits write in a file that was opened
+pub for_next : (version : ℕ) → IsNextVersion version (version_for (has_sums version))
+for_next version = elim (cases_Bool (version == 3)) as (λ _. IsNextVersion version (version_for (has_sums version))) [
+  | inl three ↦ inr (cond-true _ _ _ three)
+  | inr older ↦ inl (cond-false _ _ _ older, eqb-false version 3 older)
 ]
 
-pub next_version-is : (version : ℕ) → IsVersion (next_version version)
-next_version-is version = elim (cases_Bool (version == 3)) [
-  | inl three ↦ inr (inr (cond-true _ _ _ three))
-  | inr older ↦ inr (inl (cond-false _ _ _ older))
-]
+pub next_is : (version next : ℕ) → IsNextVersion version next → IsVersion next
+next_is version next (inl two) = inr (inl two.0)
+next_is version next (inr three) = inr (inr three)
+
+-- it is the version for its sums
+pub next_for : (version next : ℕ) → IsNextVersion version next → version_for (has_sums next) ≡ next
+next_for version next (inl two) = ap (λ n. version_for (has_sums n)) two.0 ∙ sym two.0
+next_for version next (inr three) = ap (λ n. version_for (has_sums n)) three ∙ sym three
+
+-- and it stays once it is the file's
+pub next_stays : (version next : ℕ) → IsNextVersion version next → IsNextVersion next next
+next_stays version next (inl two) = inl (two.0, λ e. absurd (omega (arith, two.0, e)))
+next_stays version next (inr three) = inr three
 
 -- The sums of a slot.
 

@@ -274,7 +274,7 @@ pub grown_sound : (store : StoreFacts) (live new : BlockTable) (slots : Slots) �
 grown_sound store live new slots grown few same sound =
     let extents = grown_extents live.places.items new.places.items grown in
     sound_live store live new slots sound (grown_table live new grown few same sound.formed.table) (subst (All IsPlaced) (sym extents) sound.formed.placed)
-    (λ so. (grown_each live.places.items new.places.items grown (IsImaged store.content) (sound.whole so).images, grown_each live.places.items new.places.items grown (IsSummed (has_sums slots.version) store.content) (sound.whole so).sums))
+    (λ so. (grown_each live.places.items new.places.items grown (IsImaged store.content) (sound.whole so).images, grown_each live.places.items new.places.items grown (IsSummed (has_sums slots.next_version) store.content) (sound.whole so).sums))
     (λ so. subst (All (EndsIn store.content)) (sym extents) (sound.whole so).within)
 
 pub grown_document : (file : List ℕ) (live new : BlockTable) → IsGrown live.places.items new.places.items → new.map_block ≡ live.map_block → document_in file new ≡ document_in file live

@@ -1,8 +1,8 @@
 -- A table as a directory in the file.
-use Rattle.std.proofs.Common.{◌≡◌, ◌⊎◌, ℕ, zero, suc, ◌+◌, ◌-◌, ◌<◌, ◌≤◌, ◌==◌, nat_lt, cond, true, false, List, [], ◌∷◌, ◌++◌, take, length, get_or, Option, None, Some, is_some, All, refl, sym, ap, subst, ◌∙◌, arith, inl, inr, eq-eqb, lt-ltb, length-take}
+use Rattle.std.proofs.Common.{◌≡◌, ◌⊎◌, ℕ, zero, suc, ◌+◌, ◌-◌, ◌<◌, ◌≤◌, ◌==◌, nat_lt, cond, Bool, true, false, List, [], ◌∷◌, ◌++◌, take, length, get_or, Option, None, Some, is_some, All, refl, sym, ap, subst, ◌∙◌, arith, inl, inr, eq-eqb, lt-ltb, length-take}
 use Rattle.std.specs.Prelude.{IfSome, ◌||◌}
 use Rattle.std.specs.List.{count_by, flat_map, list_all, list_any}
-use Rattle.std.proofs.lemmas.Bool.{and_from, cases_Bool, cond-true, cond-false}
+use Rattle.std.proofs.lemmas.Bool.{and_from, cond-true}
 use Rattle.std.proofs.lemmas.List.{flat_map_more, get_or_past, take_more, append-nil}
 use Rattle.std.proofs.lemmas.List.Sums.{sum_by-cons}
 use Rattle.std.proofs.lemmas.List.Elements.{All-nil, All-cons, All-append}
@@ -16,8 +16,8 @@ use Rattle.geos_model.specs.Document.{most_blocks, FitAttributes}
 use Rattle.document_file.specs.Ranges.{IsPlaced, start_of, end_of}
 use Rattle.document_file.specs.Slots.{block_extents, stored_extents}
 use Rattle.document_file.specs.Documents.{entries_of, directory_of_table, AreImaged, IsStored}
-use Rattle.document_file.specs.Sound.{IsPlace, ArePlaces, IsBlockTable}
-use Rattle.document_file.specs.Sums.{AreSummed, has_sums, next_version, sum_for}
+use Rattle.document_file.specs.Sound.{IsPlace, ArePlaces, IsBlockTable, IsNextVersion}
+use Rattle.document_file.specs.Sums.{AreSummed, has_sums, sum_for, version_for}
 use Rattle.document_file.proofs.SumsLemmas.{sum_for-fits}
 use Rattle.document_file.specs.declared.table.Place.{Place}
 use Rattle.document_file.specs.declared.table.BlockTable.{BlockTable}
@@ -40,11 +40,13 @@ rising last h (Some place ∷ places) low = and_from (nat_lt last h) (is_rising 
 abbrev pub IsWritten : ℕ → Type 0
 IsWritten version = (version ≡ 2) ⊎ (version ≡ 3)
 
-pub next_written : (version : ℕ) → IsWritten (next_version version)
-next_written version = elim (cases_Bool (version == 3)) [
-  | inl three ↦ inr (cond-true _ _ _ three)
-  | inr older ↦ inl (cond-false _ _ _ older)
-]
+pub next_written : (version next : ℕ) → IsNextVersion version next → IsWritten next
+next_written version next (inl two) = inl two.0
+next_written version next (inr three) = inr three
+
+pub for_written : (b : Bool) → IsWritten (version_for b)
+for_written true = inr refl
+for_written false = inl refl
 
 written_in : (version : ℕ) → IsWritten version → is_version_in version version ≡ true
 written_in version (inl two) = subst (λ v. is_version_in v v ≡ true) (sym two) refl

@@ -13,11 +13,12 @@ use Rattle.document_file.specs.declared.member.Member.{Member}
 use Rattle.document_file.specs.declared.slot.Slots.{Slots}
 use Rattle.document_file.proofs.RangesLemmas.{keeps_itself, torn_same, torn_holds, keeps_within}
 use Rattle.document_file.proofs.SlotsLemmas.{Outlives-refl, Outlives-trans, outcome_keeps, leaves_rebased}
-use Rattle.document_file.specs.Documents.{Documents, documents_in, attempted_in, AreImaged, AreStored, IsPreparedStored}
+use Rattle.document_file.specs.Documents.{Documents, documents_in, attempted_in, AreStored, IsPreparedStored}
 use Rattle.document_file.specs.Disk.{recoverable, StandsForOne, KeepsCommitted}
 use Rattle.document_file.specs.Sound.{IsFormed, IsSound, disk_of}
 use Rattle.document_file.specs.declared.table.BlockTable.{BlockTable}
 use Rattle.document_file.proofs.DocumentsLemmas.{pair_again, prepared_again}
+use Rattle.document_file.proofs.TurningLemmas.{turning_same}
 use Rattle.document_file.proofs.GateAwayLemmas.{attempted_away}
 use Rattle.document_file.proofs.SoundLemmas.{EndsIn, marked_imaged, marked_drifts, live_and_marked, marked_summed, AreRight}
 use Rattle.document_file.proofs.StandsLemmas.{outcome_stands, sound_readable, outcome_numbered}
@@ -104,8 +105,8 @@ module _ {S : Type 0} (facts : S → StoreFacts) (a b : S) (live : BlockTable) (
   committed : IsTrue (facts a).honest → AreStored slots.version (facts b).content slots.committed × (documents_in (facts b).content slots.committed ≡ documents_in (facts a).content slots.committed)
   committed so = pair_again slots.version (facts a).content (facts b).content slots.committed (sound.whole so).committed (kept so).0
 
-  in_doubt : IsTrue (facts a).honest → IsPreparedStored slots.version (facts b).content slots.spare × (attempted_in (facts b).content slots.spare ≡ attempted_in (facts a).content slots.spare)
-  in_doubt so = prepared_again slots.version (facts a).content (facts b).content slots.spare (sound.whole so).prepared (kept so).1
+  in_doubt : IsTrue (facts a).honest → IsPreparedStored slots.next_version (facts b).content slots.spare × (attempted_in (facts b).content slots.spare ≡ attempted_in (facts a).content slots.spare)
+  in_doubt so = prepared_again slots.next_version (facts a).content (facts b).content slots.spare (sound.whole so).prepared (kept so).1
 
   pub call_passes : (facts a).failures ≤ (facts b).failures → (IsTrue (facts a).honest → Outlives (facts a) (facts b) (facts a).content (λ s. s ≡ slots)) → KeepsCommitted facts (disk_of facts a slots) (disk_of facts b slots)
   call_passes failures outlives = record {
@@ -128,9 +129,10 @@ module _ {S : Type 0} (facts : S → StoreFacts) (a b : S) (live : BlockTable) (
         | inr one ↦ inr (outcome_stands slots (facts a).content c (sound_readable (facts a) live slots sound.formed (sound.whole so)) (subst (λ s. Outcome s (facts a).content c) one.1 one.2))
       ];
     };
+    checksums = refl;
   }
 
-  pub call_sound : (new : BlockTable) → IsFormed new slots → (IsTrue (facts a).honest → AreRight slots.version (facts b).content new.places.items × All (EndsIn (facts b).content) (block_extents new.places.items)) → IsSound (facts b) new slots
+  pub call_sound : (new : BlockTable) → IsFormed new slots → (IsTrue (facts a).honest → AreRight slots.next_version (facts b).content new.places.items × All (EndsIn (facts b).content) (block_extents new.places.items)) → IsSound (facts b) new slots
   call_sound new formed images = record {
     formed = formed;
     whole = λ so.
@@ -142,8 +144,9 @@ module _ {S : Type 0} (facts : S → StoreFacts) (a b : S) (live : BlockTable) (
           committed = (committed was).0;
           prepared = (in_doubt was).0;
           marked = marked_imaged (facts a).content (facts b).content slots.marked (sound.whole was).marked_within (marked was) (sound.whole was).marked;
-          marked_sums = marked_summed (has_sums slots.version) (facts a).content (facts b).content slots.marked (sound.whole was).marked_within (marked was) (sound.whole was).marked_sums;
+          marked_sums = marked_summed (has_sums slots.next_version) (facts a).content (facts b).content slots.marked (sound.whole was).marked_within (marked was) (sound.whole was).marked_sums;
           marked_within = keeps_within (marked_extents slots.marked) (facts a).content (facts b).content (marked was);
+          saved_sums = turning_same (has_sums slots.next_version) (facts a).content (facts b).content slots sound.formed.turning (sound.whole was).committed (kept was).0 (sound.whole was).saved_sums;
           leaves = leaves_rebased slots (facts a).content (facts b) (now so) (leaves was);
         };
   }

@@ -1,6 +1,6 @@
 -- What callers see of a document file, and the words by which the layers above pass its promises on.
 use Rattle.std.specs.Prelude.{◌≡◌, ◌⊎◌, ℕ, ◌+◌, ◌*◌, ◌≤◌, Bool, IsTrue, List, [], ◌∷◌, true, Result, Ok, OnOk, OnErr, MatchResult, refl, Option, None, Some}
-use Rattle.std.specs.Coded.{Coded, code_by, coded×, coded_ℕ, coded_list, coded_option}
+use Rattle.std.specs.Coded.{Coded, code_by, coded×, coded_ℕ, coded_bool, coded_list, coded_option}
 use Rattle.vm_store.specs.Facts.{StoreFacts}
 use Rattle.vm_store.specs.Bytes.{after_write}
 use Rattle.geos_model.specs.Document.{Document, block_at, is_heap, is_live, is_valid_body, is_vm_handle, attributes_of, IsTyped}
@@ -11,7 +11,7 @@ use Rattle.document_file.specs.Documents.{Documents, sequence_in}
 
 -- The store, the updated and the saved document of the last acknowledged commit, the pairs of a commit that failed
 -- since and may be read too, the number of the acknowledged one, and the document that is marked, if one is: it can be
--- brought back.
+-- brought back. Commits write sums where there are `checksums`: the file is of version 3 from then on.
 pub record Disk (S : Type 0) : Type 0 where
   pub store : S
   pub updated : Document
@@ -19,6 +19,7 @@ pub record Disk (S : Type 0) : Type 0 where
   pub in_doubt : List Documents
   pub sequence : ℕ
   pub marked : Option Document
+  pub checksums : Bool
 
 -- a file: the disk, and the document as it is now
 pub record FileState (S : Type 0) : Type 0 where
@@ -30,17 +31,19 @@ documents_code = coded× document_code document_code
 
 abbrev pub disk_code : {S : Type 0} → Coded S → Coded (Disk S)
 disk_code {S} s =
-    code_by (S × (Document × (Document × (List Documents × (ℕ × Option Document)))))
+    code_by (S × (Document × (Document × (List Documents × (ℕ × (Option Document × Bool))))))
     (coded× s (coded× document_code (
-    coded× document_code (coded× (coded_list documents_code) (coded× coded_ℕ (coded_option document_code))))))
-    (λ d. (d.store, (d.updated, (d.saved, (d.in_doubt, (d.sequence, d.marked))))))
+    coded× document_code (coded× (coded_list documents_code) (coded× coded_ℕ
+    (coded× (coded_option document_code) coded_bool))))))
+    (λ d. (d.store, (d.updated, (d.saved, (d.in_doubt, (d.sequence, (d.marked, d.checksums)))))))
     (λ p. record {
       store = p.0;
       updated = p.1.0;
       saved = p.1.1.0;
       in_doubt = p.1.1.1.0;
       sequence = p.1.1.1.1.0;
-      marked = p.1.1.1.1.1;
+      marked = p.1.1.1.1.1.0;
+      checksums = p.1.1.1.1.1.1;
     })
     (λ _. refl)
 
@@ -136,6 +139,7 @@ pub record KeepsCommitted {S : Type 0} (facts : S → StoreFacts) (old new : Dis
   pub numbered : IsTrue (facts old.store).honest → old.in_doubt ≡ [] → HasSequence (facts old.store) old.sequence
       → HasSequence (facts new.store) new.sequence
   pub crash : IsTrue (facts old.store).honest → Crash (facts old.store) (facts new.store) (recoverable old)
+  pub checksums : new.checksums ≡ old.checksums
 
 -- Nothing of a commit that wasn't acknowledged can be read: meanwhile a crash left nothing but what might be read
 -- before, and no pair of a commit that failed may be read now but one that might be before.
@@ -162,3 +166,4 @@ pub record MayCommit {S : Type 0} (facts : S → StoreFacts) (pair : Documents) 
       → new.in_doubt ≡ [] → HasSequence (facts new.store) new.sequence)
   pub sequence : MatchResult result (λ _. new.sequence ≡ old.sequence + 1) (λ _. new.sequence ≡ old.sequence)
   pub marked : MarkSameUnlessCorrupt (facts old.store).honest old.marked new.marked
+  pub checksums : new.checksums ≡ old.checksums

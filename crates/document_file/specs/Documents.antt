@@ -11,7 +11,7 @@ use Rattle.geos_model.specs.declared.fault.Fault.{Fault}
 use Rattle.file_format.specs.declared.file.Slot.{Slot}
 use Rattle.file_format.specs.declared.file.Entry.{Entry}
 use Rattle.geos_model.proofs.Table.{table_map}
-use Rattle.document_file.specs.Sums.{AreSummed, has_sums, next_version, sum_for}
+use Rattle.document_file.specs.Sums.{AreSummed, has_sums, sum_for}
 use Rattle.document_file.specs.declared.table.Place.{Place}
 use Rattle.document_file.specs.declared.table.BlockTable.{BlockTable}
 use Rattle.document_file.specs.declared.table.DocumentRef.{DocumentRef}
@@ -87,11 +87,11 @@ pub record AreStored (file_version : ℕ) (file : List ℕ) (pair : Pair) : Type
   pub updated : IsStored file_version file pair.updated
   pub saved : IsStored file_version file pair.saved
 
--- a commit writes the next version
+-- where commits write a version
 abbrev pub IsPreparedStored : ℕ → List ℕ → SpareSlot → Type 0
 IsPreparedStored version file Shut = Unit {0}
 IsPreparedStored version file Stale = Unit {0}
-IsPreparedStored version file (Prepared pair) = AreStored (next_version version) file pair
+IsPreparedStored version file (Prepared pair) = AreStored version file pair
 
 abbrev pub sequence_of : Result Slot Fault → Option ℕ
 sequence_of (Ok s) = Some s.sequence
@@ -108,6 +108,14 @@ version_of (Err fault) = None
 -- its version, which is the file's
 abbrev pub version_in : List ℕ → Option ℕ
 version_in file = version_of (counting_slot (open_slot file 0) (open_slot file 1))
+
+abbrev pub is_of_version_3 : Result Slot Fault → Bool
+is_of_version_3 (Ok s) = has_sums s.version
+is_of_version_3 (Err fault) = false
+
+-- whether the file has sums: that of version 3
+abbrev pub has_checksums : List ℕ → Bool
+has_checksums file = is_of_version_3 (counting_slot (open_slot file 0) (open_slot file 1))
 
 abbrev pub is_for_both : Result Slot Fault → Bool
 is_for_both (Ok s) = s.working.page == s.saved.page && s.working.length == s.saved.length

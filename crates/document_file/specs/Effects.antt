@@ -1,6 +1,6 @@
 -- What a call leaves of a file, and why it is refused: each layer from the file up to the session says it in these
 -- words.
-use Rattle.std.specs.Prelude.{◌≡◌, ◌≢◌, ◌⊎◌, ◌↔◌, ◌≤◌, Bool, IsTrue, [], None, Result, OnOk, IfErr, IsErrOf, MatchResult}
+use Rattle.std.specs.Prelude.{◌≡◌, ◌≢◌, ◌⊎◌, ◌↔◌, ◌≤◌, Bool, IsTrue, [], None, Some, Result, OnOk, IfErr, IsErrOf, MatchResult}
 use Rattle.vm_store.specs.Facts.{StoreFacts, FailedSince, IsUnchanged}
 use Rattle.geos_model.specs.Document.{Document, IsValid}
 use Rattle.geos_model.specs.declared.fault.Fault.{Fault}
@@ -8,7 +8,8 @@ use Rattle.geos_model.specs.declared.fault.Fault.TheVariants.{File, Damaged, Wor
 use Rattle.file_format.specs.Reading.{IsResourceFault}
 use Rattle.document_file.specs.Calls.{last_sequence}
 use Rattle.document_file.specs.Disk.{Disk, FileState, SameUnlessCorrupt, IsFileDocument, KeepsCommitted, MayCommit, IsCrashConsistent, HasSequence, ContentStands}
-use Rattle.document_file.specs.Documents.{Documents}
+use Rattle.document_file.specs.Documents.{Documents, version_in}
+use Rattle.document_file.specs.Sums.{version_for}
 
 -- What always holds of a file. Over an honest store a crash now leaves what may be read, the updated and the saved
 -- document are valid, and unless a commit failed in its last step the number is on the disk.
@@ -37,6 +38,8 @@ pub record IsNewFile {S : Type 0} (facts : S → StoreFacts) (d : Document) (dis
   pub numbered : IsTrue (facts disk.store).honest → HasSequence (facts disk.store) 1
   pub crash_consistent : IsCrashConsistent facts disk
   pub content : ContentStands facts disk
+  pub version : IsTrue (facts disk.store).honest
+      → version_in (facts disk.store).content ≡ Some (version_for disk.checksums)
 
 -- A call that only reads: nothing is written, nothing is committed, and the document stays as far as the store gives
 -- back what it has.

@@ -6,8 +6,9 @@ use Rattle.geos_model.specs.Image.{body_of, body_read}
 use Rattle.file_format.specs.File.{open_slot, counting_slot, stands}
 use Rattle.document_file.specs.Ranges.{IsPlaced, end_of}
 use Rattle.document_file.specs.Slots.{stored_extents, pair_extents, IsBeside, Outcome}
-use Rattle.document_file.specs.Documents.{AreStored, documents_in, sequence_in}
+use Rattle.document_file.specs.Documents.{AreStored, documents_in, has_checksums, sequence_in}
 use Rattle.document_file.specs.Sound.{IsBlockTable, AreTables}
+use Rattle.document_file.specs.Sums.{has_sums, version_for}
 pub use Rattle.file_format.specs.Reading.{OnlyReadsStore}
 use Rattle.file_format.specs.Slots.{IsVersion}
 use Rattle.document_file.specs.declared.table.DocumentRef.{DocumentRef}
@@ -37,7 +38,8 @@ pub record IsActiveSlot (file : List ℕ) (active : ActiveSlot) : Type 0 where
   pub bytes : (i : ℕ) → i < 44 → byte file (512 * (if active.second then 1 else 0) + i) < 256
   pub counts : counting_slot (open_slot file 0) (open_slot file 1) ≡ Ok active.slot
   pub opened : open_slot file (if active.second then 1 else 0) ≡ Some active.slot
-  pub beside : IsBeside active.slot.version active.spare (if active.second then 0 else 1) active.slot.sequence file file
+  -- whatever version commits write: none is prepared
+  pub beside : (next : ℕ) → IsBeside next active.spare (if active.second then 0 else 1) active.slot.sequence file file
 
 -- slots that were read, from any store
 pub record IsReadSlots (slots : Slots) : Type 0 where
@@ -48,6 +50,8 @@ pub record IsReadSlots (slots : Slots) : Type 0 where
   pub in_range : slots.sequence < 2 ^ 64
   pub spare : (slots.spare ≡ Shut) ⊎ (slots.spare ≡ Stale)
   pub unmarked : slots.marked ≡ None
+  pub unturned : slots.saved_sums ≡ None
+  pub next_version : slots.next_version ≡ version_for (has_sums slots.version)
 
 -- from an honest one
 pub record IsReadWhole (file : List ℕ) (slots : Slots) : Type 0 where
@@ -56,3 +60,4 @@ pub record IsReadWhole (file : List ℕ) (slots : Slots) : Type 0 where
   pub outcome : Outcome slots file file
   pub stands : stands file ≡ Ok (documents_in file slots.committed)
   pub numbered : sequence_in file ≡ Some slots.sequence
+  pub versioned : has_checksums file ≡ has_sums slots.version

@@ -5,7 +5,6 @@ use Rattle.vm_store.specs.Facts.{StoreFacts, byte, Holds}
 use Rattle.file_format.specs.declared.file.Extent.{Extent}
 use Rattle.file_format.specs.File.{slot_mark, extent_text, sealed_text, slot_sums_text}
 use Rattle.document_file.specs.Ranges.{IsPlaced, KeepsAll, IsOut, IsClear}
-use Rattle.document_file.specs.Sums.{next_version}
 use Rattle.checksum.specs.Crc32c.{crc32c}
 use Rattle.file_format.specs.declared.file.SlotSums.{SlotSums}
 use Rattle.file_format.specs.declared.file.Slot.{Slot}
@@ -54,16 +53,18 @@ counting_of slots = if slots.second then 1 else 0
 abbrev pub spare_of : Slots → ℕ
 spare_of slots = if slots.second then 0 else 1
 
--- the slots when what the other one leads to counts: a commit writes the next version
+-- the slots when what the other one leads to counts
 abbrev pub switched : Slots → Pair → Slots
 switched slots pair =
     record {
       second = not slots.second;
-      version = next_version slots.version;
+      version = slots.next_version;
+      next_version = slots.next_version;
       sequence = slots.sequence + 1;
       committed = pair;
       spare = Stale;
       marked = slots.marked;
+      saved_sums = None;
     }
 
 -- what a commit that failed before its last step may leave of the slots
@@ -136,17 +137,17 @@ pub record IsOlder (slot sequence : ℕ) (c : List ℕ) : Type 0 where
   pub lower : number < sequence
   pub there : Holds c (512 * slot + 8) (little_bytes 8 number)
 
--- the slot that doesn't count, beside one of this version and this number
+-- the slot that doesn't count, beside one of this number, where commits write a version
 abbrev pub IsBeside : ℕ → SpareSlot → ℕ → ℕ → List ℕ → List ℕ → Type 0
 IsBeside version Shut slot sequence file c = byte c (512 * slot + 4) ≢ 1
 IsBeside version Stale slot sequence file c = IsUnmarked slot c ⊎ IsOlder slot sequence c
-IsBeside version (Prepared pair) slot sequence file c = LeadsTo slot (next_version version) (sequence + 1) pair file c
+IsBeside version (Prepared pair) slot sequence file c = LeadsTo slot version (sequence + 1) pair file c
 
 -- What a crash left: the slot that counts is open and whole, and the other is as it is known to be.
 pub record Outcome (slots : Slots) (file c : List ℕ) : Type 0 where
   pub gate : byte c (512 * counting_of slots + 4) ≡ 1
   pub counts : LeadsTo (counting_of slots) slots.version slots.sequence slots.committed file c
-  pub beside : IsBeside slots.version slots.spare (spare_of slots) slots.sequence file c
+  pub beside : IsBeside slots.next_version slots.spare (spare_of slots) slots.sequence file c
 
 -- a crash now leaves such a file
 abbrev pub CrashLeavesSlots : StoreFacts → Slots → List ℕ → Type 0

@@ -1,5 +1,5 @@
 -- What always holds of a document file.
-use Rattle.std.specs.Prelude.{◌≡◌, ◌⊎◌, ℕ, List, ◌+◌, ◌-◌, ◌^◌, ◌<◌, ◌≤◌, ◌++◌, true, IsTrue, Option, None, IfSome, is_some, length, All, get_or}
+use Rattle.std.specs.Prelude.{◌≡◌, ◌≢◌, ◌⊎◌, ℕ, List, ◌+◌, ◌-◌, ◌^◌, ◌<◌, ◌≤◌, ◌++◌, true, IsTrue, Option, None, Some, IfSome, is_some, length, All, get_or}
 use Rattle.std.specs.Option.{option_map}
 use Rattle.vm_store.specs.Facts.{StoreFacts}
 use Rattle.geos_model.specs.Document.{most_blocks, IsTyped}
@@ -11,7 +11,7 @@ use Rattle.document_file.specs.Disk.{Disk}
 use Rattle.document_file.specs.FreeSpace.{IsSpaceOf}
 use Rattle.document_file.specs.Listing.{AreBounds}
 use Rattle.file_space.specs.Space.{Space}
-use Rattle.document_file.specs.Sums.{AreSummed, has_sums}
+use Rattle.document_file.specs.Sums.{AreSummed, IsResummed, has_sums}
 use Rattle.file_format.specs.Slots.{IsVersion}
 use Rattle.document_file.specs.declared.table.Place.{Place}
 use Rattle.document_file.specs.declared.table.BlockTable.{BlockTable}
@@ -48,6 +48,15 @@ IsPreparedFormed sequence Shut = Unit {0}
 IsPreparedFormed sequence Stale = Unit {0}
 IsPreparedFormed sequence (Prepared pair) = AreTables pair × (sequence + 1 < 2 ^ 64)
 
+-- commits write a version: 2 or 3, and 3 in a file of version 3
+abbrev pub IsNextVersion : ℕ → ℕ → Type 0
+IsNextVersion version next = ((next ≡ 2) × (version ≢ 3)) ⊎ (next ≡ 3)
+
+-- Where commits write sums and the file has none, there is the table of the saved document with sums.
+abbrev pub IsTurning : Slots → Option BlockTable → Type 0
+IsTurning slots None = has_sums slots.next_version ≡ has_sums slots.version
+IsTurning slots (Some table) = IsResummed table slots.committed.saved.table.value
+
 -- over any store
 pub record IsFormed (live : BlockTable) (slots : Slots) : Type 0 where
   pub table : IsBlockTable live
@@ -57,20 +66,24 @@ pub record IsFormed (live : BlockTable) (slots : Slots) : Type 0 where
   pub marked : IfSome slots.marked IsBlockTable
   pub kept : AreExtentsPlaced slots
   pub version : IsVersion slots.version
+  pub next_version : IsNextVersion slots.version slots.next_version
+  pub turning : IsTurning slots slots.saved_sums
   pub numbered : 1 ≤ slots.sequence
   pub in_range : slots.sequence < 2 ^ 64
 
 -- over an honest one
 pub record IsWhole (store : StoreFacts) (live : BlockTable) (slots : Slots) : Type 0 where
   pub images : AreImaged store.content live.places.items
-  pub sums : AreSummed (has_sums slots.version) store.content live.places.items
+  pub sums : AreSummed (has_sums slots.next_version) store.content live.places.items
   pub within : All (λ e. end_of e ≤ length store.content) (block_extents live.places.items)
   pub committed : AreStored slots.version store.content slots.committed
-  pub prepared : IsPreparedStored slots.version store.content slots.spare
+  pub prepared : IsPreparedStored slots.next_version store.content slots.spare
   pub marked : IfSome slots.marked (λ table. AreImaged store.content table.places.items)
   pub marked_sums : IfSome slots.marked
-      (λ table. AreSummed (has_sums slots.version) store.content table.places.items)
+      (λ table. AreSummed (has_sums slots.next_version) store.content table.places.items)
   pub marked_within : All (λ e. end_of e ≤ length store.content) (marked_extents slots.marked)
+  pub saved_sums : IfSome slots.saved_sums
+      (λ table. AreSummed (has_sums slots.next_version) store.content table.places.items)
   pub leaves : CrashLeavesSlots store slots store.content
 
 pub record IsSound (store : StoreFacts) (live : BlockTable) (slots : Slots) : Type 0 where
@@ -95,4 +108,5 @@ disk_of facts store slots =
       in_doubt = attempted_in file slots.spare;
       sequence = slots.sequence;
       marked = option_map (document_in file) slots.marked;
+      checksums = has_sums slots.next_version;
     }

@@ -8,6 +8,7 @@ use Rattle.file_format.specs.Reading.{OnlyReadsStore}
 use Rattle.document_file.specs.Disk.{SameUnlessCorrupt, IsFileDocument}
 use Rattle.document_file.specs.Documents.{document_in, AreImaged}
 use Rattle.document_file.specs.Sound.{AreTables}
+use Rattle.document_file.specs.Sums.{HaveSums}
 use Rattle.document_file.specs.declared.table.Pair.{Pair}
 
 -- the store, and the updated and the saved document to which one of its slots leads
@@ -30,11 +31,13 @@ stored_state facts store pair =
       saved = document_in file pair.saved.table.value;
     }
 
--- The tables can be, and an honest store has the image of each block.
+-- The tables can be, and an honest store has the image of each block, with its sum.
 pub record LieIn (store : StoreFacts) (pair : Pair) : Type 0 where
   pub tables : AreTables pair
   pub updated : IsTrue store.honest → AreImaged store.content pair.updated.table.value.places.items
   pub saved : IsTrue store.honest → AreImaged store.content pair.saved.table.value.places.items
+  pub updated_sums : IsTrue store.honest → HaveSums store.content pair.updated.table.value.places.items
+  pub saved_sums : IsTrue store.honest → HaveSums store.content pair.saved.table.value.places.items
 
 -- both are documents of a file
 pub record AreFileDocuments {S : Type 0} (facts : S → StoreFacts) (state : StoredState S) : Type 0 where

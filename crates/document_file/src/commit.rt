@@ -1,21 +1,20 @@
 //! Commits: the steps through the slots, and what they make of the documents.
-ghost use Rattle.std.specs.Prelude.{if◌then◌else◌, IfOk, ◌≡◌, ◌⊎◌, ◌+◌, ◌*◌, ◌<◌, ℕ, List, All, IsTrue, OnOk, OnErr, MatchResult, length, IfErr, IsErrOf};
+ghost use Rattle.std.specs.Prelude.{if◌then◌else◌, IfOk, ◌≡◌, ◌⊎◌, ◌+◌, ◌∷◌, [], ◌*◌, ◌<◌, ℕ, List, All, IsTrue, OnOk, OnErr, MatchResult, length, IfErr, IsErrOf};
 ghost use Rattle.vm_store.specs.Facts.{raised, IsDurable, Torn, Holds, Counts, FailedSince};
 ghost use Rattle.file_format.specs.File.{slot_mark};
-ghost use Rattle.document_file.specs.Ranges.{IsPlaced, KeepsAll};
+ghost use Rattle.document_file.specs.Ranges.{start_of, IsClear, IsPlaced, KeepsAll};
 ghost use Rattle.document_file.specs.Calls.{last_sequence};
-ghost use Rattle.document_file.specs.Sound.{AreTables, IsFormed, IsWhole, IsSound, disk_of};
-ghost use Rattle.document_file.specs.Documents.{document_in, documents_in, AreStored};
+ghost use Rattle.document_file.specs.Sound.{AreTables, IsBlockTable, IsFormed, IsWhole, IsSound, disk_of};
+ghost use Rattle.document_file.specs.Documents.{document_in, documents_in, AreStored, IsStored};
 ghost use Rattle.vm_store.specs.Laws.{Tears};
-ghost use Rattle.document_file.specs.Slots.{behind_gate, pair_extents, spare_of, switched, AreExtentsPlaced, CrashLeavesSlots, Outlives, FailedEarly, Failed};
+ghost use Rattle.document_file.specs.Slots.{behind_gate, pair_extents, stored_extents, spare_of, switched, AreExtentsPlaced, CrashLeavesSlots, Outlives, FailedEarly, Failed};
 ghost use Rattle.document_file.specs.Disk.{MayCommit};
-ghost use Rattle.document_file.specs.PendingDirectories.{IsPendingDirectory};
+ghost use Rattle.document_file.specs.PendingDirectories.{IsPendingDirectory, IsSavedAnew, IsSpared};
 ghost use Rattle.document_file.specs.Copies.{IsSameStored};
-ghost use Rattle.document_file.specs.Sums.{next_version};
+ghost use Rattle.document_file.specs.Sums.{has_sums};
 
-use crate::directory::{PendingDirectory, write_pending};
+use crate::directory::{PendingDirectory, write_pending, write_saved};
 use crate::slot::{Slots, SpareSlot, behind_gate, is_shut, slot_bytes, spare_gate, spare_slot};
-use crate::sums::next_version;
 use crate::table::{BlockTable, DocumentRef, Pair, share};
 use file_format::SLOT_MARK;
 use geos_model::Fault;
@@ -88,10 +87,10 @@ fn fill_slot<S: Store>(store: &mut S, slots: &Slots, pair: &Pair) -> Result<(), 
         → Holds (S.facts store.new).content (512 * spare_of slots.now) slot_mark) }
     ensures rest { OnOk result (IsTrue (S.facts store.old).honest
         → Holds (S.facts store.new).content (512 * spare_of slots.now + 5)
-        (behind_gate (next_version slots.now.version) (slots.now.sequence + 1) pair.now)) }
+        (behind_gate slots.now.next_version (slots.now.sequence + 1) pair.now)) }
     ensures durable { OnOk result (IsTrue (S.facts store.old).honest → IsDurable (S.facts store.new)) }
 {
-    let text = slot_bytes(next_version(slots.version), slots.sequence + 1, pair);
+    let text = slot_bytes(slots.next_version, slots.sequence + 1, pair);
     store.write_at(spare_slot(slots), &SLOT_MARK)?;
     write_through(store, spare_gate(slots) + 1, behind_gate(&text))
 }
@@ -122,10 +121,11 @@ fn open_gate<S: Store>(store: &mut S, slots: &mut Slots, pair: Pair) -> Result<(
     match write_through(store, spare_gate(slots), &[1]) {
         Ok(()) => {
             slots.second = !slots.second;
-            slots.version = next_version(slots.version);
+            slots.version = slots.next_version;
             slots.sequence += 1;
             slots.committed = pair;
             slots.spare = SpareSlot::Stale;
+            slots.saved_sums = None;
             Ok(())
         }
         Err(fault) => {
@@ -185,7 +185,7 @@ pub fn commit_pair<S: Store>(
     requires placed { All IsPlaced (pair_extents pair) }
     requires whole { IsTrue (S.facts store.old).honest → IsWhole (S.facts store.old) live.now slots.old }
     requires stored { IsTrue (S.facts store.old).honest
-        → AreStored (next_version slots.old.version) (S.facts store.old).content pair }
+        → AreStored slots.old.next_version (S.facts store.old).content pair }
     // The commit.
     ensures commits { MayCommit S.facts (documents_in (S.facts store.old).content pair)
         (disk_of S.facts store.old slots.old) (disk_of S.facts store.new slots.new) result }
@@ -231,7 +231,8 @@ pub fn commit_pending<S: Store>(
     requires sound { IsSound (S.facts store.old) live.now slots.old }
     requires sequence { slots.old.sequence < last_sequence }
     requires pending { IsPendingDirectory live.now slots.old pending }
-    requires saved { IsSameStored saved slots.old.committed.saved ⊎ IsSameStored saved pending.document }
+    requires saved { ((has_sums slots.old.next_version ≡ has_sums slots.old.version)
+        × IsSameStored saved slots.old.committed.saved) ⊎ IsSameStored saved pending.document }
     // The commit.
     ensures commits { MayCommit S.facts
         (document_in (S.facts store.old).content live.now, document_in (S.facts store.old).content saved.table.value)
@@ -252,4 +253,81 @@ pub fn commit_pending<S: Store>(
         saved,
     };
     commit_pair(store, slots, pair, live)
+}
+
+/// Writes the directory and commits its document as the updated one, with a saved one that lies in the file. The live
+/// document stays. File.
+fn commit_beside<S: Store>(
+    store: &mut S,
+    slots: &mut Slots,
+    live: &BlockTable,
+    pending: PendingDirectory,
+    saved: DocumentRef,
+) -> Result<(), Fault>
+    // Asked of the caller.
+    requires sound { IsSound (S.facts store.old) live.now slots.old }
+    requires sequence { slots.old.sequence < last_sequence }
+    requires pending { IsPendingDirectory live.now slots.old pending }
+    requires table { IsBlockTable saved.table.value }
+    requires placed { All IsPlaced (stored_extents saved) }
+    requires stored { IsTrue (S.facts store.old).honest
+        → IsStored slots.old.next_version (S.facts store.old).content saved }
+    requires apart { IsClear (start_of pending.document.directory) pending.document.directory.length
+        (stored_extents saved) }
+    // The commit.
+    ensures commits { MayCommit S.facts
+        (document_in (S.facts store.old).content live.now, document_in (S.facts store.old).content saved.table.value)
+        (disk_of S.facts store.old slots.old) (disk_of S.facts store.new slots.new) result }
+    ensures sound { IsSound (S.facts store.new) live.now slots.new }
+    ensures same { IsTrue (S.facts store.old).honest
+        → document_in (S.facts store.new).content live.now ≡ document_in (S.facts store.old).content live.now }
+    // Where it is acknowledged.
+    ensures switched { OnOk result
+        (slots.new ≡ switched slots.old (record { updated = pending.document; saved = saved })) }
+    // Refusals.
+    ensures file { IsErrOf result Fault.File → FailedSince (S.facts store.old) (S.facts store.new) }
+    ensures refusals { IfErr result (λ fault. fault ≡ Fault.File) }
+{
+    write_pending(store, slots, live, &pending)?;
+    let pair = Pair {
+        updated: pending.document,
+        saved,
+    };
+    commit_pair(store, slots, pair, live)
+}
+
+/// Writes both directories in a version with sums and commits their documents, the live one as the updated one. File.
+pub fn commit_summed<S: Store>(
+    store: &mut S,
+    slots: &mut Slots,
+    live: &BlockTable,
+    pending: PendingDirectory,
+    saved: PendingDirectory,
+) -> Result<(), Fault>
+    // Asked of the caller.
+    requires sound { IsSound (S.facts store.old) live.now slots.old }
+    requires sequence { slots.old.sequence < last_sequence }
+    requires pending { IsPendingDirectory live.now slots.old pending }
+    requires made { IsSavedAnew slots.old saved }
+    requires spared { IsSpared live.now slots.old saved }
+    requires apart { IsClear (start_of saved.document.directory) saved.document.directory.length
+        (pending.document.directory ∷ []) }
+    // The commit.
+    ensures commits { MayCommit S.facts (
+      document_in (S.facts store.old).content live.now,
+      document_in (S.facts store.old).content slots.old.committed.saved.table.value,
+    )
+        (disk_of S.facts store.old slots.old) (disk_of S.facts store.new slots.new) result }
+    ensures sound { IsSound (S.facts store.new) live.now slots.new }
+    ensures same { IsTrue (S.facts store.old).honest
+        → document_in (S.facts store.new).content live.now ≡ document_in (S.facts store.old).content live.now }
+    // Where it is acknowledged.
+    ensures switched { OnOk result
+        (slots.new ≡ switched slots.old (record { updated = pending.document; saved = saved.document })) }
+    // Refusals.
+    ensures file { IsErrOf result Fault.File → FailedSince (S.facts store.old) (S.facts store.new) }
+    ensures refusals { IfErr result (λ fault. fault ≡ Fault.File) }
+{
+    write_saved(store, slots, live, &saved)?;
+    commit_beside(store, slots, live, pending, saved.document)
 }

@@ -1,23 +1,26 @@
 //! Directories: made of the live table, and written where nothing lies that stays.
-ghost use Rattle.std.specs.Prelude.{◌≡◌, ◌≤◌, All, IsTrue, OnOk, IfOk, IfErr, IsErrOf, is_some, length, ◌++◌, ◌∷◌};
+ghost use Rattle.std.specs.Prelude.{◌≡◌, ◌⊎◌, ◌<◌, ◌≤◌, List, None, true, false, All, IsTrue, IfSome, OnOk, IfOk, IfErr, IsErrOf, is_some, length, ◌++◌, ◌∷◌};
 ghost use Rattle.std.specs.List.{count_by};
-ghost use Rattle.vm_store.specs.Facts.{FailedSince};
+ghost use Rattle.vm_store.specs.Facts.{FailedSince, Torn};
 ghost use Rattle.geos_model.specs.Document.{FitAttributes, most_blocks};
 ghost use Rattle.file_format.specs.File.{directory_text};
+ghost use Rattle.file_format.specs.declared.file.Extent.{Extent};
+ghost use Rattle.file_space.specs.Placing.{IsFirstFit};
 ghost use Rattle.file_space.specs.Space.{AreTaken};
-ghost use Rattle.document_file.specs.Sound.{IsSound, IsFormed, disk_of};
+ghost use Rattle.document_file.specs.Ranges.{start_of};
+ghost use Rattle.document_file.specs.Sums.{has_sums};
+ghost use Rattle.document_file.specs.Sound.{IsBlockTable, IsSound, IsFormed, IsTurning, disk_of};
 ghost use Rattle.document_file.specs.Documents.{entries_of, directory_of_table, IsStored, document_in};
 ghost use Rattle.document_file.specs.Slots.{block_extents, referenced_extents};
 ghost use Rattle.document_file.specs.Disk.{KeepsCommitted};
-ghost use Rattle.document_file.specs.PendingDirectories.{IsPendingDirectory};
-ghost use Rattle.document_file.specs.Sums.{next_version};
+ghost use Rattle.document_file.specs.PendingDirectories.{IsMadeDirectory, IsPendingDirectory, IsSavedAnew, IsSpared};
 
 use crate::extent::write_extent;
 use crate::slot::Slots;
-use crate::sums::{has_sums, next_version, sum_for};
+use crate::sums::{has_sums, sum_for};
 use crate::table::{BlockTable, DocumentRef, Place, shared_copy};
 use file_format::{Entry, Extent, begin_directory, push_entry};
-use file_space::FreeSpace;
+use file_space::{FreeSpace, MOST_EXTENTS};
 use geos_model::{Fault, VmHandle};
 use std::alloc::{AllocError, Global};
 use vm_store::Store;
@@ -78,6 +81,36 @@ pub struct PendingDirectory {
     pub text: Vec<u8>,
 }
 
+/// The directory of a table in the version that commits write, in the first extent that is free, which is taken then.
+/// It takes all the memory that writing it needs.
+fn place_directory(
+    alloc: Global,
+    table: &BlockTable,
+    slots: &Slots,
+    space: &mut FreeSpace,
+) -> Result<PendingDirectory, AllocError>
+    requires size { length table.now.places.items ≤ most_blocks }
+    requires few { space.old.count < MOST_EXTENTS }
+    ensures made { IfOk result (λ pending. IsMadeDirectory table.now slots.now pending) }
+    ensures placed { IfOk result (λ pending. (taken : List Extent) → AreTaken taken space.old
+        → IsFirstFit taken (length pending.text.items) pending.document.directory
+        × AreTaken (pending.document.directory ∷ taken) space.new) }
+{
+    let version = slots.next_version;
+    let text = directory_text_of(alloc, version, table)?;
+    let sum = sum_for(has_sums(version), &text);
+    let directory = space.take(text.len() as u32)?;
+    let table = shared_copy(alloc, table)?;
+    Ok(PendingDirectory {
+        document: DocumentRef {
+            directory,
+            sum,
+            table,
+        },
+        text,
+    })
+}
+
 /// The directory of the live table, whose place is taken then. It takes all the memory that writing it needs.
 pub fn pending_directory_of(
     alloc: Global,
@@ -91,19 +124,41 @@ pub fn pending_directory_of(
     ensures taken { IfOk result (λ pending. AreTaken (pending.document.directory
         ∷ (block_extents live.now.places.items ++ referenced_extents slots.now)) space.new) }
 {
-    let version = next_version(slots.version);
-    let text = directory_text_of(alloc, version, live)?;
-    let sum = sum_for(has_sums(version), &text);
-    let directory = space.take(text.len() as u32)?;
-    let table = shared_copy(alloc, live)?;
-    Ok(PendingDirectory {
-        document: DocumentRef {
-            directory,
-            sum,
-            table,
-        },
-        text,
-    })
+    let pending = place_directory(alloc, live, slots, space)?;
+    Ok(pending)
+}
+
+/// The directory of the saved document with the sums that the file gets by a commit that keeps that document. None where
+/// it gets none, or where the commit `saves`.
+pub fn saved_anew(
+    alloc: Global,
+    slots: &Slots,
+    saves: bool,
+    space: &mut FreeSpace,
+) -> Result<Option<PendingDirectory>, AllocError>
+    // Asked of the caller.
+    requires table { IsBlockTable slots.now.committed.saved.table.value }
+    requires turning { IsTurning slots.now slots.now.saved_sums }
+    requires few { space.old.count < MOST_EXTENTS }
+    // The directory.
+    ensures none { IfOk result (λ o. o ≡ None
+        → (saves ≡ true) ⊎ (has_sums slots.now.next_version ≡ has_sums slots.now.version)) }
+    ensures untouched { IfOk result (λ o. o ≡ None → space.new ≡ space.old) }
+    ensures made { IfOk result (λ o. IfSome o (IsSavedAnew slots.now)) }
+    ensures keeps { IfOk result (λ o. IfSome o (λ _. saves ≡ false)) }
+    ensures placed { IfOk result (λ o. IfSome o (λ pending. (taken : List Extent) → AreTaken taken space.old
+        → IsFirstFit taken (length pending.text.items) pending.document.directory)) }
+{
+    if saves {
+        return Ok(None);
+    }
+    match &slots.saved_sums {
+        Some(table) => {
+            let saved = place_directory(alloc, table, slots, space)?;
+            Ok(Some(saved))
+        }
+        None => Ok(None),
+    }
 }
 
 /// Writes the directory. Nothing else changes. File.
@@ -124,12 +179,44 @@ pub fn write_pending<S: Store>(
         → document_in (S.facts store.new).content live.now ≡ document_in (S.facts store.old).content live.now }
     // The directory.
     ensures written { OnOk result (IsTrue (S.facts store.old).honest
-        → IsStored (next_version slots.now.version) (S.facts store.new).content pending.now.document) }
+        → IsStored slots.now.next_version (S.facts store.new).content pending.now.document) }
+    ensures elsewhere { IsTrue (S.facts store.old).honest
+        → Torn (start_of pending.now.document.directory) pending.now.document.directory.length
+        (S.facts store.old).content (S.facts store.new).content }
     // Refusals.
     ensures file { IsErrOf result Fault.File → FailedSince (S.facts store.old) (S.facts store.new) }
     ensures refusals { IfErr result (λ fault. fault ≡ Fault.File) }
 {
     let _ = live;
     write_extent(store, slots, pending.document.directory, &pending.text)?;
+    Ok(())
+}
+
+/// Writes the directory of the saved document with its sums. Nothing else changes. File.
+pub fn write_saved<S: Store>(
+    store: &mut S,
+    slots: &Slots,
+    live: &BlockTable,
+    saved: &PendingDirectory,
+) -> Result<(), Fault>
+    // Asked of the caller.
+    requires sound { IsSound (S.facts store.old) live.now slots.now }
+    requires made { IsSavedAnew slots.now saved.now }
+    requires spared { IsSpared live.now slots.now saved.now }
+    // The file.
+    ensures passes { KeepsCommitted S.facts (disk_of S.facts store.old slots.now)
+        (disk_of S.facts store.new slots.now) }
+    ensures sound { IsSound (S.facts store.new) live.now slots.now }
+    ensures same { IsTrue (S.facts store.old).honest
+        → document_in (S.facts store.new).content live.now ≡ document_in (S.facts store.old).content live.now }
+    // The directory.
+    ensures written { OnOk result (IsTrue (S.facts store.old).honest
+        → IsStored slots.now.next_version (S.facts store.new).content saved.now.document) }
+    // Refusals.
+    ensures file { IsErrOf result Fault.File → FailedSince (S.facts store.old) (S.facts store.new) }
+    ensures refusals { IfErr result (λ fault. fault ≡ Fault.File) }
+{
+    let _ = live;
+    write_extent(store, slots, saved.document.directory, &saved.text)?;
     Ok(())
 }

@@ -1,5 +1,5 @@
 //! A document file: its calls.
-ghost use Rattle.std.specs.Prelude.{if◌then◌else◌, ◌≡◌, ◌≢◌, ◌⊎◌, ◌↔◌, ◌≤◌, ◌<◌, ◌+◌, ℕ, List, [], ◌∷◌, All, IsTrue, IfOk, IfErr, IfSome, OnOk, OnErr, IsErrOf, IsOk, MatchResult, Ok, Err, None, Some, true, false, is_some, length, map};
+ghost use Rattle.std.specs.Prelude.{if◌then◌else◌, ◌≡◌, ◌≢◌, ◌⊎◌, ◌||◌, ◌↔◌, ◌≤◌, ◌<◌, ◌+◌, ℕ, List, [], ◌∷◌, All, IsTrue, IfOk, IfErr, IfSome, OnOk, OnErr, IsErrOf, IsOk, MatchResult, Ok, Err, None, Some, true, false, is_some, length, map};
 ghost use Rattle.std.specs.Option.{option_map};
 ghost use Rattle.std.specs.FinMap.{get, keys};
 ghost use Rattle.vm_store.specs.Facts.{FailedSince, IsUnchanged};
@@ -9,27 +9,29 @@ ghost use Rattle.geos_model.specs.declared.command.Body.TheVariants as bodies;
 ghost use Rattle.geos_model.specs.Reply.{found};
 ghost use Rattle.file_format.specs.File.{bytes_in, directory_text, open_slot, stands};
 ghost use Rattle.document_file.specs.Disk.{FileState, ContentStands, SameUnlessCorrupt, KeepsCommitted, IsCrashConsistent, HasSequence, unmarked};
-ghost use Rattle.document_file.specs.Effects.{IsFile, IsNewFile, SameStore, OnlyReads, LeavesDocument, IsCommit, Fails, NoFault, IsWorn};
-ghost use Rattle.document_file.specs.Documents.{has_one_directory, sequence_in, version_in};
-ghost use Rattle.document_file.specs.Sums.{next_version};
+ghost use Rattle.document_file.specs.Effects.{IsFile, IsNewFile, SameStore, OnlyReads, LeavesDocument, IsCommit, Fails, NoFault, IsDamage, IsWorn};
+ghost use Rattle.document_file.specs.Documents.{has_checksums, has_one_directory, sequence_in, version_in};
+ghost use Rattle.document_file.specs.Sums.{version_for};
 ghost use Rattle.document_file.specs.Making.{first_directory, first_file, first_open, no_blocks};
 ghost use Rattle.file_format.specs.Reading.{IsResourceFault, IsOpenRefusal};
 ghost use Rattle.document_file.specs.Calls.{IsPut, put_all, remove_all, IsImageLength, last_sequence};
 
-use crate::commit::{commit_pair, commit_pending, saved_beside};
+use crate::commit::{commit_pending, commit_summed, saved_beside};
 use crate::copying::copy_document;
-use crate::directory::pending_directory_of;
+use crate::directory::{pending_directory_of, saved_anew};
 use crate::listing::{Bounds, bounds_of, find_from, first_free, live_handles, tightened, widened};
 use crate::making::make_empty;
 use crate::member::Member;
-use crate::opening::open_slots;
 use crate::placing::{follow_commit, known_space};
+use crate::reverting::{commit_reverted, reverted_anew, reverted_pair};
 use crate::slot::Slots;
 use crate::stored_documents::StoredDocuments;
+use crate::sums::has_sums;
 use crate::table::{
-    BlockTable, Place, both_of, change_places, copy_table, make_room, place_in, read_block,
-    read_raw, set_attributes,
+    BlockTable, Place, change_places, copy_table, make_room, place_in, read_block, read_raw,
+    set_attributes,
 };
+use crate::turning::opened_slots;
 use crate::writing::write_puts;
 use file_format::MOST_ENTRIES;
 use file_space::FreeSpace;
@@ -81,8 +83,9 @@ impl<S: Store> Model for VmFile<S> {
 }
 
 impl<S: Store> VmFile<S> {
-    /// Makes the store an empty document file, whatever was in it. Memory, before the store is called; File.
-    pub fn create(alloc: Global, store: S) -> Result<VmFile<S>, Refused<S>>
+    /// Makes the store an empty document file, whatever was in it: of version 3 with `checksums`, else of version 2.
+    /// Memory, before the store is called; File.
+    pub fn create(alloc: Global, store: S, checksums: bool) -> Result<VmFile<S>, Refused<S>>
         // The store.
         ensures store { MatchResult result
             (λ file. SameStore S.facts store file.disk.store)
@@ -90,17 +93,19 @@ impl<S: Store> VmFile<S> {
         // The file.
         ensures made { IfOk result (λ file. (file.document ≡ empty_document)
             × IsNewFile S.facts empty_document file.disk) }
+        ensures checksums { IfOk result (λ file. file.disk.checksums ≡ checksums) }
         // The slots, of which the first one counts, and a directory of no block.
         ensures bytes { IfOk result (λ file. IsTrue (S.facts store).honest
-            → (S.facts file.disk.store).content ≡ first_file) }
+            → (S.facts file.disk.store).content ≡ first_file checksums) }
         ensures size { IfOk result (λ file. IsTrue (S.facts store).honest
             → length (S.facts file.disk.store).content ≡ 1040) }
         ensures first { IfOk result (λ file. IsTrue (S.facts store).honest
-            → open_slot (S.facts file.disk.store).content 0 ≡ Some first_open) }
+            → open_slot (S.facts file.disk.store).content 0 ≡ Some (first_open checksums)) }
         ensures second { IfOk result (λ file. IsTrue (S.facts store).honest
             → open_slot (S.facts file.disk.store).content 1 ≡ None) }
         ensures directory { IfOk result (λ file. IsTrue (S.facts store).honest
-            → bytes_in (S.facts file.disk.store).content first_directory ≡ directory_text no_blocks) }
+            → bytes_in (S.facts file.disk.store).content first_directory
+            ≡ directory_text (no_blocks checksums)) }
         // Refusals.
         ensures early { IfErr result (λ refused. refused.fault ≢ Fault.File → refused.store ≡ store) }
         ensures file { IfErr result (λ refused. refused.fault ≡ Fault.File
@@ -108,7 +113,7 @@ impl<S: Store> VmFile<S> {
         ensures refusals { IfErr result (λ refused. IsResourceFault refused.fault) }
     {
         let mut store = store;
-        match make_empty(alloc, &mut store) {
+        match make_empty(alloc, &mut store, checksums) {
             Ok(made) => Ok(VmFile {
                 alloc,
                 store,
@@ -122,8 +127,9 @@ impl<S: Store> VmFile<S> {
     }
 
     /// Opens the file that a store has: NotDocument or Damaged where it is none, and the store comes back as it was.
-    /// Where a crash left the store, what is read is on the disk from then on.
-    pub fn open(alloc: Global, mut store: S) -> Result<VmFile<S>, Refused<S>>
+    /// Where a crash left the store, what is read is on the disk from then on. With `checksums` a file of version 1 or
+    /// 2 is one of version 3 from its next commit on: each of its images is read for its sum. Memory, File.
+    pub fn open(alloc: Global, mut store: S, checksums: bool) -> Result<VmFile<S>, Refused<S>>
         // The store.
         ensures store { MatchResult result
             (λ file. SameStore S.facts store file.disk.store)
@@ -142,6 +148,8 @@ impl<S: Store> VmFile<S> {
             → HasSequence (S.facts file.disk.store) file.disk.sequence) }
         ensures crash_consistent { IfOk result (λ file. IsCrashConsistent S.facts file.disk) }
         ensures unmarked { IfOk result (λ file. file.disk.marked ≡ None) }
+        ensures checksums { IfOk result (λ file. IsTrue (S.facts store).honest
+            → file.disk.checksums ≡ (checksums || has_checksums (S.facts store).content)) }
         // Refusals.
         ensures refused { IfErr result (λ refused. IsTrue (S.facts store).honest
             → IsResourceFault refused.fault ⊎ (stands (S.facts store).content ≡ Err refused.fault)) }
@@ -149,7 +157,7 @@ impl<S: Store> VmFile<S> {
             → FailedSince (S.facts store) (S.facts refused.store)) }
         ensures refusals { IfErr result (λ refused. IsOpenRefusal refused.fault) }
     {
-        match open_slots(alloc, &mut store) {
+        match opened_slots(alloc, &mut store, checksums) {
             Ok((slots, live)) => Ok(VmFile {
                 alloc,
                 store,
@@ -200,14 +208,16 @@ impl<S: Store> VmFile<S> {
         VmHandle(self.slots.committed.saved.table.map_block)
     }
 
-    /// The image of a block of the saved document. Memory, File.
+    /// The image of a block of the saved document. Damaged where its sum is another, which over an honest store never
+    /// comes; Memory, File.
     pub fn read_saved(&mut self, block: VmHandle) -> Result<Vec<u8>, Fault>
         requires { is_live self.old.disk.saved block.0 ≡ true }
         ensures reads { OnlyReads S.facts self.old self.new }
         ensures saved { SameUnlessCorrupt (S.facts self.old.disk.store).honest self.old.disk.saved self.new.disk.saved }
         ensures image { IfOk result (λ bytes. IsTrue (S.facts self.old.disk.store).honest
             → bytes.items ≡ image (block_at self.old.disk.saved block.0).body) }
-        ensures fails { Fails S.facts NoFault self.old.disk.store self.new.disk.store result }
+        ensures fails { Fails S.facts (IsDamage (S.facts self.old.disk.store).honest)
+            self.old.disk.store self.new.disk.store result }
     {
         let saved = &self.slots.committed.saved.table;
         read_block(self.alloc, &mut self.store, saved, block)
@@ -248,26 +258,29 @@ impl<S: Store> VmFile<S> {
         }
     }
 
-    /// The image of a block. Memory, File.
+    /// The image of a block. Damaged where its sum is another, which over an honest store never comes; Memory, File.
     pub fn read_block(&mut self, block: VmHandle) -> Result<Vec<u8>, Fault>
         requires { is_live self.old.document block.0 ≡ true }
         ensures reads { OnlyReads S.facts self.old self.new }
         ensures image { IfOk result (λ bytes. IsTrue (S.facts self.old.disk.store).honest
             → bytes.items ≡ image (block_at self.old.document block.0).body) }
         ensures size { IfOk result (λ bytes. IsImageLength (length bytes.items)) }
-        ensures fails { Fails S.facts NoFault self.old.disk.store self.new.disk.store result }
+        ensures fails { Fails S.facts (IsDamage (S.facts self.old.disk.store).honest)
+            self.old.disk.store self.new.disk.store result }
     {
         read_block(self.alloc, &mut self.store, &self.live, block)
     }
 
-    /// The bytes of a raw block, read right into a region. File.
+    /// The bytes of a raw block, read right into a region. Damaged where the sum of its image is another, which over an
+    /// honest store never comes; File.
     pub fn read_raw(&mut self, block: VmHandle, region: Region) -> Result<RawBody, Fault>
         requires live { is_live self.old.document block.0 ≡ true }
         requires raw { is_heap self.old.document block.0 ≡ false }
         ensures reads { OnlyReads S.facts self.old self.new }
         ensures body { IfOk result (λ body. IsTrue (S.facts self.old.disk.store).honest
             → (block_at self.old.document block.0).body ≡ bodies.Raw body) }
-        ensures fails { Fails S.facts NoFault self.old.disk.store self.new.disk.store result }
+        ensures fails { Fails S.facts (IsDamage (S.facts self.old.disk.store).honest)
+            self.old.disk.store self.new.disk.store result }
     {
         read_raw(&mut self.store, &self.live, block, region)
     }
@@ -371,9 +384,8 @@ impl<S: Store> VmFile<S> {
     pub fn commit_update(&mut self) -> Result<(), Fault>
         ensures commit { IsCommit S.facts (self.old.document, self.old.disk.saved) self.old.document
             self.old self.new result }
-        ensures version { OnOk result (IsTrue (S.facts self.old.disk.store).honest → self.old.disk.in_doubt ≡ []
-            → version_in (S.facts self.new.disk.store).content
-            ≡ option_map next_version (version_in (S.facts self.old.disk.store).content)) }
+        ensures version { OnOk result (IsTrue (S.facts self.old.disk.store).honest
+            → version_in (S.facts self.new.disk.store).content ≡ Some (version_for self.old.disk.checksums)) }
         ensures early { IfErr result (λ fault. fault ≢ Fault.File → self.new ≡ self.old) }
         ensures fails { Fails S.facts IsWorn self.old.disk.store self.new.disk.store result }
     {
@@ -384,9 +396,8 @@ impl<S: Store> VmFile<S> {
     pub fn commit_save(&mut self) -> Result<(), Fault>
         ensures commit { IsCommit S.facts (self.old.document, self.old.document) self.old.document
             self.old self.new result }
-        ensures version { OnOk result (IsTrue (S.facts self.old.disk.store).honest → self.old.disk.in_doubt ≡ []
-            → version_in (S.facts self.new.disk.store).content
-            ≡ option_map next_version (version_in (S.facts self.old.disk.store).content)) }
+        ensures version { OnOk result (IsTrue (S.facts self.old.disk.store).honest
+            → version_in (S.facts self.new.disk.store).content ≡ Some (version_for self.old.disk.checksums)) }
         ensures early { IfErr result (λ fault. fault ≢ Fault.File → self.new ≡ self.old) }
         ensures fails { Fails S.facts IsWorn self.old.disk.store self.new.disk.store result }
     {
@@ -397,9 +408,8 @@ impl<S: Store> VmFile<S> {
     fn commit_live(&mut self, saves: bool) -> Result<(), Fault>
         ensures commit { IsCommit S.facts (self.old.document, if saves then self.old.document else self.old.disk.saved)
             self.old.document self.old self.new result }
-        ensures version { OnOk result (IsTrue (S.facts self.old.disk.store).honest → self.old.disk.in_doubt ≡ []
-            → version_in (S.facts self.new.disk.store).content
-            ≡ option_map next_version (version_in (S.facts self.old.disk.store).content)) }
+        ensures version { OnOk result (IsTrue (S.facts self.old.disk.store).honest
+            → version_in (S.facts self.new.disk.store).content ≡ Some (version_for self.old.disk.checksums)) }
         ensures early { IfErr result (λ fault. fault ≢ Fault.File → self.new ≡ self.old) }
         ensures fails { Fails S.facts IsWorn self.old.disk.store self.new.disk.store result }
     {
@@ -409,6 +419,11 @@ impl<S: Store> VmFile<S> {
         let known = self.space.take();
         let mut space = known_space(self.alloc, &self.live.places, &self.slots, known)?;
         let pending = pending_directory_of(self.alloc, &self.live, &self.slots, &mut space)?;
+        let anew = saved_anew(self.alloc, &self.slots, saves, &mut space)?;
+        if let Some(anew) = anew {
+            self.space = None;
+            return commit_summed(&mut self.store, &mut self.slots, &self.live, pending, anew);
+        }
         let saved = saved_beside(&pending, &self.slots, saves)?;
         let directory = pending.document.directory;
         let is_known = follow_commit(&mut space, directory, &self.live, &self.slots, saves);
@@ -421,27 +436,28 @@ impl<S: Store> VmFile<S> {
     pub fn commit_revert(&mut self) -> Result<(), Fault>
         ensures commit { IsCommit S.facts (self.old.disk.saved, self.old.disk.saved) self.old.disk.saved
             self.old self.new result }
-        ensures version { OnOk result (IsTrue (S.facts self.old.disk.store).honest → self.old.disk.in_doubt ≡ []
-            → version_in (S.facts self.new.disk.store).content
-            ≡ option_map next_version (version_in (S.facts self.old.disk.store).content)) }
+        ensures version { OnOk result (IsTrue (S.facts self.old.disk.store).honest
+            → version_in (S.facts self.new.disk.store).content ≡ Some (version_for self.old.disk.checksums)) }
         ensures early { IfErr result (λ fault. fault ≢ Fault.File → self.new ≡ self.old) }
         ensures fails { Fails S.facts IsWorn self.old.disk.store self.new.disk.store result }
     {
         if self.slots.sequence == u64::MAX {
             return Err(Fault::Worn);
         }
-        let saved = &self.slots.committed.saved;
-        let live = copy_table(self.alloc, &saved.table)?;
-        let pair = both_of(saved)?;
+        let known = self.space.take();
+        let anew = reverted_anew(self.alloc, &self.live, &self.slots, known)?;
+        let pair = reverted_pair(&self.slots, &anew)?;
+        let live = copy_table(self.alloc, &pair.saved.table)?;
         self.space = None;
-        commit_pair(&mut self.store, &mut self.slots, pair, &self.live)?;
+        commit_reverted(&mut self.store, &mut self.slots, &self.live, pair, anew)?;
         self.live = live;
         self.bounds = bounds_of(&self.live.places);
         Ok(())
     }
 
-    /// Makes another store a new file of the document as it is now, updated and saved, whatever was in it. What is read
-    /// and isn't an image, which an honest store never gives, is Damaged; Memory, File.
+    /// Makes another store a new file of the document as it is now, updated and saved, whatever was in it, with sums
+    /// where commits of this one write them. What is read and isn't an image, or has another sum, which an honest store
+    /// never gives, is Damaged; Memory, File.
     pub fn copy_to(&mut self, target: S) -> Result<VmFile<S>, Refused<S>>
         // The file that is copied.
         ensures reads { OnlyReads S.facts self.old self.new }
@@ -454,8 +470,7 @@ impl<S: Store> VmFile<S> {
             → IsTrue (S.facts target).honest → file.document ≡ self.old.document) }
         ensures handles { IfOk result (λ file. SameUnlessCorrupt false self.old.document file.document) }
         ensures made { IfOk result (λ file. IsNewFile S.facts file.document file.disk) }
-        ensures version { IfOk result (λ file. IsTrue (S.facts file.disk.store).honest
-            → version_in (S.facts file.disk.store).content ≡ Some 2) }
+        ensures checksums { IfOk result (λ file. file.disk.checksums ≡ self.old.disk.checksums) }
         // Refusals.
         ensures file { IfErr result (λ refused. refused.fault ≡ Fault.File
             → FailedSince (S.facts self.old.disk.store) (S.facts self.new.disk.store)
@@ -465,7 +480,14 @@ impl<S: Store> VmFile<S> {
         ensures refusals { IfErr result (λ refused. IsResourceFault refused.fault ⊎ (refused.fault ≡ Fault.Damaged)) }
     {
         let mut target = target;
-        match copy_document(self.alloc, &mut self.store, &self.live, &mut target) {
+        let checksums = has_sums(self.slots.next_version);
+        match copy_document(
+            self.alloc,
+            &mut self.store,
+            &self.live,
+            &mut target,
+            checksums,
+        ) {
             Ok(made) => Ok(VmFile {
                 alloc: self.alloc,
                 store: target,

@@ -8,8 +8,9 @@ ghost use Rattle.document_file.specs.Sums.{HaveSums};
 ghost use Rattle.file_format.specs.Reading.{OnlyReadsStore, IsReadRefusal};
 ghost use Rattle.document_file.specs.Opened.{IsImageOf};
 
+use crate::reading::read_summed;
 use crate::table::Place;
-use file_format::{BodyKind, Extent, LONGEST_IMAGE, has_sum, read_extent, start_of};
+use file_format::{BodyKind, Extent, LONGEST_IMAGE, start_of};
 use geos_model::Fault;
 use std::alloc::Global;
 use vm_store::Store;
@@ -40,8 +41,8 @@ fn is_long(extent: Extent) -> bool
     extent.length > SHORT && extent.length as usize <= LONGEST_IMAGE
 }
 
-/// Whether the image in an extent, which must have a sum if one is given, is that of a heap. Of a long raw body the first
-/// byte alone is read, since any bytes may follow it, unless there is a sum. Damaged, Memory, File.
+/// Whether the image in an extent, which must have a sum if one is given, is that of a heap. Of a long raw body the
+/// first byte alone is read, since any bytes may follow it, unless there is a sum. Damaged, Memory, File.
 pub fn read_kind<S: Store>(
     alloc: Global,
     store: &mut S,
@@ -61,10 +62,7 @@ pub fn read_kind<S: Store>(
     if sum.is_none() && is_long(extent) && is_raw(store, extent)? {
         return Ok(false);
     }
-    let bytes = read_extent(alloc, store, extent)?;
-    if !has_sum(sum, &bytes) {
-        return Err(Fault::Damaged);
-    }
+    let bytes = read_summed(alloc, store, extent, sum)?;
     image_kind(&bytes).ok_or(Fault::Damaged)
 }
 

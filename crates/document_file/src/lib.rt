@@ -14,10 +14,13 @@ mod making;
 mod member;
 mod opening;
 mod placing;
+mod reading;
+mod reverting;
 mod slot;
 mod stored_documents;
 mod sums;
 mod table;
+mod turning;
 mod writing;
 
 pub use file::{Refused, VmFile};

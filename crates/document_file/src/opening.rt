@@ -5,12 +5,13 @@ ghost use Rattle.geos_model.specs.Document.{IsTyped};
 ghost use Rattle.file_format.specs.File.{is_rising, block_of, blocks_of_entries, both, longest_image, saved_sum, stands, summed_document, working_sum};
 ghost use Rattle.document_file.specs.Sound.{ArePlaces, IsSound};
 ghost use Rattle.file_format.specs.Reading.{IsOpenRefusal, IsReadRefusal, IsResourceFault, OnlyReadsStore};
-ghost use Rattle.document_file.specs.Documents.{documents_in, sequence_in, entries_of, IsImaged, AreImaged, IsStored, AreStored};
-ghost use Rattle.document_file.specs.Sums.{HasSum, HaveSums, has_sums};
+ghost use Rattle.document_file.specs.Documents.{documents_in, has_checksums, sequence_in, entries_of, IsImaged, AreImaged, IsStored, AreStored};
+ghost use Rattle.document_file.specs.Sums.{HasSum, HaveSums, has_sums, version_for};
 ghost use Rattle.document_file.specs.Opened.{IsReadDocument, AreReadDocuments, IsReadSlots, IsReadWhole};
 
 use crate::kind::{known_kind, read_kind};
 use crate::slot::{Slots, SpareSlot, find_active};
+use crate::sums::{has_sums, version_for};
 use crate::table::{BlockTable, DocumentRef, Pair, Place, copy_table, share};
 use file_format::{Entry, Extent, MOST_ENTRIES, Slot, check_slot, read_directory, read_length};
 use geos_model::Fault;
@@ -285,10 +286,12 @@ fn read_slots<S: Store>(alloc: Global, store: &mut S) -> Result<Slots, Fault>
     Ok(Slots {
         second: active.second,
         version: slot.version,
+        next_version: version_for(has_sums(slot.version)),
         sequence: slot.sequence,
         committed,
         spare: active.spare,
         marked: None,
+        saved_sums: None,
     })
 }
 
@@ -314,6 +317,10 @@ pub fn open_slots<S: Store>(alloc: Global, store: &mut S) -> Result<(Slots, Bloc
         × (p.1.places.items ≡ p.0.committed.updated.table.value.places.items)) }
     ensures alone { IfOk result (λ p. (p.0.spare ≡ SpareSlot.Shut) ⊎ (p.0.spare ≡ SpareSlot.Stale)) }
     ensures unmarked { IfOk result (λ p. p.0.marked ≡ None) }
+    ensures unturned { IfOk result (λ p. p.0.saved_sums ≡ None) }
+    ensures next_version { IfOk result (λ p. p.0.next_version ≡ version_for (has_sums p.0.version)) }
+    ensures versioned { IfOk result (λ p. IsTrue (S.facts store.old).honest
+        → has_checksums (S.facts store.old).content ≡ has_sums p.0.version) }
     ensures stands { IfOk result (λ p. IsTrue (S.facts store.old).honest
         → stands (S.facts store.old).content ≡ Ok (documents_in (S.facts store.old).content p.0.committed)) }
     ensures numbered { IfOk result (λ p. IsTrue (S.facts store.old).honest

@@ -4,6 +4,7 @@ ghost use Rattle.vm_store.specs.Facts.{FailedSince};
 ghost use Rattle.file_format.specs.File.{slot_text, stands};
 ghost use Rattle.file_format.specs.Reading.{IsResourceFault, IsOpenRefusal, OnlyReadsStore};
 ghost use Rattle.document_file.specs.Opened.{IsActiveSlot};
+ghost use Rattle.document_file.specs.Making.{first_slot};
 ghost use Rattle.document_file.specs.Slots.{slot_value, spare_of, sums_of};
 
 use crate::table::{BlockTable, Pair};
@@ -27,14 +28,18 @@ pub enum SpareSlot {
 pub struct Slots {
     /// Whether slot 1 counts.
     pub second: bool,
-    /// That of the format of the slot that counts: 1 only where it was read so, since a commit of it writes 2.
+    /// That of the format of the slot that counts: 1 only where it was read so.
     pub version: u8,
+    /// That which commits write: 2, or 3 with sums.
+    pub next_version: u8,
     /// From 1 on.
     pub sequence: u64,
     pub committed: Pair,
     pub spare: SpareSlot,
     /// A document whose images stay in the file beside what the slots lead to, so that it can be brought back.
     pub marked: Option<BlockTable>,
+    /// Where the next commit gives the file sums: the table of the saved document, with the sum of each image.
+    pub saved_sums: Option<BlockTable>,
 }
 
 /// Where the other slot lies.
@@ -96,6 +101,17 @@ pub fn slot_bytes(version: u8, sequence: u64, pair: &Pair) -> SlotText
     ensures { result.items ≡ slot_text (slot_value version sequence pair.now) }
 {
     write_slot(&slot_value(version, sequence, pair))
+}
+
+/// The text of the first slot of a pair, whose gate is shut.
+#[tactic(auto, unfolding(crate::specs::Slots::gate_text))]
+pub fn first_slot_bytes(version: u8, pair: &Pair) -> SlotText
+    ensures { result.items ≡ first_slot version pair.now }
+{
+    write_slot(&Slot {
+        gate: 0,
+        ..slot_value(version, 1, pair)
+    })
 }
 
 /// What stands behind the gate of a slot's text.

@@ -6,7 +6,7 @@ ghost use Rattle.geos_model.specs.Image.{image};
 ghost use Rattle.file_format.specs.Reading.{IsOpenRefusal, IsResourceFault, OnlyReadsStore};
 ghost use Rattle.file_format.specs.Slots.{number_of, slot_stands};
 ghost use Rattle.document_file.specs.Documents.{documents_in};
-ghost use Rattle.document_file.specs.Effects.{Fails, NoFault, SameStore};
+ghost use Rattle.document_file.specs.Effects.{Fails, IsDamage, SameStore};
 ghost use Rattle.document_file.specs.StoredDocuments.{AreFileDocuments, LieIn, OnlyReadsDocuments, stored_state};
 
 use crate::file::Refused;
@@ -139,13 +139,15 @@ impl<S: Store> StoredDocuments<S> {
         VmHandle(self.pair.saved.table.map_block)
     }
 
-    /// The image of a block of the updated document. Memory, File.
+    /// The image of a block of the updated document. Damaged where its sum is another, which over an honest store never
+    /// comes; Memory, File.
     pub fn read_block(&mut self, block: VmHandle) -> Result<Vec<u8>, Fault>
         requires { is_live self.old.updated block.0 ≡ true }
         ensures reads { OnlyReadsDocuments S.facts self.old self.new }
         ensures image { IfOk result (λ bytes. IsTrue (S.facts self.old.store).honest
             → bytes.items ≡ image (block_at self.old.updated block.0).body) }
-        ensures fails { Fails S.facts NoFault self.old.store self.new.store result }
+        ensures fails { Fails S.facts (IsDamage (S.facts self.old.store).honest)
+            self.old.store self.new.store result }
     {
         read_block(self.alloc, &mut self.store, &self.pair.updated.table, block)
     }
@@ -156,7 +158,8 @@ impl<S: Store> StoredDocuments<S> {
         ensures reads { OnlyReadsDocuments S.facts self.old self.new }
         ensures image { IfOk result (λ bytes. IsTrue (S.facts self.old.store).honest
             → bytes.items ≡ image (block_at self.old.saved block.0).body) }
-        ensures fails { Fails S.facts NoFault self.old.store self.new.store result }
+        ensures fails { Fails S.facts (IsDamage (S.facts self.old.store).honest)
+            self.old.store self.new.store result }
     {
         read_block(self.alloc, &mut self.store, &self.pair.saved.table, block)
     }

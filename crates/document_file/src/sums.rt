@@ -1,6 +1,6 @@
 //! Sums of what is written, and the version of a file that has them.
 ghost use Rattle.std.specs.Prelude.{◌≡◌, ◌==◌};
-ghost use Rattle.document_file.specs.Sums.{has_sums, next_version, sum_for};
+ghost use Rattle.document_file.specs.Sums.{has_sums, kept_sum, sum_for, version_for};
 
 use checksum::crc32c;
 use file_format::VERSION;
@@ -15,11 +15,22 @@ pub fn has_sums(version: u8) -> bool
     version == SUMMED
 }
 
-/// The version that a commit writes.
-pub fn next_version(version: u8) -> u8
-    ensures { result ≡ next_version version }
+/// The version of files that have sums, or that have none.
+pub fn version_for(checksums: bool) -> u8
+    ensures { result ≡ version_for checksums }
 {
-    if has_sums(version) { SUMMED } else { VERSION }
+    if checksums { SUMMED } else { VERSION }
+}
+
+/// The sum that an image keeps in another file: one where that has sums, 0 in place of none.
+pub fn kept_sum(checksums: bool, sum: Option<u32>) -> Option<u32>
+    ensures { result ≡ kept_sum checksums sum }
+{
+    if checksums {
+        Some(sum.unwrap_or(0))
+    } else {
+        None
+    }
 }
 
 /// The sum of bytes, where there are sums.

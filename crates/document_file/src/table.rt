@@ -1,13 +1,15 @@
 //! The blocks of a document and where their images lie in the file; copies of that, and who shares it.
 ghost use Rattle.std.specs.Prelude.{IsTrue, IfErr, IsErrOf, true, false, ◌≡◌, ◌≤◌, ◌-◌, ◌+◌, ◌*◌, ◌++◌, ◌∷◌, [], List, All, IfSome, IsOk, OnOk, OnErr, None, Some, get_or, length, max, slice_set, IfOk};
-ghost use Rattle.vm_store.specs.Facts.{FailedSince, Holds};
+ghost use Rattle.vm_store.specs.Facts.{FailedSince, Holds, byte};
 ghost use Rattle.geos_model.specs.Document.{is_heap, is_live, block_at};
+ghost use Rattle.file_format.specs.File.{bytes_in, has_sum};
 ghost use Rattle.geos_model.specs.Image.{image};
 ghost use Rattle.geos_model.specs.declared.command.Body.TheVariants as bodies;
 ghost use Rattle.document_file.specs.Ranges.{IsPlaced};
 ghost use Rattle.document_file.specs.Documents.{document_in, AreImaged};
 ghost use Rattle.document_file.specs.Sound.{ArePlaces};
-ghost use Rattle.file_format.specs.Reading.{IsResourceFault, OnlyReadsStore};
+ghost use Rattle.document_file.specs.Sums.{HasSumOf, HaveSums};
+ghost use Rattle.file_format.specs.Reading.{IsReadRefusal, IsResourceFault, OnlyReadsStore};
 ghost use Rattle.document_file.specs.Listing.{IsPlaceOf};
 ghost use Rattle.document_file.specs.Calls.{IsPut, IsImageLength};
 ghost use Rattle.document_file.specs.Slots.{block_extents, referenced_extents};
@@ -19,9 +21,10 @@ ghost use Rattle.file_space.specs.Space.{AreTaken};
 ghost use Rattle.document_file.specs.Writing.{IsGrown, placed_at, with_places, without_place, without_places};
 
 use crate::member::Member;
+use crate::reading::{raw_has_sum, read_summed};
 use crate::slot::Slots;
 use crate::sums::{has_sums, sum_for};
-use file_format::{Extent, read_extent, start_of};
+use file_format::{Extent, start_of};
 use file_space::FreeSpace;
 use geos_model::{Attributes, Fault, VmHandle};
 use raw_region::{RawBody, Region};
@@ -136,57 +139,93 @@ pub fn place_in(table: &BlockTable, block: VmHandle) -> Option<Place>
     place_of(&table.places, block)
 }
 
-/// The image of a block that a table has. Memory, File.
+/// The image of a block that a table has. Damaged where its sum isn't that of its place, which over an honest store
+/// never comes; Memory, File.
 pub fn read_block<S: Store>(
     alloc: Global,
     store: &mut S,
     table: &BlockTable,
     block: VmHandle,
 ) -> Result<Vec<u8>, Fault>
-    // A live block of a table whose images the store has.
+    // A live block of a table whose images the store has, with their sums.
     requires live { is_live (document_in (S.facts store.old).content table.now) block.0 ≡ true }
     requires images { IsTrue (S.facts store.old).honest → AreImaged (S.facts store.old).content table.now.places.items }
+    requires sums { IsTrue (S.facts store.old).honest → HaveSums (S.facts store.old).content table.now.places.items }
     // What is read.
     ensures looks { OnlyReadsStore (S.facts store.old) (S.facts store.new) }
     ensures image { IfOk result (λ bytes. IsTrue (S.facts store.old).honest
         → bytes.items ≡ image (block_at (document_in (S.facts store.old).content table.now) block.0).body) }
     ensures size { IfOk result (λ bytes. All IsPlaced (block_extents table.now.places.items)
         → ArePlaces table.now.places.items → IsImageLength (length bytes.items)) }
+    ensures summed { IfOk result (λ bytes. HasSumOf table.now.places.items block.0 bytes.items) }
     // Refusals.
+    ensures damaged { IsErrOf result Fault.Damaged → IsTrue (S.facts store.old).honest → ⊥ }
     ensures file { IsErrOf result Fault.File → FailedSince (S.facts store.old) (S.facts store.new) }
-    ensures refusals { IfErr result IsResourceFault }
+    ensures refusals { IfErr result IsReadRefusal }
 {
     match place_in(table, block) {
-        Some(place) => read_extent(alloc, store, place.extent),
+        Some(place) => read_summed(alloc, store, place.extent, place.sum),
         None => unreachable!(),
     }
 }
 
-/// The bytes of a raw block that a table has, in a region. File.
+/// The bytes of a raw block that a table has, in a region. Damaged where the sum of its image isn't that of its place,
+/// which over an honest store never comes; File.
 pub fn read_raw<S: Store>(
     store: &mut S,
     table: &BlockTable,
     block: VmHandle,
     region: Region,
 ) -> Result<RawBody, Fault>
-    // A live raw block of a table whose images the store has.
+    // A live raw block of a table whose images the store has, with their sums.
     requires live { is_live (document_in (S.facts store.old).content table.now) block.0 ≡ true }
     requires raw { is_heap (document_in (S.facts store.old).content table.now) block.0 ≡ false }
     requires images { IsTrue (S.facts store.old).honest → AreImaged (S.facts store.old).content table.now.places.items }
+    requires sums { IsTrue (S.facts store.old).honest → HaveSums (S.facts store.old).content table.now.places.items }
     requires placed { All IsPlaced (block_extents table.now.places.items) }
     requires places { ArePlaces table.now.places.items }
     // What is read.
     ensures looks { OnlyReadsStore (S.facts store.old) (S.facts store.new) }
     ensures body { IfOk result (λ body. IsTrue (S.facts store.old).honest
         → (block_at (document_in (S.facts store.old).content table.now) block.0).body ≡ bodies.Raw body) }
+    ensures summed { IfOk result (λ body. HasSumOf table.now.places.items block.0 (image (bodies.Raw body))) }
     // Refusals.
+    ensures damaged { IsErrOf result Fault.Damaged → IsTrue (S.facts store.old).honest → ⊥ }
     ensures file { IsErrOf result Fault.File → FailedSince (S.facts store.old) (S.facts store.new) }
-    ensures refusals { IfErr result IsResourceFault }
+    ensures refusals { IfErr result IsReadRefusal }
 {
     match place_in(table, block) {
-        Some(place) => read_behind_kind(store, place.extent, region),
+        Some(place) => read_raw_image(store, place.extent, place.sum, region),
         None => unreachable!(),
     }
+}
+
+/// The body of the raw image in an extent, in a region. Damaged where a sum is given and the image's is another; File.
+fn read_raw_image<S: Store>(
+    store: &mut S,
+    extent: Extent,
+    sum: Option<u32>,
+    region: Region,
+) -> Result<RawBody, Fault>
+    requires { IsImageLength extent.length }
+    // What is read.
+    ensures looks { OnlyReadsStore (S.facts store.old) (S.facts store.new) }
+    ensures image { IfOk result (λ body. IsTrue (S.facts store.old).honest
+        → byte (S.facts store.old).content (512 * extent.page) ≡ 0
+        → image (bodies.Raw body) ≡ bytes_in (S.facts store.old).content extent) }
+    ensures summed { IfOk result (λ body. has_sum sum (image (bodies.Raw body)) ≡ true) }
+    // Refusals.
+    ensures damaged { IsErrOf result Fault.Damaged → IsTrue (S.facts store.old).honest
+        → byte (S.facts store.old).content (512 * extent.page) ≡ 0
+        → has_sum sum (bytes_in (S.facts store.old).content extent) ≡ false }
+    ensures file { IsErrOf result Fault.File → FailedSince (S.facts store.old) (S.facts store.new) }
+    ensures refusals { IfErr result IsReadRefusal }
+{
+    let body = read_behind_kind(store, extent, region)?;
+    if !raw_has_sum(sum, body.bytes()) {
+        return Err(Fault::Damaged);
+    }
+    Ok(body)
 }
 
 /// What stands in an extent behind its first byte, in a region. File.
@@ -281,10 +320,10 @@ fn put_places(
     requires room { All (λ p. p.handle.0 ≤ length places.old) puts.now }
     requires extents { length extents.now ≡ length puts.now }
     requires known { IsSpaceOf (extents.now ++ (block_extents places.old ++ referenced_extents slots.now)) space.old }
-    ensures places { places.new ≡ with_places slots.now.version puts.now extents.now places.old }
+    ensures places { places.new ≡ with_places slots.now.next_version puts.now extents.now places.old }
     ensures known { IsSpaceOf (block_extents places.new ++ referenced_extents slots.now) space.new }
 {
-    let version = slots.version;
+    let version = slots.next_version;
     for (i, put) in puts.iter().enumerate() {
         let at = usize::from(put.handle.0) - 1;
         let gone = places[at];
@@ -342,7 +381,7 @@ pub fn change_places(
     requires extents { length extents.now ≡ length puts.now }
     requires known { IsSpaceOf (extents.now ++ (block_extents places.old ++ referenced_extents slots.now)) space.old }
     ensures places { places.new
-        ≡ without_places removals.now (with_places slots.now.version puts.now extents.now places.old) }
+        ≡ without_places removals.now (with_places slots.now.next_version puts.now extents.now places.old) }
     ensures known { IsSpaceOf (block_extents places.new ++ referenced_extents slots.now) space.new }
 {
     put_places(places, puts, extents, slots, space);

@@ -55,48 +55,48 @@ no_script None from to s = refl
 no_script (Some text) from to s = absurd (cc (s.0))
 
 -- what is salvaged, or why nothing is
-pub salvaged_told : {W : Type 0} (contents : W → Option (List ℕ)) (writes : WriteCalls W) (name : List ℕ) (from to : StoreFacts) (old new : W) (salvaged : Result Bool DumpFault) (ending : Ending)
-    → IfOk salvaged (λ some. IsTrue from.honest → HasSalvage (salvage_text from.content) some (contents old) (contents new)) → IfErr salvaged (IsDumpRefusal from to)
-    → IfErr salvaged (λ fault. HasDumpCause fault (∥ StopsWriting writes new ∥₁)) → EndsSalvage name salvaged ending → Salvages contents writes name salvage_text from to old new ending
-salvaged_told contents writes name from to old new (Ok true) ending text refusal cause ends = rw ends (λ so. some_script (salvage_text from.content) (contents old) (contents new) (text so))
-salvaged_told contents writes name from to old new (Ok false) ending text refusal cause ends =
-    refused_or_memory (Salvages contents writes name salvage_text from to old new) name Unsalvaged (λ line is. inr (inl (is, λ so. no_script (salvage_text from.content) (contents old) (contents new) (text so)))) tt ending ends
-salvaged_told contents writes name from to old new (Err dump_faults.Memory) ending text refusal cause ends = rw ends tt
-salvaged_told contents writes name from to old new (Err dump_faults.File) ending text refusal cause ends =
-    refused_or_memory (Salvages contents writes name salvage_text from to old new) name Unread (λ line is. inl (is, refusal)) tt ending ends
-salvaged_told contents writes name from to old new (Err dump_faults.Damaged) ending text refusal cause ends =
-    refused_or_memory (Salvages contents writes name salvage_text from to old new) name Changed (λ line is. inr (inr (is, refusal))) tt ending ends
-salvaged_told contents writes name from to old new (Err dump_faults.Write) ending text refusal cause ends = rw ends cause
+pub salvaged_told : {W : Type 0} (contents : W → Option (List ℕ)) (writes : WriteCalls W) (name : List ℕ) (all : Bool) (from to : StoreFacts) (old new : W) (salvaged : Result Bool DumpFault) (ending : Ending)
+    → IfOk salvaged (λ some. IsTrue from.honest → HasSalvage (salvage_text all from.content) some (contents old) (contents new)) → IfErr salvaged (IsDumpRefusal from to)
+    → IfErr salvaged (λ fault. HasDumpCause fault (∥ StopsWriting writes new ∥₁)) → EndsSalvage name salvaged ending → Salvages contents writes name (salvage_text all) from to old new ending
+salvaged_told contents writes name all from to old new (Ok true) ending text refusal cause ends = rw ends (λ so. some_script (salvage_text all from.content) (contents old) (contents new) (text so))
+salvaged_told contents writes name all from to old new (Ok false) ending text refusal cause ends =
+    refused_or_memory (Salvages contents writes name (salvage_text all) from to old new) name Unsalvaged (λ line is. inr (inl (is, λ so. no_script (salvage_text all from.content) (contents old) (contents new) (text so)))) tt ending ends
+salvaged_told contents writes name all from to old new (Err dump_faults.Memory) ending text refusal cause ends = rw ends tt
+salvaged_told contents writes name all from to old new (Err dump_faults.File) ending text refusal cause ends =
+    refused_or_memory (Salvages contents writes name (salvage_text all) from to old new) name Unread (λ line is. inl (is, refusal)) tt ending ends
+salvaged_told contents writes name all from to old new (Err dump_faults.Damaged) ending text refusal cause ends =
+    refused_or_memory (Salvages contents writes name (salvage_text all) from to old new) name Changed (λ line is. inr (inr (is, refusal))) tt ending ends
+salvaged_told contents writes name all from to old new (Err dump_faults.Write) ending text refusal cause ends = rw ends cause
 
 -- the dump of documents that are open is the script of their file
-pub opened_script : {S W : Type 0} (facts : S → StoreFacts) (contents : W → Option (List ℕ)) (writes : WriteCalls W) (name : List ℕ) (store : S) (from to : StoredState S) (old new : W) (ending : Ending)
+pub opened_script : {S W : Type 0} (facts : S → StoreFacts) (contents : W → Option (List ℕ)) (writes : WriteCalls W) (name : List ℕ) (all : Bool) (store : S) (from to : StoredState S) (old new : W) (ending : Ending)
     → OnlyReadsStore (facts store) (facts from.store) → (IsTrue (facts store).honest → stands (facts store).content ≡ Ok (from.updated, from.saved)) → DumpsOpen facts contents writes name Both from to old new ending
-    → Salvages contents writes name file_script (facts store) (facts to.store) old new ending
-opened_script facts contents writes name store from to old new endings.Done opened so dumps = λ honest. (
+    → Salvages contents writes name (file_script all) (facts store) (facts to.store) old new ending
+opened_script facts contents writes name all store from to old new endings.Done opened so dumps = λ honest. (
   dump_text Both from.updated from.saved,
-  ap (λ (r : Result (Document × Document) Fault). dump_or r (salvage_text (facts store).content)) (so honest),
+  ap (λ (r : Result (Document × Document) Fault). dump_or r (salvage_text all (facts store).content)) (so honest),
   dumps (still (facts store) (facts from.store) opened honest),
 )
-opened_script facts contents writes name store from to old new endings.Unsound opened so dumps = absurd dumps
-opened_script facts contents writes name store from to old new (endings.Refused line) opened so (inl dumps) =
+opened_script facts contents writes name all store from to old new endings.Unsound opened so dumps = absurd dumps
+opened_script facts contents writes name all store from to old new (endings.Refused line) opened so (inl dumps) =
     inl (dumps.0, raised_later (facts store) (facts from.store) (facts to.store) opened dumps.1)
-opened_script facts contents writes name store from to old new (endings.Refused line) opened so (inr dumps) =
+opened_script facts contents writes name all store from to old new (endings.Refused line) opened so (inr dumps) =
     inr (inr (dumps.0, λ honest. dumps.1 (still (facts store) (facts from.store) opened honest)))
-opened_script facts contents writes name store from to old new endings.Memory opened so dumps = tt
-opened_script facts contents writes name store from to old new endings.ReadFault opened so dumps = absurd dumps
-opened_script facts contents writes name store from to old new endings.WriteFault opened so dumps = dumps
-opened_script facts contents writes name store from to old new endings.Different opened so dumps = absurd dumps
-opened_script facts contents writes name store from to old new (endings.Uncompared trouble) opened so dumps = absurd dumps
+opened_script facts contents writes name all store from to old new endings.Memory opened so dumps = tt
+opened_script facts contents writes name all store from to old new endings.ReadFault opened so dumps = absurd dumps
+opened_script facts contents writes name all store from to old new endings.WriteFault opened so dumps = dumps
+opened_script facts contents writes name all store from to old new endings.Different opened so dumps = absurd dumps
+opened_script facts contents writes name all store from to old new (endings.Uncompared trouble) opened so dumps = absurd dumps
 
 -- what is salvaged of a file that doesn't open is its script
-pub refused_script : {W : Type 0} (contents : W → Option (List ℕ)) (writes : WriteCalls W) (name : List ℕ) (a b c : StoreFacts) (fault : Fault) (old new : W) (ending : Ending) → OnlyReadsStore a b
-    → (IsTrue a.honest → stands a.content ≡ Err fault) → Salvages contents writes name salvage_text b c old new ending → Salvages contents writes name file_script a c old new ending
-refused_script contents writes name a b c fault old new ending reads so salvages = by_ending ending salvages
+pub refused_script : {W : Type 0} (contents : W → Option (List ℕ)) (writes : WriteCalls W) (name : List ℕ) (all : Bool) (a b c : StoreFacts) (fault : Fault) (old new : W) (ending : Ending) → OnlyReadsStore a b
+    → (IsTrue a.honest → stands a.content ≡ Err fault) → Salvages contents writes name (salvage_text all) b c old new ending → Salvages contents writes name (file_script all) a c old new ending
+refused_script contents writes name all a b c fault old new ending reads so salvages = by_ending ending salvages
   where
-    is : IsTrue a.honest → file_script a.content ≡ salvage_text b.content
-    is honest = ap (λ (r : Result (Document × Document) Fault). dump_or r (salvage_text a.content)) (so honest) ∙ ap salvage_text (sym (same_bytes_then a b reads honest))
+    is : IsTrue a.honest → file_script all a.content ≡ salvage_text all b.content
+    is honest = ap (λ (r : Result (Document × Document) Fault). dump_or r (salvage_text all a.content)) (so honest) ∙ ap (salvage_text all) (sym (same_bytes_then a b reads honest))
 
-    by_ending : (e : Ending) → Salvages contents writes name salvage_text b c old new e → Salvages contents writes name file_script a c old new e
+    by_ending : (e : Ending) → Salvages contents writes name (salvage_text all) b c old new e → Salvages contents writes name (file_script all) a c old new e
     by_ending endings.Done s = λ honest. (let t = s (still a b reads honest) in (t.0, is honest ∙ t.1, t.2))
     by_ending endings.Unsound s = absurd s
     by_ending (endings.Refused line) (inl s) = inl (s.0, raised_later a b c reads s.1)
@@ -116,11 +116,11 @@ why_refused a fault no_memory no_file so honest = elim (so honest) as (λ _. sta
 ]
 
 -- what comes of a store that doesn't open is what comes of its script
-pub unopened_script : {W : Type 0} (contents : W → Option (List ℕ)) (writes : WriteCalls W) (name : List ℕ) (a b c : StoreFacts) (fault : Fault) (old new : W) (ending : Ending) → OnlyReadsStore a b → OnlyReadsStore b c
-    → (fault ≡ faults.File → FailedSince a b) → (IsTrue a.honest → IsResourceFault fault ⊎ (stands a.content ≡ Err fault)) → SalvagesUnopened contents writes name fault b c old new ending
-    → Salvages contents writes name file_script a c old new ending
-unopened_script contents writes name a b c fault old new ending reads later failed so (inl none) = rw none.1 tt
-unopened_script contents writes name a b c fault old new ending reads later failed so (inr (inl none)) =
-    refused_or_memory (Salvages contents writes name file_script a c old new) name Unread (λ line is. inl (is, (let raised = failed none.0 in omega (arith, raised, later.failures)))) tt ending none.1
-unopened_script contents writes name a b c fault old new ending reads later failed so (inr (inr none)) =
-    refused_script contents writes name a b c fault old new ending reads (why_refused a fault none.0 none.1 so) none.2
+pub unopened_script : {W : Type 0} (contents : W → Option (List ℕ)) (writes : WriteCalls W) (name : List ℕ) (all : Bool) (a b c : StoreFacts) (fault : Fault) (old new : W) (ending : Ending) → OnlyReadsStore a b → OnlyReadsStore b c
+    → (fault ≡ faults.File → FailedSince a b) → (IsTrue a.honest → IsResourceFault fault ⊎ (stands a.content ≡ Err fault)) → SalvagesUnopened contents writes name all fault b c old new ending
+    → Salvages contents writes name (file_script all) a c old new ending
+unopened_script contents writes name all a b c fault old new ending reads later failed so (inl none) = rw none.1 tt
+unopened_script contents writes name all a b c fault old new ending reads later failed so (inr (inl none)) =
+    refused_or_memory (Salvages contents writes name (file_script all) a c old new) name Unread (λ line is. inl (is, (let raised = failed none.0 in omega (arith, raised, later.failures)))) tt ending none.1
+unopened_script contents writes name all a b c fault old new ending reads later failed so (inr (inr none)) =
+    refused_script contents writes name all a b c fault old new ending reads (why_refused a fault none.0 none.1 so) none.2

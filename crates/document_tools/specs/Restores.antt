@@ -113,7 +113,7 @@ abbrev pub RestoresIn : {F S : Type 0} → Opener F S → (S → StoreFacts) →
 RestoresIn {F} {S} calls facts file store old from to reading ending new =
     ((fault : Fault) × (left : S) × IsNotCreated facts fault store left × calls.closes old left new
     × EndsUncreated file fault ending × (to ≡ from))
-    ⊎ ((session : SessionState S) × IsCreated facts frames None store session
+    ⊎ ((session : SessionState S) × IsCreated facts frames None false store session
     × RunsScript calls facts file session old from to reading ending new)
 
 -- What a restore comes to. Nothing is opened but what was made before.

@@ -1,5 +1,5 @@
 -- Which tool is called for what is asked.
-use Rattle.std.specs.Prelude.{◌≡◌, ◌^◌, ℕ, List, Option}
+use Rattle.std.specs.Prelude.{◌≡◌, ◌^◌, ℕ, Bool, false, true, List, Option}
 use Rattle.vm_store.specs.Facts.{StoreFacts}
 use Rattle.vm_store.specs.Files.{Opener}
 use Rattle.geos_shell.specs.Streams.{ReadCalls, StopsReading, WriteCalls}
@@ -11,6 +11,8 @@ use Rattle.document_commands.specs.declared.requested.DumpScope.{DumpScope}
 use Rattle.document_commands.specs.declared.requested.DumpScope.TheVariants as documents
 use Rattle.document_commands.specs.declared.requested.Request.{Request}
 use Rattle.document_commands.specs.declared.requested.Request.TheVariants as requests
+use Rattle.document_commands.specs.declared.requested.SalvageScope.{SalvageScope}
+use Rattle.document_commands.specs.declared.requested.SalvageScope.TheVariants as takings
 use Rattle.document_diff.specs.declared.version.Version.{Version}
 use Rattle.document_diff.specs.declared.version.Version.TheVariants as versions
 use Rattle.document_dump.specs.declared.dumping.Which.TheVariants as which
@@ -37,6 +39,11 @@ DumpsRequested views facts contents writes documents.Saved file old new from to 
 DumpsRequested views facts contents writes documents.Other file old new from to ending =
     DumpsOtherFile views facts contents writes file old new from to ending
 
+-- blocks are taken too whose sum is wrong
+abbrev pub takes_all : SalvageScope → Bool
+takes_all takings.Whole = false
+takes_all takings.All = true
+
 -- what is asked of a file but for a check
 abbrev pub CarriesOutLook : {V S W : Type 0} → Views V S → (S → StoreFacts) → (W → Option (List ℕ)) → WriteCalls W
     → Asked
@@ -47,8 +54,8 @@ CarriesOutLook views facts contents writes (asked.Stat form) file old new from t
     StatsFile views facts writes file form old new from to ending
 CarriesOutLook views facts contents writes (asked.Map picture) file old new from to ending =
     MapsFile views facts contents writes file picture old new from to ending
-CarriesOutLook views facts contents writes asked.Salvage file old new from to ending =
-    SalvagesFile views facts contents writes file old new from to ending
+CarriesOutLook views facts contents writes (asked.Salvage taken) file old new from to ending =
+    SalvagesFile views facts contents writes file (takes_all taken) old new from to ending
 
 abbrev pub version_of_scope : DiffScope → Version
 version_of_scope scopes.Updated = versions.Updated

@@ -25,9 +25,9 @@ abbrev pub dump_or : Result (Document × Document) Fault → Option (List ℕ) �
 dump_or (Ok documents) script = Some (dump_text Both documents.0 documents.1)
 dump_or (Err fault) script = script
 
--- the script of a file: its dump where it opens, and else what is salvaged of it
-abbrev pub file_script : List ℕ → Option (List ℕ)
-file_script file = dump_or (stands file) (salvage_text file)
+-- the script of a file: its dump where it opens, and else what is salvaged of it, all that can be read or what is whole
+abbrev pub file_script : Bool → List ℕ → Option (List ℕ)
+file_script all file = dump_or (stands file) (salvage_text all file)
 
 -- How a salvage ends whose pieces were gathered, by how the salvage itself did and whether the last write failed.
 abbrev pub IsSalvageEnd : Result Bool DumpFault → Bool → Result Bool DumpFault → Type 0
@@ -68,18 +68,18 @@ Salvages contents writes file script from to old new ending = ⊥
 
 -- What comes of it for a store that doesn't open for a fault: lack of memory and a file that can't be read are told as
 -- such, and else it is salvaged.
-abbrev pub SalvagesUnopened : {W : Type 0} → (W → Option (List ℕ)) → WriteCalls W → List ℕ → Fault → StoreFacts
+abbrev pub SalvagesUnopened : {W : Type 0} → (W → Option (List ℕ)) → WriteCalls W → List ℕ → Bool → Fault → StoreFacts
     → StoreFacts → W → W → Ending → Type 0
-SalvagesUnopened contents writes file fault from to old new ending =
+SalvagesUnopened contents writes file all fault from to old new ending =
     ((fault ≡ faults.Memory) × (ending ≡ endings.Memory))
     ⊎ (((fault ≡ faults.File) × IsRefusedFor file Unread ending)
     ⊎ ((fault ≢ faults.Memory) × (fault ≢ faults.File)
-    × Salvages contents writes file salvage_text from to old new ending))
+    × Salvages contents writes file (salvage_text all) from to old new ending))
 
 -- What comes of it for the file of a name: it is opened to be read alone, and salvaged, and nothing is written to it.
 abbrev pub SalvagesFile : {V S W : Type 0} → Views V S → (S → StoreFacts) → (W → Option (List ℕ)) → WriteCalls W
-    → List ℕ → V → V → W → W → Ending → Type 0
-SalvagesFile {V} {S} views facts contents writes file old new from to ending =
+    → List ℕ → Bool → V → V → W → W → Ending → Type 0
+SalvagesFile {V} {S} views facts contents writes file all old new from to ending =
     LooksAt views file old new (λ cause. IsRefusedFor file (Unviewed cause) ending × (to ≡ from))
     (λ store. (left : S) × OnlyReadsStore (facts store) (facts left)
-    × Salvages contents writes file file_script (facts store) (facts left) from to ending)
+    × Salvages contents writes file (file_script all) (facts store) (facts left) from to ending)

@@ -131,7 +131,7 @@ fn compare_second<S: Store, W: Sink + Drop>(
         (S.facts first.new.store) (document_of version first.old) (S.facts second) (S.facts left) writer result.0
         result.1 }
 {
-    match VmFile::open(alloc, second) {
+    match VmFile::open(alloc, second, false) {
         Ok(file) => {
             let mut documents = file.into_documents();
             compare_open(alloc, first, &mut documents, names, version, writer)
@@ -153,7 +153,7 @@ fn compare_stores<S: Store, W: Sink + Drop>(
         × ComparesStores W.contents W.writes names.entry.first.now names.entry.second.now version (S.facts first)
         (S.facts first_left) (S.facts second) (S.facts second_left) writer result.0 result.1 }
 {
-    match VmFile::open(alloc, first) {
+    match VmFile::open(alloc, first, false) {
         Ok(file) => {
             let mut documents = file.into_documents();
             compare_second(alloc, &mut documents, second, names, version, writer)

@@ -88,7 +88,7 @@ fn dump_store<S: Store, W: Sink + Drop>(
     ensures { (left : S) × OnlyReadsStore (S.facts store) (S.facts left)
         × DumpsStore W.contents W.writes name.now which (S.facts store) (S.facts left) writer result.0 result.1 }
 {
-    match VmFile::open(alloc, store) {
+    match VmFile::open(alloc, store, false) {
         Ok(file) => {
             let mut documents = file.into_documents();
             dump_open(alloc, &mut documents, name, which, writer)

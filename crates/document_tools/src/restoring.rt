@@ -218,7 +218,7 @@ fn restore_in<F: Files, R: Source>(
     ensures { RestoresIn F.calls F.Opened.facts file.now store files.old (R.remaining reader.old)
         (R.remaining reader.new) (StopsReading R.reads (2 ^ 24) reader.old reader.new) result files.new }
 {
-    match Session::create(alloc, store, FRAMES) {
+    match Session::create(alloc, store, FRAMES, false) {
         Ok(session) => run_script(alloc, files, file, session, reader),
         Err(refused) => {
             files.close(refused.store);

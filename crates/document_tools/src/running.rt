@@ -4,7 +4,8 @@ ghost use Rattle.document_tools.specs.Endings.{PrintsLine, ending_status, error_
 ghost use Rattle.document_tools.specs.Checks.{ChecksFile};
 ghost use Rattle.document_tools.specs.Comparisons.{ComparesFiles};
 ghost use Rattle.document_tools.specs.Stats.{StatsFile};
-ghost use Rattle.document_tools.specs.Runs.{CarriesOut, DumpsRequested, CarriesOutLook, version_of_scope};
+ghost use Rattle.document_tools.specs.Runs.{CarriesOut, DumpsRequested, CarriesOutLook, takes_all, version_of_scope};
+ghost use Rattle.document_tools.specs.Salvages.{SalvagesFile};
 ghost use Rattle.document_tools.specs.declared.ending.Ending.{Ending};
 
 use crate::checking::check_file;
@@ -17,7 +18,7 @@ use crate::restoring::{MakesNew, restore};
 use crate::salvaging::salvage_file;
 use crate::stating::stat_file;
 use crate::viewer::Viewer;
-use document_commands::{Asked, DiffScope, DumpScope, Form, Request};
+use document_commands::{Asked, DiffScope, DumpScope, Form, Request, SalvageScope};
 use document_diff::Version;
 use document_dump::Which;
 use geos_shell::{Sink, Source};
@@ -79,6 +80,22 @@ fn dump_asked<V: Viewer, W: Sink + Drop>(
     }
 }
 
+fn salvage_asked<V: Viewer, W: Sink + Drop>(
+    alloc: Global,
+    viewer: &mut V,
+    file: &str,
+    taken: SalvageScope,
+    writer: W,
+) -> (W, Ending)
+    ensures { SalvagesFile V.views V.Opened.facts W.contents W.writes file.now (takes_all taken) viewer.old viewer.new
+        writer result.0 result.1 }
+{
+    match taken {
+        SalvageScope::Whole => salvage_file(alloc, viewer, file, false, writer),
+        SalvageScope::All => salvage_file(alloc, viewer, file, true, writer),
+    }
+}
+
 fn look<V: Viewer, W: Sink + Drop>(
     alloc: Global,
     viewer: &mut V,
@@ -93,7 +110,7 @@ fn look<V: Viewer, W: Sink + Drop>(
         Asked::Dump(dumped) => dump_asked(alloc, viewer, file, dumped, writer),
         Asked::Stat(form) => counted(alloc, viewer, file, form, writer),
         Asked::Map(picture) => map_file(alloc, viewer, file, picture, writer),
-        Asked::Salvage => salvage_file(alloc, viewer, file, writer),
+        Asked::Salvage(taken) => salvage_asked(alloc, viewer, file, taken, writer),
     }
 }
 

@@ -36,16 +36,17 @@ fn salvage_end(salvaged: Result<bool, DumpFault>, failed: bool) -> Result<bool, 
 fn write_salvage<S: Store, W: Sink + Drop>(
     alloc: Global,
     store: &mut S,
+    all: bool,
     writer: W,
 ) -> (W, Result<bool, DumpFault>)
     ensures reads { OnlyReadsStore (S.facts store.old) (S.facts store.new) }
     ensures fails { IfErr result.1 (IsDumpRefusal (S.facts store.old) (S.facts store.new)) }
     ensures cause { IfErr result.1 (λ fault. HasDumpCause fault (∥ StopsWriting W.writes result.0 ∥₁)) }
     ensures ok { IfOk result.1 (λ some. IsTrue (S.facts store.old).honest
-        → HasSalvage (salvage_text (S.facts store.old).content) some (W.contents writer) (W.contents result.0)) }
+        → HasSalvage (salvage_text all (S.facts store.old).content) some (W.contents writer) (W.contents result.0)) }
 {
     let mut pieces = Pieces::new(alloc, writer);
-    let salvaged = salvage(alloc, store, &mut pieces);
+    let salvaged = salvage(alloc, store, all, &mut pieces);
     let Watched { sink, failed } = pieces.finish();
     (sink, salvage_end(salvaged, failed))
 }
@@ -69,12 +70,14 @@ fn salvage_refused<S: Store, W: Sink + Drop>(
     alloc: Global,
     mut store: S,
     name: &str,
+    all: bool,
     writer: W,
 ) -> (W, Ending)
     ensures { (left : S) × OnlyReadsStore (S.facts store) (S.facts left)
-        × Salvages W.contents W.writes name.now salvage_text (S.facts store) (S.facts left) writer result.0 result.1 }
+        × Salvages W.contents W.writes name.now (salvage_text all) (S.facts store) (S.facts left) writer
+        result.0 result.1 }
 {
-    let (left, salvaged) = write_salvage(alloc, &mut store, writer);
+    let (left, salvaged) = write_salvage(alloc, &mut store, all, writer);
     (left, salvage_ending(alloc, name, salvaged))
 }
 
@@ -84,16 +87,17 @@ fn salvage_unopened<S: Store, W: Sink + Drop>(
     fault: Fault,
     store: S,
     name: &str,
+    all: bool,
     writer: W,
 ) -> (W, Ending)
     ensures { (left : S) × OnlyReadsStore (S.facts store) (S.facts left)
-        × SalvagesUnopened W.contents W.writes name.now fault (S.facts store) (S.facts left) writer
+        × SalvagesUnopened W.contents W.writes name.now all fault (S.facts store) (S.facts left) writer
         result.0 result.1 }
 {
     match fault {
         Fault::Memory => (writer, Ending::Memory),
         Fault::File => (writer, refused(alloc, name, Obstacle::Unread)),
-        _ => salvage_refused(alloc, store, name, writer),
+        _ => salvage_refused(alloc, store, name, all, writer),
     }
 }
 
@@ -101,33 +105,36 @@ fn salvage_store<S: Store, W: Sink + Drop>(
     alloc: Global,
     store: S,
     name: &str,
+    all: bool,
     writer: W,
 ) -> (W, Ending)
     ensures { (left : S) × OnlyReadsStore (S.facts store) (S.facts left)
-        × Salvages W.contents W.writes name.now file_script (S.facts store) (S.facts left) writer result.0 result.1 }
+        × Salvages W.contents W.writes name.now (file_script all) (S.facts store) (S.facts left) writer
+        result.0 result.1 }
 {
-    match VmFile::open(alloc, store) {
+    match VmFile::open(alloc, store, false) {
         Ok(file) => {
             let mut documents = file.into_documents();
             dump_open(alloc, &mut documents, name, Which::Both, writer)
         }
-        Err(none) => salvage_unopened(alloc, none.fault, none.store, name, writer),
+        Err(none) => salvage_unopened(alloc, none.fault, none.store, name, all, writer),
     }
 }
 
 /// Opens the file of a name to be read alone, writes the script that makes its documents again, or, where it doesn't
-/// open, all that can be read of it, and gives the writer back. It gets the script in parts.
+/// open, the blocks that are whole, or `all` that can be read, and gives the writer back. It gets the script in parts.
 pub fn salvage_file<V: Viewer, W: Sink + Drop>(
     alloc: Global,
     viewer: &mut V,
     file: &str,
+    all: bool,
     writer: W,
 ) -> (W, Ending)
-    ensures { SalvagesFile V.views V.Opened.facts W.contents W.writes file.now viewer.old viewer.new writer
+    ensures { SalvagesFile V.views V.Opened.facts W.contents W.writes file.now all viewer.old viewer.new writer
         result.0 result.1 }
 {
     match viewer.view(file) {
-        Ok(store) => salvage_store(alloc, store, file, writer),
+        Ok(store) => salvage_store(alloc, store, file, all, writer),
         Err(cause) => (writer, refused(alloc, file, Obstacle::Unviewed(cause))),
     }
 }

@@ -29,6 +29,9 @@ pub const MOST_ENTRIES: usize = MOST_BLOCKS as usize;
 /// How many bytes stand before the entries of a directory.
 pub const HEADER_LENGTH: usize = 16;
 
+/// How many bytes an entry has without a sum.
+const SHORTEST_ENTRY: usize = 16;
+
 /// How many bytes an entry has at most: 16, and four for a sum.
 pub const LONGEST_ENTRY: usize = 20;
 
@@ -51,7 +54,11 @@ pub fn entry_length(version: u16) -> usize
     ensures some { 16 ≤ result }
     ensures most { result ≤ LONGEST_ENTRY }
 {
-    if has_sums(version) { LONGEST_ENTRY } else { 16 }
+    if has_sums(version) {
+        LONGEST_ENTRY
+    } else {
+        SHORTEST_ENTRY
+    }
 }
 
 /// Where the entry of this index begins in a directory of this version.
@@ -63,7 +70,7 @@ pub fn entry_start(version: u16, index: usize) -> usize
     if has_sums(version) {
         HEADER_LENGTH + LONGEST_ENTRY * index
     } else {
-        HEADER_LENGTH + 16 * index
+        HEADER_LENGTH + SHORTEST_ENTRY * index
     }
 }
 
@@ -101,16 +108,21 @@ pub fn begin_directory(
     Ok(text)
 }
 
-/// Appends an entry to the text of a directory. It is written where it stands, and copied from nowhere.
+/// Appends an entry to the text of a directory. Its length is known where it is written, so that no call copies it.
 pub fn push_entry(text: &mut Vec<u8>, version: u8, entry: &Entry) -> Result<(), AllocError>
     ensures pushed { OnOk result (text.new.items ≡ text.old.items ++ entry_text version entry.now) }
     ensures refused { OnErr result (text.new.items ≡ text.old.items) }
 {
     let version = u16::from(version);
-    let start = text.len();
-    text.resize(start + entry_length(version), 0)?;
-    write_entry(&mut text[start..], version, entry);
-    Ok(())
+    if has_sums(version) {
+        let mut written = [0; LONGEST_ENTRY];
+        write_entry(&mut written, version, entry);
+        text.extend_from_slice(&written)
+    } else {
+        let mut written = [0; SHORTEST_ENTRY];
+        write_entry(&mut written, version, entry);
+        text.extend_from_slice(&written)
+    }
 }
 
 fn header(version: u16, count: u16, map_block: VmHandle) -> [u8; HEADER_LENGTH]
@@ -280,10 +292,15 @@ pub fn read_entry(version: u16, text: &[u8]) -> Entry
 fn is_text_of(text: &[u8], version: u16, entry: &Entry) -> bool
     ensures { IsTrue result ↔ (text.now ≡ entry_text version entry.now) }
 {
-    let mut whole = [0; LONGEST_ENTRY];
-    let written = &mut whole[..entry_length(version)];
-    write_entry(written, version, entry);
-    text == written
+    if has_sums(version) {
+        let mut written = [0; LONGEST_ENTRY];
+        write_entry(&mut written, version, entry);
+        text == &written[..]
+    } else {
+        let mut written = [0; SHORTEST_ENTRY];
+        write_entry(&mut written, version, entry);
+        text == &written[..]
+    }
 }
 
 // Whether an entry is the one of this text in a directory of this version, may stand behind one of the handle `last`,

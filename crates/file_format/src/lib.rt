@@ -26,6 +26,7 @@ pub use reading::{read_extent, read_length};
 pub use slot::{LONGEST_SLOT, SLOT_MARK, SlotText, own_sum, read_slot, write_slot};
 pub use stored_directory::{ReadDirectory, look_for_directory, read_directory};
 pub use stored_slot::{
-    FoundSlot, RawSlot, check_slot, choose, find_slot, is_version, read_open_slot, read_raw_slot,
+    FoundSlot, RawSlot, check_slot, choose, find_slot, is_sealed, is_version, read_open_slot,
+    read_raw_slot,
 };
 pub use sum::has_sum;

@@ -1,6 +1,7 @@
 -- What is told of a finding: the text that it prints.
 use Rattle.std.specs.Prelude.{ℕ, List, [], ◌++◌, codes, false}
 use Rattle.std.specs.Fmt.{decimal, digits, format_spec, padded_integral}
+use Rattle.file_format.specs.declared.file.Entry.{Entry}
 use Rattle.file_format.specs.declared.file.Extent.{Extent}
 use Rattle.file_report.specs.declared.finding.Named.{Named}
 use Rattle.file_report.specs.declared.finding.Named.TheVariants.{Updated, Saved}
@@ -21,6 +22,14 @@ name_text Saved = codes "saved"
 
 abbrev pub extent_words : Extent → List ℕ
 extent_words e = codes "page " ++ decimal e.page ++ codes ", " ++ decimal e.length ++ codes " bytes"
+
+abbrev pub listed_words : Entry → List ℕ
+listed_words e = codes "block " ++ handle_text e.handle.0 ++ codes ", image at " ++ extent_words e.extent
+
+abbrev pub no_image_words : Entry → List ℕ
+no_image_words e =
+    codes "block " ++ handle_text e.handle.0 ++ codes " of type " ++ decimal e.attributes.heap_type
+    ++ codes ": no image of one at " ++ extent_words e.extent
 
 abbrev pub header_fault_words : HeaderFault → List ℕ
 header_fault_words header.Mark = codes "its mark is not GDIR"
@@ -49,11 +58,8 @@ finding_text (finding.Header name fault) = name_text name ++ codes " directory: 
 finding_text (finding.MapBlock name h) =
     name_text name ++ codes " directory: its map block " ++ handle_text h.0 ++ codes " is not listed"
 finding_text (finding.Entry name i e fault) =
-    name_text name ++ codes " directory: entry " ++ decimal i ++ codes ", block " ++ handle_text e.handle.0
-    ++ codes ", image at " ++ extent_words e.extent ++ codes ": " ++ entry_fault_words fault
+    name_text name ++ codes " directory: entry " ++ decimal i ++ codes ", " ++ listed_words e ++ codes ": "
+    ++ entry_fault_words fault
 finding_text (finding.Sum name e) =
-    name_text name ++ codes " document: block " ++ handle_text e.handle.0 ++ codes ", image at "
-    ++ extent_words e.extent ++ codes ": its sum is wrong"
-finding_text (finding.Image name e) =
-    name_text name ++ codes " document: block " ++ handle_text e.handle.0 ++ codes " of type "
-    ++ decimal e.attributes.heap_type ++ codes ": no image of one at " ++ extent_words e.extent
+    name_text name ++ codes " document: " ++ listed_words e ++ codes ": its sum is wrong"
+finding_text (finding.Image name e) = name_text name ++ codes " document: " ++ no_image_words e

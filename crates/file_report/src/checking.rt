@@ -3,7 +3,6 @@ ghost use Rattle.std.specs.Prelude.{◌≡◌, ◌≤◌, ◌<◌, ◌&&◌, if�
 ghost use Rattle.std.specs.Option.{option_map};
 ghost use Rattle.std.specs.Result.{result_map_both};
 ghost use Rattle.vm_store.specs.Facts.{FailedSince};
-ghost use Rattle.file_format.specs.File.{is_sealed};
 ghost use Rattle.file_format.specs.Reading.{IsResourceFault, OnlyReadsStore};
 ghost use Rattle.file_report.specs.Findings.{FindsMore};
 ghost use Rattle.file_report.specs.Reading.{IsSoOfSlot};
@@ -13,7 +12,7 @@ ghost use Rattle.file_report.specs.Checked.{IsReport, IsSlotReport, IsState, cho
 use crate::document::check_document;
 use crate::finding::{Finding, Named, note_unless};
 use file_format::{
-    Directory, PAGE, Slot, check_slot as check_header, choose, is_version, own_sum, read_length,
+    Directory, PAGE, Slot, check_slot as check_header, choose, is_sealed, is_version, read_length,
     read_raw_slot,
 };
 use geos_model::Fault;
@@ -75,16 +74,6 @@ fn slot_findings(alloc: Global, slot: &Slot) -> Result<Vec<Finding>, AllocError>
     let sealed = is_sealed(slot);
     note_unless(sealed, Finding::SlotSum, &mut findings)?;
     Ok(findings)
-}
-
-// Whether a slot's own sum is right, where it has one.
-fn is_sealed(slot: &Slot) -> bool
-    ensures { result ≡ is_sealed slot.now }
-{
-    match &slot.sums {
-        None => true,
-        Some(sums) => sums.own == own_sum(slot, sums),
-    }
 }
 
 // Whether a slot can have the sequence number.

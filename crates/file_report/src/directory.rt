@@ -4,8 +4,8 @@ ghost use Rattle.file_report.specs.Findings.{FindsMore, HasEntry, IsSeen, direct
 ghost use Rattle.file_report.specs.Reading.{IsSoOf, IsSoOfRead, IsWrong};
 
 use crate::entry::{
-    count_of, handle_before, has_entry_zeros, has_header_zeros, has_mark, is_above,
-    is_directory_length, is_handle, is_image_length, is_map_block, is_whole, map_block_of, text_at,
+    count_of, entry_text_at, handle_before, has_entry_zeros, has_header_zeros, has_mark, is_above,
+    is_directory_length, is_handle, is_image_length, is_map_block, is_whole, map_block_of,
     version_of, whole_entries,
 };
 use crate::finding::{EntryFault, Finding, HeaderFault, Named, note_unless};
@@ -83,7 +83,7 @@ fn note_entry(
         findings.old.items findings.new.items) }
 {
     let version = version_of(bytes);
-    let text = text_at(bytes, i);
+    let text = entry_text_at(bytes, i);
     let last = handle_before(bytes, i);
     let entry = read_entry(version, text);
     let above = is_above(entry.handle.0, last);

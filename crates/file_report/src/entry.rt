@@ -18,7 +18,7 @@ fn start_of_entry(bytes: &[u8], i: usize) -> usize
 }
 
 /// The text of an entry.
-pub fn text_at(bytes: &[u8], i: usize) -> &[u8]
+pub fn entry_text_at(bytes: &[u8], i: usize) -> &[u8]
     requires { HasEntry bytes.now i }
     ensures text { result.now ≡ entry_text_at bytes.now i }
     ensures size { length result.now ≡ entry_length (word_at bytes.now 4) }

@@ -152,6 +152,43 @@ impl fmt::Display for At {
     }
 }
 
+// A block by its entry, as text.
+#[derive(Clone, Copy)]
+struct Listed(Entry);
+
+impl fmt::Display for Listed {
+    ghost use Rattle.std.specs.Prelude.{Some};
+    ghost use Rattle.file_report.specs.Texts.{listed_words};
+
+    ghost output = { λ listed. Some (listed_words listed.0) };
+
+    fn fmt<W: fmt::Write>(&self, f: &mut fmt::Formatter<W>) -> fmt::Result {
+        let Entry { handle, extent, .. } = self.0;
+        write!(f, "block {:04x}, image at {}", handle.0, At(extent))
+    }
+}
+
+// That a block has no image, as text.
+#[derive(Clone, Copy)]
+struct NoImage(Entry);
+
+impl fmt::Display for NoImage {
+    ghost use Rattle.std.specs.Prelude.{Some};
+    ghost use Rattle.file_report.specs.Texts.{no_image_words};
+
+    ghost output = { λ none. Some (no_image_words none.0) };
+
+    fn fmt<W: fmt::Write>(&self, f: &mut fmt::Formatter<W>) -> fmt::Result {
+        write!(
+            f,
+            "block {:04x} of type {}: no image of one at {}",
+            self.0.handle.0,
+            self.0.attributes.heap_type,
+            At(self.0.extent)
+        )
+    }
+}
+
 impl fmt::Display for Finding {
     ghost use Rattle.std.specs.Prelude.{Some};
     ghost use Rattle.file_report.specs.Texts.{finding_text};
@@ -170,43 +207,29 @@ impl fmt::Display for Finding {
             Finding::Outside(name, extent) => {
                 write!(f, "{name} directory: not in the file: {}", At(*extent))
             }
-            Finding::NoLength(name, extent) => {
-                write!(
-                    f,
-                    "{name} directory: none has such a length: {}",
-                    At(*extent)
-                )
-            }
+            Finding::NoLength(name, extent) => write!(
+                f,
+                "{name} directory: none has such a length: {}",
+                At(*extent)
+            ),
             Finding::DirectorySum(name) => {
                 write!(f, "{name} document: the directory's sum is wrong")
             }
             Finding::Header(name, fault) => write!(f, "{name} directory: {fault}"),
-            Finding::MapBlock(name, block) => {
-                write!(
-                    f,
-                    "{name} directory: its map block {:04x} is not listed",
-                    block.0
-                )
-            }
+            Finding::MapBlock(name, block) => write!(
+                f,
+                "{name} directory: its map block {:04x} is not listed",
+                block.0
+            ),
             Finding::Entry(name, i, entry, fault) => write!(
                 f,
-                "{name} directory: entry {i}, block {:04x}, image at {}: {fault}",
-                entry.handle.0,
-                At(entry.extent)
+                "{name} directory: entry {i}, {}: {fault}",
+                Listed(*entry)
             ),
-            Finding::Sum(name, entry) => write!(
-                f,
-                "{name} document: block {:04x}, image at {}: its sum is wrong",
-                entry.handle.0,
-                At(entry.extent)
-            ),
-            Finding::Image(name, entry) => write!(
-                f,
-                "{name} document: block {:04x} of type {}: no image of one at {}",
-                entry.handle.0,
-                entry.attributes.heap_type,
-                At(entry.extent)
-            ),
+            Finding::Sum(name, entry) => {
+                write!(f, "{name} document: {}: its sum is wrong", Listed(*entry))
+            }
+            Finding::Image(name, entry) => write!(f, "{name} document: {}", NoImage(*entry)),
         }
     }
 }

@@ -12,6 +12,7 @@ mod pages;
 
 pub use checking::{Report, SlotReport, SlotState, check};
 pub use document::read_image;
+pub use entry::entry_text_at;
 pub use finding::{EntryFault, Finding, HeaderFault, Named};
 pub use free::{FreePages, free_pages};
 pub use heaps::read_heap;

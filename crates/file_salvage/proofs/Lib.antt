@@ -1,4 +1,5 @@
+pub mod BesideLemmas
+pub mod EntryLemmas
 pub mod PlaceLemmas
 pub mod RowLemmas
-pub mod EntryLemmas
 pub mod ScriptLemmas

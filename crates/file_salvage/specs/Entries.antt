@@ -1,9 +1,11 @@
--- Which entries of a directory are whole. Its bytes may be fewer than its header tells: then entries are missing.
-use Rattle.std.specs.Prelude.{ℕ, List, [], ◌∷◌, ◌++◌, ◌-◌, ◌/◌, Bool, not, ◌==◌, ◌&&◌, nat_le, length, map, take, drop, slice_index_or, if◌then◌else◌, Option, None, Some, is_some, codes}
+-- Which entries of a directory are whole, and which are taken. Its bytes may be fewer than its header tells: then
+-- entries are missing.
+use Rattle.std.specs.Prelude.{ℕ, List, [], ◌∷◌, ◌++◌, ◌-◌, ◌/◌, Bool, not, ◌==◌, ◌&&◌, nat_le, length, map, take, drop, slice_index, slice_index_or, if◌then◌else◌, Option, None, Some, is_some, codes}
 use Rattle.std.specs.List.{flat_map, list_all, list_any, range_with_len}
 use Rattle.geos_model.specs.Words.{word_at}
-use Rattle.file_format.specs.File.{block_of, entry_length, entry_read, entry_start, is_entry}
+use Rattle.file_format.specs.File.{block_of, entry_length, entry_read, is_entry}
 use Rattle.file_format.specs.declared.file.Entry.{Entry}
+use Rattle.file_report.specs.Findings.{entry_text_at}
 use Rattle.geos_model.specs.Script.{four_digits}
 use Rattle.file_salvage.specs.Rows.{longest_row}
 use Rattle.file_salvage.specs.declared.flaw.Flaw.{Flaw}
@@ -17,12 +19,8 @@ version_in bytes = word_at bytes 4
 abbrev pub entry_count : List ℕ → ℕ
 entry_count bytes = (length bytes - 16) / entry_length (version_in bytes)
 
--- the text of an entry
-abbrev pub text_at : List ℕ → ℕ → List ℕ
-text_at bytes i = take (entry_length (version_in bytes)) (drop (entry_start (version_in bytes) i) bytes)
-
 abbrev pub entry_at : List ℕ → ℕ → Entry
-entry_at bytes i = entry_read (version_in bytes) (text_at bytes i)
+entry_at bytes i = entry_read (version_in bytes) (entry_text_at bytes i)
 
 -- where the zeros of an entry begin, in a directory of a version: in version 1 they stand for its type too
 abbrev pub zeros_start : ℕ → ℕ
@@ -37,7 +35,7 @@ abbrev pub is_right : ℕ → ℕ → List ℕ → ℕ → Bool
 is_right file_version n bytes i =
     let e = entry_at bytes i in
     nat_le 1 e.handle.0 && is_entry file_version n (version_in bytes) e
-    && has_zeros (version_in bytes) (text_at bytes i)
+    && has_zeros (version_in bytes) (entry_text_at bytes i)
 
 -- an entry without its sum
 abbrev pub unsummed : Entry → Entry
@@ -71,8 +69,41 @@ abbrev pub frees : List ℕ → List (Option Flaw) → List ℕ
 frees bytes damages = map (free_at bytes damages) (range_with_len 0 (length damages))
 
 -- the whole entries that are taken, by their places in the directory: as many as can stand in one
-abbrev pub taken : List ℕ → List (Option Flaw) → List ℕ
-taken bytes damages = longest_row (frees bytes damages)
+abbrev pub whole_row : List ℕ → List (Option Flaw) → List ℕ
+whole_row bytes damages = longest_row (frees bytes damages)
+
+-- Beside these, where all are asked for, entries whose image hasn't its sum: as many as can stand among them.
+
+-- the same number of an entry whose image can be read, whether or not that has its sum
+abbrev pub free_unsummed : ℕ → Entry → Option Flaw → ℕ
+free_unsummed i e None = e.handle.0 - i
+free_unsummed i e (Some flaws.Sum) = e.handle.0 - i
+free_unsummed i e (Some flaw) = 0
+
+-- a number at a place is at least each of a row's at places up to there, and at most each of those behind
+abbrev pub fits : List ℕ → List ℕ → ℕ → ℕ → Bool
+fits numbers row i n =
+    list_all (λ j. if nat_le j i then nat_le (slice_index numbers j) n else nat_le n (slice_index numbers j)) row
+
+-- that number where it can stand among those of a row, and else 0
+abbrev pub free_among : List ℕ → List ℕ → ℕ → ℕ → ℕ
+free_among numbers row i n = if fits numbers row i n then n else 0
+
+abbrev pub free_beside : List ℕ → List (Option Flaw) → List ℕ → List ℕ → ℕ → ℕ
+free_beside bytes damages numbers row i =
+    free_among numbers row i (free_unsummed i (entry_at bytes i) (slice_index_or damages i None))
+
+abbrev pub frees_beside : List ℕ → List (Option Flaw) → List ℕ → List ℕ → List ℕ
+frees_beside bytes damages numbers row =
+    map (free_beside bytes damages numbers row) (range_with_len 0 (length damages))
+
+abbrev pub unsummed_row : List ℕ → List (Option Flaw) → List ℕ
+unsummed_row bytes damages =
+    longest_row (frees_beside bytes damages (frees bytes damages) (whole_row bytes damages))
+
+-- the entries that are taken, by their places: the whole ones, or all whose image can be read
+abbrev pub taken : Bool → List ℕ → List (Option Flaw) → List ℕ
+taken all bytes damages = if all then unsummed_row bytes damages else whole_row bytes damages
 
 -- one of these entries has a handle
 abbrev pub has_handle : ℕ → List Entry → Bool
@@ -81,9 +112,10 @@ has_handle h entries = list_any (λ e. e.handle.0 == h) entries
 abbrev pub is_taken : ℕ → List ℕ → Bool
 is_taken i row = list_any (λ j. j == i) row
 
--- why the block of the entry at a place is left out: the entry isn't whole, or isn't taken
+-- what is wrong with the block of the entry at a place: it isn't whole, or isn't taken, or is taken without its sum
 abbrev pub flaw_beside : List ℕ → ℕ → Option Flaw → Option Flaw
 flaw_beside row i None = if is_taken i row then None else Some flaws.Order
+flaw_beside row i (Some flaws.Sum) = Some (if is_taken i row then flaws.Taken else flaws.Sum)
 flaw_beside row i (Some flaw) = Some flaw
 
 abbrev pub flaw_words : Flaw → List ℕ
@@ -91,6 +123,7 @@ flaw_words flaws.Entry = codes " is left out: its entry is damaged\n"
 flaw_words flaws.Image = codes " is left out: its image is damaged\n"
 flaw_words flaws.Sum = codes " is left out: its sum is wrong\n"
 flaw_words flaws.Order = codes " is left out: its handle isn't in order\n"
+flaw_words flaws.Taken = codes " is taken, though its sum is wrong\n"
 
 -- the line that tells it
 abbrev pub note_of : ℕ → Option Flaw → List ℕ
@@ -105,9 +138,17 @@ note_at bytes damages row i =
 unfoldable pub notes : List ℕ → List (Option Flaw) → List ℕ → ℕ → List ℕ
 notes bytes damages row n = flat_map (note_at bytes damages row) (range_with_len 0 n)
 
--- what there is to a directory: the entries that are taken, the last one first, and the lines
-abbrev pub taken_entries : List ℕ → List (Option Flaw) → List Entry
-taken_entries bytes damages = map (entry_at bytes) (taken bytes damages)
+-- an entry that is taken, without its sum where its image hasn't that
+abbrev pub entry_beside : Entry → Option Flaw → Entry
+entry_beside e None = e
+entry_beside e (Some flaw) = unsummed e
 
-abbrev pub all_notes : List ℕ → List (Option Flaw) → List ℕ
-all_notes bytes damages = notes bytes damages (taken bytes damages) (length damages)
+abbrev pub taken_at : List ℕ → List (Option Flaw) → ℕ → Entry
+taken_at bytes damages i = entry_beside (entry_at bytes i) (slice_index_or damages i None)
+
+-- what there is to a directory: the entries that are taken, the last one first, and the lines
+abbrev pub taken_entries : Bool → List ℕ → List (Option Flaw) → List Entry
+taken_entries all bytes damages = map (taken_at bytes damages) (taken all bytes damages)
+
+abbrev pub all_notes : Bool → List ℕ → List (Option Flaw) → List ℕ
+all_notes all bytes damages = notes bytes damages (taken all bytes damages) (length damages)

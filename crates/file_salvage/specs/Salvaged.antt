@@ -1,4 +1,5 @@
--- What is salvaged of a file: the document of the entries that are taken, and its script.
+-- What is salvaged of a file: the document of the entries that are taken, and its script. Where all are asked for,
+-- entries whose image hasn't its sum are taken too.
 use Rattle.std.specs.Prelude.{◌≡◌, ◌⊎◌, ℕ, List, [], ◌∷◌, ◌++◌, Bool, true, false, ◌==◌, if◌then◌else◌, Option, None, Some, codes}
 use Rattle.std.specs.Io.KnownBytes.{Appends}
 use Rattle.std.specs.Option.{option_and_then, option_map}
@@ -26,8 +27,8 @@ abbrev pub damages_of : List ℕ → Place → List (Option Flaw)
 damages_of file p = damages file p.version (bytes_of file p)
 
 -- the entries that are taken of it
-abbrev pub salvaged_entries : List ℕ → Place → List Entry
-salvaged_entries file p = taken_entries (bytes_of file p) (damages_of file p)
+abbrev pub salvaged_entries : Bool → List ℕ → Place → List Entry
+salvaged_entries all file p = taken_entries all (bytes_of file p) (damages_of file p)
 
 -- the map block, where one of these entries has it, or else none
 abbrev pub map_kept : ℕ → List Entry → ℕ
@@ -37,11 +38,13 @@ abbrev pub map_of : List ℕ → Place → ℕ
 map_of file p = word_at (bytes_of file p) 8
 
 -- the document that is salvaged
-abbrev pub salvaged_document : List ℕ → Place → Option Document
-salvaged_document file p =
-    document_of file (listing (map_kept (map_of file p) (salvaged_entries file p)) (salvaged_entries file p))
+abbrev pub salvaged_document : Bool → List ℕ → Place → Option Document
+salvaged_document all file p =
+    document_of file
+    (listing (map_kept (map_of file p) (salvaged_entries all file p)) (salvaged_entries all file p))
 
--- Lines before its script: of which document it is, which blocks are left out, and whether the map block is.
+-- Lines before its script: of which document it is, which blocks are left out or taken without their sum, and whether
+-- the map block is left out.
 
 abbrev pub place_note : Place → List ℕ
 place_note p =
@@ -54,18 +57,18 @@ lost_map map_block = codes "# map block" ++ 32 ∷ four_digits map_block ++ code
 abbrev pub map_note : ℕ → ℕ → List ℕ
 map_note map_block kept = if map_block == kept then [] else lost_map map_block
 
-abbrev pub notes_of : List ℕ → Place → List ℕ
-notes_of file p =
-    place_note p ++ all_notes (bytes_of file p) (damages_of file p)
-    ++ map_note (map_of file p) (map_kept (map_of file p) (salvaged_entries file p))
+abbrev pub notes_of : Bool → List ℕ → Place → List ℕ
+notes_of all file p =
+    place_note p ++ all_notes all (bytes_of file p) (damages_of file p)
+    ++ map_note (map_of file p) (map_kept (map_of file p) (salvaged_entries all file p))
 
 -- the script of what a directory has, with those lines
-abbrev pub script_of : List ℕ → Place → Option (List ℕ)
-script_of file p = option_map (λ d. notes_of file p ++ saved_text d) (salvaged_document file p)
+abbrev pub script_of : Bool → List ℕ → Place → Option (List ℕ)
+script_of all file p = option_map (λ d. notes_of all file p ++ saved_text d) (salvaged_document all file p)
 
 -- the script of what a file has, if one of its directories can be read
-abbrev pub salvage_text : List ℕ → Option (List ℕ)
-salvage_text file = option_and_then (script_of file) (salvaged_place file)
+abbrev pub salvage_text : Bool → List ℕ → Option (List ℕ)
+salvage_text all file = option_and_then (script_of all file) (salvaged_place file)
 
 -- it is told whether there is a script, and it is written
 abbrev pub IsSalvage : Option (List ℕ) → Bool → Option (List ℕ) → Option (List ℕ) → Type 0

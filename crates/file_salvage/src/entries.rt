@@ -1,4 +1,4 @@
-//! Which entries of a directory are whole.
+//! Which entries of a directory are whole, and which are taken.
 ghost use Rattle.std.specs.Prelude.{◌≡◌, ◌++◌, ◌<◌, ◌≤◌, All, IfErr, IfOk, IsErrOf, IsTrue, OnOk, is_some, length, map};
 ghost use Rattle.std.specs.Io.KnownBytes.{Appends};
 ghost use Rattle.vm_store.specs.Facts.{FailedSince};
@@ -6,7 +6,7 @@ ghost use Rattle.file_format.specs.Reading.{IsResourceFault, OnlyReadsStore};
 ghost use Rattle.file_format.specs.File as file;
 ghost use Rattle.file_format.specs.File.{block_of, entry_length};
 ghost use Rattle.document_dump.specs.Faults.{IsDumpRefusal, IsWriteFault};
-ghost use Rattle.file_salvage.specs.Entries.{all_notes, damage_at, damages, entry_at, entry_count, flaw_beside, free_below, frees, has_handle, has_zeros, image_flaw, is_right, is_taken, note_of, notes, taken, taken_entries, text_at, version_in, zeros_start};
+ghost use Rattle.file_salvage.specs.Entries.{all_notes, damage_at, damages, entry_at, entry_beside, entry_count, fits, flaw_beside, free_among, free_below, free_unsummed, frees, frees_beside, has_handle, has_zeros, image_flaw, is_right, is_taken, note_of, notes, taken, taken_at, taken_entries, unsummed, version_in, zeros_start};
 ghost use Rattle.file_salvage.specs.Salvaged.{IsNoteFault};
 
 use crate::flaw::Flaw;
@@ -16,7 +16,7 @@ use document_dump::DumpFault;
 use file_format::{
     Entry, HEADER_LENGTH, LONGEST_IMAGE, entry_length, is_in_file, most_handles, read_entry,
 };
-use file_report::read_image;
+use file_report::{entry_text_at, read_image};
 use geos_model::Fault;
 use geos_script::{Word, push_words};
 use std::alloc::{AllocError, Global};
@@ -55,21 +55,11 @@ fn entry_count(bytes: &[u8]) -> usize
     (bytes.len() - HEADER_LENGTH) / entry_length(version_in(bytes))
 }
 
-fn text_at(bytes: &[u8], i: usize) -> &[u8]
-    requires { i < entry_count bytes.now }
-    ensures text { result.now ≡ text_at bytes.now i }
-    ensures size { length result.now ≡ entry_length (version_in bytes.now) }
-{
-    let length = entry_length(version_in(bytes));
-    let at = HEADER_LENGTH + length * i;
-    &bytes[at..at + length]
-}
-
 fn entry_at(bytes: &[u8], i: usize) -> Entry
     requires { i < entry_count bytes.now }
     ensures { result ≡ entry_at bytes.now i }
 {
-    read_entry(version_in(bytes), text_at(bytes, i))
+    read_entry(version_in(bytes), entry_text_at(bytes, i))
 }
 
 // Where the zeros of an entry begin, in a directory of this version.
@@ -106,7 +96,7 @@ fn is_right(listing: Listing<'_>, i: usize) -> bool
     let entry = entry_at(bytes, i);
     entry.handle.0 >= 1
         && is_entry(listing, version, entry)
-        && has_zeros(version, text_at(bytes, i))
+        && has_zeros(version, entry_text_at(bytes, i))
 }
 
 // Whether an entry has its block. Memory, File.
@@ -120,6 +110,12 @@ fn has_block<S: Store>(alloc: Global, store: &mut S, entry: Entry) -> Result<boo
     Ok(read_image(alloc, store, &entry)?.is_some())
 }
 
+fn unsummed(entry: Entry) -> Entry
+    ensures { result ≡ unsummed entry }
+{
+    Entry { sum: None, ..entry }
+}
+
 // Why an entry hasn't its block. Memory, File.
 fn image_flaw<S: Store>(alloc: Global, store: &mut S, entry: Entry) -> Result<Flaw, Fault>
     ensures looks { OnlyReadsStore (S.facts store.old) (S.facts store.new) }
@@ -128,8 +124,7 @@ fn image_flaw<S: Store>(alloc: Global, store: &mut S, entry: Entry) -> Result<Fl
     ensures file { IsErrOf result Fault.File → FailedSince (S.facts store.old) (S.facts store.new) }
     ensures refusals { IfErr result IsResourceFault }
 {
-    let unsummed = Entry { sum: None, ..entry };
-    if has_block(alloc, store, unsummed)? {
+    if has_block(alloc, store, unsummed(entry))? {
         Ok(Flaw::Sum)
     } else {
         Ok(Flaw::Image)
@@ -206,24 +201,102 @@ fn frees(alloc: Global, bytes: &[u8], damages: &[Option<Flaw>]) -> Result<Vec<u1
     Ok(frees)
 }
 
+fn free_unsummed(i: usize, entry: Entry, damage: Option<Flaw>) -> u16
+    ensures { result ≡ free_unsummed i entry damage }
+{
+    match damage {
+        None | Some(Flaw::Sum) => free_below(i, entry, None),
+        Some(_) => 0,
+    }
+}
+
+// Whether a number at a place can stand among those of a row.
+fn fits(numbers: &[u16], row: &[usize], i: usize, number: u16) -> bool
+    requires { All (λ j. j < length numbers.now) row.now }
+    ensures { result ≡ fits numbers.now row.now i number }
+{
+    row.iter().all(|j| {
+        if *j <= i {
+            numbers[*j] <= number
+        } else {
+            number <= numbers[*j]
+        }
+    })
+}
+
+fn free_among(numbers: &[u16], row: &[usize], i: usize, number: u16) -> u16
+    requires { All (λ j. j < length numbers.now) row.now }
+    ensures { result ≡ free_among numbers.now row.now i number }
+{
+    if fits(numbers, row, i, number) {
+        number
+    } else {
+        0
+    }
+}
+
+fn frees_beside(
+    alloc: Global,
+    bytes: &[u8],
+    damages: &[Option<Flaw>],
+    numbers: &[u16],
+    row: &[usize],
+) -> Result<Vec<u16>, AllocError>
+    requires count { length damages.now ≡ entry_count bytes.now }
+    requires row { All (λ j. j < length numbers.now) row.now }
+    ensures { IfOk result (λ frees. frees.items ≡ frees_beside bytes.now damages.now numbers.now row.now) }
+{
+    let mut frees = Vec::new(alloc);
+    for i in 0..damages.len() {
+        let free = free_unsummed(i, entry_at(bytes, i), damages[i]);
+        frees.push(free_among(numbers, row, i, free))?;
+    }
+    Ok(frees)
+}
+
 // The places of the entries that are taken, the last one first.
-fn taken(alloc: Global, bytes: &[u8], damages: &[Option<Flaw>]) -> Result<Vec<usize>, AllocError>
+fn taken(
+    alloc: Global,
+    all: bool,
+    bytes: &[u8],
+    damages: &[Option<Flaw>],
+) -> Result<Vec<usize>, AllocError>
     requires { length damages.now ≡ entry_count bytes.now }
-    ensures row { IfOk result (λ row. row.items ≡ taken bytes.now damages.now) }
-    ensures within { IfOk result (λ row. All (λ i. i < entry_count bytes.now) row.items) }
+    ensures row { IfOk result (λ row. row.items ≡ taken all bytes.now damages.now) }
+    ensures within { IfOk result (λ row. All (λ i. i < length damages.now) row.items) }
 {
     let frees = frees(alloc, bytes, damages)?;
     let row = longest_row(alloc, frees.as_slice())?;
-    Ok(row)
+    if !all {
+        return Ok(row);
+    }
+    let beside = frees_beside(alloc, bytes, damages, frees.as_slice(), row.as_slice())?;
+    let more = longest_row(alloc, beside.as_slice())?;
+    Ok(more)
 }
 
-fn entries_at(alloc: Global, bytes: &[u8], row: &[usize]) -> Result<Vec<Entry>, AllocError>
-    requires { All (λ i. i < entry_count bytes.now) row.now }
-    ensures { IfOk result (λ entries. entries.items ≡ map (entry_at bytes.now) row.now) }
+fn entry_beside(entry: Entry, damage: Option<Flaw>) -> Entry
+    ensures { result ≡ entry_beside entry damage }
+{
+    match damage {
+        None => entry,
+        Some(_) => unsummed(entry),
+    }
+}
+
+fn entries_at(
+    alloc: Global,
+    bytes: &[u8],
+    damages: &[Option<Flaw>],
+    row: &[usize],
+) -> Result<Vec<Entry>, AllocError>
+    requires count { length damages.now ≡ entry_count bytes.now }
+    requires within { All (λ i. i < length damages.now) row.now }
+    ensures { IfOk result (λ entries. entries.items ≡ map (taken_at bytes.now damages.now) row.now) }
 {
     let mut entries = Vec::new(alloc);
     for i in row {
-        entries.push(entry_at(bytes, *i))?;
+        entries.push(entry_beside(entry_at(bytes, *i), damages[*i]))?;
     }
     Ok(entries)
 }
@@ -246,6 +319,7 @@ fn flaw_beside(row: &[usize], i: usize, damage: Option<Flaw>) -> Option<Flaw>
     match damage {
         None if is_taken(i, row) => None,
         None => Some(Flaw::Order),
+        Some(Flaw::Sum) if is_taken(i, row) => Some(Flaw::Taken),
         Some(_) => damage,
     }
 }
@@ -262,7 +336,7 @@ fn push_note(out: &mut Vec<u8>, handle: u16, flaw: Option<Flaw>) -> Result<(), A
     }
 }
 
-// A line tells why the block of an entry is left out, where it is.
+// A line tells what is wrong with the block of an entry, if anything is.
 fn send_note<W: Write>(
     alloc: Global,
     entry: Entry,
@@ -297,10 +371,12 @@ fn send_notes<W: Write>(
     Ok(())
 }
 
-/// The entries that are taken. Lines tell which blocks are left out.
+/// The entries that are taken: those that are whole, or all whose image can be read. Lines tell which blocks are left
+/// out, and which are taken without their sum.
 pub fn take_entries<S: Store, W: Write>(
     alloc: Global,
     store: &mut S,
+    all: bool,
     listing: Listing<'_>,
     writer: &mut W,
 ) -> Result<Vec<Entry>, DumpFault>
@@ -309,16 +385,16 @@ pub fn take_entries<S: Store, W: Write>(
     ensures reads { OnlyReadsStore (S.facts store.old) (S.facts store.new) }
     ensures fails { IfErr result (IsDumpRefusal (S.facts store.old) (S.facts store.new)) }
     ensures entries { IfOk result (λ entries. IsTrue (S.facts store.old).honest
-        → entries.items ≡ taken_entries listing.entry.bytes.now
+        → entries.items ≡ taken_entries all listing.entry.bytes.now
         (damages (S.facts store.old).content listing.entry.file_version listing.entry.bytes.now)) }
     ensures told { OnOk result (IsTrue (S.facts store.old).honest
-        → Appends (W.contents writer.old) (W.contents writer.new) (all_notes listing.entry.bytes.now
+        → Appends (W.contents writer.old) (W.contents writer.new) (all_notes all listing.entry.bytes.now
         (damages (S.facts store.old).content listing.entry.file_version listing.entry.bytes.now))) }
 {
     let bytes = listing.bytes;
     let damages = damages(alloc, store, listing)?;
-    let row = taken(alloc, bytes, damages.as_slice())?;
+    let row = taken(alloc, all, bytes, damages.as_slice())?;
     send_notes(alloc, bytes, damages.as_slice(), row.as_slice(), writer)?;
-    let entries = entries_at(alloc, bytes, row.as_slice())?;
+    let entries = entries_at(alloc, bytes, damages.as_slice(), row.as_slice())?;
     Ok(entries)
 }

@@ -3,10 +3,12 @@
 
 mod entries;
 mod flaw;
+mod law;
 mod place;
 mod places;
 mod rows;
 mod salvaging;
 
+pub use law::salvage_law;
 pub use rows::longest_row;
 pub use salvaging::salvage;

@@ -100,6 +100,7 @@ fn salvage_place<S: Store, W: Write>(
     alloc: Global,
     store: &mut S,
     file_length: u64,
+    all: bool,
     place: Place,
     writer: &mut W,
 ) -> Result<(), DumpFault>
@@ -108,7 +109,8 @@ fn salvage_place<S: Store, W: Write>(
     ensures reads { OnlyReadsStore (S.facts store.old) (S.facts store.new) }
     ensures fails { IfErr result (IsDumpRefusal (S.facts store.old) (S.facts store.new)) }
     ensures ok { OnOk result (IsTrue (S.facts store.old).honest
-        → IsSalvage (script_of (S.facts store.old).content place) true (W.contents writer.old) (W.contents writer.new)) }
+        → IsSalvage (script_of all (S.facts store.old).content place) true
+        (W.contents writer.old) (W.contents writer.new)) }
 {
     let directory = read_place(alloc, store, file_length, place)?;
     let bytes = directory.as_slice();
@@ -118,7 +120,7 @@ fn salvage_place<S: Store, W: Write>(
         file_length,
         bytes,
     };
-    let found = take_entries(alloc, store, listing, writer)?;
+    let found = take_entries(alloc, store, all, listing, writer)?;
     let entries = found.as_slice();
     let map_block = map_of(bytes);
     let kept = map_kept(map_block, entries);
@@ -127,24 +129,27 @@ fn salvage_place<S: Store, W: Write>(
     Ok(())
 }
 
-/// Writes a script of commands that makes all anew that can be read of a file, whether or not it opens, with lines
-/// before it that tell which blocks are left out. False where no directory can be read; then nothing is written.
-/// Nothing is written to the store. The writer gets many short pieces, so it should be buffered.
+/// Writes a script of commands that makes all blocks anew that are whole in a file, whether or not it opens, with lines
+/// before it that tell which are left out. With `all` those are taken too whose image can be read and hasn't its sum,
+/// and a line tells of each. False where no directory can be read; then nothing is written. Nothing is written to the
+/// store. The writer gets many short pieces, so it should be buffered.
 pub fn salvage<S: Store, W: Write>(
     alloc: Global,
     store: &mut S,
+    all: bool,
     writer: &mut W,
 ) -> Result<bool, DumpFault>
     ensures reads { OnlyReadsStore (S.facts store.old) (S.facts store.new) }
     ensures fails { IfErr result (IsDumpRefusal (S.facts store.old) (S.facts store.new)) }
     ensures ok { IfOk result (λ some. IsTrue (S.facts store.old).honest
-        → IsSalvage (salvage_text (S.facts store.old).content) some (W.contents writer.old) (W.contents writer.new)) }
+        → IsSalvage (salvage_text all (S.facts store.old).content) some
+        (W.contents writer.old) (W.contents writer.new)) }
 {
     let file_length = read_length(store)?;
     match find_place(alloc, store, file_length)? {
         None => Ok(false),
         Some(place) => {
-            salvage_place(alloc, store, file_length, place, writer)?;
+            salvage_place(alloc, store, file_length, all, place, writer)?;
             Ok(true)
         }
     }

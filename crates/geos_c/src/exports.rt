@@ -62,10 +62,9 @@ fn begin(handle: &mut Handle, begun: Result<Box<Kept<HostStore<ChannelFile>>>, F
     }
 }
 
-/// Opens the document of a file of the program's, with so many frames, 1 to 64.
-#[unsafe(no_mangle)]
-pub extern "C" fn geosvm_open(handle: &mut Handle, alloc: Global, number: i32, frames: usize) -> i32
-    ensures { Begins (IsOpening facts frames) number frames handle.old handle.new result }
+// Opens the document of a file of the program's; with checksums the next commit gives the file those.
+fn open_in(handle: &mut Handle, alloc: Global, number: i32, frames: usize, checksums: bool) -> i32
+    ensures { Begins (IsOpening facts frames checksums) number frames handle.old handle.new result }
 {
     if handle.is_open() {
         return OPEN_ALREADY;
@@ -75,8 +74,45 @@ pub extern "C" fn geosvm_open(handle: &mut Handle, alloc: Global, number: i32, f
     }
     begin(
         handle,
-        open(alloc, &mut Channel, FileNumber(number), frames),
+        open(alloc, &mut Channel, FileNumber(number), frames, checksums),
     )
+}
+
+// Makes a file of the program's an empty document, whatever was in it; with checksums or without.
+fn create_in(handle: &mut Handle, alloc: Global, number: i32, frames: usize, checksums: bool) -> i32
+    ensures { Begins (IsCreation facts frames checksums) number frames handle.old handle.new result }
+{
+    if handle.is_open() {
+        return OPEN_ALREADY;
+    }
+    if frames < 1 || frames > MOST_FRAMES {
+        return BAD_ARGUMENT;
+    }
+    begin(
+        handle,
+        create(alloc, &mut Channel, FileNumber(number), frames, checksums),
+    )
+}
+
+/// Opens the document of a file of the program's, with so many frames, 1 to 64.
+#[unsafe(no_mangle)]
+pub extern "C" fn geosvm_open(handle: &mut Handle, alloc: Global, number: i32, frames: usize) -> i32
+    ensures { Begins (IsOpening facts frames false) number frames handle.old handle.new result }
+{
+    open_in(handle, alloc, number, frames, false)
+}
+
+/// The same, after which the next commit gives the file checksums.
+#[unsafe(no_mangle)]
+pub extern "C" fn geosvm_open_checksums(
+    handle: &mut Handle,
+    alloc: Global,
+    number: i32,
+    frames: usize,
+) -> i32
+    ensures { Begins (IsOpening facts frames true) number frames handle.old handle.new result }
+{
+    open_in(handle, alloc, number, frames, true)
 }
 
 /// Makes a file of the program's an empty document, whatever was in it.
@@ -87,18 +123,22 @@ pub extern "C" fn geosvm_create(
     number: i32,
     frames: usize,
 ) -> i32
-    ensures { Begins (IsCreation facts frames) number frames handle.old handle.new result }
+    ensures { Begins (IsCreation facts frames false) number frames handle.old handle.new result }
 {
-    if handle.is_open() {
-        return OPEN_ALREADY;
-    }
-    if frames < 1 || frames > MOST_FRAMES {
-        return BAD_ARGUMENT;
-    }
-    begin(
-        handle,
-        create(alloc, &mut Channel, FileNumber(number), frames),
-    )
+    create_in(handle, alloc, number, frames, false)
+}
+
+/// The same, with checksums.
+#[unsafe(no_mangle)]
+pub extern "C" fn geosvm_create_checksums(
+    handle: &mut Handle,
+    alloc: Global,
+    number: i32,
+    frames: usize,
+) -> i32
+    ensures { Begins (IsCreation facts frames true) number frames handle.old handle.new result }
+{
+    create_in(handle, alloc, number, frames, true)
 }
 
 /// Gives up what isn't committed. Nothing is written.

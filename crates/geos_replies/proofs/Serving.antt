@@ -168,9 +168,9 @@ module _ {S : Type 0} (facts : S → StoreFacts) where
   pub serves_accepted : (old new : SessionState S) (target store : S) (former : Option S)
       → (IsExact facts old → IsTrue (facts target).honest → IsExact facts new × Step false (machine_of true old) (Some commands.SaveAs) Accepted (machine_of false new))
       → (disk : Disk S) × (disk.store ≡ store) × MayCommit facts (old.disk.saved, old.disk.saved) old.disk disk (Ok tt)
-      → IsNewFile facts new.disk.updated new.disk → SameStore facts target new.disk.store
+      → IsNewFile facts new.disk.updated new.disk → new.disk.checksums ≡ old.disk.checksums → SameStore facts target new.disk.store
       → AreExact facts (holding old (Some target) former) → ServesRequest facts (holding old (Some target) former) (Some commands.SaveAs) Accepted (holding new None (Some store))
-  serves_accepted old new target store former step commits new_file follows exact =
+  serves_accepted old new target store former step commits new_file checksums follows exact =
       let went = step exact.0 exact.1 in
       record {
         exact = (went.0, tt);
@@ -183,6 +183,7 @@ module _ {S : Type 0} (facts : S → StoreFacts) where
           failures = follows.failures;
           new_file = (new_file.in_doubt, new_file.sequence);
           numbered = new_file.numbered went.0.honest;
+          checksums = checksums;
           crash_consistent = new_file.crash_consistent;
         };
         sure = tt;

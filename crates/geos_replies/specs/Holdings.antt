@@ -94,7 +94,7 @@ pub record SaveAsRefused {S : Type 0} (facts : S → StoreFacts) (old : Holding 
   pub former : new.former ≡ old.former
 
 -- A save-as is accepted: the old file has its saved document committed, and its store is put aside. The target is used
--- up, and the session is in it, which is a new file.
+-- up, and the session is in it, which is a new file, with checksums where the old file has.
 pub record SaveAsAccepted {S : Type 0} (facts : S → StoreFacts) (old : Holding S) (lent : S) (new : Holding S)
     : Type 0 where
   pub disk : Disk S
@@ -104,6 +104,7 @@ pub record SaveAsAccepted {S : Type 0} (facts : S → StoreFacts) (old : Holding
   pub failures : (facts lent).failures ≤ (facts new.session.disk.store).failures
   pub new_file : (new.session.disk.in_doubt ≡ []) × (new.session.disk.sequence ≡ 1)
   pub numbered : HasSequence (facts new.session.disk.store) 1
+  pub checksums : new.session.disk.checksums ≡ old.session.disk.checksums
   pub crash_consistent : IsCrashConsistent facts new.session.disk
 
 -- by the target that was left, and the reply

@@ -1,5 +1,5 @@
 -- What a run of the program comes to, and what becomes of the files that its words name.
-use Rattle.std.specs.Prelude.{◌≡◌, ◌≢◌, ◌⊎◌, ℕ, ◌≤◌, List, [], Bool, true, false, Option, Some, None, IsTrue, Ok, Err}
+use Rattle.std.specs.Prelude.{◌≡◌, ◌≢◌, ◌⊎◌, ◌||◌, ℕ, ◌≤◌, List, [], Bool, true, false, Option, Some, None, IsTrue, Ok, Err}
 use Rattle.file_format.specs.File.{stands}
 use Rattle.geos_model.specs.Machine.{empty_machine, opened_machine, with_undo_limit}
 use Rattle.geos_model.specs.declared.fault.Fault.{Fault}
@@ -7,7 +7,8 @@ use Rattle.geos_model.specs.declared.fault.Fault.TheVariants.{File}
 use Rattle.vm_store.specs.Facts.{StoreFacts, FailedSince, IsUnchanged}
 use Rattle.document_file.specs.Calls.{IsResourceFault, IsOpenRefusal}
 use Rattle.document_file.specs.Disk.{IsCrashConsistent, HasSequence}
-use Rattle.document_file.specs.Documents.{has_one_directory, sequence_in}
+use Rattle.document_file.specs.Documents.{has_checksums, has_one_directory, sequence_in, version_in}
+use Rattle.document_file.specs.Sums.{version_for}
 use Rattle.undo_log.specs.Sessions.{SessionState, IsExact, machine_of}
 use Rattle.vm_store.specs.Files.{Opener}
 use Rattle.command_lines.specs.Options.{CommandLine, IsUsable, RefusesWords, Text, command_line}
@@ -23,9 +24,9 @@ use Rattle.geos_shell.specs.declared.runner.ScriptOptions.{ScriptOptions}
 -- ---- sessions
 
 -- A session on a new file that keeps so many steps to be undone, or all: the machine of the empty document, of which the
--- file is one under the number 1.
-pub record IsCreated {S : Type 0} (facts : S → StoreFacts) (frames : ℕ) (limit : Option ℕ) (store : S)
-    (session : SessionState S) : Type 0 where
+-- file is one under the number 1; with checksums or without, by which its version is 3 or 2.
+pub record IsCreated {S : Type 0} (facts : S → StoreFacts) (frames : ℕ) (limit : Option ℕ) (checksums : Bool)
+    (store : S) (session : SessionState S) : Type 0 where
   pub honest : (facts session.disk.store).honest ≡ (facts store).honest
   pub failures : (facts store).failures ≤ (facts session.disk.store).failures
   pub exact : IsTrue (facts store).honest → IsExact facts session
@@ -33,12 +34,16 @@ pub record IsCreated {S : Type 0} (facts : S → StoreFacts) (frames : ℕ) (lim
   pub frames_are : session.frames ≡ frames
   pub in_doubt : session.disk.in_doubt ≡ []
   pub numbered : IsTrue (facts store).honest → HasSequence (facts session.disk.store) 1
+  pub checksums_are : session.disk.checksums ≡ checksums
+  pub version : IsTrue (facts store).honest
+      → version_in (facts session.disk.store).content ≡ Some (version_for checksums)
   pub crash_consistent : IsCrashConsistent facts session.disk
 
 -- A session on the file that a store has, in which nothing was written: the machine of the documents that the file
--- stands for. It keeps so many steps to be undone, or all.
-pub record IsOpened {S : Type 0} (facts : S → StoreFacts) (frames : ℕ) (limit : Option ℕ) (store : S)
-    (session : SessionState S) : Type 0 where
+-- stands for. It keeps so many steps to be undone, or all. Its commits write checksums where that is asked for or the
+-- file has some.
+pub record IsOpened {S : Type 0} (facts : S → StoreFacts) (frames : ℕ) (limit : Option ℕ) (checksums : Bool)
+    (store : S) (session : SessionState S) : Type 0 where
   pub honest : (facts session.disk.store).honest ≡ (facts store).honest
   pub failures : (facts store).failures ≤ (facts session.disk.store).failures
   pub unchanged : IsTrue (facts store).honest → IsUnchanged (facts store) (facts session.disk.store)
@@ -54,12 +59,16 @@ pub record IsOpened {S : Type 0} (facts : S → StoreFacts) (frames : ℕ) (limi
   pub numbered : IsTrue (facts store).honest → HasSequence (facts session.disk.store) session.disk.sequence
   pub frames_are : session.frames ≡ frames
   pub in_doubt : IsTrue (facts store).honest → session.disk.in_doubt ≡ []
+  pub checksums_are : IsTrue (facts store).honest
+      → session.disk.checksums ≡ (checksums || has_checksums (facts store).content)
   pub crash_consistent : IsCrashConsistent facts session.disk
 
 -- which of the two is asked for
-abbrev pub IsMadeOrOpened : {S : Type 0} → (S → StoreFacts) → Bool → ℕ → Option ℕ → S → SessionState S → Type 0
-IsMadeOrOpened facts true frames limit store session = IsCreated facts frames limit store session
-IsMadeOrOpened facts false frames limit store session = IsOpened facts frames limit store session
+abbrev pub IsMadeOrOpened : {S : Type 0} → (S → StoreFacts) → Bool → ℕ → Option ℕ → Bool → S → SessionState S → Type 0
+IsMadeOrOpened facts true frames limit checksums store session =
+    IsCreated facts frames limit checksums store session
+IsMadeOrOpened facts false frames limit checksums store session =
+    IsOpened facts frames limit checksums store session
 
 -- What a store is left as in which no new document was made: as it was, where memory ran out.
 pub record IsNotCreated {S : Type 0} (facts : S → StoreFacts) (fault : Fault) (store left : S) : Type 0 where
@@ -112,16 +121,16 @@ pub record TargetIsShut {F S : Type 0} (calls : Opener F S) (facts : S → Store
   pub left : S
   pub untouched : line.is_new ≡ true → left ≡ store
   pub was_opened : line.is_new ≡ false
-      → (session : SessionState S) × IsOpened facts line.cache line.undo_limit store session
+      → (session : SessionState S) × IsOpened facts line.cache line.undo_limit line.checksums store session
       × (left ≡ session.disk.store)
   pub closes : calls.closes failed left new
 
--- A session is begun on FILE's store, and FILE2 is the target if it is named. A new document is made only after both
--- are opened.
+-- A session is begun on FILE's store, with checksums where they are asked for, and FILE2 is the target if it is named.
+-- A new document is made only after both are opened.
 pub record BeginsSession {F S : Type 0} (calls : Opener F S) (facts : S → StoreFacts) (line : CommandLine) (store : S)
     (opened : F) (session : SessionState S) (target : Option S) (new : F) : Type 0 where
   pub target_is : OpensTarget calls line.target opened target new
-  pub session_is : IsMadeOrOpened facts line.is_new line.cache line.undo_limit store session
+  pub session_is : IsMadeOrOpened facts line.is_new line.cache line.undo_limit line.checksums store session
 
 -- the store of a session is closed, and so are the target and the old store of an accepted save-as, where they are
 -- there

@@ -158,7 +158,7 @@ fn create<F: Files>(
         files.close(store);
         return Err(Outcome::Target);
     };
-    match Session::create(alloc, store, usize::from(options.cache)) {
+    match Session::create(alloc, store, usize::from(options.cache), options.checksums) {
         Ok(mut session) => {
             session.limit_undo(options.undo_limit);
             Ok((session, target))
@@ -186,7 +186,8 @@ fn open<F: Files>(
     ensures err { IfErr result (IsGivenUp F.calls F.Opened.facts
         (line_of_options options.entry) store files.old files.new) }
 {
-    let mut session = match Session::open(alloc, store, usize::from(options.cache)) {
+    let frames = usize::from(options.cache);
+    let mut session = match Session::open(alloc, store, frames, options.checksums) {
         Ok(session) => session,
         Err(refused) => {
             files.close(refused.store);

@@ -30,8 +30,8 @@ fn open_or_create<S: Store>(alloc: Global, store: S) -> Result<Session<S>, Refus
 {
     let mut store = store;
     match store.len() {
-        Ok(0) => Session::create(alloc, store, FRAMES),
-        Ok(_) => Session::open(alloc, store, FRAMES),
+        Ok(0) => Session::create(alloc, store, FRAMES, false),
+        Ok(_) => Session::open(alloc, store, FRAMES, false),
         Err(fault) => Err(Refused {
             fault: fault.into(),
             store,

@@ -102,19 +102,24 @@ impl<S: Store> Session<S> {
         }
     }
 
-    /// Makes the store an empty document file, with nothing to undo, whatever was in it. Memory, before the store is
-    /// called; File.
-    pub fn create(alloc: Global, store: S, frames: usize) -> Result<Session<S>, Refused<S>>
+    /// Makes the store an empty document file, with nothing to undo, whatever was in it; with checksums, where they are
+    /// asked for. Memory, before the store is called; File.
+    pub fn create(
+        alloc: Global,
+        store: S,
+        frames: usize,
+        checksums: bool,
+    ) -> Result<Session<S>, Refused<S>>
         requires { (1 ≤ frames) × (frames ≤ 64) }
         ensures made { MatchResult result
-            (λ session. IsMadeIn S.facts store (file_of session))
+            (λ session. IsMadeIn S.facts store checksums (file_of session))
             (λ refused. IsNotMade S.facts store refused.store refused.fault) }
         ensures new { IfOk result (λ session. (session.log ≡ fresh_log true) × (session.frames ≡ frames)) }
         ensures exact { IfOk result (λ session. IsTrue (S.facts store).honest → IsExact S.facts session) }
         ensures machine { IfOk result
             (λ session. (target : Bool) → machine_of target session ≡ empty_machine frames target) }
     {
-        match FileBlocks::create(alloc, store, frames) {
+        match FileBlocks::create(alloc, store, frames, checksums) {
             Ok(blocks) => Ok(Session::start(alloc, blocks, true)),
             Err(refused) => Err(refused),
         }
@@ -122,11 +127,17 @@ impl<S: Store> Session<S> {
 
     /// Opens the file that a store has, with its updated document as it is now and nothing to undo. Where it is refused
     /// the store comes back, and nothing was written to an honest one: NotDocument or Damaged where it has no file;
-    /// Memory, File. Where a crash left the store, what is read is on the disk from then on.
-    pub fn open(alloc: Global, store: S, frames: usize) -> Result<Session<S>, Refused<S>>
+    /// Memory, File. Where a crash left the store, what is read is on the disk from then on. With checksums the next
+    /// commit gives the file those, if it has none.
+    pub fn open(
+        alloc: Global,
+        store: S,
+        frames: usize,
+        checksums: bool,
+    ) -> Result<Session<S>, Refused<S>>
         requires { (1 ≤ frames) × (frames ≤ 64) }
         ensures opened { MatchResult result
-            (λ session. IsOpenedFrom S.facts store (file_of session))
+            (λ session. IsOpenedFrom S.facts store checksums (file_of session))
             (λ refused. IsNotOpened S.facts store refused.store refused.fault) }
         ensures new { IfOk result
             (λ session. ((one : Bool) × (session.log ≡ fresh_log one)) × (session.frames ≡ frames)) }
@@ -137,7 +148,7 @@ impl<S: Store> Session<S> {
             → machine_of target session ≡ opened_machine updated saved (has_one_directory (S.facts store).content)
             sequence frames target) }
     {
-        match FileBlocks::open(alloc, store, frames) {
+        match FileBlocks::open(alloc, store, frames, checksums) {
             Ok(blocks) => {
                 let one = blocks.has_one_directory();
                 Ok(Session::start(alloc, blocks, one))

@@ -8,7 +8,7 @@ use Rattle.geos_model.specs.declared.fault.Fault.{Fault}
 use Rattle.document_file.specs.Disk.{Disk, SameUnlessCorrupt, MarkSameUnlessCorrupt, KeepsCommitted, unmarked}
 use Rattle.document_file.specs.Effects.{Fails, NoFault}
 use Rattle.document_file.specs.Members.{imaged_blocks}
-use Rattle.document_file.proofs.PassingLemmas.{KeepsCommitted-refl, KeepsCommitted-trans, SameUnlessCorrupt-refl, SameUnlessCorrupt-trans}
+use Rattle.document_file.proofs.PassingLemmas.{KeepsCommitted-refl, KeepsCommitted-trans, KeepsCommitted-unmarked, SameUnlessCorrupt-refl, SameUnlessCorrupt-trans}
 use Rattle.vm_blocks.specs.State.{CacheState, ResidentBlock, locks_of, locked_count, KeepsLocks, Marks}
 use Rattle.vm_blocks.proofs.Locks.{keeps_refl, none_locked}
 use Rattle.vm_blocks.proofs.Marking.{none_marked}
@@ -104,20 +104,6 @@ module _ {S : Type 0} (facts : S → StoreFacts) where
 -- A document that was marked before changes are made to it.
 
 module _ {S : Type 0} (facts : S → StoreFacts) where
-  unmarked_passes : (a b : Disk S) → KeepsCommitted facts a b → KeepsCommitted facts (unmarked a) (unmarked b)
-  unmarked_passes a b p = record {
-    honest = p.honest;
-    failures = p.failures;
-    updated = p.updated;
-    saved = p.saved;
-    in_doubt = p.in_doubt;
-    tried = λ so pair is. let now = p.tried so pair (record { in_doubt = is.in_doubt; gate = is.gate }) in record { in_doubt = now.in_doubt; gate = now.gate };
-    sequence = p.sequence;
-    marked = refl;
-    numbered = p.numbered;
-    crash = p.crash;
-  }
-
   -- a call before which no document was marked
   pub unmarked_still : (a b : Disk S) → KeepsCommitted facts a b → a.marked ≡ None → b.marked ≡ None
   unmarked_still a b p none = none_marked (facts a.store).honest a.marked b.marked none p.marked
@@ -141,7 +127,7 @@ module _ {S : Type 0} (facts : S → StoreFacts) where
 
     module _ (last : CacheState S) where
       passes_through : KeepsCommitted facts mid.disk last.disk → KeepsCommitted facts old.disk (unmarked last.disk)
-      passes_through p = KeepsCommitted-trans facts old.disk (unmarked mid.disk) (unmarked last.disk) marks.passes (unmarked_passes mid.disk last.disk p)
+      passes_through p = KeepsCommitted-trans facts old.disk (unmarked mid.disk) (unmarked last.disk) marks.passes (KeepsCommitted-unmarked facts mid.disk last.disk p)
 
       -- all were made, and the mark was forgotten
       pub made_through : AreApplied facts all mid last → AreApplied facts all old (record last { disk = unmarked last.disk })

@@ -112,7 +112,7 @@ module _ {S : Type 0} (facts : S → StoreFacts) where
 
       -- it was, and the copy takes its place
       module _ (e n : FileState S) (gs : List (ℕ × Frame)) (store : S) (clean : (h : ℕ) → is_changed_in fs h ≡ false) (handles : SameUnlessCorrupt false b.document n.document)
-          (copied : IsTrue (facts b.disk.store).honest → IsTrue (facts target).honest → n.document ≡ b.document) (shown : (x : Document) → overlay gs x ≡ overlay fs x) where
+          (copied : IsTrue (facts b.disk.store).honest → IsTrue (facts target).honest → n.document ≡ b.document) (checksums : n.disk.checksums ≡ b.disk.checksums) (shown : (x : Document) → overlay gs x ≡ overlay fs x) where
         abbrev honest : Bool
         honest = (facts a.disk.store).honest
 
@@ -139,6 +139,7 @@ module _ {S : Type 0} (facts : S → StoreFacts) where
           made = λ so there. let is = copied (to_b so) there ∙ same so in (made.updated ∙ is, made.saved ∙ is);
           live = λ h. ap (λ x. is_live x h) made.updated ∙ handles.live h ∙ sym (overlay_live (facts b.disk.store).honest fs b.document h moves.kept) ∙ moves.unless_corrupt.live h;
           follows = follows;
+          checksums = checksums ∙ moves.passes.checksums;
           document = subst (SameUnlessCorrupt both (overlay es a.document)) (sym (shown n.document))
               (SameUnlessCorrupt-trans both (overlay es a.document) (overlay fs b.document) (overlay fs n.document) (drifts_less honest both (overlay es a.document) (overlay fs b.document) (λ so. (of_both so).0) moves.unless_corrupt)
               (overlay_drifts both fs b.document n.document copy_drifts (kept_less (facts b.disk.store).honest both b.document fs (λ so. to_b (of_both so).0) moves.kept)));

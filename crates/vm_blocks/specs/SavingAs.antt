@@ -10,7 +10,7 @@ use Rattle.document_file.specs.Effects.{SameStore, IsNewFile}
 
 -- A save-as that was accepted: the old file has committed its saved document, and its store came back; the target is a
 -- new file, with the handles of the document, over two honest stores of the document itself, and takes the file's
--- place.
+-- place; it has checksums where the old file has.
 pub record IsSavedAs {S : Type 0} (facts : S → StoreFacts) (target store : S) (old new : FileState S) : Type 0 where
   pub reverted : (disk : Disk S) × (disk.store ≡ store)
       × MayCommit facts (old.disk.saved, old.disk.saved) old.disk disk (Ok tt)
@@ -20,6 +20,7 @@ pub record IsSavedAs {S : Type 0} (facts : S → StoreFacts) (target store : S) 
   pub live : (h : ℕ) → is_live new.disk.updated h ≡ is_live old.document h
   pub follows : SameStore facts target new.disk.store
   pub document : SameUnlessCorrupt ((facts old.disk.store).honest && (facts target).honest) old.document new.document
+  pub checksums : new.disk.checksums ≡ old.disk.checksums
 
 -- A save-as that was refused: the file stays in its place, and the target comes back; unless the file's own store
 -- failed nothing was committed in it, and where its number can't rise nothing was done at all.

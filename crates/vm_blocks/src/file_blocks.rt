@@ -58,12 +58,17 @@ impl<S: Store> Model for FileBlocks<S> {
 }
 
 impl<S: Store> FileBlocks<S> {
-    /// Makes the store an empty document file, whatever was in it, with so many blocks in memory at most. Memory,
-    /// before the store is called; File.
-    pub fn create(alloc: Global, store: S, frames: usize) -> Result<FileBlocks<S>, Refused<S>>
+    /// Makes the store an empty document file, whatever was in it, with so many blocks in memory at most; with
+    /// checksums, where they are asked for. Memory, before the store is called; File.
+    pub fn create(
+        alloc: Global,
+        store: S,
+        frames: usize,
+        checksums: bool,
+    ) -> Result<FileBlocks<S>, Refused<S>>
         requires { 1 ≤ frames }
         ensures made { MatchResult result
-            (λ blocks. IsMadeIn S.facts store (as_file blocks))
+            (λ blocks. IsMadeIn S.facts store checksums (as_file blocks))
             (λ refused. IsNotMade S.facts store refused.store refused.fault) }
         ensures frames { IfOk result (λ blocks. blocks.frames ≡ frames) }
         ensures empty { IfOk result (λ blocks. blocks.resident ≡ []) }
@@ -74,7 +79,7 @@ impl<S: Store> FileBlocks<S> {
                 store,
             });
         };
-        let file = VmFile::create(alloc, store)?;
+        let file = VmFile::create(alloc, store, checksums)?;
         Ok(FileBlocks {
             alloc,
             file,
@@ -85,11 +90,17 @@ impl<S: Store> FileBlocks<S> {
 
     /// Opens the file that a store has, with its updated document as it is now. Where it is refused the store comes
     /// back, and nothing was written to an honest one: NotDocument or Damaged where it has no file; Memory, File. Where
-    /// a crash left the store, what is read is on the disk from then on.
-    pub fn open(alloc: Global, store: S, frames: usize) -> Result<FileBlocks<S>, Refused<S>>
+    /// a crash left the store, what is read is on the disk from then on. With checksums the next commit gives the file
+    /// those, if it has none.
+    pub fn open(
+        alloc: Global,
+        store: S,
+        frames: usize,
+        checksums: bool,
+    ) -> Result<FileBlocks<S>, Refused<S>>
         requires { 1 ≤ frames }
         ensures opened { MatchResult result
-            (λ blocks. IsOpenedFrom S.facts store (as_file blocks))
+            (λ blocks. IsOpenedFrom S.facts store checksums (as_file blocks))
             (λ refused. IsNotOpened S.facts store refused.store refused.fault) }
         ensures frames { IfOk result (λ blocks. blocks.frames ≡ frames) }
         ensures empty { IfOk result (λ blocks. blocks.resident ≡ []) }
@@ -100,7 +111,7 @@ impl<S: Store> FileBlocks<S> {
                 store,
             });
         };
-        let file = VmFile::open(alloc, store)?;
+        let file = VmFile::open(alloc, store, checksums)?;
         file.reveal_invariant();
         Ok(FileBlocks {
             alloc,

@@ -86,8 +86,8 @@ pub fn write_back<S: Store>(
     }
 }
 
-/// The body of a block as the file has it, in this region. Damaged where what is read of a heap is no image of one,
-/// which an honest store never gives; Memory, File. A raw body is read where it will stand.
+/// The body of a block as the file has it, in this region. Damaged where what is read has another sum, or is of a heap
+/// and no image of one, which an honest store never gives; Memory, File. A raw body is read where it will stand.
 pub fn read_body<S: Store>(
     file: &mut VmFile<S>,
     block: VmHandle,

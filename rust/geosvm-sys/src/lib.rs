@@ -118,6 +118,8 @@ pub const GEOSVM_PATH_EMPTY: u32 = 4;
 pub const GEOSVM_PATH_READ: u32 = 8;
 /// An empty document in a file of the system's memory. The path is null.
 pub const GEOSVM_PATH_MEMORY: u32 = 16;
+/// Beside one of the others but `GEOSVM_PATH_READ`: the file has checksums from its next commit on.
+pub const GEOSVM_PATH_CHECKSUMS: u32 = 32;
 
 /// The most bytes of a reply, but for those that tell places.
 pub const GEOSVM_REPLY_MOST: usize = 131072;
@@ -175,6 +177,10 @@ unsafe extern "C" {
     pub fn geosvm_open(s: *mut geosvm_session, number: i32, frames: usize) -> i32;
     /// Makes an empty document of a file, whatever was in it.
     pub fn geosvm_create(s: *mut geosvm_session, number: i32, frames: usize) -> i32;
+    /// Opens a document likewise, whose file has checksums from its next commit on.
+    pub fn geosvm_open_checksums(s: *mut geosvm_session, number: i32, frames: usize) -> i32;
+    /// Makes an empty document of a file likewise, with checksums.
+    pub fn geosvm_create_checksums(s: *mut geosvm_session, number: i32, frames: usize) -> i32;
     /// Closes the session, and writes nothing.
     pub fn geosvm_close(s: *mut geosvm_session) -> i32;
     /// Carries out a command as text, and puts its reply line into the buffer.

@@ -11,7 +11,8 @@ use std::os::unix::ffi::OsStrExt;
 use std::path::Path;
 use std::ptr;
 
-/// How the file of a path is opened. At most one of these is set: several are [`Fault::BadArgument`](crate::Fault).
+/// How the file of a path is opened. At most one of these is set, and [`checksums`](OpenOptions::checksums) beside any
+/// but [`read_only`](OpenOptions::read_only): else it is [`Fault::BadArgument`](crate::Fault).
 ///
 /// Before anything is done with the file it is locked: one that another session has open, here or in another program,
 /// is refused with [`io::ErrorKind::WouldBlock`], unless both only read.
@@ -65,6 +66,12 @@ impl OpenOptions {
         self.set(sys::GEOSVM_PATH_READ, read_only)
     }
 
+    /// The file has checksums from its next commit on, and one that is made from the start. By these it tells that
+    /// bytes of it were changed elsewhere, as `Damaged`. It keeps them, and so has what it is saved into.
+    pub fn checksums(&mut self, checksums: bool) -> &mut OpenOptions {
+        self.set(sys::GEOSVM_PATH_CHECKSUMS, checksums)
+    }
+
     fn set(&mut self, flag: u32, is_set: bool) -> &mut OpenOptions {
         self.flags = if is_set { self.flags | flag } else { self.flags & !flag };
         self
@@ -114,6 +121,23 @@ impl Session {
         let file = OwnFile::lock(file)?;
         let number = file.number();
         Session::opened_by(Some(file), call!(geosvm_create(number, frames)))
+    }
+
+    /// Opens the document of such a file, which has checksums from its next commit on, as by
+    /// [`OpenOptions::checksums`].
+    #[doc(alias = "geosvm_open_checksums")]
+    pub fn open_file_with_checksums(file: File, frames: usize) -> Result<Session> {
+        let file = OwnFile::lock(file)?;
+        let number = file.number();
+        Session::opened_by(Some(file), call!(geosvm_open_checksums(number, frames)))
+    }
+
+    /// Makes an empty document of such a file, with checksums.
+    #[doc(alias = "geosvm_create_checksums")]
+    pub fn create_in_file_with_checksums(file: File, frames: usize) -> Result<Session> {
+        let file = OwnFile::lock(file)?;
+        let number = file.number();
+        Session::opened_by(Some(file), call!(geosvm_create_checksums(number, frames)))
     }
 
     /// Saves into another file, and goes on in that, with all that can be undone; the file that is left goes back to

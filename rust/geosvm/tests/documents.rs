@@ -67,6 +67,39 @@ fn options_are_set_and_taken_back() {
     assert_eq!(folder.names(), [""; 0]);
 }
 
+// The version of the first slot, which counts in a new file.
+fn version(path: &std::path::Path) -> u8 {
+    fs::read(path).unwrap()[5]
+}
+
+#[test]
+fn checksums_are_asked_for() {
+    let folder = Folder::new();
+    let (plain, summed, handed) = (folder.path("a"), folder.path("b"), folder.path("c"));
+    OpenOptions::new().create_new(true).open(&plain).unwrap();
+    OpenOptions::new().create_new(true).checksums(true).open(&summed).unwrap();
+    Session::create_in_file_with_checksums(open_file(&handed), 64).unwrap();
+    assert_eq!([version(&plain), version(&summed), version(&handed)], [2, 3, 3]);
+    assert_eq!(fault(OpenOptions::new().checksums(true).read_only(true).open(&plain)), Fault::BadArgument);
+}
+
+#[test]
+fn a_file_gets_checksums_with_its_next_commit_and_keeps_them() {
+    let folder = Folder::new();
+    let (old, new) = (folder.path("old"), folder.path("new"));
+    saved(&old, "first");
+    let before = fs::read(&old).unwrap();
+    let mut doc = Session::open_file_with_checksums(open_file(&old), 64).unwrap();
+    assert_eq!(fs::read(&old).unwrap(), before);
+    // The third commit is in the first slot.
+    doc.update().unwrap();
+    doc.close();
+    assert_eq!(version(&old), 3);
+    assert_eq!(first_bytes(&mut Session::open(&old).unwrap()), b"first");
+    Session::open(&old).unwrap().save_as_new(&new).unwrap();
+    assert_eq!(version(&new), 3);
+}
+
 #[test]
 fn a_file_that_is_no_document() {
     let folder = Folder::new();

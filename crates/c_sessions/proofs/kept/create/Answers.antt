@@ -6,7 +6,7 @@ use Rattle.c_sessions.proofs.kept.create.Goals as goal
 
 pub returns : goal.returns
 returns g c =
-    begins g.F.ProgramFiles.calls (IsCreation g.F.Opened.Store.facts c.args.frames) c.args.number (λ b. b.value) _ _ _ c.in_ok-store.store c.created.result
+    begins g.F.ProgramFiles.calls (IsCreation g.F.Opened.Store.facts c.args.frames c.args.checksums) c.args.number (λ b. b.value) _ _ _ c.in_ok-store.store c.created.result
     c.in_ok-store.ensures c.created.ensures c.keep.result c.keep.ensures
 
 pub returns-in_err-store : goal.returns-in_err-store

@@ -6,7 +6,7 @@ use Rattle.c_sessions.proofs.kept.open.Goals as goal
 
 pub returns : goal.returns
 returns g c =
-    begins g.F.ProgramFiles.calls (IsOpening g.F.Opened.Store.facts c.args.frames) c.args.number (λ b. b.value) _ _ _ c.in_ok-store.store c.opened.result
+    begins g.F.ProgramFiles.calls (IsOpening g.F.Opened.Store.facts c.args.frames c.args.checksums) c.args.number (λ b. b.value) _ _ _ c.in_ok-store.store c.opened.result
     c.in_ok-store.ensures c.opened.ensures c.keep.result c.keep.ensures
 
 pub returns-in_err-store : goal.returns-in_err-store

@@ -26,7 +26,7 @@ returns-in-map c =
 pub returns-in-salvage : goal.returns-in-salvage
 returns-in-salvage c =
     let f = found_of c.in_ok-name.matches.now in
-    asked_by c.args.matches.now c.in_ok-name.name.now (rows_of f) _ c.in_ok-name.ensures.name c.in_ok-name.ensures.rows (c.in-salvage.is, file_named f c.in_ok-file.file.now c.in_ok-file.ensures)
+    asked_by c.args.matches.now c.in_ok-name.name.now (rows_of f) _ c.in_ok-name.ensures.name c.in_ok-name.ensures.rows (c.in-salvage.is, c.taken.ensures, file_named f c.in_ok-file.file.now c.in_ok-file.ensures)
 
 pub returns-in-restore : goal.returns-in-restore
 returns-in-restore c =

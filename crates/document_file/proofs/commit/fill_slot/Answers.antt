@@ -1,25 +1,23 @@
 use Rattle.std.proofs.Common.{◌≡◌, ℕ, List, ◌+◌, ◌*◌, ◌≤◌, IsTrue, drop, length, sym, ap, subst, ◌∙◌, arith}
 use Rattle.vm_store.specs.Facts.{Holds}
-use Rattle.file_format.specs.File.{slot_text}
-use Rattle.document_file.specs.Sums.{next_version}
 use Rattle.document_file.proofs.SumsLemmas.{behind_few, behind_text}
 use Rattle.document_file.proofs.ResultLemmas.{on_ok_more}
 use Rattle.vm_store.specs.Laws.{Tears-Writes}
-use Rattle.document_file.specs.Slots.{behind_gate, slot_value, spare_of}
+use Rattle.document_file.specs.Slots.{behind_gate, spare_of}
 use Rattle.document_file.proofs.SlotsLemmas.{Outlives-trans, mark_leaves, mark_outlives, behind_leaves, behind_outlives}
 use Rattle.document_file.proofs.commit.fill_slot.Given.{Over}
 use Rattle.document_file.proofs.commit.fill_slot.Goals.{After-write_through}
 use Rattle.document_file.proofs.commit.fill_slot.Goals as goal
 
 -- what is written is what stands behind the gate
-rest_is : (g : Over) (c : After-write_through g) → c.behind_gate.result.now ≡ behind_gate (next_version c.args.slots.now.version) (c.args.slots.now.sequence + 1) c.args.pair.now
+rest_is : (g : Over) (c : After-write_through g) → c.behind_gate.result.now ≡ behind_gate (c.args.slots.now.next_version) (c.args.slots.now.sequence + 1) c.args.pair.now
 rest_is g c =
     let q = c.args.slots.now.sequence + 1 in
     let pair = c.args.pair.now in
-    c.behind_gate.ensures ∙ ap (drop 5) (c.deref.ensures.0 ∙ c.slot_bytes-text.ensures ∙ ap (λ (v : ℕ). slot_text (slot_value v q pair)) c.next_version.ensures) ∙ behind_text (next_version c.args.slots.now.version) q pair
+    c.behind_gate.ensures ∙ ap (drop 5) (c.deref.ensures.0 ∙ c.slot_bytes-text.ensures) ∙ behind_text (c.args.slots.now.next_version) q pair
 
 rest_few : (g : Over) (c : After-write_through g) → length c.behind_gate.result.now ≤ 39
-rest_few g c = (let is = ap length (rest_is g c) in let few = behind_few (next_version c.args.slots.now.version) (c.args.slots.now.sequence + 1) c.args.pair.now in omega (arith, is, few))
+rest_few g c = (let is = ap length (rest_is g c) in let few = behind_few (c.args.slots.now.next_version) (c.args.slots.now.sequence + 1) c.args.pair.now in omega (arith, is, few))
 
 pub returns-in_err-write_at-clause-crash : goal.returns-in_err-write_at-clause-crash
 returns-in_err-write_at-clause-crash g c file holds leaves =

@@ -35,8 +35,8 @@ loop-place-preserved g c =
       behind_more places i c.loop-place.page c.page_count-page.result inside c.requires.placed c.page_count-page.ensures is,
       λ so.
           let yet = subst IsTrue (sym was.1) so in
-          let step : IsBlockCopied c.loop-place.page o (IsTrue read.honest) read.content mid.content new.content = c.in_ok-copy_image.ensures.copied yet in
-          subst (λ ps. AreCopied (IsTrue source.honest) source.content ps old.content new.content) (sym more)
-          (copied_more source.content old.content mid.content new.content (IsTrue source.honest) (take i places) (was.4 so) o
-          (copied_as _ _ o (IsTrue read.honest) (IsTrue source.honest) read.content source.content mid.content new.content is.is (still source read was.0) (same_bytes_then source read was.0) step)),
+          let step : IsBlockCopied c.args.checksums c.loop-place.page o (IsTrue read.honest) read.content mid.content new.content = c.in_ok-copy_image.ensures.copied yet in
+          subst (λ ps. AreCopied c.args.checksums (IsTrue source.honest) source.content ps old.content new.content) (sym more)
+          (copied_more c.args.checksums source.content old.content mid.content new.content (IsTrue source.honest) (take i places) (was.4 so) o
+          (copied_as c.args.checksums _ _ o (IsTrue read.honest) (IsTrue source.honest) read.content source.content mid.content new.content is.is (still source read was.0) (same_bytes_then source read was.0) step)),
     )

@@ -11,4 +11,4 @@ invariant-loop-place g l =
     × ((g.S.Store.facts l.target).honest ≡ (g.S.Store.facts l.fn.target).honest)
     × ((g.S.Store.facts l.fn.target).failures ≤ (g.S.Store.facts l.target).failures)
     × IsBehind l.places l.place-index l.page
-    × (IsTrue (g.S.Store.facts l.fn.target).honest → AreCopied (IsTrue (g.S.Store.facts l.fn.source).honest) (g.S.Store.facts l.fn.source).content (take l.place-index l.places) (g.S.Store.facts l.fn.target).content (g.S.Store.facts l.target).content)
+    × (IsTrue (g.S.Store.facts l.fn.target).honest → AreCopied l.checksums (IsTrue (g.S.Store.facts l.fn.source).honest) (g.S.Store.facts l.fn.source).content (take l.place-index l.places) (g.S.Store.facts l.fn.target).content (g.S.Store.facts l.target).content)

@@ -12,7 +12,7 @@ loop-place-preserved c =
     let was = c.loop-place.invariant in
     let more = take_more places i None inside in
     let page = was.1.is in (
-      c.in_ok-push.ensures.items ∙ ap (λ l. l ++ c.moved.result ∷ []) was.0 ∙ ap (λ o. laid_out 2 (take i places) ++ o ∷ []) (c.moved.ensures ∙ ap (λ p. moved_to p (get_or places i None)) page)
-          ∙ sym (laid_out-more 2 (take i places) (get_or places i None)) ∙ ap (laid_out 2) (sym more),
+      c.in_ok-push.ensures.items ∙ ap (λ l. l ++ c.moved.result ∷ []) was.0 ∙ ap (λ o. laid_out c.args.checksums 2 (take i places) ++ o ∷ []) (c.moved.ensures ∙ ap (λ p. moved_to c.args.checksums p (get_or places i None)) page)
+          ∙ sym (laid_out-more c.args.checksums 2 (take i places) (get_or places i None)) ∙ ap (laid_out c.args.checksums 2) (sym more),
       behind_more places i c.loop-place.page c.page_count-page.result inside c.requires.placed c.page_count-page.ensures was.1,
     )

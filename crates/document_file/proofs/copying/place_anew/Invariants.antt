@@ -5,4 +5,4 @@ use Rattle.document_file.proofs.copying.place_anew.Given as goal
 
 -- the places so far are laid out
 abbrev pub invariant-loop-place : goal.invariant-loop-place
-invariant-loop-place l = (l.laid.items ≡ laid_out 2 (take l.place-index l.places)) × IsBehind l.places l.place-index l.page
+invariant-loop-place l = (l.laid.items ≡ laid_out l.checksums 2 (take l.place-index l.places)) × IsBehind l.places l.place-index l.page

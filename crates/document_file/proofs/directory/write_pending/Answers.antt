@@ -16,7 +16,7 @@ write_extent-requires-clause-clear g c =
 called : (g : Over) (c : After-write_extent g) → IsWriting g.S.Store.facts c.args.store.now c.write_extent.new.store c.args.live.now c.args.slots.now c.args.pending.now
 called g c = record {
   sound = c.requires.sound;
-  is_pending = c.requires.pending;
+  clear = c.requires.pending.clear;
   honest = c.write_extent.ensures.honest;
   failures = counts_rise c.write_extent.result (g.S.Store.facts c.args.store.now) (g.S.Store.facts c.write_extent.new.store) c.write_extent.ensures.failures;
   now = λ so. (g.met.S.Store.timely c.write_extent.new.store so).now;
@@ -44,5 +44,5 @@ pub returns-in_err-write_extent-clause-same : goal.returns-in_err-write_extent-c
 returns-in_err-write_extent-clause-same g c = write_same g.S.Store.facts _ _ c.args.live.now c.args.slots.now c.args.pending.now (called g (goal.at.returns-in_err-write_extent-clause-same g c).After-write_extent)
 
 pub returns-clause-written : goal.returns-clause-written
-returns-clause-written g c so = write_stored g.S.Store.facts _ _ c.args.live.now c.args.slots.now c.args.pending.now (called g (goal.at.returns-clause-written g c).After-write_extent) so
+returns-clause-written g c so = write_stored g.S.Store.facts _ _ c.args.live.now c.args.slots.now c.args.pending.now (called g (goal.at.returns-clause-written g c).After-write_extent) c.requires.pending so
     (subst (λ bytes. Holds (g.S.Store.facts c.write_extent.new.store).content (start_of c.args.pending.now.document.directory) bytes) c.deref.ensures.value (c.in_ok-write_extent.ensures.written so))

@@ -10,4 +10,4 @@ returns-clause-laid g c = on_ok_weaker c.write_slots.result (λ first holds.
     let b = (g.S.Store.facts c.write_at.new.self).content in
     let a = (g.S.Store.facts c.args.store.now).content in
     let puts = first still in
-    slots_laid c.args.directory c.args.text.now a b puts.0 _ c.requires.behind (subst (λ n. WritesBytes n c.args.text.now a b) c.start_of.ensures (c.in_ok-write_at.ensures.written holds)) puts.1 puts.2) c.write_slots.ensures.first
+    slots_laid c.args.slots.now.version c.args.slots.now.committed c.args.text.now a b puts.0 _ c.requires.behind (subst (λ n. WritesBytes n c.args.text.now a b) c.start_of.ensures (c.in_ok-write_at.ensures.written holds)) puts.1 puts.2) c.write_slots.ensures.first

@@ -1,4 +1,4 @@
-use Rattle.std.proofs.Common.{◌≡◌, ◌⊎◌, IsTrue, Err, sym, ap, subst, ◌∙◌, inl, inr}
+use Rattle.std.proofs.Common.{◌≡◌, ◌⊎◌, ℕ, Bool, None, IsTrue, Err, sym, ap, subst, ◌∙◌, inl, inr}
 use Rattle.std.specs.Prelude.{if◌then◌else◌}
 use Rattle.file_format.proofs.StoredSlotLemmas.{slot_summed}
 use Rattle.std.proofs.lemmas.Result.{err_from_is_err_and}
@@ -6,10 +6,15 @@ use Rattle.file_format.specs.File.{stands, both, saved_sum, summed_document, wor
 use Rattle.geos_model.specs.declared.fault.Fault.TheVariants.{Damaged}
 use Rattle.file_format.specs.Reading.{IsResourceFault}
 use Rattle.document_file.specs.Documents.{AreStored}
-use Rattle.document_file.specs.Opened.{IsActiveSlot}
+use Rattle.document_file.specs.Opened.{IsActiveSlot, IsReadSlots, IsReadWhole}
+use Rattle.document_file.specs.Sums.{has_sums, version_for}
 use Rattle.file_format.proofs.LooksLemmas.{OnlyReadsStore-trans, held_before}
 use Rattle.document_file.proofs.OpenedLemmas.{slots_formed, slots_whole, slot_refused, pair_refused}
 use Rattle.document_file.proofs.opening.read_slots.Goals as goal
+
+-- the version that commits write
+next_is_for : (summed : Bool) (next version : ℕ) → next ≡ version_for summed → summed ≡ has_sums version → next ≡ version_for (has_sums version)
+next_is_for summed next version is has = is ∙ ap version_for has
 
 pub returns-in_err-active-clause-looks : goal.returns-in_err-active-clause-looks
 returns-in_err-active-clause-looks g c = OnlyReadsStore-trans _ _ _ (λ so. g.met.S.Store.timely c.args.store.now so) c.read_length.ensures.looks c.find_active.ensures.looks
@@ -59,7 +64,8 @@ pub returns-clause-formed : goal.returns-clause-formed
 returns-clause-formed g c =
     let good = c.in_ok-check_slot.ensures.ok in
     let s = c.in_ok-active.active.slot in
-    slots_formed c.in_ok-file_length.file_length s.version s.sequence c.in_ok-active.active.second c.in_ok-committed.committed c.in_ok-active.active.spare c.in_ok-committed.ensures.formed good.0 good.2 good.3 c.in_ok-active.ensures.alone
+    subst (λ n. IsReadSlots (record { second = c.in_ok-active.active.second; version = s.version; next_version = n; sequence = s.sequence; committed = c.in_ok-committed.committed; spare = c.in_ok-active.active.spare; marked = None; saved_sums = None })) (sym (next_is_for c.has_sums.result c.version_for.result s.version c.version_for.ensures c.has_sums.ensures))
+    (slots_formed c.in_ok-file_length.file_length s.version s.sequence c.in_ok-active.active.second c.in_ok-committed.committed c.in_ok-active.active.spare c.in_ok-committed.ensures.formed good.0 good.2 good.3 c.in_ok-active.ensures.alone)
 
 pub returns-clause-whole : goal.returns-clause-whole
 returns-clause-whole g c so =
@@ -68,8 +74,10 @@ returns-clause-whole g c so =
     let good = c.in_ok-check_slot.ensures.ok in
     let active = held_before (λ f. IsActiveSlot f c.in_ok-active.active) _ _ c.read_length.ensures.looks c.in_ok-active.ensures.active so in
     let stored = held_before (λ f. AreStored c.in_ok-active.active.slot.version f c.in_ok-committed.committed) _ _ two c.in_ok-committed.ensures.stored so in
-    slots_whole file c.in_ok-file_length.file_length c.in_ok-active.active c.in_ok-committed.committed (c.in_ok-file_length.ensures.length so) active (record { version = good.0; reserved = good.1; some = good.2; sealed = good.4 })
-    c.in_ok-committed.ensures.formed stored c.in_ok-committed.ensures.directories.0 c.in_ok-committed.ensures.directories.1 c.in_ok-committed.ensures.sums.0 c.in_ok-committed.ensures.sums.1
+    let s = c.in_ok-active.active.slot in
+    subst (λ n. IsReadWhole file (record { second = c.in_ok-active.active.second; version = s.version; next_version = n; sequence = s.sequence; committed = c.in_ok-committed.committed; spare = c.in_ok-active.active.spare; marked = None; saved_sums = None })) (sym (next_is_for c.has_sums.result c.version_for.result s.version c.version_for.ensures c.has_sums.ensures))
+    (slots_whole file c.in_ok-file_length.file_length c.in_ok-active.active c.in_ok-committed.committed (c.in_ok-file_length.ensures.length so) active (record { version = good.0; reserved = good.1; some = good.2; sealed = good.4 })
+    c.in_ok-committed.ensures.formed stored c.in_ok-committed.ensures.directories.0 c.in_ok-committed.ensures.directories.1 c.in_ok-committed.ensures.sums.0 c.in_ok-committed.ensures.sums.1)
 
 pub read_pair-requires-clause-summed : goal.read_pair-requires-clause-summed
 read_pair-requires-clause-summed g c so =

@@ -51,7 +51,7 @@ loop-i-preserved c =
     let first : drop i puts ≡ c.index-puts-i.result ∷ drop (i + 1) puts = drop_more puts i c.index-puts-i.result c.loop-i-test.true ∙ ap (λ (x : Member). x ∷ drop (i + 1) puts) (sym c.index-puts-i.is) in
     record {
       long = length-set places at (Some p) ∙ c.loop-i.invariant.long;
-      filled = ap₂ (λ (n : ℕ) (x : Place). with_places c.args.slots.now.version (drop (i + 1) puts) (drop (i + 1) extents) (set places (n - 1) (Some x))) c.from-at.ensures c.placed_at.ensures
-          ∙ ap₂ (λ xs es. with_places c.args.slots.now.version xs es places) (sym first) (sym (drop_more extents i d inside)) ∙ c.loop-i.invariant.filled;
+      filled = ap₂ (λ (n : ℕ) (x : Place). with_places c.args.slots.now.next_version (drop (i + 1) puts) (drop (i + 1) extents) (set places (n - 1) (Some x))) c.from-at.ensures c.placed_at.ensures
+          ∙ ap₂ (λ xs es. with_places c.args.slots.now.next_version xs es places) (sym first) (sym (drop_more extents i d inside)) ∙ c.loop-i.invariant.filled;
       known = c.give_back.ensures (drop (i + 1) extents ++ (block_extents (set places at (Some p)) ++ kept)) (known-put places at e p (drop (i + 1) extents) kept c.loop-i.space within (ap (λ (x : Place). x.extent) c.placed_at.ensures) before);
     }

@@ -1,4 +1,5 @@
-use Rattle.std.proofs.Common.{IsTrue, inl, inr, refl, subst, sym}
+use Rattle.std.proofs.Common.{IsTrue, Some, ◌∙◌, ap, inl, inr, refl, subst, sym}
+use Rattle.document_file.specs.Sums.{version_for}
 use Rattle.document_tools.proofs.restoring.restore_in.Goals as goal
 
 -- The session is that of a new file, or none could be made in it.
@@ -16,6 +17,8 @@ returns-in-Ok g c =
         frames_are = made.new.1;
         in_doubt = file.new_file.in_doubt;
         numbered = λ so. file.new_file.numbered (subst IsTrue (sym file.follows.honest) so);
+        checksums_are = file.checksums;
+        version = λ so. file.new_file.version (subst IsTrue (sym file.follows.honest) so) ∙ ap (λ b. Some (version_for b)) file.checksums;
         crash_consistent = file.new_file.crash_consistent;
       },
       c.run_script.ensures,

@@ -14,7 +14,7 @@ returns-in-Ok g c =
     let opened : OnlyReadsStore (facts store) (facts from.store) = subst (λ s. OnlyReadsStore (facts store) (facts s)) (sym is.store) began in (
       to.store,
       OnlyReadsStore-trans (facts store) (facts from.store) (facts to.store) (λ so. g.met.S.Store.timely store so) opened c.dump_open.ensures.reads.store,
-      opened_script facts g.W.Sink.contents g.W.Sink.writes c.args.name.now store from to c.args.writer c.dump_open.result.0 c.dump_open.result.1 opened
+      opened_script facts g.W.Sink.contents g.W.Sink.writes c.args.name.now c.args.all store from to c.args.writer c.dump_open.result.0 c.dump_open.result.1 opened
           (λ so. made.stands so ∙ ap₂ (λ updated saved. Ok (updated, saved)) (sym is.updated) (sym is.saved)) c.dump_open.ensures.told,
     )
 
@@ -25,6 +25,6 @@ returns-in-Err g c =
     let left = c.salvage_unopened.ensures in (
       left.0,
       OnlyReadsStore-trans (facts store) (facts none.store) (facts left.0) (λ so. g.met.S.Store.timely store so) began left.1,
-      unopened_script g.W.Sink.contents g.W.Sink.writes c.args.name.now (facts store) (facts none.store) (facts left.0) none.fault c.args.writer c.salvage_unopened.result.0 c.salvage_unopened.result.1 began left.1
+      unopened_script g.W.Sink.contents g.W.Sink.writes c.args.name.now c.args.all (facts store) (facts none.store) (facts left.0) none.fault c.args.writer c.salvage_unopened.result.0 c.salvage_unopened.result.1 began left.1
           is.file is.refused left.2,
     )

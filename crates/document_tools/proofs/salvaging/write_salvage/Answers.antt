@@ -16,8 +16,8 @@ returns-clause-ok g c =
     let start = append_known (contents first.watched.sink) first.gathered.items in let mid = append_known (contents last.watched.sink) last.gathered.items in
     let begun : start ≡ contents c.args.writer =
     known_empty (contents first.watched.sink) first.gathered.items c.new-pieces.ensures.gathered ∙ ap contents c.new-pieces.ensures.sink in
-    all_salvaged (λ some. IsTrue store.honest → HasSalvage (salvage_text store.content) some (contents c.args.writer) (contents end.sink)) c.salvage-salvaged.result c.salvage_end.result end.failed c.salvage_end.ensures
-    (IfOk-weaker c.salvage-salvaged.result _ _ (λ some text well so. salvaged_through (salvage_text store.content) some (contents c.args.writer) start mid (contents end.sink) begun (c.finish-sink.ensures well) (text so)) c.salvage-salvaged.ensures.ok)
+    all_salvaged (λ some. IsTrue store.honest → HasSalvage (salvage_text c.args.all store.content) some (contents c.args.writer) (contents end.sink)) c.salvage-salvaged.result c.salvage_end.result end.failed c.salvage_end.ensures
+    (IfOk-weaker c.salvage-salvaged.result _ _ (λ some text well so. salvaged_through (salvage_text c.args.all store.content) some (contents c.args.writer) start mid (contents end.sink) begun (c.finish-sink.ensures well) (text so)) c.salvage-salvaged.ensures.ok)
 
 pub returns-clause-cause : goal.returns-clause-cause
 returns-clause-cause g c =

@@ -17,5 +17,5 @@ returns-in_ok-salvage_place-in-Some-clause-ok g c = λ so.
     let p = c.in-Some.place in
     let place = c.in_ok-find_place.field-0 in
     let there : place ≡ salvaged_place a.content = subst (λ (file : List ℕ). place ≡ salvaged_place file) (same_bytes_then a b first so) (c.in_ok-find_place.ensures.readable (still a b first so)) in
-    let script : IsSalvage (script_of a.content p) true from to = subst (λ (file : List ℕ). IsSalvage (script_of file p) true from to) (same_bytes_then a d second so) (c.in_ok-salvage_place-in-Some.ensures.ok (still a d second so)) in
-    found_script a.content p from to (sym there ∙ c.in-Some.is) script
+    let script : IsSalvage (script_of c.args.all a.content p) true from to = subst (λ (file : List ℕ). IsSalvage (script_of c.args.all file p) true from to) (same_bytes_then a d second so) (c.in_ok-salvage_place-in-Some.ensures.ok (still a d second so)) in
+    found_script c.args.all a.content p from to (sym there ∙ c.in-Some.is) script

@@ -10,7 +10,7 @@ returns-in-Ok-clause-serves g c =
     let was = sym c.take.ensures.value ∙ c.in-Some.is in
     let done = c.in-Ok.ensures in
     let gone = c.take.ensures.after in
-    rw (was, gone) (serves_accepted g.S.Store.facts c.args.session.now c.save_as.new.self c.in-Some.store c.in-Ok.old c.args.former.now done.ok done.saved_as.reverted done.saved_as.new_file done.saved_as.follows)
+    rw (was, gone) (serves_accepted g.S.Store.facts c.args.session.now c.save_as.new.self c.in-Some.store c.in-Ok.old c.args.former.now done.ok done.saved_as.reverted done.saved_as.new_file done.saved_as.checksums done.saved_as.follows)
 
 -- The target goes back into its place.
 pub returns-in-Err-clause-serves : goal.returns-in-Err-clause-serves

@@ -1,4 +1,5 @@
-use Rattle.std.proofs.Common.{IsTrue, subst, sym}
+use Rattle.std.proofs.Common.{IsTrue, Some, ◌∙◌, ap, subst, sym}
+use Rattle.document_file.specs.Sums.{version_for}
 use Rattle.geos_shell.proofs.Begun.{created_limited}
 use Rattle.geos_shell.proofs.program.create.Goals as goal
 
@@ -9,7 +10,7 @@ returns-in-Ok-create-clause-ok g c =
     let facts = g.F.Opened.Store.facts in
     record {
       target_is = c.in-Ok.ensures.ok;
-      session_is = rw c.requires.new (created_limited facts c.args.options.cache c.args.store c.in-Ok-create.session c.limit_undo.new.self c.args.options.undo_limit
+      session_is = rw c.requires.new (created_limited facts c.args.options.cache c.args.options.checksums c.args.store c.in-Ok-create.session c.limit_undo.new.self c.args.options.undo_limit
           c.limit_undo.ensures.done c.limit_undo.ensures.machine (record {
             honest = file.follows.honest;
             failures = file.follows.failures;
@@ -18,6 +19,8 @@ returns-in-Ok-create-clause-ok g c =
             frames_are = cc (made.new.1, c.from.ensures);
             in_doubt = file.new_file.in_doubt;
             numbered = λ so. file.new_file.numbered (subst IsTrue (sym file.follows.honest) so);
+            checksums_are = file.checksums;
+            version = λ so. file.new_file.version (subst IsTrue (sym file.follows.honest) so) ∙ ap (λ b. Some (version_for b)) file.checksums;
             crash_consistent = file.new_file.crash_consistent;
           }));
     }

@@ -1,4 +1,5 @@
 use Rattle.std.proofs.Common.{ap, ◌∙◌}
+use Rattle.document_file.proofs.SumsLemmas.{summed_have}
 use Rattle.document_file.proofs.file.VmFile.into_documents.Goals as goal
 
 pub of-requires : goal.of-requires
@@ -6,6 +7,8 @@ of-requires g c = record {
   tables = c.self.invariant.sound.formed.committed;
   updated = λ so. (c.self.invariant.sound.whole so).committed.updated.images;
   saved = λ so. (c.self.invariant.sound.whole so).committed.saved.images;
+  updated_sums = λ so. summed_have _ _ _ (c.self.invariant.sound.whole so).committed.updated.sums;
+  saved_sums = λ so. summed_have _ _ _ (c.self.invariant.sound.whole so).committed.saved.sums;
 }
 
 pub returns-clause-store : goal.returns-clause-store

@@ -144,10 +144,10 @@ invariant_of-self-2 g c =
     let room : All (λ p. p.handle.0 ≤ length live.places.items) c.args.puts.now = λ k p inside. (let reached = c.widened-bounds.ensures.reached k p inside in let size = c.in_ok-make_room.ensures.size in omega (arith, reached, size)) in
     let b = c.write_puts.new.store in
     let es = c.in_ok-written.written.extents.items in
-    let is = c.change_places.ensures.places ∙ ap₂ (λ xs ps. without_places c.args.removals.now (with_places i.slots.version c.args.puts.now xs ps)) c.deref-2.ensures.value c.deref_mut.ensures.value in
+    let is = c.change_places.ensures.places ∙ ap₂ (λ xs ps. without_places c.args.removals.now (with_places i.slots.next_version c.args.puts.now xs ps)) c.deref-2.ensures.value c.deref_mut.ensures.value in
     let new : BlockTable = record { map_block = live.map_block; places = with_items live.places c.change_places.new.places } in
-    let changed : new.places.items ≡ without_places c.args.removals.now (with_places i.slots.version c.args.puts.now es live.places.items) =
-    changed_places i.slots.version live.places.len live.places.items c.change_places.new.places c.args.puts.now es c.args.removals.now live.places.ok.0 is in
+    let changed : new.places.items ≡ without_places c.args.removals.now (with_places i.slots.next_version c.args.puts.now es live.places.items) =
+    changed_places i.slots.next_version live.places.len live.places.items c.change_places.new.places c.args.puts.now es c.args.removals.now live.places.ok.0 is in
     record {
       sound = put_sound g.S.Store.facts i.store b live i.slots sound c.write_puts.ensures.honest (λ so. (g.met.S.Store.timely b so).now)
           (λ so. subst (λ ps. IsSpared (block_extents ps ++ marked_extents i.slots.marked) i.slots (g.S.Store.facts i.store) (g.S.Store.facts b)) c.deref.ensures.value (c.write_puts.ensures.spared so))
@@ -167,10 +167,10 @@ returns-clause-keeps g c =
     let room : All (λ p. p.handle.0 ≤ length live.places.items) c.args.puts.now = λ k p inside. (let reached = c.widened-bounds.ensures.reached k p inside in let size = c.in_ok-make_room.ensures.size in omega (arith, reached, size)) in
     let b = c.write_puts.new.store in
     let es = c.in_ok-written.written.extents.items in
-    let is = c.change_places.ensures.places ∙ ap₂ (λ xs ps. without_places c.args.removals.now (with_places i.slots.version c.args.puts.now xs ps)) c.deref-2.ensures.value c.deref_mut.ensures.value in
+    let is = c.change_places.ensures.places ∙ ap₂ (λ xs ps. without_places c.args.removals.now (with_places i.slots.next_version c.args.puts.now xs ps)) c.deref-2.ensures.value c.deref_mut.ensures.value in
     let new : BlockTable = record { map_block = live.map_block; places = with_items live.places c.change_places.new.places } in
-    let changed : new.places.items ≡ without_places c.args.removals.now (with_places i.slots.version c.args.puts.now es live.places.items) =
-    changed_places i.slots.version live.places.len live.places.items c.change_places.new.places c.args.puts.now es c.args.removals.now live.places.ok.0 is in
+    let changed : new.places.items ≡ without_places c.args.removals.now (with_places i.slots.next_version c.args.puts.now es live.places.items) =
+    changed_places i.slots.next_version live.places.len live.places.items c.change_places.new.places c.args.puts.now es c.args.removals.now live.places.ok.0 is in
     let timely : IsTrue (facts b).honest → (facts b).may_leave (facts b).content = λ so. (g.met.S.Store.timely b so).now in
     let spared : IsTrue (facts i.store).honest → IsSpared (block_extents live.places.items ++ marked_extents i.slots.marked) i.slots (facts i.store) (facts b) = λ so. subst (λ ps. IsSpared (block_extents ps ++ marked_extents i.slots.marked) i.slots (facts i.store) (facts b)) c.deref.ensures.value (c.write_puts.ensures.spared so) in
     subst (λ (s : FileState g.row.S.Denot). LeavesDocument facts (remove_all c.args.removals.now (put_all c.args.puts.now s.document)) s (record { disk = disk_of facts b i.slots; document = document_in (facts b).content new })) view (record {
@@ -187,17 +187,17 @@ returns-clause-removals_alone g c none =
     let view = grown_view g.S.Store.facts i.store i.live live i.slots c.args.self.now grown refl c.self.view_is in
     let b = c.write_puts.new.store in
     let es = c.in_ok-written.written.extents.items in
-    let is = c.change_places.ensures.places ∙ ap₂ (λ xs ps. without_places c.args.removals.now (with_places i.slots.version c.args.puts.now xs ps)) c.deref-2.ensures.value c.deref_mut.ensures.value in
+    let is = c.change_places.ensures.places ∙ ap₂ (λ xs ps. without_places c.args.removals.now (with_places i.slots.next_version c.args.puts.now xs ps)) c.deref-2.ensures.value c.deref_mut.ensures.value in
     let new : BlockTable = record { map_block = live.map_block; places = with_items live.places c.change_places.new.places } in
-    let changed : new.places.items ≡ without_places c.args.removals.now (with_places i.slots.version c.args.puts.now es live.places.items) =
-    changed_places i.slots.version live.places.len live.places.items c.change_places.new.places c.args.puts.now es c.args.removals.now live.places.ok.0 is in
+    let changed : new.places.items ≡ without_places c.args.removals.now (with_places i.slots.next_version c.args.puts.now es live.places.items) =
+    changed_places i.slots.next_version live.places.len live.places.items c.change_places.new.places c.args.puts.now es c.args.removals.now live.places.ok.0 is in
     let facts = g.S.Store.facts in
     let m = live.map_block in
     let same = (c.write_puts.ensures.nothing none).1 in
     let disk = ap (λ t. disk_of facts t i.slots) same ∙ ap (λ s. s.disk) view in
     let document =
     ap (λ t. shown (facts t).content new.places.items m) same ∙ ap (λ ps. shown (facts i.store).content ps m) changed
-    ∙ ap (λ ps. shown (facts i.store).content (without_places c.args.removals.now (with_places i.slots.version ps es live.places.items)) m) none
+    ∙ ap (λ ps. shown (facts i.store).content (without_places c.args.removals.now (with_places i.slots.next_version ps es live.places.items)) m) none
     ∙ shown_without_all (facts i.store).content c.args.removals.now live.places.items m ∙ ap (λ s. remove_all c.args.removals.now s.document) view in
     (refl, λ j. record { disk = disk j; document = document j })
 
@@ -209,7 +209,7 @@ tightened-self-inside-requires g c =
     let puts = c.args.puts.now in
     let removals = c.args.removals.now in
     let es = c.in_ok-written.written.extents.items in
-    let is = c.change_places.ensures.places ∙ ap₂ (λ xs ps. without_places removals (with_places i.slots.version puts xs ps)) c.deref-2.ensures.value c.deref_mut.ensures.value in
-    let changed = changed_places i.slots.version live.places.len live.places.items c.change_places.new.places puts es removals live.places.ok.0 is in
+    let is = c.change_places.ensures.places ∙ ap₂ (λ xs ps. without_places removals (with_places i.slots.next_version puts xs ps)) c.deref-2.ensures.value c.deref_mut.ensures.value in
+    let changed = changed_places i.slots.next_version live.places.len live.places.items c.change_places.new.places puts es removals live.places.ok.0 is in
     subst (λ ps. AreBounds ps c.widened-bounds.result) (sym (c.deref-3.ensures.value ∙ changed))
-    (bounds_changed i.slots.version puts es removals live.places.items i.bounds c.widened-bounds.result (let size = c.in_ok-make_room.ensures.size in omega (arith, size)) c.requires.puts (grown_bounds i.live.places.items live.places.items grown i.bounds c.self.invariant.bounded) c.widened-bounds.ensures)
+    (bounds_changed i.slots.next_version puts es removals live.places.items i.bounds c.widened-bounds.result (let size = c.in_ok-make_room.ensures.size in omega (arith, size)) c.requires.puts (grown_bounds i.live.places.items live.places.items grown i.bounds c.self.invariant.bounded) c.widened-bounds.ensures)

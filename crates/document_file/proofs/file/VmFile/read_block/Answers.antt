@@ -4,7 +4,9 @@ use Rattle.geos_model.specs.Document.{is_live, block_at}
 use Rattle.geos_model.specs.Image.{image}
 use Rattle.std.proofs.lemmas.Result.{IfOk-weaker}
 use Rattle.document_file.specs.Calls.{IsImageLength}
-use Rattle.document_file.proofs.EffectsLemmas.{view_reads}
+use Rattle.document_file.proofs.EffectsLemmas.{damage_fails, view_reads}
+use Rattle.document_file.specs.Effects.{Fails, IsDamage}
+use Rattle.document_file.proofs.SumsLemmas.{summed_have}
 use Rattle.document_file.proofs.SoundLemmas.{file_rested}
 use Rattle.document_file.proofs.file.VmFile.read_block.Goals as goal
 
@@ -13,6 +15,9 @@ read_block-requires-clause-live g c = ap (λ s. is_live s.document c.args.block.
 
 pub read_block-requires-clause-images : goal.read_block-requires-clause-images
 read_block-requires-clause-images g c = λ so. (c.self.invariant.sound.whole so).images
+
+pub read_block-requires-clause-sums : goal.read_block-requires-clause-sums
+read_block-requires-clause-sums g c = λ so. summed_have _ _ _ (c.self.invariant.sound.whole so).sums
 
 pub invariant_of-self : goal.invariant_of-self
 invariant_of-self g c =
@@ -32,3 +37,9 @@ pub returns-clause-size : goal.returns-clause-size
 returns-clause-size g c =
     let formed = c.self.invariant.sound.formed in
     IfOk-weaker c.read_block.result _ (λ bytes. IsImageLength (length bytes.items)) (λ bytes long. long formed.placed formed.table.places) c.read_block.ensures.size
+
+pub returns-clause-fails : goal.returns-clause-fails
+returns-clause-fails g c =
+    let facts = g.S.Store.facts in
+    subst (λ s. Fails facts (IsDamage (facts s.disk.store).honest) s.disk.store c.read_block.new.store c.read_block.result) c.self.view_is
+    (damage_fails facts c.self.inside.store c.read_block.new.store c.read_block.result c.read_block.ensures.file c.read_block.ensures.damaged c.read_block.ensures.refusals)

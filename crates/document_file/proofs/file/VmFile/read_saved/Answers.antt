@@ -6,7 +6,10 @@ use Rattle.document_file.specs.Documents.{blocks_in, document_in, AreImaged}
 use Rattle.document_file.specs.Disk.{SameUnlessCorrupt}
 use Rattle.document_file.specs.declared.table.BlockTable.{BlockTable}
 use Rattle.document_file.proofs.TableLemmas.{places_drift}
-use Rattle.document_file.proofs.EffectsLemmas.{view_reads}
+use Rattle.document_file.proofs.EffectsLemmas.{damage_fails, view_reads}
+use Rattle.document_file.specs.Effects.{Fails, IsDamage}
+use Rattle.document_file.proofs.SumsLemmas.{summed_have}
+use Rattle.document_file.specs.Sums.{HaveSums}
 use Rattle.document_file.proofs.SoundLemmas.{file_rested}
 use Rattle.document_file.proofs.file.VmFile.read_saved.Goals as goal
 
@@ -18,6 +21,10 @@ read_block-requires-clause-live g c =
 pub read_block-requires-clause-images : goal.read_block-requires-clause-images
 read_block-requires-clause-images g c = λ so.
     subst (λ (t : BlockTable). AreImaged (g.S.Store.facts c.self.inside.store).content t.places.items) (sym c.deref.ensures) (c.self.invariant.sound.whole so).committed.saved.images
+
+pub read_block-requires-clause-sums : goal.read_block-requires-clause-sums
+read_block-requires-clause-sums g c = λ so.
+    subst (λ (t : BlockTable). HaveSums (g.S.Store.facts c.self.inside.store).content t.places.items) (sym c.deref.ensures) (summed_have _ _ _ (c.self.invariant.sound.whole so).committed.saved.sums)
 
 pub invariant_of-self : goal.invariant_of-self
 invariant_of-self g c =
@@ -43,3 +50,9 @@ returns-clause-saved g c =
     let saved = i.slots.committed.saved.table.value in
     subst (λ s. SameUnlessCorrupt (g.S.Store.facts s.disk.store).honest s.disk.saved (document_in b.content saved)) c.self.view_is
     (places_drift a.honest a.content b.content saved.places.items saved.map_block (λ so. ap (λ f. blocks_in f saved.places.items) (c.read_block.ensures.looks.unchanged so).content))
+
+pub returns-clause-fails : goal.returns-clause-fails
+returns-clause-fails g c =
+    let facts = g.S.Store.facts in
+    subst (λ s. Fails facts (IsDamage (facts s.disk.store).honest) s.disk.store c.read_block.new.store c.read_block.result) c.self.view_is
+    (damage_fails facts c.self.inside.store c.read_block.new.store c.read_block.result c.read_block.ensures.file c.read_block.ensures.damaged c.read_block.ensures.refusals)

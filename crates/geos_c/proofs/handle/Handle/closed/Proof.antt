@@ -37,7 +37,7 @@ abbrev closed_kept : R.Denot
 closed_kept = record {
   number = file_number (pos 0);
   session = record {
-    disk = record { store = store_on (file_number (pos 0)); updated = empty_document; saved = empty_document; in_doubt = []; sequence = 0; marked = None };
+    disk = record { store = store_on (file_number (pos 0)); updated = empty_document; saved = empty_document; in_doubt = []; sequence = 0; marked = None; checksums = false };
     document = empty_document;
     resident = [];
     frames = 0;

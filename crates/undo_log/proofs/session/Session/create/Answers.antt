@@ -6,7 +6,7 @@ use Rattle.undo_log.proofs.Beginnings.{begun}
 use Rattle.undo_log.proofs.session.Session.create.Goals as goal
 
 pub returns-in-Ok-clause-made : goal.returns-in-Ok-clause-made
-returns-in-Ok-clause-made g c = subst (λ (b : CacheState g.row.S.Denot). IsMadeIn g.S.Store.facts c.args.store (as_file b)) (sym c.start.ensures.blocks) c.in-Ok.ensures.made
+returns-in-Ok-clause-made g c = subst (λ (b : CacheState g.row.S.Denot). IsMadeIn g.S.Store.facts c.args.store c.args.checksums (as_file b)) (sym c.start.ensures.blocks) c.in-Ok.ensures.made
 
 pub returns-in-Ok-clause-new : goal.returns-in-Ok-clause-new
 returns-in-Ok-clause-new g c = (c.start.ensures.log, ap (λ (b : CacheState g.row.S.Denot). b.frames) c.start.ensures.blocks ∙ c.in-Ok.ensures.frames)

@@ -7,7 +7,7 @@ use Rattle.undo_log.proofs.Beginnings.{opened}
 use Rattle.undo_log.proofs.session.Session.open.Goals as goal
 
 pub returns-in-Ok-clause-opened : goal.returns-in-Ok-clause-opened
-returns-in-Ok-clause-opened g c = subst (λ (b : CacheState g.row.S.Denot). IsOpenedFrom g.S.Store.facts c.args.store (as_file b)) (sym c.start.ensures.blocks) c.in-Ok.ensures.opened
+returns-in-Ok-clause-opened g c = subst (λ (b : CacheState g.row.S.Denot). IsOpenedFrom g.S.Store.facts c.args.store c.args.checksums (as_file b)) (sym c.start.ensures.blocks) c.in-Ok.ensures.opened
 
 pub returns-in-Ok-clause-new : goal.returns-in-Ok-clause-new
 returns-in-Ok-clause-new g c = ((c.has_one_directory-one.result, c.start.ensures.log), ap (λ (b : CacheState g.row.S.Denot). b.frames) c.start.ensures.blocks ∙ c.in-Ok.ensures.frames)

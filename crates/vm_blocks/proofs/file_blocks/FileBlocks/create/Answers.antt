@@ -15,8 +15,8 @@ use Rattle.vm_blocks.proofs.file_blocks.FileBlocks.create.Goals as goal
 pub returns-clause-made : goal.returns-clause-made
 returns-clause-made g c =
     let made = c.in_ok-file.ensures in
-    subst (λ (x : LruCache ℕ Frame). IsMadeIn g.S.Store.facts c.args.store (with_frames c.in_ok-file.file x.entries)) (sym c.in-Ok.ensures)
-    (record { follows = made.store; document = made.made.0; new_file = made.made.1; bytes = made.bytes; size = made.size; one_directory = λ so. ap₂ (λ first second. is_for_both (counting_slot first second)) (made.first so) (made.second so) })
+    subst (λ (x : LruCache ℕ Frame). IsMadeIn g.S.Store.facts c.args.store c.args.checksums (with_frames c.in_ok-file.file x.entries)) (sym c.in-Ok.ensures)
+    (record { follows = made.store; document = made.made.0; new_file = made.made.1; bytes = made.bytes; size = made.size; one_directory = λ so. ap₂ (λ first second. is_for_both (counting_slot first second)) (made.first so) (made.second so); checksums = made.checksums })
 
 pub invariant_of-result : goal.invariant_of-result
 invariant_of-result g c =

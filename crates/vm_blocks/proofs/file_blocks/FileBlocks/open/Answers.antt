@@ -12,7 +12,7 @@ use Rattle.vm_blocks.proofs.file_blocks.FileBlocks.open.Goals as goal
 pub returns-clause-opened : goal.returns-clause-opened
 returns-clause-opened g c =
     let found = c.in_ok-file.ensures in
-    subst (λ (x : LruCache ℕ Frame). IsOpenedFrom g.S.Store.facts c.args.store (with_frames c.in_ok-file.file x.entries)) (sym c.in-Ok.ensures) (record {
+    subst (λ (x : LruCache ℕ Frame). IsOpenedFrom g.S.Store.facts c.args.store c.args.checksums (with_frames c.in_ok-file.file x.entries)) (sym c.in-Ok.ensures) (record {
       follows = found.store;
       unchanged = found.unchanged;
       documents = found.stands;
@@ -20,6 +20,7 @@ returns-clause-opened g c =
       now = λ _. found.document;
       sequence = found.numbered;
       numbered = found.numbered_now;
+      checksums = found.checksums;
       crash_consistent = found.crash_consistent;
     })
 

@@ -104,7 +104,7 @@ returns-clause-saved_as g c =
     let back : e.disk.store ≡ c.close-2.result = sym (c.close-2.ensures ∙ ap (λ (f : FileState g.row.S.Denot). f.disk.store) c.replace.ensures.value) in
     subst (λ (f : FileState g.row.S.Denot). IsSavedAs facts c.args.target c.close-2.result (as_file c.args.self.now) (with_frames f gs)) (sym c.replace.ensures.after)
     (subst (λ (s : CacheState g.row.S.Denot). IsSavedAs facts c.args.target c.close-2.result (as_file s) (with_frames n gs)) c.self.view_is
-    (saved facts g.met.S.Store.timely a b es fs c.flush.ensures.moves c.reveal_invariant.ensures.crash_consistent c.args.target d c.copy_to.ensures.reads e n gs c.close-2.result c.in_default.ensures.clean.each copy.handles copy.copied
+    (saved facts g.met.S.Store.timely a b es fs c.flush.ensures.moves c.reveal_invariant.ensures.crash_consistent c.args.target d c.copy_to.ensures.reads e n gs c.close-2.result c.in_default.ensures.clean.each copy.handles copy.copied copy.checksums
     c.mark_all.ensures.shown copy.made copy.target back c.in_default-commit_revert.ensures.commit.commits))
 
 pub invariant_of-self-2 : goal.invariant_of-self-2

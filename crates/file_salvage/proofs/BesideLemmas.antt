@@ -1,0 +1,207 @@
+-- What stands among the places of a row, and that the whole entries stay where others are taken beside them.
+use Rattle.std.proofs.Common.{All, ◌≡◌, ℕ, suc, ◌+◌, ◌<◌, ◌≤◌, ◌⊎◌, Bool, true, false, cond, ◌==◌, List, [], ◌∷◌, Option, None, Some, is_some, nat_le, get_or, length, slice_index, slice_index_or, refl, sym, ap, subst, ◌∙◌, arith, inl, inr}
+use Rattle.std.specs.Bool.{⊤}
+use Rattle.std.proofs.lemmas.Bool.{and_from, cases_Bool, cases_lt, cond-false, cond-true, eqb-false, le-leb, leb-true, lt-leb, or_parts}
+use Rattle.std.proofs.lemmas.List.Elements.{All-cons, All-nil, All-weaker}
+use Rattle.std.proofs.lemmas.List.Folds.{list_all_at}
+use Rattle.std.proofs.lemmas.List.FromFn.{get_or-map-range_with_len}
+use Rattle.file_format.specs.File.{block_of}
+use Rattle.file_format.specs.declared.file.Entry.{Entry}
+use Rattle.file_salvage.specs.Entries.{damage_at, damages, entry_at, entry_count, fits, free_among, free_at, free_below, free_beside, free_unsummed, frees, frees_beside, is_taken, taken, taken_at, whole_row}
+use Rattle.file_salvage.specs.Rows.{IsRow, longest_row}
+use Rattle.file_salvage.specs.declared.flaw.Flaw.{Flaw}
+use Rattle.file_salvage.proofs.EntryLemmas.{damages_count, frees_beside_count, frees_count, image, image_beside, whole_image}
+use Rattle.file_salvage.proofs.RowLemmas.{is_longest, is_row}
+
+-- One more place in a row.
+
+-- a place can be in a row with another one
+abbrev pub Beside : List ℕ → ℕ → ℕ → Type 0
+Beside numbers j i = ((i < j) × (slice_index numbers i ≤ slice_index numbers j)) ⊎ ((j < i) × (slice_index numbers j ≤ slice_index numbers i))
+
+abbrev pub AreBeside : List ℕ → ℕ → List ℕ → Type 0
+AreBeside numbers j [] = ⊤
+AreBeside numbers j (i ∷ row) = Beside numbers j i × AreBeside numbers j row
+
+inserted : (numbers : List ℕ) (n most j : ℕ) (row : List ℕ) → IsRow numbers n most row → j < n → 1 ≤ slice_index numbers j → slice_index numbers j ≤ most → AreBeside numbers j row
+    → (more : List ℕ) × IsRow numbers n most more × (length more ≡ suc (length row))
+inserted numbers n most j [] is within some low beside = (j ∷ [], (within, some, low, tt), refl)
+inserted numbers n most j (i ∷ row) is within some low (inl left, rest) = (j ∷ i ∷ row, (within, some, low, (left.0, is.1, left.1, is.3)), refl)
+inserted numbers n most j (i ∷ row) is within some low (inr right, rest) =
+    let more = inserted numbers i (slice_index numbers i) j row is.3 right.0 some right.1 rest in
+    (i ∷ more.0, (is.0, is.1, is.2, more.1), ap suc more.2)
+
+all_beside : (numbers : List ℕ) (top n most j : ℕ) (row : List ℕ) → ((i : ℕ) → i < top → 1 ≤ slice_index numbers i → (i ≡ j → ⊥) → Beside numbers j i) → n ≤ top → IsRow numbers n most row
+    → is_taken j row ≡ false → AreBeside numbers j row
+all_beside numbers top n most j [] beside few is other = tt
+all_beside numbers top n most j (i ∷ row) beside few is other =
+    let parts = or_parts (i == j) (is_taken j row) other in (
+      beside i (omega (arith, is.0, few)) is.1 (eqb-false i j parts.0),
+      all_beside numbers top i (slice_index numbers i) j row beside (omega (arith, is.0, few)) is.3 parts.1,
+    )
+
+-- a place that can stand beside all others is in a longest row
+must_have : (numbers : List ℕ) (j : ℕ) → j < length numbers → 1 ≤ slice_index numbers j → slice_index numbers j ≤ 65535
+    → ((i : ℕ) → i < length numbers → 1 ≤ slice_index numbers i → (i ≡ j → ⊥) → Beside numbers j i) → is_taken j (longest_row numbers) ≡ true
+must_have numbers j within some low beside = elim (cases_Bool (is_taken j (longest_row numbers))) [
+  | inl holds ↦ holds
+  | inr other ↦
+      let n : ℕ = length numbers in
+      let row : List ℕ = longest_row numbers in
+      let is : IsRow numbers n 65535 row = is_row numbers n 65535 in
+      let more = inserted numbers n 65535 j row is within some low (all_beside numbers n n 65535 j row beside (omega arith) is other) in
+      let long : length more.0 ≤ length row = is_longest numbers n 65535 more.0 more.1 in
+      absurd (omega (arith, long, more.2))
+]
+
+-- What holds of each place of a row.
+
+-- it is one, and its number is one that a row can have
+abbrev pub InRow : List ℕ → ℕ → ℕ → ℕ → Type 0
+InRow numbers n most i = (i < n) × (1 ≤ slice_index numbers i) × (slice_index numbers i ≤ most)
+
+pub in_row : (numbers : List ℕ) (n most : ℕ) (row : List ℕ) → IsRow numbers n most row → All (InRow numbers n most) row
+in_row numbers n most [] is = All-nil (InRow numbers n most)
+in_row numbers n most (i ∷ row) is =
+    All-cons (InRow numbers n most) i row (is.0, is.1, is.2)
+    (All-weaker (InRow numbers i (slice_index numbers i)) (InRow numbers n most) (λ j in_it. (omega (arith, in_it.0, is.0), in_it.1, omega (arith, in_it.2, is.2))) row
+    (in_row numbers i (slice_index numbers i) row is.3))
+
+-- whether the number m at a place i can stand with the one of a place j of the row
+abbrev pub fits_with : List ℕ → ℕ → ℕ → ℕ → Bool
+fits_with numbers i m j = cond (nat_le j i) (nat_le (slice_index numbers j) m) (nat_le m (slice_index numbers j))
+
+below_fits : (numbers : List ℕ) (n most : ℕ) (row : List ℕ) (i m : ℕ) → IsRow numbers n most row → n ≤ i → most ≤ m → fits numbers row i m ≡ true
+below_fits numbers n most [] i m is few low = refl
+below_fits numbers n most (j ∷ row) i m is few low =
+    and_from (fits_with numbers i m j) (fits numbers row i m)
+    (cond-true (nat_le j i) (nat_le (slice_index numbers j) m) (nat_le m (slice_index numbers j)) (le-leb j i (omega (arith, is.0, few))) ∙ le-leb (slice_index numbers j) m (omega (arith, is.2, low)))
+    (below_fits numbers j (slice_index numbers j) row i m is.3 (omega (arith, is.0, few)) (omega (arith, is.2, low)))
+
+-- each place of a row can stand in it
+own_fits : (numbers : List ℕ) (n most : ℕ) (row : List ℕ) → IsRow numbers n most row → All (λ j. fits numbers row j (slice_index numbers j) ≡ true) row
+own_fits numbers n most [] is = All-nil (λ j. fits numbers [] j (slice_index numbers j) ≡ true)
+own_fits numbers n most (i ∷ row) is =
+    let x : ℕ = slice_index numbers i in
+    All-cons (λ j. fits numbers (i ∷ row) j (slice_index numbers j) ≡ true) i row
+    (and_from (fits_with numbers i x i) (fits numbers row i x) (cond-true (nat_le i i) (nat_le x x) (nat_le x x) (le-leb i i (omega arith)) ∙ le-leb x x (omega arith))
+    (below_fits numbers i x row i x is.3 (omega arith) (omega arith)))
+    (λ k d inside.
+    let j : ℕ = get_or row k d in
+    let y : ℕ = slice_index numbers j in
+    let of : InRow numbers i x j = in_row numbers i x row is.3 k d inside in
+    and_from (fits_with numbers j y i) (fits numbers row j y) (cond-false (nat_le i j) (nat_le x y) (nat_le y x) (lt-leb i j of.0) ∙ le-leb y x of.2)
+    (own_fits numbers i x row is.3 k d inside))
+
+fits_at : (numbers row : List ℕ) (i m : ℕ) → fits numbers row i m ≡ true → (k d : ℕ) → k < length row → fits_with numbers i m (get_or row k d) ≡ true
+fits_at numbers row i m fit k d inside = elim (cases_Bool (fits_with numbers i m (get_or row k d))) [
+  | inl holds ↦ holds
+  | inr other ↦ (let none = list_all_at (fits_with numbers i m) row k d inside other in absurd (cc (sym fit ∙ none)))
+]
+
+among : (fit : Bool) (n : ℕ) → 1 ≤ cond fit n 0 → (fit ≡ true) × (cond fit n 0 ≡ n)
+among true n some = (refl, refl)
+among false n some = absurd (omega (arith, some))
+
+same_free : (i : ℕ) (e : Entry) (damage : Option Flaw) → 1 ≤ free_below i e damage → free_unsummed i e damage ≡ free_below i e damage
+same_free i e None some = refl
+same_free i e (Some flaw) some = absurd (omega (arith, some))
+
+module _ (bytes : List ℕ) (damages : List (Option Flaw)) where
+  abbrev numbers : List ℕ
+  numbers = frees bytes damages
+
+  abbrev row : List ℕ
+  row = whole_row bytes damages
+
+  abbrev more : List ℕ
+  more = frees_beside bytes damages numbers row
+
+  abbrev unsummed_at : ℕ → ℕ
+  unsummed_at i = free_unsummed i (entry_at bytes i) (slice_index_or damages i None)
+
+  number_at : (i : ℕ) → i < length damages → slice_index numbers i ≡ free_at bytes damages i
+  number_at i below = let at : 0 + i ≡ i = omega arith in get_or-map-range_with_len (free_at bytes damages) 0 (length damages) i i 0 below at
+
+  more_at : (i : ℕ) → i < length damages → slice_index more i ≡ free_among numbers row i (unsummed_at i)
+  more_at i below = let at : 0 + i ≡ i = omega arith in get_or-map-range_with_len (free_beside bytes damages numbers row) 0 (length damages) i i 0 below at
+
+  -- a place of the row has its number still
+  kept_at : (j : ℕ) → j < length damages → 1 ≤ slice_index numbers j → fits numbers row j (slice_index numbers j) ≡ true → slice_index more j ≡ slice_index numbers j
+  kept_at j below some fit =
+      let x : ℕ = slice_index numbers j in
+      let is : x ≡ free_at bytes damages j = number_at j below in
+      let free : unsummed_at j ≡ x = same_free j (entry_at bytes j) (slice_index_or damages j None) (subst (λ (n : ℕ). 1 ≤ n) is some) ∙ sym is in
+      more_at j below ∙ ap (λ (n : ℕ). free_among numbers row j n) free ∙ cond-true (fits numbers row j x) x 0 fit
+
+  -- and can stand beside each other place that has one
+  beside_at : (k d : ℕ) → k < length row → slice_index more (get_or row k d) ≡ slice_index numbers (get_or row k d) → (i : ℕ) → i < length damages → 1 ≤ slice_index more i
+      → (i ≡ get_or row k d → ⊥) → Beside more (get_or row k d) i
+  beside_at k d inside kept i below some other =
+      let j : ℕ = get_or row k d in
+      let x : ℕ = slice_index numbers j in
+      let m : ℕ = unsummed_at i in
+      let is : slice_index more i ≡ free_among numbers row i m = more_at i below in
+      let fit = among (fits numbers row i m) m (subst (λ (n : ℕ). 1 ≤ n) is some) in
+      let now : slice_index more i ≡ m = is ∙ fit.1 in
+      let stands : fits_with numbers i m j ≡ true = fits_at numbers row i m fit.0 k d inside in
+      elim (cases_lt i j) as (λ _. Beside more j i) [
+        | inl less ↦
+            let low : m ≤ x = leb-true m x (sym (cond-false (nat_le j i) (nat_le x m) (nat_le m x) (lt-leb j i less)) ∙ stands) in
+            inl (less, omega (arith, low, now, kept))
+        | inr most ↦
+            let high : x ≤ m = leb-true x m (sym (cond-true (nat_le j i) (nat_le x m) (nat_le m x) (le-leb j i most)) ∙ stands) in
+            elim (cases_lt j i) as (λ _. Beside more j i) [
+              | inl above ↦ inr (above, omega (arith, high, now, kept))
+              | inr least ↦ (let same : i ≡ j = omega (arith, most, least) in absurd (other same))
+            ]
+      ]
+
+  pub whole_kept : All (λ i. is_taken i (taken true bytes damages) ≡ true) (taken false bytes damages)
+  whole_kept = λ k d inside.
+      let n : ℕ = length numbers in
+      let j : ℕ = get_or row k d in
+      let is : IsRow numbers n 65535 row = is_row numbers n 65535 in
+      let of : InRow numbers n 65535 j = in_row numbers n 65535 row is k d inside in
+      let count = frees_count bytes damages in
+      let all = frees_beside_count bytes damages numbers row in
+      let kept : slice_index more j ≡ slice_index numbers j = kept_at j (omega (arith, of.0, count)) of.1 (own_fits numbers n 65535 row is k d inside) in
+      must_have more j (omega (arith, of.0, count, all)) (omega (arith, of.1, kept)) (omega (arith, of.2, kept)) (λ i below some other. beside_at k d inside kept i (omega (arith, below, all)) some other)
+
+-- Each that is taken has its block, and without all each is whole.
+
+sound : (i : ℕ) (e : Entry) (damage : Option Flaw) → 1 ≤ free_below i e damage → damage ≡ None
+sound i e None some = refl
+sound i e (Some flaw) some = absurd (omega (arith, some))
+
+module _ (file : List ℕ) (version : ℕ) (bytes : List ℕ) where
+  abbrev found : List (Option Flaw)
+  found = damages file version bytes
+
+  pub whole_taken : All (λ i. damage_at file version bytes i ≡ None) (taken false bytes (damages file version bytes))
+  whole_taken = λ k d inside.
+      let numbers : List ℕ = frees bytes found in
+      let i : ℕ = get_or (whole_row bytes found) k d in
+      let of : InRow numbers (length numbers) 65535 i = in_row numbers (length numbers) 65535 _ (is_row numbers (length numbers) 65535) k d inside in
+      let at : 0 + i ≡ i = omega arith in
+      let count = damages_count file version bytes in
+      let both = frees_count bytes found in
+      let free : slice_index numbers i ≡ free_at bytes found i = get_or-map-range_with_len (free_at bytes found) 0 (length found) i i 0 (omega (arith, of.0, both)) at in
+      let is : slice_index_or found i None ≡ damage_at file version bytes i = get_or-map-range_with_len (damage_at file version bytes) 0 (entry_count bytes) i i None (omega (arith, of.0, both, count)) at in
+      sym is ∙ sound i (entry_at bytes i) (slice_index_or found i None) (subst (λ (n : ℕ). 1 ≤ n) free of.1)
+
+  row_had : (numbers : List ℕ) → length numbers ≡ length found → ((i : ℕ) → i < entry_count bytes → 1 ≤ slice_index numbers i → 1 ≤ free_unsummed i (entry_at bytes i) (slice_index_or found i None))
+      → All (λ i. is_some (block_of file (taken_at bytes found i)) ≡ true) (longest_row numbers)
+  row_had numbers count images = λ k d inside.
+      let i : ℕ = get_or (longest_row numbers) k d in
+      let of : InRow numbers (length numbers) 65535 i = in_row numbers (length numbers) 65535 _ (is_row numbers (length numbers) 65535) k d inside in
+      let all = damages_count file version bytes in
+      let below : i < entry_count bytes = omega (arith, of.0, count, all) in
+      image file version bytes i below (images i below of.1)
+
+  pub taken_had : (all : Bool) → All (λ i. is_some (block_of file (taken_at bytes (damages file version bytes) i)) ≡ true) (taken all bytes (damages file version bytes))
+  taken_had false = row_had (frees bytes found) (frees_count bytes found) (whole_image file version bytes)
+  taken_had true =
+      let numbers : List ℕ = frees bytes found in
+      let row : List ℕ = whole_row bytes found in
+      row_had (frees_beside bytes found numbers row) (frees_beside_count bytes found numbers row) (image_beside file version bytes numbers row)
