@@ -39,6 +39,7 @@ check() {
     compared_documents) python3 checks/compared_documents.py "$geosvm" "$geosdoc" $documents ;;
     salvaged) python3 checks/salvaged.py "$geosvm" "$geosdoc" $documents ;;
     summed_documents) python3 checks/summed_documents.py "$geosvm" "$geosdoc" $((documents / 5)) ;;
+    checksums_given) python3 checks/checksums_given.py "$geosvm" "$geosdoc" $((documents / 25)) ;;
     limits) python3 checks/limits.py "$geosvm" "$geosdoc" $long ;;
     lent_bytes) sh checks/lent_bytes.sh ;;
     heap_by_chance) python3 checks/heap_by_chance.py "$geosvm" $((times * 1000)) ;;
@@ -70,7 +71,7 @@ check() {
     esac
 }
 # Those that take longest come first, and behind them what needs one of them.
-first="embedding lent_bytes each_request failing_calls limits dumped_documents salvaged summed_documents looks memory_given_back edits_by_chance heap_by_chance bench"
+first="embedding lent_bytes each_request failing_calls limits dumped_documents salvaged summed_documents checksums_given looks memory_given_back edits_by_chance heap_by_chance bench"
 first="$first instructions made_beside stat_counted compared_documents changed_bytes program_ends examples designs_measured pages_checked ways_to_start"
 first="$first prompts commands_listed"
 second="failing_calls_from_c outline_editor rust_crate installed cpp_header python_package"

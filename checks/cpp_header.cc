@@ -600,6 +600,40 @@ static void files_opened_or_made() {
   MUST(names_here() == names);
 }
 
+/* The version of the first slot, which counts in a new file and behind the third commit. */
+static int version_of(const char *path) { return whole_file(path).at(5); }
+
+/* Checksums are asked for where a file is made, or where it is opened: then it has them with its next commit. */
+static void files_with_checksums() {
+  const auto names = names_here();
+  session::create("plain.document");
+  session::create_checksums("summed.document");
+  session::open_or_create_checksums("either.document");
+  MUST(version_of("plain.document") == 2 && version_of("summed.document") == 3 && version_of("either.document") == 3);
+  {
+    session s = session::open_checksums("plain.document");
+    s.save();
+    s.save();
+    s.save_as("saved.document");
+  }
+  MUST(version_of("plain.document") == 3 && version_of("saved.document") == 3);
+  const int number = ::open("summed.document", O_RDWR);
+  session::create(number);
+  MUST(version_of("summed.document") == 2);
+  session::create_checksums(number);
+  MUST(version_of("summed.document") == 3 && session::open_checksums(number).list().empty());
+  ::close(number);
+  REFUSED(fault::bad_argument, session::open_checksums(-1, 0, to...));
+  REFUSED(fault::bad_argument, session::create_checksums(-1, 0, to...));
+  REFUSED(fault::bad_argument, session::open_checksums("plain.document", 65, to...));
+  REFUSED(fault::bad_argument, session::create_checksums("plain.document", 65, to...));
+  REFUSED(fault::bad_argument, session::open_or_create_checksums("plain.document", 65, to...));
+  for (const char *name : {"plain.document", "summed.document", "either.document", "saved.document"}) {
+    std::filesystem::remove(name);
+  }
+  MUST(names_here() == names);
+}
+
 static void files_kept() {
   REFUSED(make_error_code(std::errc::no_such_file_or_directory), session::open("missing.document", to...));
   REFUSED(make_error_code(std::errc::is_a_directory), session::create(".", to...));
@@ -828,6 +862,7 @@ int main(int count, char **words) {
   moves();
   groups();
   files_opened_or_made();
+  files_with_checksums();
   files_kept();
   files_kept_on_a_full_disk();
   files_on_the_disk();

@@ -142,8 +142,8 @@ def damaged_handle(chance, data):
     return document_in(whole, place, len(whole), {handles[i]})
 
 
-def salvage(geosdoc, path):
-    done = subprocess.run([geosdoc, "salvage", path], stdout=subprocess.PIPE, stderr=subprocess.PIPE, text=True)
+def salvage(geosdoc, path, *flags):
+    done = subprocess.run([geosdoc, "salvage", *flags, path], stdout=subprocess.PIPE, stderr=subprocess.PIPE, text=True)
     return done.returncode, done.stdout, done.stderr
 
 
@@ -206,6 +206,7 @@ def try_one(geosvm, geosdoc, folder, seed, damaged):
     status, script, told = salvage(geosdoc, path)
     with open(path, "rb") as file:
         assert file.read() == bytes(data), "the salvage wrote to the file"
+    assert salvage(geosdoc, path, "--all") == (status, script, told), "there are no sums that --all could leave aside"
     if wanted is None:
         assert (status, script, told) == (1, "", f"geosdoc: {path}: no directory of it can be read\n"), (status, told)
         return 0, 0

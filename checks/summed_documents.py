@@ -1,6 +1,6 @@
 # Needs: python3
 """Makes documents of version 3 of documents of version 2, opens them, edits and saves them, and damages them: each damage must be told, or
-change nothing.
+change nothing. Blocks whose sum is wrong must be left out of a salvage, and be in it with `--all`.
 
     python3 checks/summed_documents.py GEOSVM GEOSDOC [COUNT] [SEED]
 
@@ -14,7 +14,7 @@ import sys
 import tempfile
 
 from dumped_documents import run, slots_of, word
-from salvaged import script_of
+from salvaged import compare, salvage, script_of
 
 PAGE = 512
 
@@ -89,6 +89,43 @@ def is_summed(data):
     return True
 
 
+def listed(data):
+    """The map block and the entries of the updated document: of each its place, and where its image stands."""
+    slot = max(slots_of(data))[1]
+    start, size = PAGE * word(slot, 16, 4), word(slot, 20, 4)
+    entries = [(at, PAGE * word(data, at + 4, 4), word(data, at + 8, 4)) for at in range(start + 16, start + size, 20)]
+    return word(data, start + 8), entries
+
+
+def document_without(data, handles):
+    """The updated document but for the blocks of these handles."""
+    map_block, entries = listed(data)
+    blocks = {word(data, at): (word(data, at + 2), word(data, at + 12), data[start:start + size]) for at, start, size in entries}
+    blocks = {handle: block for handle, block in blocks.items() if handle not in handles}
+    return (map_block if map_block in blocks else 0), blocks
+
+
+def with_wrong_sums(chance, old):
+    """The file with other sums of some blocks, or other bytes in them, and their handles. The image of each is still one."""
+    data = bytearray(old)
+    entries = listed(old)[1]
+    chosen = chance.sample(entries, min(len(entries), chance.randint(1, 9)))
+    for at, start, size in chosen:
+        if data[start] == 0 and size > 1 and chance.random() < 0.5:
+            data[start + chance.randrange(1, size)] ^= 1 << chance.randrange(8)
+        else:
+            data[at + 16 + chance.randrange(4)] ^= 1 << chance.randrange(8)
+    return bytes(data), {word(old, at) for at, _, _ in chosen}
+
+
+def with_wrong_handle(chance, old, handles):
+    """The same with another handle at one more entry."""
+    data = bytearray(old)
+    at = chance.choice([at for at, _, _ in listed(old)[1] if word(old, at) not in handles])
+    data[at:at + 2] = little(chance.randint(1, 65535), 2)
+    return bytes(data)
+
+
 class Tries:
     def __init__(self, geosvm, geosdoc, folder):
         self.geosvm, self.geosdoc, self.folder = geosvm, geosdoc, folder
@@ -119,6 +156,32 @@ class Tries:
         self.told(f"{name}: all sums are right behind a commit", is_summed(data))
         return new, data
 
+    def script(self, data, *flags):
+        """What is salvaged of a file, and the lines about blocks."""
+        path = os.path.join(self.folder, "salvaged")
+        with open(path, "wb") as file:
+            file.write(data)
+        status, script, told = salvage(self.geosdoc, path, *flags)
+        assert (status, told) == (0, ""), (status, told)
+        return script, {line for line in script.splitlines() if line.startswith("# block ")}
+
+    def summed(self, what, chance, old):
+        """Without --all the blocks with a wrong sum are left out, and with it they are taken. No block that comes without it goes."""
+        data, handles = with_wrong_sums(chance, old)
+        again = os.path.join(self.folder, "again")
+        try:
+            salvages = [([], handles, "is left out: its sum is wrong"), (["--all"], set(), "is taken, though its sum is wrong")]
+            for flags, left, words in salvages:
+                script, notes = self.script(data, *flags)
+                assert notes == {f"# block {handle:04x} {words}" for handle in handles}, (flags, notes)
+                compare(self.geosvm, self.geosdoc, again, script, document_without(data, left), True)
+            data = with_wrong_handle(chance, data, handles)
+            gone = [{line.split()[2] for line in self.script(data, *flags)[1] if " left out" in line} for flags in ((), ("--all",))]
+            assert gone[1] <= gone[0], ("left out with --all alone", gone[1] - gone[0])
+            self.told(what, True)
+        except AssertionError as wrong:
+            self.told(f"{what}: {wrong}", False)
+
     def damaged(self, what, data, documents):
         """A damaged file is refused, or has the documents that it had or those of the commit before."""
         path = os.path.join(self.folder, "damaged")
@@ -137,6 +200,7 @@ def main():
         for i in range(count):
             path, data = tries.document(chance, f"document{i}")
             documents = {dump(geosdoc, path), dump(geosdoc, path, "--other")}
+            tries.summed(f"document{i}: a salvage with wrong sums", chance, data)
             for _ in range(10):
                 at, bit = chance.randrange(len(data)), chance.randrange(8)
                 tries.damaged(f"document{i}: bit {bit} of byte {at}", data[:at] + bytes([data[at] ^ 1 << bit]) + data[at + 1:], documents)
@@ -152,4 +216,5 @@ def main():
     sys.exit(tries.failed != 0)
 
 
-main()
+if __name__ == "__main__":
+    main()

@@ -1,0 +1,152 @@
+# Needs: python3
+"""Gives documents checksums, by `--checksums` of the program: new ones at once, those of versions 1 and 2 by their next commit, whichever
+that is, and the target of a save-as. All sums are looked at by docs/FORMAT.md alone, and bytes of a block are changed while a run is at work.
+
+    python3 checks/checksums_given.py GEOSVM GEOSDOC [COUNT] [SEED]
+
+GEOSVM and GEOSDOC are the programs of `crates/geosvm` and `crates/geosdoc`.
+"""
+import os
+import random
+import shutil
+import subprocess
+import sys
+import tempfile
+
+from dumped_documents import run, slots_of, word
+from salvaged import script_of
+from summed_documents import PAGE, Tries, dump, is_summed, little
+
+# Slot 0 of a first file with checksums, and its directory: docs/FORMAT.md has these bytes.
+FIRST_SLOT = bytes.fromhex("47564d4601030000010000000000000002000000100000000200000010000000367de34c367de34cbc3fa7a7")
+FIRST_DIRECTORY = bytes.fromhex("47444952030000000000000000000000")
+COMMITS = ("update", "save", "revert")
+
+
+def read(path):
+    with open(path, "rb") as file:
+        return file.read()
+
+
+def write(path, data):
+    with open(path, "wb") as file:
+        file.write(data)
+
+
+def version_of(data):
+    """The version of the slot that counts."""
+    return max(slots_of(data))[1][5]
+
+
+def as_version_1(old):
+    """The same file in version 1, which has no types of heaps and leads to directories of version 1."""
+    data = bytearray(old)
+    for at in (0, 512):
+        slot = data[at:at + 32]
+        if slot[4] != 1:
+            continue
+        data[at + 5] = 1
+        for extent in (16, 24):
+            start, size = PAGE * word(slot, extent, 4), word(slot, extent + 4, 4)
+            data[start + 4:start + 6] = little(1, 2)
+            for entry in range(start + 16, start + size, 16):
+                data[entry + 12:entry + 14] = b"\0\0"
+    return bytes(data)
+
+
+class Given(Tries):
+    def path(self, name):
+        return os.path.join(self.folder, name)
+
+    def both_dumped(self, one, other):
+        return all(dump(self.geosdoc, one, *flags) == dump(self.geosdoc, other, *flags) is not None for flags in ((), ("--saved",)))
+
+    def new_file(self):
+        path, plain = self.path("new"), self.path("plain")
+        run([self.geosvm, "--new", "--checksums", path], "")
+        data = read(path)
+        self.told("a new file: its slot", data[:44] == FIRST_SLOT and data[512:516] == b"GVMF")
+        self.told("a new file: its directory", data[1024:] == FIRST_DIRECTORY)
+        run([self.geosvm, "--new", plain], "")
+        self.told("a new file without checksums", version_of(read(plain)) == 2 and len(read(plain)) == 1040)
+        checked = subprocess.run([self.geosdoc, "check", path], capture_output=True, text=True)
+        self.told("a new file: geosdoc tells its version", checked.returncode == 0 and "version 3" in checked.stdout)
+
+    def given(self, what, old, chance):
+        """A file without checksums: what a run without a commit leaves of it, and each commit."""
+        plain, summed = self.path("plain"), self.path("summed")
+        write(summed, old)
+        run([self.geosvm, "--checksums", summed], "list\n")
+        self.told(f"{what}: nothing is written without an edit or a commit", read(summed) == old)
+        for commit in COMMITS:
+            lines = f"newraw 9 700\nnewheap 8\nvfree {chance.randint(1, 100):04x}\n{commit}\n"
+            for more in ("", "newraw 3 3\nupdate\nundo\nsave\n"):
+                answers = []
+                for path, flags in ((plain, []), (summed, ["--checksums"])):
+                    write(path, old)
+                    answers.append(run([self.geosvm, *flags, path], lines + more))
+                self.told(f"{what}, {commit}: the same replies", answers[0] == answers[1])
+                self.told(f"{what}, {commit}: the same documents", self.both_dumped(plain, summed))
+                self.told(f"{what}, {commit}: all sums are right", is_summed(read(summed)) and version_of(read(plain)) == 2)
+        run([self.geosvm, summed], "newraw 5 5\nupdate\n")
+        self.told(f"{what}: it stays so", is_summed(read(summed)))
+
+    def saved_as(self, old):
+        """The target of a save-as has checksums where the file has them, or is to get them."""
+        for flags, made in (([], 2), (["--checksums"], 3)):
+            source, target, again = self.path("source"), self.path("target"), self.path("again")
+            for path in (target, again):
+                if os.path.exists(path):
+                    os.remove(path)
+            write(source, old)
+            run([self.geosvm, *flags, "--as", target, source], "newraw 4 400\nsaveas\n")
+            self.told(f"save-as {flags}: the version of the target", version_of(read(target)) == made == version_of(read(source)))
+            self.told(f"save-as {flags}: all sums of both", made == 2 or is_summed(read(target)) and is_summed(read(source)))
+            run([self.geosvm, "--as", again, target], "newraw 4 400\nsaveas\n")
+            self.told(f"save-as {flags}: the version goes on", version_of(read(again)) == made and (made == 2 or is_summed(read(again))))
+
+    def changed_meanwhile(self):
+        """Bytes of a block that isn't in memory are changed under a run: it is told when the block is read."""
+        path = self.path("meanwhile")
+        run([self.geosvm, "--new", "--checksums", path], "newraw 1 9000\nnewheap 2\nalloc 0002 40\nnewraw 3 20\nsave\n")
+        for block, ask in ((1, "vread 0001"), (2, "read 0002 0010")):
+            place = self.path("changed")
+            shutil.copy(path, place)
+            with subprocess.Popen([self.geosvm, "--cache", "1", place], stdin=subprocess.PIPE, stdout=subprocess.PIPE, text=True, bufsize=1) as at_work:
+                def line(words):
+                    at_work.stdin.write(words + "\n")
+                    at_work.stdin.flush()
+                    return at_work.stdout.readline().strip()
+                first = line("vread 0003")
+                data = bytearray(read(place))
+                slot = max(slots_of(bytes(data)))[1]
+                entry = PAGE * word(slot, 16, 4) + 16 + 20 * (block - 1)
+                data[PAGE * word(data, entry + 4, 4) + word(data, entry + 8, 4) - 1] ^= 1
+                with open(place, "r+b") as file:
+                    file.write(data)
+                told = [line(ask), line("vread 0003"), line(ask)]
+                at_work.stdin.close()
+            self.told(f"block {block} is changed meanwhile: {told}", told[0] == told[2] == "no 3 Damaged" and told[1] == first)
+
+
+def main():
+    geosvm, geosdoc = map(os.path.abspath, sys.argv[1:3])
+    count = int(sys.argv[3]) if len(sys.argv) > 3 else 4
+    chance = random.Random(int(sys.argv[4]) if len(sys.argv) > 4 else 1)
+    with tempfile.TemporaryDirectory() as folder:
+        tries = Given(geosvm, geosdoc, folder)
+        tries.new_file()
+        tries.changed_meanwhile()
+        for i in range(count):
+            path = tries.path("old")
+            run([geosvm, "--new", path], script_of(chance))
+            old = read(path)
+            tries.given(f"document{i} of version 2", old, chance)
+            tries.given(f"document{i} of version 1", as_version_1(old), chance)
+            tries.saved_as(old)
+    print(f"{tries.passed} passed, {tries.failed} failed")
+    sys.exit(tries.failed != 0)
+
+
+if __name__ == "__main__":
+    main()
