@@ -112,7 +112,8 @@ class Given(Tries):
         for block, ask in ((1, "vread 0001"), (2, "read 0002 0010")):
             place = self.path("changed")
             shutil.copy(path, place)
-            with subprocess.Popen([self.geosvm, "--cache", "1", place], stdin=subprocess.PIPE, stdout=subprocess.PIPE, text=True, bufsize=1) as at_work:
+            words = [self.geosvm, "--cache", "1", "--as", self.path("other"), place]
+            with subprocess.Popen(words, stdin=subprocess.PIPE, stdout=subprocess.PIPE, text=True, bufsize=1) as at_work:
                 def line(words):
                     at_work.stdin.write(words + "\n")
                     at_work.stdin.flush()
@@ -124,9 +125,9 @@ class Given(Tries):
                 data[PAGE * word(data, entry + 4, 4) + word(data, entry + 8, 4) - 1] ^= 1
                 with open(place, "r+b") as file:
                     file.write(data)
-                told = [line(ask), line("vread 0003"), line(ask)]
+                told = [line(ask), line("vread 0003"), line("saveas"), line(ask)]
                 at_work.stdin.close()
-            self.told(f"block {block} is changed meanwhile: {told}", told[0] == told[2] == "no 3 Damaged" and told[1] == first)
+            self.told(f"block {block} is changed meanwhile: {told}", told[0] == told[2] == told[3] == "no 3 Damaged" and told[1] == first)
 
 
 def main():

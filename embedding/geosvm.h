@@ -202,11 +202,11 @@ int32_t geosvm_fault_name(int32_t code, uint8_t *name, size_t room, size_t *leng
 **
 ** CAPI: Checksums
 **
-** By its checksums a file tells that bytes of it were changed elsewhere, as on a bad disk: an open is GEOSVM_DAMAGED then, where it would
-** be another document without them (docs/FORMAT.md). They are asked for by GEOSVM_PATH_CHECKSUMS, set beside one of the other flags, or by
+** By its checksums a file tells that bytes of it were changed elsewhere, as on a bad disk: an open is refused then, mostly as
+** GEOSVM_DAMAGED, or gives the commit before, where it would be another document without them (docs/FORMAT.md). They are asked for by GEOSVM_PATH_CHECKSUMS, set beside one of the other flags, or by
 ** geosvm_create_checksums and geosvm_open_checksums: an empty document that is made has them, and a file that is there and has none gets
-** them with its next commit. One that has them keeps them, however it is opened, and so has what it is saved into by geosvm_save_as or
-** geosvm_save_as_path. Such a file is of version 3, which a program that knows versions 1 and 2 alone doesn't open.
+** them with its next commit; the commit before that one has none until the one behind it. A file that has them keeps them unless it is
+** made anew, and so has what it is saved into by geosvm_save_as or geosvm_save_as_path. Such a file is of version 3, which a program that knows versions 1 and 2 alone doesn't open.
 */
 #define GEOSVM_PATH_EXISTING  0u
 #define GEOSVM_PATH_CREATE    1u
@@ -349,7 +349,7 @@ int32_t geosvm_locked_raw(geosvm_session *s, uint16_t block, const uint8_t **byt
 **
 ** At each call stand its refusals; the first that applies is answered. Any edit may be GEOSVM_MEMORY; GEOSVM_FILE where a block has to be
 ** brought into memory, or another one out of it, and the file failed, and of geosvm_newraw, newheap, vcopy and chcopy, which write what
-** they make to the file at once; and GEOSVM_DAMAGED where what was read of it is no block. What is
+** they make to the file at once; and GEOSVM_DAMAGED where what was read of it is no block, or has another checksum. What is
 ** refused while blocks are locked stands in docs/SCRIPT.md under Locks.
 */
 

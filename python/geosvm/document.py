@@ -393,8 +393,8 @@ def open(path: Path, mode: Mode = "r+", frames: int = FRAMES,  # noqa: A001
     BlockingIOError then.
 
     With `checksums` the file has checksums from its next commit on, and one that is made from the
-    start: bytes of it that were changed elsewhere are Damaged then. It keeps them, and so has what
-    it is saved into.
+    start: where bytes of it were changed elsewhere it is refused then, mostly as Damaged, or opens
+    to the commit before. It keeps them, and so has what it is saved into.
     """
     return Document(path, mode, frames, checksums)
 

@@ -66,8 +66,9 @@ impl OpenOptions {
         self.set(sys::GEOSVM_PATH_READ, read_only)
     }
 
-    /// The file has checksums from its next commit on, and one that is made from the start. By these it tells that
-    /// bytes of it were changed elsewhere, as `Damaged`. It keeps them, and so has what it is saved into.
+    /// The file has checksums from its next commit on, and one that is made from the start. Where
+    /// bytes of it were changed elsewhere it is refused then, mostly as `Damaged`, or opens to the commit before. It
+    /// keeps them, and so has what it is saved into.
     pub fn checksums(&mut self, checksums: bool) -> &mut OpenOptions {
         self.set(sys::GEOSVM_PATH_CHECKSUMS, checksums)
     }
