@@ -6,10 +6,6 @@ pub mod HeapEdits
 pub mod ChunkLengths
 pub mod Numbers
 pub mod Images
-pub mod Files
-pub mod FileDocuments
-pub mod FileStands
-mod FileExamples
 mod ScriptExamples
 pub mod Arrays
 pub mod FreeLists

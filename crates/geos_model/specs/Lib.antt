@@ -12,8 +12,6 @@ pub mod Document
 pub mod Chain
 pub mod Meaning
 pub mod Image
-pub mod File
-pub mod FileLaws
 pub mod Cost
 pub mod Places
 pub mod Reply

@@ -2,7 +2,6 @@
 ghost use Rattle.geos_model.specs.Laws.{WordLaw, NumberLaw, ChunkLaw, ImageLaw, ArrayLaw, ElementArrayLaw, NameArrayLaw};
 ghost use Rattle.geos_model.specs.EditLaws.{ChunkEditsLaw, ArrayEditsLaw, ElementEditsLaw, NameEditsLaw};
 ghost use Rattle.geos_model.specs.ChainLaws.{ChainLaw, ChainEditsLaw};
-ghost use Rattle.geos_model.specs.FileLaws.{FileLaw};
 ghost use Rattle.geos_model.specs.Undoing.{UndoLaw, RedoLaw};
 ghost use Rattle.geos_model.specs.Depth.{DepthLaw};
 ghost use Rattle.geos_model.specs.Steps.{StepsLaw};
@@ -21,12 +20,6 @@ pub fn word_law()
 /// Any bytes are those of one number.
 pub fn number_law()
     ensures { NumberLaw }
-{}
-
-/// The texts of slots and directories are read back, and what a file stands for rests on the bytes of its extents
-/// alone.
-pub fn file_law()
-    ensures { FileLaw }
 {}
 
 /// How long a chunk can be.

@@ -5,7 +5,6 @@ mod block;
 mod bytes;
 mod command;
 mod fault;
-mod file;
 mod handle;
 mod law;
 mod limit;
@@ -18,13 +17,12 @@ pub use block::Attributes;
 pub use bytes::{Bytes, Chunks};
 pub use command::{Body, Command, Done, Edit, Info, Kind};
 pub use fault::Fault;
-pub use file::{Entry, Extent, PAGE, Slot, VERSION};
 pub use handle::{ChunkHandle, Token, VmHandle};
 pub use law::{
     array_edits_law, array_law, chain_edits_law, chain_law, chunk_edits_law, chunk_law, depth_law,
-    element_array_law, element_edits_law, failing_law, file_law, image_law, name_array_law,
-    name_edits_law, names_law, number_law, redo_law, save_law, standing_law, steps_law,
-    touched_law, undo_law, validity_law, word_law,
+    element_array_law, element_edits_law, failing_law, image_law, name_array_law, name_edits_law,
+    names_law, number_law, redo_law, save_law, standing_law, steps_law, touched_law, undo_law,
+    validity_law, word_law,
 };
 pub use limit::{
     CAPACITY, LONGEST_CHUNK, LONGEST_NAME, MOST_BLOCKS, MOST_BLOCKS_OF_VERSION_1, PAGE_LIMIT,
