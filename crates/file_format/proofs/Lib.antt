@@ -3,6 +3,7 @@ pub mod DamagedFiles
 pub mod DamagedParts
 pub mod DamagedSlots
 pub mod DirectoryLemmas
+pub mod EntryTextLemmas
 pub mod FileDocuments
 pub mod FileExamples
 pub mod FileStands

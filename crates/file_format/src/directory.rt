@@ -288,23 +288,18 @@ pub fn read_entry(version: u16, text: &[u8]) -> Entry
     }
 }
 
-// Whether it is the text of an entry in a directory of this version.
-fn is_text_of(text: &[u8], version: u16, entry: &Entry) -> bool
-    ensures { IsTrue result ↔ (text.now ≡ entry_text version entry.now) }
+// Whether the words that say nothing are zero in an entry's text in a directory of this version: the last one before the
+// sum, and in version 1 the type's. All other bytes are those of the entry that was read from them.
+fn is_padded(version: u16, text: &[u8]) -> bool
+    requires { length text.now ≡ entry_length version }
+    ensures { IsTrue result ↔ (text.now ≡ entry_text version (entry_read version text.now)) }
 {
-    if has_sums(version) {
-        let mut written = [0; LONGEST_ENTRY];
-        write_entry(&mut written, version, entry);
-        text == &written[..]
-    } else {
-        let mut written = [0; SHORTEST_ENTRY];
-        write_entry(&mut written, version, entry);
-        text == &written[..]
-    }
+    LittleEndian::read_u16(&text[14..]) == 0
+        && (version != 1 || LittleEndian::read_u16(&text[12..]) == 0)
 }
 
-// Whether an entry is the one of this text in a directory of this version, may stand behind one of the handle `last`,
-// and can stand in the file.
+// Whether an entry that was read from this text is the one of it in a directory of this version, may stand behind one of
+// the handle `last`, and can stand in the file.
 fn is_next(
     entry: &Entry,
     text: &[u8],
@@ -313,11 +308,13 @@ fn is_next(
     file_length: u64,
     file_version: u8,
 ) -> bool
+    requires size { length text.now ≡ entry_length version }
+    requires read { entry.now ≡ entry_read version text.now }
     ensures { IsTrue result ↔ IsNextEntry file_version file_length version last text.now entry.now }
 {
     last < entry.handle.0
         && is_entry_in(*entry, version, file_length, file_version)
-        && is_text_of(text, version, entry)
+        && is_padded(version, text)
 }
 
 /// The greatest handle in a directory of this version.
