@@ -1,15 +1,15 @@
 -- What a commit makes of the whole file.
 use Rattle.std.proofs.Common.{◌≡◌, ◌⊎◌, ℕ, ◌+◌, ◌^◌, ◌<◌, ◌≤◌, IsTrue, List, [], ◌∷◌, length, Option, All, refl, sym, ap, subst, ◌∙◌, arith, inl, inr}
-use Rattle.std.specs.Prelude.{IfSome, Result, Ok, Err}
+use Rattle.std.specs.Prelude.{IfSome, MatchResult, Result, Ok, Err}
 use Rattle.std.specs.Option.{option_map}
 use Rattle.std.proofs.lemmas.List.Elements.{All-append, All-cons}
-use Rattle.vm_store.specs.Facts.{StoreFacts, Torn, Counts}
+use Rattle.vm_store.specs.Facts.{StoreFacts, Counts, Torn, raised}
 use Rattle.geos_model.specs.Document.{Block}
 use Rattle.geos_model.specs.declared.fault.Fault.{Fault}
 use Rattle.file_format.specs.declared.file.Extent.{Extent}
 use Rattle.geos_model.proofs.Table.{table_map}
 use Rattle.document_file.specs.Ranges.{IsPlaced, KeepsAll, end_of}
-use Rattle.document_file.specs.Slots.{switched, FailedEarly, Failed, Outcome, CrashLeavesSlots, Outlives, AreExtentsPlaced, block_extents, stored_extents, pair_extents, prepared_extents, marked_extents}
+use Rattle.document_file.specs.Slots.{switched, FailedEarly, Failed, LeftBy, Outcome, CrashLeavesSlots, Outlives, AreExtentsPlaced, block_extents, stored_extents, pair_extents, prepared_extents, marked_extents}
 use Rattle.document_file.specs.Documents.{Documents, document_in, documents_in, attempted_in, AreImaged, AreStored, IsPreparedStored}
 use Rattle.document_file.specs.Disk.{recoverable, StandsForOne, Crash, MarkSameUnlessCorrupt, IsInDoubt, LeavesNoTrace, MayCommit}
 use Rattle.document_file.specs.Sound.{AreTables, IsFormed, IsTurning, IsWhole, IsSound, disk_of}
@@ -124,6 +124,28 @@ module _ (file : List ℕ) (slots : Slots) (pair : Pair) (was_readable : AreRead
             ]
       ]
 
+  turned_readable : AreReadable (switched slots pair) file
+  turned_readable = record {
+    versioned = was_readable.next_versioned;
+    next_versioned = was_readable.next_versioned;
+    some = omega arith;
+    in_range = range;
+    placed = turned_kept slots pair was_readable.placed placed;
+    tables = tables;
+    committed = stored;
+    prepared = tt;
+  }
+
+  -- and from any moment of a commit on
+  left_stands : (s : Slots) (c : List ℕ) → LeftBy slots pair s → Outcome s file c → StandsForOne (documents_in file pair ∷ before) c
+  left_stands s c left was =
+      let P : Slots → Type 0 = λ x. AreReadable x file in
+      let Q : Slots → Type 0 = λ x. StandsForOne (documents_in file x.committed ∷ attempted_in file x.spare) c in
+      elim left as (λ _. StandsForOne (documents_in file pair ∷ before) c) [
+        | inl failed ↦ failed_stands s c failed was
+        | inr turned ↦ elim (subst Q turned (outcome_stands s file c (subst P (sym turned) turned_readable) was)) as (λ _. StandsForOne (documents_in file pair ∷ before) c) [ inl here ↦ inl here | inr none ↦ absurd none ]
+      ]
+
   outlives_crash : (a b : StoreFacts) (Is : Slots → Type 0) (pairs : List Documents) → ((s : Slots) (c : List ℕ) → Is s → Outcome s file c → StandsForOne pairs c) → Outlives a b file Is → Crash a b pairs
   outlives_crash a b Is pairs stands_for outlives = record {
     later = outlives.later;
@@ -134,9 +156,9 @@ module _ (file : List ℕ) (slots : Slots) (pair : Pair) (was_readable : AreRead
   unfolding before
   early_crash a b outlives = outlives_crash a b (λ s. FailedEarly slots s) before early_stands outlives
 
-  pub commit_crash : (a b : StoreFacts) → Outlives a b file (λ s. Failed slots pair s) → Crash a b (documents_in file pair ∷ (documents_in file slots.committed ∷ attempted_in file slots.spare))
+  pub commit_crash : (a b : StoreFacts) → Outlives a b file (λ s. LeftBy slots pair s) → Crash a b (documents_in file pair ∷ (documents_in file slots.committed ∷ attempted_in file slots.spare))
   unfolding before
-  commit_crash a b outlives = outlives_crash a b (λ s. Failed slots pair s) (documents_in file pair ∷ before) failed_stands outlives
+  commit_crash a b outlives = outlives_crash a b (λ s. LeftBy slots pair s) (documents_in file pair ∷ before) left_stands outlives
 
 -- The slots after a commit.
 
@@ -186,7 +208,7 @@ pub record IsCommit {S : Type 0} (facts : S → StoreFacts) (a b : S) (live : Bl
   pub failures : (facts a).failures ≤ (facts b).failures
   pub now_there : IsTrue (facts b).honest → (facts b).may_leave (facts b).content
   pub elsewhere : IsTrue (facts a).honest → Torn 0 1024 (facts a).content (facts b).content
-  pub crash : IsTrue (facts a).honest → CrashLeavesSlots (facts a) slots (facts a).content → KeepsAll (pair_extents pair) (facts a).content (facts a).content → Outlives (facts a) (facts b) (facts a).content (λ s. Failed slots pair s)
+  pub crash : IsTrue (facts a).honest → CrashLeavesSlots (facts a) slots (facts a).content → KeepsAll (pair_extents pair) (facts a).content (facts a).content → Outlives (facts a) (facts b) (facts a).content (λ s. LeftBy slots pair s)
   pub leaves : IsTrue (facts a).honest → CrashLeavesSlots (facts a) slots (facts a).content → KeepsAll (pair_extents pair) (facts a).content (facts a).content → CrashLeavesSlots (facts b) now (facts a).content
 
 -- The pair is prepared, or a crash left nothing of it.
@@ -197,6 +219,11 @@ FailsEarly old pair new a b =
 pub counts_rise : {T E : Type 0} (r : Result T E) (a b : StoreFacts) → Counts r a b → a.failures ≤ b.failures
 counts_rise (Ok x) a b same = omega (arith, same)
 counts_rise (Err x) a b more = omega (arith, more)
+
+-- of a call that doesn't tell of each failure
+pub told_rise : {T E : Type 0} (r : Result T E) (a b : StoreFacts) → MatchResult r (λ _. a.failures ≤ b.failures) (λ _. b.failures ≡ raised a.failures) → a.failures ≤ b.failures
+told_rise (Ok x) a b more = more
+told_rise (Err x) a b more = omega (arith, more)
 
 module _ {S : Type 0} (facts : S → StoreFacts) (a b : S) (live : BlockTable) (slots now : Slots) (pair : Pair) (call : IsCommit facts a b live slots now pair) where
   pair_there : IsTrue (facts a).honest → KeepsAll (pair_extents pair) (facts a).content (facts a).content

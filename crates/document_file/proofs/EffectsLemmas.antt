@@ -1,6 +1,6 @@
 -- What calls that commit leave of a file, and what always holds of one.
 use Rattle.std.proofs.Common.{◌≡◌, ◌≢◌, ◌↔◌, ◌≤◌, ℕ, Bool, IsTrue, List, refl, sym, ap, subst, ◌∙◌, arith, inl, inr}
-use Rattle.std.specs.Prelude.{◌⊎◌, Some, Result, Ok, Err, IfErr, IsErrOf, MatchResult}
+use Rattle.std.specs.Prelude.{◌⊎◌, Some, Result, Ok, Err, IfErr, IsErrOf, OnOk, MatchResult}
 use Rattle.std.proofs.lemmas.Result.{IfErr-weaker}
 use Rattle.std.specs.Option.{option_map}
 use Rattle.std.specs.Result.{IsErrAnd}
@@ -13,7 +13,7 @@ use Rattle.file_format.specs.Reading.{IsReadRefusal, IsResourceFault, OnlyReadsS
 use Rattle.document_file.specs.Calls.{last_sequence}
 use Rattle.document_file.specs.Documents.{Documents, blocks_in, document_in, IsStored}
 use Rattle.document_file.specs.Disk.{Disk, FileState, IsCrashConsistent, HasSequence, SameUnlessCorrupt, KeepsCommitted, MayCommit}
-use Rattle.document_file.specs.Effects.{IsFile, IsNewFile, OnlyReads, IsCommit, Fails, NoFault, IsDamage}
+use Rattle.document_file.specs.Effects.{IsFile, HasCommitVersion, IsNewFile, OnlyReads, IsCommit, Fails, NoFault, IsDamage}
 use Rattle.document_file.specs.Making.{IsOne}
 use Rattle.document_file.specs.Sums.{has_sums, version_for}
 use Rattle.document_file.proofs.SumsLemmas.{for_sums}
@@ -43,6 +43,7 @@ module _ {S : Type 0} (facts : S → StoreFacts) where
   refused a pair d fault crash_consistent worn = record {
     commits = MayCommit-refused facts a.disk pair fault crash_consistent;
     content = tt;
+    version = tt;
     document = SameUnlessCorrupt-refl _ _;
     passes = λ _. KeepsCommitted-refl facts a.disk;
     worn = (λ is. worn.0 (cc is), λ last. cc (worn.1 last));
@@ -56,19 +57,21 @@ module _ {S : Type 0} (facts : S → StoreFacts) where
 
   -- one that only the store can refuse
   pub tried : ((store : S) → IsTrue (facts store).honest → IsTimely (facts store)) → (a b : FileState S) (pair : Documents) (d : Document) (result : Result (Unit {0}) Fault) → MayCommit facts pair a.disk b.disk result
-      → MatchResult result (λ _. SameUnlessCorrupt (facts a.disk.store).honest d b.document) (λ _. SameUnlessCorrupt (facts a.disk.store).honest a.document b.document)
+      → OnOk result (HasCommitVersion facts b.disk) → MatchResult result (λ _. SameUnlessCorrupt (facts a.disk.store).honest d b.document) (λ _. SameUnlessCorrupt (facts a.disk.store).honest a.document b.document)
       → IfErr result (λ fault. fault ≡ File) → a.disk.sequence ≢ last_sequence → IsCommit facts pair d a b result
-  tried timely a b pair d (Ok x) commits document by fresh = record {
+  tried timely a b pair d (Ok x) commits version document by fresh = record {
     commits = commits;
     content = committed_content facts timely pair a.disk b.disk (Ok x) commits;
+    version = version;
     document = document;
     passes = tt;
     worn = (λ is. absurd (cc is), λ last. absurd (fresh last));
     early = λ is. absurd (cc is);
   }
-  tried timely a b pair d (Err fault) commits document by fresh = record {
+  tried timely a b pair d (Err fault) commits version document by fresh = record {
     commits = commits;
     content = tt;
+    version = tt;
     document = document;
     passes = λ other. absurd (other by);
     worn = (λ is. absurd (cc (is, by)), λ last. absurd (fresh last));
@@ -124,6 +127,7 @@ module _ {S : Type 0} (facts : S → StoreFacts) (timely : (store : S) → IsTru
   uncommitted a b pair d behind fault passes crash_consistent fresh unworn = record {
     commits = KeepsCommitted-fails facts a.disk b.disk pair fault passes (settled_after a.disk b.disk passes crash_consistent);
     content = tt;
+    version = tt;
     document = SameUnlessCorrupt-refl _ d;
     passes = λ _. passes;
     worn = (λ is. absurd (unworn (cc is)), λ last. absurd (fresh last));
@@ -140,6 +144,7 @@ module _ {S : Type 0} (facts : S → StoreFacts) (timely : (store : S) → IsTru
       record {
         commits = KeepsCommitted-MayCommit facts a.disk b.disk c.disk meant pair result passes same commit.commits;
         content = commit.content;
+        version = commit.version;
         document = document;
         passes = IfErr-weaker result _ _ (λ fault keeps other. KeepsCommitted-trans facts a.disk b.disk c.disk passes (keeps other)) commit.passes;
         worn = (λ is. absurd (unworn is), λ last. absurd (fresh last));

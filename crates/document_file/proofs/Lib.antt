@@ -34,5 +34,6 @@ pub mod StoredDocumentsLemmas
 pub mod TableChangeLemmas
 pub mod TableDirectoryLemmas
 pub mod TableLemmas
+pub mod TurnedLemmas
 pub mod TurningLemmas
 pub mod WritingLemmas

@@ -1,13 +1,13 @@
 -- What torn bytes leave of the slots, and how one state of them becomes the next.
 use Rattle.std.proofs.Common.{◌≡◌, ◌≢◌, ◌⊎◌, ℕ, ◌+◌, ◌*◌, ◌<◌, ◌≤◌, true, false, not, List, [], ◌∷◌, ◌++◌, All, length, refl, sym, ap, subst, ◌∙◌, arith, inl, inr}
-use Rattle.std.specs.Prelude.{if◌then◌else◌}
+use Rattle.std.specs.Prelude.{if◌then◌else◌, IsTrue, OnOk, Result, Ok, Err}
 use Rattle.std.proofs.lemmas.List.Elements.{All-nil}
 use Rattle.byteorder.specs.Endian.{little_bytes}
 use Rattle.byteorder.specs.Numbers.{length-bytes_low_first}
-use Rattle.vm_store.specs.Facts.{byte, Torn, Holds, StoreFacts, IsDurable, IsUnchanged}
+use Rattle.vm_store.specs.Facts.{byte, Torn, Holds, Counts, FailedSince, StoreFacts, IsDurable, IsUnchanged}
 use Rattle.file_format.specs.File.{slot_mark, extent_text, slot_sums_text}
 use Rattle.document_file.specs.Ranges.{start_of, end_of, IsPlaced, KeepsExtent, KeepsAll, IsOut, IsClear}
-use Rattle.document_file.specs.Slots.{pair_extents, prepared_extents, referenced_extents, counting_of, spare_of, switched, Failed, gate_text, behind_gate, sums_of, unsummed_slot, LeadsTo, IsUnmarked, IsOlder, IsBeside, Outcome, AreExtentsPlaced, IsBesideOut, Spares, FailedEarly, CrashLeavesSlots, Outlives}
+use Rattle.document_file.specs.Slots.{pair_extents, prepared_extents, referenced_extents, counting_of, spare_of, switched, Failed, LeftBy, gate_text, behind_gate, sums_of, unsummed_slot, LeadsTo, IsUnmarked, IsOlder, IsBeside, Outcome, AreExtentsPlaced, IsBesideOut, Spares, FailedEarly, CrashLeavesSlots, Outlives, IsShutBehind}
 use Rattle.document_file.proofs.SumsLemmas.{behind_few}
 use Rattle.document_file.specs.declared.table.Pair.{Pair}
 use Rattle.document_file.specs.declared.slot.SpareSlot.{SpareSlot}
@@ -324,3 +324,22 @@ module _ (slots now : Slots) (pair : Pair) (file : List ℕ) (a b : StoreFacts) 
 
   pub as_prepared : now ≡ record slots { spare = Shut } → Outlives a b file (λ s. s ≡ record now { spare = Prepared pair }) → Outlives a b file (λ s. Failed slots pair s)
   as_prepared shut p = Outlives-more a b file (λ s. s ≡ record now { spare = Prepared pair }) (λ s. Failed slots pair s) (λ s is. inr (is ∙ ap (λ (o : Slots). record o { spare = Prepared pair }) shut)) p
+
+  pub as_turned : now ≡ switched slots pair → Outlives a b file (λ s. s ≡ now) → Outlives a b file (λ s. LeftBy slots pair s)
+  as_turned turned p = Outlives-more a b file (λ s. s ≡ now) (λ s. LeftBy slots pair s) (λ s is. inr (is ∙ turned)) p
+
+pub as_left : (slots : Slots) (pair : Pair) (file : List ℕ) (a b : StoreFacts) → Outlives a b file (λ s. Failed slots pair s) → Outlives a b file (λ s. LeftBy slots pair s)
+as_left slots pair file a b p = Outlives-more a b file (λ s. Failed slots pair s) (λ s. LeftBy slots pair s) (λ s is. inl is) p
+
+-- what comes before a commit leaves its slot as it is
+pub shut_after : {T E : Type 0} (r : Result T E) (a b c : StoreFacts) (old new : Slots) → b.honest ≡ a.honest → a.failures ≤ b.failures → OnOk r (IsShutBehind b c old new) → OnOk r (IsShutBehind a c old new)
+shut_after (Ok x) a b c old new same first shut = λ gives holds.
+    elim (shut gives (subst IsTrue (sym same) holds)) as (λ _. FailedSince a c ⊎ (byte c.content (512 * spare_of new + 4) ≡ 0)) [ inl failed ↦ inl (omega (arith, first, failed)) | inr is ↦ inr is ]
+shut_after (Err x) a b c old new same first shut = tt
+
+-- the gate of the slot that counted before, where its shutting was tried
+pub shut_tried : {T E : Type 0} (r : Result T E) (a b : StoreFacts) (slots : Slots) (at : ℕ) → at ≡ 512 * spare_of slots + 4 → Counts r a b → OnOk r (IsTrue a.honest → Holds b.content at (0 ∷ [])) → IsTrue a.honest → FailedSince a b ⊎ (byte b.content (512 * spare_of slots + 4) ≡ 0)
+shut_tried (Ok x) a b slots at is counts holds so =
+    let here : at ≡ at + 0 = omega arith in
+    inr (sym (ap (byte b.content) is) ∙ ap (byte b.content) here ∙ (holds so).each 0 (omega arith))
+shut_tried (Err x) a b slots at is counts holds so = inl (omega (arith, counts))

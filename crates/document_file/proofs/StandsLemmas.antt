@@ -25,7 +25,7 @@ use Rattle.document_file.specs.Ranges.{IsPlaced, KeepsExtent, KeepsAll}
 use Rattle.document_file.specs.Sums.{AreSummed, IsSummed, has_sums}
 use Rattle.document_file.proofs.SumsLemmas.{sum_for-has, sum_for-fits, sums_sealed, sums_fit, sums_working, sums_saved, behind_few, next_is}
 use Rattle.file_format.specs.Slots.{IsVersion}
-use Rattle.document_file.specs.Slots.{gate_text, behind_gate, slot_value, unsummed_slot, LeadsTo, IsBeside, IsUnmarked, IsOlder, Outcome, block_extents, stored_extents, pair_extents, prepared_extents, switched, AreExtentsPlaced}
+use Rattle.document_file.specs.Slots.{gate_text, behind_gate, slot_value, unsummed_slot, LeadsTo, IsBeside, IsUnmarked, IsOlder, Outcome, block_extents, stored_extents, pair_extents, prepared_extents, AreExtentsPlaced}
 use Rattle.document_file.specs.Documents.{blocks_in, document_in, documents_in, attempted_in, entries_of, directory_of_table, IsImaged, AreImaged, IsStored, AreStored, IsPreparedStored, sequence_of, sequence_in, version_of, version_in}
 use Rattle.document_file.specs.Disk.{StandsForOne, IsCrashConsistent, HasSequence}
 use Rattle.file_format.specs.Slots.{Beaten}
@@ -367,9 +367,3 @@ sound_counted facts store live slots timely sound honest none =
 pub sound_versioned : {S : Type 0} (facts : S → StoreFacts) (store : S) (live : BlockTable) (slots : Slots) → (IsTrue (facts store).honest → IsTimely (facts store)) → IsSound (facts store) live slots
     → attempted_in (facts store).content slots.spare ≡ [] → IsTrue (facts store).honest → version_in (facts store).content ≡ Some slots.version
 sound_versioned facts store live slots timely sound none honest = ap version_of (sound_counted facts store live slots timely sound honest none)
-
--- after a commit that was acknowledged
-pub turned_versioned : {S : Type 0} (facts : S → StoreFacts) (store : S) (live : BlockTable) (old : Slots) (pair : Pair) (slots : Slots) → (IsTrue (facts store).honest → IsTimely (facts store)) → IsSound (facts store) live slots
-    → slots ≡ switched old pair → IsTrue (facts store).honest → version_in (facts store).content ≡ Some old.next_version
-turned_versioned facts store live old pair slots timely sound is honest =
-    sound_versioned facts store live slots timely sound (ap (λ (s : Slots). attempted_in (facts store).content s.spare) is) honest ∙ ap (λ (s : Slots). Some s.version) is

@@ -1,6 +1,6 @@
 -- What a call leaves of a file, and why it is refused: each layer from the file up to the session says it in these
 -- words.
-use Rattle.std.specs.Prelude.{◌≡◌, ◌≢◌, ◌⊎◌, ◌↔◌, ◌≤◌, Bool, IsTrue, [], None, Some, Result, OnOk, IfErr, IsErrOf, MatchResult}
+use Rattle.std.specs.Prelude.{◌≡◌, ◌≢◌, ◌⊎◌, ◌↔◌, ◌≤◌, Bool, true, false, IsTrue, [], None, Some, Result, OnOk, IfErr, IsErrOf, MatchResult}
 use Rattle.vm_store.specs.Facts.{StoreFacts, FailedSince, IsUnchanged}
 use Rattle.geos_model.specs.Document.{Document, IsValid}
 use Rattle.geos_model.specs.declared.fault.Fault.{Fault}
@@ -8,7 +8,8 @@ use Rattle.geos_model.specs.declared.fault.Fault.TheVariants.{File, Damaged, Wor
 use Rattle.file_format.specs.Reading.{IsResourceFault}
 use Rattle.document_file.specs.Calls.{last_sequence}
 use Rattle.document_file.specs.Disk.{Disk, FileState, SameUnlessCorrupt, IsFileDocument, KeepsCommitted, MayCommit, IsCrashConsistent, HasSequence, ContentStands}
-use Rattle.document_file.specs.Documents.{Documents, version_in}
+use Rattle.document_file.specs.Documents.{Documents, has_checksums, version_in}
+use Rattle.file_format.specs.File.{open_slot}
 use Rattle.document_file.specs.Sums.{version_for}
 
 -- What always holds of a file. Over an honest store a crash now leaves what may be read, the updated and the saved
@@ -28,6 +29,20 @@ pub record SameStore {S : Type 0} (facts : S → StoreFacts) (given now : S) : T
   pub honest : (facts now).honest ≡ (facts given).honest
   pub failures : (facts given).failures ≤ (facts now).failures
 
+-- the content of an honest store is a file of the version that commits write
+abbrev pub HasCommitVersion : {S : Type 0} → (S → StoreFacts) → Disk S → Type 0
+HasCommitVersion facts disk =
+    IsTrue (facts disk.store).honest → version_in (facts disk.store).content ≡ Some (version_for disk.checksums)
+
+-- Where a commit gave a file its sums, one slot alone is open, or the store failed meanwhile: what the other one leads
+-- to has none, so nothing would tell once its pages are written over.
+abbrev pub IsTurned : {S : Type 0} → (S → StoreFacts) → Disk S → Disk S → Type 0
+IsTurned facts old new =
+    IsTrue (facts old.store).honest → old.in_doubt ≡ [] → old.checksums ≡ true
+    → has_checksums (facts old.store).content ≡ false
+    → FailedSince (facts old.store) (facts new.store)
+    ⊎ ((open_slot (facts new.store).content 0 ≡ None) ⊎ (open_slot (facts new.store).content 1 ≡ None))
+
 -- The file was just made of a document, which is the updated and the saved one, under the first number.
 pub record IsNewFile {S : Type 0} (facts : S → StoreFacts) (d : Document) (disk : Disk S) : Type 0 where
   pub updated : disk.updated ≡ d
@@ -38,8 +53,7 @@ pub record IsNewFile {S : Type 0} (facts : S → StoreFacts) (d : Document) (dis
   pub numbered : IsTrue (facts disk.store).honest → HasSequence (facts disk.store) 1
   pub crash_consistent : IsCrashConsistent facts disk
   pub content : ContentStands facts disk
-  pub version : IsTrue (facts disk.store).honest
-      → version_in (facts disk.store).content ≡ Some (version_for disk.checksums)
+  pub version : HasCommitVersion facts disk
 
 -- A call that only reads: nothing is written, nothing is committed, and the document stays as far as the store gives
 -- back what it has.
@@ -60,6 +74,7 @@ pub record IsCommit {S : Type 0} (facts : S → StoreFacts) (pair : Documents) (
     (result : Result (Unit {0}) Fault) : Type 0 where
   pub commits : MayCommit facts pair old.disk new.disk result
   pub content : OnOk result (ContentStands facts new.disk)
+  pub version : OnOk result (HasCommitVersion facts new.disk)
   pub document : MatchResult result (λ _. SameUnlessCorrupt (facts old.disk.store).honest d new.document)
       (λ _. SameUnlessCorrupt (facts old.disk.store).honest old.document new.document)
   pub passes : IfErr result (λ fault. fault ≢ File → KeepsCommitted facts old.disk new.disk)

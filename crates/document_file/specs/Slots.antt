@@ -1,13 +1,14 @@
 -- What a crash leaves of the two slots, and of what they lead to.
-use Rattle.std.specs.Prelude.{◌≡◌, ◌≢◌, ◌⊎◌, ℕ, ◌+◌, ◌*◌, ◌<◌, ◌≤◌, List, [], ◌∷◌, ◌++◌, All, Option, None, Some, length, not, if◌then◌else◌}
+use Rattle.std.specs.Prelude.{IsTrue, true, false, ◌≡◌, ◌≢◌, ◌⊎◌, ℕ, ◌+◌, ◌*◌, ◌<◌, ◌≤◌, List, [], ◌∷◌, ◌++◌, All, Option, None, Some, length, not, if◌then◌else◌}
 use Rattle.byteorder.specs.Endian.{little_bytes}
-use Rattle.vm_store.specs.Facts.{StoreFacts, byte, Holds}
+use Rattle.vm_store.specs.Facts.{StoreFacts, FailedSince, byte, Holds}
 use Rattle.file_format.specs.declared.file.Extent.{Extent}
 use Rattle.file_format.specs.File.{slot_mark, extent_text, sealed_text, slot_sums_text}
 use Rattle.document_file.specs.Ranges.{IsPlaced, KeepsAll, IsOut, IsClear}
 use Rattle.checksum.specs.Crc32c.{crc32c}
 use Rattle.file_format.specs.declared.file.SlotSums.{SlotSums}
 use Rattle.file_format.specs.declared.file.Slot.{Slot}
+use Rattle.document_file.specs.Sums.{has_sums}
 use Rattle.document_file.specs.declared.table.Place.{Place}
 use Rattle.document_file.specs.declared.table.BlockTable.{BlockTable}
 use Rattle.document_file.specs.declared.table.DocumentRef.{DocumentRef}
@@ -67,6 +68,16 @@ switched slots pair =
       saved_sums = None;
     }
 
+-- commits write sums, and the slot that counts has none
+abbrev pub GivesSums : Slots → Type 0
+GivesSums slots = (has_sums slots.next_version ≡ true) × (has_sums slots.version ≡ false)
+
+-- Where a commit gives a file sums, the slot that counted before is shut, or the store failed meanwhile.
+abbrev pub IsShutBehind : StoreFacts → StoreFacts → Slots → Slots → Type 0
+IsShutBehind before after old new =
+    GivesSums old → IsTrue before.honest
+    → FailedSince before after ⊎ (byte after.content (512 * spare_of new + 4) ≡ 0)
+
 -- what a commit that failed before its last step may leave of the slots
 abbrev pub FailedEarly : Slots → Slots → Type 0
 FailedEarly old new = (new ≡ old) ⊎ (new ≡ record old { spare = Shut })
@@ -74,6 +85,10 @@ FailedEarly old new = (new ≡ old) ⊎ (new ≡ record old { spare = Shut })
 -- and one that failed in any
 abbrev pub Failed : Slots → Pair → Slots → Type 0
 Failed old pair new = FailedEarly old new ⊎ (new ≡ record old { spare = Prepared pair })
+
+-- and any commit, acknowledged or not
+abbrev pub LeftBy : Slots → Pair → Slots → Type 0
+LeftBy old pair new = Failed old pair new ⊎ (new ≡ switched old pair)
 
 -- what stands behind the gate of a slot before its sums: version, two zeros, sequence number, the directories of the
 -- updated and the saved document

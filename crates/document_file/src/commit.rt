@@ -1,13 +1,13 @@
 //! Commits: the steps through the slots, and what they make of the documents.
-ghost use Rattle.std.specs.Prelude.{if◌then◌else◌, IfOk, ◌≡◌, ◌⊎◌, ◌+◌, ◌∷◌, [], ◌*◌, ◌<◌, ℕ, List, All, IsTrue, OnOk, OnErr, MatchResult, length, IfErr, IsErrOf};
-ghost use Rattle.vm_store.specs.Facts.{raised, IsDurable, Torn, Holds, Counts, FailedSince};
+ghost use Rattle.std.specs.Prelude.{if◌then◌else◌, IfOk, ◌≡◌, ◌≤◌, ◌↔◌, ◌⊎◌, ◌+◌, ◌∷◌, [], ◌*◌, ◌<◌, ℕ, List, All, IsTrue, OnOk, OnErr, MatchResult, length, IfErr, IsErrOf};
+ghost use Rattle.vm_store.specs.Facts.{byte, raised, IsDurable, Torn, Holds, Counts, FailedSince};
 ghost use Rattle.file_format.specs.File.{slot_mark};
 ghost use Rattle.document_file.specs.Ranges.{start_of, IsClear, IsPlaced, KeepsAll};
 ghost use Rattle.document_file.specs.Calls.{last_sequence};
 ghost use Rattle.document_file.specs.Sound.{AreTables, IsBlockTable, IsFormed, IsWhole, IsSound, disk_of};
 ghost use Rattle.document_file.specs.Documents.{document_in, documents_in, AreStored, IsStored};
 ghost use Rattle.vm_store.specs.Laws.{Tears};
-ghost use Rattle.document_file.specs.Slots.{behind_gate, pair_extents, stored_extents, spare_of, switched, AreExtentsPlaced, CrashLeavesSlots, Outlives, FailedEarly, Failed};
+ghost use Rattle.document_file.specs.Slots.{behind_gate, pair_extents, stored_extents, spare_of, switched, AreExtentsPlaced, CrashLeavesSlots, Outlives, FailedEarly, Failed, LeftBy, GivesSums, IsShutBehind};
 ghost use Rattle.document_file.specs.Disk.{MayCommit};
 ghost use Rattle.document_file.specs.PendingDirectories.{IsPendingDirectory, IsSavedAnew, IsSpared};
 ghost use Rattle.document_file.specs.Copies.{IsSameStored};
@@ -15,6 +15,7 @@ ghost use Rattle.document_file.specs.Sums.{has_sums};
 
 use crate::directory::{PendingDirectory, write_pending, write_saved};
 use crate::slot::{Slots, SpareSlot, behind_gate, is_shut, slot_bytes, spare_gate, spare_slot};
+use crate::sums::has_sums;
 use crate::table::{BlockTable, DocumentRef, Pair, share};
 use file_format::SLOT_MARK;
 use geos_model::Fault;
@@ -135,9 +136,43 @@ fn open_gate<S: Store>(store: &mut S, slots: &mut Slots, pair: Pair) -> Result<(
     }
 }
 
+// Whether commits write sums and the slot that counts has none.
+fn gives_sums(slots: &Slots) -> bool
+    ensures { IsTrue result ↔ GivesSums slots.now }
+{
+    has_sums(slots.next_version) && !has_sums(slots.version)
+}
+
+// Shuts the gate of the slot that counted before. What it leads to has no sums, and once its pages are written over
+// nothing else would tell. The commit is acknowledged: where the store fails here nothing is refused, and the next
+// commit shuts that gate.
+fn shut_stale<S: Store>(store: &mut S, slots: &Slots)
+    // Asked of the caller.
+    requires stale { slots.now.spare ≡ SpareSlot.Stale }
+    requires kept { AreExtentsPlaced slots.now }
+    // The store.
+    ensures honest { (S.facts store.new).honest ≡ (S.facts store.old).honest }
+    ensures failures { (S.facts store.old).failures ≤ (S.facts store.new).failures }
+    // The gate.
+    ensures shut { IsTrue (S.facts store.old).honest → FailedSince (S.facts store.old) (S.facts store.new)
+        ⊎ (byte (S.facts store.new).content (512 * spare_of slots.now + 4) ≡ 0) }
+    // Crashes.
+    ensures elsewhere { IsTrue (S.facts store.old).honest
+        → Torn 0 1024 (S.facts store.old).content (S.facts store.new).content }
+    ensures crash { (file : List ℕ) → IsTrue (S.facts store.old).honest
+        → CrashLeavesSlots (S.facts store.old) slots.now file
+        → Outlives (S.facts store.old) (S.facts store.new) file (λ s. s ≡ slots.now) }
+    ensures leaves { (file : List ℕ) → IsTrue (S.facts store.old).honest
+        → CrashLeavesSlots (S.facts store.old) slots.now file
+        → CrashLeavesSlots (S.facts store.new) slots.now file }
+{
+    let _ = write_through(store, spare_gate(slots), &[0]);
+}
+
 // Makes the slots lead to a pair whose directories and images lie in the file: the other slot is shut where it may be
-// open, filled, and opened, each with a sync. On an error the slot that counts is the same, and so is what it leads to.
-// Where only the last step failed, the pair may be found after a crash, and `slots` holds it.
+// open, filled, and opened, each with a sync; where this gives the file sums, the slot that counted before is shut. On
+// an error the slot that counts is the same, and so is what it leads to. Where only the last step failed, the pair may
+// be found after a crash, and `slots` holds it.
 fn commit_slots<S: Store>(store: &mut S, slots: &mut Slots, pair: Pair) -> Result<(), StoreFault>
     // Asked of the caller.
     requires sequence { slots.old.sequence < last_sequence }
@@ -145,7 +180,8 @@ fn commit_slots<S: Store>(store: &mut S, slots: &mut Slots, pair: Pair) -> Resul
     requires placed { All IsPlaced (pair_extents pair) }
     // The store.
     ensures honest { (S.facts store.new).honest ≡ (S.facts store.old).honest }
-    ensures failures { Counts result (S.facts store.old) (S.facts store.new) }
+    ensures failures { MatchResult result (λ _. (S.facts store.old).failures ≤ (S.facts store.new).failures)
+        (λ _. (S.facts store.new).failures ≡ raised (S.facts store.old).failures) }
     // What is known of the slots.
     ensures ok { OnOk result (slots.new ≡ switched slots.old pair) }
     ensures err { OnErr result (Failed slots.old pair slots.new) }
@@ -153,6 +189,8 @@ fn commit_slots<S: Store>(store: &mut S, slots: &mut Slots, pair: Pair) -> Resul
     ensures early { OnErr result ((slots.new ≡ record slots.old { spare = SpareSlot.Prepared pair })
         ⊎ ((file : List ℕ) → IsTrue (S.facts store.old).honest → CrashLeavesSlots (S.facts store.old) slots.old file
         → Outlives (S.facts store.old) (S.facts store.new) file (λ s. FailedEarly slots.old s))) }
+    // The slot that counted before.
+    ensures shut { OnOk result (IsShutBehind (S.facts store.old) (S.facts store.new) slots.old slots.new) }
     // Crashes.
     ensures elsewhere { IsTrue (S.facts store.old).honest
         → Torn 0 1024 (S.facts store.old).content (S.facts store.new).content }
@@ -160,15 +198,20 @@ fn commit_slots<S: Store>(store: &mut S, slots: &mut Slots, pair: Pair) -> Resul
     ensures crash { (file : List ℕ) → IsTrue (S.facts store.old).honest
         → CrashLeavesSlots (S.facts store.old) slots.old file
         → KeepsAll (pair_extents pair) file (S.facts store.old).content
-        → Outlives (S.facts store.old) (S.facts store.new) file (λ s. Failed slots.old pair s) }
+        → Outlives (S.facts store.old) (S.facts store.new) file (λ s. LeftBy slots.old pair s) }
     ensures leaves { (file : List ℕ) → IsTrue (S.facts store.old).honest
         → CrashLeavesSlots (S.facts store.old) slots.old file
         → KeepsAll (pair_extents pair) file (S.facts store.old).content
         → CrashLeavesSlots (S.facts store.new) slots.new file }
 {
+    let gives_sums = gives_sums(slots);
     shut_gate(store, slots)?;
     fill_slot(store, slots, &pair)?;
-    open_gate(store, slots, pair)
+    open_gate(store, slots, pair)?;
+    if gives_sums {
+        shut_stale(store, slots);
+    }
+    Ok(())
 }
 
 /// Commits a pair of documents that lie in the file. The live document stays. File.
@@ -194,6 +237,7 @@ pub fn commit_pair<S: Store>(
         → document_in (S.facts store.new).content live.now ≡ document_in (S.facts store.old).content live.now }
     // Where it is acknowledged.
     ensures switched { OnOk result (slots.new ≡ switched slots.old pair) }
+    ensures shut { OnOk result (IsShutBehind (S.facts store.old) (S.facts store.new) slots.old slots.new) }
     // Refusals.
     ensures file { IsErrOf result Fault.File → FailedSince (S.facts store.old) (S.facts store.new) }
     ensures refusals { IfErr result (λ fault. fault ≡ Fault.File) }
@@ -243,6 +287,7 @@ pub fn commit_pending<S: Store>(
     // Where it is acknowledged.
     ensures switched { OnOk result
         (slots.new ≡ switched slots.old (record { updated = pending.document; saved = saved })) }
+    ensures shut { OnOk result (IsShutBehind (S.facts store.old) (S.facts store.new) slots.old slots.new) }
     // Refusals.
     ensures file { IsErrOf result Fault.File → FailedSince (S.facts store.old) (S.facts store.new) }
     ensures refusals { IfErr result (λ fault. fault ≡ Fault.File) }
@@ -284,6 +329,7 @@ fn commit_beside<S: Store>(
     // Where it is acknowledged.
     ensures switched { OnOk result
         (slots.new ≡ switched slots.old (record { updated = pending.document; saved = saved })) }
+    ensures shut { OnOk result (IsShutBehind (S.facts store.old) (S.facts store.new) slots.old slots.new) }
     // Refusals.
     ensures file { IsErrOf result Fault.File → FailedSince (S.facts store.old) (S.facts store.new) }
     ensures refusals { IfErr result (λ fault. fault ≡ Fault.File) }
@@ -324,6 +370,7 @@ pub fn commit_summed<S: Store>(
     // Where it is acknowledged.
     ensures switched { OnOk result
         (slots.new ≡ switched slots.old (record { updated = pending.document; saved = saved.document })) }
+    ensures shut { OnOk result (IsShutBehind (S.facts store.old) (S.facts store.new) slots.old slots.new) }
     // Refusals.
     ensures file { IsErrOf result Fault.File → FailedSince (S.facts store.old) (S.facts store.new) }
     ensures refusals { IfErr result (λ fault. fault ≡ Fault.File) }

@@ -9,9 +9,8 @@ ghost use Rattle.geos_model.specs.declared.command.Body.TheVariants as bodies;
 ghost use Rattle.geos_model.specs.Reply.{found};
 ghost use Rattle.file_format.specs.File.{bytes_in, directory_text, open_slot, stands};
 ghost use Rattle.document_file.specs.Disk.{FileState, ContentStands, SameUnlessCorrupt, KeepsCommitted, IsCrashConsistent, HasSequence, unmarked};
-ghost use Rattle.document_file.specs.Effects.{IsFile, IsNewFile, SameStore, OnlyReads, LeavesDocument, IsCommit, Fails, NoFault, IsDamage, IsWorn};
-ghost use Rattle.document_file.specs.Documents.{has_checksums, has_one_directory, sequence_in, version_in};
-ghost use Rattle.document_file.specs.Sums.{version_for};
+ghost use Rattle.document_file.specs.Effects.{IsFile, IsNewFile, IsTurned, SameStore, OnlyReads, LeavesDocument, IsCommit, Fails, NoFault, IsDamage, IsWorn};
+ghost use Rattle.document_file.specs.Documents.{has_checksums, has_one_directory, sequence_in};
 ghost use Rattle.document_file.specs.Making.{first_directory, first_file, first_open, no_blocks};
 ghost use Rattle.file_format.specs.Reading.{IsResourceFault, IsOpenRefusal};
 ghost use Rattle.document_file.specs.Calls.{IsPut, put_all, remove_all, IsImageLength, last_sequence};
@@ -384,8 +383,7 @@ impl<S: Store> VmFile<S> {
     pub fn commit_update(&mut self) -> Result<(), Fault>
         ensures commit { IsCommit S.facts (self.old.document, self.old.disk.saved) self.old.document
             self.old self.new result }
-        ensures version { OnOk result (IsTrue (S.facts self.old.disk.store).honest
-            → version_in (S.facts self.new.disk.store).content ≡ Some (version_for self.old.disk.checksums)) }
+        ensures turned { OnOk result (IsTurned S.facts self.old.disk self.new.disk) }
         ensures early { IfErr result (λ fault. fault ≢ Fault.File → self.new ≡ self.old) }
         ensures fails { Fails S.facts IsWorn self.old.disk.store self.new.disk.store result }
     {
@@ -396,8 +394,7 @@ impl<S: Store> VmFile<S> {
     pub fn commit_save(&mut self) -> Result<(), Fault>
         ensures commit { IsCommit S.facts (self.old.document, self.old.document) self.old.document
             self.old self.new result }
-        ensures version { OnOk result (IsTrue (S.facts self.old.disk.store).honest
-            → version_in (S.facts self.new.disk.store).content ≡ Some (version_for self.old.disk.checksums)) }
+        ensures turned { OnOk result (IsTurned S.facts self.old.disk self.new.disk) }
         ensures early { IfErr result (λ fault. fault ≢ Fault.File → self.new ≡ self.old) }
         ensures fails { Fails S.facts IsWorn self.old.disk.store self.new.disk.store result }
     {
@@ -408,8 +405,7 @@ impl<S: Store> VmFile<S> {
     fn commit_live(&mut self, saves: bool) -> Result<(), Fault>
         ensures commit { IsCommit S.facts (self.old.document, if saves then self.old.document else self.old.disk.saved)
             self.old.document self.old self.new result }
-        ensures version { OnOk result (IsTrue (S.facts self.old.disk.store).honest
-            → version_in (S.facts self.new.disk.store).content ≡ Some (version_for self.old.disk.checksums)) }
+        ensures turned { OnOk result (IsTurned S.facts self.old.disk self.new.disk) }
         ensures early { IfErr result (λ fault. fault ≢ Fault.File → self.new ≡ self.old) }
         ensures fails { Fails S.facts IsWorn self.old.disk.store self.new.disk.store result }
     {
@@ -436,8 +432,7 @@ impl<S: Store> VmFile<S> {
     pub fn commit_revert(&mut self) -> Result<(), Fault>
         ensures commit { IsCommit S.facts (self.old.disk.saved, self.old.disk.saved) self.old.disk.saved
             self.old self.new result }
-        ensures version { OnOk result (IsTrue (S.facts self.old.disk.store).honest
-            → version_in (S.facts self.new.disk.store).content ≡ Some (version_for self.old.disk.checksums)) }
+        ensures turned { OnOk result (IsTurned S.facts self.old.disk self.new.disk) }
         ensures early { IfErr result (λ fault. fault ≢ Fault.File → self.new ≡ self.old) }
         ensures fails { Fails S.facts IsWorn self.old.disk.store self.new.disk.store result }
     {

@@ -26,6 +26,7 @@ module _ {S : Type 0} (facts : S → StoreFacts) where
   refused_under a b pair d es fault kept commit = record {
     commits = commit.commits;
     content = tt;
+    version = tt;
     document = overlay_drifts _ es a.document b.document commit.document kept;
     passes = commit.passes;
     worn = commit.worn;
@@ -37,6 +38,7 @@ module _ {S : Type 0} (facts : S → StoreFacts) where
   accepted_bare a b pair d es commit = record {
     commits = commit.commits;
     content = commit.content;
+    version = commit.version;
     document = commit.document;
     passes = tt;
     worn = commit.worn;
@@ -50,6 +52,7 @@ module _ {S : Type 0} (facts : S → StoreFacts) where
     not_committed a b es fs pair behind fault moves crash_consistent fresh unworn = record {
       commits = KeepsCommitted-fails facts a.disk b.disk pair fault moves.passes (settled_after facts timely a.disk b.disk moves.passes crash_consistent);
       content = tt;
+      version = tt;
       document = moves.unless_corrupt;
       passes = λ _. moves.passes;
       worn = (λ is. absurd (unworn (cc is)), λ last. absurd (fresh last));

@@ -1,6 +1,6 @@
 use Rattle.std.proofs.Common.{arith}
 use Rattle.std.proofs.lemmas.Result.{err_from_is_err_and}
-use Rattle.document_file.proofs.CommitLemmas.{IsCommit, counts_rise, ok_commits, ok_sound, ok_live, err_commits, err_sound, err_live}
+use Rattle.document_file.proofs.CommitLemmas.{IsCommit, told_rise, ok_commits, ok_sound, ok_live, err_commits, err_sound, err_live}
 use Rattle.geos_model.specs.declared.fault.Fault.TheVariants.{File}
 use Rattle.document_file.proofs.commit.commit_pair.Given.{Over}
 use Rattle.document_file.proofs.commit.commit_pair.Goals.{After-commit_slots}
@@ -15,7 +15,7 @@ called g c = record {
   whole = c.requires.whole;
   stored = c.requires.stored;
   honest = c.commit_slots.ensures.honest;
-  failures = counts_rise c.commit_slots.result (g.S.Store.facts c.args.store.now) (g.S.Store.facts c.commit_slots.new.store) c.commit_slots.ensures.failures;
+  failures = told_rise c.commit_slots.result (g.S.Store.facts c.args.store.now) (g.S.Store.facts c.commit_slots.new.store) c.commit_slots.ensures.failures;
   now_there = λ so. (g.met.S.Store.timely c.commit_slots.new.store so).now;
   elsewhere = c.commit_slots.ensures.elsewhere;
   crash = λ so was there. c.commit_slots.ensures.crash (g.S.Store.facts c.args.store.now).content so was there;

@@ -3,6 +3,7 @@ use Rattle.std.proofs.lemmas.Result.{err_from_is_err_and}
 use Rattle.document_file.proofs.PendingDirectoryLemmas.{both_placed, both_tables, both_stored, both_documents}
 use Rattle.document_file.proofs.PassingLemmas.{KeepsCommitted-fails, KeepsCommitted-MayCommit}
 use Rattle.document_file.proofs.StandsLemmas.{sound_settled}
+use Rattle.document_file.proofs.SlotsLemmas.{shut_after}
 use Rattle.document_file.proofs.commit.commit_pending.Goals as goal
 
 pub returns-in_err-write_pending-clause-commits : goal.returns-in_err-write_pending-clause-commits
@@ -29,3 +30,6 @@ returns-clause-commits g c =
     KeepsCommitted-MayCommit g.S.Store.facts _ _ _ _ _ c.commit_pair.result c.write_pending.ensures.passes
     (λ so. both_documents c.args.live.now c.args.slots.now c.args.pending c.args.saved c.requires.sound.formed c.requires.pending c.requires.saved file now (c.write_pending.ensures.same so) (c.write_pending.ensures.passes.saved so))
     c.commit_pair.ensures.commits
+
+pub returns-clause-shut : goal.returns-clause-shut
+returns-clause-shut g c = shut_after c.commit_pair.result (g.S.Store.facts c.args.store.now) (g.S.Store.facts c.write_pending.new.store) (g.S.Store.facts c.commit_pair.new.store) c.args.slots.now c.commit_pair.new.slots c.write_pending.ensures.passes.honest c.write_pending.ensures.passes.failures c.commit_pair.ensures.shut

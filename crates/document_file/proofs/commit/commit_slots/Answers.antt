@@ -1,14 +1,17 @@
-use Rattle.std.proofs.Common.{IsTrue, sym, subst, inr}
-use Rattle.document_file.specs.Slots.{pair_extents, FailedEarly, Failed, AreExtentsPlaced}
+use Rattle.std.proofs.Common.{ℕ, IsTrue, List, sym, ap, subst, ◌∙◌, inr}
+use Rattle.document_file.specs.Ranges.{KeepsAll}
+use Rattle.document_file.specs.Slots.{pair_extents, switched, FailedEarly, Failed, LeftBy, CrashLeavesSlots, Outlives, AreExtentsPlaced}
 use Rattle.document_file.proofs.RangesLemmas.{slots_keep}
-use Rattle.document_file.proofs.SlotsLemmas.{shut_kept, Outlives-trans, prepared_leaves, as_before, as_shut, as_early, as_prepared}
+use Rattle.document_file.proofs.SlotsLemmas.{shut_kept, turned_kept, Outlives-trans, prepared_leaves, as_before, as_shut, as_early, as_prepared, as_left, as_turned}
 use Rattle.document_file.proofs.ResultLemmas.{on_err}
+use Rattle.document_file.proofs.commit.commit_slots.Given.{Over}
+use Rattle.document_file.proofs.commit.commit_slots.Goals.{After-open_gate}
 use Rattle.document_file.proofs.commit.commit_slots.Goals as goal
 
 pub returns-in_err-shut_gate-clause-crash : goal.returns-in_err-shut_gate-clause-crash
 returns-in_err-shut_gate-clause-crash g c file holds leaves keeps =
     let slots = c.args.slots.now in
-    as_early slots slots c.args.pair file _ _ (as_before slots slots c.args.pair file _ _ (c.shut_gate.ensures.crash file holds leaves))
+    as_left slots c.args.pair file _ _ (as_early slots slots c.args.pair file _ _ (as_before slots slots c.args.pair file _ _ (c.shut_gate.ensures.crash file holds leaves)))
 
 pub returns-in_err-shut_gate-clause-early : goal.returns-in_err-shut_gate-clause-early
 returns-in_err-shut_gate-clause-early g c =
@@ -25,8 +28,8 @@ returns-in_err-fill_slot-clause-crash g c file holds leaves keeps =
     let slots = c.args.slots.now in
     let pair = c.args.pair in
     let still = subst IsTrue (sym c.shut_gate.ensures.honest) holds in
-    as_early slots slots pair file _ _ (Outlives-trans _ _ _ file (λ s. FailedEarly slots s) (as_before slots slots pair file _ _ (c.shut_gate.ensures.crash file holds leaves))
-    (as_shut slots c.shut_gate.new.slots pair file _ _ c.in_ok-shut_gate.ensures.ok (c.fill_slot.ensures.crash file still (c.shut_gate.ensures.leaves file holds leaves))))
+    as_left slots pair file _ _ (as_early slots slots pair file _ _ (Outlives-trans _ _ _ file (λ s. FailedEarly slots s) (as_before slots slots pair file _ _ (c.shut_gate.ensures.crash file holds leaves))
+    (as_shut slots c.shut_gate.new.slots pair file _ _ c.in_ok-shut_gate.ensures.ok (c.fill_slot.ensures.crash file still (c.shut_gate.ensures.leaves file holds leaves)))))
 
 pub returns-in_err-fill_slot-clause-early : goal.returns-in_err-fill_slot-clause-early
 returns-in_err-fill_slot-clause-early g c =
@@ -45,8 +48,11 @@ returns-in_err-fill_slot-clause-leaves g c file holds leaves keeps =
 pub open_gate-requires-clause-kept : goal.open_gate-requires-clause-kept
 open_gate-requires-clause-kept g c = subst AreExtentsPlaced (sym c.in_ok-shut_gate.ensures.ok) (shut_kept c.args.slots.now c.requires.kept)
 
-pub returns-clause-crash : goal.returns-clause-crash
-returns-clause-crash g c file holds leaves keeps =
+-- the gate is opened, or it isn't
+opened_crash : (g : Over) (c : After-open_gate g) (file : List ℕ) → IsTrue (g.S.Store.facts c.args.store.now).honest → CrashLeavesSlots (g.S.Store.facts c.args.store.now) c.args.slots.now file
+    → KeepsAll (pair_extents c.args.pair) file (g.S.Store.facts c.args.store.now).content
+    → Outlives (g.S.Store.facts c.args.store.now) (g.S.Store.facts c.open_gate.new.store) file (λ s. Failed c.args.slots.now c.args.pair s)
+opened_crash g c file holds leaves keeps =
     let slots = c.args.slots.now in
     let now = c.shut_gate.new.slots in
     let pair = c.args.pair in
@@ -64,8 +70,9 @@ returns-clause-crash g c file holds leaves keeps =
     (as_shut slots now pair file _ _ c.in_ok-shut_gate.ensures.ok (c.fill_slot.ensures.crash file still shut))))
     (as_prepared slots now pair file _ _ c.in_ok-shut_gate.ensures.ok (c.open_gate.ensures.crash file yet prepared))
 
-pub returns-clause-leaves : goal.returns-clause-leaves
-returns-clause-leaves g c file holds leaves keeps =
+opened_leaves : (g : Over) (c : After-open_gate g) (file : List ℕ) → IsTrue (g.S.Store.facts c.args.store.now).honest → CrashLeavesSlots (g.S.Store.facts c.args.store.now) c.args.slots.now file
+    → KeepsAll (pair_extents c.args.pair) file (g.S.Store.facts c.args.store.now).content → CrashLeavesSlots (g.S.Store.facts c.open_gate.new.store) c.open_gate.new.slots file
+opened_leaves g c file holds leaves keeps =
     let now = c.shut_gate.new.slots in
     let pair = c.args.pair in
     let B = g.S.Store.facts c.shut_gate.new.store in
@@ -77,3 +84,39 @@ returns-clause-leaves g c file holds leaves keeps =
     let kept = slots_keep es file B.content C.content c.requires.placed (c.fill_slot.ensures.elsewhere still) (slots_keep es file _ B.content c.requires.placed (c.shut_gate.ensures.elsewhere holds) keeps) in
     let prepared = prepared_leaves now pair file C (c.in_ok-fill_slot.ensures.durable still) (c.in_ok-fill_slot.ensures.marked still) (c.in_ok-fill_slot.ensures.rest still) kept filled in
     c.open_gate.ensures.leaves file yet prepared
+
+pub returns-in_err-open_gate-clause-crash : goal.returns-in_err-open_gate-clause-crash
+returns-in_err-open_gate-clause-crash g c file holds leaves keeps =
+    as_left c.args.slots.now c.args.pair file _ _ (opened_crash g (goal.at.returns-in_err-open_gate-clause-crash g c).After-open_gate file holds leaves keeps)
+
+pub returns-in_err-open_gate-clause-leaves : goal.returns-in_err-open_gate-clause-leaves
+returns-in_err-open_gate-clause-leaves g c file holds leaves keeps = opened_leaves g (goal.at.returns-in_err-open_gate-clause-leaves g c).After-open_gate file holds leaves keeps
+
+pub shut_stale-requires-clause-kept : goal.shut_stale-requires-clause-kept
+shut_stale-requires-clause-kept g c =
+    let now = c.shut_gate.new.slots in
+    let kept = subst AreExtentsPlaced (sym c.in_ok-shut_gate.ensures.ok) (shut_kept c.args.slots.now c.requires.kept) in
+    subst AreExtentsPlaced (sym c.in_ok-open_gate.ensures.ok) (turned_kept now c.args.pair kept c.requires.placed)
+
+pub returns-then-gives_sums-clause-crash : goal.returns-then-gives_sums-clause-crash
+returns-then-gives_sums-clause-crash g c file holds leaves keeps =
+    let at = (goal.at.returns-then-gives_sums-clause-crash g c).After-open_gate in
+    let slots = c.args.slots.now in
+    let pair = c.args.pair in
+    let D = g.S.Store.facts c.open_gate.new.store in
+    let still = subst IsTrue (sym (c.open_gate.ensures.honest ∙ c.fill_slot.ensures.honest ∙ c.shut_gate.ensures.honest)) holds in
+    let turned = c.in_ok-open_gate.ensures.ok ∙ ap (λ s. switched s pair) c.in_ok-shut_gate.ensures.ok in
+    Outlives-trans _ D _ file (λ s. LeftBy slots pair s) (as_left slots pair file _ _ (opened_crash g at file holds leaves keeps))
+    (as_turned slots c.open_gate.new.slots pair file _ _ turned (c.shut_stale.ensures.crash file still (opened_leaves g at file holds leaves keeps)))
+
+pub returns-then-gives_sums-clause-leaves : goal.returns-then-gives_sums-clause-leaves
+returns-then-gives_sums-clause-leaves g c file holds leaves keeps =
+    let still = subst IsTrue (sym (c.open_gate.ensures.honest ∙ c.fill_slot.ensures.honest ∙ c.shut_gate.ensures.honest)) holds in
+    c.shut_stale.ensures.leaves file still (opened_leaves g (goal.at.returns-then-gives_sums-clause-leaves g c).After-open_gate file holds leaves keeps)
+
+pub returns-else-gives_sums-clause-crash : goal.returns-else-gives_sums-clause-crash
+returns-else-gives_sums-clause-crash g c file holds leaves keeps =
+    as_left c.args.slots.now c.args.pair file _ _ (opened_crash g (goal.at.returns-else-gives_sums-clause-crash g c).After-open_gate file holds leaves keeps)
+
+pub returns-else-gives_sums-clause-leaves : goal.returns-else-gives_sums-clause-leaves
+returns-else-gives_sums-clause-leaves g c file holds leaves keeps = opened_leaves g (goal.at.returns-else-gives_sums-clause-leaves g c).After-open_gate file holds leaves keeps

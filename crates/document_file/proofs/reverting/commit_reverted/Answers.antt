@@ -3,6 +3,7 @@ use Rattle.std.proofs.lemmas.Result.{err_from_is_err_and}
 use Rattle.document_file.proofs.CopiesLemmas.{pair_documents, pair_placed, pair_stored, pair_tables}
 use Rattle.document_file.proofs.PassingLemmas.{KeepsCommitted-fails, KeepsCommitted-MayCommit}
 use Rattle.document_file.proofs.SavedAnewLemmas.{reverted_document, reverted_placed, reverted_table}
+use Rattle.document_file.proofs.SlotsLemmas.{shut_after}
 use Rattle.document_file.proofs.StandsLemmas.{sound_settled}
 use Rattle.document_file.specs.PendingDirectories.{reverted}
 use Rattle.document_file.proofs.reverting.commit_reverted.Goals as goal
@@ -39,3 +40,6 @@ returns-clause-commits g c =
     let one = reverted_document c.args.live.now c.args.slots.now c.requires.sound.formed now c.args.anew c.requires.made ∙ c.write_anew.ensures.passes.saved so in
     pair_documents now c.args.pair s s c.requires.updated c.requires.saved ∙ (λ i. (one i, one i)))
     c.commit_pair.ensures.commits
+
+pub returns-clause-shut : goal.returns-clause-shut
+returns-clause-shut g c = shut_after c.commit_pair.result (g.S.Store.facts c.args.store.now) (g.S.Store.facts c.write_anew.new.store) (g.S.Store.facts c.commit_pair.new.store) c.args.slots.now c.commit_pair.new.slots c.write_anew.ensures.passes.honest c.write_anew.ensures.passes.failures c.commit_pair.ensures.shut

@@ -1,4 +1,4 @@
-use Rattle.std.proofs.Common.{ℕ, List, Option, [], ◌∷◌, false, ◌≡◌, ◌≢◌, IsTrue, ◌++◌, ◌∙◌, All, Bool, ap, length, refl, sym, subst, arith}
+use Rattle.std.proofs.Common.{List, Option, [], ◌∷◌, false, ◌≡◌, ◌≢◌, ◌++◌, ◌∙◌, All, Bool, ap, length, refl, sym, subst, arith}
 use Rattle.std.specs.Prelude.{if◌then◌else◌, IfSome, MatchResult, OnOk, Result, Some, Ok, Err}
 use Rattle.std.proofs.lemmas.Result.{on_ok_weaker}
 use Rattle.file_format.specs.declared.file.Extent.{Extent}
@@ -17,16 +17,15 @@ use Rattle.document_file.specs.FreeSpace.{IsSpaceOf}
 use Rattle.document_file.specs.Ranges.{IsPlaced, IsClear, start_of}
 use Rattle.document_file.specs.Slots.{block_extents, referenced_extents}
 use Rattle.document_file.proofs.PutBlocksLemmas.{few_extents, five_long}
-use Rattle.document_file.specs.Documents.{Documents, document_in, version_in}
+use Rattle.document_file.specs.Documents.{Documents, document_in}
 use Rattle.document_file.specs.Disk.{FileState, MayCommit, SameUnlessCorrupt}
-use Rattle.document_file.specs.Effects.{IsCommit}
+use Rattle.document_file.specs.Effects.{IsCommit, IsTurned}
 use Rattle.document_file.specs.Sound.{IsFormed, disk_of}
 use Rattle.document_file.proofs.CopiesLemmas.{copy_itself, copy_drifts, beside_document, beside_alike}
 use Rattle.document_file.proofs.FollowLemmas.{known_if, next_taken}
 use Rattle.document_file.proofs.EffectsLemmas.{refused, refused_by, tried, view_settled}
-use Rattle.document_file.proofs.StandsLemmas.{turned_versioned}
-use Rattle.document_file.specs.Sums.{has_sums, version_for}
-use Rattle.document_file.proofs.SumsLemmas.{next_for}
+use Rattle.document_file.proofs.TurnedLemmas.{turned_alone, turned_version}
+use Rattle.document_file.specs.Sums.{has_sums}
 use Rattle.std.proofs.lemmas.Result.{err_from_is_err_and}
 use Rattle.document_file.proofs.file.VmFile.commit_live.Goals as goal
 
@@ -129,17 +128,16 @@ returns-in-Some-clause-commit g c =
     let drifts = copy_drifts a.honest a.content b.content i.live i.live (copy_itself i.live) c.commit_summed.ensures.same in
     subst (λ (f : FileState g.row.S.Denot). IsCommit facts (meant c.args.saves f) f.document f new r) c.self.view_is
     (subst (λ s. IsCommit facts (meant s old) old.document old new r) (sym keeps)
-    (tried facts g.met.S.Store.timely old new (meant false old) old.document r c.commit_summed.ensures.commits (either_way (SameUnlessCorrupt a.honest old.document new.document) r drifts) c.commit_summed.ensures.refusals c.if-self.false))
+    (tried facts g.met.S.Store.timely old new (meant false old) old.document r c.commit_summed.ensures.commits
+    (on_ok_weaker r (λ switched. turned_version facts c.commit_summed.new.store i.live i.slots _ c.commit_summed.new.slots (g.met.S.Store.timely c.commit_summed.new.store) c.commit_summed.ensures.sound switched) c.commit_summed.ensures.switched)
+    (either_way (SameUnlessCorrupt a.honest old.document new.document) r drifts) c.commit_summed.ensures.refusals c.if-self.false))
 
-pub returns-in-Some-clause-version : goal.returns-in-Some-clause-version
-returns-in-Some-clause-version g c =
+pub returns-in-Some-clause-turned : goal.returns-in-Some-clause-turned
+returns-in-Some-clause-turned g c =
     let facts = g.S.Store.facts in let i = c.self.inside in
-    let store = c.commit_summed.new.store in
-    subst (λ (f : FileState g.row.S.Denot). OnOk c.commit_summed.result (IsTrue (facts f.disk.store).honest → version_in (facts store).content ≡ Some (version_for f.disk.checksums))) c.self.view_is
+    subst (λ (f : FileState g.row.S.Denot). OnOk c.commit_summed.result (IsTurned facts f.disk (disk_of facts c.commit_summed.new.store c.commit_summed.new.slots))) c.self.view_is
     (on_ok_weaker c.commit_summed.result
-    (λ switched so. turned_versioned facts store i.live i.slots _ c.commit_summed.new.slots (g.met.S.Store.timely store) c.commit_summed.ensures.sound switched (subst IsTrue (sym c.commit_summed.ensures.commits.honest) so)
-    ∙ ap (λ (v : ℕ). Some v) (sym (next_for i.slots.version i.slots.next_version c.self.invariant.sound.formed.next_version)))
-    c.commit_summed.ensures.switched)
+    (turned_alone facts i.store c.commit_summed.new.store i.live i.slots c.commit_summed.new.slots (g.met.S.Store.timely i.store) c.self.invariant.sound) c.commit_summed.ensures.shut)
 
 pub commit_pending-requires-clause-saved : goal.commit_pending-requires-clause-saved
 commit_pending-requires-clause-saved g c =
@@ -157,7 +155,7 @@ returns-in_err-commit_pending-clause-commit g c =
     subst (λ (f : FileState g.row.S.Denot). IsCommit facts (meant c.args.saves f) f.document f new c.from_residual-in_err-commit_pending.result) c.self.view_is
     (subst (λ r. IsCommit facts (meant c.args.saves old) old.document old new r) (sym (p.1 ∙ ap Err p.2))
     (tried facts g.met.S.Store.timely old new _ _ (Err fault)
-    (subst (λ (d : Document). MayCommit facts (old.document, d) old.disk new.disk (Err fault)) same c.in_err-commit_pending.ensures.commits)
+    (subst (λ (d : Document). MayCommit facts (old.document, d) old.disk new.disk (Err fault)) same c.in_err-commit_pending.ensures.commits) tt
     (copy_drifts a.honest a.content b.content i.live i.live (copy_itself i.live) c.commit_pending.ensures.same) c.in_err-commit_pending.ensures.refusals c.if-self.false))
 
 pub returns-clause-commit : goal.returns-clause-commit
@@ -170,15 +168,14 @@ returns-clause-commit g c =
     subst (λ (f : FileState g.row.S.Denot). IsCommit facts (meant c.args.saves f) f.document f new (Ok tt)) c.self.view_is
     (tried facts g.met.S.Store.timely old new _ _ (Ok tt)
     (subst (λ (d : Document). MayCommit facts (old.document, d) old.disk new.disk (Ok tt)) same c.in_ok-commit_pending.ensures.commits)
+    (turned_version facts c.commit_pending.new.store i.live i.slots _ c.commit_pending.new.slots (g.met.S.Store.timely c.commit_pending.new.store) c.commit_pending.ensures.sound c.in_ok-commit_pending.ensures.switched)
     (copy_drifts a.honest a.content b.content i.live i.live (copy_itself i.live) c.commit_pending.ensures.same) tt c.if-self.false)
 
-pub returns-clause-version : goal.returns-clause-version
-returns-clause-version g c =
+pub returns-clause-turned : goal.returns-clause-turned
+returns-clause-turned g c =
     let facts = g.S.Store.facts in let i = c.self.inside in
-    let store = c.commit_pending.new.store in
-    subst (λ (f : FileState g.row.S.Denot). IsTrue (facts f.disk.store).honest → version_in (facts store).content ≡ Some (version_for f.disk.checksums)) c.self.view_is
-    (λ so. turned_versioned facts store i.live i.slots _ c.commit_pending.new.slots (g.met.S.Store.timely store) c.commit_pending.ensures.sound c.in_ok-commit_pending.ensures.switched (subst IsTrue (sym c.commit_pending.ensures.commits.honest) so)
-    ∙ ap (λ (v : ℕ). Some v) (sym (next_for i.slots.version i.slots.next_version c.self.invariant.sound.formed.next_version)))
+    subst (λ (f : FileState g.row.S.Denot). IsTurned facts f.disk (disk_of facts c.commit_pending.new.store c.commit_pending.new.slots)) c.self.view_is
+    (turned_alone facts i.store c.commit_pending.new.store i.live i.slots c.commit_pending.new.slots (g.met.S.Store.timely i.store) c.self.invariant.sound c.in_ok-commit_pending.ensures.shut)
 
 pub invariant_of-self-2 : goal.invariant_of-self-2
 invariant_of-self-2 g c =

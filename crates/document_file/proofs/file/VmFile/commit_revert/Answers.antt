@@ -1,13 +1,13 @@
-use Rattle.std.proofs.Common.{ℕ, ◌≡◌, ◌≢◌, IsTrue, refl, sym, ap, subst, ◌∙◌}
-use Rattle.std.specs.Prelude.{Some, Ok, Err}
+use Rattle.std.proofs.Common.{◌≡◌, ◌≢◌, IsTrue, refl, sym, ap, subst, ◌∙◌}
+use Rattle.std.specs.Prelude.{Ok, Err}
 use Rattle.std.proofs.lemmas.Result.{err_from_is_err_and}
 use Rattle.geos_model.specs.declared.fault.Fault.TheVariants.{Worn}
 use Rattle.document_file.specs.Calls.{last_sequence}
 use Rattle.document_file.specs.Copies.{IsCopy}
 use Rattle.document_file.specs.Disk.{FileState, SameUnlessCorrupt}
-use Rattle.document_file.specs.Documents.{Documents, document_in, version_in}
+use Rattle.document_file.specs.Documents.{Documents, document_in}
 use Rattle.document_file.specs.Listing.{AreBounds}
-use Rattle.document_file.specs.Effects.{IsCommit}
+use Rattle.document_file.specs.Effects.{IsCommit, IsTurned}
 use Rattle.document_file.specs.Sound.{disk_of}
 use Rattle.document_file.specs.declared.slot.Slots.{Slots}
 use Rattle.document_file.specs.declared.table.Pair.{Pair}
@@ -15,9 +15,8 @@ use Rattle.document_file.proofs.CopiesLemmas.{sound_saved, copy_document, copy_i
 use Rattle.document_file.specs.PendingDirectories.{reverted}
 use Rattle.document_file.proofs.SavedAnewLemmas.{reverted_document}
 use Rattle.document_file.proofs.EffectsLemmas.{refused, refused_by, tried, view_settled}
-use Rattle.document_file.proofs.StandsLemmas.{turned_versioned}
-use Rattle.document_file.specs.Sums.{has_sums, version_for}
-use Rattle.document_file.proofs.SumsLemmas.{next_for}
+use Rattle.document_file.proofs.TurnedLemmas.{turned_alone, turned_version}
+use Rattle.document_file.specs.Sums.{has_sums}
 use Rattle.document_file.proofs.file.VmFile.commit_revert.Goals as goal
 
 pub returns-then-self-clause-commit : goal.returns-then-self-clause-commit
@@ -57,7 +56,7 @@ returns-in_err-commit_reverted-clause-commit g c =
     let new : FileState g.row.S.Denot = record { disk = disk_of facts c.commit_reverted.new.store c.commit_reverted.new.slots; document = document_in b.content i.live } in
     subst (λ (f : FileState g.row.S.Denot). IsCommit facts (f.disk.saved, f.disk.saved) f.disk.saved f new c.from_residual-in_err-commit_reverted.result) c.self.view_is
     (subst (λ r. IsCommit facts (old.disk.saved, old.disk.saved) old.disk.saved old new r) (sym (p.1 ∙ ap Err p.2))
-    (tried facts g.met.S.Store.timely old new _ _ (Err fault) c.in_err-commit_reverted.ensures.commits
+    (tried facts g.met.S.Store.timely old new _ _ (Err fault) c.in_err-commit_reverted.ensures.commits tt
     (copy_drifts a.honest a.content b.content i.live i.live (copy_itself i.live) c.commit_reverted.ensures.same) c.in_err-commit_reverted.ensures.refusals c.if-self.false))
 
 pub invariant_of-self-2 : goal.invariant_of-self-2
@@ -95,12 +94,11 @@ returns-clause-commit g c =
     let new : FileState g.row.S.Denot = record { disk = disk_of facts c.commit_reverted.new.store c.commit_reverted.new.slots; document = document_in b.content live } in
     subst (λ (f : FileState g.row.S.Denot). IsCommit facts (f.disk.saved, f.disk.saved) f.disk.saved f new (Ok tt)) c.self.view_is
     (tried facts g.met.S.Store.timely old new _ _ (Ok tt) c.in_ok-commit_reverted.ensures.commits
+    (turned_version facts c.commit_reverted.new.store i.live i.slots c.in_ok-pair.pair c.commit_reverted.new.slots (g.met.S.Store.timely c.commit_reverted.new.store) c.commit_reverted.ensures.sound c.in_ok-commit_reverted.ensures.switched)
     (subst (λ d. SameUnlessCorrupt a.honest d (document_in b.content live)) before (copy_drifts a.honest a.content b.content live s.table.value is same)) tt c.if-self.false)
 
-pub returns-clause-version : goal.returns-clause-version
-returns-clause-version g c =
+pub returns-clause-turned : goal.returns-clause-turned
+returns-clause-turned g c =
     let facts = g.S.Store.facts in let i = c.self.inside in
-    let store = c.commit_reverted.new.store in
-    subst (λ (f : FileState g.row.S.Denot). IsTrue (facts f.disk.store).honest → version_in (facts store).content ≡ Some (version_for f.disk.checksums)) c.self.view_is
-    (λ so. turned_versioned facts store i.live i.slots c.in_ok-pair.pair c.commit_reverted.new.slots (g.met.S.Store.timely store) c.commit_reverted.ensures.sound c.in_ok-commit_reverted.ensures.switched (subst IsTrue (sym c.commit_reverted.ensures.commits.honest) so)
-    ∙ ap (λ (v : ℕ). Some v) (sym (next_for i.slots.version i.slots.next_version c.self.invariant.sound.formed.next_version)))
+    subst (λ (f : FileState g.row.S.Denot). IsTurned facts f.disk (disk_of facts c.commit_reverted.new.store c.commit_reverted.new.slots)) c.self.view_is
+    (turned_alone facts i.store c.commit_reverted.new.store i.live i.slots c.commit_reverted.new.slots (g.met.S.Store.timely i.store) c.self.invariant.sound c.in_ok-commit_reverted.ensures.shut)
