@@ -9,7 +9,7 @@ use Rattle.vm_blocks.specs.Opening.{IsOpenedFrom, IsNotOpened}
 use Rattle.undo_log.specs.Logging.{Log, fresh_log}
 use Rattle.undo_log.specs.Sessions.{file_of, machine_of}
 use Rattle.c_sessions.specs.Files.{Begun}
-use Rattle.c_sessions.specs.Keeping.{IsFresh, IsOpening}
+use Rattle.c_sessions.specs.Keeping.{IsFreshLog, IsOpening}
 
 -- where the saved document stands tells whether there is one directory
 told_by_saved : (one known : Bool) → (fresh_log one).saved_at ≡ (fresh_log known).saved_at → one ≡ known
@@ -26,7 +26,7 @@ pub is_opening : {S : Type 0} (facts : S → StoreFacts) (frames : ℕ) (checksu
     → machine_of target session ≡ opened_machine updated saved (has_one_directory (facts store).content) sequence frames target)
     → IsOpening facts frames checksums store begun
 is_opening facts frames checksums store (Ok session) opened fresh machine =
-    let begun : IsFresh (facts store) session.log = record {
+    let begun : IsFreshLog (facts store) session.log = record {
       one = fresh.0.0;
       log_is = fresh.0.1;
       one_is = λ honest. told_by_saved fresh.0.0 (has_one_directory (facts store).content) (sym (ap (λ (l : Log). l.saved_at) fresh.0.1)

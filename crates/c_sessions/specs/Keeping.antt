@@ -18,7 +18,7 @@ use Rattle.c_sessions.specs.declared.kept.Kept.{Kept}
 
 -- The log of a session that begins on a store, whose file has one directory for both documents or not: over an honest
 -- one as the bytes say.
-pub record IsFresh (facts : StoreFacts) (log : Log) : Type 0 where
+pub record IsFreshLog (facts : StoreFacts) (log : Log) : Type 0 where
   pub one : Bool
   pub log_is : log ≡ fresh_log one
   pub one_is : IsTrue facts.honest → one ≡ has_one_directory facts.content
@@ -29,7 +29,7 @@ abbrev pub IsOpening : {S : Type 0} → (S → StoreFacts) → ℕ → Bool → 
 IsOpening facts frames checksums store begun =
     MatchResult begun (λ session. IsOpenedFrom facts store checksums (file_of session))
     (λ refused. IsNotOpened facts store refused.store refused.fault)
-    × IfOk begun (λ session. IsFresh (facts store) session.log × (session.frames ≡ frames))
+    × IfOk begun (λ session. IsFreshLog (facts store) session.log × (session.frames ≡ frames))
 
 -- likewise one on an empty document that a store was made, with checksums or without
 abbrev pub IsCreation : {S : Type 0} → (S → StoreFacts) → ℕ → Bool → S → Begun S → Type 0

@@ -8,12 +8,12 @@ use Rattle.byteorder.specs.Numbers.{little_from-lt, little_from-bytes}
 use Rattle.geos_model.specs.Words.{word, word_at}
 use Rattle.geos_model.specs.Array.{places_from, cut_at, cut_evenly}
 use Rattle.geos_model.proofs.Arrays.{joined}
-use Rattle.chunk_arrays.specs.Parts.{AreBytes, place_at}
+use Rattle.chunk_arrays.specs.Parts.{AreByteValues, place_at}
 
-drop_bytes : (bytes : List ℕ) → AreBytes bytes → (at i : ℕ) → slice_index (drop at bytes) i < 256
+drop_bytes : (bytes : List ℕ) → AreByteValues bytes → (at i : ℕ) → slice_index (drop at bytes) i < 256
 drop_bytes bytes are at i = subst (λ n. n < 256) (sym (get_or-drop at bytes i 0)) (are (at + i))
 
-pub word_at-lt : (bytes : List ℕ) → AreBytes bytes → (at : ℕ) → word_at bytes at < 65536
+pub word_at-lt : (bytes : List ℕ) → AreByteValues bytes → (at : ℕ) → word_at bytes at < 65536
 word_at-lt bytes are at = little_from-lt 0 2 (drop at bytes) (drop_bytes bytes are at)
 
 -- the bytes of the number in two bytes
@@ -24,7 +24,7 @@ pair_written x y l m =
     let high : n / 256 % 256 ≡ y = omega arith in
     ap₂ (λ (a b : ℕ). a ∷ b ∷ []) low high
 
-word_written : (xs : List ℕ) → 2 ≤ length xs → AreBytes xs → word (little_number 2 xs) ≡ take 2 xs
+word_written : (xs : List ℕ) → 2 ≤ length xs → AreByteValues xs → word (little_number 2 xs) ≡ take 2 xs
 word_written [] l are = absurd (omega arith)
 word_written (x ∷ []) l are = absurd (omega arith)
 word_written (x ∷ y ∷ xs) l are = pair_written x y (are 0) (are 1)
@@ -34,13 +34,13 @@ pub rejoin : (bytes : List ℕ) (i n : ℕ) → take n (drop i bytes) ++ drop (i
 rejoin bytes i n = ap (λ (l : List ℕ). take n (drop i bytes) ++ l) (sym (drop-drop n i bytes)) ∙ take-append-drop n (drop i bytes)
 
 -- a word, and the bytes behind it
-pub word_rejoin : (bytes : List ℕ) → AreBytes bytes → (i : ℕ) → i + 2 ≤ length bytes → word (word_at bytes i) ++ drop (i + 2) bytes ≡ drop i bytes
+pub word_rejoin : (bytes : List ℕ) → AreByteValues bytes → (i : ℕ) → i + 2 ≤ length bytes → word (word_at bytes i) ++ drop (i + 2) bytes ≡ drop i bytes
 word_rejoin bytes are i l =
     let long = length-drop i bytes in
     ap (λ (w : List ℕ). w ++ drop (i + 2) bytes) (word_written (drop i bytes) (omega (arith, long)) (drop_bytes bytes are i)) ∙ rejoin bytes i 2
 
 -- the words of a table, and the bytes behind it
-pub words_rejoin : (bytes : List ℕ) → AreBytes bytes → (start k n : ℕ) → start + 2 * (k + n) ≤ length bytes → flat_map word (map (place_at bytes start) (range_with_len k n)) ++ drop (start + 2 * (k + n)) bytes ≡ drop (start + 2 * k) bytes
+pub words_rejoin : (bytes : List ℕ) → AreByteValues bytes → (start k n : ℕ) → start + 2 * (k + n) ≤ length bytes → flat_map word (map (place_at bytes start) (range_with_len k n)) ++ drop (start + 2 * (k + n)) bytes ≡ drop (start + 2 * k) bytes
 words_rejoin bytes are start k zero l =
     let same : start + 2 * (k + 0) ≡ start + 2 * k = omega arith in
     ap (λ (m : ℕ). drop m bytes) same

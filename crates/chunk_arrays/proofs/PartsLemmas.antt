@@ -12,7 +12,7 @@ use Rattle.geos_model.specs.Words.{word, word_at}
 use Rattle.geos_model.specs.Array.{places_from, array_start, array_bytes, is_even, cut_at, cut_evenly, array_read, array_of}
 use Rattle.geos_model.proofs.Images.{word-reads_back}
 use Rattle.geos_model.proofs.Arrays.{joined, same_bytes-is, same_bytes-refl, length-joined, length-places, head_of, table_of, places_of, spelled, array_bytes-spelled, start-read, behind_extra, table-any, table-even, length_table-any, all_even, length-array_bytes}
-use Rattle.chunk_arrays.specs.Parts.{AreBytes, place_at, IsPlaceTable, HasElements, HasParts}
+use Rattle.chunk_arrays.specs.Parts.{AreByteValues, place_at, IsPlaceTable, HasElements, HasParts}
 use Rattle.chunk_arrays.proofs.CutLemmas.{word_at-lt, rejoin, word_rejoin, words_rejoin, word_in_words, length-cut_at, length-cut_evenly, even-cut_evenly, joined-cut_evenly, cut_from, places-cut, joined-cut, length-cut_at_le, place-next, place-le}
 
 -- places that rise
@@ -198,11 +198,11 @@ module _ (bytes : List ℕ) (has : HasParts bytes) where
   pub few-read : length (array_read bytes).elements < 65536
   few-read = let is = length-elements_read bytes in let few = word_at-lt bytes has.are_bytes 0 in omega (arith, is, few)
 
-  pub are_bytes-read : AreBytes (array_bytes (array_read bytes))
-  are_bytes-read = subst AreBytes (sym bytes-read) has.are_bytes
+  pub are_bytes-read : AreByteValues (array_bytes (array_read bytes))
+  are_bytes-read = subst AreByteValues (sym bytes-read) has.are_bytes
 
 -- The second half: an array's bytes have these parts.
-module _ (bytes : List ℕ) (are : AreBytes bytes) (even : is_even (array_read bytes) ≡ true) (same : array_bytes (array_read bytes) ≡ bytes) where
+module _ (bytes : List ℕ) (are : AreByteValues bytes) (even : is_even (array_read bytes) ≡ true) (same : array_bytes (array_read bytes) ≡ bytes) where
   spells : spelled (array_read bytes) ≡ bytes
   spells = sym (array_bytes-spelled (array_read bytes)) ∙ same
 
@@ -334,7 +334,7 @@ module _ (bytes : List ℕ) (are : AreBytes bytes) (even : is_even (array_read b
       }
 
 -- what is an array has them
-pub known_parts : (bytes : List ℕ) → AreBytes bytes → is_some (array_of bytes) ≡ true → HasParts bytes
+pub known_parts : (bytes : List ℕ) → AreByteValues bytes → is_some (array_of bytes) ≡ true → HasParts bytes
 unfolding array_of
 known_parts bytes are is = elim (cases_Bool (is_even (array_read bytes) && same_bytes (array_bytes (array_read bytes)) bytes)) [
   | inl so ↦
@@ -346,7 +346,7 @@ known_parts bytes are is = elim (cases_Bool (is_even (array_read bytes) && same_
 ]
 
 -- so what is no array lacks one
-pub not_array : (bytes : List ℕ) → AreBytes bytes → (HasParts bytes → ⊥) → array_of bytes ≡ None
+pub not_array : (bytes : List ℕ) → AreByteValues bytes → (HasParts bytes → ⊥) → array_of bytes ≡ None
 unfolding array_of
 not_array bytes are lacks = elim (cases_Bool (is_even (array_read bytes) && same_bytes (array_bytes (array_read bytes)) bytes)) [
   | inl so ↦
@@ -356,7 +356,7 @@ not_array bytes are lacks = elim (cases_Bool (is_even (array_read bytes) && same
 ]
 
 -- the same, by the numbers that were read
-module _ (bytes : List ℕ) (are : AreBytes bytes) (count size start : ℕ) (count_is : count ≡ word_at bytes 0) (size_is : size ≡ word_at bytes 2) (start_is : start ≡ word_at bytes 6) where
+module _ (bytes : List ℕ) (are : AreByteValues bytes) (count size start : ℕ) (count_is : count ≡ word_at bytes 0) (size_is : size ≡ word_at bytes 2) (start_is : start ≡ word_at bytes 6) where
   pub no_elements : (HasElements bytes count size start → ⊥) → array_of bytes ≡ None
   no_elements lacks = not_array bytes are (λ p. lacks (rw (count_is, size_is, start_is) p.elements))
 

@@ -3,8 +3,8 @@ use Rattle.std.specs.Prelude.{◌≡◌, ◌≢◌, ◌<◌, ◌≤◌, ℕ, ◌
 use Rattle.geos_model.specs.Words.{word_at}
 
 -- each is a byte
-abbrev pub AreBytes : List ℕ → Type 0
-AreBytes xs = (i : ℕ) → slice_index xs i < 256
+abbrev pub AreByteValues : List ℕ → Type 0
+AreByteValues xs = (i : ℕ) → slice_index xs i < 256
 
 -- where an element begins, by a table of places that begins at start
 abbrev pub place_at : List ℕ → ℕ → ℕ → ℕ
@@ -25,7 +25,7 @@ pub record HasElements (bytes : List ℕ) (count size start : ℕ) : Type 0 wher
 
 -- the parts of an array
 pub record HasParts (bytes : List ℕ) : Type 0 where
-  pub are_bytes : AreBytes bytes
+  pub are_bytes : AreByteValues bytes
   pub header : 8 ≤ length bytes
   pub third : word_at bytes 4 ≡ 0
   pub low : 8 ≤ word_at bytes 6

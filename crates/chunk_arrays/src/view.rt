@@ -4,7 +4,7 @@ ghost use Rattle.std.specs.List.{flat_map};
 ghost use Rattle.geos_model.specs.Words.{word_at};
 ghost use Rattle.geos_model.specs.Array.{array_bytes, array_of, array_read, is_even};
 ghost use Rattle.lmem_heap.specs.Known.{is_array_of};
-ghost use Rattle.chunk_arrays.specs.Parts.{AreBytes, IsPlaceTable, HasElements};
+ghost use Rattle.chunk_arrays.specs.Parts.{AreByteValues, IsPlaceTable, HasElements};
 ghost use Rattle.chunk_arrays.specs.Reading.{element_place, has_one_size, words_from};
 
 use byteorder::{ByteOrder, LittleEndian};
@@ -24,7 +24,7 @@ pub struct View<'a> {
     start: usize,
     ghost even: { is_even (array_read bytes.now) ≡ true },
     ghost few: { length (array_read bytes.now).elements < 2 ^ 16 },
-    ghost are_bytes: { AreBytes (array_bytes (array_read bytes.now)) },
+    ghost are_bytes: { AreByteValues (array_bytes (array_read bytes.now)) },
 }
 
 impl<'a> Model for View<'a> {

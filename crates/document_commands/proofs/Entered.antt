@@ -21,7 +21,7 @@ use Rattle.clap.specs.declared.parser.matches.ArgMatches.TheViews.{out-ArgMatche
 use Rattle.clap.specs.declared.parser.matches.Found.{Found}
 use Rattle.clap.specs.declared.parser.matches.SubCommand.{SubCommand}
 use Rattle.clap.proofs.WalkLemmas.{both, first_value-rows, one_text-rows}
-use Rattle.document_commands.specs.Arguments.{flag, has_flag}
+use Rattle.document_commands.specs.Arguments.{flag_rule, has_flag_word}
 use Rattle.document_commands.specs.Requests.{IsAsked, IsAskedBy, exclusive_flag}
 use Rattle.document_commands.specs.declared.requested.Request.{Request}
 
@@ -59,11 +59,11 @@ no_globals c a is plain =
     not_so true e = cc e
 
 -- a flag that stands in no command line with another one
-pub exclusive : (old new : Arg) (x : Bor Text) (name : Text) → rule_of old ≡ flag name → AddsConflicts old new (x ∷ []) → rule_of new ≡ exclusive_flag name
+pub exclusive : (old new : Arg) (x : Bor Text) (name : Text) → rule_of old ≡ flag_rule name → AddsConflicts old new (x ∷ []) → rule_of new ≡ exclusive_flag name
 exclusive old new x name is adds =
     let some : is_empty new.conflicts.items ≡ false = rw adds.1 (not_empty old.conflicts.items) in
     let bound : is_free_arg (record old { conflicts = new.conflicts }) ≡ false = tied (not old.exclusive) _ _ some in
-    ap rule_of adds.0 ∙ ap (λ (r : Rule). record r { is_free = is_free_arg (record old { conflicts = new.conflicts }) }) is ∙ ap (λ (b : Bool). record (flag name) { is_free = b }) bound
+    ap rule_of adds.0 ∙ ap (λ (r : Rule). record r { is_free = is_free_arg (record old { conflicts = new.conflicts }) }) is ∙ ap (λ (b : Bool). record (flag_rule name) { is_free = b }) bound
   where
     full : (y : Bor Text) (ys : List (Bor Text)) → is_empty (y ∷ ys) ≡ false
     full y ys = by (is_empty (y ∷ ys)) refl
@@ -85,7 +85,7 @@ exclusive old new x name is adds =
 
 -- a flag, as it is read
 pub set_told : (E : Type 0) (f : Found) (name : Text) (o : Option Bool) → (one_text f name ≡ None → o ≡ None) → ((t : Text) → one_text f name ≡ Some t → ReadsOne {T = Bool} {E = E} ParsesBool t o)
-    → unwrap_or o false ≡ has_flag name (rows_of f)
+    → unwrap_or o false ≡ has_flag_word name (rows_of f)
 set_told E f name o none some = by (one_text f name) refl ∙ ap (λ (t : Option Text). option_map_or (λ t. bytes_eq t (codes "true")) t false) (one_text-rows f name)
   where
     read : (t : Text) (o : Option Bool) → ReadsOne {T = Bool} {E = E} ParsesBool t o → unwrap_or o false ≡ bytes_eq t (codes "true")

@@ -7,15 +7,15 @@ use Rattle.clap.specs.Words.{App, Row, Rule, Text, new_rule, one_of}
 use Rattle.clap.specs.declared.builder.action.ArgAction.TheVariants.{Set, SetTrue}
 use Rattle.clap.specs.declared.builder.value_parser.ValueParser.TheVariants as parsers
 
-abbrev pub flag : Text → Rule
-flag name = record (new_rule name) {
+abbrev pub flag_rule : Text → Rule
+flag_rule name = record (new_rule name) {
   long = Some name;
   action = Some SetTrue;
   parser = Some parsers.Bool;
 }
 
-abbrev pub file_operand : Rule
-file_operand = record (new_rule (codes "file")) {
+abbrev pub file_rule : Rule
+file_rule = record (new_rule (codes "file")) {
   action = Some Set;
   value_names = 1;
   required = true;
@@ -29,9 +29,9 @@ second_operand = record (new_rule (codes "file2")) {
 }
 
 -- a command that tells its version
-abbrev pub with_version : App → App
-with_version = on_top (λ s. record s { has_version = true })
+abbrev pub with_version_flag : App → App
+with_version_flag = on_top (λ s. record s { has_version = true })
 
 -- whether the words have this flag
-abbrev pub has_flag : Text → List Row → Bool
-has_flag name rows = option_map_or (λ t. bytes_eq t (codes "true")) (one_of name rows) false
+abbrev pub has_flag_word : Text → List Row → Bool
+has_flag_word name rows = option_map_or (λ t. bytes_eq t (codes "true")) (one_of name rows) false

@@ -2,7 +2,7 @@
 use Rattle.std.specs.Prelude.{◌≡◌, true, false, List, [], Option, Some, None, codes, if◌then◌else◌}
 use Rattle.clap.specs.Simple.{on_top}
 use Rattle.clap.specs.Words.{App, Row, Rule, Text, first_of, new_app, with_rule, with_subcommand}
-use Rattle.document_commands.specs.Arguments.{file_operand, flag, has_flag, second_operand, with_version}
+use Rattle.document_commands.specs.Arguments.{file_rule, flag_rule, has_flag_word, second_operand, with_version_flag}
 use Rattle.document_commands.specs.declared.requested.Asked.TheVariants as asked
 use Rattle.document_commands.specs.declared.requested.DiffScope.{DiffScope}
 use Rattle.document_commands.specs.declared.requested.DiffScope.TheVariants as scopes
@@ -21,38 +21,38 @@ use Rattle.document_commands.specs.declared.requested.SalvageScope.TheVariants a
 
 -- check FILE
 abbrev pub check_command : App
-check_command = with_rule (new_app (codes "check")) file_operand
+check_command = with_rule (new_app (codes "check")) file_rule
 
 -- a flag that stands in no command line with another one
 abbrev pub exclusive_flag : Text → Rule
-exclusive_flag name = record (flag name) { is_free = false }
+exclusive_flag name = record (flag_rule name) { is_free = false }
 
 -- dump [--saved | --other] FILE
 abbrev pub dump_command : App
 dump_command = with_rule
-    (with_rule (with_rule (new_app (codes "dump")) (flag (codes "saved"))) (exclusive_flag (codes "other")))
-    file_operand
+    (with_rule (with_rule (new_app (codes "dump")) (flag_rule (codes "saved"))) (exclusive_flag (codes "other")))
+    file_rule
 
 -- stat [--json] FILE
 abbrev pub stat_command : App
-stat_command = with_rule (with_rule (new_app (codes "stat")) (flag (codes "json"))) file_operand
+stat_command = with_rule (with_rule (new_app (codes "stat")) (flag_rule (codes "json"))) file_rule
 
 -- map [--svg] FILE
 abbrev pub map_command : App
-map_command = with_rule (with_rule (new_app (codes "map")) (flag (codes "svg"))) file_operand
+map_command = with_rule (with_rule (new_app (codes "map")) (flag_rule (codes "svg"))) file_rule
 
 -- diff [--saved] FILE FILE2
 abbrev pub diff_command : App
 diff_command =
-    with_rule (with_rule (with_rule (new_app (codes "diff")) (flag (codes "saved"))) file_operand) second_operand
+    with_rule (with_rule (with_rule (new_app (codes "diff")) (flag_rule (codes "saved"))) file_rule) second_operand
 
 -- salvage [--all] FILE
 abbrev pub salvage_command : App
-salvage_command = with_rule (with_rule (new_app (codes "salvage")) (flag (codes "all"))) file_operand
+salvage_command = with_rule (with_rule (new_app (codes "salvage")) (flag_rule (codes "all"))) file_rule
 
 -- restore FILE
 abbrev pub restore_command : App
-restore_command = with_rule (new_app (codes "restore")) file_operand
+restore_command = with_rule (new_app (codes "restore")) file_rule
 
 -- a command that does nothing without another one behind it, and tells its help where nothing is behind it
 abbrev pub with_commands_alone : App → App
@@ -60,7 +60,7 @@ with_commands_alone = on_top (λ s. record s { subcommand_required = true; arg_r
 
 abbrev pub geosdoc : App
 geosdoc =
-    let start = with_commands_alone (with_version (new_app (codes "geosdoc"))) in
+    let start = with_commands_alone (with_version_flag (new_app (codes "geosdoc"))) in
     let looks = with_subcommand
     (with_subcommand (with_subcommand (with_subcommand start check_command.top) dump_command.top) stat_command.top)
     map_command.top in
@@ -70,19 +70,19 @@ geosdoc =
 
 abbrev pub dump_scope_by : List Row → DumpScope
 dump_scope_by rows =
-    if has_flag (codes "saved") rows then Saved else if has_flag (codes "other") rows then Other else Both
+    if has_flag_word (codes "saved") rows then Saved else if has_flag_word (codes "other") rows then Other else Both
 
 abbrev pub form_by : List Row → Form
-form_by rows = if has_flag (codes "json") rows then forms.Json else forms.Columns
+form_by rows = if has_flag_word (codes "json") rows then forms.Json else forms.Columns
 
 abbrev pub map_format_by : List Row → MapFormat
-map_format_by rows = if has_flag (codes "svg") rows then pictures.Svg else pictures.Text
+map_format_by rows = if has_flag_word (codes "svg") rows then pictures.Svg else pictures.Text
 
 abbrev pub salvage_scope_by : List Row → SalvageScope
-salvage_scope_by rows = if has_flag (codes "all") rows then takings.All else takings.Whole
+salvage_scope_by rows = if has_flag_word (codes "all") rows then takings.All else takings.Whole
 
 abbrev pub diff_scope_by : List Row → DiffScope
-diff_scope_by rows = if has_flag (codes "saved") rows then scopes.Saved else scopes.Updated
+diff_scope_by rows = if has_flag_word (codes "saved") rows then scopes.Saved else scopes.Updated
 
 -- The request is that of the command of this name, with these matches, and of the file that they name.
 abbrev pub IsAsked : Text → List Row → Request → Type 0

@@ -2,7 +2,7 @@
 ghost use Rattle.std.specs.Prelude.{◌≡◌, IfErr, IfOk, IfSome, map, true};
 ghost use Rattle.clap.specs.Words.{app_of, found_of, kind_of, rows_of, subcommand_of, subcommand_rows_of, takes};
 ghost use Rattle.clap.specs.declared.error.kind.ErrorKind.TheVariants.{OutOfMemory};
-ghost use Rattle.document_commands.specs.Arguments.{has_flag};
+ghost use Rattle.document_commands.specs.Arguments.{has_flag_word};
 ghost use Rattle.document_commands.specs.Requests.{IsAskedBy, check_command, diff_command, diff_scope_by, dump_command, dump_scope_by, form_by, geosdoc, map_command, map_format_by, restore_command, salvage_command, salvage_scope_by, stat_command};
 
 use crate::arguments::{file_operand, flag, second_operand};
@@ -197,7 +197,7 @@ fn compared(matches: &ArgMatches<'_>) -> DiffScope
 
 // As `get_flag`, of whose contract too little is known where a flag isn't known to read as a truth value.
 fn is_set(matches: &ArgMatches<'_>, name: &str) -> bool
-    ensures { result ≡ has_flag name.now (rows_of (found_of matches.now)) }
+    ensures { result ≡ has_flag_word name.now (rows_of (found_of matches.now)) }
 {
     matches.get_one::<bool>(name).unwrap_or(false)
 }

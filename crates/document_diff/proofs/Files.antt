@@ -5,7 +5,7 @@ use Rattle.file_format.proofs.LooksLemmas.{raised_later, still}
 use Rattle.file_format.specs.Reading.{OnlyReadsStore}
 use Rattle.document_file.specs.Disk.{IsFileDocument}
 use Rattle.document_file.specs.StoredDocuments.{AreFileDocuments, OnlyReadsDocuments, StoredState}
-use Rattle.document_diff.specs.Diffs.{document_of}
+use Rattle.document_diff.specs.Diffs.{document_by}
 use Rattle.document_diff.specs.Faults.{IsDiffRefusal}
 use Rattle.document_diff.specs.declared.fault.DiffFault.{DiffFault}
 use Rattle.document_diff.specs.declared.fault.DiffFault.TheVariants as diff_faults
@@ -18,17 +18,17 @@ module _ {S : Type 0} (facts : S → StoreFacts) (a b : StoredState S) (reads : 
   pub still_honest : IsTrue (facts b.store).honest
   still_honest = subst IsTrue (sym reads.store.honest) so
 
-  pub same_document : (version : Version) → document_of version b ≡ document_of version a
+  pub same_document : (version : Version) → document_by version b ≡ document_by version a
   same_document versions.Updated = reads.updated.same so
   same_document versions.Saved = reads.saved.same so
 
 -- a document of a file, if its store is honest
 module _ {S : Type 0} (facts : S → StoreFacts) (a : StoredState S) (are : AreFileDocuments facts a) where
-  pub file_document : (version : Version) → IsFileDocument (facts a.store).honest (document_of version a)
+  pub file_document : (version : Version) → IsFileDocument (facts a.store).honest (document_by version a)
   file_document versions.Updated = are.updated
   file_document versions.Saved = are.saved
 
-  pub can_be : (version : Version) → IsTrue (facts a.store).honest → CanBe (document_of version a)
+  pub can_be : (version : Version) → IsTrue (facts a.store).honest → CanBe (document_by version a)
   can_be version so = let is = file_document version in record { handles = is.handles; bodies = is.bodies so }
 
 -- what is so of a part of a call is so of the whole

@@ -16,9 +16,9 @@ use Rattle.geos_model.specs.declared.command.Body.{Body}
 use Rattle.geos_model.specs.declared.command.Body.TheVariants as bodies
 use Rattle.geos_model.proofs.Arrays.{same_bytes-is, same_bytes-refl}
 use Rattle.geos_model.proofs.HeapTables.{is_chunk_handle-parts, live_handle}
-use Rattle.document_diff.specs.Differences.{attributes_compared, block_compared, block_name, blocks_compared, bodies_compared, chunk_compared, chunk_name, compared, compared_at, heap_compared, map_compared, raw_compared, type_compared, user_id_compared}
+use Rattle.document_diff.specs.Differences.{attributes_compared, block_compared, block_named, blocks_compared, bodies_compared, chunk_compared, chunk_named, compared, compared_at, heap_compared, map_compared, raw_compared, type_compared, user_id_compared}
 use Rattle.document_diff.specs.Diffs.{TellsSame, diff_text, is_no_text}
-use Rattle.document_diff.specs.Lines.{difference_text, text}
+use Rattle.document_diff.specs.Lines.{diff_lines, difference_text}
 use Rattle.document_diff.specs.declared.difference.Difference.{Difference}
 use Rattle.document_diff.proofs.Ranges.{both_none, no_list, none_at, none_within}
 use Rattle.document_diff.proofs.Texts.{by_chunks}
@@ -66,19 +66,19 @@ module _ (b : VmHandle) where
   same_heap : (m n : ChunkMap) → is_heap_map m ≡ true → is_heap_map n ≡ true → heap_compared b m n ≡ [] → m ≡ n
   unfolding heap_compared
   same_heap m n heap other e =
-      let f : ℕ → List Difference = λ c. chunk_compared b (chunk_name c) (get m c) (get n c) in
+      let f : ℕ → List Difference = λ c. chunk_compared b (chunk_named c) (get m c) (get n c) in
       let all : flat_map (λ i. f (handle_of i)) (range_with_len 0 most_chunks) ≡ [] = sym (by_chunks f) ∙ e in
       same_map nat_cmp_total nat_cmp-IsAntisymmetric m n
       (λ q. elim (cases_Bool (is_chunk_handle q)) as (λ _. get m q ≡ get n q) [
         | inl is ↦ (let parts = is_chunk_handle-parts q is in
             let at : handle_of ((q - 16) / 2) ≡ q = omega (arith, parts.0, parts.2) in
-            same_chunk b (chunk_name q) (get m q) (get n q) (ap f (sym at) ∙ none_at (λ i. f (handle_of i)) 0 most_chunks ((q - 16) / 2) all (omega arith) (omega (arith, parts.0, parts.1))))
+            same_chunk b (chunk_named q) (get m q) (get n q) (ap f (sym at) ∙ none_at (λ i. f (handle_of i)) 0 most_chunks ((q - 16) / 2) all (omega arith) (omega (arith, parts.0, parts.1))))
         | inr isnt ↦ both_dead (get m q) (get n q) (λ live. true_false _ (live_handle m q heap live) isnt) (λ live. true_false _ (live_handle n q other live) isnt)
       ])
 
   same_heap-refl : (m : ChunkMap) → heap_compared b m m ≡ []
   unfolding heap_compared
-  same_heap-refl m = none_within (λ c. chunk_compared b (chunk_name c) (get m c) (get m c)) _ (λ c. same_chunk-refl b (chunk_name c) (get m c))
+  same_heap-refl m = none_within (λ c. chunk_compared b (chunk_named c) (get m c) (get m c)) _ (λ c. same_chunk-refl b (chunk_named c) (get m c))
 
   -- Blocks.
 
@@ -144,19 +144,19 @@ same_blocks old new can be e =
     same_map nat_cmp_total nat_cmp-IsAntisymmetric old.blocks new.blocks
     (λ q. elim (cases_Bool (is_vm_handle q)) as (λ _. get old.blocks q ≡ get new.blocks q) [
       | inl is ↦ (let within = handle_range q is in
-          same_block (block_name q) (get old.blocks q) (get new.blocks q) (can.bodies q) (be.bodies q) (none_at (compared_at old new) 1 most_blocks q all within.0 within.1))
+          same_block (block_named q) (get old.blocks q) (get new.blocks q) (can.bodies q) (be.bodies q) (none_at (compared_at old new) 1 most_blocks q all within.0 within.1))
       | inr isnt ↦ both_dead (get old.blocks q) (get new.blocks q) (λ live. true_false _ (can.handles q live) isnt) (λ live. true_false _ (be.handles q live) isnt)
     ])
 
-long : (d : Difference) (ds : List Difference) → length (text (d ∷ ds)) ≡ 0 → ⊥
+long : (d : Difference) (ds : List Difference) → length (diff_lines (d ∷ ds)) ≡ 0 → ⊥
 long d ds e =
-    let whole = length-append (difference_text d ++ line_feed ∷ []) (text ds) in
+    let whole = length-append (difference_text d ++ line_feed ∷ []) (diff_lines ds) in
     let front = length-append (difference_text d) (line_feed ∷ []) in
     omega (arith, e, whole, front)
 
-none_told : (ds : List Difference) → is_no_text (text ds) ≡ true → ds ≡ []
+none_told : (ds : List Difference) → is_no_text (diff_lines ds) ≡ true → ds ≡ []
 none_told [] e = refl
-none_told (d ∷ ds) e = let size = eqb-true (length (text (d ∷ ds))) 0 e in absurd (long d ds size)
+none_told (d ∷ ds) e = let size = eqb-true (length (diff_lines (d ∷ ds))) 0 e in absurd (long d ds size)
 
 same_documents : (old new : Document) → CanBe old → CanBe new → is_no_text (diff_text old new) ≡ true → old ≡ new
 same_documents old new can be e =
@@ -168,10 +168,10 @@ same_documents old new can be e =
 same_documents-refl : (d : Document) → compared d d ≡ []
 unfolding blocks_compared
 same_documents-refl d =
-    ap (λ (l : List Difference). l ++ blocks_compared d d) (same_number-refl d.map_block _) ∙ none_within (compared_at d d) vm_handles (λ h. same_block-refl (block_name h) (get d.blocks h))
+    ap (λ (l : List Difference). l ++ blocks_compared d d) (same_number-refl d.map_block _) ∙ none_within (compared_at d d) vm_handles (λ h. same_block-refl (block_named h) (get d.blocks h))
 
 pub tells_same : (old new : Document) (none : Bool) → CanBe old → CanBe new → none ≡ is_no_text (diff_text old new) → TellsSame old new none
 tells_same old new none can be is = record {
   only = λ e. same_documents old new can be (sym is ∙ e);
-  whenever = λ e. is ∙ sym (ap (λ (d : Document). is_no_text (diff_text old d)) e) ∙ ap (λ (ds : List Difference). is_no_text (text ds)) (same_documents-refl old);
+  whenever = λ e. is ∙ sym (ap (λ (d : Document). is_no_text (diff_text old d)) e) ∙ ap (λ (ds : List Difference). is_no_text (diff_lines ds)) (same_documents-refl old);
 }

@@ -7,7 +7,7 @@ use Rattle.std.specs.List.{range_with_len}
 use Rattle.geos_model.specs.Document.{Document, most_blocks, vm_handles}
 use Rattle.document_diff.specs.Differences.{blocks_compared, compared_at, map_compared}
 use Rattle.document_diff.specs.Diffs.{diff_text, is_no_text}
-use Rattle.document_diff.specs.Lines.{text}
+use Rattle.document_diff.specs.Lines.{diff_lines}
 use Rattle.document_diff.specs.declared.difference.Difference.{Difference}
 use Rattle.document_diff.proofs.Texts.{flat_more, text_append}
 
@@ -25,47 +25,47 @@ written_both xs ys from mid to none more first then =
 
 -- so far, of all handles from 1 on
 unfoldable pub text_to : (ℕ → List Difference) → ℕ → List ℕ
-text_to f i = text (flat_map f (range_with_len 1 i))
+text_to f i = diff_lines (flat_map f (range_with_len 1 i))
 
 pub went_none : (f : ℕ → List Difference) (from : Option (List ℕ)) → IsWritten (text_to f 0) from from true
 unfolding text_to
 went_none f from = (refl, Appends-nil from)
 
-text_next : (f : ℕ → List Difference) (i : ℕ) → text_to f (i + 1) ≡ text_to f i ++ text (f (i + 1))
+text_next : (f : ℕ → List Difference) (i : ℕ) → text_to f (i + 1) ≡ text_to f i ++ diff_lines (f (i + 1))
 unfolding text_to
 text_next f i =
     let at : 1 + i ≡ suc i = omega arith in
     let more : flat_map f (range_with_len 1 (i + 1)) ≡ flat_map f (range_with_len 1 i) ++ f (i + 1) = rw add-one (flat_more f 1 i ∙ ap (λ (k : ℕ). flat_map f (range_with_len 1 i) ++ f k) at) in
-    ap text more ∙ text_append (flat_map f (range_with_len 1 i)) (f (i + 1))
+    ap diff_lines more ∙ text_append (flat_map f (range_with_len 1 i)) (f (i + 1))
 
-went_more : (f : ℕ → List Difference) (i : ℕ) (from mid to : Option (List ℕ)) (none more : Bool) → IsWritten (text_to f i) from mid none → IsWritten (text (f (i + 1))) mid to more
+went_more : (f : ℕ → List Difference) (i : ℕ) (from mid to : Option (List ℕ)) (none more : Bool) → IsWritten (text_to f i) from mid none → IsWritten (diff_lines (f (i + 1))) mid to more
     → IsWritten (text_to f (i + 1)) from to (none && more)
 went_more f i from mid to none more so_far step =
-    subst (λ (l : List ℕ). IsWritten l from to (none && more)) (sym (text_next f i)) (written_both (text_to f i) (text (f (i + 1))) from mid to none more so_far step)
+    subst (λ (l : List ℕ). IsWritten l from to (none && more)) (sym (text_next f i)) (written_both (text_to f i) (diff_lines (f (i + 1))) from mid to none more so_far step)
 
 -- the same, where the step is known of documents that are these
 pub went_next : (old new old_now new_now : Document) (i : ℕ) (from mid to : Option (List ℕ)) (none more : Bool) → old_now ≡ old → new_now ≡ new
-    → IsWritten (text_to (compared_at old new) i) from mid none → IsWritten (text (compared_at old_now new_now (i + 1))) mid to more
+    → IsWritten (text_to (compared_at old new) i) from mid none → IsWritten (diff_lines (compared_at old_now new_now (i + 1))) mid to more
     → IsWritten (text_to (compared_at old new) (i + 1)) from to (none && more)
 went_next old new old_now new_now i from mid to none more old_is new_is so_far step =
     went_more (compared_at old new) i from mid to none more so_far
-    (subst (λ (d : Document). IsWritten (text (compared_at d new (i + 1))) mid to more) old_is (subst (λ (d : Document). IsWritten (text (compared_at old_now d (i + 1))) mid to more) new_is step))
+    (subst (λ (d : Document). IsWritten (diff_lines (compared_at d new (i + 1))) mid to more) old_is (subst (λ (d : Document). IsWritten (diff_lines (compared_at old_now d (i + 1))) mid to more) new_is step))
 
-all_text : (old new : Document) → text_to (compared_at old new) most_blocks ≡ text (blocks_compared old new)
+all_text : (old new : Document) → text_to (compared_at old new) most_blocks ≡ diff_lines (blocks_compared old new)
 unfolding text_to blocks_compared vm_handles
 all_text old new = refl
 
 pub went_all : (old new : Document) (i : ℕ) (from to : Option (List ℕ)) (none : Bool) → i ≡ most_blocks → IsWritten (text_to (compared_at old new) i) from to none
-    → IsWritten (text (blocks_compared old new)) from to none
+    → IsWritten (diff_lines (blocks_compared old new)) from to none
 went_all old new i from to none end so_far =
     subst (λ (l : List ℕ). IsWritten l from to none) (ap (text_to (compared_at old new)) end ∙ all_text old new) so_far
 
 -- the map blocks, and then the blocks
 pub went_whole : (old new : Document) (m n : ℕ) (from mid to : Option (List ℕ)) (none more : Bool) → m ≡ old.map_block → n ≡ new.map_block
-    → IsWritten (text (map_compared m n)) from mid none → IsWritten (text (blocks_compared old new)) mid to more → IsWritten (diff_text old new) from to (none && more)
+    → IsWritten (diff_lines (map_compared m n)) from mid none → IsWritten (diff_lines (blocks_compared old new)) mid to more → IsWritten (diff_text old new) from to (none && more)
 went_whole old new m n from mid to none more m_is n_is first then =
-    let map_text = text (map_compared old.map_block new.map_block) in
+    let map_text = diff_lines (map_compared old.map_block new.map_block) in
     let before : IsWritten map_text from mid none =
-    subst (λ (k : ℕ). IsWritten (text (map_compared k new.map_block)) from mid none) m_is (subst (λ (k : ℕ). IsWritten (text (map_compared m k)) from mid none) n_is first) in
+    subst (λ (k : ℕ). IsWritten (diff_lines (map_compared k new.map_block)) from mid none) m_is (subst (λ (k : ℕ). IsWritten (diff_lines (map_compared m k)) from mid none) n_is first) in
     subst (λ (l : List ℕ). IsWritten l from to (none && more)) (sym (text_append (map_compared old.map_block new.map_block) (blocks_compared old new)))
-    (written_both map_text (text (blocks_compared old new)) from mid to none more before then)
+    (written_both map_text (diff_lines (blocks_compared old new)) from mid to none more before then)

@@ -7,13 +7,13 @@ use Rattle.document_diff.specs.declared.block.BodyRead.{BodyRead}
 use Rattle.document_diff.specs.declared.block.BodyRead.TheVariants as read
 use Rattle.document_diff.specs.declared.block.BlockRead.{BlockRead}
 
-abbrev pub body_of : BodyRead → Body
-body_of (read.Raw bytes) = bodies.Raw bytes.items
-body_of (read.Heap heap) = bodies.Heap heap.chunks
+abbrev pub body_as_read : BodyRead → Body
+body_as_read (read.Raw bytes) = bodies.Raw bytes.items
+body_as_read (read.Heap heap) = bodies.Heap heap.chunks
 
-abbrev pub block_of : BlockRead → Block
-block_of block = record { attributes = block.attributes; body = body_of block.body }
+abbrev pub block_as_read : BlockRead → Block
+block_as_read block = record { attributes = block.attributes; body = body_as_read block.body }
 
 abbrev pub found_block : Option BlockRead → Option Block
 found_block None = None
-found_block (Some block) = Some (block_of block)
+found_block (Some block) = Some (block_as_read block)

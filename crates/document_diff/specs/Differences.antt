@@ -16,11 +16,11 @@ use Rattle.document_diff.specs.declared.difference.BytesChange.{BytesChange}
 use Rattle.document_diff.specs.declared.difference.Difference.{Difference}
 use Rattle.document_diff.specs.declared.difference.Difference.TheVariants as differences
 
-abbrev pub block_name : ℕ → VmHandle
-block_name h = record { 0 = h }
+abbrev pub block_named : ℕ → VmHandle
+block_named h = record { 0 = h }
 
-abbrev pub chunk_name : ℕ → ChunkHandle
-chunk_name c = record { 0 = c }
+abbrev pub chunk_named : ℕ → ChunkHandle
+chunk_named c = record { 0 = c }
 
 -- Bytes: how many there were and are, and how many in front are the same.
 
@@ -40,14 +40,14 @@ chunk_compared b c (Some old) (Some new) =
     if same_bytes old new then [] else differences.ChunkChanged b c (bytes_change old new) ∷ []
 
 unfoldable pub heap_compared : VmHandle → ChunkMap → ChunkMap → List Difference
-heap_compared b old new = flat_map (λ c. chunk_compared b (chunk_name c) (get old c) (get new c)) chunk_handles
+heap_compared b old new = flat_map (λ c. chunk_compared b (chunk_named c) (get old c) (get new c)) chunk_handles
 
 -- Blocks: a raw one that came in the place of a heap, or a heap in that of a raw one, is another block.
 
 -- a raw body's bytes, or a heap's chunks
-abbrev pub body_size : Body → BodySize
-body_size (bodies.Raw bytes) = sizes.Raw (length bytes)
-body_size (bodies.Heap m) = sizes.Heap (length (keys m))
+abbrev pub size_of_body : Body → BodySize
+size_of_body (bodies.Raw bytes) = sizes.Raw (length bytes)
+size_of_body (bodies.Heap m) = sizes.Heap (length (keys m))
 
 abbrev pub user_id_compared : VmHandle → ℕ → ℕ → List Difference
 user_id_compared b old new = if old == new then [] else differences.UserId b old new ∷ []
@@ -64,22 +64,22 @@ bodies_compared b from to (bodies.Raw old) (bodies.Raw new) = attributes_compare
 bodies_compared b from to (bodies.Heap old) (bodies.Heap new) =
     attributes_compared b from to ++ heap_compared b old new
 bodies_compared b from to old new =
-    differences.BlockWent b (body_size old) ∷ differences.BlockCame b (body_size new) ∷ []
+    differences.BlockWent b (size_of_body old) ∷ differences.BlockCame b (size_of_body new) ∷ []
 
 -- what is under a handle in one document and in the other
 abbrev pub block_compared : VmHandle → Option Block → Option Block → List Difference
 block_compared b None None = []
-block_compared b (Some old) None = differences.BlockWent b (body_size old.body) ∷ []
-block_compared b None (Some new) = differences.BlockCame b (body_size new.body) ∷ []
+block_compared b (Some old) None = differences.BlockWent b (size_of_body old.body) ∷ []
+block_compared b None (Some new) = differences.BlockCame b (size_of_body new.body) ∷ []
 block_compared b (Some old) (Some new) = bodies_compared b old.attributes new.attributes old.body new.body
 
 -- Documents.
 
 abbrev pub compared_at : Document → Document → ℕ → List Difference
-compared_at old new h = block_compared (block_name h) (get old.blocks h) (get new.blocks h)
+compared_at old new h = block_compared (block_named h) (get old.blocks h) (get new.blocks h)
 
 abbrev pub map_compared : ℕ → ℕ → List Difference
-map_compared old new = if old == new then [] else differences.MapBlock (block_name old) (block_name new) ∷ []
+map_compared old new = if old == new then [] else differences.MapBlock (block_named old) (block_named new) ∷ []
 
 unfoldable pub blocks_compared : Document → Document → List Difference
 blocks_compared old new = flat_map (compared_at old new) vm_handles

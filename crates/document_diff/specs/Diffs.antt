@@ -3,17 +3,17 @@ use Rattle.std.specs.Prelude.{◌≡◌, ℕ, List, Bool, true, ◌==◌, length
 use Rattle.geos_model.specs.Document.{Document}
 use Rattle.document_file.specs.StoredDocuments.{StoredState}
 use Rattle.document_diff.specs.Differences.{compared}
-use Rattle.document_diff.specs.Lines.{text}
+use Rattle.document_diff.specs.Lines.{diff_lines}
 use Rattle.document_diff.specs.declared.version.Version.{Version}
 use Rattle.document_diff.specs.declared.version.Version.TheVariants as versions
 
 -- the one of a file's documents
-abbrev pub document_of : {S : Type 0} → Version → StoredState S → Document
-document_of versions.Updated file = file.updated
-document_of versions.Saved file = file.saved
+abbrev pub document_by : {S : Type 0} → Version → StoredState S → Document
+document_by versions.Updated file = file.updated
+document_by versions.Saved file = file.saved
 
 abbrev pub diff_text : Document → Document → List ℕ
-diff_text old new = text (compared old new)
+diff_text old new = diff_lines (compared old new)
 
 -- there are no bytes
 abbrev pub is_no_text : List ℕ → Bool

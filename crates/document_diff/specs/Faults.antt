@@ -21,10 +21,10 @@ side_fault side File = diff_faults.File side
 side_fault side fault = diff_faults.Damaged side
 
 -- a reading failed: there is no memory, the store failed in this very call, or it isn't honest
-abbrev pub IsReadRefusal : StoreFacts → StoreFacts → Fault → Type 0
-IsReadRefusal old new Memory = Unit {0}
-IsReadRefusal old new File = FailedSince old new
-IsReadRefusal old new fault = IsTrue old.honest → ⊥
+abbrev pub IsBlockRefusal : StoreFacts → StoreFacts → Fault → Type 0
+IsBlockRefusal old new Memory = Unit {0}
+IsBlockRefusal old new File = FailedSince old new
+IsBlockRefusal old new fault = IsTrue old.honest → ⊥
 
 -- an image isn't read: there is no memory, or it is that of no body that can be
 abbrev pub IsImageRefusal : List ℕ → Fault → Type 0
@@ -48,5 +48,5 @@ IsOwnRefusal diff_faults.Memory = Unit {0}
 IsOwnRefusal diff_faults.Write = Unit {0}
 IsOwnRefusal fault = ⊥
 
-abbrev pub IsWriteFault : DiffFault → Type 0
-IsWriteFault fault = fault ≡ diff_faults.Write
+abbrev pub IsDiffWriteFault : DiffFault → Type 0
+IsDiffWriteFault fault = fault ≡ diff_faults.Write

@@ -12,35 +12,36 @@ use Rattle.document_diff.specs.declared.difference.Difference.{Difference}
 use Rattle.document_diff.specs.declared.difference.Difference.TheVariants as differences
 
 -- a name, and each operand behind a space
-abbrev pub words : List ℕ → List Word → List ℕ
-words name operands = name ++ flat_map (λ w. 32 ∷ word_text w) operands
+abbrev pub phrase : List ℕ → List Word → List ℕ
+phrase name operands = name ++ flat_map (λ w. 32 ∷ word_text w) operands
 
 abbrev pub size_text : BodySize → List ℕ
-size_text (sizes.Raw n) = words (codes " raw") (Number n ∷ [])
-size_text (sizes.Heap n) = words (codes " heap") (Number n ∷ [])
+size_text (sizes.Raw n) = phrase (codes " raw") (Number n ∷ [])
+size_text (sizes.Heap n) = phrase (codes " heap") (Number n ∷ [])
 
 -- the old size, the new one, and the first byte that differs
 abbrev pub change_text : BytesChange → List ℕ
-change_text change = words [] (Number change.old ∷ Number change.new ∷ []) ++ words (codes " at") (Number change.at ∷ [])
+change_text change =
+    phrase [] (Number change.old ∷ Number change.new ∷ []) ++ phrase (codes " at") (Number change.at ∷ [])
 
 unfoldable pub difference_text : Difference → List ℕ
-difference_text (differences.MapBlock old new) = words (codes "map") (Handle old.0 ∷ Handle new.0 ∷ [])
-difference_text (differences.BlockWent b size) = words (codes "-") (Handle b.0 ∷ []) ++ size_text size
-difference_text (differences.BlockCame b size) = words (codes "+") (Handle b.0 ∷ []) ++ size_text size
+difference_text (differences.MapBlock old new) = phrase (codes "map") (Handle old.0 ∷ Handle new.0 ∷ [])
+difference_text (differences.BlockWent b size) = phrase (codes "-") (Handle b.0 ∷ []) ++ size_text size
+difference_text (differences.BlockCame b size) = phrase (codes "+") (Handle b.0 ∷ []) ++ size_text size
 difference_text (differences.UserId b old new) =
-    words (codes "!") (Handle b.0 ∷ []) ++ words (codes " uid") (Number old ∷ Number new ∷ [])
+    phrase (codes "!") (Handle b.0 ∷ []) ++ phrase (codes " uid") (Number old ∷ Number new ∷ [])
 difference_text (differences.HeapType b old new) =
-    words (codes "!") (Handle b.0 ∷ []) ++ words (codes " type") (Number old ∷ Number new ∷ [])
+    phrase (codes "!") (Handle b.0 ∷ []) ++ phrase (codes " type") (Number old ∷ Number new ∷ [])
 difference_text (differences.RawChanged b change) =
-    words (codes "!") (Handle b.0 ∷ []) ++ codes " raw" ++ change_text change
-difference_text (differences.ChunkWent b c n) = words (codes "-") (Handle b.0 ∷ Handle c.0 ∷ Number n ∷ [])
-difference_text (differences.ChunkCame b c n) = words (codes "+") (Handle b.0 ∷ Handle c.0 ∷ Number n ∷ [])
+    phrase (codes "!") (Handle b.0 ∷ []) ++ codes " raw" ++ change_text change
+difference_text (differences.ChunkWent b c n) = phrase (codes "-") (Handle b.0 ∷ Handle c.0 ∷ Number n ∷ [])
+difference_text (differences.ChunkCame b c n) = phrase (codes "+") (Handle b.0 ∷ Handle c.0 ∷ Number n ∷ [])
 difference_text (differences.ChunkChanged b c change) =
-    words (codes "!") (Handle b.0 ∷ Handle c.0 ∷ []) ++ change_text change
+    phrase (codes "!") (Handle b.0 ∷ Handle c.0 ∷ []) ++ change_text change
 
-abbrev pub line : Difference → List ℕ
-line difference = difference_text difference ++ line_feed ∷ []
+abbrev pub diff_line : Difference → List ℕ
+diff_line difference = difference_text difference ++ line_feed ∷ []
 
 -- a line for each, in order
-abbrev pub text : List Difference → List ℕ
-text ds = flat_map line ds
+abbrev pub diff_lines : List Difference → List ℕ
+diff_lines ds = flat_map diff_line ds

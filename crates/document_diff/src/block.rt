@@ -3,7 +3,7 @@ ghost use Rattle.std.specs.Prelude.{◌≡◌, IfErr, IfOk, true};
 ghost use Rattle.geos_model.specs.Document.{is_valid_body};
 ghost use Rattle.geos_model.specs.Image.{image};
 ghost use Rattle.geos_model.specs.declared.command.Body.{Body};
-ghost use Rattle.document_diff.specs.Blocks.{body_of};
+ghost use Rattle.document_diff.specs.Blocks.{body_as_read};
 ghost use Rattle.document_diff.specs.Faults.{IsImageRefusal};
 
 use file_format::BodyKind;
@@ -29,7 +29,7 @@ pub struct BlockRead {
 pub fn read_body(alloc: Global, bytes: Vec<u8>) -> Result<BodyRead, Fault>
     ensures err { IfErr result (IsImageRefusal bytes.items) }
     ensures ok { IfOk result (λ read. (body : Body) → is_valid_body body ≡ true → image body ≡ bytes.items
-        → body_of read ≡ body) }
+        → body_as_read read ≡ body) }
 {
     if bytes.is_empty() {
         return Err(Fault::Damaged);

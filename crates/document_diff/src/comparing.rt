@@ -2,9 +2,9 @@
 #![tactic(auto, using(crate::proofs::Texts::texts))]
 
 ghost use Rattle.std.specs.Prelude.{◌≡◌, ◌++◌, IfOk, OnOk};
-ghost use Rattle.document_diff.specs.Blocks.{block_of, body_of, found_block};
-ghost use Rattle.document_diff.specs.Differences.{attributes_compared, block_compared, bodies_compared, body_size, map_compared, raw_compared, type_compared, user_id_compared};
-ghost use Rattle.document_diff.specs.Lines.{line, text};
+ghost use Rattle.document_diff.specs.Blocks.{block_as_read, body_as_read, found_block};
+ghost use Rattle.document_diff.specs.Differences.{attributes_compared, block_compared, bodies_compared, map_compared, raw_compared, size_of_body, type_compared, user_id_compared};
+ghost use Rattle.document_diff.specs.Lines.{diff_line, diff_lines};
 ghost use Rattle.document_diff.specs.declared.difference.Difference.TheVariants as differences;
 
 use crate::block::{BlockRead, BodyRead};
@@ -16,7 +16,7 @@ use geos_model::{Attributes, VmHandle};
 use std::alloc::AllocError;
 
 fn size_of(body: &BodyRead) -> Result<BodySize, AllocError>
-    ensures { IfOk result (λ size. size ≡ body_size (body_of body.now)) }
+    ensures { IfOk result (λ size. size ≡ size_of_body (body_as_read body.now)) }
 {
     match body {
         BodyRead::Raw(bytes) => Ok(BodySize::Raw(bytes.len())),
@@ -29,7 +29,8 @@ fn size_of(body: &BodyRead) -> Result<BodySize, AllocError>
 
 fn push_went(out: &mut Vec<u8>, block: VmHandle, old: &BodyRead) -> Result<(), AllocError>
     ensures { OnOk result
-        (out.new.items ≡ out.old.items ++ line (differences.BlockWent block (body_size (body_of old.now)))) }
+        (out.new.items ≡ out.old.items
+        ++ diff_line (differences.BlockWent block (size_of_body (body_as_read old.now)))) }
 {
     let size = size_of(old)?;
     push_difference(out, Difference::BlockWent(block, size))
@@ -37,14 +38,15 @@ fn push_went(out: &mut Vec<u8>, block: VmHandle, old: &BodyRead) -> Result<(), A
 
 fn push_came(out: &mut Vec<u8>, block: VmHandle, new: &BodyRead) -> Result<(), AllocError>
     ensures { OnOk result
-        (out.new.items ≡ out.old.items ++ line (differences.BlockCame block (body_size (body_of new.now)))) }
+        (out.new.items ≡ out.old.items
+        ++ diff_line (differences.BlockCame block (size_of_body (body_as_read new.now)))) }
 {
     let size = size_of(new)?;
     push_difference(out, Difference::BlockCame(block, size))
 }
 
 fn push_user_ids(out: &mut Vec<u8>, block: VmHandle, old: u16, new: u16) -> Result<(), AllocError>
-    ensures { OnOk result (out.new.items ≡ out.old.items ++ text (user_id_compared block old new)) }
+    ensures { OnOk result (out.new.items ≡ out.old.items ++ diff_lines (user_id_compared block old new)) }
 {
     if old == new {
         return Ok(());
@@ -53,7 +55,7 @@ fn push_user_ids(out: &mut Vec<u8>, block: VmHandle, old: u16, new: u16) -> Resu
 }
 
 fn push_types(out: &mut Vec<u8>, block: VmHandle, old: u16, new: u16) -> Result<(), AllocError>
-    ensures { OnOk result (out.new.items ≡ out.old.items ++ text (type_compared block old new)) }
+    ensures { OnOk result (out.new.items ≡ out.old.items ++ diff_lines (type_compared block old new)) }
 {
     if old == new {
         return Ok(());
@@ -67,14 +69,14 @@ fn push_attributes(
     old: Attributes,
     new: Attributes,
 ) -> Result<(), AllocError>
-    ensures { OnOk result (out.new.items ≡ out.old.items ++ text (attributes_compared block old new)) }
+    ensures { OnOk result (out.new.items ≡ out.old.items ++ diff_lines (attributes_compared block old new)) }
 {
     push_user_ids(out, block, old.user_id, new.user_id)?;
     push_types(out, block, old.heap_type, new.heap_type)
 }
 
 fn push_raws(out: &mut Vec<u8>, block: VmHandle, old: &[u8], new: &[u8]) -> Result<(), AllocError>
-    ensures { OnOk result (out.new.items ≡ out.old.items ++ text (raw_compared block old.now new.now)) }
+    ensures { OnOk result (out.new.items ≡ out.old.items ++ diff_lines (raw_compared block old.now new.now)) }
 {
     if is_same(old, new) {
         return Ok(());
@@ -89,8 +91,9 @@ fn push_both(
     old: &BlockRead,
     new: &BlockRead,
 ) -> Result<(), AllocError>
-    ensures { OnOk result (out.new.items ≡ out.old.items ++ text
-        (bodies_compared block old.now.attributes new.now.attributes (body_of old.now.body) (body_of new.now.body))) }
+    ensures { OnOk result (out.new.items ≡ out.old.items ++ diff_lines
+        (bodies_compared block old.now.attributes new.now.attributes
+        (body_as_read old.now.body) (body_as_read new.now.body))) }
 {
     match (&old.body, &new.body) {
         (BodyRead::Raw(before), BodyRead::Raw(after)) => {
@@ -116,7 +119,8 @@ pub fn push_blocks(
     new: &Option<BlockRead>,
 ) -> Result<(), AllocError>
     ensures { OnOk result
-        (out.new.items ≡ out.old.items ++ text (block_compared block (found_block old.now) (found_block new.now))) }
+        (out.new.items ≡ out.old.items
+        ++ diff_lines (block_compared block (found_block old.now) (found_block new.now))) }
 {
     match (old, new) {
         (None, None) => Ok(()),
@@ -128,7 +132,7 @@ pub fn push_blocks(
 
 /// What differs of the map blocks.
 pub fn push_map_blocks(out: &mut Vec<u8>, old: VmHandle, new: VmHandle) -> Result<(), AllocError>
-    ensures { OnOk result (out.new.items ≡ out.old.items ++ text (map_compared old.0 new.0)) }
+    ensures { OnOk result (out.new.items ≡ out.old.items ++ diff_lines (map_compared old.0 new.0)) }
 {
     if old.0 == new.0 {
         return Ok(());

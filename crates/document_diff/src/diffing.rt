@@ -5,9 +5,9 @@ ghost use Rattle.std.specs.Prelude.{◌≡◌, ◌&&◌, IfErr, IfOk, IsTrue, On
 ghost use Rattle.std.specs.Io.KnownBytes.{Appends};
 ghost use Rattle.document_file.specs.StoredDocuments.{OnlyReadsDocuments};
 ghost use Rattle.document_diff.specs.Differences.{blocks_compared, compared_at, map_compared};
-ghost use Rattle.document_diff.specs.Diffs.{TellsSame, diff_text, document_of, is_no_text};
-ghost use Rattle.document_diff.specs.Faults.{IsDiffRefusal, IsOwnRefusal, IsWriteFault};
-ghost use Rattle.document_diff.specs.Lines.{text};
+ghost use Rattle.document_diff.specs.Diffs.{TellsSame, diff_text, document_by, is_no_text};
+ghost use Rattle.document_diff.specs.Faults.{IsDiffRefusal, IsDiffWriteFault, IsOwnRefusal};
+ghost use Rattle.document_diff.specs.Lines.{diff_lines};
 
 use crate::comparing::{push_blocks, push_map_blocks};
 use crate::fault::{DiffFault, Side};
@@ -20,7 +20,7 @@ use std::io::Write;
 use vm_store::Store;
 
 fn send<W: Write>(bytes: &[u8], writer: &mut W) -> Result<bool, DiffFault>
-    ensures err { IfErr result IsWriteFault }
+    ensures err { IfErr result IsDiffWriteFault }
     ensures ok { IfOk result (λ none. (none ≡ is_no_text bytes.now)
         × Appends (W.contents writer.old) (W.contents writer.new) bytes.now) }
 {
@@ -50,9 +50,10 @@ fn write_block<S: Store, T: Store, W: Write>(
     ensures fails { IfErr result (IsDiffRefusal (S.facts old.old.store) (S.facts old.new.store) (T.facts new.old.store)
         (T.facts new.new.store)) }
     ensures ok { IfOk result (λ none. IsTrue (S.facts old.old.store).honest → IsTrue (T.facts new.old.store).honest
-        → (none ≡ is_no_text (text (compared_at (document_of version old.old) (document_of version new.old) block.0)))
+        → (none ≡ is_no_text
+        (diff_lines (compared_at (document_by version old.old) (document_by version new.old) block.0)))
         × Appends (W.contents writer.old) (W.contents writer.new)
-        (text (compared_at (document_of version old.old) (document_of version new.old) block.0))) }
+        (diff_lines (compared_at (document_by version old.old) (document_by version new.old) block.0))) }
 {
     let before = match read_block(alloc, old, version, block) {
         Ok(found) => found,
@@ -80,9 +81,9 @@ fn write_blocks<S: Store, T: Store, W: Write>(
     ensures fails { IfErr result (IsDiffRefusal (S.facts old.old.store) (S.facts old.new.store) (T.facts new.old.store)
         (T.facts new.new.store)) }
     ensures ok { IfOk result (λ none. IsTrue (S.facts old.old.store).honest → IsTrue (T.facts new.old.store).honest
-        → (none ≡ is_no_text (text (blocks_compared (document_of version old.old) (document_of version new.old))))
+        → (none ≡ is_no_text (diff_lines (blocks_compared (document_by version old.old) (document_by version new.old))))
         × Appends (W.contents writer.old) (W.contents writer.new)
-        (text (blocks_compared (document_of version old.old) (document_of version new.old)))) }
+        (diff_lines (blocks_compared (document_by version old.old) (document_by version new.old)))) }
 {
     let mut none = true;
     for i in 0..MOST_BLOCKS {
@@ -100,8 +101,8 @@ fn write_map_blocks<W: Write>(
     writer: &mut W,
 ) -> Result<bool, DiffFault>
     ensures err { IfErr result IsOwnRefusal }
-    ensures ok { IfOk result (λ none. (none ≡ is_no_text (text (map_compared old.0 new.0)))
-        × Appends (W.contents writer.old) (W.contents writer.new) (text (map_compared old.0 new.0))) }
+    ensures ok { IfOk result (λ none. (none ≡ is_no_text (diff_lines (map_compared old.0 new.0)))
+        × Appends (W.contents writer.old) (W.contents writer.new) (diff_lines (map_compared old.0 new.0))) }
 {
     let mut out = Vec::new(alloc);
     push_map_blocks(&mut out, old, new)?;
@@ -126,12 +127,12 @@ pub fn diff<S: Store, T: Store, W: Write>(
     // The text.
     ensures text { OnOk result (IsTrue (S.facts old.old.store).honest → IsTrue (T.facts new.old.store).honest
         → Appends (W.contents writer.old) (W.contents writer.new)
-        (diff_text (document_of version old.old) (document_of version new.old))) }
+        (diff_text (document_by version old.old) (document_by version new.old))) }
     // The answer.
     ensures answer { IfOk result (λ same. IsTrue (S.facts old.old.store).honest
         → IsTrue (T.facts new.old.store).honest
-        → (same ≡ is_no_text (diff_text (document_of version old.old) (document_of version new.old)))
-        × TellsSame (document_of version old.old) (document_of version new.old) same) }
+        → (same ≡ is_no_text (diff_text (document_by version old.old) (document_by version new.old)))
+        × TellsSame (document_by version old.old) (document_by version new.old) same) }
 {
     old.reveal_invariant();
     new.reveal_invariant();

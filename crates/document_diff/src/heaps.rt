@@ -5,8 +5,8 @@ ghost use Rattle.std.specs.Prelude.{◌≡◌, ◌++◌, ◌<◌, OnOk, Some};
 ghost use Rattle.std.specs.Option.{option_copied};
 ghost use Rattle.std.specs.FinMap.{get};
 ghost use Rattle.geos_model.specs.Heap.{handle_of, most_chunks};
-ghost use Rattle.document_diff.specs.Differences.{chunk_compared, chunk_name, heap_compared};
-ghost use Rattle.document_diff.specs.Lines.{text};
+ghost use Rattle.document_diff.specs.Differences.{chunk_compared, chunk_named, heap_compared};
+ghost use Rattle.document_diff.specs.Lines.{diff_lines};
 
 use crate::bytes::{bytes_change, is_same};
 use crate::difference::Difference;
@@ -27,7 +27,7 @@ fn push_chunk(
     new: Option<&[u8]>,
 ) -> Result<(), AllocError>
     ensures { OnOk result (out.new.items ≡ out.old.items
-        ++ text (chunk_compared block chunk (option_copied old.entry) (option_copied new.entry))) }
+        ++ diff_lines (chunk_compared block chunk (option_copied old.entry) (option_copied new.entry))) }
 {
     match (old, new) {
         (None, None) => Ok(()),
@@ -46,7 +46,7 @@ fn push_both(
     new: &[u8],
 ) -> Result<(), AllocError>
     ensures { OnOk result (out.new.items ≡ out.old.items
-        ++ text (chunk_compared block chunk (Some old.now) (Some new.now))) }
+        ++ diff_lines (chunk_compared block chunk (Some old.now) (Some new.now))) }
 {
     if is_same(old, new) {
         return Ok(());
@@ -60,7 +60,7 @@ fn push_both(
 // The handle of an entry of a table.
 fn chunk_handle(i: usize) -> ChunkHandle
     requires { i < most_chunks }
-    ensures { result ≡ chunk_name (handle_of i) }
+    ensures { result ≡ chunk_named (handle_of i) }
 {
     ChunkHandle((16 + 2 * i) as u16)
 }
@@ -74,7 +74,7 @@ fn push_entry(
     i: usize,
 ) -> Result<(), AllocError>
     requires { i < most_chunks }
-    ensures { OnOk result (out.new.items ≡ out.old.items ++ text (chunk_compared block (chunk_name (handle_of i))
+    ensures { OnOk result (out.new.items ≡ out.old.items ++ diff_lines (chunk_compared block (chunk_named (handle_of i))
         (get old.now.chunks (handle_of i)) (get new.now.chunks (handle_of i)))) }
 {
     let chunk = chunk_handle(i);
@@ -89,7 +89,7 @@ pub fn push_heaps(
     new: &Heap,
 ) -> Result<(), AllocError>
     ensures { OnOk result
-        (out.new.items ≡ out.old.items ++ text (heap_compared block old.now.chunks new.now.chunks)) }
+        (out.new.items ≡ out.old.items ++ diff_lines (heap_compared block old.now.chunks new.now.chunks)) }
 {
     for i in 0..MOST_CHUNKS {
         push_entry(out, block, old, new, i)?;

@@ -3,7 +3,7 @@
 
 ghost use Rattle.std.specs.Prelude.{◌≡◌, ◌++◌, ◌∷◌, [], OnOk, codes};
 ghost use Rattle.geos_script.specs.declared.word.Word.TheVariants.{Handle, Number};
-ghost use Rattle.document_diff.specs.Lines.{change_text, difference_text, line, size_text, words};
+ghost use Rattle.document_diff.specs.Lines.{change_text, diff_line, difference_text, phrase, size_text};
 ghost use Rattle.document_diff.specs.declared.difference.Difference.TheVariants as differences;
 
 use crate::difference::{BodySize, BytesChange, Difference};
@@ -36,7 +36,7 @@ fn push_change(out: &mut Vec<u8>, change: BytesChange) -> Result<(), AllocError>
 
 // A sign, and a block.
 fn push_block(out: &mut Vec<u8>, sign: &str, block: VmHandle) -> Result<(), AllocError>
-    ensures { OnOk result (out.new.items ≡ out.old.items ++ words sign.now (Handle block.0 ∷ [])) }
+    ensures { OnOk result (out.new.items ≡ out.old.items ++ phrase sign.now (Handle block.0 ∷ [])) }
 {
     push_words(out, sign, &[Word::Handle(block.0)])
 }
@@ -48,7 +48,7 @@ fn push_body(
     size: BodySize,
 ) -> Result<(), AllocError>
     ensures { OnOk result
-        (out.new.items ≡ out.old.items ++ (words sign.now (Handle block.0 ∷ []) ++ size_text size)) }
+        (out.new.items ≡ out.old.items ++ (phrase sign.now (Handle block.0 ∷ []) ++ size_text size)) }
 {
     push_block(out, sign, block)?;
     push_size(out, size)
@@ -63,7 +63,7 @@ fn push_numbers(
     new: u16,
 ) -> Result<(), AllocError>
     ensures { OnOk result (out.new.items ≡ out.old.items
-        ++ (words (codes "!") (Handle block.0 ∷ []) ++ words name.now (Number old ∷ Number new ∷ []))) }
+        ++ (phrase (codes "!") (Handle block.0 ∷ []) ++ phrase name.now (Number old ∷ Number new ∷ []))) }
 {
     push_block(out, "!", block)?;
     push_words(
@@ -81,7 +81,7 @@ fn push_chunk(
     size: usize,
 ) -> Result<(), AllocError>
     ensures { OnOk result (out.new.items ≡ out.old.items
-        ++ words sign.now (Handle block.0 ∷ Handle chunk.0 ∷ Number size ∷ [])) }
+        ++ phrase sign.now (Handle block.0 ∷ Handle chunk.0 ∷ Number size ∷ [])) }
 {
     push_words(
         out,
@@ -142,7 +142,7 @@ fn push_text(out: &mut Vec<u8>, difference: Difference) -> Result<(), AllocError
 
 /// The line of a difference.
 pub fn push_difference(out: &mut Vec<u8>, difference: Difference) -> Result<(), AllocError>
-    ensures { OnOk result (out.new.items ≡ out.old.items ++ line difference) }
+    ensures { OnOk result (out.new.items ≡ out.old.items ++ diff_line difference) }
 {
     push_text(out, difference)?;
     Ok(out.push(b'\n')?)

@@ -3,9 +3,9 @@ ghost use Rattle.std.specs.Prelude.{◌≡◌, IfErr, IfOk, IsTrue, Some, true};
 ghost use Rattle.std.specs.FinMap.{get};
 ghost use Rattle.geos_model.specs.Document.{attributes_of, is_live};
 ghost use Rattle.document_file.specs.StoredDocuments.{OnlyReadsDocuments};
-ghost use Rattle.document_diff.specs.Blocks.{block_of, found_block};
-ghost use Rattle.document_diff.specs.Diffs.{document_of};
-ghost use Rattle.document_diff.specs.Faults.{IsReadRefusal};
+ghost use Rattle.document_diff.specs.Blocks.{block_as_read, found_block};
+ghost use Rattle.document_diff.specs.Diffs.{document_by};
+ghost use Rattle.document_diff.specs.Faults.{IsBlockRefusal};
 
 use crate::block::{BlockRead, read_body};
 use crate::version::Version;
@@ -22,12 +22,12 @@ fn read_live<S: Store>(
     block: VmHandle,
     attributes: Attributes,
 ) -> Result<BlockRead, Fault>
-    requires live { is_live (document_of version file.old) block.0 ≡ true }
-    requires attributes { attributes ≡ attributes_of (document_of version file.old) block.0 }
+    requires live { is_live (document_by version file.old) block.0 ≡ true }
+    requires attributes { attributes ≡ attributes_of (document_by version file.old) block.0 }
     ensures reads { OnlyReadsDocuments S.facts file.old file.new }
-    ensures fails { IfErr result (IsReadRefusal (S.facts file.old.store) (S.facts file.new.store)) }
+    ensures fails { IfErr result (IsBlockRefusal (S.facts file.old.store) (S.facts file.new.store)) }
     ensures ok { IfOk result (λ read. IsTrue (S.facts file.old.store).honest
-        → Some (block_of read) ≡ get (document_of version file.old).blocks block.0) }
+        → Some (block_as_read read) ≡ get (document_by version file.old).blocks block.0) }
 {
     file.reveal_invariant();
     let image = version.read(file, block)?;
@@ -43,9 +43,9 @@ pub fn read_block<S: Store>(
     block: VmHandle,
 ) -> Result<Option<BlockRead>, Fault>
     ensures reads { OnlyReadsDocuments S.facts file.old file.new }
-    ensures fails { IfErr result (IsReadRefusal (S.facts file.old.store) (S.facts file.new.store)) }
+    ensures fails { IfErr result (IsBlockRefusal (S.facts file.old.store) (S.facts file.new.store)) }
     ensures ok { IfOk result (λ found. IsTrue (S.facts file.old.store).honest
-        → found_block found ≡ get (document_of version file.old).blocks block.0) }
+        → found_block found ≡ get (document_by version file.old).blocks block.0) }
 {
     match version.attributes(file, block) {
         None => Ok(None),

@@ -4,7 +4,7 @@ ghost use Rattle.geos_model.specs.Document.{attributes_of, block_at, is_live};
 ghost use Rattle.geos_model.specs.Image.{image};
 ghost use Rattle.document_file.specs.Effects.{Fails, IsDamage};
 ghost use Rattle.document_file.specs.StoredDocuments.{OnlyReadsDocuments};
-ghost use Rattle.document_diff.specs.Diffs.{document_of};
+ghost use Rattle.document_diff.specs.Diffs.{document_by};
 
 use document_file::StoredDocuments;
 use geos_model::{Attributes, Fault, VmHandle};
@@ -26,8 +26,8 @@ impl Version {
         file: &StoredDocuments<S>,
         block: VmHandle,
     ) -> Option<Attributes>
-        ensures live { is_some result ≡ is_live (document_of self file.now) block.0 }
-        ensures attributes { IfSome result (λ a. a ≡ attributes_of (document_of self file.now) block.0) }
+        ensures live { is_some result ≡ is_live (document_by self file.now) block.0 }
+        ensures attributes { IfSome result (λ a. a ≡ attributes_of (document_by self file.now) block.0) }
     {
         let place = match self {
             Version::Updated => file.entry(block),
@@ -41,7 +41,7 @@ impl Version {
 
     /// The map block, 0 if there is none.
     pub fn map_block<S: Store>(self, file: &StoredDocuments<S>) -> VmHandle
-        ensures { result.0 ≡ (document_of self file.now).map_block }
+        ensures { result.0 ≡ (document_by self file.now).map_block }
     {
         match self {
             Version::Updated => file.map_block(),
@@ -55,10 +55,10 @@ impl Version {
         file: &mut StoredDocuments<S>,
         block: VmHandle,
     ) -> Result<Vec<u8>, Fault>
-        requires { is_live (document_of self file.old) block.0 ≡ true }
+        requires { is_live (document_by self file.old) block.0 ≡ true }
         ensures reads { OnlyReadsDocuments S.facts file.old file.new }
         ensures image { IfOk result (λ bytes. IsTrue (S.facts file.old.store).honest
-            → bytes.items ≡ image (block_at (document_of self file.old) block.0).body) }
+            → bytes.items ≡ image (block_at (document_by self file.old) block.0).body) }
         ensures fails { Fails S.facts (IsDamage (S.facts file.old.store).honest)
             file.old.store file.new.store result }
     {

@@ -16,7 +16,7 @@ use Rattle.geos_model.proofs.HeapEdits.{get-put_same, get-put_other}
 use Rattle.geos_model.specs.declared.command.Edit.{Edit}
 use Rattle.geos_model.specs.declared.command.Edit.TheVariants as edits
 use Rattle.document_dump.specs.Changes.{block_freed, block_name, is_made}
-use Rattle.document_dump.specs.Entries.{HasBlocks, IsListed, entry_with}
+use Rattle.document_dump.specs.Entries.{HasBlocks, IsListedAs, entry_with}
 use Rattle.document_dump.specs.Lines.{line, text}
 use Rattle.document_dump.specs.Steps.{IsChange}
 use Rattle.document_dump.specs.declared.changes.Change.TheVariants.{Free}
@@ -108,7 +108,7 @@ document_there : (map_block : ℕ) (o : Option (List Numbered)) (d : Document) �
 document_there map_block None d e = absurd (cc e)
 document_there map_block (Some blocks) d e = (blocks, (refl, sym (cc e)))
 
-module _ (file : List ℕ) (map_block : ℕ) (es : List Entry) (d : Document) (is : IsListed file map_block es d) where
+module _ (file : List ℕ) (map_block : ℕ) (es : List Entry) (d : Document) (is : IsListedAs file map_block es d) where
   there : (blocks : List Numbered) × ((blocks_of_entries file es ≡ Some blocks) × (d ≡ (let made : Document = record { blocks = from_entries blocks; map_block = map_block } in made)))
   there = document_there map_block (blocks_of_entries file es) d is
 
@@ -150,7 +150,7 @@ document_some map_block None e = absurd (cc e)
 document_some map_block (Some blocks) e = (record { blocks = from_entries blocks; map_block = map_block }, refl)
 
 -- entries that have their blocks make a document
-pub listed_document : (file : List ℕ) (map_block : ℕ) (es : List Entry) → HasBlocks file es → (d : Document) × IsListed file map_block es d
+pub listed_document : (file : List ℕ) (map_block : ℕ) (es : List Entry) → HasBlocks file es → (d : Document) × IsListedAs file map_block es d
 listed_document file map_block es has = document_some map_block (blocks_of_entries file es) has
 
 -- The first entry of a handle, found from the front.
@@ -172,7 +172,7 @@ none_next h (e ∷ es) (suc i) none below before isnt = elim (cases_Bool (e.hand
 ]
 
 -- What goes again.
-module _ (file : List ℕ) (map_block : ℕ) (es : List Entry) (d : Document) (is : IsListed file map_block es d) (h last : ℕ) where
+module _ (file : List ℕ) (map_block : ℕ) (es : List Entry) (d : Document) (is : IsListedAs file map_block es d) (h last : ℕ) where
   freed : (b c : Bool) → is_some (entry_with h es) ≡ b → nat_lt h last ≡ c → block_freed empty_document d last h ≡ cond (not b && c) (edits.FreeBlock (block_name h) ∷ []) []
   freed b c listed below =
       let gone : List Edit = edits.FreeBlock (block_name h) ∷ [] in

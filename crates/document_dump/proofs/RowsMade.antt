@@ -13,7 +13,7 @@ use Rattle.geos_model.specs.declared.handle.VmHandle.{VmHandle}
 use Rattle.geos_model.specs.declared.handle.ChunkHandle.{ChunkHandle}
 use Rattle.geos_model.specs.declared.command.Edit.{Edit}
 use Rattle.document_dump.specs.Lines.{line, text}
-use Rattle.document_dump.specs.Rows.{are_own, array_edits, elements_to_make, if_own_elements, if_own_names, is_first, is_own, names_to_make, row_created, row_made, slot_made}
+use Rattle.document_dump.specs.Rows.{are_own, array_edits, elements_to_make, if_own_elements, if_own_names, is_lowest_token, is_own, names_to_make, row_created, row_made, slot_made}
 use Rattle.document_dump.specs.Arrays.{array_made}
 use Rattle.document_dump.specs.declared.rows.Row.{Row}
 use Rattle.document_dump.specs.declared.rows.Row.TheVariants as rows
@@ -23,7 +23,7 @@ pub own_is : (skip t : ℕ) (s : Slots) (e : Element) (x : List ℕ) (o : Option
 own_is skip t s e x o e_is x_is o_is =
     ap (λ (p : Option ℕ). option_map_or (λ u. u == t) p false) o_is
     ∙ ap (λ (l : List ℕ). option_map_or (λ u. u == t) (token_of (λ y. same_bytes (drop skip y.bytes) l) s) false) x_is
-    ∙ ap (λ (slot : Option Element). option_map_or (is_first skip s t) slot false) e_is
+    ∙ ap (λ (slot : Option Element). option_map_or (is_lowest_token skip s t) slot false) e_is
 
 -- a test of each of the numbers from one on, of which the first passes or doesn't
 pub all_next : (f : ℕ → Bool) (t n : ℕ) → t < n → list_all f (range_with_len t (n - t)) ≡ (f t && list_all f (range_with_len (t + 1) (n - (t + 1))))

@@ -17,5 +17,5 @@ abbrev pub HasBlocks : List ℕ → List Entry → Type 0
 HasBlocks file entries = is_some (blocks_of_entries file entries) ≡ true
 
 -- in a file these entries and this map block make a document
-abbrev pub IsListed : List ℕ → ℕ → List Entry → Document → Type 0
-IsListed file map_block entries d = document_of file (listing map_block entries) ≡ Some d
+abbrev pub IsListedAs : List ℕ → ℕ → List Entry → Document → Type 0
+IsListedAs file map_block entries d = document_of file (listing map_block entries) ≡ Some d

@@ -17,13 +17,13 @@ use Rattle.document_dump.specs.declared.rows.Row.{Row}
 use Rattle.document_dump.specs.declared.rows.Row.TheVariants as rows
 
 -- the token is the lowest one whose element has these bytes behind the first ones
-abbrev pub is_first : ℕ → Slots → ℕ → Element → Bool
-is_first skip s t e =
+abbrev pub is_lowest_token : ℕ → Slots → ℕ → Element → Bool
+is_lowest_token skip s t e =
     option_map_or (λ u. u == t) (token_of (λ x. same_bytes (drop skip x.bytes) (drop skip e.bytes)) s) false
 
 -- the token has an element, and no lower one has an equal one
 abbrev pub is_own : ℕ → Slots → ℕ → Bool
-is_own skip s t = option_map_or (is_first skip s t) (element_at s t) false
+is_own skip s t = option_map_or (is_lowest_token skip s t) (element_at s t) false
 
 unfoldable pub are_own : ℕ → Slots → Bool
 are_own skip s = list_all (is_own skip s) (range_with_len 0 (length s.slots))

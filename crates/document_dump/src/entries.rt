@@ -7,7 +7,7 @@ ghost use Rattle.geos_model.specs.Document.{Document, empty_document, vm_handles
 ghost use Rattle.file_format.specs.Reading.{OnlyReadsStore};
 ghost use Rattle.document_dump.specs.Changes.{after_block, block_changed, block_freed, blocks_changed, blocks_freed, changes, first_progress, progress_after};
 ghost use Rattle.document_dump.specs.Dumps.{is_some_text, saved_text};
-ghost use Rattle.document_dump.specs.Entries.{HasBlocks, IsListed, entry_with};
+ghost use Rattle.document_dump.specs.Entries.{HasBlocks, IsListedAs, entry_with};
 ghost use Rattle.document_dump.specs.Faults.{IsDumpRefusal};
 ghost use Rattle.document_dump.specs.Lines.{text};
 ghost use Rattle.document_dump.specs.Steps.{IsChange};
@@ -50,7 +50,7 @@ fn listed_change<S: Store>(
     ensures reads { OnlyReadsStore (S.facts store.old) (S.facts store.new) }
     ensures fails { IfErr result (IsDumpRefusal (S.facts store.old) (S.facts store.new)) }
     ensures ok { IfOk result (λ change. IsTrue (S.facts store.old).honest
-        → (map_block : ℕ) (d : Document) → IsListed (S.facts store.old).content map_block entries.now d
+        → (map_block : ℕ) (d : Document) → IsListedAs (S.facts store.old).content map_block entries.now d
         → IsChange empty_document d block.0 change) }
 {
     match entry_with(entries, block) {
@@ -77,7 +77,7 @@ fn write_listed<S: Store, W: Write>(
     ensures fails { IfErr result (IsDumpRefusal (S.facts store.old) (S.facts store.new)) }
     ensures holes { IfOk result (λ after. after.progress.holes ≤ progress.holes + 1) }
     ensures ok { IfOk result (λ after. IsTrue (S.facts store.old).honest
-        → (map_block : ℕ) (d : Document) → IsListed (S.facts store.old).content map_block entries.now d
+        → (map_block : ℕ) (d : Document) → IsListedAs (S.facts store.old).content map_block entries.now d
         → (after.some ≡ is_some_text (text (block_changed empty_document d progress block.0)))
         × (after.progress ≡ after_block empty_document d progress block.0)
         × Appends (W.contents writer.old) (W.contents writer.new)
@@ -104,7 +104,7 @@ fn write_all_listed<S: Store, W: Write>(
     ensures reads { OnlyReadsStore (S.facts store.old) (S.facts store.new) }
     ensures fails { IfErr result (IsDumpRefusal (S.facts store.old) (S.facts store.new)) }
     ensures ok { IfOk result (λ after. IsTrue (S.facts store.old).honest
-        → (map_block : ℕ) (d : Document) → IsListed (S.facts store.old).content map_block entries.now d
+        → (map_block : ℕ) (d : Document) → IsListedAs (S.facts store.old).content map_block entries.now d
         → (after.some ≡ is_some_text (text (blocks_changed empty_document d (first_progress 0) vm_handles)))
         × (after.progress ≡ progress_after empty_document d (first_progress 0) vm_handles)
         × Appends (W.contents writer.old) (W.contents writer.new)
@@ -131,7 +131,7 @@ fn push_unlisted(
     last: u16,
     block: VmHandle,
 ) -> Result<(), AllocError>
-    ensures { OnOk result ((file : List ℕ) (map_block : ℕ) (d : Document) → IsListed file map_block entries.now d
+    ensures { OnOk result ((file : List ℕ) (map_block : ℕ) (d : Document) → IsListedAs file map_block entries.now d
         → out.new.items ≡ out.old.items ++ text (block_freed empty_document d last block.0)) }
 {
     let listed = is_listed(entries, block);
@@ -148,7 +148,7 @@ fn push_unlisted(
 
 // The blocks that took a free handle go.
 fn push_all_unlisted(out: &mut Vec<u8>, entries: &[Entry], last: u16) -> Result<(), AllocError>
-    ensures { OnOk result ((file : List ℕ) (map_block : ℕ) (d : Document) → IsListed file map_block entries.now d
+    ensures { OnOk result ((file : List ℕ) (map_block : ℕ) (d : Document) → IsListedAs file map_block entries.now d
         → out.new.items ≡ out.old.items ++ text (blocks_freed empty_document d last)) }
 {
     for i in 0..MOST_BLOCKS {
@@ -171,7 +171,7 @@ pub fn dump_entries<S: Store, W: Write>(
     ensures reads { OnlyReadsStore (S.facts store.old) (S.facts store.new) }
     ensures fails { IfErr result (IsDumpRefusal (S.facts store.old) (S.facts store.new)) }
     ensures ok { OnOk result (IsTrue (S.facts store.old).honest
-        → (d : Document) → IsListed (S.facts store.old).content map_block.0 entries.now d
+        → (d : Document) → IsListedAs (S.facts store.old).content map_block.0 entries.now d
         → Appends (W.contents writer.old) (W.contents writer.new) (saved_text d)) }
 {
     let made = write_all_listed(alloc, store, entries, writer)?;

@@ -3,7 +3,7 @@ use Rattle.std.proofs.Common.{◌≡◌, ℕ, IsTrue, List, [], ◌∷◌, ◌++
 use Rattle.vm_store.specs.Facts.{StoreFacts, IsTimely}
 use Rattle.document_file.specs.Documents.{Documents}
 use Rattle.document_file.specs.Disk.{Disk, recoverable, StandsForOne, IsCrashConsistent, Crash}
-use Rattle.document_file.specs.Crashes.{DiskCall, Calls, pairs_tried, CrashLaw}
+use Rattle.document_file.specs.Crashes.{DiskCall, DiskCalls, pairs_tried, CrashLaw}
 use Rattle.document_file.proofs.PassingLemmas.{Crash-refl, Crash-trans, Crash-more, Crash-since, same_readable, fewer_readable, commit_readable, settled_after}
 
 -- one of more
@@ -61,7 +61,7 @@ module _ {S : Type 0} (facts : S → StoreFacts) (timely : (store : S) → IsTru
   with_all None next calls pairs c one = one
   with_all (Some pair) next calls pairs c one = one_moved pair (pairs_tried calls) pairs c one
 
-  pub calls_leave : (old : Disk S) (calls : List (Option Documents × Disk S)) (new : Disk S) → IsTrue (facts old.store).honest → IsCrashConsistent facts old → Calls facts old calls new → Crash (facts old.store) (facts new.store) (pairs_tried calls ++ recoverable old) × IsCrashConsistent facts new
+  pub calls_leave : (old : Disk S) (calls : List (Option Documents × Disk S)) (new : Disk S) → IsTrue (facts old.store).honest → IsCrashConsistent facts old → DiskCalls facts old calls new → Crash (facts old.store) (facts new.store) (pairs_tried calls ++ recoverable old) × IsCrashConsistent facts new
   calls_leave old [] new so crash_consistent same =
       let P : Disk S → Type 0 = λ d. Crash (facts old.store) (facts d.store) (recoverable old) × IsCrashConsistent facts d in
       subst P (sym same) (Crash-refl (facts old.store) (recoverable old), crash_consistent)
@@ -76,7 +76,7 @@ module _ {S : Type 0} (facts : S → StoreFacts) (timely : (store : S) → IsTru
         more.1,
       )
 
-  since : (old new : Disk S) (calls : List (Option Documents × Disk S)) → IsTrue (facts old.store).honest → IsCrashConsistent facts old → Calls facts old calls new → (c : List ℕ) → (facts new.store).left_since (facts old.store).moment c → StandsForOne (pairs_tried calls ++ recoverable old) c
+  since : (old new : Disk S) (calls : List (Option Documents × Disk S)) → IsTrue (facts old.store).honest → IsCrashConsistent facts old → DiskCalls facts old calls new → (c : List ℕ) → (facts new.store).left_since (facts old.store).moment c → StandsForOne (pairs_tried calls ++ recoverable old) c
   since old new calls so crash_consistent are c left =
       Crash-since (facts old.store) (facts new.store) (pairs_tried calls ++ recoverable old) (timely old.store so) (λ d may. one_later (pairs_tried calls) (recoverable old) d (crash_consistent so d may)) (calls_leave old calls new so crash_consistent are).0 c left
 

@@ -17,7 +17,7 @@ use Rattle.document_file.specs.Documents.{IsImaged, AreImaged}
 use Rattle.document_file.specs.Calls.{IsPut, put_all, remove_all}
 use Rattle.document_file.specs.Disk.{SameUnlessCorrupt, KeepsCommitted}
 use Rattle.document_file.specs.Sound.{IsPlace, IsBlockTable, AreTables, IsPreparedFormed, IsFormed, IsSound, disk_of}
-use Rattle.document_file.specs.Writing.{AreFor, AreWritten, IsSpared, placed_at, with_places, without_places}
+use Rattle.document_file.specs.Writing.{AreFor, AreWritten, SparesExtents, placed_at, with_places, without_places}
 use Rattle.document_file.specs.Sums.{AreSummed, IsSummed, has_sums, sum_for}
 use Rattle.document_file.specs.declared.member.Member.{Member}
 use Rattle.document_file.specs.declared.table.Place.{Place}
@@ -158,7 +158,7 @@ written_summed version file p e is = ap (sum_for (has_sums version)) (sym is)
 
 module _ {S : Type 0} (facts : S → StoreFacts) (a b : S) (live : BlockTable) (slots : Slots) (sound : IsSound (facts a) live slots) (honest : (facts b).honest ≡ (facts a).honest)
     (now : IsTrue (facts b).honest → (facts b).may_leave (facts b).content)
-    (spared : IsTrue (facts a).honest → IsSpared (block_extents live.places.items ++ marked_extents slots.marked) slots (facts a) (facts b)) where
+    (spared : IsTrue (facts a).honest → SparesExtents (block_extents live.places.items ++ marked_extents slots.marked) slots (facts a) (facts b)) where
   leaves : IsTrue (facts a).honest → CrashLeavesSlots (facts b) slots (facts a).content
   leaves so = (spared so).leaves (facts a).content (sound.whole so).leaves
 

@@ -7,7 +7,7 @@ use Rattle.geos_model.specs.Image.{image}
 use Rattle.file_format.specs.declared.file.Extent.{Extent}
 use Rattle.document_file.specs.Ranges.{start_of, end_of, IsOut, KeepsAll}
 use Rattle.document_file.specs.Slots.{CrashLeavesSlots, Outlives, block_extents, pair_extents, prepared_extents, referenced_extents, marked_extents, Outcome}
-use Rattle.document_file.specs.Writing.{AreFor, Fills, AreWritten, IsSpared}
+use Rattle.document_file.specs.Writing.{AreFor, Fills, AreWritten, SparesExtents}
 use Rattle.document_file.specs.Sums.{has_sums}
 use Rattle.document_file.specs.declared.member.Member.{Member}
 use Rattle.document_file.specs.declared.slot.Slots.{Slots}
@@ -74,7 +74,7 @@ for_fewer taken fewer puts n extents less was = record {
 }
 
 -- what is written apart from extents keeps them
-pub spared_by : (slots : Slots) (kept extents : List Extent) (puts : List Member) (n : ℕ) (old new : StoreFacts) → AreFor kept puts n extents → Fills slots extents old new → IsSpared kept slots old new
+pub spared_by : (slots : Slots) (kept extents : List Extent) (puts : List Member) (n : ℕ) (old new : StoreFacts) → AreFor kept puts n extents → Fills slots extents old new → SparesExtents kept slots old new
 spared_by slots kept extents puts n old new are fills = record {
   keeps = λ within k d inside. fills.keeps (get_or kept k d)
       (λ j x low. are.clear j x low k d inside)
@@ -85,12 +85,12 @@ spared_by slots kept extents puts n old new are fills = record {
 
 -- the live table's images and the marked ones, where what is written is apart from them and from all that the slots stand on
 pub spared_images : (slots : Slots) (live : List Extent) (puts : List Member) (images : List Extent) (a b : StoreFacts) → AreFor (live ++ referenced_extents slots) puts (length puts) images
-    → Fills slots images a b → IsSpared (live ++ marked_extents slots.marked) slots a b
+    → Fills slots images a b → SparesExtents (live ++ marked_extents slots.marked) slots a b
 spared_images slots live puts images a b found fills =
     spared_by slots (live ++ marked_extents slots.marked) images puts (length puts) a b
     (for_fewer (live ++ referenced_extents slots) (live ++ marked_extents slots.marked) puts (length puts) images (λ P all. live_and_marked P slots live all) found) fills
 
-pub spared_same : (kept : List Extent) (slots : Slots) (a : StoreFacts) → IsSpared kept slots a a
+pub spared_same : (kept : List Extent) (slots : Slots) (a : StoreFacts) → SparesExtents kept slots a a
 spared_same kept slots a = record { keeps = λ within. keeps_itself kept a.content within; leaves = λ file was. was; crash = λ file was. Outlives-refl a file (λ s. s ≡ slots) }
 
 -- Calls that write nothing that the slots stand on: what they stand for is carried on to the store as it is then.

@@ -14,9 +14,9 @@ DiskCall facts None old new =
 DiskCall facts (Some pair) old new = (result : Result (Unit {0}) Fault) × MayCommit facts pair old new result
 
 -- calls in turn, from one disk to another: what each adds, and the disk that it leaves
-abbrev pub Calls : {S : Type 0} → (S → StoreFacts) → Disk S → List (Option Documents × Disk S) → Disk S → Type 0
-Calls facts old [] new = new ≡ old
-Calls facts old ((adds, next) ∷ calls) new = DiskCall facts adds old next × Calls facts next calls new
+abbrev pub DiskCalls : {S : Type 0} → (S → StoreFacts) → Disk S → List (Option Documents × Disk S) → Disk S → Type 0
+DiskCalls facts old [] new = new ≡ old
+DiskCalls facts old ((adds, next) ∷ calls) new = DiskCall facts adds old next × DiskCalls facts next calls new
 
 -- the pairs that they add
 abbrev pub pairs_tried : {S : Type 0} → List (Option Documents × Disk S) → List Documents
@@ -28,14 +28,14 @@ pairs_tried ((Some pair, disk) ∷ calls) = pair ∷ pairs_tried calls
 pub record CrashLaw {S : Type 0} (facts : S → StoreFacts) : Type 0 where
   -- at any moment since a disk was settled: what might be read then, or a pair that was added since
   pub since : (old new : Disk S) (calls : List (Option Documents × Disk S)) → IsTrue (facts old.store).honest
-      → IsCrashConsistent facts old → Calls facts old calls new
+      → IsCrashConsistent facts old → DiskCalls facts old calls new
       → (c : List ℕ) → (facts new.store).left_since (facts old.store).moment c
       → StandsForOne (pairs_tried calls ++ recoverable old) c
   -- at any moment since a commit was acknowledged: its pair, or one that was added since
   pub acknowledged : (pair : Documents) (old next new : Disk S) (calls : List (Option Documents × Disk S))
-      → IsTrue (facts old.store).honest → MayCommit facts pair old next (Ok tt) → Calls facts next calls new
+      → IsTrue (facts old.store).honest → MayCommit facts pair old next (Ok tt) → DiskCalls facts next calls new
       → (c : List ℕ) → (facts new.store).left_since (facts next.store).moment c
       → StandsForOne (pairs_tried calls ++ pair ∷ []) c
   -- now: what may be read of the last disk
   pub now : (old new : Disk S) (calls : List (Option Documents × Disk S)) → IsTrue (facts old.store).honest
-      → IsCrashConsistent facts old → Calls facts old calls new → IsCrashConsistent facts new
+      → IsCrashConsistent facts old → DiskCalls facts old calls new → IsCrashConsistent facts new

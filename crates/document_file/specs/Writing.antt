@@ -40,7 +40,7 @@ AreWritten n puts extents file =
     → Holds file (start_of (get_or extents k e)) (image (get_or puts k p).block.image)
 
 -- calls that keep these extents, and all that the slots stand on
-pub record IsSpared (extents : List Extent) (slots : Slots) (old new : StoreFacts) : Type 0 where
+pub record SparesExtents (extents : List Extent) (slots : Slots) (old new : StoreFacts) : Type 0 where
   pub keeps : All (λ e. end_of e ≤ length old.content) extents → KeepsAll extents old.content new.content
   pub leaves : (file : List ℕ) → CrashLeavesSlots old slots file → CrashLeavesSlots new slots file
   pub crash : (file : List ℕ) → CrashLeavesSlots old slots file → Outlives old new file (λ s. s ≡ slots)

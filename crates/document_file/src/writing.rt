@@ -6,7 +6,7 @@ ghost use Rattle.document_file.specs.Ranges.{IsPlaced};
 ghost use Rattle.document_file.specs.Slots.{block_extents, referenced_extents, marked_extents, AreExtentsPlaced};
 ghost use Rattle.file_format.specs.Reading.{IsResourceFault};
 ghost use Rattle.document_file.specs.FreeSpace.{IsSpaceOf};
-ghost use Rattle.document_file.specs.Writing.{AreFor, Fills, AreWritten, IsSpared};
+ghost use Rattle.document_file.specs.Writing.{AreFor, Fills, AreWritten, SparesExtents};
 
 use crate::extent::write_extent;
 use crate::member::Member;
@@ -74,7 +74,7 @@ pub fn write_puts<S: Store>(
     ensures honest { (S.facts store.new).honest ≡ (S.facts store.old).honest }
     ensures failures { (S.facts store.old).failures ≤ (S.facts store.new).failures }
     ensures spared { IsTrue (S.facts store.old).honest
-        → IsSpared (block_extents live.now ++ marked_extents slots.now.marked) slots.now (S.facts store.old)
+        → SparesExtents (block_extents live.now ++ marked_extents slots.now.marked) slots.now (S.facts store.old)
         (S.facts store.new) }
     // The images.
     ensures found { IfOk result

@@ -11,14 +11,14 @@ use Rattle.document_file.specs.Opened.{OnlyReadsStore}
 use Rattle.document_file.specs.StoredDocuments.{StoredState}
 use Rattle.geos_shell.specs.Streams.{StopsWriting, WriteCalls}
 use Rattle.file_format.proofs.LooksLemmas.{raised_later, still}
-use Rattle.document_diff.specs.Diffs.{TellsSame, diff_text, document_of}
+use Rattle.document_diff.specs.Diffs.{TellsSame, diff_text, document_by}
 use Rattle.document_diff.specs.Faults.{IsDiffRefusal}
 use Rattle.document_diff.specs.declared.fault.DiffFault.{DiffFault}
 use Rattle.document_diff.specs.declared.fault.DiffFault.TheVariants as diff_faults
 use Rattle.document_diff.specs.declared.fault.Side.TheVariants as sides
 use Rattle.document_diff.specs.declared.version.Version.{Version}
 use Rattle.document_diff.specs.declared.version.Version.TheVariants as versions
-use Rattle.document_tools.specs.Comparisons.{ComparesOpen, ComparesStored, ComparesStores, EndsComparison, EndsUncompared, HasDiffCause, IsDiffEnd, IsUnread, IsUnreadOpen, version_of}
+use Rattle.document_tools.specs.Comparisons.{ComparesOpen, ComparesStored, ComparesStores, EndsComparison, EndsUncompared, HasDiffCause, IsDiffEnd, IsUnreadOpen, IsUnreadStored, chosen_document}
 use Rattle.document_tools.specs.Endings.{IsUncomparedFor}
 use Rattle.document_tools.specs.Obstacles.{refusal_line}
 use Rattle.document_tools.specs.declared.ending.Ending.{Ending}
@@ -58,7 +58,7 @@ false_isnt same never always = let wrong : true ≡ false = sym always ∙ never
 -- documents that are open, and what differs, or why that isn't known
 pub compared_open : {S W : Type 0} (facts : S → StoreFacts) (contents : W → Option (List ℕ)) (writes : WriteCalls W) (first second : List ℕ) (version : Version) (a a_left b b_left : StoredState S) (old new : W)
     (compared : Result Bool DiffFault) (ending : Ending)
-    → IfOk compared (λ same. IsTrue (facts a.store).honest → IsTrue (facts b.store).honest → Appends (contents old) (contents new) (diff_text (document_of version a) (document_of version b)) × TellsSame (document_of version a) (document_of version b) same)
+    → IfOk compared (λ same. IsTrue (facts a.store).honest → IsTrue (facts b.store).honest → Appends (contents old) (contents new) (diff_text (document_by version a) (document_by version b)) × TellsSame (document_by version a) (document_by version b) same)
     → IfErr compared (IsDiffRefusal (facts a.store) (facts a_left.store) (facts b.store) (facts b_left.store)) → IfErr compared (λ fault. HasDiffCause fault (∥ StopsWriting writes new ∥₁))
     → EndsComparison first second compared ending → ComparesOpen facts contents writes first second version a a_left b b_left old new ending
 compared_open facts contents writes first second version a a_left b b_left old new (Ok true) ending text refusal cause ends =
@@ -77,11 +77,11 @@ compared_open facts contents writes first second version a a_left b b_left old n
 compared_open facts contents writes first second version a a_left b b_left old new (Err diff_faults.Write) ending text refusal cause ends = rw ends cause
 
 -- a file that was opened, and a block of which can't be read then
-unread_then : (file line : List ℕ) (a b c : StoreFacts) → OnlyReadsStore a b → IsUnreadOpen file b c line → IsUnread file a c line
+unread_then : (file line : List ℕ) (a b c : StoreFacts) → OnlyReadsStore a b → IsUnreadOpen file b c line → IsUnreadStored file a c line
 unread_then file line a b c opened (inl failed) = inl (failed.0, raised_later a b c opened failed.1)
 unread_then file line a b c opened (inr changed) = inr (inr (changed.0, λ so. changed.1 (still a b opened so)))
 
-version_is : {S : Type 0} (version : Version) (file : StoredState S) → document_of version file ≡ version_of version file.updated file.saved
+version_is : {S : Type 0} (version : Version) (file : StoredState S) → document_by version file ≡ chosen_document version file.updated file.saved
 version_is versions.Updated file = refl
 version_is versions.Saved file = refl
 
@@ -90,11 +90,11 @@ pub compared_stored : {S W : Type 0} (facts : S → StoreFacts) (contents : W �
     (old new : W) (ending : Ending)
     → OnlyReadsStore (facts store) (facts from.store) → (IsTrue (facts store).honest → stands (facts store).content ≡ Ok (from.updated, from.saved))
     → ComparesOpen facts contents writes first second version a a_left from to old new ending
-    → ComparesStored contents writes first second version (facts a.store) (facts a_left.store) (document_of version a) (facts store) (facts to.store) old new ending
+    → ComparesStored contents writes first second version (facts a.store) (facts a_left.store) (document_by version a) (facts store) (facts to.store) old new ending
 compared_stored facts contents writes first second version store a a_left from to old new endings.Done opened so told = λ honest too.
-    (document_of version from, (from.updated, from.saved, so too, version_is version from), told honest (still (facts store) (facts from.store) opened too))
+    (document_by version from, (from.updated, from.saved, so too, version_is version from), told honest (still (facts store) (facts from.store) opened too))
 compared_stored facts contents writes first second version store a a_left from to old new endings.Different opened so told = λ honest too.
-    (document_of version from, (from.updated, from.saved, so too, version_is version from), told honest (still (facts store) (facts from.store) opened too))
+    (document_by version from, (from.updated, from.saved, so too, version_is version from), told honest (still (facts store) (facts from.store) opened too))
 compared_stored facts contents writes first second version store a a_left from to old new (endings.Uncompared (troubles.Refused line)) opened so (inl told) = inl told
 compared_stored facts contents writes first second version store a a_left from to old new (endings.Uncompared (troubles.Refused line)) opened so (inr told) =
     inr (unread_then second line (facts store) (facts from.store) (facts to.store) opened told)
@@ -110,11 +110,11 @@ compared_stored facts contents writes first second version store a a_left from t
 pub compared_stores : {S W : Type 0} (facts : S → StoreFacts) (contents : W → Option (List ℕ)) (writes : WriteCalls W) (first second : List ℕ) (version : Version) (store : S) (from to : StoredState S)
     (b b_left : StoreFacts) (old new : W) (ending : Ending)
     → OnlyReadsStore (facts store) (facts from.store) → (IsTrue (facts store).honest → stands (facts store).content ≡ Ok (from.updated, from.saved))
-    → ComparesStored contents writes first second version (facts from.store) (facts to.store) (document_of version from) b b_left old new ending
+    → ComparesStored contents writes first second version (facts from.store) (facts to.store) (document_by version from) b b_left old new ending
     → ComparesStores contents writes first second version (facts store) (facts to.store) b b_left old new ending
 compared_stores facts contents writes first second version store from to b b_left old new endings.Done opened so told = λ honest too.
     let known = told (still (facts store) (facts from.store) opened honest) too in record {
-      before = document_of version from;
+      before = document_by version from;
       after = known.0;
       first_stands = (from.updated, from.saved, so honest, version_is version from);
       second_stands = known.1;
@@ -123,7 +123,7 @@ compared_stores facts contents writes first second version store from to b b_lef
     }
 compared_stores facts contents writes first second version store from to b b_left old new endings.Different opened so told = λ honest too.
     let known = told (still (facts store) (facts from.store) opened honest) too in record {
-      before = document_of version from;
+      before = document_by version from;
       after = known.0;
       first_stands = (from.updated, from.saved, so honest, version_is version from);
       second_stands = known.1;
@@ -143,7 +143,7 @@ compared_stores facts contents writes first second version store from to b b_lef
 
 -- a file that doesn't open
 pub unread_one : (P : Ending → Type 0) (file : List ℕ) (old new : StoreFacts) (fault : Fault) (ending : Ending)
-    → ((line : List ℕ) → IsUnread file old new line → P (endings.Uncompared (troubles.Refused line))) → P (endings.Uncompared troubles.Memory)
+    → ((line : List ℕ) → IsUnreadStored file old new line → P (endings.Uncompared (troubles.Refused line))) → P (endings.Uncompared troubles.Memory)
     → (fault ≡ faults.File → FailedSince old new) → (IsTrue old.honest → IsResourceFault fault ⊎ (stands old.content ≡ Err fault)) → EndsUncompared file fault ending → P ending
 unread_one P file old new fault ending by_line memory failed so (inl ends) = rw ends.1 memory
 unread_one P file old new fault ending by_line memory failed so (inr (inl ends)) =

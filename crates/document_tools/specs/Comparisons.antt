@@ -9,7 +9,7 @@ use Rattle.vm_store.specs.Facts.{StoreFacts, FailedSince}
 use Rattle.document_file.specs.Opened.{OnlyReadsStore}
 use Rattle.geos_shell.specs.Streams.{StopsWriting, WriteCalls}
 use Rattle.document_file.specs.StoredDocuments.{StoredState}
-use Rattle.document_diff.specs.Diffs.{diff_text, document_of}
+use Rattle.document_diff.specs.Diffs.{diff_text, document_by}
 use Rattle.document_diff.specs.declared.fault.DiffFault.{DiffFault}
 use Rattle.document_diff.specs.declared.fault.DiffFault.TheVariants as diff_faults
 use Rattle.document_diff.specs.declared.fault.Side.{Side}
@@ -26,15 +26,15 @@ use Rattle.document_tools.specs.declared.obstacle.Cause.{Cause}
 use Rattle.document_tools.specs.declared.obstacle.Obstacle.TheVariants.{Changed, Unopened, Unread, Unviewed}
 
 -- the one of both documents of a file
-abbrev pub version_of : Version → Document → Document → Document
-version_of versions.Updated updated saved = updated
-version_of versions.Saved updated saved = saved
+abbrev pub chosen_document : Version → Document → Document → Document
+chosen_document versions.Updated updated saved = updated
+chosen_document versions.Saved updated saved = saved
 
 -- the file's bytes stand for this document
-abbrev pub StandsFor : Version → List ℕ → Document → Type 0
-StandsFor version file d =
+abbrev pub StandsForVersion : Version → List ℕ → Document → Type 0
+StandsForVersion version file d =
     (updated : Document) × (saved : Document) × (stands file ≡ Ok (updated, saved))
-    × (d ≡ version_of version updated saved)
+    × (d ≡ chosen_document version updated saved)
 
 -- Two honest stores were compared: what differs between their documents is written.
 pub record Compares {W : Type 0} (contents : W → Option (List ℕ)) (version : Version) (first second : StoreFacts)
@@ -42,15 +42,15 @@ pub record Compares {W : Type 0} (contents : W → Option (List ℕ)) (version :
     (Is : Document → Document → Type 0) : Type 0 where
   pub before : Document
   pub after : Document
-  pub first_stands : StandsFor version first.content before
-  pub second_stands : StandsFor version second.content after
+  pub first_stands : StandsForVersion version first.content before
+  pub second_stands : StandsForVersion version second.content after
   pub appends : Appends (contents old) (contents new) (diff_text before after)
   pub is : Is before after
 
 -- One file can't be compared: it can't be read, for the store failed in this very call; it doesn't open, for this; or a
 -- block has other bytes than when it was opened, as of no honest store.
-abbrev pub IsUnread : List ℕ → StoreFacts → StoreFacts → List ℕ → Type 0
-IsUnread file from to line =
+abbrev pub IsUnreadStored : List ℕ → StoreFacts → StoreFacts → List ℕ → Type 0
+IsUnreadStored file from to line =
     ((line ≡ refusal_line file Unread) × FailedSince from to)
     ⊎ ((fault : Fault) × (line ≡ refusal_line file (Unopened fault))
     × (IsTrue from.honest → stands from.content ≡ Err fault))
@@ -106,12 +106,12 @@ abbrev pub ComparesOpen : {S W : Type 0} → (S → StoreFacts) → (W → Optio
     → Version → StoredState S → StoredState S → StoredState S → StoredState S → W → W → Ending → Type 0
 ComparesOpen facts contents writes first second version a a_left b b_left old new endings.Done =
     IsTrue (facts a.store).honest → IsTrue (facts b.store).honest
-    → WritesDiff contents (document_of version a) (document_of version b) old new
-    (document_of version a ≡ document_of version b)
+    → WritesDiff contents (document_by version a) (document_by version b) old new
+    (document_by version a ≡ document_by version b)
 ComparesOpen facts contents writes first second version a a_left b b_left old new endings.Different =
     IsTrue (facts a.store).honest → IsTrue (facts b.store).honest
-    → WritesDiff contents (document_of version a) (document_of version b) old new
-    (document_of version a ≡ document_of version b → ⊥)
+    → WritesDiff contents (document_by version a) (document_by version b) old new
+    (document_by version a ≡ document_by version b → ⊥)
 ComparesOpen facts contents writes first second version a a_left b b_left old new
     (endings.Uncompared (troubles.Refused line)) =
     IsUnreadOpen first (facts a.store) (facts a_left.store) line
@@ -128,13 +128,13 @@ abbrev pub ComparesStored : {W : Type 0} → (W → Option (List ℕ)) → Write
     → StoreFacts → StoreFacts → Document → StoreFacts → StoreFacts → W → W → Ending → Type 0
 ComparesStored contents writes first second version a a_left d b b_left old new endings.Done =
     IsTrue a.honest → IsTrue b.honest
-    → (e : Document) × StandsFor version b.content e × WritesDiff contents d e old new (d ≡ e)
+    → (e : Document) × StandsForVersion version b.content e × WritesDiff contents d e old new (d ≡ e)
 ComparesStored contents writes first second version a a_left d b b_left old new endings.Different =
     IsTrue a.honest → IsTrue b.honest
-    → (e : Document) × StandsFor version b.content e × WritesDiff contents d e old new (d ≡ e → ⊥)
+    → (e : Document) × StandsForVersion version b.content e × WritesDiff contents d e old new (d ≡ e → ⊥)
 ComparesStored contents writes first second version a a_left d b b_left old new
     (endings.Uncompared (troubles.Refused line)) =
-    IsUnreadOpen first a a_left line ⊎ IsUnread second b b_left line
+    IsUnreadOpen first a a_left line ⊎ IsUnreadStored second b b_left line
 ComparesStored contents writes first second version a a_left d b b_left old new
     (endings.Uncompared troubles.Memory) = ⊤
 ComparesStored contents writes first second version a a_left d b b_left old new
@@ -151,7 +151,7 @@ ComparesStores contents writes first second version a a_left b b_left old new en
     IsTrue a.honest → IsTrue b.honest → Compares contents version a b old new (λ d e. d ≡ e → ⊥)
 ComparesStores contents writes first second version a a_left b b_left old new
     (endings.Uncompared (troubles.Refused line)) =
-    IsUnread first a a_left line ⊎ IsUnread second b b_left line
+    IsUnreadStored first a a_left line ⊎ IsUnreadStored second b b_left line
 ComparesStores contents writes first second version a a_left b b_left old new (endings.Uncompared troubles.Memory) = ⊤
 ComparesStores contents writes first second version a a_left b b_left old new
     (endings.Uncompared troubles.WriteFault) =

@@ -8,12 +8,12 @@ use Rattle.document_tools.specs.declared.obstacle.MakeFault.TheVariants as make_
 use Rattle.document_tools.specs.declared.obstacle.Obstacle.{Obstacle}
 use Rattle.document_tools.specs.declared.obstacle.Obstacle.TheVariants as obstacles
 
-abbrev pub cause_text : Cause → List ℕ
-cause_text causes.Missing = codes "no such file"
-cause_text causes.Forbidden = codes "permission denied"
-cause_text causes.NoFile = codes "not a regular file"
-cause_text causes.InUse = codes "in use by another program"
-cause_text causes.Failed = codes "it can't be read"
+abbrev pub cause_words : Cause → List ℕ
+cause_words causes.Missing = codes "no such file"
+cause_words causes.Forbidden = codes "permission denied"
+cause_words causes.NoFile = codes "not a regular file"
+cause_words causes.InUse = codes "in use by another program"
+cause_words causes.Failed = codes "it can't be read"
 
 abbrev pub make_fault_text : MakeFault → List ℕ
 make_fault_text make_faults.Present = codes "it is there already"
@@ -22,7 +22,7 @@ make_fault_text make_faults.Forbidden = codes "permission denied"
 make_fault_text make_faults.Failed = codes "it can't be made"
 
 abbrev pub obstacle_text : Obstacle → List ℕ
-obstacle_text (obstacles.Unviewed cause) = cause_text cause
+obstacle_text (obstacles.Unviewed cause) = cause_words cause
 obstacle_text obstacles.Unread = codes "it can't be read"
 obstacle_text obstacles.Changed = codes "a block of it has other bytes than when it was opened"
 obstacle_text (obstacles.Unopened fault) = codes "it doesn't open, " ++ name_of_fault fault

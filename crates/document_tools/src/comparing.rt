@@ -4,7 +4,7 @@ ghost use Rattle.std.specs.Io.KnownBytes.{Appends};
 ghost use Rattle.document_file.specs.Opened.{OnlyReadsStore};
 ghost use Rattle.document_file.specs.StoredDocuments.{OnlyReadsDocuments};
 ghost use Rattle.geos_shell.specs.Streams.{StopsWriting};
-ghost use Rattle.document_diff.specs.Diffs.{TellsSame, diff_text, document_of};
+ghost use Rattle.document_diff.specs.Diffs.{TellsSame, diff_text, document_by};
 ghost use Rattle.document_diff.specs.Faults.{IsDiffRefusal};
 ghost use Rattle.document_tools.specs.Endings.{IsUncomparedFor};
 ghost use Rattle.document_tools.specs.Comparisons.{ComparesFiles, ComparesOpen, ComparesStored, ComparesStores, ComparesWith, EndsComparison, EndsUncompared, HasDiffCause, IsDiffEnd, name_of_side};
@@ -55,8 +55,8 @@ fn write_diff<S: Store, W: Sink + Drop>(
     ensures ok { IfOk result.1 (λ same. IsTrue (S.facts first.old.store).honest
         → IsTrue (S.facts second.old.store).honest
         → Appends (W.contents writer) (W.contents result.0)
-        (diff_text (document_of version first.old) (document_of version second.old))
-        × TellsSame (document_of version first.old) (document_of version second.old) same) }
+        (diff_text (document_by version first.old) (document_by version second.old))
+        × TellsSame (document_by version first.old) (document_by version second.old) same) }
 {
     let mut pieces = Pieces::new(alloc, writer);
     let compared = diff(alloc, first, second, version, &mut pieces);
@@ -128,7 +128,7 @@ fn compare_second<S: Store, W: Sink + Drop>(
     ensures reads { OnlyReadsDocuments S.facts first.old first.new }
     ensures told { (left : S) × OnlyReadsStore (S.facts second) (S.facts left)
         × ComparesStored W.contents W.writes names.entry.first.now names.entry.second.now version (S.facts first.old.store)
-        (S.facts first.new.store) (document_of version first.old) (S.facts second) (S.facts left) writer result.0
+        (S.facts first.new.store) (document_by version first.old) (S.facts second) (S.facts left) writer result.0
         result.1 }
 {
     match VmFile::open(alloc, second, false) {

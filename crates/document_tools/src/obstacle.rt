@@ -1,7 +1,7 @@
 //! What stands against what is asked of a file.
 ghost use Rattle.std.specs.Prelude.{◌≡◌, ◌++◌, OnOk};
 ghost use Rattle.geos_model.specs.Refusal.{name_of_fault};
-ghost use Rattle.document_tools.specs.Obstacles.{cause_text, make_fault_text, obstacle_text, refusal_line};
+ghost use Rattle.document_tools.specs.Obstacles.{cause_words, make_fault_text, obstacle_text, refusal_line};
 
 use geos_model::Fault;
 use std::alloc::AllocError;
@@ -55,7 +55,7 @@ pub enum Obstacle {
 
 impl Cause {
     fn text(self) -> &'static str
-        ensures { result.now ≡ cause_text self }
+        ensures { result.now ≡ cause_words self }
     {
         match self {
             Cause::Missing => "no such file",

@@ -14,38 +14,38 @@ use Rattle.geos_model.proofs.Images.{word-reads_back}
 use Rattle.geos_model.proofs.Arrays.{head_of, table_of, joined, array_bytes-spelled, all_even}
 use Rattle.geos_model.proofs.FreeLists.{links, are_tokens, distinct_walk, all_free_met, walk_ends, length-walked, first_token-walked, links-walked, all-walked, walk_ends-links, token_after-link}
 use Rattle.geos_model.proofs.ElementArrays.{IsSound, sound_parts, sound_from, same_array-is, same_array-refl, size_read_le, elements_from, link_in, first_token-lt, links-token_after, links-same, free_read-walked, free_tokens, link-slots, all-weaker}
-use Rattle.chunk_arrays.specs.Parts.{AreBytes}
+use Rattle.chunk_arrays.specs.Parts.{AreByteValues}
 use Rattle.chunk_arrays.specs.Viewed.{Viewed}
 use Rattle.chunk_arrays.proofs.PlaceLemmas.{place-step, place-within, one-is}
 use Rattle.geos_model.specs.Bytes.{same_bytes}
 use Rattle.geos_model.proofs.Arrays.{same_bytes-is}
 use Rattle.element_arrays.specs.Tested.{is_freed, is_freed_at, is_slot, is_slot_within, are_slots_within, has_length, has_bytes, is_walk}
 
-bytes_left : (xs ys : List ℕ) (i : ℕ) → AreBytes (xs ++ ys) → get_or xs i 0 < 256
+bytes_left : (xs ys : List ℕ) (i : ℕ) → AreByteValues (xs ++ ys) → get_or xs i 0 < 256
 bytes_left [] ys i h = omega arith
 bytes_left (x ∷ xs) ys zero h = h 0
 bytes_left (x ∷ xs) ys (suc i) h = bytes_left xs ys i (λ j. h (suc j))
 
-bytes_right : (xs ys : List ℕ) → AreBytes (xs ++ ys) → AreBytes ys
+bytes_right : (xs ys : List ℕ) → AreByteValues (xs ++ ys) → AreByteValues ys
 bytes_right [] ys h = h
 bytes_right (x ∷ xs) ys h = bytes_right xs ys (λ j. h (suc j))
 
-bytes_joined : (xs : List (List ℕ)) (i : ℕ) → AreBytes (joined xs) → AreBytes (get_or xs i [])
+bytes_joined : (xs : List (List ℕ)) (i : ℕ) → AreByteValues (joined xs) → AreByteValues (get_or xs i [])
 bytes_joined [] i h = λ j. omega arith
 bytes_joined (x ∷ xs) zero h = λ j. bytes_left x (joined xs) j h
 bytes_joined (x ∷ xs) (suc i) h = bytes_joined xs i (bytes_right x (joined xs) h)
 
-spelled_bytes : (v : Viewed) → let a = v.array in AreBytes (head_of a ++ (a.extra ++ (table_of a ++ joined a.elements)))
-spelled_bytes v = subst AreBytes (array_bytes-spelled v.array) v.are_bytes
+spelled_bytes : (v : Viewed) → let a = v.array in AreByteValues (head_of a ++ (a.extra ++ (table_of a ++ joined a.elements)))
+spelled_bytes v = subst AreByteValues (array_bytes-spelled v.array) v.are_bytes
 
-extra_bytes : (v : Viewed) → AreBytes v.array.extra
+extra_bytes : (v : Viewed) → AreByteValues v.array.extra
 extra_bytes v = let a = v.array in λ i. bytes_left a.extra (table_of a ++ joined a.elements) i (bytes_right (head_of a) _ (spelled_bytes v))
 
-element_bytes : (v : Viewed) (i : ℕ) → AreBytes (get_or v.array.elements i [])
+element_bytes : (v : Viewed) (i : ℕ) → AreByteValues (get_or v.array.elements i [])
 element_bytes v i = let a = v.array in bytes_joined a.elements i (bytes_right (table_of a) _ (bytes_right a.extra _ (bytes_right (head_of a) _ (spelled_bytes v))))
 
 -- two bytes are those of their word
-word_again : (xs : List ℕ) → AreBytes xs → 2 ≤ length xs → word (word_at xs 0) ++ drop 2 xs ≡ xs
+word_again : (xs : List ℕ) → AreByteValues xs → 2 ≤ length xs → word (word_at xs 0) ++ drop 2 xs ≡ xs
 word_again [] byte long = absurd (omega arith)
 word_again (a ∷ []) byte long = absurd (omega arith)
 word_again (a ∷ b ∷ xs) byte long =
@@ -56,7 +56,7 @@ word_again (a ∷ b ∷ xs) byte long =
     ap₂ (λ (x y : ℕ). x ∷ y ∷ xs) low high
 
 -- and three are those of their number
-three_again : (xs : List ℕ) → AreBytes xs → 3 ≤ length xs → little_bytes 3 (little_number 3 xs) ++ drop 3 xs ≡ xs
+three_again : (xs : List ℕ) → AreByteValues xs → 3 ≤ length xs → little_bytes 3 (little_number 3 xs) ++ drop 3 xs ≡ xs
 three_again [] byte long = absurd (omega arith)
 three_again (a ∷ []) byte long = absurd (omega arith)
 three_again (a ∷ b ∷ []) byte long = absurd (omega arith)
@@ -134,7 +134,7 @@ free_is a t =
     ])
 
 -- a count fits three bytes of which the third is not that of a free element
-count_le : (xs : List ℕ) → AreBytes xs → is_freed xs ≡ false → little_number 3 xs ≤ greatest_count
+count_le : (xs : List ℕ) → AreByteValues xs → is_freed xs ≡ false → little_number 3 xs ≤ greatest_count
 count_le xs byte used =
     let low : get_or xs 0 0 < 256 = byte 0 in
     let middle : get_or xs 1 0 < 256 = byte 1 in
@@ -145,7 +145,7 @@ count_le xs byte used =
 counted : (size : ℕ) (xs : List ℕ) → is_slot size xs ≡ true → is_freed xs ≡ false → nat_le 1 (little_number 3 xs) ≡ true
 counted size xs fits used = sym (cond-false (is_freed xs) _ _ used) ∙ (and_parts (nat_le 3 (length xs)) _ fits).1
 
-good_read : (size : ℕ) (xs : List ℕ) → AreBytes xs → is_slot size xs ≡ true → (size ≡ 0) ⊎ (length xs ≡ size + 3) → is_good_slot size (slot_read xs) ≡ true
+good_read : (size : ℕ) (xs : List ℕ) → AreByteValues xs → is_slot size xs ≡ true → (size ≡ 0) ⊎ (length xs ≡ size + 3) → is_good_slot size (slot_read xs) ≡ true
 good_read size xs byte fits sized = elim (cases_Bool (is_freed xs)) [
   | inl so ↦ ap (is_good_slot size) (cond-true (is_freed xs) _ _ so)
   | inr other ↦ ap (is_good_slot size) (cond-false (is_freed xs) _ _ other)

@@ -11,7 +11,7 @@ use Rattle.geos_model.specs.declared.fault.Fault.{Fault}
 use Rattle.geos_model.specs.declared.fault.Fault.TheVariants.{NotDocument, Damaged}
 use Rattle.file_format.specs.File.{Directory, bytes_in, open_slot, sealed_text, is_sealed, is_sealed_by, is_version, directory_read, directory_of, summed_directory, document_of, summed_document, working_sum, saved_sum, counting_slot, both, pair_of, stands}
 use Rattle.file_format.specs.FileLaws.{KeepsExtent}
-use Rattle.file_format.specs.Damage.{MaybeDamaged, Pair, slot_at, pair_at, Counts, CountsInstead}
+use Rattle.file_format.specs.Damage.{MaybeDamaged, Pair, slot_at, pair_at, SlotCounts, CountsInstead}
 use Rattle.file_format.specs.declared.file.Extent.{Extent}
 use Rattle.file_format.specs.declared.file.Entry.{Entry}
 use Rattle.file_format.specs.declared.file.Slot.{Slot}
@@ -176,7 +176,7 @@ counted (Some s) (Some u) t e = elim (cases_Bool (s.sequence == u.sequence)) [
 abbrev counting : List ℕ → Result Slot Fault
 counting file = counting_slot (open_slot file 0) (open_slot file 1)
 
-counts_from : (file : List ℕ) (page : ℕ) (t : Slot) → counting file ≡ Ok t → open_slot file page ≡ Some t → Counts file page
+counts_from : (file : List ℕ) (page : ℕ) (t : Slot) → counting file ≡ Ok t → open_slot file page ≡ Some t → SlotCounts file page
 counts_from file page t counts opened =
     let is = (open_slot-is file page t opened).0 in
     record { opened = opened ∙ ap Some is; counts = counts ∙ ap chosen is }
@@ -199,7 +199,7 @@ open_stays : (file other : List ℕ) (page : ℕ) → page < 2 → take 1020 fil
 open_stays file other page low same = open_slot-kept file other page (sym (part_of_first (512 * page) 44 1020 file other (omega (arith, low)) same))
 
 -- the burst didn't reach behind the slots, or the slot that counted would still
-beyond : (file other : List ℕ) (page : ℕ) (t : Slot) → MaybeDamaged file other → page < 2 → Counts file page → counting other ≡ Ok t → open_slot other page ≢ Some t → drop 1024 file ≡ drop 1024 other
+beyond : (file other : List ℕ) (page : ℕ) (t : Slot) → MaybeDamaged file other → page < 2 → SlotCounts file page → counting other ≡ Ok t → open_slot other page ≢ Some t → drop 1024 file ≡ drop 1024 other
 beyond file other page t d low was counts differs = elim (one_side_same file other 1020 d) [
   | inl first ↦
       let same : counting other ≡ counting file = ap₂ counting_slot (open_stays file other 0 (omega arith) first) (open_stays file other 1 (omega arith) first) in
@@ -209,7 +209,7 @@ beyond file other page t d low was counts differs = elim (one_side_same file oth
   | inr rest ↦ rest
 ]
 
-instead : (file other : List ℕ) (page : ℕ) (found : Pair) (t : Slot) → MaybeDamaged file other → page < 2 → Counts file page → counting other ≡ Ok t → pair_of other t ≡ Ok found
+instead : (file other : List ℕ) (page : ℕ) (found : Pair) (t : Slot) → MaybeDamaged file other → page < 2 → SlotCounts file page → counting other ≡ Ok t → pair_of other t ≡ Ok found
     → open_slot other (1 - page) ≡ Some t → open_slot other page ≢ Some t → CountsInstead file other (1 - page) found
 instead file other page found t d low was counts leads opened differs =
     let q : ℕ = 1 - page in
@@ -227,7 +227,7 @@ instead file other page found t d low was counts leads opened differs =
           sym (leads_same file file other q d less three same) ∙ stays;
     }
 
-pub file_told : (file other : List ℕ) (page : ℕ) (pair found : Pair) → MaybeDamaged file other → page < 2 → Counts file page → (slot_at file page).version ≡ 3
+pub file_told : (file other : List ℕ) (page : ℕ) (pair found : Pair) → MaybeDamaged file other → page < 2 → SlotCounts file page → (slot_at file page).version ≡ 3
     → stands file ≡ Ok pair → stands other ≡ Ok found → (found ≡ pair) ⊎ CountsInstead file other (1 - page) found
 file_told file other page pair found d low was three here there =
     let mine = (stands-slot file pair here).1 in

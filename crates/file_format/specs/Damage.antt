@@ -27,7 +27,7 @@ abbrev pub pair_at : List ℕ → ℕ → Result Pair Fault
 pair_at file page = pair_of file (slot_at file page)
 
 -- the slot at a page counts
-pub record Counts (file : List ℕ) (page : ℕ) : Type 0 where
+pub record SlotCounts (file : List ℕ) (page : ℕ) : Type 0 where
   pub opened : open_slot file page ≡ Some (slot_at file page)
   pub counts : counting_slot (open_slot file 0) (open_slot file 1) ≡ Ok (slot_at file page)
 
@@ -35,7 +35,7 @@ pub record Counts (file : List ℕ) (page : ℕ) : Type 0 where
 -- where it is of version 3 in both and its sum was right, it is what the file's own slot there leads to.
 pub record CountsInstead (file other : List ℕ) (page : ℕ) (found : Pair) : Type 0 where
   pub behind : drop 1024 other ≡ drop 1024 file
-  pub counts : Counts other page
+  pub counts : SlotCounts other page
   pub leads : pair_of file (slot_at other page) ≡ Ok found
   pub same : (slot_at file page).version ≡ 3 → (slot_at other page).version ≡ 3
       → is_sealed (slot_at file page) ≡ true → pair_at file page ≡ Ok found
@@ -50,5 +50,5 @@ pub record DamageLaw : Type 0 where
       → (slot_at file page).version ≡ 3 → pair_at file page ≡ Ok pair → pair_at other page ≡ Ok found → found ≡ pair
   -- So a file of version 3 stands for the same documents, or for those of its other slot.
   pub told : (file other : List ℕ) (page : ℕ) (pair found : Pair) → MaybeDamaged file other → page < 2
-      → Counts file page → (slot_at file page).version ≡ 3 → stands file ≡ Ok pair → stands other ≡ Ok found
+      → SlotCounts file page → (slot_at file page).version ≡ 3 → stands file ≡ Ok pair → stands other ≡ Ok found
       → (found ≡ pair) ⊎ CountsInstead file other (1 - page) found

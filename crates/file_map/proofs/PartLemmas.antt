@@ -6,18 +6,18 @@ use Rattle.std.proofs.lemmas.Bool.{cond-false}
 use Rattle.std.proofs.lemmas.List.{drop_more, get_or_push}
 use Rattle.std.proofs.lemmas.Option.{slice_get-get_or}
 use Rattle.file_map.specs.Bars.{bar_of, bars_drawn, below}
-use Rattle.file_map.specs.Parts.{drawn_more, is_heap_part, is_shared, joined}
+use Rattle.file_map.specs.Parts.{drawn_more, is_heap_part, is_shared, joined_behind}
 use Rattle.file_map.specs.declared.part.Kind.TheVariants.{Slots}
 use Rattle.file_map.specs.declared.part.Part.{Part}
 use Rattle.file_map.specs.declared.part.Users.TheVariants.{Updated}
 
 -- behind a last one
-pub drawn_last : (rest : List Part) (q p : Part) → drawn_more (rest ++ q ∷ []) p ≡ rest ++ joined (Some q) p
+pub drawn_last : (rest : List Part) (q p : Part) → drawn_more (rest ++ q ∷ []) p ≡ rest ++ joined_behind (Some q) p
 drawn_last rest q p =
     let size : length (rest ++ q ∷ []) ≡ length rest + 1 = length-append rest (q ∷ []) in
     let at : length (rest ++ q ∷ []) - 1 ≡ length rest = omega (arith, size) in
     let within : length rest < length (rest ++ q ∷ []) = omega (arith, size) in
-    ap₂ (λ ps o. ps ++ joined o p) (ap (λ k. take k (rest ++ q ∷ [])) at ∙ take-append_seam rest (q ∷ []))
+    ap₂ (λ ps o. ps ++ joined_behind o p) (ap (λ k. take k (rest ++ q ∷ [])) at ∙ take-append_seam rest (q ∷ []))
     (ap (slice_get (rest ++ q ∷ [])) at ∙ slice_get-get_or (rest ++ q ∷ []) (length rest) q within ∙ ap Some (get_or_push rest q q (length rest) refl))
 
 -- the two aren't one part

@@ -97,13 +97,13 @@ is_same p q =
 abbrev pub is_shared : Part → Part → Bool
 is_shared p q = not (is_saved p) && not (is_updated q) && is_same p q
 
-abbrev pub joined : Option Part → Part → List Part
-joined None p = p ∷ []
-joined (Some q) p = if is_shared q p then record q { users = Both } ∷ [] else q ∷ p ∷ []
+abbrev pub joined_behind : Option Part → Part → List Part
+joined_behind None p = p ∷ []
+joined_behind (Some q) p = if is_shared q p then record q { users = Both } ∷ [] else q ∷ p ∷ []
 
 -- one more part behind the others
 abbrev pub drawn_more : List Part → Part → List Part
-drawn_more ps p = take (length ps - 1) ps ++ joined (slice_get ps (length ps - 1)) p
+drawn_more ps p = take (length ps - 1) ps ++ joined_behind (slice_get ps (length ps - 1)) p
 
 -- each part once: what both documents have, one behind the other, is one part
 abbrev pub drawn_parts : List Part → List Part

@@ -82,11 +82,11 @@ abbrev pub title : Part → List ℕ
 title p = codes "<title>" ++ subject p ++ place p ++ codes "</title>"
 
 -- what follows has this fill
-abbrev pub filled : List ℕ → List ℕ
-filled colour = codes "<g fill='" ++ colour ++ codes "'>"
+abbrev pub filled_group : List ℕ → List ℕ
+filled_group colour = codes "<g fill='" ++ colour ++ codes "'>"
 
 abbrev pub part_drawn : Part → List ℕ
-part_drawn p = filled (fill p.kind p.users) ++ title p ++ rects p ++ codes "</g>\n"
+part_drawn p = filled_group (fill p.kind p.users) ++ title p ++ rects p ++ codes "</g>\n"
 
 abbrev pub parts_drawn : List Part → List ℕ
 parts_drawn ps = flat_map part_drawn ps
@@ -123,7 +123,7 @@ swatch_text x y word =
     ++ codes "</text>\n"
 
 abbrev pub swatch_at : ℕ → ℕ → Content → List ℕ
-swatch_at x y c = filled (content_fill c) ++ rect x y 12 ++ swatch_text x y (name c)
+swatch_at x y c = filled_group (content_fill c) ++ rect x y 12 ++ swatch_text x y (name c)
 
 abbrev pub swatch : Content → List ℕ
 swatch c = if content_number c == 10 then [] else swatch_at (70 + 300 * (content_number c / 4))

@@ -2,7 +2,7 @@
 ghost use Rattle.std.specs.Prelude.{◌≡◌, ◌≤◌, ◌<◌, ◌+◌, ◌*◌, ◌-◌, ◌/◌, ◌%◌, ◌^◌, ◌++◌, ◌∷◌, IfErr, OnOk};
 ghost use Rattle.std.specs.Io.KnownBytes.{Appends};
 ghost use Rattle.file_map.specs.Faults.{IsWriteLack};
-ghost use Rattle.file_map.specs.Svg.{filled, gaps, heaps_top, kind_words, label, labels, last_row, legend_drawn, opening, part_drawn, parts_drawn, place, rect, rects, row_rect, rows_height, start_drawn, subject, swatch, swatch_at, swatch_text, title, unused_drawn, users_words, whole_rows};
+ghost use Rattle.file_map.specs.Svg.{filled_group, gaps, heaps_top, kind_words, label, labels, last_row, legend_drawn, opening, part_drawn, parts_drawn, place, rect, rects, row_rect, rows_height, start_drawn, subject, swatch, swatch_at, swatch_text, title, unused_drawn, users_words, whole_rows};
 
 use crate::colours::{PATTERNS, content_fill, fill};
 use crate::fault::MapFault;
@@ -118,7 +118,7 @@ fn push_title(out: &mut Vec<u8>, part: &Part) -> Result<(), AllocError>
 
 // Begins what has a fill.
 fn push_filled(out: &mut Vec<u8>, colour: &[u8]) -> Result<(), AllocError>
-    ensures { OnOk result (out.new.items ≡ out.old.items ++ filled colour.now) }
+    ensures { OnOk result (out.new.items ≡ out.old.items ++ filled_group colour.now) }
 {
     out.extend_from_slice(b"<g fill='")?;
     out.extend_from_slice(colour)?;

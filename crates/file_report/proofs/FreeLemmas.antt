@@ -11,7 +11,7 @@ use Rattle.file_format.specs.File.{end_page}
 use Rattle.file_format.specs.declared.file.Extent.{Extent}
 use Rattle.file_space.specs.Space.{is_on}
 use Rattle.file_space.proofs.SpaceLemmas.{within_yes, within_no}
-use Rattle.file_report.specs.Pages.{AreFreePages, AreRuns, IsLongest, IsFreePageRun, IsPageWalk, PassesFree, begins_run, is_free_page, is_used, pages_with}
+use Rattle.file_report.specs.Pages.{AreFreePages, AreFreeRuns, IsLongest, IsFreePageRun, IsPageWalk, PassesFree, begins_run, is_free_page, is_used, pages_with}
 use Rattle.file_report.specs.declared.free.FreePages.{FreePages}
 use Rattle.file_report.specs.declared.free.Walk.{Walk}
 use Rattle.file_report.specs.declared.pages.Usage.{Usage}
@@ -39,7 +39,7 @@ same_run : (f g : ℕ → Bool) (n start count : ℕ) → ((p : ℕ) → p < n �
 same_run f g n start count same inside run = λ p from below. sym (same p (omega (arith, inside, below))) ∙ run p from below
 
 -- the pages behind don't matter
-same_runs : (f g : ℕ → Bool) (n : ℕ) (r : FreePages) → ((p : ℕ) → p < n → f p ≡ g p) → AreRuns f n r → AreRuns g n r
+same_runs : (f g : ℕ → Bool) (n : ℕ) (r : FreePages) → ((p : ℕ) → p < n → f p ≡ g p) → AreFreeRuns f n r → AreFreeRuns g n r
 same_runs f g n r same is =
     let back : (p : ℕ) → p < n → g p ≡ f p = λ p below. sym (same p below) in
     record {
@@ -69,7 +69,7 @@ cut_run f n start count most taken inside run below = elim (cases_lt n (start + 
   | inr short ↦ below start count short run
 ]
 
-taken_one : (f : ℕ → Bool) (n : ℕ) (r : FreePages) → f n ≡ false → AreRuns f n r → AreRuns f (suc n) r
+taken_one : (f : ℕ → Bool) (n : ℕ) (r : FreePages) → f n ≡ false → AreFreeRuns f n r → AreFreeRuns f (suc n) r
 taken_one f n r taken is =
     let page : once (f n) ≡ 0 = ap once taken in
     let begin : once (begins_run f n) ≡ 0 = ap once (not_begun f n taken) in
@@ -87,16 +87,16 @@ taken_one f n r taken is =
       };
     }
 
-taken_more : (f : ℕ → Bool) (n k : ℕ) (r : FreePages) → ((p : ℕ) → n ≤ p → p < n + k → f p ≡ false) → AreRuns f n r → AreRuns f (n + k) r
-taken_more f n zero r taken is = subst (λ (m : ℕ). AreRuns f m r) (let same : n ≡ n + 0 = omega arith in same) is
+taken_more : (f : ℕ → Bool) (n k : ℕ) (r : FreePages) → ((p : ℕ) → n ≤ p → p < n + k → f p ≡ false) → AreFreeRuns f n r → AreFreeRuns f (n + k) r
+taken_more f n zero r taken is = subst (λ (m : ℕ). AreFreeRuns f m r) (let same : n ≡ n + 0 = omega arith in same) is
 taken_more f n (suc k) r taken is =
     let rest = taken_more f n k r (λ p from below. taken p from (omega (arith, below))) is in
-    subst (λ (m : ℕ). AreRuns f m r) (let same : suc (n + k) ≡ n + suc k = omega arith in same) (taken_one f (n + k) r (taken (n + k) (omega arith) (omega arith)) rest)
+    subst (λ (m : ℕ). AreFreeRuns f m r) (let same : suc (n + k) ≡ n + suc k = omega arith in same) (taken_one f (n + k) r (taken (n + k) (omega arith) (omega arith)) rest)
 
-taken_to : (f : ℕ → Bool) (n e : ℕ) (r : FreePages) → n ≤ e → ((p : ℕ) → n ≤ p → p < e → f p ≡ false) → AreRuns f n r → AreRuns f e r
+taken_to : (f : ℕ → Bool) (n e : ℕ) (r : FreePages) → n ≤ e → ((p : ℕ) → n ≤ p → p < e → f p ≡ false) → AreFreeRuns f n r → AreFreeRuns f e r
 taken_to f n e r up taken is =
     let end : n + (e - n) ≡ e = omega (arith, up) in
-    subst (λ (m : ℕ). AreRuns f m r) end (taken_more f n (e - n) r (λ p from below. taken p from (omega (arith, below, end))) is)
+    subst (λ (m : ℕ). AreFreeRuns f m r) end (taken_more f n (e - n) r (λ p from below. taken p from (omega (arith, below, end))) is)
 
 -- A run of free pages more, behind one that isn't free.
 
@@ -159,8 +159,8 @@ longer f n k most edge free is =
           record { start = is.start; within = omega (arith, within, old); run = subst (λ (c : ℕ). IsFreePageRun f is.start c) size is.run; most = none }
     ]
 
-free_more : (f : ℕ → Bool) (n k : ℕ) (r new : FreePages) → 0 < k → n + k ≤ 18446744073709551615 → ((p : ℕ) → p + 1 ≡ n → f p ≡ false) → ((p : ℕ) → n ≤ p → p < n + k → f p ≡ true) → AreRuns f n r
-    → new.pages ≡ min (r.pages + k) 18446744073709551615 → new.runs ≡ min (r.runs + 1) 18446744073709551615 → new.longest ≡ max r.longest k → AreRuns f (n + k) new
+free_more : (f : ℕ → Bool) (n k : ℕ) (r new : FreePages) → 0 < k → n + k ≤ 18446744073709551615 → ((p : ℕ) → p + 1 ≡ n → f p ≡ false) → ((p : ℕ) → n ≤ p → p < n + k → f p ≡ true) → AreFreeRuns f n r
+    → new.pages ≡ min (r.pages + k) 18446744073709551615 → new.runs ≡ min (r.runs + 1) 18446744073709551615 → new.longest ≡ max r.longest k → AreFreeRuns f (n + k) new
 free_more f n zero r new some fits edge free is pages runs longest = absurd (omega (arith, some))
 free_more f n (suc k) r new some fits edge free is pages runs longest =
     let was = is.pages in
@@ -180,9 +180,9 @@ free_more f n (suc k) r new some fits edge free is pages runs longest =
 -- past free pages up to one
 pub record Passed (f : ℕ → Bool) (start : ℕ) (old new : Walk) : Type 0 where
   pub end : new.end ≡ max old.end start
-  pub runs : AreRuns f (max old.end start) new.free
+  pub runs : AreFreeRuns f (max old.end start) new.free
 
-pub passed_free : (f : ℕ → Bool) (start : ℕ) (old new : Walk) → start ≤ 18446744073709551615 → AreRuns f old.end old.free → (old.end < start → (p : ℕ) → p + 1 ≡ old.end → f p ≡ false) → ((p : ℕ) → old.end ≤ p → p < start → f p ≡ true)
+pub passed_free : (f : ℕ → Bool) (start : ℕ) (old new : Walk) → start ≤ 18446744073709551615 → AreFreeRuns f old.end old.free → (old.end < start → (p : ℕ) → p + 1 ≡ old.end → f p ≡ false) → ((p : ℕ) → old.end ≤ p → p < start → f p ≡ true)
     → PassesFree old start new → Passed f start old new
 passed_free f start old new fits is edge free passes = elim (cases_lt old.end start) [
   | inr none ↦
@@ -190,14 +190,14 @@ passed_free f start old new fits is edge free passes = elim (cases_lt old.end st
       let end : old.end ≡ max old.end start = omega (arith, none) in
       record {
         end = ap (λ (w : Walk). w.end) same ∙ end;
-        runs = subst (λ (w : Walk). AreRuns f (max old.end start) w.free) (sym same) (subst (λ (n : ℕ). AreRuns f n old.free) end is);
+        runs = subst (λ (w : Walk). AreFreeRuns f (max old.end start) w.free) (sym same) (subst (λ (n : ℕ). AreFreeRuns f n old.free) end is);
       }
   | inl some ↦
       let end : old.end + (start - old.end) ≡ max old.end start = omega (arith, some) in
       let new_end = passes.end some in
       record {
         end = omega (arith, new_end, some);
-        runs = subst (λ (n : ℕ). AreRuns f n new.free) end
+        runs = subst (λ (n : ℕ). AreFreeRuns f n new.free) end
             (free_more f old.end (start - old.end) old.free new.free (omega (arith, some)) (omega (arith, some, fits)) (edge some) (λ p from below. free p from (omega (arith, below, some))) is (passes.pages some) (passes.runs some)
             (passes.longest some));
       }
@@ -245,11 +245,11 @@ module _ (taken : ℕ → Bool) (n start : ℕ) (w : Walk) (is : IsPageWalk take
       (λ less p at. ap not (still p (is.edge (omega (arith, less)) p at)))
       (λ p low high. ap not (before p (omega (arith, high)) ∙ is.behind p low (omega (arith, high)))) passes in
       let end : new.end ≡ min n (max m b) = end_is ∙ ap (λ (k : ℕ). min n (max k b)) past.end in
-      let counted : AreRuns (λ p. not (with_extent p)) (min n (max m b)) passed.free =
+      let counted : AreFreeRuns (λ p. not (with_extent p)) (min n (max m b)) passed.free =
       taken_to (λ p. not (with_extent p)) m (min n (max m b)) passed.free (omega (arith, inside))
       (λ p low high. ap not (on p (omega (arith, low, high)) (omega (arith, low, high)))) past.runs in
       record {
-        counted = subst (λ (f : FreePages). AreRuns (λ p. not (with_extent p)) new.end f) (sym free_is) (subst (λ (k : ℕ). AreRuns (λ p. not (with_extent p)) k passed.free) (sym end) counted);
+        counted = subst (λ (f : FreePages). AreFreeRuns (λ p. not (with_extent p)) new.end f) (sym free_is) (subst (λ (k : ℕ). AreFreeRuns (λ p. not (with_extent p)) k passed.free) (sym end) counted);
         inside = omega (arith, end);
         edge = λ less p at. elim (cases_lt p b) [
           | inl below ↦ elim (cases_lt p e.page) [
@@ -299,7 +299,7 @@ pub record IsPassed (us : List Usage) (n i : ℕ) (w : Walk) : Type 0 where
 
 pub passed_none : (us : List Usage) (n : ℕ) (w : Walk) → w.end ≡ 0 → w.free.pages ≡ 0 → w.free.runs ≡ 0 → w.free.longest ≡ 0 → IsPassed us n 0 w
 passed_none us n w end pages runs longest =
-    let none : AreRuns (is_free_page (take 0 us)) 0 w.free = record {
+    let none : AreFreeRuns (is_free_page (take 0 us)) 0 w.free = record {
       pages = pages;
       runs = runs;
       longest = record {
@@ -312,7 +312,7 @@ passed_none us n w end pages runs longest =
     record {
       start = 0;
       walk = record {
-        counted = subst (λ (k : ℕ). AreRuns (is_free_page (take 0 us)) k w.free) (sym end) none;
+        counted = subst (λ (k : ℕ). AreFreeRuns (is_free_page (take 0 us)) k w.free) (sym end) none;
         inside = omega (arith, end);
         edge = λ less p at. absurd (omega (arith, at, end));
         used = λ p low high. absurd (omega (arith, high, end));
@@ -341,7 +341,7 @@ passed_all us n i w new fits past p passes =
     let inside = p.walk.inside in
     let end : max w.end n ≡ n = omega (arith, inside) in
     let runs = passed_free (λ page. not (taken page)) n w new fits p.walk.counted (λ less page at. ap not (p.walk.edge less page at)) (λ page low high. ap not (p.walk.behind page low high)) passes in
-    subst (λ (l : List Usage). AreFreePages l n new.free) (take_all i us past) (subst (λ (k : ℕ). AreRuns (λ page. not (taken page)) k new.free) end runs.runs)
+    subst (λ (l : List Usage). AreFreePages l n new.free) (take_all i us past) (subst (λ (k : ℕ). AreFreeRuns (λ page. not (taken page)) k new.free) end runs.runs)
 
 -- in whatever order
 pub free_moved : (us vs : List Usage) (n : ℕ) (f : FreePages) → IsPermutation us vs → AreFreePages vs n f → AreFreePages us n f

@@ -74,14 +74,14 @@ pub record IsLongest (free : ℕ → Bool) (n count : ℕ) : Type 0 where
   pub most : (start count' : ℕ) → start + count' ≤ n → IsFreePageRun free start count' → count' ≤ count
 
 -- the first n pages, by a test which are free
-pub record AreRuns (free : ℕ → Bool) (n : ℕ) (f : FreePages) : Type 0 where
+pub record AreFreeRuns (free : ℕ → Bool) (n : ℕ) (f : FreePages) : Type 0 where
   pub pages : f.pages ≡ pages_with free n
   pub runs : f.runs ≡ pages_with (begins_run free) n
   pub longest : IsLongest free n f.longest
 
 -- those of the first n pages on which nothing lies
 abbrev pub AreFreePages : List Usage → ℕ → FreePages → Type 0
-AreFreePages us n f = AreRuns (is_free_page us) n f
+AreFreePages us n f = AreFreeRuns (is_free_page us) n f
 
 -- what an extent holds, whichever of the two documents has it
 abbrev pub part_of_content : Content → Part
@@ -116,7 +116,7 @@ AreReportedIn us pairs = (u v : Usage) → Contains us u → Contains us v → D
 -- Of n pages those before the walk's end are counted, and those from `start` on to it are taken. Where the end is none
 -- of the file's, the page before it is taken.
 pub record IsPageWalk (taken : ℕ → Bool) (n start : ℕ) (w : Walk) : Type 0 where
-  pub counted : AreRuns (λ page. not (taken page)) w.end w.free
+  pub counted : AreFreeRuns (λ page. not (taken page)) w.end w.free
   pub inside : w.end ≤ n
   pub edge : w.end < n → (page : ℕ) → page + 1 ≡ w.end → taken page ≡ true
   pub used : (page : ℕ) → start ≤ page → page < w.end → taken page ≡ true

@@ -7,7 +7,7 @@ use Rattle.std.proofs.lemmas.List.Folds.{list_all_at}
 use Rattle.std.proofs.lemmas.List.FromFn.{get_or-map-range_with_len}
 use Rattle.file_format.specs.File.{block_of}
 use Rattle.file_format.specs.declared.file.Entry.{Entry}
-use Rattle.file_salvage.specs.Entries.{damage_at, damages, entry_at, entry_count, fits, free_among, free_at, free_below, free_beside, free_unsummed, frees, frees_beside, is_taken, taken, taken_at, whole_row}
+use Rattle.file_salvage.specs.Entries.{damage_at, damages, entry_at, entry_count, fits_row, free_among, free_at, free_below, free_beside, free_numbers, free_unsummed, frees_beside, is_taken, taken_at, taken_row, whole_row}
 use Rattle.file_salvage.specs.Rows.{IsRow, longest_row}
 use Rattle.file_salvage.specs.declared.flaw.Flaw.{Flaw}
 use Rattle.file_salvage.proofs.EntryLemmas.{damages_count, frees_beside_count, frees_count, image, image_beside, whole_image}
@@ -71,29 +71,29 @@ in_row numbers n most (i ∷ row) is =
 abbrev pub fits_with : List ℕ → ℕ → ℕ → ℕ → Bool
 fits_with numbers i m j = cond (nat_le j i) (nat_le (slice_index numbers j) m) (nat_le m (slice_index numbers j))
 
-below_fits : (numbers : List ℕ) (n most : ℕ) (row : List ℕ) (i m : ℕ) → IsRow numbers n most row → n ≤ i → most ≤ m → fits numbers row i m ≡ true
+below_fits : (numbers : List ℕ) (n most : ℕ) (row : List ℕ) (i m : ℕ) → IsRow numbers n most row → n ≤ i → most ≤ m → fits_row numbers row i m ≡ true
 below_fits numbers n most [] i m is few low = refl
 below_fits numbers n most (j ∷ row) i m is few low =
-    and_from (fits_with numbers i m j) (fits numbers row i m)
+    and_from (fits_with numbers i m j) (fits_row numbers row i m)
     (cond-true (nat_le j i) (nat_le (slice_index numbers j) m) (nat_le m (slice_index numbers j)) (le-leb j i (omega (arith, is.0, few))) ∙ le-leb (slice_index numbers j) m (omega (arith, is.2, low)))
     (below_fits numbers j (slice_index numbers j) row i m is.3 (omega (arith, is.0, few)) (omega (arith, is.2, low)))
 
 -- each place of a row can stand in it
-own_fits : (numbers : List ℕ) (n most : ℕ) (row : List ℕ) → IsRow numbers n most row → All (λ j. fits numbers row j (slice_index numbers j) ≡ true) row
-own_fits numbers n most [] is = All-nil (λ j. fits numbers [] j (slice_index numbers j) ≡ true)
+own_fits : (numbers : List ℕ) (n most : ℕ) (row : List ℕ) → IsRow numbers n most row → All (λ j. fits_row numbers row j (slice_index numbers j) ≡ true) row
+own_fits numbers n most [] is = All-nil (λ j. fits_row numbers [] j (slice_index numbers j) ≡ true)
 own_fits numbers n most (i ∷ row) is =
     let x : ℕ = slice_index numbers i in
-    All-cons (λ j. fits numbers (i ∷ row) j (slice_index numbers j) ≡ true) i row
-    (and_from (fits_with numbers i x i) (fits numbers row i x) (cond-true (nat_le i i) (nat_le x x) (nat_le x x) (le-leb i i (omega arith)) ∙ le-leb x x (omega arith))
+    All-cons (λ j. fits_row numbers (i ∷ row) j (slice_index numbers j) ≡ true) i row
+    (and_from (fits_with numbers i x i) (fits_row numbers row i x) (cond-true (nat_le i i) (nat_le x x) (nat_le x x) (le-leb i i (omega arith)) ∙ le-leb x x (omega arith))
     (below_fits numbers i x row i x is.3 (omega arith) (omega arith)))
     (λ k d inside.
     let j : ℕ = get_or row k d in
     let y : ℕ = slice_index numbers j in
     let of : InRow numbers i x j = in_row numbers i x row is.3 k d inside in
-    and_from (fits_with numbers j y i) (fits numbers row j y) (cond-false (nat_le i j) (nat_le x y) (nat_le y x) (lt-leb i j of.0) ∙ le-leb y x of.2)
+    and_from (fits_with numbers j y i) (fits_row numbers row j y) (cond-false (nat_le i j) (nat_le x y) (nat_le y x) (lt-leb i j of.0) ∙ le-leb y x of.2)
     (own_fits numbers i x row is.3 k d inside))
 
-fits_at : (numbers row : List ℕ) (i m : ℕ) → fits numbers row i m ≡ true → (k d : ℕ) → k < length row → fits_with numbers i m (get_or row k d) ≡ true
+fits_at : (numbers row : List ℕ) (i m : ℕ) → fits_row numbers row i m ≡ true → (k d : ℕ) → k < length row → fits_with numbers i m (get_or row k d) ≡ true
 fits_at numbers row i m fit k d inside = elim (cases_Bool (fits_with numbers i m (get_or row k d))) [
   | inl holds ↦ holds
   | inr other ↦ (let none = list_all_at (fits_with numbers i m) row k d inside other in absurd (cc (sym fit ∙ none)))
@@ -109,7 +109,7 @@ same_free i e (Some flaw) some = absurd (omega (arith, some))
 
 module _ (bytes : List ℕ) (damages : List (Option Flaw)) where
   abbrev numbers : List ℕ
-  numbers = frees bytes damages
+  numbers = free_numbers bytes damages
 
   abbrev row : List ℕ
   row = whole_row bytes damages
@@ -127,12 +127,12 @@ module _ (bytes : List ℕ) (damages : List (Option Flaw)) where
   more_at i below = let at : 0 + i ≡ i = omega arith in get_or-map-range_with_len (free_beside bytes damages numbers row) 0 (length damages) i i 0 below at
 
   -- a place of the row has its number still
-  kept_at : (j : ℕ) → j < length damages → 1 ≤ slice_index numbers j → fits numbers row j (slice_index numbers j) ≡ true → slice_index more j ≡ slice_index numbers j
+  kept_at : (j : ℕ) → j < length damages → 1 ≤ slice_index numbers j → fits_row numbers row j (slice_index numbers j) ≡ true → slice_index more j ≡ slice_index numbers j
   kept_at j below some fit =
       let x : ℕ = slice_index numbers j in
       let is : x ≡ free_at bytes damages j = number_at j below in
       let free : unsummed_at j ≡ x = same_free j (entry_at bytes j) (slice_index_or damages j None) (subst (λ (n : ℕ). 1 ≤ n) is some) ∙ sym is in
-      more_at j below ∙ ap (λ (n : ℕ). free_among numbers row j n) free ∙ cond-true (fits numbers row j x) x 0 fit
+      more_at j below ∙ ap (λ (n : ℕ). free_among numbers row j n) free ∙ cond-true (fits_row numbers row j x) x 0 fit
 
   -- and can stand beside each other place that has one
   beside_at : (k d : ℕ) → k < length row → slice_index more (get_or row k d) ≡ slice_index numbers (get_or row k d) → (i : ℕ) → i < length damages → 1 ≤ slice_index more i
@@ -142,7 +142,7 @@ module _ (bytes : List ℕ) (damages : List (Option Flaw)) where
       let x : ℕ = slice_index numbers j in
       let m : ℕ = unsummed_at i in
       let is : slice_index more i ≡ free_among numbers row i m = more_at i below in
-      let fit = among (fits numbers row i m) m (subst (λ (n : ℕ). 1 ≤ n) is some) in
+      let fit = among (fits_row numbers row i m) m (subst (λ (n : ℕ). 1 ≤ n) is some) in
       let now : slice_index more i ≡ m = is ∙ fit.1 in
       let stands : fits_with numbers i m j ≡ true = fits_at numbers row i m fit.0 k d inside in
       elim (cases_lt i j) as (λ _. Beside more j i) [
@@ -157,7 +157,7 @@ module _ (bytes : List ℕ) (damages : List (Option Flaw)) where
             ]
       ]
 
-  pub whole_kept : All (λ i. is_taken i (taken true bytes damages) ≡ true) (taken false bytes damages)
+  pub whole_kept : All (λ i. is_taken i (taken_row true bytes damages) ≡ true) (taken_row false bytes damages)
   whole_kept = λ k d inside.
       let n : ℕ = length numbers in
       let j : ℕ = get_or row k d in
@@ -178,9 +178,9 @@ module _ (file : List ℕ) (version : ℕ) (bytes : List ℕ) where
   abbrev found : List (Option Flaw)
   found = damages file version bytes
 
-  pub whole_taken : All (λ i. damage_at file version bytes i ≡ None) (taken false bytes (damages file version bytes))
+  pub whole_taken : All (λ i. damage_at file version bytes i ≡ None) (taken_row false bytes (damages file version bytes))
   whole_taken = λ k d inside.
-      let numbers : List ℕ = frees bytes found in
+      let numbers : List ℕ = free_numbers bytes found in
       let i : ℕ = get_or (whole_row bytes found) k d in
       let of : InRow numbers (length numbers) 65535 i = in_row numbers (length numbers) 65535 _ (is_row numbers (length numbers) 65535) k d inside in
       let at : 0 + i ≡ i = omega arith in
@@ -199,9 +199,9 @@ module _ (file : List ℕ) (version : ℕ) (bytes : List ℕ) where
       let below : i < entry_count bytes = omega (arith, of.0, count, all) in
       image file version bytes i below (images i below of.1)
 
-  pub taken_had : (all : Bool) → All (λ i. is_some (block_of file (taken_at bytes (damages file version bytes) i)) ≡ true) (taken all bytes (damages file version bytes))
-  taken_had false = row_had (frees bytes found) (frees_count bytes found) (whole_image file version bytes)
+  pub taken_had : (all : Bool) → All (λ i. is_some (block_of file (taken_at bytes (damages file version bytes) i)) ≡ true) (taken_row all bytes (damages file version bytes))
+  taken_had false = row_had (free_numbers bytes found) (frees_count bytes found) (whole_image file version bytes)
   taken_had true =
-      let numbers : List ℕ = frees bytes found in
+      let numbers : List ℕ = free_numbers bytes found in
       let row : List ℕ = whole_row bytes found in
       row_had (frees_beside bytes found numbers row) (frees_beside_count bytes found numbers row) (image_beside file version bytes numbers row)

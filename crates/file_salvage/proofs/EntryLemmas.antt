@@ -6,7 +6,7 @@ use Rattle.geos_model.specs.Document.{Block}
 use Rattle.file_format.specs.File.{block_of, blocks_of_entries, prepended}
 use Rattle.file_format.specs.declared.file.Entry.{Entry}
 use Rattle.document_dump.specs.Entries.{HasBlocks}
-use Rattle.file_salvage.specs.Entries.{damage_at, damages, entry_at, entry_beside, entry_count, fits, free_at, free_below, free_beside, free_unsummed, frees, frees_beside, image_flaw, is_right, note_at, notes, taken_at, taken_entries, unsummed, whole_row}
+use Rattle.file_salvage.specs.Entries.{damage_at, damages, entry_at, entry_beside, entry_count, fits_row, free_at, free_below, free_beside, free_numbers, free_unsummed, frees_beside, image_flaw, is_right, note_at, notes, taken_at, taken_entries, whole_row, without_sum}
 use Rattle.file_salvage.specs.Rows.{IsRow, longest_row}
 use Rattle.file_salvage.specs.declared.flaw.Flaw.{Flaw}
 use Rattle.file_salvage.specs.declared.flaw.Flaw.TheVariants as flaws
@@ -68,7 +68,7 @@ unsummed_alone true false true is = refl
 has_image : (file : List ℕ) (i : ℕ) (e : Entry) (right : Bool) (damage : Option Flaw) → damage ≡ damage_by right (is_some (block_of file e)) (image_flaw file e) → 1 ≤ free_unsummed i e damage
     → is_some (block_of file (entry_beside e damage)) ≡ true
 has_image file i e right None is free = undamaged right (is_some (block_of file e)) (image_flaw file e) (sym is)
-has_image file i e right (Some flaws.Sum) is free = unsummed_alone right (is_some (block_of file e)) (is_some (block_of file (unsummed e))) (sym is)
+has_image file i e right (Some flaws.Sum) is free = unsummed_alone right (is_some (block_of file e)) (is_some (block_of file (without_sum e))) (sym is)
 has_image file i e right (Some flaws.Entry) is free = absurd (omega (arith, free))
 has_image file i e right (Some flaws.Image) is free = absurd (omega (arith, free))
 has_image file i e right (Some flaws.Order) is free = absurd (omega (arith, free))
@@ -93,7 +93,7 @@ flawed file version bytes i flaw right hasnt is =
     ∙ ap (λ (b : Bool). cond (not b) (Some found) None) hasnt)
 
 module _ (bytes : List ℕ) (damages : List (Option Flaw)) where
-  pub frees_count : length (frees bytes damages) ≡ length damages
+  pub frees_count : length (free_numbers bytes damages) ≡ length damages
   frees_count = length-map-range_with_len (free_at bytes damages) 0 (length damages)
 
   pub frees_beside_count : (numbers row : List ℕ) → length (frees_beside bytes damages numbers row) ≡ length damages
@@ -116,11 +116,11 @@ module _ (file : List ℕ) (version : ℕ) (bytes : List ℕ) where
       let is : slice_index_or found i None ≡ damage_at file version bytes i = get_or-map-range_with_len (damage_at file version bytes) 0 (entry_count bytes) i i None below at in
       has_image file i (entry_at bytes i) (is_right version (length file) bytes i) (slice_index_or found i None) is free
 
-  pub whole_image : (i : ℕ) → i < entry_count bytes → 1 ≤ slice_index (frees bytes found) i → IsImage i
+  pub whole_image : (i : ℕ) → i < entry_count bytes → 1 ≤ slice_index (free_numbers bytes found) i → IsImage i
   whole_image i below some =
       let at : 0 + i ≡ i = omega arith in
       let count = damages_count in
-      let free : slice_index (frees bytes found) i ≡ free_at bytes found i = get_or-map-range_with_len (free_at bytes found) 0 (length found) i i 0 (omega (arith, below, count)) at in
+      let free : slice_index (free_numbers bytes found) i ≡ free_at bytes found i = get_or-map-range_with_len (free_at bytes found) 0 (length found) i i 0 (omega (arith, below, count)) at in
       free_too i (entry_at bytes i) (slice_index_or found i None) (subst (λ (x : ℕ). 1 ≤ x) free some)
 
   pub image_beside : (numbers row : List ℕ) (i : ℕ) → i < entry_count bytes → 1 ≤ slice_index (frees_beside bytes found numbers row) i → IsImage i
@@ -129,7 +129,7 @@ module _ (file : List ℕ) (version : ℕ) (bytes : List ℕ) where
       let count = damages_count in
       let n : ℕ = free_unsummed i (entry_at bytes i) (slice_index_or found i None) in
       let free : slice_index (frees_beside bytes found numbers row) i ≡ free_beside bytes found numbers row i = get_or-map-range_with_len (free_beside bytes found numbers row) 0 (length found) i i 0 (omega (arith, below, count)) at in
-      free_first (fits numbers row i n) n (subst (λ (x : ℕ). 1 ≤ x) free some)
+      free_first (fits_row numbers row i n) n (subst (λ (x : ℕ). 1 ≤ x) free some)
 
   row_has : (numbers : List ℕ) (n most : ℕ) (row : List ℕ) → ((i : ℕ) → i < entry_count bytes → 1 ≤ slice_index numbers i → IsImage i) → n ≤ entry_count bytes → IsRow numbers n most row
       → HasBlocks file (map (taken_at bytes found) row)
@@ -144,8 +144,8 @@ module _ (file : List ℕ) (version : ℕ) (bytes : List ℕ) where
       row_has numbers (length numbers) 65535 _ images (omega (arith, count, all)) (is_row numbers (length numbers) 65535)
 
   pub entries_have : (all : Bool) → HasBlocks file (taken_entries all bytes (damages file version bytes))
-  entries_have false = longest_has (frees bytes found) (frees_count bytes found) whole_image
+  entries_have false = longest_has (free_numbers bytes found) (frees_count bytes found) whole_image
   entries_have true =
-      let numbers : List ℕ = frees bytes found in
+      let numbers : List ℕ = free_numbers bytes found in
       let row : List ℕ = whole_row bytes found in
       longest_has (frees_beside bytes found numbers row) (frees_beside_count bytes found numbers row) (image_beside numbers row)

@@ -5,7 +5,7 @@ use Rattle.std.proofs.lemmas.List.{take_all}
 use Rattle.std.proofs.lemmas.Bool.{cases_lt, le-ltb, lt-ltb}
 use Rattle.file_format.specs.File.{bytes_in}
 use Rattle.file_format.specs.declared.file.Slot.{Slot}
-use Rattle.file_salvage.specs.Places.{head_of, if_readable, is_header, is_place, is_second_first, readable_in, readable_of, salvaged_place, slot_at}
+use Rattle.file_salvage.specs.Places.{head_of, if_readable, is_header, is_place, is_second_first, readable_in, readable_of, salvaged_place, slot_on_page}
 use Rattle.file_salvage.specs.declared.place.Place.{Place}
 
 module _ (file : List ℕ) (p : Place) where
@@ -55,11 +55,11 @@ in_turn file first second one other turned is one_is other_is =
 module _ (file : List ℕ) where
   pub too_short : length file < 1024 → None ≡ salvaged_place file
   unfolding salvaged_place
-  too_short short = sym (ap (λ (b : Bool). cond b None (readable_of file (slot_at file 0) (slot_at file 1))) (lt-ltb (length file) 1024 short))
+  too_short short = sym (ap (λ (b : Bool). cond b None (readable_of file (slot_on_page file 0) (slot_on_page file 1))) (lt-ltb (length file) 1024 short))
 
-  pub found_of : (first second : Option Slot) (found : Option Place) → 1024 ≤ length file → first ≡ slot_at file 0 → second ≡ slot_at file 1
+  pub found_of : (first second : Option Slot) (found : Option Place) → 1024 ≤ length file → first ≡ slot_on_page file 0 → second ≡ slot_on_page file 1
       → found ≡ readable_of file first second → found ≡ salvaged_place file
   unfolding salvaged_place
   found_of first second found long zeroth one is =
       is ∙ ap₂ (λ (x y : Option Slot). readable_of file x y) zeroth one
-      ∙ sym (ap (λ (b : Bool). cond b None (readable_of file (slot_at file 0) (slot_at file 1))) (le-ltb (length file) 1024 long))
+      ∙ sym (ap (λ (b : Bool). cond b None (readable_of file (slot_on_page file 0) (slot_on_page file 1))) (le-ltb (length file) 1024 long))

@@ -4,7 +4,7 @@ use Rattle.std.proofs.lemmas.Bool.{and_from, and_left, and_parts, and_right, cas
 use Rattle.std.proofs.lemmas.List.{get_or_default}
 use Rattle.std.proofs.lemmas.List.Elements.{All-cons, All-nil, All-weaker}
 use Rattle.std.specs.List.Sorted.{IsNonDecreasing}
-use Rattle.file_salvage.specs.Rows.{AreEnds, IsRow, longer, row_to}
+use Rattle.file_salvage.specs.Rows.{AreRowEnds, IsRow, longer, row_to}
 
 module _ (numbers : List ℕ) where
   pub row_none : (most : ℕ) → row_to numbers 0 most ≡ []
@@ -136,11 +136,11 @@ module _ (numbers : List ℕ) where
 
   -- The least numbers at which rows end.
 
-  pub ends_same : (i : ℕ) (ends : List ℕ) → slice_index numbers i ≡ 0 → AreEnds numbers i ends → AreEnds numbers (i + 1) ends
+  pub ends_same : (i : ℕ) (ends : List ℕ) → slice_index numbers i ≡ 0 → AreRowEnds numbers i ends → AreRowEnds numbers (i + 1) ends
   ends_same i ends low are = λ most k. subst (λ (r : List ℕ). (k < length r) ↔ ((k < length ends) × (slice_index ends k ≤ most))) (sym (row_low i most low)) (are most k)
 
   -- the place of a number among them
-  pub place_is : (i x place : ℕ) (ends : List ℕ) → AreEnds numbers i ends → place ≤ length ends → ((k : ℕ) → k < place → slice_index ends k ≤ x)
+  pub place_is : (i x place : ℕ) (ends : List ℕ) → AreRowEnds numbers i ends → place ≤ length ends → ((k : ℕ) → k < place → slice_index ends k ≤ x)
       → ((k : ℕ) → place ≤ k → k < length ends → x < slice_index ends k) → place ≡ length (row_to numbers i x)
   place_is i x place ends are within below above = elim (cases_lt place (length (row_to numbers i x))) as (λ _. place ≡ length (row_to numbers i x)) [
     | inl short ↦ (let at = (are x place).0 short in let wrong = above place (omega arith) at.0 in absurd (omega (arith, at.1, wrong)))
@@ -151,26 +151,26 @@ module _ (numbers : List ℕ) where
   ]
 
   -- they don't fall
-  ends_rise : (i a b : ℕ) (ends : List ℕ) → AreEnds numbers i ends → a ≤ b → b < length ends → slice_index ends a ≤ slice_index ends b
+  ends_rise : (i a b : ℕ) (ends : List ℕ) → AreRowEnds numbers i ends → a ≤ b → b < length ends → slice_index ends a ≤ slice_index ends b
   ends_rise i a b ends are order within =
       let row = (are (slice_index ends b) b).1 (within, omega arith) in
       ((are (slice_index ends b) a).0 (omega (arith, row, order))).1
 
-  pub ends_sorted : (i : ℕ) (ends : List ℕ) → AreEnds numbers i ends → IsNonDecreasing ends
+  pub ends_sorted : (i : ℕ) (ends : List ℕ) → AreRowEnds numbers i ends → IsNonDecreasing ends
   ends_sorted i ends are = λ a b d order within.
       let first = get_or_default ends a d 0 (omega (arith, order, within)) in
       let second = get_or_default ends b d 0 within in
       let rise = ends_rise i a b ends are order within in
       omega (arith, first, second, rise)
 
-  pub ends_none : (ends : List ℕ) → ends ≡ [] → AreEnds numbers 0 ends
+  pub ends_none : (ends : List ℕ) → ends ≡ [] → AreRowEnds numbers 0 ends
   ends_none ends none = λ most k. (
     (λ has. let is : length (row_to numbers 0 most) ≡ 0 = ap length (row_none most) in absurd (omega (arith, is, has))),
     (λ at. let is : length ends ≡ 0 = ap length none in absurd (omega (arith, is, at.0))),
   )
 
   -- a number put among them
-  module _ (i place : ℕ) (old new : List ℕ) (are : AreEnds numbers i old) (some : 1 ≤ slice_index numbers i) (is : place ≡ length (row_to numbers i (slice_index numbers i)))
+  module _ (i place : ℕ) (old new : List ℕ) (are : AreRowEnds numbers i old) (some : 1 ≤ slice_index numbers i) (is : place ≡ length (row_to numbers i (slice_index numbers i)))
       (within : place ≤ length old) (below : (k : ℕ) → k < place → slice_index old k ≤ slice_index numbers i)
       (above : (k : ℕ) → place ≤ k → k < length old → slice_index numbers i < slice_index old k)
       (count : length new ≡ max (length old) (place + 1)) (put : slice_index new place ≡ slice_index numbers i)
@@ -205,7 +205,7 @@ module _ (numbers : List ℕ) where
           omega (arith, row, more))
     ]
 
-    pub ends_put : AreEnds numbers (i + 1) new
+    pub ends_put : AreRowEnds numbers (i + 1) new
     ends_put = λ most k. (to_ends most k, from_ends most k)
 
 -- the places of a row are below its bound

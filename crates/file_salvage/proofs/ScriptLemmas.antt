@@ -12,13 +12,13 @@ use Rattle.file_format.specs.declared.file.Entry.{Entry}
 use Rattle.file_format.specs.Reading.{OnlyReadsStore}
 use Rattle.file_format.proofs.LooksLemmas.{raised_later, still}
 use Rattle.document_dump.specs.Dumps.{saved_text}
-use Rattle.document_dump.specs.Entries.{HasBlocks, IsListed}
+use Rattle.document_dump.specs.Entries.{HasBlocks, IsListedAs}
 use Rattle.document_dump.specs.Faults.{IsDumpRefusal}
 use Rattle.document_dump.specs.declared.fault.DumpFault.{DumpFault}
 use Rattle.document_dump.specs.declared.fault.DumpFault.TheVariants as faults
 use Rattle.file_salvage.specs.Entries.{all_notes, damages, taken_entries}
 use Rattle.file_salvage.specs.Places.{salvaged_place}
-use Rattle.file_salvage.specs.Salvaged.{IsNoteFault, IsSalvage, bytes_of, map_kept, map_note, map_of, notes_of, place_note, salvage_text, damages_of, salvaged_entries, script_of}
+use Rattle.file_salvage.specs.Salvaged.{IsNoteFault, IsSalvage, directory_bytes_at, map_kept, map_note, map_of, notes_of, place_note, salvage_text, damages_of, salvaged_entries, script_of}
 use Rattle.file_salvage.specs.declared.place.Place.{Place}
 use Rattle.file_salvage.proofs.EntryLemmas.{Numbered, entries_have}
 
@@ -27,19 +27,19 @@ document_some : (map_block : ℕ) (o : Option (List Numbered)) → is_some o ≡
 document_some map_block None e = absurd (cc e)
 document_some map_block (Some blocks) e = (record { blocks = from_entries blocks; map_block = map_block }, refl)
 
-listed_document : (file : List ℕ) (map_block : ℕ) (es : List Entry) → HasBlocks file es → (d : Document) × IsListed file map_block es d
+listed_document : (file : List ℕ) (map_block : ℕ) (es : List Entry) → HasBlocks file es → (d : Document) × IsListedAs file map_block es d
 listed_document file map_block es has = document_some map_block (blocks_of_entries file es) has
 
 -- the parts of a script, one after another
 pub scripted : (all : Bool) (file : List ℕ) (p : Place) (from one two three to : Option (List ℕ)) → Appends from one (place_note p)
-    → Appends one two (all_notes all (bytes_of file p) (damages_of file p))
+    → Appends one two (all_notes all (directory_bytes_at file p) (damages_of file p))
     → Appends two three (map_note (map_of file p) (map_kept (map_of file p) (salvaged_entries all file p)))
-    → ((d : Document) → IsListed file (map_kept (map_of file p) (salvaged_entries all file p)) (salvaged_entries all file p) d → Appends three to (saved_text d))
+    → ((d : Document) → IsListedAs file (map_kept (map_of file p) (salvaged_entries all file p)) (salvaged_entries all file p) d → Appends three to (saved_text d))
     → IsSalvage (script_of all file p) true from to
 scripted all file p from one two three to a b c dumped =
-    let lines = all_notes all (bytes_of file p) (damages_of file p) in
+    let lines = all_notes all (directory_bytes_at file p) (damages_of file p) in
     let map_line = map_note (map_of file p) (map_kept (map_of file p) (salvaged_entries all file p)) in
-    let d = listed_document file (map_kept (map_of file p) (salvaged_entries all file p)) (salvaged_entries all file p) (entries_have file p.version (bytes_of file p) all) in
+    let d = listed_document file (map_kept (map_of file p) (salvaged_entries all file p)) (salvaged_entries all file p) (entries_have file p.version (directory_bytes_at file p) all) in
     let before : Appends from three (notes_of all file p) = Appends-trans from two three (place_note p ++ lines) map_line (Appends-trans from one two (place_note p) lines a b) c in
     let whole : Appends from to (notes_of all file p ++ saved_text d.0) = Appends-trans from three to (notes_of all file p) (saved_text d.0) before (dumped d.0 d.1) in
     subst (λ (o : Option (List ℕ)). IsSalvage o true from to) (sym (ap (option_map (λ x. notes_of all file p ++ saved_text x)) d.1)) (refl, whole)
@@ -56,9 +56,9 @@ refused_by_note a b fault (inl memory) = rw memory tt
 refused_by_note a b fault (inr write) = rw write tt
 
 -- the same, by what was read
-pub written : (all : Bool) (file : List ℕ) (p : Place) (bytes : List ℕ) (es : List Entry) (map_block kept : ℕ) (from one two three to : Option (List ℕ)) → bytes ≡ bytes_of file p
+pub written : (all : Bool) (file : List ℕ) (p : Place) (bytes : List ℕ) (es : List Entry) (map_block kept : ℕ) (from one two three to : Option (List ℕ)) → bytes ≡ directory_bytes_at file p
     → es ≡ taken_entries all bytes (damages file p.version bytes) → map_block ≡ word_at bytes 8 → kept ≡ map_kept map_block es → Appends from one (place_note p)
-    → Appends one two (all_notes all bytes (damages file p.version bytes)) → Appends two three (map_note map_block kept) → ((d : Document) → IsListed file kept es d → Appends three to (saved_text d))
+    → Appends one two (all_notes all bytes (damages file p.version bytes)) → Appends two three (map_note map_block kept) → ((d : Document) → IsListedAs file kept es d → Appends three to (saved_text d))
     → IsSalvage (script_of all file p) true from to
 written all file p bytes es map_block kept from one two three to bytes_is es_is map_is kept_is a b c dumped =
     let whole = salvaged_entries all file p in
@@ -67,7 +67,7 @@ written all file p bytes es map_block kept from one two three to bytes_is es_is 
     let kept_now : kept ≡ map_kept (map_of file p) whole = kept_is ∙ ap₂ map_kept map_now es_are in
     scripted all file p from one two three to a (subst (λ (x : List ℕ). Appends one two (all_notes all x (damages file p.version x))) bytes_is b)
     (subst (λ (k : ℕ). Appends two three (map_note (map_of file p) k)) kept_now (subst (λ (m : ℕ). Appends two three (map_note m kept)) map_now c))
-    (λ d listed. dumped d (subst (λ (e : List Entry). IsListed file kept e d) (sym es_are) (subst (λ (k : ℕ). IsListed file k whole d) (sym kept_now) listed)))
+    (λ d listed. dumped d (subst (λ (e : List Entry). IsListedAs file kept e d) (sym es_are) (subst (λ (k : ℕ). IsListedAs file k whole d) (sym kept_now) listed)))
 
 -- what is salvaged of a file, by the directory that is found
 

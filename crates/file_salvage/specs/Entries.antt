@@ -12,15 +12,15 @@ use Rattle.file_salvage.specs.declared.flaw.Flaw.{Flaw}
 use Rattle.file_salvage.specs.declared.flaw.Flaw.TheVariants as flaws
 
 -- the version of a directory
-abbrev pub version_in : List ℕ → ℕ
-version_in bytes = word_at bytes 4
+abbrev pub directory_version : List ℕ → ℕ
+directory_version bytes = word_at bytes 4
 
 -- how many entries these bytes of a directory have whole
 abbrev pub entry_count : List ℕ → ℕ
-entry_count bytes = (length bytes - 16) / entry_length (version_in bytes)
+entry_count bytes = (length bytes - 16) / entry_length (directory_version bytes)
 
 abbrev pub entry_at : List ℕ → ℕ → Entry
-entry_at bytes i = entry_read (version_in bytes) (entry_text_at bytes i)
+entry_at bytes i = entry_read (directory_version bytes) (entry_text_at bytes i)
 
 -- where the zeros of an entry begin, in a directory of a version: in version 1 they stand for its type too
 abbrev pub zeros_start : ℕ → ℕ
@@ -34,16 +34,16 @@ has_zeros version text = list_all (λ b. b == 0) (drop (zeros_start version) (ta
 abbrev pub is_right : ℕ → ℕ → List ℕ → ℕ → Bool
 is_right file_version n bytes i =
     let e = entry_at bytes i in
-    nat_le 1 e.handle.0 && is_entry file_version n (version_in bytes) e
-    && has_zeros (version_in bytes) (entry_text_at bytes i)
+    nat_le 1 e.handle.0 && is_entry file_version n (directory_version bytes) e
+    && has_zeros (directory_version bytes) (entry_text_at bytes i)
 
 -- an entry without its sum
-abbrev pub unsummed : Entry → Entry
-unsummed e = record { handle = e.handle; attributes = e.attributes; extent = e.extent; sum = None }
+abbrev pub without_sum : Entry → Entry
+without_sum e = record { handle = e.handle; attributes = e.attributes; extent = e.extent; sum = None }
 
 -- why an entry hasn't its block: there is an image, but with another sum, or there is none
 abbrev pub image_flaw : List ℕ → Entry → Flaw
-image_flaw file e = if is_some (block_of file (unsummed e)) then flaws.Sum else flaws.Image
+image_flaw file e = if is_some (block_of file (without_sum e)) then flaws.Sum else flaws.Image
 
 -- why an entry isn't whole
 abbrev pub damage_at : List ℕ → ℕ → List ℕ → ℕ → Option Flaw
@@ -65,12 +65,12 @@ free_below i e (Some flaw) = 0
 abbrev pub free_at : List ℕ → List (Option Flaw) → ℕ → ℕ
 free_at bytes damages i = free_below i (entry_at bytes i) (slice_index_or damages i None)
 
-abbrev pub frees : List ℕ → List (Option Flaw) → List ℕ
-frees bytes damages = map (free_at bytes damages) (range_with_len 0 (length damages))
+abbrev pub free_numbers : List ℕ → List (Option Flaw) → List ℕ
+free_numbers bytes damages = map (free_at bytes damages) (range_with_len 0 (length damages))
 
 -- the whole entries that are taken, by their places in the directory: as many as can stand in one
 abbrev pub whole_row : List ℕ → List (Option Flaw) → List ℕ
-whole_row bytes damages = longest_row (frees bytes damages)
+whole_row bytes damages = longest_row (free_numbers bytes damages)
 
 -- Beside these, where all are asked for, entries whose image hasn't its sum: as many as can stand among them.
 
@@ -81,13 +81,13 @@ free_unsummed i e (Some flaws.Sum) = e.handle.0 - i
 free_unsummed i e (Some flaw) = 0
 
 -- a number at a place is at least each of a row's at places up to there, and at most each of those behind
-abbrev pub fits : List ℕ → List ℕ → ℕ → ℕ → Bool
-fits numbers row i n =
+abbrev pub fits_row : List ℕ → List ℕ → ℕ → ℕ → Bool
+fits_row numbers row i n =
     list_all (λ j. if nat_le j i then nat_le (slice_index numbers j) n else nat_le n (slice_index numbers j)) row
 
 -- that number where it can stand among those of a row, and else 0
 abbrev pub free_among : List ℕ → List ℕ → ℕ → ℕ → ℕ
-free_among numbers row i n = if fits numbers row i n then n else 0
+free_among numbers row i n = if fits_row numbers row i n then n else 0
 
 abbrev pub free_beside : List ℕ → List (Option Flaw) → List ℕ → List ℕ → ℕ → ℕ
 free_beside bytes damages numbers row i =
@@ -99,11 +99,11 @@ frees_beside bytes damages numbers row =
 
 abbrev pub unsummed_row : List ℕ → List (Option Flaw) → List ℕ
 unsummed_row bytes damages =
-    longest_row (frees_beside bytes damages (frees bytes damages) (whole_row bytes damages))
+    longest_row (frees_beside bytes damages (free_numbers bytes damages) (whole_row bytes damages))
 
 -- the entries that are taken, by their places: the whole ones, or all whose image can be read
-abbrev pub taken : Bool → List ℕ → List (Option Flaw) → List ℕ
-taken all bytes damages = if all then unsummed_row bytes damages else whole_row bytes damages
+abbrev pub taken_row : Bool → List ℕ → List (Option Flaw) → List ℕ
+taken_row all bytes damages = if all then unsummed_row bytes damages else whole_row bytes damages
 
 -- one of these entries has a handle
 abbrev pub has_handle : ℕ → List Entry → Bool
@@ -141,14 +141,14 @@ notes bytes damages row n = flat_map (note_at bytes damages row) (range_with_len
 -- an entry that is taken, without its sum where its image hasn't that
 abbrev pub entry_beside : Entry → Option Flaw → Entry
 entry_beside e None = e
-entry_beside e (Some flaw) = unsummed e
+entry_beside e (Some flaw) = without_sum e
 
 abbrev pub taken_at : List ℕ → List (Option Flaw) → ℕ → Entry
 taken_at bytes damages i = entry_beside (entry_at bytes i) (slice_index_or damages i None)
 
 -- what there is to a directory: the entries that are taken, the last one first, and the lines
 abbrev pub taken_entries : Bool → List ℕ → List (Option Flaw) → List Entry
-taken_entries all bytes damages = map (taken_at bytes damages) (taken all bytes damages)
+taken_entries all bytes damages = map (taken_at bytes damages) (taken_row all bytes damages)
 
 abbrev pub all_notes : Bool → List ℕ → List (Option Flaw) → List ℕ
-all_notes all bytes damages = notes bytes damages (taken all bytes damages) (length damages)
+all_notes all bytes damages = notes bytes damages (taken_row all bytes damages) (length damages)

@@ -12,8 +12,8 @@ use Rattle.file_report.specs.declared.finding.Named.TheVariants.{Updated, Saved}
 use Rattle.file_salvage.specs.declared.place.Place.{Place}
 
 -- the directory of one of a slot's documents, of the second slot or the first
-abbrev pub place_of : Bool → Slot → Named → Place
-place_of second s name =
+abbrev pub place_in_slot : Bool → Slot → Named → Place
+place_in_slot second s name =
     record { second = second; name = name; version = s.version; extent = directory_extent s name }
 
 -- the first bytes of an extent, as many as a directory's header has
@@ -44,11 +44,11 @@ if_readable file p = if is_readable file p then Some p else None
 abbrev pub readable_in : List ℕ → Bool → Option Slot → Option Place
 readable_in file second None = None
 readable_in file second (Some s) =
-    option_or (if_readable file (place_of second s Updated)) (if_readable file (place_of second s Saved))
+    option_or (if_readable file (place_in_slot second s Updated)) (if_readable file (place_in_slot second s Saved))
 
 -- the slot at a page, whether or not it is open
-abbrev pub slot_at : List ℕ → ℕ → Option Slot
-slot_at file page = slot_of (take 44 (drop (512 * page) file))
+abbrev pub slot_on_page : List ℕ → ℕ → Option Slot
+slot_on_page file page = slot_of (take 44 (drop (512 * page) file))
 
 -- the second slot is tried first: it is open and the first isn't, or has the greater number where both are or neither
 abbrev pub is_second_first : Option Slot → Option Slot → Bool
@@ -64,4 +64,4 @@ readable_of file first second =
 
 unfoldable pub salvaged_place : List ℕ → Option Place
 salvaged_place file =
-    if nat_lt (length file) 1024 then None else readable_of file (slot_at file 0) (slot_at file 1)
+    if nat_lt (length file) 1024 then None else readable_of file (slot_on_page file 0) (slot_on_page file 1)

@@ -34,8 +34,8 @@ pub record IsLongestRow (numbers row : List ℕ) : Type 0 where
 
 -- The least numbers at which rows end: of each length there is a row among the first n numbers that are at most `most`
 -- just where the number here that stands so far is.
-abbrev pub AreEnds : List ℕ → ℕ → List ℕ → Type 0
-AreEnds numbers n ends =
+abbrev pub AreRowEnds : List ℕ → ℕ → List ℕ → Type 0
+AreRowEnds numbers n ends =
     (most k : ℕ) → (k < length (row_to numbers n most)) ↔ ((k < length ends) × (slice_index ends k ≤ most))
 
 -- these numbers are the lengths of the longest rows that end at each of the first n places where a row can end

@@ -19,23 +19,23 @@ use Rattle.file_salvage.specs.declared.flaw.Flaw.{Flaw}
 use Rattle.file_salvage.specs.declared.place.Place.{Place}
 
 -- the bytes of a directory, as far as the file has them
-abbrev pub bytes_of : List ℕ → Place → List ℕ
-bytes_of file p = bytes_in file p.extent
+abbrev pub directory_bytes_at : List ℕ → Place → List ℕ
+directory_bytes_at file p = bytes_in file p.extent
 
 -- why each of its entries isn't whole
 abbrev pub damages_of : List ℕ → Place → List (Option Flaw)
-damages_of file p = damages file p.version (bytes_of file p)
+damages_of file p = damages file p.version (directory_bytes_at file p)
 
 -- the entries that are taken of it
 abbrev pub salvaged_entries : Bool → List ℕ → Place → List Entry
-salvaged_entries all file p = taken_entries all (bytes_of file p) (damages_of file p)
+salvaged_entries all file p = taken_entries all (directory_bytes_at file p) (damages_of file p)
 
 -- the map block, where one of these entries has it, or else none
 abbrev pub map_kept : ℕ → List Entry → ℕ
 map_kept map_block entries = if has_handle map_block entries then map_block else 0
 
 abbrev pub map_of : List ℕ → Place → ℕ
-map_of file p = word_at (bytes_of file p) 8
+map_of file p = word_at (directory_bytes_at file p) 8
 
 -- the document that is salvaged
 abbrev pub salvaged_document : Bool → List ℕ → Place → Option Document
@@ -59,7 +59,7 @@ map_note map_block kept = if map_block == kept then [] else lost_map map_block
 
 abbrev pub notes_of : Bool → List ℕ → Place → List ℕ
 notes_of all file p =
-    place_note p ++ all_notes all (bytes_of file p) (damages_of file p)
+    place_note p ++ all_notes all (directory_bytes_at file p) (damages_of file p)
     ++ map_note (map_of file p) (map_kept (map_of file p) (salvaged_entries all file p))
 
 -- the script of what a directory has, with those lines

@@ -6,7 +6,7 @@ ghost use Rattle.file_format.specs.Reading.{IsResourceFault, OnlyReadsStore};
 ghost use Rattle.file_format.specs.File as file;
 ghost use Rattle.file_format.specs.File.{block_of, entry_length};
 ghost use Rattle.document_dump.specs.Faults.{IsDumpRefusal, IsWriteFault};
-ghost use Rattle.file_salvage.specs.Entries.{all_notes, damage_at, damages, entry_at, entry_beside, entry_count, fits, flaw_beside, free_among, free_below, free_unsummed, frees, frees_beside, has_handle, has_zeros, image_flaw, is_right, is_taken, note_of, notes, taken, taken_at, taken_entries, unsummed, version_in, zeros_start};
+ghost use Rattle.file_salvage.specs.Entries.{all_notes, damage_at, damages, directory_version, entry_at, entry_beside, entry_count, fits_row, flaw_beside, free_among, free_below, free_numbers, free_unsummed, frees_beside, has_handle, has_zeros, image_flaw, is_right, is_taken, note_of, notes, taken_at, taken_entries, taken_row, without_sum, zeros_start};
 ghost use Rattle.file_salvage.specs.Salvaged.{IsNoteFault};
 
 use crate::flaw::Flaw;
@@ -43,7 +43,7 @@ pub fn send<W: Write>(bytes: &[u8], writer: &mut W) -> Result<(), DumpFault>
 
 fn version_in(bytes: &[u8]) -> u16
     requires { 16 ≤ length bytes.now }
-    ensures { result ≡ version_in bytes.now }
+    ensures { result ≡ directory_version bytes.now }
 {
     LittleEndian::read_u16(&bytes[4..])
 }
@@ -111,7 +111,7 @@ fn has_block<S: Store>(alloc: Global, store: &mut S, entry: Entry) -> Result<boo
 }
 
 fn unsummed(entry: Entry) -> Entry
-    ensures { result ≡ unsummed entry }
+    ensures { result ≡ without_sum entry }
 {
     Entry { sum: None, ..entry }
 }
@@ -192,7 +192,7 @@ fn free_below(i: usize, entry: Entry, damage: Option<Flaw>) -> u16
 
 fn frees(alloc: Global, bytes: &[u8], damages: &[Option<Flaw>]) -> Result<Vec<u16>, AllocError>
     requires { length damages.now ≡ entry_count bytes.now }
-    ensures { IfOk result (λ numbers. numbers.items ≡ frees bytes.now damages.now) }
+    ensures { IfOk result (λ numbers. numbers.items ≡ free_numbers bytes.now damages.now) }
 {
     let mut frees = Vec::new(alloc);
     for i in 0..damages.len() {
@@ -213,7 +213,7 @@ fn free_unsummed(i: usize, entry: Entry, damage: Option<Flaw>) -> u16
 // Whether a number at a place can stand among those of a row.
 fn fits(numbers: &[u16], row: &[usize], i: usize, number: u16) -> bool
     requires { All (λ j. j < length numbers.now) row.now }
-    ensures { result ≡ fits numbers.now row.now i number }
+    ensures { result ≡ fits_row numbers.now row.now i number }
 {
     row.iter().all(|j| {
         if *j <= i {
@@ -262,7 +262,7 @@ fn taken(
     damages: &[Option<Flaw>],
 ) -> Result<Vec<usize>, AllocError>
     requires { length damages.now ≡ entry_count bytes.now }
-    ensures row { IfOk result (λ row. row.items ≡ taken all bytes.now damages.now) }
+    ensures row { IfOk result (λ row. row.items ≡ taken_row all bytes.now damages.now) }
     ensures within { IfOk result (λ row. All (λ i. i < length damages.now) row.items) }
 {
     let frees = frees(alloc, bytes, damages)?;

@@ -3,7 +3,7 @@ ghost use Rattle.std.specs.Prelude.{◌≡◌, ◌≤◌, IfErr, IfOk, IfSome, I
 ghost use Rattle.vm_store.specs.Facts.{FailedSince};
 ghost use Rattle.file_format.specs.File.{bytes_in, longest_directory};
 ghost use Rattle.file_format.specs.Reading.{IsResourceFault, OnlyReadsStore};
-ghost use Rattle.file_salvage.specs.Places.{head_of, if_readable, is_header, is_place, is_second_first, place_of, readable_in, readable_of, salvaged_place};
+ghost use Rattle.file_salvage.specs.Places.{head_of, if_readable, is_header, is_place, is_second_first, place_in_slot, readable_in, readable_of, salvaged_place};
 
 use crate::place::Place;
 use byteorder::{ByteOrder, LittleEndian};
@@ -17,7 +17,7 @@ use std::alloc::Global;
 use vm_store::Store;
 
 fn place_of(second: bool, slot: Slot, name: Named) -> Place
-    ensures { result ≡ place_of second slot name }
+    ensures { result ≡ place_in_slot second slot name }
 {
     Place {
         second,

@@ -1,7 +1,7 @@
 //! The longest row of numbers that never fall.
 ghost use Rattle.std.specs.Prelude.{◌≡◌, ◌≢◌, ℕ, ◌+◌, ◌<◌, ◌≤◌, [], IfOk, OnOk, length, max, slice_index};
 ghost use Rattle.std.specs.List.Sorted.{IsNonDecreasing};
-ghost use Rattle.file_salvage.specs.Rows.{AreEnds, AreLengths, IsLongestRow, longest_row, row_to};
+ghost use Rattle.file_salvage.specs.Rows.{AreLengths, AreRowEnds, IsLongestRow, longest_row, row_to};
 
 use std::alloc::{AllocError, Global};
 
@@ -33,8 +33,8 @@ fn put(ends: &mut Vec<u16>, at: usize, number: u16) -> Result<(), AllocError>
 // The length of the longest row that ends at a place, 0 where none does.
 fn reach(numbers: &[u16], i: usize, ends: &mut Vec<u16>) -> Result<usize, AllocError>
     requires within { i < length numbers.now }
-    requires ends { AreEnds numbers.now i ends.old.items }
-    ensures ends { OnOk result (AreEnds numbers.now (i + 1) ends.new.items) }
+    requires ends { AreRowEnds numbers.now i ends.old.items }
+    ensures ends { OnOk result (AreRowEnds numbers.now (i + 1) ends.new.items) }
     ensures reach { IfOk result (λ reach. 1 ≤ slice_index numbers.now i
         → reach ≡ 1 + length (row_to numbers.now i (slice_index numbers.now i))) }
 {
@@ -49,7 +49,7 @@ fn reach(numbers: &[u16], i: usize, ends: &mut Vec<u16>) -> Result<usize, AllocE
 
 fn lengths(alloc: Global, numbers: &[u16], ends: &mut Vec<u16>) -> Result<Vec<usize>, AllocError>
     requires { ends.old.items ≡ [] }
-    ensures ends { OnOk result (AreEnds numbers.now (length numbers.now) ends.new.items) }
+    ensures ends { OnOk result (AreRowEnds numbers.now (length numbers.now) ends.new.items) }
     ensures count { IfOk result (λ lengths. length lengths.items ≡ length numbers.now) }
     ensures lengths { IfOk result (λ lengths. AreLengths numbers.now (length numbers.now) lengths.items) }
 {

@@ -13,10 +13,10 @@ use denote.Memory.{lone}
 use denote.RawPtr.{Ptr, block_ptr, null_ptr, in_a_block}
 use Rattle.std.specs.contracts.impls.GlobalAllocator.TheImpl.{ghosts}
 use Rattle.std_alloc.specs.Box.Ownership.{box_owns}
-use Rattle.geos_c.specs.Owning.{global, held}
+use Rattle.geos_c.specs.Owning.{held, only_allocator}
 
 abbrev token : Ty → Ptr → Fml
-token = ghosts.dealloc_token global
+token = ghosts.dealloc_token only_allocator
 
 module _ (R : RattleType) {M : Type 1} {𝓤 : Ura M} {𝓛 : Logic 𝓤} {K : Type 0} {Γ : List (Item 𝓤)} {G : Goal 𝓤 𝓛.H} where
   pub opened : K → (p : Ptr) (x : R.Denot) → ((b o : ℕ) → p ≡ block_ptr b o → Seq K 𝓛 (‵ (box_owns token R (block_ptr b o) x) ∷ Γ) G) → Seq K 𝓛 (‵ (held R true p x) ∷ Γ) G

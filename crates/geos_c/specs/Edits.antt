@@ -40,15 +40,15 @@ pub record Edits {S : Type 0} (facts : S → StoreFacts) (edit : Edit) (old new 
       → EditsInMemory edit old new answer
 
 -- the handle or the token of what an edit made, 0 where it makes nothing
-abbrev pub number_of : Done → ℕ
-number_of done.Nothing = 0
-number_of (done.Block b) = b.0
-number_of (done.Chunk c) = c.0
-number_of (done.Token t) = t.0
+abbrev pub handle_made : Done → ℕ
+handle_made done.Nothing = 0
+handle_made (done.Block b) = b.0
+handle_made (done.Chunk c) = c.0
+handle_made (done.Token t) = t.0
 
 -- 0 also where it is refused
 abbrev pub number_made : Result Done Fault → ℕ
-number_made (Ok done) = number_of done
+number_made (Ok done) = handle_made done
 number_made (Err fault) = 0
 
 -- the edit is done, and what it made is handed out

@@ -14,8 +14,8 @@ use Rattle.geos_c.specs.contracts.channel.ChannelFileSystemFile.TheImpl as files
 use Rattle.c_sessions.specs.contracts.kept.Kept as kept
 
 -- the allocator, of which there is one
-abbrev pub global : Global
-global = record { memory = record { seal = tt } }
+abbrev pub only_allocator : Global
+only_allocator = record { memory = record { seal = tt } }
 
 -- A session that is kept, in a file of the program's. What is known of its store doesn't depend on the code of the calls
 -- on files, so any stands for that.
@@ -27,5 +27,5 @@ kept_row = kept.the_row (stores.the_row files.the_row files_impl.ghosts)
     (stores_impl.ghosts files.the_row files_impl.ghosts no_code no_code)
 
 abbrev pub held : (R : RattleType) → Bool → Ptr → R.Denot → Fml
-held R true p x = box_owns (ghosts.dealloc_token global) R p x
+held R true p x = box_owns (ghosts.dealloc_token only_allocator) R p x
 held R false p x = ftrue

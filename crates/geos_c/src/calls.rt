@@ -2,7 +2,7 @@
 ghost use Rattle.std.specs.Prelude.{◌≡◌};
 ghost use Rattle.geos_c.specs.Calls.{AbandonsGroup, BeginsGroup, CountsLocks, Dirties, EndsGroup, Forgets, Joins, LimitsUndo, LocksBlock, NamesStep, Redoes, Reverts, Saves, Undoes, UnlocksBlock, Updates};
 ghost use Rattle.c_sessions.specs.Codes.{ReportsAnswer};
-ghost use Rattle.geos_c.specs.Edits.{Makes, number_of as number_done};
+ghost use Rattle.geos_c.specs.Edits.{Makes, handle_made as number_done};
 
 use c_sessions::code_of;
 use geos_model::{Done, Edit, VmHandle};

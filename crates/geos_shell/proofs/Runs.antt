@@ -9,7 +9,7 @@ use Rattle.vm_store.specs.Facts.{StoreFacts}
 use Rattle.undo_log.specs.Sessions.{IsExact}
 use Rattle.geos_shell.specs.declared.answering.Answering.{Answering}
 use Rattle.geos_replies.specs.Holdings.{AreExact, Holding}
-use Rattle.geos_shell.specs.Progress.{AnswersPiece, AnswersRest, Ends, GoesOver, Moment, PieceFails, ProgressOf, StopsAtEnd, StopsIn, StopsPiece, StopsRest, Unsent, moment}
+use Rattle.geos_shell.specs.Progress.{AnswersPiece, AnswersRest, Ends, Moment, MovesTo, PieceFails, ProgressOf, StopsAtEnd, StopsIn, StopsPiece, StopsRest, Unsent, moment}
 use Rattle.geos_shell.specs.RunFaults.{HasCause}
 use Rattle.geos_shell.specs.Runs.{AnswersAll, AnswersFinished, AnswersSome, AnswersUnsent, EndsBy, RunsTo, StoppedWith, StopsBy}
 use Rattle.geos_shell.specs.declared.runner.RunFault.{RunFault}
@@ -146,7 +146,7 @@ module _ {S : Type 0} (facts : S → StoreFacts) (manner : ScriptOptions) where
 
   module _ (old new : Moment S) where
     -- what was done in bytes whose replies weren't sent, of which only the front may be answered
-    pub Unsent-fed : (bytes : List ℕ) (fed : Result ℕ RunFault) → IfOk fed (λ used. GoesOver facts manner old (take used bytes) new) → IfErr fed (λ fault. StopsIn fault facts manner old bytes new)
+    pub Unsent-fed : (bytes : List ℕ) (fed : Result ℕ RunFault) → IfOk fed (λ used. MovesTo facts manner old (take used bytes) new) → IfErr fed (λ fault. StopsIn fault facts manner old bytes new)
         → Unsent facts manner old bytes new.holding
     Unsent-fed bytes (Ok used) goes stops start read sent p =
         let all : (read ++ take used bytes) ++ drop used bytes ≡ read ++ bytes = append_assoc read (take used bytes) (drop used bytes) ∙ ap (λ l. read ++ l) (take-append-drop used bytes) in (
@@ -173,7 +173,7 @@ module _ {S : Type 0} (facts : S → StoreFacts) (manner : ScriptOptions) where
         (stopped_with fault start read _ new.holding (stops start read sent p).1)
 
     -- the front of bytes was answered, and the replies are sent
-    pub piece_sent : (bytes : List ℕ) (left : Moment S) (before after : Option (List ℕ)) → left.holding ≡ new.holding → left.kept.begun ≡ new.kept.begun → left.kept.ended ≡ new.kept.ended → GoesOver facts manner old bytes new
+    pub piece_sent : (bytes : List ℕ) (left : Moment S) (before after : Option (List ℕ)) → left.holding ≡ new.holding → left.kept.begun ≡ new.kept.begun → left.kept.ended ≡ new.kept.ended → MovesTo facts manner old bytes new
         → left.kept.replies.items ≡ [] → Appends before after new.kept.replies.items → AnswersPiece facts manner old bytes left before after
     piece_sent bytes left before after held begun ended goes none appended =
         record {

@@ -5,7 +5,7 @@ use Rattle.geos_model.specs.Script.{lines, finished_lines, command}
 use Rattle.vm_store.specs.Facts.{StoreFacts}
 use Rattle.geos_replies.specs.Holdings.{Holding, MayServe}
 use Rattle.geos_shell.specs.Runs.{AnswersLines, MayServeNext, RefusesRequest, StoppedByRefusal, StoppedWith, StopsBy}
-use Rattle.geos_shell.specs.Progress.{HasNoFeed, StandsFor, Progress, GoesOver, Moment, StopsIn}
+use Rattle.geos_shell.specs.Progress.{HasNoFeed, StandsFor, Progress, MovesTo, Moment, StopsIn}
 use Rattle.geos_shell.specs.declared.runner.RunFault.{RunFault}
 use Rattle.geos_shell.specs.declared.runner.RunFault.TheVariants as faults
 use Rattle.geos_shell.specs.declared.runner.ScriptOptions.{ScriptOptions}
@@ -164,12 +164,12 @@ module _ {S : Type 0} {facts : S → StoreFacts} {manner : ScriptOptions} {start
 
 module _ {S : Type 0} (facts : S → StoreFacts) (manner : ScriptOptions) where
   -- two steps make one
-  pub GoesOver-trans : (old mid new : Moment S) (xs ys : List ℕ) → GoesOver facts manner old xs mid → GoesOver facts manner mid ys new → GoesOver facts manner old (xs ++ ys) new
-  GoesOver-trans old mid new xs ys first second start read sent p =
+  pub MovesTo-trans : (old mid new : Moment S) (xs ys : List ℕ) → MovesTo facts manner old xs mid → MovesTo facts manner mid ys new → MovesTo facts manner old (xs ++ ys) new
+  MovesTo-trans old mid new xs ys first second start read sent p =
       rw (← append_assoc read xs ys) (second start (read ++ xs) sent (first start read sent p))
 
   -- the run stops behind a step
-  pub StopsIn-trans : (fault : RunFault) (old mid new : Moment S) (xs ys : List ℕ) → GoesOver facts manner old xs mid → StopsIn fault facts manner mid ys new → StopsIn fault facts manner old (xs ++ ys) new
+  pub StopsIn-trans : (fault : RunFault) (old mid new : Moment S) (xs ys : List ℕ) → MovesTo facts manner old xs mid → StopsIn fault facts manner mid ys new → StopsIn fault facts manner old (xs ++ ys) new
   StopsIn-trans fault old mid new xs ys goes stops start read sent p =
       rw (← append_assoc read xs ys) (stops start (read ++ xs) sent (goes start read sent p))
 

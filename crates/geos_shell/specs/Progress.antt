@@ -71,8 +71,8 @@ ProgressOf facts manner start read sent now =
     Progress facts manner start read (sent ++ now.kept.replies.items) now.holding now.kept.begun.items now.kept.ended
 
 -- From one moment the run comes to another by these bytes.
-abbrev pub GoesOver : {S : Type 0} → (S → StoreFacts) → ScriptOptions → Moment S → List ℕ → Moment S → Type 0
-GoesOver {S} facts manner old bytes new =
+abbrev pub MovesTo : {S : Type 0} → (S → StoreFacts) → ScriptOptions → Moment S → List ℕ → Moment S → Type 0
+MovesTo {S} facts manner old bytes new =
     (start : Holding S) (read sent : List ℕ) → ProgressOf facts manner start read sent old
     → ProgressOf facts manner start (read ++ bytes) sent new
 

@@ -3,7 +3,7 @@ ghost use Rattle.std.specs.Prelude.{◌≡◌, ◌++◌, ◌∷◌, [], ◌≤�
 ghost use Rattle.geos_model.specs.Script.{command, line_feed};
 ghost use Rattle.geos_replies.specs.Holdings.{MayServe, holding};
 ghost use Rattle.geos_shell.specs.Manners.{begins_with_no, lead};
-ghost use Rattle.geos_shell.specs.Progress.{Ends, GoesOver, HasNoFeed, IsAnsweredInRun, IsStopped, StandsFor, StopsAtEnd, StopsIn, moment};
+ghost use Rattle.geos_shell.specs.Progress.{Ends, HasNoFeed, IsAnsweredInRun, IsStopped, MovesTo, StandsFor, StopsAtEnd, StopsIn, moment};
 ghost use Rattle.geos_replies.specs.Replies.{Extends, Responds};
 ghost use Rattle.geos_shell.specs.RunFaults.{HasCause};
 
@@ -48,7 +48,7 @@ impl Answering {
     ) -> Result<usize, RunFault>
         requires { self.old.ended + length piece.now < 2 ^ 64 }
         ensures ok { IfOk result (λ used.
-            GoesOver S.facts manner (moment (holding session.old target.old former.old) self.old) (take used piece.now)
+            MovesTo S.facts manner (moment (holding session.old target.old former.old) self.old) (take used piece.now)
             (moment (holding session.new target.new former.new) self.new)) }
         ensures used { IfOk result (λ used. (used ≤ length piece.now) × (0 < length piece.now → 0 < used)) }
         ensures counted { IfOk result (λ used. self.new.ended ≤ self.old.ended + used) }
@@ -82,7 +82,7 @@ impl Answering {
         requires { self.old.ended + 1 < 2 ^ 64 }
         ensures one { OnOk result (self.new.ended ≡ self.old.ended + 1) }
         ensures ok { OnOk result (HasNoFeed tail.now
-            → GoesOver S.facts manner (moment (holding session.old target.old former.old) self.old)
+            → MovesTo S.facts manner (moment (holding session.old target.old former.old) self.old)
             (tail.now ++ line_feed ∷ []) (moment (holding session.new target.new former.new) self.new)) }
         ensures err { IfErr result (λ fault. HasNoFeed tail.now → (rest : List ℕ)
             → StopsIn fault S.facts manner (moment (holding session.old target.old former.old) self.old)

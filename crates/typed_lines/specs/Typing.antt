@@ -18,8 +18,8 @@ spelled_from is_open [] = []
 spelled_from true (x ∷ xs) = if x == quote then spelled_from false xs else encode_lower (x ∷ []) ++ spelled_from true xs
 spelled_from false (x ∷ xs) = if x == quote then spelled_from true xs else x ∷ spelled_from false xs
 
-abbrev pub spelled : List ℕ → List ℕ
-spelled line = spelled_from false line
+abbrev pub spelled_line : List ℕ → List ℕ
+spelled_line line = spelled_from false line
 
 -- whether a text is open still at the end
 abbrev pub ends_open : Bool → List ℕ → Bool
@@ -42,12 +42,12 @@ is_command line = is_some (command line)
 
 -- What a typed line is. One that is a command as it stands goes to the machine so, and so does one that is a command with
 -- bytes for its texts. Any other is refused there, unless it asks for help or ends the script.
-abbrev pub IsTyped : List ℕ → Typed → Type 0
-IsTyped typed (lines.Command line) =
+abbrev pub IsTypedLine : List ℕ → Typed → Type 0
+IsTypedLine typed (lines.Command line) =
     (is_command line.items ≡ true)
-    × ((line.items ≡ typed) ⊎ ((is_command typed ≡ false) × (line.items ≡ spelled typed)))
-IsTyped typed (lines.Refused line reason) =
+    × ((line.items ≡ typed) ⊎ ((is_command typed ≡ false) × (line.items ≡ spelled_line typed)))
+IsTypedLine typed (lines.Refused line reason) =
     (is_command typed ≡ false) × (is_command line.items ≡ false)
-    × (line.items ≡ (if ends_open false typed then typed else spelled typed))
-IsTyped typed (lines.Help text) = is_command typed ≡ false
-IsTyped typed lines.Quit = is_command typed ≡ false
+    × (line.items ≡ (if ends_open false typed then typed else spelled_line typed))
+IsTypedLine typed (lines.Help text) = is_command typed ≡ false
+IsTypedLine typed lines.Quit = is_command typed ≡ false

@@ -1,6 +1,6 @@
 //! What a line that is typed is: a command, a line that is refused, a question for help, or the end.
 ghost use Rattle.std.specs.Prelude.{◌≡◌, IfOk, false};
-ghost use Rattle.typed_lines.specs.Typing.{IsTyped, is_command as is_one};
+ghost use Rattle.typed_lines.specs.Typing.{IsTypedLine, is_command as is_one};
 
 use crate::operand::{Operand, is_command};
 use crate::reason::{push_reason, push_unknown};
@@ -39,7 +39,7 @@ const BESIDES: &str = concat!(
 
 /// What a typed line is, without its line feed. A command goes to the machine as it stands, also a note with quotes.
 pub fn read_typed(alloc: Global, line: &[u8]) -> Result<Typed, AllocError>
-    ensures { IfOk result (IsTyped line.now) }
+    ensures { IfOk result (IsTypedLine line.now) }
 {
     if is_command(alloc, line) {
         return Ok(Typed::Command(line.to_vec(alloc)?));
@@ -54,7 +54,7 @@ pub fn read_typed(alloc: Global, line: &[u8]) -> Result<Typed, AllocError>
 /// What a line that is no command becomes with bytes for its texts.
 fn spelled(alloc: Global, line: &[u8]) -> Result<Typed, AllocError>
     requires { is_one line.now ≡ false }
-    ensures { IfOk result (IsTyped line.now) }
+    ensures { IfOk result (IsTypedLine line.now) }
 {
     let mut bytes = Vec::new(alloc);
     if push_spelled(&mut bytes, line)? {

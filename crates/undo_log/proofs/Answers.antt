@@ -18,7 +18,7 @@ use Rattle.vm_blocks.specs.declared.change.Change.{Change}
 use Rattle.chunk_edits.specs.declared.direction.Direction.{Direction}
 use Rattle.chunk_edits.specs.declared.direction.Direction.TheVariants.{Forwards, Backwards}
 use Rattle.doc_edits.specs.Planning.{change_cost, Plans}
-use Rattle.undo_log.specs.Logging.{AreExclusive, Log, abandoned_log, places_of_step, after_all, after_entry, all_changes, changes_cost, changes_in, closed_with, entry_cost, joined_entries, kind_of_entry, step, steps, reversed_entry, with_change, without_redo}
+use Rattle.undo_log.specs.Logging.{AreExclusive, Log, abandoned_log, places_of_step, after_all, after_entry, all_changes, changes_cost, changes_in, closed_with, entry_cost, joined_entries, kind_of_entry, entry_step, entry_steps, reversed_entry, with_change, without_redo}
 use Rattle.undo_log.specs.Sessions.{opposite, AreSteps}
 use Rattle.undo_log.specs.Entries.{LogEntry}
 use Rattle.undo_log.specs.Entries as entries
@@ -45,7 +45,7 @@ module _ (m : Machine) (edit : Edit) (d : Document) (log : Log) (c : Change) (do
   abbrev after_edit : List LogEntry → List Change → Machine
   after_edit undo cs = record m {
     document = after_change c d;
-    past = steps Backwards undo (after_all Backwards cs d);
+    past = entry_steps Backwards undo (after_all Backwards cs d);
     future = [];
     past_names = log.undo_names;
     future_names = [];
@@ -75,7 +75,7 @@ module _ (m : Machine) (edit : Edit) (d : Document) (log : Log) (c : Change) (do
       let told : all_places Forwards (reverse cs) ++ change_places c ≡ all_places Forwards (reverse (c ∷ cs)) = sym (places-one_more c cs) in
       λ i. record m {
         document = after_change c d;
-        past = steps Backwards undo (after_all Backwards cs (back i));
+        past = entry_steps Backwards undo (after_all Backwards cs (back i));
         future = [];
         past_names = log.undo_names;
         future_names = [];
@@ -112,8 +112,8 @@ cost_turned (entries.One c) = refl
 cost_turned (entries.Group cs) = sum_by-IsPermutation change_cost cs (reverse cs) (IsPermutation-reverse cs)
 
 steps_back : (direction : Direction) (e : LogEntry) (es : List LogEntry) (d new : Document) → after_entry (opposite direction) (reversed_entry e) new ≡ d
-    → steps (opposite direction) (reversed_entry e ∷ es) new ≡ record { kind = kind_of_entry e; cost = entry_cost e; document = d; places = places_of_step direction e } ∷ steps (opposite direction) es d
-steps_back direction e es d new gives = λ i. record { kind = kind_turned e i; cost = cost_turned e i; document = gives i; places = turned-made direction e i } ∷ steps (opposite direction) es (gives i)
+    → entry_steps (opposite direction) (reversed_entry e ∷ es) new ≡ record { kind = kind_of_entry e; cost = entry_cost e; document = d; places = places_of_step direction e } ∷ entry_steps (opposite direction) es d
+steps_back direction e es d new gives = λ i. record { kind = kind_turned e i; cost = cost_turned e i; document = gives i; places = turned-made direction e i } ∷ entry_steps (opposite direction) es (gives i)
 
 -- the machine in which no group is open, with these steps to take in a direction, and these in the opposite one
 abbrev machine_by : Direction → Machine → Document → Log → List UndoStep → List UndoStep → Machine
@@ -123,7 +123,7 @@ machine_by Forwards m d log from to =
     record m { document = d; past = to; future = from; past_names = log.undo_names; future_names = log.redo_names; group = None; updated_at = log.updated_at; saved_at = log.saved_at; touched = log.touched; undo_limit = log.limit }
 
 machine_by-is : (direction : Direction) (m : Machine) (d : Document) (log : Log) (from to : List LogEntry)
-    → machine_with m d (log_by direction log from to) ≡ machine_by direction m d log (steps direction from d) (steps (opposite direction) to d)
+    → machine_with m d (log_by direction log from to) ≡ machine_by direction m d log (entry_steps direction from d) (entry_steps (opposite direction) to d)
 machine_by-is Backwards m d log from to = refl
 machine_by-is Forwards m d log from to = refl
 
@@ -146,11 +146,11 @@ turn_answers direction m d log e from to none are =
     let new = after_entry direction e d in let after = turned direction e log in
     let back = steps_back direction e to d new (entry_back direction d e from are.valid are.first) in
     answers_on _ _ _ _ (Some (step_command direction)) Accepted (machine_by-is direction m d log (e ∷ from) to)
-    (machine_by-is direction m new after from (reversed_entry e ∷ to) ∙ ap (λ (xs : List UndoStep). machine_by direction m new after (steps direction from new) xs) back)
-    (subst (λ (ps : List Place). Answers (machine_by direction m d log (step direction e d ∷ steps direction from new) (steps (opposite direction) to d)) (Some (step_command direction)) Accepted
-    (machine_by direction m new (record after { touched = ps }) (steps direction from new) (record { kind = kind_of_entry e; cost = entry_cost e; document = d; places = places_of_step direction e } ∷ steps (opposite direction) to d)))
+    (machine_by-is direction m new after from (reversed_entry e ∷ to) ∙ ap (λ (xs : List UndoStep). machine_by direction m new after (entry_steps direction from new) xs) back)
+    (subst (λ (ps : List Place). Answers (machine_by direction m d log (entry_step direction e d ∷ entry_steps direction from new) (entry_steps (opposite direction) to d)) (Some (step_command direction)) Accepted
+    (machine_by direction m new (record after { touched = ps }) (entry_steps direction from new) (record { kind = kind_of_entry e; cost = entry_cost e; document = d; places = places_of_step direction e } ∷ entry_steps (opposite direction) to d)))
     (turn-tells direction e)
-    (step_taken direction m d log (step direction e d) (steps direction from new) (steps (opposite direction) to d) none))
+    (step_taken direction m d log (entry_step direction e d) (entry_steps direction from new) (entry_steps (opposite direction) to d) none))
 
 -- A group begins, ends, and is abandoned.
 
@@ -166,8 +166,8 @@ abandon_one : (m : Machine) (d : Document) (log : Log) (undo redo : List LogEntr
     → Answers (machine_with m d (log_of log undo redo (Some cs))) (Some commands.Abandon) Accepted
     (record m {
       document = after_all Backwards cs d;
-      past = steps Backwards undo (after_all Backwards cs d);
-      future = steps Forwards redo d;
+      past = entry_steps Backwards undo (after_all Backwards cs d);
+      future = entry_steps Forwards redo d;
       past_names = log.undo_names;
       future_names = log.redo_names;
       group = None;
@@ -179,15 +179,15 @@ abandon_one : (m : Machine) (d : Document) (log : Log) (undo redo : List LogEntr
 abandon_one m d log undo redo cs none = rw (none, back-all cs) refl
 
 -- what can be made again stays, which is nothing where the group has changes
-same_future : (d : Document) (redo : List LogEntry) (cs : List Change) → AreExclusive cs redo → steps Forwards redo d ≡ steps Forwards redo (after_all Backwards cs d)
+same_future : (d : Document) (redo : List LogEntry) (cs : List Change) → AreExclusive cs redo → entry_steps Forwards redo d ≡ entry_steps Forwards redo (after_all Backwards cs d)
 same_future d redo [] apart = refl
-same_future d redo (c ∷ cs) apart = ap (λ (es : List LogEntry). steps Forwards es d) apart ∙ sym (ap (λ (es : List LogEntry). steps Forwards es (after_all Backwards (c ∷ cs) d)) apart)
+same_future d redo (c ∷ cs) apart = ap (λ (es : List LogEntry). entry_steps Forwards es d) apart ∙ sym (ap (λ (es : List LogEntry). entry_steps Forwards es (after_all Backwards (c ∷ cs) d)) apart)
 
 pub abandon_moved : (m : Machine) (d : Document) (log : Log) (undo redo : List LogEntry) (cs : List Change) → machine.has_locks m ≡ false → AreExclusive cs redo
     → Answers (machine_with m d (log_of log undo redo (Some cs))) (Some commands.Abandon) Accepted (machine_with m (after_all Backwards cs d) (abandoned_log (log_of log undo redo (Some cs))))
 abandon_moved m d log undo redo cs none apart =
     let new = after_all Backwards cs d in
-    subst (λ (future : List UndoStep). Answers (machine_with m d (log_of log undo redo (Some cs))) (Some commands.Abandon) Accepted (record m { document = new; past = steps Backwards undo new; future = future; past_names = log.undo_names; future_names = log.redo_names; group = None; updated_at = log.updated_at; saved_at = log.saved_at; touched = all_places Backwards cs; undo_limit = log.limit }))
+    subst (λ (future : List UndoStep). Answers (machine_with m d (log_of log undo redo (Some cs))) (Some commands.Abandon) Accepted (record m { document = new; past = entry_steps Backwards undo new; future = future; past_names = log.undo_names; future_names = log.redo_names; group = None; updated_at = log.updated_at; saved_at = log.saved_at; touched = all_places Backwards cs; undo_limit = log.limit }))
     (same_future d redo cs apart) (abandon_one m d log undo redo cs none)
 
 -- Two steps are joined, and steps are forgotten.
@@ -202,7 +202,7 @@ document_in (entries.One c) d = refl
 document_in (entries.Group cs) d = refl
 
 joined_step : (e f : LogEntry) (d : Document)
-    → step Backwards (entries.Group (changes_in e ++ changes_in f)) d ≡ record { kind = Group; cost = entry_cost e + entry_cost f; document = after_entry Backwards f (after_entry Backwards e d); places = made_places f ++ made_places e }
+    → entry_step Backwards (entries.Group (changes_in e ++ changes_in f)) d ≡ record { kind = Group; cost = entry_cost e + entry_cost f; document = after_entry Backwards f (after_entry Backwards e d); places = made_places f ++ made_places e }
 joined_step e f d =
     let cost : changes_cost (changes_in e ++ changes_in f) ≡ entry_cost e + entry_cost f =
     let total = sum_by-append change_cost (changes_in e) (changes_in f) in let one = cost_in e in let two = cost_in f in omega (arith, total, one, two) in
@@ -210,8 +210,8 @@ joined_step e f d =
     after_all-append Backwards (changes_in e) (changes_in f) d ∙ ap (after_all Backwards (changes_in f)) (sym (document_in e d)) ∙ sym (document_in f (after_entry Backwards e d)) in
     λ i. record { kind = Group; cost = cost i; document = document i; places = joined-made e f i }
 
-pub steps_joined : (es : List LogEntry) (d : Document) → steps Backwards (joined_entries es) d ≡ joined_steps (steps Backwards es d)
+pub steps_joined : (es : List LogEntry) (d : Document) → entry_steps Backwards (joined_entries es) d ≡ joined_steps (entry_steps Backwards es d)
 steps_joined [] d = refl
 steps_joined (e ∷ []) d = refl
 steps_joined (e ∷ f ∷ es) d =
-    ap (λ (s : UndoStep). s ∷ steps Backwards es s.document) (joined_step e f d)
+    ap (λ (s : UndoStep). s ∷ entry_steps Backwards es s.document) (joined_step e f d)

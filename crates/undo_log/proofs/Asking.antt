@@ -19,7 +19,7 @@ use Rattle.vm_blocks.specs.declared.change.Change.{Change}
 use Rattle.chunk_edits.specs.declared.direction.Direction.{Direction}
 use Rattle.chunk_edits.specs.declared.direction.Direction.TheVariants.{Backwards, Forwards}
 use Rattle.undo_log.specs.Asking.{asked_places, direction_of, places_ahead, places_fault, turn_fault}
-use Rattle.undo_log.specs.Logging.{before, group_of, next_names, open_changes, steps}
+use Rattle.undo_log.specs.Logging.{before, entry_steps, group_of, next_names, open_changes}
 use Rattle.undo_log.specs.Turning.{no_step_fault}
 use Rattle.undo_log.specs.Sessions.{SessionState, machine_of}
 use Rattle.undo_log.specs.Telling.{all_places}
@@ -29,11 +29,11 @@ use Rattle.undo_log.proofs.Lists.{length-steps}
 use Rattle.undo_log.proofs.Telling.{back-all, back-made}
 use Rattle.undo_log.proofs.Turns.{group_open}
 
-undo_is : (es : List LogEntry) (d : Document) → undo_places (steps Backwards es d) ≡ places_ahead Backwards es
+undo_is : (es : List LogEntry) (d : Document) → undo_places (entry_steps Backwards es d) ≡ places_ahead Backwards es
 undo_is [] d = refl
 undo_is (e ∷ es) d = back-made e
 
-redo_is : (es : List LogEntry) (d : Document) → redo_places (steps Forwards es d) ≡ places_ahead Forwards es
+redo_is : (es : List LogEntry) (d : Document) → redo_places (entry_steps Forwards es d) ≡ places_ahead Forwards es
 redo_is [] d = refl
 redo_is (e ∷ es) d = refl
 

@@ -11,7 +11,7 @@ use Rattle.document_file.specs.Documents.{Documents, sequence_in}
 use Rattle.document_file.specs.Disk.{FileState}
 use Rattle.vm_blocks.specs.SavingAs.{IsSavedAs}
 use Rattle.document_file.proofs.ContentLemmas.{committed_content}
-use Rattle.undo_log.specs.Logging.{Log, before, fresh_log, group_of, reverted_log, steps, to_redo, to_undo}
+use Rattle.undo_log.specs.Logging.{Log, before, entry_steps, fresh_log, group_of, reverted_log, to_redo, to_undo}
 use Rattle.undo_log.specs.Sessions.{SessionState, file_of, locks_in, machine_of, AreSteps, IsExact}
 
 -- with nothing to undo or to redo
@@ -19,8 +19,8 @@ pub begun : {S : Type 0} (s : SessionState S) (updated saved : Document) (one : 
     → s.log ≡ fresh_log one → s.resident ≡ [] → s.frames ≡ frames → machine_of target s ≡ opened_machine updated saved one sequence frames target
 begun s updated saved one sequence frames target document is_updated is_saved number log resident allowed = λ i. record {
   document = document i;
-  past = steps Backwards (log i).undo (before (log i).group (document i));
-  future = steps Forwards (log i).redo (document i);
+  past = entry_steps Backwards (log i).undo (before (log i).group (document i));
+  future = entry_steps Forwards (log i).redo (document i);
   past_names = (log i).undo_names;
   future_names = (log i).redo_names;
   group = option_map (group_of (document i)) (log i).group;

@@ -14,7 +14,7 @@ use Rattle.vm_blocks.specs.Preparing.{CanApplyAllByHandle, AreApplied}
 use Rattle.vm_blocks.specs.declared.change.Change.{Change}
 use Rattle.chunk_edits.specs.declared.direction.Direction.{Direction}
 use Rattle.chunk_edits.specs.declared.direction.Direction.TheVariants.{Forwards, Backwards}
-use Rattle.undo_log.specs.Logging.{AreExclusive, IsHead, abandoned_log, Log, after_all, all_changes, before, changes_in, closed_with, group_of, next_entries, next_moved, open_changes, steps, to_redo, to_undo, reversed_entry, with_group_closed}
+use Rattle.undo_log.specs.Logging.{AreExclusive, IsHead, abandoned_log, Log, after_all, all_changes, before, changes_in, closed_with, group_of, next_entries, next_moved, open_changes, entry_steps, to_redo, to_undo, reversed_entry, with_group_closed}
 use Rattle.undo_log.specs.Sessions.{SessionState, machine_of, opposite, CanApplyBothByHandle, AreSteps, IsExact}
 use Rattle.undo_log.specs.Turning.{IsEntryApplied}
 use Rattle.undo_log.specs.Entries.{LogEntry}
@@ -34,7 +34,7 @@ group_valid facts s target exact apart = by_group s.log.group (before-valid s.do
     by_group : (o : Option (List Change)) → IsValid (before o s.document) → AreExclusive (open_changes o) s.log.redo → IfSome (option_map (group_of s.document) o) (λ g. IsValidGroup g (machine_of target s))
     by_group None valid apart = tt
     by_group (Some []) valid apart = record { before = valid; none = λ _. (refl, refl); some = λ other. absurd (other refl) }
-    by_group (Some (c ∷ cs)) valid apart = record { before = valid; none = λ none. absurd (cc none); some = λ _. ap (λ (es : List LogEntry). steps Forwards es s.document) apart }
+    by_group (Some (c ∷ cs)) valid apart = record { before = valid; none = λ none. absurd (cc none); some = λ _. ap (λ (es : List LogEntry). entry_steps Forwards es s.document) apart }
 
 pub opened_undo : (log : Log) → log.group ≡ None → to_undo (record log { group = Some [] }) ≡ to_undo log
 opened_undo log none = sym (ap (λ (g : Option (List Change)). open_changes g ++ all_changes log.undo) none)

@@ -17,7 +17,7 @@ use Rattle.vm_blocks.specs.Keeping.{KeepsBlocks, IsEnvironmentFault}
 use Rattle.vm_blocks.specs.declared.change.Change.{Change}
 use Rattle.chunk_edits.specs.declared.direction.Direction.TheVariants.{Forwards, Backwards}
 use Rattle.vm_blocks.proofs.KeepingLaws.{keeps-refl, keeps-passes, keeps-unless_corrupt, keeps-frames, keeps-locks, lacks-cases}
-use Rattle.undo_log.specs.Logging.{Log, before, group_of, steps, to_redo, to_undo}
+use Rattle.undo_log.specs.Logging.{Log, before, entry_steps, group_of, to_redo, to_undo}
 use Rattle.undo_log.specs.Sessions.{SessionState, cache_of, locks_in, machine_of, failed_since, CanApplyBothByHandle, AreSteps, IsExact, KeepsSession}
 use Rattle.undo_log.proofs.Listing.{drifted, are_listed_alike}
 use Rattle.undo_log.proofs.Locks.{kept_locks}
@@ -27,8 +27,8 @@ pub machine_is : {S : Type 0} (target : Bool) (d updated saved : Document) (log 
     → d ≡ new.document → log ≡ new.log → updated ≡ new.disk.updated → saved ≡ new.disk.saved → locks ≡ locks_in new.resident → frames ≡ new.frames → sequence ≡ new.disk.sequence
     → ◌≡◌ {A = Machine} (record {
       document = d;
-      past = steps Backwards log.undo (before log.group d);
-      future = steps Forwards log.redo d;
+      past = entry_steps Backwards log.undo (before log.group d);
+      future = entry_steps Forwards log.redo d;
       past_names = log.undo_names;
       future_names = log.redo_names;
       group = option_map (group_of d) log.group;
@@ -45,8 +45,8 @@ pub machine_is : {S : Type 0} (target : Bool) (d updated saved : Document) (log 
     }) (machine_of target new)
 machine_is target d updated saved log locks frames sequence new p q u v l f n = λ i. record {
   document = p i;
-  past = steps Backwards (q i).undo (before (q i).group (p i));
-  future = steps Forwards (q i).redo (p i);
+  past = entry_steps Backwards (q i).undo (before (q i).group (p i));
+  future = entry_steps Forwards (q i).redo (p i);
   past_names = (q i).undo_names;
   future_names = (q i).redo_names;
   group = option_map (group_of (p i)) (q i).group;
@@ -66,8 +66,8 @@ machine_is target d updated saved log locks frames sequence new p q u v l f n = 
 abbrev pub machine_with : Machine → Document → Log → Machine
 machine_with m d log = record m {
   document = d;
-  past = steps Backwards log.undo (before log.group d);
-  future = steps Forwards log.redo d;
+  past = entry_steps Backwards log.undo (before log.group d);
+  future = entry_steps Forwards log.redo d;
   past_names = log.undo_names;
   future_names = log.redo_names;
   group = option_map (group_of d) log.group;

@@ -5,7 +5,7 @@ use Rattle.geos_model.specs.Document.{Document}
 use Rattle.geos_model.specs.Machine.{UndoStep, limited}
 use Rattle.vm_blocks.specs.declared.change.Change.{Change}
 use Rattle.chunk_edits.specs.declared.direction.Direction.{Direction}
-use Rattle.undo_log.specs.Logging.{after_entry, all_changes, changes_in, step, steps}
+use Rattle.undo_log.specs.Logging.{after_entry, all_changes, changes_in, entry_step, entry_steps}
 use Rattle.undo_log.specs.Entries.{LogEntry}
 use Rattle.undo_log.specs.Entries as entries
 
@@ -17,18 +17,18 @@ newest_first from from' e is = ap reverse is ∙ reverse-append from' (e ∷ [])
 pub reverse_onto : {A : Type 0} (e : A) (es to : List A) → reverse (e ∷ es) ++ to ≡ reverse es ++ (e ∷ to)
 reverse_onto e es to = ap (λ (xs : List _). xs ++ to) (reverse-append (e ∷ []) es) ∙ append_assoc (reverse es) (e ∷ []) to
 
-pub length-steps : (direction : Direction) (es : List LogEntry) (d : Document) → length (steps direction es d) ≡ length es
+pub length-steps : (direction : Direction) (es : List LogEntry) (d : Document) → length (entry_steps direction es d) ≡ length es
 length-steps direction [] d = refl
 length-steps direction (e ∷ es) d = ap suc (length-steps direction es (after_entry direction e d))
 
 -- What is kept of steps, are the steps of what is kept.
 
-taken_steps : (direction : Direction) (n : ℕ) (es : List LogEntry) (d : Document) → steps direction (take n es) d ≡ take n (steps direction es d)
+taken_steps : (direction : Direction) (n : ℕ) (es : List LogEntry) (d : Document) → entry_steps direction (take n es) d ≡ take n (entry_steps direction es d)
 taken_steps direction zero es d = refl
 taken_steps direction (suc n) [] d = refl
-taken_steps direction (suc n) (e ∷ es) d = ap (λ (ss : List UndoStep). step direction e d ∷ ss) (taken_steps direction n es (after_entry direction e d))
+taken_steps direction (suc n) (e ∷ es) d = ap (λ (ss : List UndoStep). entry_step direction e d ∷ ss) (taken_steps direction n es (after_entry direction e d))
 
-pub kept_steps : (direction : Direction) (limit : Option ℕ) (es : List LogEntry) (d : Document) → steps direction (limited limit es) d ≡ limited limit (steps direction es d)
+pub kept_steps : (direction : Direction) (limit : Option ℕ) (es : List LogEntry) (d : Document) → entry_steps direction (limited limit es) d ≡ limited limit (entry_steps direction es d)
 kept_steps direction None es d = refl
 kept_steps direction (Some most) es d = taken_steps direction most es d
 

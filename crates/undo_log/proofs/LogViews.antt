@@ -10,7 +10,7 @@ use Rattle.undo_log.specs.Joining.{JoinsAt, KeepsBefore, LeavesBehind, joined}
 use Rattle.geos_model.specs.Machine.{joined_names, limited}
 use Rattle.undo_log.specs.Logging.{Log, BecomesAt, changes_in, forgotten_log, joined_entries, joined_log, named, named_log, next_moved, open_changes, retold, reversed_entry, turned_over, with_named, without_redo}
 use Rattle.undo_log.specs.Marks.{AreMarksWithin, IsMarkWithin, both_marks, mark_from, mark_joined, mark_lowered, mark_up_to, position_of}
-use Rattle.undo_log.specs.Entries.{LogEntry, NamedEntry, entries_of, names_of}
+use Rattle.undo_log.specs.Entries.{LogEntry, NamedEntry, entry_names, log_entries}
 use Rattle.undo_log.specs.declared.marks.Marks.{Marks}
 use Rattle.geos_model.specs.declared.place.Place.{Place}
 use Rattle.undo_log.specs.Telling.{all_places, clipped, newest_changes, next_changes, told}
@@ -25,14 +25,14 @@ use Rattle.undo_log.proofs.Segments.{all_of, all_pushed, between, drop_drop, new
 -- the log of these entries, of which so many are forgotten, and so many can't be made again
 abbrev pub log_at : ℕ → ℕ → List NamedEntry → Option (List Change) → Marks → Touched → Option ℕ → Log
 log_at dead done es group marks last limit = record {
-  undo = entries_of (reverse (drop dead (take done es)));
-  redo = entries_of (drop done es);
-  undo_names = names_of (reverse (drop dead (take done es)));
-  redo_names = names_of (drop done es);
+  undo = log_entries (reverse (drop dead (take done es)));
+  redo = log_entries (drop done es);
+  undo_names = entry_names (reverse (drop dead (take done es)));
+  redo_names = entry_names (drop done es);
   group = group;
   updated_at = position_of done marks.updated;
   saved_at = position_of done marks.saved;
-  touched = told last (newest_changes (entries_of (reverse (drop dead (take done es)))) group) (next_changes (entries_of (drop done es)));
+  touched = told last (newest_changes (log_entries (reverse (drop dead (take done es)))) group) (next_changes (log_entries (drop done es)));
   limit = limit;
 }
 
@@ -44,19 +44,19 @@ open_group group = option_map (λ changes. reverse changes.items) group
 log_is : (undo undo' redo redo' : List NamedEntry) (group : Option (List Change)) (updated updated' saved saved' : Position) (touched touched' : List Place) (limit : Option ℕ)
     → undo ≡ undo' → redo ≡ redo' → updated ≡ updated' → saved ≡ saved' → touched ≡ touched'
     → ◌≡◌ {A = Log}
-    (record { undo = entries_of undo; redo = entries_of redo; undo_names = names_of undo; redo_names = names_of redo; group = group; updated_at = updated; saved_at = saved; touched = touched; limit = limit })
-    (record { undo = entries_of undo'; redo = entries_of redo'; undo_names = names_of undo'; redo_names = names_of redo'; group = group; updated_at = updated'; saved_at = saved'; touched = touched'; limit = limit })
+    (record { undo = log_entries undo; redo = log_entries redo; undo_names = entry_names undo; redo_names = entry_names redo; group = group; updated_at = updated; saved_at = saved; touched = touched; limit = limit })
+    (record { undo = log_entries undo'; redo = log_entries redo'; undo_names = entry_names undo'; redo_names = entry_names redo'; group = group; updated_at = updated'; saved_at = saved'; touched = touched'; limit = limit })
 log_is undo undo' redo redo' group updated updated' saved saved' touched touched' limit u r p q t =
-    λ i. record { undo = entries_of (u i); redo = entries_of (r i); undo_names = names_of (u i); redo_names = names_of (r i); group = group; updated_at = p i; saved_at = q i; touched = t i; limit = limit }
+    λ i. record { undo = log_entries (u i); redo = log_entries (r i); undo_names = entry_names (u i); redo_names = entry_names (r i); group = group; updated_at = p i; saved_at = q i; touched = t i; limit = limit }
 
 -- what is told by the same entries
 same_told : (last : Touched) (undo undo' redo redo' : List NamedEntry) (group : Option (List Change)) → undo ≡ undo' → redo ≡ redo'
-    → told last (newest_changes (entries_of undo) group) (next_changes (entries_of redo)) ≡ told last (newest_changes (entries_of undo') group) (next_changes (entries_of redo'))
-same_told last undo undo' redo redo' group u r = λ i. told last (newest_changes (entries_of (u i)) group) (next_changes (entries_of (r i)))
+    → told last (newest_changes (log_entries undo) group) (next_changes (log_entries redo)) ≡ told last (newest_changes (log_entries undo') group) (next_changes (log_entries redo'))
+same_told last undo undo' redo redo' group u r = λ i. told last (newest_changes (log_entries (u i)) group) (next_changes (log_entries (r i)))
 
 -- what is kept of entries
 kept_of : (most : ℕ) (es : List NamedEntry) (log : Log)
-    → record log { undo = entries_of (take most es); undo_names = names_of (take most es) } ≡ record log { undo = take most (entries_of es); undo_names = take most (names_of es) }
+    → record log { undo = log_entries (take most es); undo_names = entry_names (take most es) } ≡ record log { undo = take most (log_entries es); undo_names = take most (entry_names es) }
 kept_of most es log = λ i. record log { undo = sym (take-map (λ (e : NamedEntry). e.entry) most es) i; undo_names = sym (take-map (λ (e : NamedEntry). e.name) most es) i }
 
 -- and of the newest two that are joined
@@ -65,7 +65,7 @@ joined_named (e ∷ f ∷ es) = joined e f ∷ es
 joined_named es = es
 
 joined_of : (es : List NamedEntry) (log : Log)
-    → record log { undo = entries_of (joined_named es); undo_names = names_of (joined_named es) } ≡ record log { undo = joined_entries (entries_of es); undo_names = joined_names (names_of es) }
+    → record log { undo = log_entries (joined_named es); undo_names = entry_names (joined_named es) } ≡ record log { undo = joined_entries (log_entries es); undo_names = joined_names (entry_names es) }
 joined_of [] log = refl
 joined_of (e ∷ []) log = refl
 joined_of (e ∷ f ∷ es) log = refl
@@ -87,7 +87,7 @@ module _ (group : Option (List Change)) (marks : Marks) (limit : Option ℕ) whe
       (log_is _ _ _ _ group _ _ _ _ _ _ limit (ap (λ (es : List NamedEntry). reverse (drop dead es)) t.before)
       (t.is ∙ ap (λ (es : List NamedEntry). turned_over t.entry ∷ es) (sym (behind n old t.others t.entry t.was)))
       (undo_position n marks.updated) (undo_position n marks.saved)
-      (ap (λ (es : List NamedEntry). all_places Backwards (reverse (next_changes (entries_of es)))) t.is ∙ undone-tells t.entry.entry)))
+      (ap (λ (es : List NamedEntry). all_places Backwards (reverse (next_changes (log_entries es)))) t.is ∙ undone-tells t.entry.entry)))
 
   pub redone_at : (dead n count : ℕ) (old new : List NamedEntry) (last : Touched) → group ≡ None → dead ≤ n → (t : BecomesAt turned_over n old new) → count ≡ length (changes_in (reversed_entry t.entry.entry))
       → log_at dead (n + 1) new group marks (touched.Newest count) limit ≡ next_moved Forwards (log_at dead n old group marks last limit)
@@ -97,8 +97,8 @@ module _ (group : Option (List Change)) (marks : Marks) (limit : Option ℕ) whe
       (log_is _ _ _ _ group _ _ _ _ _ _ limit
       (undo_is ∙ ap (λ (es : List NamedEntry). turned_over t.entry ∷ reverse (drop dead es)) t.before)
       (behind n new t.others (turned_over t.entry) t.is) (redo_position n marks.updated) (redo_position n marks.saved)
-      (ap (λ (es : List NamedEntry). all_places Forwards (reverse (take count (newest_changes (entries_of es) group)))) undo_is
-      ∙ ap (λ (cs : List Change). all_places Forwards (reverse (take count cs))) (newest-closed (reversed_entry t.entry.entry) (entries_of (reverse (drop dead (take n new)))) group none)
+      (ap (λ (es : List NamedEntry). all_places Forwards (reverse (take count (newest_changes (log_entries es) group)))) undo_is
+      ∙ ap (λ (cs : List Change). all_places Forwards (reverse (take count cs))) (newest-closed (reversed_entry t.entry.entry) (log_entries (reverse (drop dead (take n new)))) group none)
       ∙ redone-tells t.entry.entry count many))
 
   -- The newest entry gets a name.
@@ -133,7 +133,7 @@ module _ (group : Option (List Change)) (marks : Marks) (limit : Option ℕ) whe
   -- Entries before a place are forgotten.
   -- What is told is the same where it is told of the entries that are kept.
   pub forgotten_at : (dead first most done : ℕ) (es left : List NamedEntry) (last last' : Touched) → dead ≤ first → first + most ≡ done → done ≤ length es → LeavesBehind first es left
-      → told last' (newest_changes (entries_of (take most (reverse (drop dead (take done es))))) group) (next_changes (entries_of (drop done es))) ≡ (log_at dead done es group marks last limit).touched
+      → told last' (newest_changes (log_entries (take most (reverse (drop dead (take done es))))) group) (next_changes (log_entries (drop done es))) ≡ (log_at dead done es group marks last limit).touched
       → log_at first done left group (both_marks (mark_from first) marks) last' limit ≡ forgotten_log most (log_at dead done es group marks last limit)
   forgotten_at dead first most done es left last last' before is inside leaves tells =
       let undo_is = ap reverse (between first most done left is ∙ ap (take most) leaves.behind ∙ sym (between first most done es is)) ∙ newest_of dead first most done es before is inside in
@@ -147,7 +147,7 @@ module _ (group : Option (List Change)) (marks : Marks) (limit : Option ℕ) whe
   -- What may be told of the newest entry is kept where no entry is.
   pub kept_told : (dead first most done : ℕ) (es es' : List NamedEntry) (last last' : Touched) (is_told : Bool) → is_told ≡ (most == 0 && length (open_changes group) == 0)
       → dead < first → first + most ≡ done → done ≤ length es → KeepsBefore first is_told last last' es es'
-      → told last' (newest_changes (entries_of (take most (reverse (drop dead (take done es))))) group) (next_changes (entries_of (drop done es))) ≡ (log_at dead done es group marks last limit).touched
+      → told last' (newest_changes (log_entries (take most (reverse (drop dead (take done es))))) group) (next_changes (log_entries (drop done es))) ≡ (log_at dead done es group marks last limit).touched
   kept_told dead first most done es es' last last' is_told when before is inside keeps = elim (cases_Bool (most == 0 && length (open_changes group) == 0)) [
     | inl telling ↦
         let parts = and_parts (most == 0) (length (open_changes group) == 0) telling in
@@ -156,19 +156,19 @@ module _ (group : Option (List Change)) (marks : Marks) (limit : Option ℕ) whe
         let next : first - 1 + 1 ≡ done = omega (arith, before, is, none) in
         let newest : reverse (drop dead (take done es)) ≡ at.0 ∷ reverse (drop dead (take (first - 1) es)) =
         ap (λ (k : ℕ). reverse (drop dead (take k es))) (sym next) ∙ newest_at dead (first - 1) es at.1 at.0 (omega (arith, before)) at.2 in
-        ap (λ (k : ℕ). told last' (newest_changes (entries_of (take k (reverse (drop dead (take done es))))) group) (next_changes (entries_of (drop done es)))) none
-        ∙ ap (λ (cs : List Change). told last' cs (next_changes (entries_of (drop done es)))) (newest-nothing group parts.1)
-        ∙ keeps.tells (when ∙ telling) at.0 at.1 (next_changes (entries_of (drop done es))) at.2
-        ∙ sym (ap (λ (xs : List NamedEntry). told last (newest_changes (entries_of xs) group) (next_changes (entries_of (drop done es)))) newest
-        ∙ ap (λ (cs : List Change). told last cs (next_changes (entries_of (drop done es)))) (newest-none at.0.entry (entries_of (reverse (drop dead (take (first - 1) es)))) group parts.1))
+        ap (λ (k : ℕ). told last' (newest_changes (log_entries (take k (reverse (drop dead (take done es))))) group) (next_changes (log_entries (drop done es)))) none
+        ∙ ap (λ (cs : List Change). told last' cs (next_changes (log_entries (drop done es)))) (newest-nothing group parts.1)
+        ∙ keeps.tells (when ∙ telling) at.0 at.1 (next_changes (log_entries (drop done es))) at.2
+        ∙ sym (ap (λ (xs : List NamedEntry). told last (newest_changes (log_entries xs) group) (next_changes (log_entries (drop done es)))) newest
+        ∙ ap (λ (cs : List Change). told last cs (next_changes (log_entries (drop done es)))) (newest-none at.0.entry (log_entries (reverse (drop dead (take (first - 1) es)))) group parts.1))
     | inr other ↦
-        ap (λ (l : Touched). told l (newest_changes (entries_of (take most (reverse (drop dead (take done es))))) group) (next_changes (entries_of (drop done es)))) (keeps.other (when ∙ other))
-        ∙ ap (λ (cs : List Change). told last cs (next_changes (entries_of (drop done es)))) (newest_same most (reverse (drop dead (take done es))) other)
+        ap (λ (l : Touched). told l (newest_changes (log_entries (take most (reverse (drop dead (take done es))))) group) (next_changes (log_entries (drop done es)))) (keeps.other (when ∙ other))
+        ∙ ap (λ (cs : List Change). told last cs (next_changes (log_entries (drop done es)))) (newest_same most (reverse (drop dead (take done es))) other)
   ]
     where
-      newest_same : (most : ℕ) (undo : List NamedEntry) → (most == 0 && length (open_changes group) == 0) ≡ false → newest_changes (entries_of (take most undo)) group ≡ newest_changes (entries_of undo) group
-      newest_same zero undo other = newest-some [] (entries_of undo) group other
-      newest_same (suc k) undo other = sym (ap (λ (es : List LogEntry). newest_changes es group) (take-map (λ (e : NamedEntry). e.entry) (suc k) undo)) ∙ newest-kept k (entries_of undo) group
+      newest_same : (most : ℕ) (undo : List NamedEntry) → (most == 0 && length (open_changes group) == 0) ≡ false → newest_changes (log_entries (take most undo)) group ≡ newest_changes (log_entries undo) group
+      newest_same zero undo other = newest-some [] (log_entries undo) group other
+      newest_same (suc k) undo other = sym (ap (λ (es : List LogEntry). newest_changes es group) (take-map (λ (e : NamedEntry). e.entry) (suc k) undo)) ∙ newest-kept k (log_entries undo) group
 
   pub kept_at : (dead most done : ℕ) (es : List NamedEntry) (last : Touched) → done ≤ dead + most → AreMarksWithin dead (length es) marks
       → log_at dead done es group marks last limit ≡ forgotten_log most (log_at dead done es group marks last limit)
@@ -217,17 +217,17 @@ module _ (group : Option (List Change)) (marks : Marks) (limit : Option ℕ) whe
       (join_position next marks.updated ∙ ap (λ (k : ℕ). position_after_join (position_of k marks.updated)) done_is)
       (join_position next marks.saved ∙ ap (λ (k : ℕ). position_after_join (position_of k marks.saved)) done_is)
       (same_told (clipped (length a) last) _ _ _ _ group undo_is redo_is
-      ∙ ap (λ (cs : List Change). told (clipped (length a) last) cs (next_changes (entries_of (drop done old)))) (newest-closed group_made.entry (entries_of (reverse (drop dead p))) group none)
-      ∙ told-joined last a (changes_in joins.older.entry) (next_changes (entries_of (drop done old)))
-      ∙ sym (same_told last (reverse (drop dead (take done old))) (joins.newer ∷ joins.older ∷ reverse (drop dead p)) (drop done old) (drop done old) group undo_was refl ∙ ap (λ (cs : List Change). told last cs (next_changes (entries_of (drop done old)))) (newest-closed joins.newer.entry (joins.older.entry ∷ entries_of (reverse (drop dead p))) group none)))
+      ∙ ap (λ (cs : List Change). told (clipped (length a) last) cs (next_changes (log_entries (drop done old)))) (newest-closed group_made.entry (log_entries (reverse (drop dead p))) group none)
+      ∙ told-joined last a (changes_in joins.older.entry) (next_changes (log_entries (drop done old)))
+      ∙ sym (same_told last (reverse (drop dead (take done old))) (joins.newer ∷ joins.older ∷ reverse (drop dead p)) (drop done old) (drop done old) group undo_was refl ∙ ap (λ (cs : List Change). told last cs (next_changes (log_entries (drop done old)))) (newest-closed joins.newer.entry (joins.older.entry ∷ log_entries (reverse (drop dead p))) group none)))
       ∙ joined_of (reverse (drop dead (take done old))) (joined_log (log_at dead done old group marks last limit))
 
-no_entries : (es : List NamedEntry) → entries_of es ≡ [] → es ≡ []
+no_entries : (es : List NamedEntry) → log_entries es ≡ [] → es ≡ []
 no_entries [] none = refl
 no_entries (e ∷ es) none = absurd (cc none)
 
 -- An entry is made where nothing is left to make again: it is the newest,
-module _ (group : Option (List Change)) (closed : group ≡ None) (marks : Marks) (last : Touched) (limit : Option ℕ) (dead done made : ℕ) (es : List NamedEntry) (e : NamedEntry) (none : entries_of (drop done es) ≡ []) (before : dead ≤ done) (inside : done ≤ length es) (marked : AreMarksWithin dead (length es) marks)
+module _ (group : Option (List Change)) (closed : group ≡ None) (marks : Marks) (last : Touched) (limit : Option ℕ) (dead done made : ℕ) (es : List NamedEntry) (e : NamedEntry) (none : log_entries (drop done es) ≡ []) (before : dead ≤ done) (inside : done ≤ length es) (marked : AreMarksWithin dead (length es) marks)
     (is : made ≡ length es + 1) where
   nothing : drop done es ≡ []
   nothing = no_entries (drop done es) none
@@ -243,8 +243,8 @@ module _ (group : Option (List Change)) (closed : group ≡ None) (marks : Marks
 
   abbrev pub stepped_log : Log
   stepped_log = record (log_at dead done es group marks last limit) {
-    undo = e.entry ∷ entries_of (reverse (drop dead (take done es)));
-    undo_names = e.name ∷ names_of (reverse (drop dead (take done es)));
+    undo = e.entry ∷ log_entries (reverse (drop dead (take done es)));
+    undo_names = e.name ∷ entry_names (reverse (drop dead (take done es)));
     updated_at = position_after_step (position_of done marks.updated);
     saved_at = position_after_step (position_of done marks.saved);
     touched = told last (changes_in e.entry) [];
@@ -259,7 +259,7 @@ module _ (group : Option (List Change)) (closed : group ≡ None) (marks : Marks
       undo_is
       (gone ∙ sym nothing)
       (stepped marks.updated marked_done.updated) (stepped marks.saved marked_done.saved)
-      (same_told last _ _ _ _ group undo_is gone ∙ ap (λ (cs : List Change). told last cs []) (newest-closed e.entry (entries_of (reverse (drop dead (take done es)))) group closed))
+      (same_told last _ _ _ _ group undo_is gone ∙ ap (λ (cs : List Change). told last cs []) (newest-closed e.entry (log_entries (reverse (drop dead (take done es)))) group closed))
 
 -- and a limit takes the oldest.
 pub all_kept : (log : Log) (e : NamedEntry) → log.limit ≡ None → record log { undo = e.entry ∷ log.undo; undo_names = e.name ∷ log.undo_names; updated_at = position_after_step log.updated_at; saved_at = position_after_step log.saved_at } ≡ with_named e log

@@ -7,7 +7,7 @@ use Rattle.std.proofs.lemmas.List.{length-drop, length-map, length-reverse}
 use Rattle.vm_blocks.specs.declared.change.Change.{Change}
 use Rattle.undo_log.specs.Logging.{AreExclusive, open_changes}
 use Rattle.undo_log.specs.Rooms.{has_room, waiting}
-use Rattle.undo_log.specs.Entries.{LogEntry, NamedEntry, entries_of}
+use Rattle.undo_log.specs.Entries.{LogEntry, NamedEntry, log_entries}
 
 has_place : (done capacity : ℕ) (group : Option (ℕ × ℕ)) → has_room done capacity group ≡ true → done < capacity
 has_place done capacity None room = ltb-true done capacity room
@@ -18,7 +18,7 @@ has_place done capacity (Some (count, most)) room = ltb-true done capacity (firs
     first_true false y both = both
 
 -- where nothing is left to make again
-pub room_for_entry : (done : ℕ) (entries : Vec NamedEntry Global) (group : Option (ℕ × ℕ)) → has_room done (vec_capacity entries) group ≡ true → entries_of (drop done entries.items) ≡ []
+pub room_for_entry : (done : ℕ) (entries : Vec NamedEntry Global) (group : Option (ℕ × ℕ)) → has_room done (vec_capacity entries) group ≡ true → log_entries (drop done entries.items) ≡ []
     → vec_len entries < vec_capacity entries
 room_for_entry done entries group room none =
     let place = has_place done (vec_capacity entries) group room in let left = length-drop done entries.items in

@@ -8,7 +8,7 @@ use Rattle.vm_blocks.specs.declared.change.Change.{Change}
 use Rattle.chunk_edits.specs.declared.direction.Direction.{Direction}
 use Rattle.chunk_edits.specs.declared.direction.Direction.TheVariants.{Forwards, Backwards}
 use Rattle.vm_blocks.proofs.ChangeLaws.{change_back, flip_twice}
-use Rattle.undo_log.specs.Logging.{Log, after_all, after_entry, all_changes, before, open_changes, step, steps, to_redo, to_undo, reversed_entry}
+use Rattle.undo_log.specs.Logging.{Log, after_all, after_entry, all_changes, before, open_changes, entry_step, entry_steps, to_redo, to_undo, reversed_entry}
 use Rattle.undo_log.specs.Sessions.{opposite, CanApplyAllDirected, AreSteps}
 use Rattle.undo_log.specs.Entries.{LogEntry}
 use Rattle.undo_log.specs.Entries as entries
@@ -61,15 +61,15 @@ all_back direction (c ∷ cs) d valid can =
     }
 
 -- each document along the entries is valid
-steps-valid : (direction : Direction) (es : List LogEntry) (d : Document) → IsValid d → CanApplyAllDirected direction (all_changes es) d → AreValid (steps direction es d)
+steps-valid : (direction : Direction) (es : List LogEntry) (d : Document) → IsValid d → CanApplyAllDirected direction (all_changes es) d → AreValid (entry_steps direction es d)
 steps-valid direction [] d valid can = valid-none
 steps-valid direction (entries.One c ∷ es) d valid can =
     let back = goes_back direction c d valid can.0 in
-    valid-push (step direction (entries.One c) d) (steps direction es (after_directed direction c d)) back.valid (steps-valid direction es (after_directed direction c d) back.valid can.1)
+    valid-push (entry_step direction (entries.One c) d) (entry_steps direction es (after_directed direction c d)) back.valid (steps-valid direction es (after_directed direction c d) back.valid can.1)
 steps-valid direction (entries.Group cs ∷ es) d valid can =
     let parts = can_split direction cs (all_changes es) d can in
     let back = all_back direction cs d valid parts.0 in
-    valid-push (step direction (entries.Group cs) d) (steps direction es (after_all direction cs d)) back.valid (steps-valid direction es (after_all direction cs d) back.valid parts.1)
+    valid-push (entry_step direction (entries.Group cs) d) (entry_steps direction es (after_all direction cs d)) back.valid (steps-valid direction es (after_all direction cs d) back.valid parts.1)
 
 -- The steps of a log: the group that is open, and then those of its lists.
 module _ (d : Document) (log : Log) (are : AreSteps Backwards d (to_undo log) (to_redo log)) where
@@ -79,10 +79,10 @@ module _ (d : Document) (log : Log) (are : AreSteps Backwards d (to_undo log) (t
   pub before-valid : IsValid (before log.group d)
   before-valid = (all_back Backwards (open_changes log.group) d are.valid open_parts.0).valid
 
-  pub past-valid : AreValid (steps Backwards log.undo (before log.group d))
+  pub past-valid : AreValid (entry_steps Backwards log.undo (before log.group d))
   past-valid = steps-valid Backwards log.undo (before log.group d) before-valid open_parts.1
 
-  pub future-valid : AreValid (steps Forwards log.redo d)
+  pub future-valid : AreValid (entry_steps Forwards log.redo d)
   future-valid = steps-valid Forwards log.redo d are.valid are.second
 
 -- an edit puts its change before the others, and nothing is left to redo

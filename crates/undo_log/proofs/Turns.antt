@@ -27,7 +27,7 @@ use Rattle.chunk_edits.specs.declared.direction.Direction.TheVariants.{Forwards,
 use Rattle.vm_blocks.proofs.KeepingLaws.{honest-steady, open-shut}
 use Rattle.vm_blocks.proofs.Preparing.{applies_takes}
 use Rattle.doc_edits.specs.Planning.{kind_of_change}
-use Rattle.undo_log.specs.Logging.{AreExclusive, IsHead, Log, abandoned_log, after_all, after_entry, all_changes, before, group_of, kind_of_entry, next_entries, next_moved, open_changes, steps, to_redo, to_undo, reversed_entry}
+use Rattle.undo_log.specs.Logging.{AreExclusive, IsHead, Log, abandoned_log, after_all, after_entry, all_changes, before, group_of, kind_of_entry, next_entries, next_moved, open_changes, entry_steps, to_redo, to_undo, reversed_entry}
 use Rattle.undo_log.specs.Sessions.{SessionState, cache_of, has_locked_blocks, machine_of, opposite, CanApplyAllDirected, AreSteps, IsExact, IsStep, KeepsSession}
 use Rattle.undo_log.specs.Turning.{IsEntryApplied, MovesEntry, CanApplyEntry, CantApply, CantApplyEntry, CantApplyLog, IsSure, IsSureKind, abandon_fault, newest_made, no_step_fault, step_command, busy_fault}
 use Rattle.undo_log.specs.Entries.{LogEntry}
@@ -229,8 +229,8 @@ module _ {S : Type 0} (facts : S → StoreFacts) where
       | inr damaged ↦ absurd (damaged.1 exact)
     ]
 
-    newest_may : (direction : Direction) (e : LogEntry) (es from : List LogEntry) (d : Document) → from ≡ e ∷ es → (CanApplyEntry direction e (cache_of old) → ⊥) → newest_takes (turn_takes direction) (steps direction from d) ≡ true
-    newest_may direction e es from d is unsure = ap (λ (xs : List LogEntry). newest_takes (turn_takes direction) (steps direction xs d)) is ∙ may_take direction e (cache_of old) unsure
+    newest_may : (direction : Direction) (e : LogEntry) (es from : List LogEntry) (d : Document) → from ≡ e ∷ es → (CanApplyEntry direction e (cache_of old) → ⊥) → newest_takes (turn_takes direction) (entry_steps direction from d) ≡ true
+    newest_may direction e es from d is unsure = ap (λ (xs : List LogEntry). newest_takes (turn_takes direction) (entry_steps direction xs d)) is ∙ may_take direction e (cache_of old) unsure
 
     may_turn : (direction : Direction) (e : LogEntry) → IsHead e (next_entries direction old.log) → (CanApplyEntry direction e (cache_of old) → ⊥) → (target : Bool)
         → (takes_memory (step_command direction) (machine_of target old) ≡ true) × (calls_store (step_command direction) (machine_of target old) ≡ true)

@@ -18,9 +18,9 @@ use Rattle.chunk_edits.specs.declared.direction.Direction.{Direction}
 use Rattle.chunk_edits.specs.declared.direction.Direction.TheVariants.{Forwards, Backwards}
 use Rattle.doc_edits.specs.Planning.{part_cost, change_cost}
 use Rattle.vm_blocks.specs.Changes.{after_directed}
-use Rattle.undo_log.specs.Logging.{Log, after_all, all_changes, before, changes_cost, entry_weight, group_of, open_changes, step, steps, to_redo, to_undo, total_weight}
+use Rattle.undo_log.specs.Logging.{Log, after_all, all_changes, before, changes_cost, entry_step, entry_steps, entry_weight, group_of, open_changes, to_redo, to_undo, total_weight}
 use Rattle.undo_log.specs.Sessions.{total_cost}
-use Rattle.undo_log.specs.Entries.{LogEntry, NamedEntry, entries_of}
+use Rattle.undo_log.specs.Entries.{LogEntry, NamedEntry, log_entries}
 use Rattle.undo_log.specs.Entries as entries
 
 content_weight-le : (content : Content) → content_weight content ≤ length (content_bytes content)
@@ -42,14 +42,14 @@ weight-le (changes.Attributes b old new) = omega arith
 weight-le (changes.Map old new) = omega arith
 
 -- what steps are charged for is what their changes are
-costs : (direction : Direction) (es : List LogEntry) (d : Document) → total_cost (steps direction es d) ≡ changes_cost (all_changes es)
+costs : (direction : Direction) (es : List LogEntry) (d : Document) → total_cost (entry_steps direction es d) ≡ changes_cost (all_changes es)
 costs direction [] d = refl
 costs direction (entries.One c ∷ es) d =
-    sum_by-cons (λ (s : UndoStep). s.cost) (step direction (entries.One c) d) (steps direction es (after_directed direction c d))
+    sum_by-cons (λ (s : UndoStep). s.cost) (entry_step direction (entries.One c) d) (entry_steps direction es (after_directed direction c d))
     ∙ ap (λ (n : ℕ). change_cost c + n) (costs direction es (after_directed direction c d))
     ∙ sym (sum_by-cons change_cost c (all_changes es))
 costs direction (entries.Group cs ∷ es) d =
-    sum_by-cons (λ (s : UndoStep). s.cost) (step direction (entries.Group cs) d) (steps direction es (after_all direction cs d))
+    sum_by-cons (λ (s : UndoStep). s.cost) (entry_step direction (entries.Group cs) d) (entry_steps direction es (after_all direction cs d))
     ∙ ap (λ (n : ℕ). changes_cost cs + n) (costs direction es (after_all direction cs d))
     ∙ sym (sum_by-append change_cost cs (all_changes es))
 
@@ -68,7 +68,7 @@ open_cost None d = refl
 open_cost (Some cs) d = refl
 
 pub weight_at_most : (d : Document) (log : Log) (r : ℕ) → r ≡ min (total_weight (to_undo log) + total_weight (to_redo log)) (2 ^ 64 - 1)
-    → r ≤ total_cost (steps Backwards log.undo (before log.group d)) + total_cost (steps Forwards log.redo d) + option_map_or (λ g. g.cost) (option_map (group_of d) log.group) 0
+    → r ≤ total_cost (entry_steps Backwards log.undo (before log.group d)) + total_cost (entry_steps Forwards log.redo d) + option_map_or (λ g. g.cost) (option_map (group_of d) log.group) 0
 weight_at_most d log r is =
     let past = costs Backwards log.undo (before log.group d) in
     let future = costs Forwards log.redo d in
@@ -91,15 +91,15 @@ all_weights (entries.One c ∷ es) =
 all_weights (entries.Group cs ∷ es) = sum_by-append weight cs (all_changes es) ∙ ap (λ (n : ℕ). total_weight cs + n) (all_weights es) ∙ sym (sum_by-cons entry_weight (entries.Group cs) es)
 
 -- named ones too
-named_weights : (es : List NamedEntry) → total_weight (all_changes (entries_of es)) ≡ sum_by (λ e. entry_weight e.entry) es
-named_weights es = all_weights (entries_of es) ∙ without_names es
+named_weights : (es : List NamedEntry) → total_weight (all_changes (log_entries es)) ≡ sum_by (λ e. entry_weight e.entry) es
+named_weights es = all_weights (log_entries es) ∙ without_names es
   where
-    without_names : (es : List NamedEntry) → sum_by entry_weight (entries_of es) ≡ sum_by (λ e. entry_weight e.entry) es
+    without_names : (es : List NamedEntry) → sum_by entry_weight (log_entries es) ≡ sum_by (λ e. entry_weight e.entry) es
     without_names [] = refl
     without_names (e ∷ es) =
-        sum_by-cons entry_weight e.entry (entries_of es) ∙ ap (λ (n : ℕ). entry_weight e.entry + n) (without_names es) ∙ sym (sum_by-cons (λ (x : NamedEntry). entry_weight x.entry) e es)
+        sum_by-cons entry_weight e.entry (log_entries es) ∙ ap (λ (n : ℕ). entry_weight e.entry + n) (without_names es) ∙ sym (sum_by-cons (λ (x : NamedEntry). entry_weight x.entry) e es)
 
-reverse_weights : (es : List NamedEntry) → total_weight (all_changes (entries_of (reverse es))) ≡ sum_by (λ e. entry_weight e.entry) es
+reverse_weights : (es : List NamedEntry) → total_weight (all_changes (log_entries (reverse es))) ≡ sum_by (λ e. entry_weight e.entry) es
 reverse_weights es = named_weights (reverse es) ∙ sum_by-IsPermutation (λ (e : NamedEntry). entry_weight e.entry) es (reverse es) (IsPermutation-reverse es)
 
 -- sums of sums, each of them cut
@@ -108,10 +108,10 @@ cut_sums r s a b w g u v most e f h i j = grind (arith, e, f, h, i, j)
 
 pub log_weighs : (undo redo : List NamedEntry) (cs : List Change) (r s a b w : ℕ) → r ≡ min (s + w) (2 ^ 64 - 1) → s ≡ min (a + b) (2 ^ 64 - 1) → a ≡ min (total_weight cs) (2 ^ 64 - 1)
     → b ≡ min (sum_by (λ e. entry_weight e.entry) undo) (2 ^ 64 - 1) → w ≡ min (sum_by (λ e. entry_weight e.entry) redo) (2 ^ 64 - 1)
-    → r ≡ min (total_weight (cs ++ all_changes (entries_of (reverse undo))) + total_weight (all_changes (entries_of redo))) (2 ^ 64 - 1)
+    → r ≡ min (total_weight (cs ++ all_changes (log_entries (reverse undo))) + total_weight (all_changes (log_entries redo))) (2 ^ 64 - 1)
 log_weighs undo redo cs r s a b w e f h i j =
     let sums = cut_sums r s a b w (total_weight cs) (sum_by (λ e. entry_weight e.entry) undo) (sum_by (λ e. entry_weight e.entry) redo) (2 ^ 64 - 1) e f h i j in
-    let all = weight-append cs (all_changes (entries_of (reverse undo))) in
+    let all = weight-append cs (all_changes (log_entries (reverse undo))) in
     let first = reverse_weights undo in
     let second = named_weights redo in
     sums ∙ ap (λ (n : ℕ). min n (2 ^ 64 - 1)) (omega (arith, all, first, second))

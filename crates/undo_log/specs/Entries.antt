@@ -16,11 +16,11 @@ pub record NamedEntry : Type 0 where
 abbrev pub unnamed : LogEntry → NamedEntry
 unnamed e = record { entry = e; name = [] }
 
-abbrev pub entries_of : List NamedEntry → List LogEntry
-entries_of es = map (λ e. e.entry) es
+abbrev pub log_entries : List NamedEntry → List LogEntry
+log_entries es = map (λ e. e.entry) es
 
-abbrev pub names_of : List NamedEntry → List (List ℕ)
-names_of es = map (λ e. e.name) es
+abbrev pub entry_names : List NamedEntry → List (List ℕ)
+entry_names es = map (λ e. e.name) es
 
 -- by whether it is of one edit, and by its changes
 abbrev pub entry_code : Coded LogEntry

@@ -80,8 +80,8 @@ places_of_step Backwards e = made_places e
 places_of_step Forwards e = next_places Forwards e
 
 -- the step that an entry is, carried out in a direction
-abbrev pub step : Direction → LogEntry → Document → UndoStep
-step direction e d = record {
+abbrev pub entry_step : Direction → LogEntry → Document → UndoStep
+entry_step direction e d = record {
   kind = kind_of_entry e;
   cost = entry_cost e;
   document = after_entry direction e d;
@@ -89,9 +89,9 @@ step direction e d = record {
 }
 
 -- the steps that entries are, carried out in a direction one after another
-abbrev pub steps : Direction → List LogEntry → Document → List UndoStep
-steps direction [] d = []
-steps direction (e ∷ es) d = step direction e d ∷ steps direction es (after_entry direction e d)
+abbrev pub entry_steps : Direction → List LogEntry → Document → List UndoStep
+entry_steps direction [] d = []
+entry_steps direction (e ∷ es) d = entry_step direction e d ∷ entry_steps direction es (after_entry direction e d)
 
 -- What can be undone and what can be made again, of both the next entry first; their names; the changes of the group that
 -- is open, the newest first, None where none is open; where the committed documents stand; what is told of the change

@@ -25,7 +25,7 @@ pub use Rattle.chunk_edits.specs.Directions.{opposite}
 use Rattle.chunk_edits.specs.declared.direction.Direction.{Direction}
 use Rattle.chunk_edits.specs.declared.direction.Direction.TheVariants.{Forwards, Backwards}
 use Rattle.doc_edits.specs.LookUps.{AnswersFromBlocks, AnswersChainFromBlocks}
-use Rattle.undo_log.specs.Logging.{Log, before, group_of, steps, to_redo, to_undo, with_change}
+use Rattle.undo_log.specs.Logging.{Log, before, entry_steps, group_of, to_redo, to_undo, with_change}
 use Rattle.undo_log.specs.Making.{IsEditApplied}
 
 -- A session: the disk, its document as it is now, the blocks in memory and how many may be, and what it keeps of steps.
@@ -58,8 +58,8 @@ has_locked_blocks s = nat_lt 0 (len (locks_in s.resident))
 abbrev pub machine_of : {S : Type 0} → Bool → SessionState S → Machine
 machine_of target s = record {
   document = s.document;
-  past = steps Backwards s.log.undo (before s.log.group s.document);
-  future = steps Forwards s.log.redo s.document;
+  past = entry_steps Backwards s.log.undo (before s.log.group s.document);
+  future = entry_steps Forwards s.log.redo s.document;
   past_names = s.log.undo_names;
   future_names = s.log.redo_names;
   group = option_map (group_of s.document) s.log.group;

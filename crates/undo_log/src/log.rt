@@ -4,7 +4,7 @@ ghost use Rattle.std.specs.Prelude.{◌≡◌, ◌≢◌, ◌<◌, ◌≤◌, �
 ghost use Rattle.std.specs.Option.{option_map};
 ghost use Rattle.chunk_edits.specs.declared.direction.Direction.TheVariants.{Backwards, Forwards};
 ghost use Rattle.geos_model.specs.Machine.{first_name};
-ghost use Rattle.undo_log.specs.Entries.{entries_of, names_of};
+ghost use Rattle.undo_log.specs.Entries.{entry_names, log_entries};
 ghost use Rattle.undo_log.specs.Logging.{AreExclusive, IsHead, BecomesAt, abandoned_log, changes_in, forgotten_log, fresh_log, is_at, joined_log, open_changes, named, named_log, next_entries, next_moved, next_names, retold, reverted_log, saved_log, to_redo, to_undo, total_weight, turned_over, updated_log, with_change, with_group_closed, with_named, without_redo};
 ghost use Rattle.undo_log.specs.Asking.{asked_places, places_ahead};
 ghost use Rattle.undo_log.specs.Telling.{newest_changes, next_changes, told};
@@ -41,7 +41,7 @@ pub struct UndoLog {
 }
 
 impl Model for UndoLog {
-    ghost use Rattle.undo_log.specs.Entries.{entries_of, names_of};
+    ghost use Rattle.undo_log.specs.Entries.{entry_names, log_entries};
     ghost use Rattle.undo_log.specs.Logging.{LogState};
     ghost use Rattle.undo_log.specs.Codes.{log_state_code};
     ghost use Rattle.undo_log.specs.Logging.{AreExclusive, open_changes};
@@ -58,17 +58,17 @@ impl Model for UndoLog {
 
     ghost view = { λ l. record {
       lists = record {
-        undo = entries_of (reverse (drop l.dead (take l.done l.entries.items)));
-        redo = entries_of (drop l.done l.entries.items);
-        undo_names = names_of (reverse (drop l.dead (take l.done l.entries.items)));
-        redo_names = names_of (drop l.done l.entries.items);
+        undo = log_entries (reverse (drop l.dead (take l.done l.entries.items)));
+        redo = log_entries (drop l.done l.entries.items);
+        undo_names = entry_names (reverse (drop l.dead (take l.done l.entries.items)));
+        redo_names = entry_names (drop l.done l.entries.items);
         group = option_map (λ changes. reverse changes.items) l.group;
         updated_at = position_of l.done l.marks.updated;
         saved_at = position_of l.done l.marks.saved;
         touched = told l.last
-            (newest_changes (entries_of (reverse (drop l.dead (take l.done l.entries.items))))
+            (newest_changes (log_entries (reverse (drop l.dead (take l.done l.entries.items))))
             (option_map (λ changes. reverse changes.items) l.group))
-            (next_changes (entries_of (drop l.done l.entries.items)));
+            (next_changes (log_entries (drop l.done l.entries.items)));
         limit = l.limit;
       };
       last = l.last;
@@ -81,7 +81,7 @@ impl Model for UndoLog {
         × (l.done + waiting (option_map (λ changes. (vec_len changes, vec_capacity changes)) l.group)
         ≤ vec_capacity l.entries)
         × AreExclusive (open_changes (option_map (λ changes. reverse changes.items) l.group))
-        (entries_of (drop l.done l.entries.items)) };
+        (log_entries (drop l.done l.entries.items)) };
 }
 
 impl UndoLog {
@@ -491,16 +491,16 @@ impl UndoLog {
 
     // The entries that can be undone, the newest last.
     fn made(&self) -> &[NamedEntry]
-        ensures entries { entries_of (reverse result.now) ≡ self.now.lists.undo }
-        ensures names { names_of (reverse result.now) ≡ self.now.lists.undo_names }
+        ensures entries { log_entries (reverse result.now) ≡ self.now.lists.undo }
+        ensures names { entry_names (reverse result.now) ≡ self.now.lists.undo_names }
     {
         &self.entries.as_slice()[self.dead..self.done]
     }
 
     // The entries that can be made again, the next first.
     fn undone(&self) -> &[NamedEntry]
-        ensures entries { entries_of result.now ≡ self.now.lists.redo }
-        ensures names { names_of result.now ≡ self.now.lists.redo_names }
+        ensures entries { log_entries result.now ≡ self.now.lists.redo }
+        ensures names { entry_names result.now ≡ self.now.lists.redo_names }
     {
         &self.entries.as_slice()[self.done..]
     }

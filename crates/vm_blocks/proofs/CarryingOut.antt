@@ -6,7 +6,7 @@ use Rattle.chunk_edits.specs.Directions.{opposite}
 use Rattle.chunk_edits.specs.declared.direction.Direction.{Direction}
 use Rattle.vm_blocks.specs.State.{CacheState}
 use Rattle.vm_blocks.specs.Changes.{directed, directed_all}
-use Rattle.vm_blocks.specs.InMemory.{AllFit, AreListed, CanTakeBack, FitsInPlace, IsListed, IsReversible, all_in_place, carried, in_place, taken_back}
+use Rattle.vm_blocks.specs.InMemory.{AllFit, AreListed, CanTakeBack, FitsInPlace, IsListed, IsReversible, all_in_place, all_taken_back, carried, in_place}
 use Rattle.vm_blocks.specs.Preparing.{AreInMemory, IsInMemory}
 use Rattle.vm_blocks.specs.declared.change.Change.{Change}
 use Rattle.vm_blocks.proofs.Reversing.{all_in_memory_on, next_done, next_left}
@@ -20,7 +20,7 @@ pub record UnderWay {S : Type 0} (direction : Direction) (cs : List Change) (res
   pub fit : AllFit (directed_all direction cs) old.document → AllFit (directed_all direction (take rest cs)) now.document
   pub here : AreInMemory (directed_all direction cs) old → AreInMemory (directed_all direction (take rest cs)) now
   pub can : CanTakeBack direction (drop rest cs) now
-  pub back : taken_back direction (drop rest cs) now ≡ old
+  pub back : all_taken_back direction (drop rest cs) now ≡ old
 
 module _ {S : Type 0} (direction : Direction) (cs : List Change) (old : CacheState S) where
   none_done : drop (length cs) cs ≡ []
@@ -37,7 +37,7 @@ module _ {S : Type 0} (direction : Direction) (cs : List Change) (old : CacheSta
         fit = λ fit. subst (λ (xs : List Change). AllFit (directed_all direction xs) old.document) (sym all) fit;
         here = λ here. subst (λ (xs : List Change). AreInMemory (directed_all direction xs) old) (sym all) here;
         can = subst (λ (xs : List Change). CanTakeBack direction xs old) (sym none_done) tt;
-        back = ap (λ (xs : List Change). taken_back direction xs old) none_done;
+        back = ap (λ (xs : List Change). all_taken_back direction xs old) none_done;
       }
 
   pub ends : (rest : ℕ) (now : CacheState S) → rest ≡ 0 → UnderWay direction cs rest old now → now ≡ record old { document = all_in_place (directed_all direction cs) old.document }
@@ -89,5 +89,5 @@ module _ {S : Type 0} (direction : Direction) (cs : List Change) (old : CacheSta
           fit = λ fit. (subst (λ (xs : List Change). AllFit xs now.document) left (w.fit fit)).1;
           here = λ here. all_in_memory_on others one now both_listed.0 (subst (λ (xs : List Change). AreInMemory xs now) left (w.here here)).1;
           can = subst (λ (xs : List Change). CanTakeBack direction xs (carried one now)) (sym done) (reversible.back, subst (CanTakeBack direction (drop rest cs)) (sym again) w.can);
-          back = ap (λ (xs : List Change). taken_back direction xs (carried one now)) done ∙ ap (taken_back direction (drop rest cs)) again ∙ w.back;
+          back = ap (λ (xs : List Change). all_taken_back direction xs (carried one now)) done ∙ ap (all_taken_back direction (drop rest cs)) again ∙ w.back;
         })

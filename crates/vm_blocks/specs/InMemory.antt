@@ -96,9 +96,9 @@ pub record IsReversible {S : Type 0} (direction : Direction) (c : Change) (state
       ≡ state.document
 
 -- what is left once changes that were carried out in a direction are taken back, of which the newest is the first
-abbrev pub taken_back : {S : Type 0} → Direction → List Change → CacheState S → CacheState S
-taken_back direction [] state = state
-taken_back direction (c ∷ cs) state = taken_back direction cs (carried (directed (opposite direction) c) state)
+abbrev pub all_taken_back : {S : Type 0} → Direction → List Change → CacheState S → CacheState S
+all_taken_back direction [] state = state
+all_taken_back direction (c ∷ cs) state = all_taken_back direction cs (carried (directed (opposite direction) c) state)
 
 abbrev pub CanTakeBack : {S : Type 0} → Direction → List Change → CacheState S → Type 0
 CanTakeBack direction [] state = Unit {0}

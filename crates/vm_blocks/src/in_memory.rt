@@ -6,7 +6,7 @@ ghost use Rattle.vm_blocks.specs.State.{KeepsLocks, locked_count};
 ghost use Rattle.vm_blocks.specs.Changes.{directed, directed_all, directed_part};
 ghost use Rattle.vm_blocks.specs.Exactness.{IsExactPart};
 ghost use Rattle.vm_blocks.specs.Incoming.{IsObstacle, others};
-ghost use Rattle.vm_blocks.specs.InMemory.{AllFit, AreListed, CanTakeBack, CanTakeOut, FitsInPlace, IsListed, IsReady, IsReversible, IsReversiblePart, StaysInMemory, all_in_place, all_outgoing, carried, outgoing, taken_back};
+ghost use Rattle.vm_blocks.specs.InMemory.{AllFit, AreListed, CanTakeBack, CanTakeOut, FitsInPlace, IsListed, IsReady, IsReversible, IsReversiblePart, StaysInMemory, all_in_place, all_outgoing, all_taken_back, carried, outgoing};
 ghost use Rattle.vm_blocks.specs.Keeping.{IsEnvironmentFault, KeepsBlocks, is_loaded};
 ghost use Rattle.vm_blocks.specs.Preparing.{after_changes, AreApplied, AreInMemory, CanApplyAll, CanApplyAllByHandle, CanRemoveByHandle, IsInMemory, NoneComesIn};
 
@@ -161,7 +161,7 @@ fn is_reversible_part<S: Store>(
 /// Takes back changes that were carried out in a direction, of which the newest is the first.
 fn take_back<S: Store>(blocks: &mut FileBlocks<S>, changes: &[Change], direction: Direction)
     requires { CanTakeBack direction changes.now blocks.old }
-    ensures { blocks.new ≡ taken_back direction changes.now blocks.old }
+    ensures { blocks.new ≡ all_taken_back direction changes.now blocks.old }
 {
     for change in changes {
         carry_out(blocks, change, direction.opposite());

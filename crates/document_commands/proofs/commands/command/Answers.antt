@@ -2,15 +2,15 @@ use Rattle.std.proofs.Common.{◌≡◌, ◌∙◌, ap, ap₂, codes, refl, true
 use Rattle.std.proofs.lemmas.Result.{IfOk-weaker}
 use Rattle.clap.specs.Simple.{app_of_fields, on_top}
 use Rattle.clap.specs.Words.{App, app_of, new_app, with_subcommand}
-use Rattle.document_commands.specs.Arguments.{with_version}
+use Rattle.document_commands.specs.Arguments.{with_version_flag}
 use Rattle.document_commands.specs.Requests.{check_command, diff_command, dump_command, map_command, restore_command, salvage_command, stat_command, with_commands_alone}
 use Rattle.document_commands.proofs.Entered.{no_globals}
 use Rattle.document_commands.proofs.commands.command.Goals as goal
 
 pub returns : goal.returns
 returns c =
-    let told : app_of c.about.result ≡ with_version (new_app (codes "geosdoc")) = ap app_of_fields c.about.ensures ∙ ap app_of_fields c.version.ensures ∙ ap with_version c.new.ensures.app in
-    let start : app_of c.arg_required_else_help.result ≡ with_commands_alone (with_version (new_app (codes "geosdoc"))) =
+    let told : app_of c.about.result ≡ with_version_flag (new_app (codes "geosdoc")) = ap app_of_fields c.about.ensures ∙ ap app_of_fields c.version.ensures ∙ ap with_version_flag c.new.ensures.app in
+    let start : app_of c.arg_required_else_help.result ≡ with_commands_alone (with_version_flag (new_app (codes "geosdoc"))) =
     ap app_of_fields c.arg_required_else_help.ensures ∙ ap (on_top (λ s. record s { arg_required_else_help = true })) (ap app_of_fields c.subcommand_required.ensures) ∙ ap with_commands_alone told in
     let check = c.in_ok-check_command.ensures in
     let dump = c.in_ok-dump_command.ensures in

@@ -2,7 +2,7 @@ use Rattle.std.proofs.Common.{◌≡◌, arith}
 use Rattle.geos_model.specs.Document.{most_blocks}
 use Rattle.document_file.proofs.StoredDocumentsLemmas.{OnlyReadsDocuments-refl, OnlyReadsDocuments-trans}
 use Rattle.document_diff.specs.Differences.{compared_at}
-use Rattle.document_diff.specs.Diffs.{document_of}
+use Rattle.document_diff.specs.Diffs.{document_by}
 use Rattle.std.proofs.lemmas.Result.{err_from_is_err_and}
 use Rattle.document_diff.proofs.Files.{refused_later, still_honest, same_document}
 use Rattle.document_diff.proofs.Went.{went_none, went_next, went_all}
@@ -12,7 +12,7 @@ pub loop-i-init : goal.loop-i-init
 loop-i-init g c = record {
   reads_old = OnlyReadsDocuments-refl g.S.Store.facts c.args.old.now;
   reads_new = OnlyReadsDocuments-refl g.T.Store.facts c.args.new.now;
-  went = λ so too. went_none (compared_at (document_of c.args.version c.args.old.now) (document_of c.args.version c.args.new.now)) (g.W.Write.contents c.args.writer.now);
+  went = λ so too. went_none (compared_at (document_by c.args.version c.args.old.now) (document_by c.args.version c.args.new.now)) (g.W.Write.contents c.args.writer.now);
 }
 
 pub loop-i-preserved : goal.loop-i-preserved
@@ -26,7 +26,7 @@ loop-i-preserved g c =
       reads_old = OnlyReadsDocuments-trans old_facts _ _ _ (g.met.S.Store.timely c.args.old.now.store) of_old c.write_block.ensures.reads_old;
       reads_new = OnlyReadsDocuments-trans new_facts _ _ _ (g.met.T.Store.timely c.args.new.now.store) of_new c.write_block.ensures.reads_new;
       went = λ so too.
-          rw c.both-none.ensures (went_next (document_of version c.args.old.now) (document_of version c.args.new.now) (document_of version c.loop-i.old) (document_of version c.loop-i.new) c.loop-i.i
+          rw c.both-none.ensures (went_next (document_by version c.args.old.now) (document_by version c.args.new.now) (document_by version c.loop-i.old) (document_by version c.loop-i.new) c.loop-i.i
           (g.W.Write.contents c.args.writer.now) (g.W.Write.contents c.loop-i.writer) (g.W.Write.contents c.write_block.new.writer) c.loop-i.none c.in_ok-step.step
           (same_document old_facts _ _ of_old so version) (same_document new_facts _ _ of_new too version) (c.loop-i.invariant.went so too)
           (c.in_ok-step.ensures.ok (still_honest old_facts _ _ of_old so) (still_honest new_facts _ _ of_new too)));
@@ -41,7 +41,7 @@ returns-in_err-step-clause-reads_new g c = OnlyReadsDocuments-trans g.T.Store.fa
 pub returns-clause-ok : goal.returns-clause-ok
 returns-clause-ok g c = λ so too.
     let end : c.loop-i.i ≡ most_blocks = omega arith in
-    went_all (document_of c.args.version c.args.old.now) (document_of c.args.version c.args.new.now) c.loop-i.i (g.W.Write.contents c.args.writer.now) (g.W.Write.contents c.loop-i.writer) c.loop-i.none end
+    went_all (document_by c.args.version c.args.old.now) (document_by c.args.version c.args.new.now) c.loop-i.i (g.W.Write.contents c.args.writer.now) (g.W.Write.contents c.loop-i.writer) c.loop-i.none end
     (c.loop-i.invariant.went so too)
 
 pub returns-in_err-step-clause-fails : goal.returns-in_err-step-clause-fails

@@ -2,7 +2,7 @@ use Rattle.std.proofs.Common.{◌≡◌, ℕ, List, subst, sym, arith}
 use Rattle.file_format.proofs.LooksLemmas.{OnlyReadsStore-refl, OnlyReadsStore-trans, still, same_bytes_then, still_holds}
 use Rattle.geos_model.specs.Document.{empty_document}
 use Rattle.document_dump.specs.Changes.{first_progress}
-use Rattle.document_dump.specs.Entries.{HasBlocks, IsListed}
+use Rattle.document_dump.specs.Entries.{HasBlocks, IsListedAs}
 use Rattle.document_dump.proofs.Went.{Went, went_none, went_more, went_all}
 use Rattle.document_dump.proofs.entries.write_all_listed.Goals as goal
 
@@ -22,7 +22,7 @@ loop-i-preserved g c =
       reads = OnlyReadsStore-trans a b _ (g.met.S.Store.timely c.args.store.now) reads c.write_listed.ensures.reads;
       holes = omega (arith, c.loop-i.invariant.holes, c.in_ok-step.ensures.holes);
       went = λ so map_block d is.
-          let now : IsListed b.content map_block c.args.entries.now d = subst (λ (bytes : List ℕ). IsListed bytes map_block c.args.entries.now d) (sym (same_bytes_then a b reads so)) is in
+          let now : IsListedAs b.content map_block c.args.entries.now d = subst (λ (bytes : List ℕ). IsListedAs bytes map_block c.args.entries.now d) (sym (same_bytes_then a b reads so)) is in
           let step = c.in_ok-step.ensures.ok (still a b reads so) map_block d now in
           rw c.either-some.ensures (went_more empty_document d (first_progress 0) c.loop-i.progress c.in_ok-step.step.progress c.loop-i.i (g.W.Write.contents c.args.writer.now) (g.W.Write.contents c.loop-i.writer)
           (g.W.Write.contents c.write_listed.new.writer) c.loop-i.some c.in_ok-step.step.some (omega arith) (c.loop-i.invariant.went so map_block d is) step.0 step.1 step.2);

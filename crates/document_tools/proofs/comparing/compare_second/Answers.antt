@@ -2,7 +2,7 @@ use Rattle.std.proofs.Common.{Ok, ap₂, sym, subst, ◌∙◌, inr}
 use Rattle.document_file.specs.Opened.{OnlyReadsStore}
 use Rattle.file_format.proofs.LooksLemmas.{OnlyReadsStore-trans}
 use Rattle.document_file.proofs.StoredDocumentsLemmas.{OnlyReadsDocuments-refl}
-use Rattle.document_diff.specs.Diffs.{document_of}
+use Rattle.document_diff.specs.Diffs.{document_by}
 use Rattle.document_tools.specs.Comparisons.{ComparesStored}
 use Rattle.document_tools.proofs.Compared.{compared_stored, unread_one}
 use Rattle.document_tools.proofs.comparing.compare_second.Goals as goal
@@ -30,6 +30,6 @@ returns-in-Err-clause-told g c =
     let a = facts c.args.first.now.store in (
       refused.store,
       record { honest = none.store.honest; failures = none.store.failures; unchanged = none.unchanged },
-      unread_one (ComparesStored g.W.Sink.contents g.W.Sink.writes c.args.names.first.now c.args.names.second.now c.args.version a a (document_of c.args.version c.args.first.now) (facts store) (facts refused.store) c.args.writer c.args.writer)
+      unread_one (ComparesStored g.W.Sink.contents g.W.Sink.writes c.args.names.first.now c.args.names.second.now c.args.version a a (document_by c.args.version c.args.first.now) (facts store) (facts refused.store) c.args.writer c.args.writer)
           c.args.names.second.now (facts store) (facts refused.store) refused.fault c.unopened_one.result (λ line is. inr is) tt none.file none.refused c.unopened_one.ensures,
     )

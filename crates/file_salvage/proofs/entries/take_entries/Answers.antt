@@ -1,7 +1,7 @@
 use Rattle.std.proofs.Common.{◌≡◌, ◌<◌, All, ℕ, List, Option, length, map, ap, ap₂, subst, sym, ◌∙◌}
 use Rattle.std.proofs.lemmas.Result.{err_from_is_err_and}
 use Rattle.std.specs.Io.KnownBytes.{Appends}
-use Rattle.file_salvage.specs.Entries.{notes, taken, taken_at}
+use Rattle.file_salvage.specs.Entries.{notes, taken_at, taken_row}
 use Rattle.file_salvage.specs.declared.flaw.Flaw.{Flaw}
 use Rattle.file_salvage.proofs.ScriptLemmas.{refused_by_note}
 use Rattle.file_salvage.proofs.entries.take_entries.Goals as goal
@@ -26,7 +26,7 @@ returns-clause-entries g c = λ so.
     let all = c.args.all in
     let first = c.as_slice.ensures.value ∙ c.in_ok-damages.ensures.damages so in
     let found = c.as_slice-4.ensures.value ∙ c.in_ok-damages.ensures.damages so in
-    let row = c.as_slice-5.ensures.value ∙ c.in_ok-row.ensures.row ∙ ap (λ (d : List (Option Flaw)). taken all bytes d) first in
+    let row = c.as_slice-5.ensures.value ∙ c.in_ok-row.ensures.row ∙ ap (λ (d : List (Option Flaw)). taken_row all bytes d) first in
     c.in_ok-entries.ensures ∙ ap₂ (λ (d : List (Option Flaw)) (l : List ℕ). map (taken_at bytes d) l) found row
 
 pub returns-clause-told : goal.returns-clause-told
@@ -34,7 +34,7 @@ returns-clause-told g c = λ so.
     let bytes = c.args.listing.bytes.now in
     let found = c.as_slice.ensures.value ∙ c.in_ok-damages.ensures.damages so in
     let told = c.as_slice-2.ensures.value ∙ c.in_ok-damages.ensures.damages so in
-    let row = c.as_slice-3.ensures.value ∙ c.in_ok-row.ensures.row ∙ ap (λ (d : List (Option Flaw)). taken c.args.all bytes d) found in
+    let row = c.as_slice-3.ensures.value ∙ c.in_ok-row.ensures.row ∙ ap (λ (d : List (Option Flaw)). taken_row c.args.all bytes d) found in
     subst (λ (l : List ℕ). Appends (g.W.Write.contents c.args.writer.now) (g.W.Write.contents c.send_notes.new.writer) l)
     (ap₂ (λ (d : List (Option Flaw)) (r : List ℕ). notes bytes d r (length d)) told row) c.in_ok-send_notes.ensures.ok
 

@@ -1,5 +1,5 @@
 use Rattle.std.proofs.Common.{◌≡◌, ℕ, length, subst, arith, rules}
-use Rattle.file_salvage.specs.Rows.{AreEnds}
+use Rattle.file_salvage.specs.Rows.{AreRowEnds}
 use Rattle.file_salvage.proofs.RowLemmas.{ends_none}
 use Rattle.file_salvage.proofs.rows.lengths.Goals as goal
 
@@ -13,4 +13,4 @@ loop-i-init c = record {
 pub returns-clause-ends : goal.returns-clause-ends
 returns-clause-ends c =
     let end : c.loop-i.i ≡ length c.args.numbers.now = omega arith in
-    subst (λ (n : ℕ). AreEnds c.args.numbers.now n c.loop-i.ends.items) end c.loop-i.invariant.ends
+    subst (λ (n : ℕ). AreRowEnds c.args.numbers.now n c.loop-i.ends.items) end c.loop-i.invariant.ends

@@ -2,7 +2,7 @@ use Rattle.std.proofs.Common.{◌≡◌, ℕ, List, length, subst, sym, ◌∙�
 use Rattle.std.proofs.lemmas.Result.{err_from_is_err_and}
 use Rattle.std.specs.Io.KnownBytes.{Appends}
 use Rattle.file_format.proofs.LooksLemmas.{OnlyReadsStore-trans, still, same_bytes_then, still_holds}
-use Rattle.document_dump.specs.Entries.{HasBlocks, IsListed}
+use Rattle.document_dump.specs.Entries.{HasBlocks, IsListedAs}
 use Rattle.file_salvage.specs.Entries.{all_notes, damages, taken_entries}
 use Rattle.file_salvage.proofs.EntryLemmas.{entries_have}
 use Rattle.file_salvage.proofs.ScriptLemmas.{refused_by_note, refused_later, written}
@@ -29,7 +29,7 @@ returns-clause-ok g c = λ so.
     c.map_of-map_block.ensures c.map_kept-kept.ensures c.in_ok-send_place_note.ensures.ok
     (subst (λ (file : List ℕ). Appends one two (all_notes c.args.all bytes (damages file p.version bytes))) (same_bytes_then a b first so) (c.in_ok-found.ensures.told (still a b first so)))
     c.in_ok-send_map_note.ensures.ok
-    (λ x listed. c.in_ok-dump_entries.ensures.ok (still a d second so) x (subst (λ (file : List ℕ). IsListed file c.map_kept-kept.result es x) (sym (same_bytes_then a d second so)) listed))
+    (λ x listed. c.in_ok-dump_entries.ensures.ok (still a d second so) x (subst (λ (file : List ℕ). IsListedAs file c.map_kept-kept.result es x) (sym (same_bytes_then a d second so)) listed))
 
 pub dump_entries-requires : goal.dump_entries-requires
 dump_entries-requires g c = λ so.

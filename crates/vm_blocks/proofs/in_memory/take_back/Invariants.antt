@@ -1,9 +1,9 @@
 use Rattle.std.proofs.Common.{◌≡◌, drop}
-use Rattle.vm_blocks.specs.InMemory.{CanTakeBack, taken_back}
+use Rattle.vm_blocks.specs.InMemory.{CanTakeBack, all_taken_back}
 use Rattle.vm_blocks.proofs.in_memory.take_back.Given as goal
 
 abbrev pub invariant-loop-change : goal.invariant-loop-change
 invariant-loop-change g l = record {
   can : CanTakeBack l.direction (drop l.change-index l.changes) l.blocks;
-  back : taken_back l.direction (drop l.change-index l.changes) l.blocks ≡ taken_back l.direction l.changes l.fn.blocks;
+  back : all_taken_back l.direction (drop l.change-index l.changes) l.blocks ≡ all_taken_back l.direction l.changes l.fn.blocks;
 }

@@ -8,7 +8,7 @@ use Rattle.document_file.specs.Effects.{LeavesDocument}
 use Rattle.document_file.specs.Documents.{document_in}
 use Rattle.document_file.specs.Slots.{block_extents, marked_extents, referenced_extents}
 use Rattle.document_file.specs.Sound.{disk_of}
-use Rattle.document_file.specs.Writing.{IsSpared, with_places, without_places}
+use Rattle.document_file.specs.Writing.{SparesExtents, with_places, without_places}
 use Rattle.document_file.specs.declared.table.BlockTable.{BlockTable}
 use Rattle.document_file.specs.FreeSpace.{IsSpaceOf}
 use Rattle.document_file.specs.Listing.{AreBounds}
@@ -98,7 +98,7 @@ invariant_of-self-in_err-written g c =
     let b = c.write_puts.new.store in
     record {
       sound = spared_sound g.S.Store.facts i.store b live i.slots sound c.write_puts.ensures.honest (λ so. (g.met.S.Store.timely b so).now)
-          (λ so. subst (λ ps. IsSpared (block_extents ps ++ marked_extents i.slots.marked) i.slots (g.S.Store.facts i.store) (g.S.Store.facts b)) c.deref.ensures.value (c.write_puts.ensures.spared so));
+          (λ so. subst (λ ps. SparesExtents (block_extents ps ++ marked_extents i.slots.marked) i.slots (g.S.Store.facts i.store) (g.S.Store.facts b)) c.deref.ensures.value (c.write_puts.ensures.spared so));
       bounded = grown_bounds i.live.places.items live.places.items grown i.bounds c.self.invariant.bounded;
       known = subst (λ space. IsSpaceOf (block_extents live.places.items ++ referenced_extents i.slots) space) (sym c.take.ensures.after) tt;
     }
@@ -113,7 +113,7 @@ returns-in_err-written-clause-keeps g c =
     let view = grown_view g.S.Store.facts i.store i.live live i.slots c.args.self.now grown refl c.self.view_is in
     let b = c.write_puts.new.store in
     let timely : IsTrue (facts b).honest → (facts b).may_leave (facts b).content = λ so. (g.met.S.Store.timely b so).now in
-    let spared : IsTrue (facts i.store).honest → IsSpared (block_extents live.places.items ++ marked_extents i.slots.marked) i.slots (facts i.store) (facts b) = λ so. subst (λ ps. IsSpared (block_extents ps ++ marked_extents i.slots.marked) i.slots (facts i.store) (facts b)) c.deref.ensures.value (c.write_puts.ensures.spared so) in
+    let spared : IsTrue (facts i.store).honest → SparesExtents (block_extents live.places.items ++ marked_extents i.slots.marked) i.slots (facts i.store) (facts b) = λ so. subst (λ ps. SparesExtents (block_extents ps ++ marked_extents i.slots.marked) i.slots (facts i.store) (facts b)) c.deref.ensures.value (c.write_puts.ensures.spared so) in
     let new : FileState g.row.S.Denot = record { disk = disk_of facts b i.slots; document = document_in (facts b).content live } in
     let kept : LeavesDocument facts (document_in (facts i.store).content live) (record { disk = disk_of facts i.store i.slots; document = document_in (facts i.store).content live }) new = record {
       passes = spared_passes facts i.store b live i.slots sound c.write_puts.ensures.honest timely spared c.write_puts.ensures.failures;
@@ -150,7 +150,7 @@ invariant_of-self-2 g c =
     changed_places i.slots.next_version live.places.len live.places.items c.change_places.new.places c.args.puts.now es c.args.removals.now live.places.ok.0 is in
     record {
       sound = put_sound g.S.Store.facts i.store b live i.slots sound c.write_puts.ensures.honest (λ so. (g.met.S.Store.timely b so).now)
-          (λ so. subst (λ ps. IsSpared (block_extents ps ++ marked_extents i.slots.marked) i.slots (g.S.Store.facts i.store) (g.S.Store.facts b)) c.deref.ensures.value (c.write_puts.ensures.spared so))
+          (λ so. subst (λ ps. SparesExtents (block_extents ps ++ marked_extents i.slots.marked) i.slots (g.S.Store.facts i.store) (g.S.Store.facts b)) c.deref.ensures.value (c.write_puts.ensures.spared so))
           c.args.puts.now es c.args.removals.now new c.requires.puts _ c.in_ok-written.ensures.found c.in_ok-written.ensures.written refl room changed
           (subst (λ s. All (λ h. h.0 ≢ s.document.map_block) c.args.removals.now) (sym view) c.requires.removals);
       bounded = subst (λ ps. AreBounds ps c.tightened-self-inside.result) c.deref-3.ensures.value c.tightened-self-inside.ensures;
@@ -172,7 +172,7 @@ returns-clause-keeps g c =
     let changed : new.places.items ≡ without_places c.args.removals.now (with_places i.slots.next_version c.args.puts.now es live.places.items) =
     changed_places i.slots.next_version live.places.len live.places.items c.change_places.new.places c.args.puts.now es c.args.removals.now live.places.ok.0 is in
     let timely : IsTrue (facts b).honest → (facts b).may_leave (facts b).content = λ so. (g.met.S.Store.timely b so).now in
-    let spared : IsTrue (facts i.store).honest → IsSpared (block_extents live.places.items ++ marked_extents i.slots.marked) i.slots (facts i.store) (facts b) = λ so. subst (λ ps. IsSpared (block_extents ps ++ marked_extents i.slots.marked) i.slots (facts i.store) (facts b)) c.deref.ensures.value (c.write_puts.ensures.spared so) in
+    let spared : IsTrue (facts i.store).honest → SparesExtents (block_extents live.places.items ++ marked_extents i.slots.marked) i.slots (facts i.store) (facts b) = λ so. subst (λ ps. SparesExtents (block_extents ps ++ marked_extents i.slots.marked) i.slots (facts i.store) (facts b)) c.deref.ensures.value (c.write_puts.ensures.spared so) in
     subst (λ (s : FileState g.row.S.Denot). LeavesDocument facts (remove_all c.args.removals.now (put_all c.args.puts.now s.document)) s (record { disk = disk_of facts b i.slots; document = document_in (facts b).content new })) view (record {
       passes = spared_passes facts i.store b live i.slots sound c.write_puts.ensures.honest timely spared c.write_puts.ensures.failures;
       document = put_drifts facts i.store b live i.slots sound c.write_puts.ensures.honest timely spared

@@ -4,7 +4,7 @@ use Rattle.std.proofs.lemmas.Result.{err_from_is_err_and}
 use Rattle.geos_replies.specs.Holdings.{holding}
 use Rattle.geos_shell.specs.Progress.{StopsIn, moment}
 use Rattle.geos_shell.proofs.Lines.{HasNoFeed-before, HasNoFeed-from_reads, cut_at_feed, front_of, rest_at_feed}
-use Rattle.geos_shell.proofs.Steps.{GoesOver-trans, StopsIn-trans, StopsIn-same, Progress-part}
+use Rattle.geos_shell.proofs.Steps.{MovesTo-trans, StopsIn-trans, StopsIn-same, Progress-part}
 use Rattle.geos_shell.specs.declared.runner.RunFault.TheVariants as faults
 use Rattle.geos_shell.proofs.answering.Answering.feed.Goals as goal
 
@@ -41,7 +41,7 @@ loop-end-preserved g c =
     let first = moment (holding c.args.session.now c.args.target.now c.args.former.now) c.args.self.now in
     let before = moment (holding c.loop-end.session c.loop-end.target c.loop-end.former) c.loop-end.self in
     let after = moment (holding c.end_line.new.session c.end_line.new.target c.end_line.new.former) c.end_line.new.self in
-    (used ++ line, rw (take_rest rest (end + 1)) all, GoesOver-trans g.S.Store.facts c.args.manner first before after used line goes (c.in_ok-end_line.ensures.ok free), omega (arith, counted, c.in_ok-end_line.ensures.one, within, length-drop (end + 1) rest))
+    (used ++ line, rw (take_rest rest (end + 1)) all, MovesTo-trans g.S.Store.facts c.args.manner first before after used line goes (c.in_ok-end_line.ensures.ok free), omega (arith, counted, c.in_ok-end_line.ensures.one, within, length-drop (end + 1) rest))
 
 -- The replies are to be sent before the next line.
 pub returns-then-len-gt-HELD-clause-ok : goal.returns-then-len-gt-HELD-clause-ok
@@ -58,7 +58,7 @@ returns-then-len-gt-HELD-clause-ok g c start read sent p =
     let first = moment (holding c.args.session.now c.args.target.now c.args.former.now) c.args.self.now in
     let before = moment (holding c.loop-end.session c.loop-end.target c.loop-end.former) c.loop-end.self in
     let after = moment (holding c.end_line.new.session c.end_line.new.target c.end_line.new.former) c.end_line.new.self in
-    rw (take_rest rest (end + 1), front_of (used ++ line) (drop (end + 1) rest) c.args.piece.now all) (GoesOver-trans g.S.Store.facts c.args.manner first before after used line goes (c.in_ok-end_line.ensures.ok free) start read sent p)
+    rw (take_rest rest (end + 1), front_of (used ++ line) (drop (end + 1) rest) c.args.piece.now all) (MovesTo-trans g.S.Store.facts c.args.manner first before after used line goes (c.in_ok-end_line.ensures.ok free) start read sent p)
 
 -- The rest of the piece is kept.
 pub returns-clause-ok : goal.returns-clause-ok
@@ -71,7 +71,7 @@ returns-clause-ok g c start read sent p =
     let after = moment held (record c.loop-end.self { begun = c.keep.new.begun }) in
     let free = HasNoFeed-from_reads rest (λ k low. c.in_default.ensures k (omega arith) low) in
     let whole = take_all (length c.args.piece.now) c.args.piece.now (omega arith) in
-    rw (whole, cut) (GoesOver-trans g.S.Store.facts c.args.manner first before after used rest goes (λ start read sent p. Progress-part p rest c.keep.new.begun.items free c.in_ok-keep.ensures.ok) start read sent p)
+    rw (whole, cut) (MovesTo-trans g.S.Store.facts c.args.manner first before after used rest goes (λ start read sent p. Progress-part p rest c.keep.new.begun.items free c.in_ok-keep.ensures.ok) start read sent p)
 
 -- No memory to keep it.
 pub returns-in_err-keep-clause-err : goal.returns-in_err-keep-clause-err

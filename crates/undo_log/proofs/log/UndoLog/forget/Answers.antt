@@ -4,7 +4,7 @@ use Rattle.std.proofs.lemmas.List.{with_items_is}
 use Rattle.undo_log.specs.Joining.{KeepsBefore, LeavesBehind}
 use Rattle.undo_log.specs.Logging.{AreExclusive, LogState, forgotten_log, open_changes}
 use Rattle.undo_log.specs.Marks.{AreMarksWithin, both_marks, mark_from}
-use Rattle.undo_log.specs.Entries.{NamedEntry, entries_of}
+use Rattle.undo_log.specs.Entries.{NamedEntry, log_entries}
 use Rattle.undo_log.specs.declared.marks.Marks.{Marks}
 use Rattle.undo_log.proofs.LogViews.{forgotten_at, kept_told, log_at, open_group}
 use Rattle.undo_log.proofs.MarkLemmas.{marks_from}
@@ -28,7 +28,7 @@ invariant_of-self c =
       c.self.invariant.1,
       subst (AreMarksWithin first (vec_len vec)) (sym c.cut_before.ensures) (marks_from dead first (vec_len vec) c.self.inside.marks c.self.invariant.2),
       c.self.invariant.3,
-      subst (λ (es : List NamedEntry). AreExclusive (open_changes (open_group c.self.inside.group)) (entries_of es)) (sym (ap (drop done) left ∙ redo)) c.self.invariant.4,
+      subst (λ (es : List NamedEntry). AreExclusive (open_changes (open_group c.self.inside.group)) (log_entries es)) (sym (ap (drop done) left ∙ redo)) c.self.invariant.4,
     )
 
 pub returns-then-self-most : goal.returns-then-self-most

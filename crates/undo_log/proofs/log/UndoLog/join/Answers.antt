@@ -4,7 +4,7 @@ use Rattle.undo_log.specs.Joining.{JoinsAt}
 use Rattle.undo_log.specs.Logging.{AreExclusive, Log, LogState, joined_log, open_changes}
 use Rattle.undo_log.specs.Marks.{AreMarksWithin, both_marks, mark_joined}
 use Rattle.undo_log.specs.Telling.{changes_in, clipped}
-use Rattle.undo_log.specs.Entries.{LogEntry, NamedEntry, entries_of}
+use Rattle.undo_log.specs.Entries.{LogEntry, NamedEntry, log_entries}
 use Rattle.undo_log.proofs.LogViews.{joined_at, log_at, open_group}
 use Rattle.undo_log.proofs.MarkLemmas.{marks_joined}
 use Rattle.undo_log.proofs.Segments.{many_between}
@@ -19,7 +19,7 @@ returns c =
     let many : length mid ≡ vec_len c.self.inside.entries = omega (arith, c.join_at.auto.entries, c.as_mut_slice.ensures.len) in
     let joins : JoinsAt at old mid = subst (λ (es : List NamedEntry). JoinsAt at es mid) c.as_mut_slice.ensures.value c.in_ok-join_at.ensures in
     let left : new ≡ take next mid ++ drop (next + 1) mid = c.remove-emptied.ensures.by_index.2 ∙ ap (λ (es : List NamedEntry). take next es ++ drop (next + 1) es) (with_items_is c.self.inside.entries mid many) in
-    let two : 2 ≤ length (entries_of (reverse (drop dead (take done old)))) = subst (λ (l : LogState). 2 ≤ length l.lists.undo) (sym c.self.view_is) c.requires.two in
+    let two : 2 ≤ length (log_entries (reverse (drop dead (take done old)))) = subst (λ (l : LogState). 2 ≤ length l.lists.undo) (sym c.self.view_is) c.requires.two in
     let inside : done ≤ length old = omega (arith, c.self.invariant.1) in
     let count = length-map (reverse (drop dead (take done old))) (λ (e : NamedEntry). e.entry) ∙ many_between dead done old inside in
     let some : dead + 2 ≤ done = omega (arith, two, count) in
@@ -40,7 +40,7 @@ invariant_of-self-2 c =
     let many : length mid ≡ vec_len c.self.inside.entries = omega (arith, c.join_at.auto.entries, c.as_mut_slice.ensures.len) in
     let joins : JoinsAt at old mid = subst (λ (es : List NamedEntry). JoinsAt at es mid) c.as_mut_slice.ensures.value c.in_ok-join_at.ensures in
     let left : new ≡ take next mid ++ drop (next + 1) mid = c.remove-emptied.ensures.by_index.2 ∙ ap (λ (es : List NamedEntry). take next es ++ drop (next + 1) es) (with_items_is c.self.inside.entries mid many) in
-    let two : 2 ≤ length (entries_of (reverse (drop dead (take done old)))) = subst (λ (l : LogState). 2 ≤ length l.lists.undo) (sym c.self.view_is) c.requires.two in
+    let two : 2 ≤ length (log_entries (reverse (drop dead (take done old)))) = subst (λ (l : LogState). 2 ≤ length l.lists.undo) (sym c.self.view_is) c.requires.two in
     let inside : done ≤ length old = omega (arith, c.self.invariant.1) in
     let count = length-map (reverse (drop dead (take done old))) (λ (e : NamedEntry). e.entry) ∙ many_between dead done old inside in
     let some : dead + 2 ≤ done = omega (arith, two, count) in

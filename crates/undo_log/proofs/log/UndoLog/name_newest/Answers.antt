@@ -2,18 +2,18 @@ use Rattle.std.proofs.Common.{◌≡◌, ◌≢◌, ◌<◌, ◌-◌, ℕ, List,
 use Rattle.std.proofs.lemmas.Bool.{cases_lt}
 use Rattle.std.proofs.lemmas.List.{drop_all, length-take, with_items_is}
 use Rattle.undo_log.specs.Logging.{BecomesAt, LogState, named, named_log}
-use Rattle.undo_log.specs.Entries.{NamedEntry, entries_of}
+use Rattle.undo_log.specs.Entries.{NamedEntry, log_entries}
 use Rattle.undo_log.proofs.LogViews.{log_at, named_at, open_group}
 use Rattle.undo_log.proofs.log.UndoLog.name_newest.Goals as goal
 
 -- where there is an entry, the first place of those that can be undone lies before the last
-some_made : (dead done : ℕ) (es : List NamedEntry) → entries_of (reverse (drop dead (take done es))) ≢ [] → dead < done
+some_made : (dead done : ℕ) (es : List NamedEntry) → log_entries (reverse (drop dead (take done es))) ≢ [] → dead < done
 some_made dead done es some = elim (cases_lt dead done) [
   | inl before ↦ before
   | inr behind ↦
       let few = length-take done es in
       let none : drop dead (take done es) ≡ [] = drop_all dead (take done es) (omega (arith, few, behind)) in
-      absurd (some (ap (λ (xs : List NamedEntry). entries_of (reverse xs)) none))
+      absurd (some (ap (λ (xs : List NamedEntry). log_entries (reverse xs)) none))
 ]
 
 pub returns-clause-done : goal.returns-clause-done
