@@ -205,7 +205,7 @@ int32_t geosvm_fault_name(int32_t code, uint8_t *name, size_t room, size_t *leng
 ** By its checksums a file tells that bytes of it were changed elsewhere, as on a bad disk: an open is refused then, mostly as
 ** GEOSVM_DAMAGED, or gives the commit before, where it would be another document without them (docs/FORMAT.md). They are asked for by GEOSVM_PATH_CHECKSUMS, set beside one of the other flags, or by
 ** geosvm_create_checksums and geosvm_open_checksums: an empty document that is made has them, and a file that is there and has none gets
-** them with its next commit; the commit before that one has none until the one behind it. A file that has them keeps them unless it is
+** them with its next commit, behind which the commit before, which has none, is no longer found. A file that has them keeps them unless it is
 ** made anew, and so has what it is saved into by geosvm_save_as or geosvm_save_as_path. Such a file is of version 3, which a program that knows versions 1 and 2 alone doesn't open.
 */
 #define GEOSVM_PATH_EXISTING  0u
