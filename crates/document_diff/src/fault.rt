@@ -4,7 +4,6 @@ ghost use Rattle.document_diff.specs.Faults.{side_fault};
 
 use geos_model::Fault;
 use std::alloc::AllocError;
-use std::fmt;
 
 /// One of the two files.
 #[derive(Clone, Copy, Debug, PartialEq, Eq)]
@@ -35,26 +34,6 @@ impl Side {
             Fault::Memory => DiffFault::Memory,
             Fault::File => DiffFault::File(self),
             _ => DiffFault::Damaged(self),
-        }
-    }
-}
-
-impl fmt::Display for Side {
-    fn fmt<W: fmt::Write>(&self, f: &mut fmt::Formatter<W>) -> fmt::Result {
-        match self {
-            Side::Old => write!(f, "the old file"),
-            Side::New => write!(f, "the new file"),
-        }
-    }
-}
-
-impl fmt::Display for DiffFault {
-    fn fmt<W: fmt::Write>(&self, f: &mut fmt::Formatter<W>) -> fmt::Result {
-        match self {
-            DiffFault::Memory => write!(f, "memory"),
-            DiffFault::File(side) => write!(f, "file fault of {side}"),
-            DiffFault::Damaged(side) => write!(f, "{side} is damaged"),
-            DiffFault::Write => write!(f, "write fault"),
         }
     }
 }

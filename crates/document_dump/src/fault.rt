@@ -3,7 +3,6 @@ ghost use Rattle.std.specs.Prelude.{◌≡◌};
 
 use geos_model::Fault;
 use std::alloc::AllocError;
-use std::fmt;
 
 /// Why a dump ended early.
 #[derive(Clone, Copy, Debug, PartialEq, Eq)]
@@ -16,17 +15,6 @@ pub enum DumpFault {
     Damaged,
     /// The writer failed. How much of the script went out is not known.
     Write,
-}
-
-impl fmt::Display for DumpFault {
-    fn fmt<W: fmt::Write>(&self, f: &mut fmt::Formatter<W>) -> fmt::Result {
-        match self {
-            DumpFault::Memory => write!(f, "memory"),
-            DumpFault::File => write!(f, "file fault"),
-            DumpFault::Damaged => write!(f, "damaged"),
-            DumpFault::Write => write!(f, "write fault"),
-        }
-    }
 }
 
 impl From<AllocError> for DumpFault {

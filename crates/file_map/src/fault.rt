@@ -3,7 +3,6 @@ ghost use Rattle.std.specs.Prelude.{◌≡◌};
 
 use geos_model::Fault;
 use std::alloc::{AllocError, AllocFailed};
-use std::fmt;
 use vm_store::StoreFault;
 
 /// Why there is no picture of a file, or not the whole of it.
@@ -17,17 +16,6 @@ pub enum MapFault {
     Unopened(Fault),
     /// The writer failed. How much of the picture went out is not known.
     Write,
-}
-
-impl fmt::Display for MapFault {
-    fn fmt<W: fmt::Write>(&self, f: &mut fmt::Formatter<W>) -> fmt::Result {
-        match self {
-            MapFault::Memory => write!(f, "memory"),
-            MapFault::File => write!(f, "file fault"),
-            MapFault::Unopened(fault) => write!(f, "it doesn't open, {}", fault.name()),
-            MapFault::Write => write!(f, "write fault"),
-        }
-    }
 }
 
 impl From<AllocError> for MapFault {
