@@ -1,6 +1,5 @@
 -- What a comparison of two files comes to, by what its parts do.
-use Rattle.std.proofs.Common.{◌≡◌, ◌⊎◌, ℕ, List, Bool, true, false, Option, Result, Ok, Err, IfOk, IfErr, IsTrue, refl, sym, ◌∙◌, inl, inr}
-use Rattle.std.proofs.Math.Logic.{∥∥₁_map}
+use Rattle.std.proofs.Common.{◌≡◌, ◌⊎◌, ℕ, List, Bool, true, false, Option, Result, Ok, Err, IfOk, IfErr, IsErrOf, IsTrue, refl, sym, ◌∙◌, inl, inr}
 use Rattle.std.specs.Io.KnownBytes.{Appends}
 use Rattle.file_format.specs.File.{stands}
 use Rattle.geos_model.specs.declared.fault.Fault.{Fault}
@@ -18,7 +17,7 @@ use Rattle.document_diff.specs.declared.fault.DiffFault.TheVariants as diff_faul
 use Rattle.document_diff.specs.declared.fault.Side.TheVariants as sides
 use Rattle.document_diff.specs.declared.version.Version.{Version}
 use Rattle.document_diff.specs.declared.version.Version.TheVariants as versions
-use Rattle.document_tools.specs.Comparisons.{ComparesOpen, ComparesStored, ComparesStores, EndsComparison, EndsUncompared, HasDiffCause, IsDiffEnd, IsUnreadOpen, IsUnreadStored, chosen_document}
+use Rattle.document_tools.specs.Comparisons.{ComparesOpen, ComparesStored, ComparesStores, EndsComparison, EndsUncompared, IsUnreadOpen, IsUnreadStored, chosen_document}
 use Rattle.document_tools.specs.Endings.{IsUncomparedFor}
 use Rattle.document_tools.specs.Obstacles.{refusal_line}
 use Rattle.document_tools.specs.declared.ending.Ending.{Ending}
@@ -27,15 +26,6 @@ use Rattle.document_tools.specs.declared.ending.Trouble.TheVariants as troubles
 use Rattle.document_tools.specs.declared.obstacle.Obstacle.{Obstacle}
 use Rattle.document_tools.specs.declared.obstacle.Obstacle.TheVariants.{Changed, Unopened, Unread}
 use Rattle.document_tools.proofs.Looked.{opens_so}
-
--- that it couldn't be written is told only where the last write failed
-pub diff_caused : (A : Type 0) (compared result : Result Bool DiffFault) (failed : Bool) → ∥ (failed ≡ true → A) ∥₁ → IsDiffEnd compared failed result
-    → IfErr result (λ fault. HasDiffCause fault (∥ A ∥₁))
-diff_caused A compared (Ok same) failed cause ends = tt
-diff_caused A compared (Err diff_faults.Memory) failed cause ends = tt
-diff_caused A compared (Err (diff_faults.File side)) failed cause ends = tt
-diff_caused A compared (Err (diff_faults.Damaged side)) failed cause ends = tt
-diff_caused A compared (Err diff_faults.Write) failed cause ends = ∥∥₁_map cause (λ so. so ends)
 
 -- a refusal is told by its line, or there is no memory for it
 pub uncompared_or_memory : (P : Ending → Type 0) (file : List ℕ) (obstacle : Obstacle)
@@ -59,7 +49,7 @@ false_isnt same never always = let wrong : true ≡ false = sym always ∙ never
 pub compared_open : {S W : Type 0} (facts : S → StoreFacts) (contents : W → Option (List ℕ)) (writes : WriteCalls W) (first second : List ℕ) (version : Version) (a a_left b b_left : StoredState S) (old new : W)
     (compared : Result Bool DiffFault) (ending : Ending)
     → IfOk compared (λ same. IsTrue (facts a.store).honest → IsTrue (facts b.store).honest → Appends (contents old) (contents new) (diff_text (document_by version a) (document_by version b)) × TellsSame (document_by version a) (document_by version b) same)
-    → IfErr compared (IsDiffRefusal (facts a.store) (facts a_left.store) (facts b.store) (facts b_left.store)) → IfErr compared (λ fault. HasDiffCause fault (∥ StopsWriting writes new ∥₁))
+    → IfErr compared (IsDiffRefusal (facts a.store) (facts a_left.store) (facts b.store) (facts b_left.store)) → (IsErrOf compared diff_faults.Write → ∥ StopsWriting writes new ∥₁)
     → EndsComparison first second compared ending → ComparesOpen facts contents writes first second version a a_left b b_left old new ending
 compared_open facts contents writes first second version a a_left b b_left old new (Ok true) ending text refusal cause ends =
     rw ends (λ so too. ((text so too).0, (text so too).1.only refl))
@@ -74,7 +64,7 @@ compared_open facts contents writes first second version a a_left b b_left old n
     uncompared_or_memory (ComparesOpen facts contents writes first second version a a_left b b_left old new) first Changed (λ line is. inl (inr (is, refusal))) tt ending ends
 compared_open facts contents writes first second version a a_left b b_left old new (Err (diff_faults.Damaged sides.New)) ending text refusal cause ends =
     uncompared_or_memory (ComparesOpen facts contents writes first second version a a_left b b_left old new) second Changed (λ line is. inr (inr (is, refusal))) tt ending ends
-compared_open facts contents writes first second version a a_left b b_left old new (Err diff_faults.Write) ending text refusal cause ends = rw ends cause
+compared_open facts contents writes first second version a a_left b b_left old new (Err diff_faults.Write) ending text refusal cause ends = rw ends (cause refl)
 
 -- a file that was opened, and a block of which can't be read then
 unread_then : (file line : List ℕ) (a b c : StoreFacts) → OnlyReadsStore a b → IsUnreadOpen file b c line → IsUnreadStored file a c line

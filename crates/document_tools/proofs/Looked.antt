@@ -1,5 +1,5 @@
 -- What a look at a file comes to, by what its parts do.
-use Rattle.std.proofs.Common.{◌≡◌, ◌⊎◌, ℕ, List, [], ◌++◌, Bool, true, false, Option, None, Some, Result, Ok, Err, IfErr, OnOk, IsTrue, refl, ◌∙◌, subst, ap, inl, inr}
+use Rattle.std.proofs.Common.{◌≡◌, ◌≢◌, ◌⊎◌, ℕ, List, [], ◌++◌, Bool, true, false, Option, None, Some, Result, Ok, Err, IfErr, IsErrOf, OnOk, IsTrue, refl, sym, ◌∙◌, subst, ap, inl, inr}
 use Rattle.std.proofs.Math.Logic.{∥∥₁_map}
 use Rattle.std.proofs.KnownBytes.{Appends-kept}
 use Rattle.std.proofs.lemmas.List.{append-nil}
@@ -25,10 +25,10 @@ use Rattle.file_map.specs.Faults.{IsMapRefusal}
 use Rattle.file_map.specs.declared.fault.MapFault.{MapFault}
 use Rattle.file_map.specs.declared.fault.MapFault.TheVariants as map_faults
 use Rattle.file_map.specs.declared.part.Part.{Part}
-use Rattle.document_tools.specs.DumpedFiles.{DumpsOpen, DumpsStood, EndsDump, HasDumpCause, IsDumpEnd}
-use Rattle.document_tools.specs.Endings.{IsRefusedFor}
+use Rattle.document_tools.specs.DumpedFiles.{DumpsOpen, DumpsStood, EndsDump}
+use Rattle.document_tools.specs.Endings.{IsEndOfPieces, IsRefusedFor}
 use Rattle.document_tools.specs.Looks.{EndsUnopened}
-use Rattle.document_tools.specs.Maps.{EndsMap, HasMapCause, IsMapEnd, MapsStore, picture_of}
+use Rattle.document_tools.specs.Maps.{EndsMap, MapsStore, picture_of}
 use Rattle.document_tools.specs.Obstacles.{refusal_line}
 use Rattle.document_tools.specs.Stats.{StatsStore, PrintsStat}
 use Rattle.document_tools.specs.declared.ending.Ending.{Ending}
@@ -94,52 +94,43 @@ pub on_ok : {E : Type 0} (P Q : Type 0) (result : Result (Unit {0}) E) → (P �
 on_ok P Q (Ok v) makes so = makes so
 on_ok P Q (Err fault) makes so = tt
 
+-- that it couldn't be written is told only where the last write failed
+pub caused_by_write : {T F : Type 0} (A : Type 0) (memory write : F) (done result : Result T F) (failed : Bool) → memory ≢ write → ∥ (failed ≡ true → A) ∥₁ → IsEndOfPieces memory write done failed result
+    → IsErrOf result write → ∥ A ∥₁
+caused_by_write A memory write done (Ok value) failed other cause ends is = absurd (cc (is))
+caused_by_write A memory write done (Err fault) failed other cause (inl e) is = let told : fault ≡ write = cc (is) in absurd (other (sym e ∙ told))
+caused_by_write A memory write done (Err fault) failed other cause (inr (inl e)) is = ∥∥₁_map cause (λ so. so e.1)
+caused_by_write A memory write done (Err fault) failed other cause (inr (inr e)) is = let told : fault ≡ write = cc (is) in absurd (e.0 told)
+
 -- all is drawn only where the drawing went well, and so did the last write
-pub all_drawn : (P : Type 0) (drawn result : Result (Unit {0}) MapFault) (failed : Bool) → IsMapEnd drawn failed result → OnOk drawn (failed ≡ false → P) → OnOk result P
+pub all_drawn : (P : Type 0) (drawn result : Result (Unit {0}) MapFault) (failed : Bool) → IsEndOfPieces map_faults.Memory map_faults.Write drawn failed result → OnOk drawn (failed ≡ false → P) → OnOk result P
 all_drawn P (Ok w) (Ok v) failed ends so = so ends.1
 all_drawn P (Err fault) (Ok v) failed ends so = absurd (cc (ends.0))
 all_drawn P drawn (Err fault) failed ends so = tt
-
--- that a drawing couldn't be written is told only where the last write failed
-pub map_caused : (A : Type 0) (drawn result : Result (Unit {0}) MapFault) (failed : Bool) → ∥ (failed ≡ true → A) ∥₁ → IsMapEnd drawn failed result → IfErr result (λ fault. HasMapCause fault (∥ A ∥₁))
-map_caused A drawn (Ok v) failed cause ends = tt
-map_caused A drawn (Err map_faults.Memory) failed cause ends = tt
-map_caused A drawn (Err map_faults.File) failed cause ends = tt
-map_caused A drawn (Err (map_faults.Unopened fault)) failed cause ends = tt
-map_caused A drawn (Err map_faults.Write) failed cause ends = ∥∥₁_map cause (λ so. so ends)
 
 -- a drawing that is told, or why there is none
 pub mapped_store : {W : Type 0} (contents : W → Option (List ℕ)) (writes : WriteCalls W) (file : List ℕ) (picture : MapFormat) (old new : StoreFacts) (from to : W) (drawn : Result (Unit {0}) MapFault)
     (ending : Ending)
     → OnOk drawn (IsTrue old.honest → IsDrawn (picture_of picture) old.content (contents from) (contents to)) → (drawn ≡ Err map_faults.File → FailedSince old new) → IfErr drawn (IsMapRefusal old)
-    → IfErr drawn (λ fault. HasMapCause fault (∥ StopsWriting writes to ∥₁)) → EndsMap file drawn ending → MapsStore contents writes file picture old new from to ending
+    → (IsErrOf drawn map_faults.Write → ∥ StopsWriting writes to ∥₁) → EndsMap file drawn ending → MapsStore contents writes file picture old new from to ending
 mapped_store contents writes file picture old new from to (Ok v) ending text failed refusal cause ends = rw ends text
 mapped_store contents writes file picture old new from to (Err map_faults.Memory) ending text failed refusal cause ends = rw ends tt
 mapped_store contents writes file picture old new from to (Err map_faults.File) ending text failed refusal cause ends =
     refused_or_memory (MapsStore contents writes file picture old new from to) file Unread (λ line is. inl (is, failed refl)) tt ending ends
 mapped_store contents writes file picture old new from to (Err (map_faults.Unopened fault)) ending text failed refusal cause ends =
     refused_or_memory (MapsStore contents writes file picture old new from to) file (Unopened fault) (λ line is. inr (fault, is, refusal)) tt ending ends
-mapped_store contents writes file picture old new from to (Err map_faults.Write) ending text failed refusal cause ends = rw ends cause
+mapped_store contents writes file picture old new from to (Err map_faults.Write) ending text failed refusal cause ends = rw ends (cause refl)
 
 -- a writer with nothing gathered for it
 pub known_empty : (known : Option (List ℕ)) (gathered : List ℕ) → gathered ≡ [] → append_known known gathered ≡ known
 known_empty None gathered none = refl
 known_empty (Some xs) gathered none = ap Some (ap (λ (l : List ℕ). xs ++ l) none ∙ append-nil xs)
 
--- that a dump couldn't be written is told only where the last write failed
-pub dump_caused : (A : Type 0) (dumped result : Result (Unit {0}) DumpFault) (failed : Bool) → ∥ (failed ≡ true → A) ∥₁ → IsDumpEnd dumped failed result
-    → IfErr result (λ fault. HasDumpCause fault (∥ A ∥₁))
-dump_caused A dumped (Ok v) failed cause ends = tt
-dump_caused A dumped (Err dump_faults.Memory) failed cause ends = tt
-dump_caused A dumped (Err dump_faults.File) failed cause ends = tt
-dump_caused A dumped (Err dump_faults.Damaged) failed cause ends = tt
-dump_caused A dumped (Err dump_faults.Write) failed cause ends = ∥∥₁_map cause (λ so. so ends)
-
 -- documents that are open, and their dump, or why there is none
 pub dumped_open : {S W : Type 0} (facts : S → StoreFacts) (contents : W → Option (List ℕ)) (writes : WriteCalls W) (name : List ℕ) (which : Which) (from to : StoredState S) (old new : W)
     (dumped : Result (Unit {0}) DumpFault) (ending : Ending)
     → OnOk dumped (IsTrue (facts from.store).honest → Appends (contents old) (contents new) (dump_text which from.updated from.saved))
-    → IfErr dumped (IsDumpRefusal (facts from.store) (facts to.store)) → IfErr dumped (λ fault. HasDumpCause fault (∥ StopsWriting writes new ∥₁)) → EndsDump name dumped ending
+    → IfErr dumped (IsDumpRefusal (facts from.store) (facts to.store)) → (IsErrOf dumped dump_faults.Write → ∥ StopsWriting writes new ∥₁) → EndsDump name dumped ending
     → DumpsOpen facts contents writes name which from to old new ending
 dumped_open facts contents writes name which from to old new (Ok v) ending text refusal cause ends = rw ends text
 dumped_open facts contents writes name which from to old new (Err dump_faults.Memory) ending text refusal cause ends = rw ends tt
@@ -147,7 +138,7 @@ dumped_open facts contents writes name which from to old new (Err dump_faults.Fi
     refused_or_memory (DumpsOpen facts contents writes name which from to old new) name Unread (λ line is. inl (is, refusal)) tt ending ends
 dumped_open facts contents writes name which from to old new (Err dump_faults.Damaged) ending text refusal cause ends =
     refused_or_memory (DumpsOpen facts contents writes name which from to old new) name Changed (λ line is. inr (is, refusal)) tt ending ends
-dumped_open facts contents writes name which from to old new (Err dump_faults.Write) ending text refusal cause ends = rw ends cause
+dumped_open facts contents writes name which from to old new (Err dump_faults.Write) ending text refusal cause ends = rw ends (cause refl)
 
 -- a store that was opened, and then dumped
 pub dumped_stood : {S W : Type 0} (facts : S → StoreFacts) (contents : W → Option (List ℕ)) (writes : WriteCalls W) (name : List ℕ) (which : Which) (stood : List ℕ → Result (Document × Document) Fault) (told : Fault → Obstacle)

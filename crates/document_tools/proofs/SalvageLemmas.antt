@@ -1,6 +1,5 @@
 -- What a salvage comes to, by what its parts do.
-use Rattle.std.proofs.Common.{◌≡◌, ◌⊎◌, ℕ, List, Bool, true, false, Option, None, Some, Result, Ok, Err, IfErr, IfOk, IsTrue, refl, sym, ap, subst, ◌∙◌, arith, inl, inr}
-use Rattle.std.proofs.Math.Logic.{∥∥₁_map}
+use Rattle.std.proofs.Common.{◌≡◌, ◌⊎◌, ℕ, List, Bool, true, false, Option, None, Some, Result, Ok, Err, IfErr, IfOk, IsErrOf, IsTrue, refl, sym, ap, subst, ◌∙◌, arith, inl, inr}
 use Rattle.std.proofs.KnownBytes.{Appends-kept}
 use Rattle.std.specs.Io.KnownBytes.{Appends, Keeps}
 use Rattle.geos_model.specs.Document.{Document}
@@ -19,8 +18,9 @@ use Rattle.document_dump.specs.declared.dumping.Which.TheVariants.{Both}
 use Rattle.document_dump.specs.declared.fault.DumpFault.{DumpFault}
 use Rattle.document_dump.specs.declared.fault.DumpFault.TheVariants as dump_faults
 use Rattle.file_salvage.specs.Salvaged.{IsSalvage, salvage_text}
-use Rattle.document_tools.specs.DumpedFiles.{DumpsOpen, HasDumpCause}
-use Rattle.document_tools.specs.Salvages.{EndsSalvage, HasSalvage, IsSalvageEnd, Salvages, SalvagesUnopened, dump_or, file_script}
+use Rattle.document_tools.specs.DumpedFiles.{DumpsOpen}
+use Rattle.document_tools.specs.Endings.{IsEndOfPieces}
+use Rattle.document_tools.specs.Salvages.{EndsSalvage, HasSalvage, Salvages, SalvagesUnopened, dump_or, file_script}
 use Rattle.document_tools.specs.declared.ending.Ending.{Ending}
 use Rattle.document_tools.specs.declared.ending.Ending.TheVariants as endings
 use Rattle.document_tools.specs.declared.obstacle.Obstacle.TheVariants.{Changed, Unread, Unsalvaged}
@@ -32,19 +32,10 @@ salvaged_through None some from first mid to begun keeps s = s.0
 salvaged_through (Some script) some from first mid to begun keeps s = (s.0, subst (λ (known : Option (List ℕ)). Appends known to script) begun (Appends-kept first mid to script s.1 keeps))
 
 -- all is written only where the salvage went well, and so did the last write
-pub all_salvaged : (P : Bool → Type 0) (salvaged result : Result Bool DumpFault) (failed : Bool) → IsSalvageEnd salvaged failed result → IfOk salvaged (λ some. failed ≡ false → P some) → IfOk result P
+pub all_salvaged : (P : Bool → Type 0) (salvaged result : Result Bool DumpFault) (failed : Bool) → IsEndOfPieces dump_faults.Memory dump_faults.Write salvaged failed result → IfOk salvaged (λ some. failed ≡ false → P some) → IfOk result P
 all_salvaged P (Ok some) (Ok other) failed ends so = let same : some ≡ other = cc (ends.0) in subst P same (so ends.1)
 all_salvaged P (Err fault) (Ok other) failed ends so = absurd (cc (ends.0))
 all_salvaged P salvaged (Err fault) failed ends so = tt
-
--- that a salvage couldn't be written is told only where the last write failed
-pub salvage_caused : (A : Type 0) (salvaged result : Result Bool DumpFault) (failed : Bool) → ∥ (failed ≡ true → A) ∥₁ → IsSalvageEnd salvaged failed result
-    → IfErr result (λ fault. HasDumpCause fault (∥ A ∥₁))
-salvage_caused A salvaged (Ok some) failed cause ends = tt
-salvage_caused A salvaged (Err dump_faults.Memory) failed cause ends = tt
-salvage_caused A salvaged (Err dump_faults.File) failed cause ends = tt
-salvage_caused A salvaged (Err dump_faults.Damaged) failed cause ends = tt
-salvage_caused A salvaged (Err dump_faults.Write) failed cause ends = ∥∥₁_map cause (λ so. so ends)
 
 some_script : (o : Option (List ℕ)) (from to : Option (List ℕ)) → HasSalvage o true from to → (text : List ℕ) × (o ≡ Some text) × Appends from to text
 some_script None from to s = absurd (cc s)
@@ -57,7 +48,7 @@ no_script (Some text) from to s = absurd (cc (s.0))
 -- what is salvaged, or why nothing is
 pub salvaged_told : {W : Type 0} (contents : W → Option (List ℕ)) (writes : WriteCalls W) (name : List ℕ) (all : Bool) (from to : StoreFacts) (old new : W) (salvaged : Result Bool DumpFault) (ending : Ending)
     → IfOk salvaged (λ some. IsTrue from.honest → HasSalvage (salvage_text all from.content) some (contents old) (contents new)) → IfErr salvaged (IsDumpRefusal from to)
-    → IfErr salvaged (λ fault. HasDumpCause fault (∥ StopsWriting writes new ∥₁)) → EndsSalvage name salvaged ending → Salvages contents writes name (salvage_text all) from to old new ending
+    → (IsErrOf salvaged dump_faults.Write → ∥ StopsWriting writes new ∥₁) → EndsSalvage name salvaged ending → Salvages contents writes name (salvage_text all) from to old new ending
 salvaged_told contents writes name all from to old new (Ok true) ending text refusal cause ends = rw ends (λ so. some_script (salvage_text all from.content) (contents old) (contents new) (text so))
 salvaged_told contents writes name all from to old new (Ok false) ending text refusal cause ends =
     refused_or_memory (Salvages contents writes name (salvage_text all) from to old new) name Unsalvaged (λ line is. inr (inl (is, λ so. no_script (salvage_text all from.content) (contents old) (contents new) (text so)))) tt ending ends
@@ -66,7 +57,7 @@ salvaged_told contents writes name all from to old new (Err dump_faults.File) en
     refused_or_memory (Salvages contents writes name (salvage_text all) from to old new) name Unread (λ line is. inl (is, refusal)) tt ending ends
 salvaged_told contents writes name all from to old new (Err dump_faults.Damaged) ending text refusal cause ends =
     refused_or_memory (Salvages contents writes name (salvage_text all) from to old new) name Changed (λ line is. inr (inr (is, refusal))) tt ending ends
-salvaged_told contents writes name all from to old new (Err dump_faults.Write) ending text refusal cause ends = rw ends cause
+salvaged_told contents writes name all from to old new (Err dump_faults.Write) ending text refusal cause ends = rw ends (cause refl)
 
 -- the dump of documents that are open is the script of their file
 pub opened_script : {S W : Type 0} (facts : S → StoreFacts) (contents : W → Option (List ℕ)) (writes : WriteCalls W) (name : List ℕ) (all : Bool) (store : S) (from to : StoredState S) (old new : W) (ending : Ending)

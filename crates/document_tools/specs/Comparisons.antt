@@ -56,19 +56,6 @@ IsUnreadStored file from to line =
     × (IsTrue from.honest → stands from.content ≡ Err fault))
     ⊎ ((line ≡ refusal_line file Changed) × (IsTrue from.honest → ⊥))
 
--- How a comparison ends whose pieces were gathered, by how itself did and whether the last write failed: well only where
--- both went well, as a write fault only where that write failed, and by no other fault than its own.
-abbrev pub IsDiffEnd : Result Bool DiffFault → Bool → Result Bool DiffFault → Type 0
-IsDiffEnd compared failed (Ok same) = (compared ≡ Ok same) × (failed ≡ false)
-IsDiffEnd compared failed (Err diff_faults.Memory) = ⊤
-IsDiffEnd compared failed (Err diff_faults.Write) = failed ≡ true
-IsDiffEnd compared failed (Err fault) = compared ≡ Err fault
-
--- the cause of a fault: of a write's this, of others any
-abbrev pub HasDiffCause : DiffFault → Type 0 → Type 0
-HasDiffCause diff_faults.Write writing = writing
-HasDiffCause fault writing = ⊤
-
 abbrev pub name_of_side : List ℕ → List ℕ → Side → List ℕ
 name_of_side first second sides.Old = first
 name_of_side first second sides.New = second

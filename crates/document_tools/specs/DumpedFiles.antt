@@ -1,5 +1,5 @@
 -- What is told of a file as a script that makes documents of it again.
-use Rattle.std.specs.Prelude.{◌≡◌, ◌⊎◌, ℕ, List, Bool, true, false, IsTrue, Option, Result, Ok, Err, ⊤}
+use Rattle.std.specs.Prelude.{◌≡◌, ◌⊎◌, ℕ, List, IsTrue, Option, Result, Ok, Err, ⊤}
 use Rattle.std.specs.Io.KnownBytes.{Appends}
 use Rattle.geos_model.specs.Document.{Document}
 use Rattle.file_format.specs.File.{stands}
@@ -20,26 +20,17 @@ use Rattle.document_tools.specs.declared.ending.Ending.TheVariants as endings
 use Rattle.document_tools.specs.declared.obstacle.Obstacle.{Obstacle}
 use Rattle.document_tools.specs.declared.obstacle.Obstacle.TheVariants.{Changed, Unopened, Unread, Unviewed}
 
--- How a dump ends whose pieces were gathered, by how the dump itself did and whether the last write failed: well only
--- where both went well, as a write fault only where that write failed, and by no other fault than the dump's.
-abbrev pub IsDumpEnd : Result (Unit {0}) DumpFault → Bool → Result (Unit {0}) DumpFault → Type 0
-IsDumpEnd dumped failed (Ok v) = (dumped ≡ Ok tt) × (failed ≡ false)
-IsDumpEnd dumped failed (Err dump_faults.Memory) = ⊤
-IsDumpEnd dumped failed (Err dump_faults.Write) = failed ≡ true
-IsDumpEnd dumped failed (Err fault) = dumped ≡ Err fault
+-- what comes of a script that isn't written, or not whole
+abbrev pub EndsFault : List ℕ → DumpFault → Ending → Type 0
+EndsFault file dump_faults.Memory ending = ending ≡ endings.Memory
+EndsFault file dump_faults.File ending = IsRefusedFor file Unread ending
+EndsFault file dump_faults.Damaged ending = IsRefusedFor file Changed ending
+EndsFault file dump_faults.Write ending = ending ≡ endings.WriteFault
 
--- the cause of a dump's fault: of a write's this, of others any
-abbrev pub HasDumpCause : DumpFault → Type 0 → Type 0
-HasDumpCause dump_faults.Write writing = writing
-HasDumpCause fault writing = ⊤
-
--- What comes of a dump: it is written, or it isn't, or not whole.
+-- what comes of a dump
 abbrev pub EndsDump : List ℕ → Result (Unit {0}) DumpFault → Ending → Type 0
 EndsDump file (Ok v) ending = ending ≡ endings.Done
-EndsDump file (Err dump_faults.Memory) ending = ending ≡ endings.Memory
-EndsDump file (Err dump_faults.File) ending = IsRefusedFor file Unread ending
-EndsDump file (Err dump_faults.Damaged) ending = IsRefusedFor file Changed ending
-EndsDump file (Err dump_faults.Write) ending = ending ≡ endings.WriteFault
+EndsDump file (Err fault) ending = EndsFault file fault ending
 
 -- What comes of the dump of a store, by what its bytes stand for and how a refusal of that is told: the script of these
 -- documents is written, or it isn't, or not whole. A write fault is told only where the last write failed, and that a

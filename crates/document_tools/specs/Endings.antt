@@ -1,5 +1,5 @@
 -- How a tool ends: what is told of that on standard error, and the exit status.
-use Rattle.std.specs.Prelude.{◌≡◌, ◌≢◌, ℕ, List, codes, Option, Some, None, Result, ⊤}
+use Rattle.std.specs.Prelude.{◌≡◌, ◌≢◌, ◌⊎◌, ℕ, List, Bool, false, true, codes, Option, Some, None, Result, Ok, Err, ⊤}
 use Rattle.geos_model.specs.declared.fault.Fault.{Fault}
 use Rattle.geos_model.specs.declared.fault.Fault.TheVariants.{Memory}
 use Rattle.geos_shell.specs.Streams.{WriteCalls}
@@ -11,6 +11,20 @@ use Rattle.document_tools.specs.declared.ending.Trouble.{Trouble}
 use Rattle.document_tools.specs.declared.ending.Trouble.TheVariants as troubles
 use Rattle.document_tools.specs.declared.obstacle.Obstacle.{Obstacle}
 use Rattle.document_tools.specs.declared.obstacle.Obstacle.TheVariants.{Unread}
+
+-- How a tool ends whose pieces were gathered, by how its work did and whether the last write failed: well only where
+-- both went well, as a write fault only where that write failed, and by another one only where the work did. Lack of
+-- memory may end each.
+abbrev pub IsEndOfPieces : {T F : Type 0} → F → F → Result T F → Bool → Result T F → Type 0
+IsEndOfPieces memory write done failed (Ok value) = (done ≡ Ok value) × (failed ≡ false)
+IsEndOfPieces memory write done failed (Err fault) =
+    (fault ≡ memory) ⊎ ((fault ≡ write) × (failed ≡ true)) ⊎ ((fault ≢ write) × (done ≡ Err fault))
+
+abbrev pub memory_line : List ℕ
+memory_line = codes "geosdoc: memory\n"
+
+abbrev pub write_fault_line : List ℕ
+write_fault_line = codes "geosdoc: write fault\n"
 
 -- the exit status
 abbrev pub ending_status : Ending → ℕ
@@ -25,17 +39,17 @@ ending_status (endings.Uncompared trouble) = 2
 
 abbrev pub trouble_line : Trouble → List ℕ
 trouble_line (troubles.Refused line) = line
-trouble_line troubles.Memory = codes "geosdoc: memory\n"
-trouble_line troubles.WriteFault = codes "geosdoc: write fault\n"
+trouble_line troubles.Memory = memory_line
+trouble_line troubles.WriteFault = write_fault_line
 
 -- the line for standard error, if there is one
 abbrev pub error_line : Ending → Option (List ℕ)
 error_line endings.Done = None
 error_line endings.Unsound = None
 error_line (endings.Refused line) = Some line
-error_line endings.Memory = Some (codes "geosdoc: memory\n")
+error_line endings.Memory = Some memory_line
 error_line endings.ReadFault = Some (codes "geosdoc: read fault\n")
-error_line endings.WriteFault = Some (codes "geosdoc: write fault\n")
+error_line endings.WriteFault = Some write_fault_line
 error_line endings.Different = None
 error_line (endings.Uncompared trouble) = Some (trouble_line trouble)
 

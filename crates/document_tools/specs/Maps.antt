@@ -1,5 +1,5 @@
 -- What is told of a file as a picture.
-use Rattle.std.specs.Prelude.{◌≡◌, ℕ, List, Bool, true, false, IsTrue, Option, Result, Ok, Err, ⊤}
+use Rattle.std.specs.Prelude.{◌≡◌, ℕ, List, IsTrue, Option, Result, Ok, Err, ⊤}
 use Rattle.vm_store.specs.Facts.{StoreFacts}
 use Rattle.document_file.specs.Opened.{OnlyReadsStore}
 use Rattle.geos_shell.specs.Streams.{StopsWriting, WriteCalls}
@@ -19,19 +19,6 @@ use Rattle.document_tools.specs.declared.obstacle.Obstacle.TheVariants.{Unopened
 abbrev pub picture_of : MapFormat → List ℕ → List Part → List Part → ℕ → List ℕ
 picture_of Text = map_text
 picture_of Svg = svg_of
-
--- How a drawing ends whose pieces were gathered, by how the drawing itself did and whether the last write failed: well
--- only where both went well, as a write fault only where that write failed, and by no other fault than the drawing's.
-abbrev pub IsMapEnd : Result (Unit {0}) MapFault → Bool → Result (Unit {0}) MapFault → Type 0
-IsMapEnd drawn failed (Ok v) = (drawn ≡ Ok tt) × (failed ≡ false)
-IsMapEnd drawn failed (Err map_faults.Memory) = ⊤
-IsMapEnd drawn failed (Err map_faults.Write) = failed ≡ true
-IsMapEnd drawn failed (Err fault) = drawn ≡ Err fault
-
--- the cause of a drawing's fault: of a write's this, of others any
-abbrev pub HasMapCause : MapFault → Type 0 → Type 0
-HasMapCause map_faults.Write writing = writing
-HasMapCause fault writing = ⊤
 
 -- what comes of a drawing: it is written, or it isn't, or not whole
 abbrev pub EndsMap : List ℕ → Result (Unit {0}) MapFault → Ending → Type 0

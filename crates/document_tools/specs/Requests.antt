@@ -2,7 +2,7 @@
 use Rattle.std.specs.Prelude.{◌≡◌, ◌⊎◌, ℕ, List, codes, Some, Ok, Err}
 use Rattle.geos_shell.specs.Streams.{WriteCalls}
 use Rattle.geos_shell.specs.declared.streams.WriteFault.{WriteFault}
-use Rattle.document_tools.specs.Endings.{PrintsLine, error_line}
+use Rattle.document_tools.specs.Endings.{PrintsLine, error_line, memory_line}
 use Rattle.document_tools.specs.declared.ending.Ending.TheVariants as endings
 use Rattle.document_commands.specs.declared.requested.NoRequest.{NoRequest}
 use Rattle.document_commands.specs.declared.requested.NoRequest.TheVariants as requests
@@ -27,4 +27,4 @@ PrintsNoRequest out_writes error_writes (requests.Usage text) from to old new st
 PrintsNoRequest out_writes error_writes requests.Unread from to old new status =
     PrintsError error_writes (codes "geosdoc: the command line can't be read\n") from to old new × (status ≡ 2)
 PrintsNoRequest out_writes error_writes requests.Memory from to old new status =
-    PrintsError error_writes (codes "geosdoc: memory\n") from to old new × (status ≡ 1)
+    PrintsError error_writes memory_line from to old new × (status ≡ 1)

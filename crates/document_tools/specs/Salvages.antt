@@ -11,8 +11,8 @@ use Rattle.geos_shell.specs.Streams.{StopsWriting, WriteCalls}
 use Rattle.document_dump.specs.Dumps.{dump_text}
 use Rattle.document_dump.specs.declared.dumping.Which.TheVariants.{Both}
 use Rattle.document_dump.specs.declared.fault.DumpFault.{DumpFault}
-use Rattle.document_dump.specs.declared.fault.DumpFault.TheVariants as dump_faults
 use Rattle.file_salvage.specs.Salvaged.{salvage_text}
+use Rattle.document_tools.specs.DumpedFiles.{EndsFault}
 use Rattle.document_tools.specs.Endings.{IsRefusedFor}
 use Rattle.document_tools.specs.Obstacles.{refusal_line}
 use Rattle.document_tools.specs.Views.{LooksAt, Views}
@@ -29,13 +29,6 @@ dump_or (Err fault) script = script
 abbrev pub file_script : Bool → List ℕ → Option (List ℕ)
 file_script all file = dump_or (stands file) (salvage_text all file)
 
--- How a salvage ends whose pieces were gathered, by how the salvage itself did and whether the last write failed.
-abbrev pub IsSalvageEnd : Result Bool DumpFault → Bool → Result Bool DumpFault → Type 0
-IsSalvageEnd salvaged failed (Ok some) = (salvaged ≡ Ok some) × (failed ≡ false)
-IsSalvageEnd salvaged failed (Err dump_faults.Memory) = ⊤
-IsSalvageEnd salvaged failed (Err dump_faults.Write) = failed ≡ true
-IsSalvageEnd salvaged failed (Err fault) = salvaged ≡ Err fault
-
 -- it is told whether there is a script, and it is written
 abbrev pub HasSalvage : Option (List ℕ) → Bool → Option (List ℕ) → Option (List ℕ) → Type 0
 HasSalvage None some from to = some ≡ false
@@ -45,10 +38,7 @@ HasSalvage (Some script) some from to = (some ≡ true) × Appends from to scrip
 abbrev pub EndsSalvage : List ℕ → Result Bool DumpFault → Ending → Type 0
 EndsSalvage file (Ok true) ending = ending ≡ endings.Done
 EndsSalvage file (Ok false) ending = IsRefusedFor file Unsalvaged ending
-EndsSalvage file (Err dump_faults.Memory) ending = ending ≡ endings.Memory
-EndsSalvage file (Err dump_faults.File) ending = IsRefusedFor file Unread ending
-EndsSalvage file (Err dump_faults.Damaged) ending = IsRefusedFor file Changed ending
-EndsSalvage file (Err dump_faults.Write) ending = ending ≡ endings.WriteFault
+EndsSalvage file (Err fault) ending = EndsFault file fault ending
 
 -- What comes of it for a store, by the script of its bytes: it is written, or there is none, or it isn't written, or
 -- not whole. A write fault is told only where the last write failed, and that a block has changed since it was looked

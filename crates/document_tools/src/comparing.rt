@@ -1,13 +1,13 @@
 //! What differs between the documents of two files.
-ghost use Rattle.std.specs.Prelude.{◌≡◌, IfErr, IfOk, IsTrue};
+ghost use Rattle.std.specs.Prelude.{◌≡◌, IfErr, IfOk, IsErrOf, IsTrue};
 ghost use Rattle.std.specs.Io.KnownBytes.{Appends};
 ghost use Rattle.document_file.specs.Opened.{OnlyReadsStore};
 ghost use Rattle.document_file.specs.StoredDocuments.{OnlyReadsDocuments};
 ghost use Rattle.geos_shell.specs.Streams.{StopsWriting};
 ghost use Rattle.document_diff.specs.Diffs.{TellsSame, diff_text, document_by};
 ghost use Rattle.document_diff.specs.Faults.{IsDiffRefusal};
-ghost use Rattle.document_tools.specs.Endings.{IsUncomparedFor};
-ghost use Rattle.document_tools.specs.Comparisons.{ComparesFiles, ComparesOpen, ComparesStored, ComparesStores, ComparesWith, EndsComparison, EndsUncompared, HasDiffCause, IsDiffEnd, name_of_side};
+ghost use Rattle.document_tools.specs.Endings.{IsEndOfPieces, IsUncomparedFor};
+ghost use Rattle.document_tools.specs.Comparisons.{ComparesFiles, ComparesOpen, ComparesStored, ComparesStores, ComparesWith, EndsComparison, EndsUncompared, name_of_side};
 
 use crate::ending::{Ending, Trouble, uncompared};
 use crate::obstacle::Obstacle;
@@ -30,7 +30,7 @@ pub struct Names<'a> {
 // How a comparison ended whose pieces were gathered, by whether the last write of them failed. A piece that couldn't be
 // written though none failed found no memory.
 fn diff_end(compared: Result<bool, DiffFault>, failed: bool) -> Result<bool, DiffFault>
-    ensures { IsDiffEnd compared failed result }
+    ensures { IsEndOfPieces DiffFault.Memory DiffFault.Write compared failed result }
 {
     match compared {
         Ok(_) if failed => Err(DiffFault::Write),
@@ -51,7 +51,7 @@ fn write_diff<S: Store, W: Sink + Drop>(
     ensures reads_second { OnlyReadsDocuments S.facts second.old second.new }
     ensures fails { IfErr result.1 (IsDiffRefusal (S.facts first.old.store) (S.facts first.new.store)
         (S.facts second.old.store) (S.facts second.new.store)) }
-    ensures cause { IfErr result.1 (λ fault. HasDiffCause fault (∥ StopsWriting W.writes result.0 ∥₁)) }
+    ensures cause { IsErrOf result.1 DiffFault.Write → ∥ StopsWriting W.writes result.0 ∥₁ }
     ensures ok { IfOk result.1 (λ same. IsTrue (S.facts first.old.store).honest
         → IsTrue (S.facts second.old.store).honest
         → Appends (W.contents writer) (W.contents result.0)

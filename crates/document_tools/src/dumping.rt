@@ -1,12 +1,13 @@
 //! A dump: a script that makes documents of a file again.
-ghost use Rattle.std.specs.Prelude.{◌≡◌, IfErr, IsTrue, OnOk};
+ghost use Rattle.std.specs.Prelude.{◌≡◌, IfErr, IsErrOf, IsTrue, OnOk};
 ghost use Rattle.std.specs.Io.KnownBytes.{Appends};
 ghost use Rattle.document_file.specs.Opened.{OnlyReadsStore};
 ghost use Rattle.document_file.specs.StoredDocuments.{OnlyReadsDocuments};
 ghost use Rattle.geos_shell.specs.Streams.{StopsWriting};
 ghost use Rattle.document_dump.specs.Dumps.{dump_text};
 ghost use Rattle.document_dump.specs.Faults.{IsDumpRefusal};
-ghost use Rattle.document_tools.specs.DumpedFiles.{DumpsFile, DumpsOpen, DumpsStore, EndsDump, HasDumpCause, IsDumpEnd};
+ghost use Rattle.document_tools.specs.DumpedFiles.{DumpsFile, DumpsOpen, DumpsStore, EndsDump, EndsFault};
+ghost use Rattle.document_tools.specs.Endings.{IsEndOfPieces};
 
 use crate::ending::{Ending, refused};
 use crate::looking::unopened;
@@ -19,15 +20,15 @@ use geos_shell::Sink;
 use std::alloc::Global;
 use vm_store::Store;
 
-// How a dump ended whose pieces were gathered, by whether the last write of them failed. A piece that couldn't be
-// written though none failed found no memory.
-fn dump_end(dumped: Result<(), DumpFault>, failed: bool) -> Result<(), DumpFault>
-    ensures { IsDumpEnd dumped failed result }
+/// How the making of a script ended whose pieces were gathered, by whether the last write of them failed. A piece that
+/// couldn't be written though none failed found no memory.
+pub(crate) fn script_end<T: Copy>(made: Result<T, DumpFault>, failed: bool) -> Result<T, DumpFault>
+    ensures { IsEndOfPieces DumpFault.Memory DumpFault.Write made failed result }
 {
-    match dumped {
-        Ok(()) if failed => Err(DumpFault::Write),
+    match made {
+        Ok(_) if failed => Err(DumpFault::Write),
         Err(DumpFault::Write) if !failed => Err(DumpFault::Memory),
-        _ => dumped,
+        _ => made,
     }
 }
 
@@ -40,14 +41,26 @@ fn write_dump<S: Store, W: Sink + Drop>(
 ) -> (W, Result<(), DumpFault>)
     ensures reads { OnlyReadsDocuments S.facts file.old file.new }
     ensures fails { IfErr result.1 (IsDumpRefusal (S.facts file.old.store) (S.facts file.new.store)) }
-    ensures cause { IfErr result.1 (λ fault. HasDumpCause fault (∥ StopsWriting W.writes result.0 ∥₁)) }
+    ensures cause { IsErrOf result.1 DumpFault.Write → ∥ StopsWriting W.writes result.0 ∥₁ }
     ensures ok { OnOk result.1 (IsTrue (S.facts file.old.store).honest
         → Appends (W.contents writer) (W.contents result.0) (dump_text which file.old.updated file.old.saved)) }
 {
     let mut pieces = Pieces::new(alloc, writer);
     let dumped = dump(alloc, file, which, &mut pieces);
     let Watched { sink, failed } = pieces.finish();
-    (sink, dump_end(dumped, failed))
+    (sink, script_end(dumped, failed))
+}
+
+/// What comes of a script that isn't written, or not whole.
+pub(crate) fn fault_ending(alloc: Global, name: &str, fault: DumpFault) -> Ending
+    ensures { EndsFault name.now fault result }
+{
+    match fault {
+        DumpFault::Memory => Ending::Memory,
+        DumpFault::File => refused(alloc, name, Obstacle::Unread),
+        DumpFault::Damaged => refused(alloc, name, Obstacle::Changed),
+        DumpFault::Write => Ending::WriteFault,
+    }
 }
 
 // What comes of a dump, by how it ended.
@@ -56,10 +69,7 @@ fn dump_ending(alloc: Global, name: &str, dumped: Result<(), DumpFault>) -> Endi
 {
     match dumped {
         Ok(()) => Ending::Done,
-        Err(DumpFault::Memory) => Ending::Memory,
-        Err(DumpFault::File) => refused(alloc, name, Obstacle::Unread),
-        Err(DumpFault::Damaged) => refused(alloc, name, Obstacle::Changed),
-        Err(DumpFault::Write) => Ending::WriteFault,
+        Err(fault) => fault_ending(alloc, name, fault),
     }
 }
 

@@ -8,6 +8,10 @@ use geos_model::{Bytes, Fault};
 use geos_shell::Sink;
 use std::alloc::Global;
 
+const MEMORY: &[u8] = b"geosdoc: memory\n";
+
+const WRITE_FAULT: &[u8] = b"geosdoc: write fault\n";
+
 /// How a tool ends.
 #[derive(Drop)]
 pub enum Ending {
@@ -44,8 +48,8 @@ impl Trouble {
     {
         match self {
             Trouble::Refused(line) => line.as_slice(),
-            Trouble::Memory => b"geosdoc: memory\n",
-            Trouble::WriteFault => b"geosdoc: write fault\n",
+            Trouble::Memory => MEMORY,
+            Trouble::WriteFault => WRITE_FAULT,
         }
     }
 }
@@ -82,9 +86,9 @@ impl Ending {
         match self {
             Ending::Done | Ending::Unsound | Ending::Different => {}
             Ending::Refused(line) => complain(errors, line.as_slice()),
-            Ending::Memory => complain(errors, b"geosdoc: memory\n"),
+            Ending::Memory => complain(errors, MEMORY),
             Ending::ReadFault => complain(errors, b"geosdoc: read fault\n"),
-            Ending::WriteFault => complain(errors, b"geosdoc: write fault\n"),
+            Ending::WriteFault => complain(errors, WRITE_FAULT),
             Ending::Uncompared(trouble) => complain(errors, trouble.line()),
         }
     }

@@ -5,7 +5,8 @@ ghost use Rattle.document_file.specs.Opened.{OnlyReadsStore};
 ghost use Rattle.geos_shell.specs.Streams.{StopsWriting};
 ghost use Rattle.file_map.specs.Drawn.{IsDrawn};
 ghost use Rattle.file_map.specs.Faults.{IsMapRefusal};
-ghost use Rattle.document_tools.specs.Maps.{EndsMap, HasMapCause, IsMapEnd, MapsFile, MapsStore, picture_of};
+ghost use Rattle.document_tools.specs.Maps.{EndsMap, MapsFile, MapsStore, picture_of};
+ghost use Rattle.document_tools.specs.Endings.{IsEndOfPieces};
 
 use crate::ending::{Ending, refused};
 use crate::obstacle::Obstacle;
@@ -39,7 +40,7 @@ fn draw<S: Store, W: Write>(
 // How a drawing ended whose pieces were gathered, by whether the last write of them failed. A piece that couldn't be
 // written though none failed found no memory.
 fn map_end(drawn: Result<(), MapFault>, failed: bool) -> Result<(), MapFault>
-    ensures { IsMapEnd drawn failed result }
+    ensures { IsEndOfPieces MapFault.Memory MapFault.Write drawn failed result }
 {
     match drawn {
         Ok(()) if failed => Err(MapFault::Write),
@@ -60,7 +61,7 @@ fn draw_to<S: Store, W: Sink + Drop>(
         → IsDrawn (picture_of picture) (S.facts store.old).content (W.contents writer) (W.contents result.0)) }
     ensures file { IsErrOf result.1 MapFault.File → FailedSince (S.facts store.old) (S.facts store.new) }
     ensures refusals { IfErr result.1 (IsMapRefusal (S.facts store.old)) }
-    ensures cause { IfErr result.1 (λ fault. HasMapCause fault (∥ StopsWriting W.writes result.0 ∥₁)) }
+    ensures cause { IsErrOf result.1 MapFault.Write → ∥ StopsWriting W.writes result.0 ∥₁ }
 {
     let mut pieces = Pieces::new(alloc, writer);
     let drawn = draw(alloc, store, picture, &mut pieces);

@@ -22,10 +22,7 @@ pub fn tell_no_request<W: Sink, E: Sink>(none: &NoRequest, out: &mut W, errors: 
             complain(errors, b"geosdoc: the command line can't be read\n");
             2
         }
-        NoRequest::Memory => {
-            complain(errors, b"geosdoc: memory\n");
-            1
-        }
+        NoRequest::Memory => Ending::Memory.tell(errors),
     }
 }
 

@@ -1,13 +1,12 @@
 //! A salvage: a script of all that can be read of a file.
-ghost use Rattle.std.specs.Prelude.{◌≡◌, IfErr, IfOk, IsTrue};
+ghost use Rattle.std.specs.Prelude.{◌≡◌, IfErr, IfOk, IsErrOf, IsTrue};
 ghost use Rattle.document_file.specs.Opened.{OnlyReadsStore};
 ghost use Rattle.geos_shell.specs.Streams.{StopsWriting};
 ghost use Rattle.document_dump.specs.Faults.{IsDumpRefusal};
 ghost use Rattle.file_salvage.specs.Salvaged.{salvage_text};
-ghost use Rattle.document_tools.specs.DumpedFiles.{HasDumpCause};
-ghost use Rattle.document_tools.specs.Salvages.{EndsSalvage, HasSalvage, IsSalvageEnd, Salvages, SalvagesFile, SalvagesUnopened, file_script};
+ghost use Rattle.document_tools.specs.Salvages.{EndsSalvage, HasSalvage, Salvages, SalvagesFile, SalvagesUnopened, file_script};
 
-use crate::dumping::dump_open;
+use crate::dumping::{dump_open, fault_ending, script_end};
 use crate::ending::{Ending, refused};
 use crate::obstacle::Obstacle;
 use crate::pieces::{Pieces, Watched};
@@ -20,18 +19,6 @@ use geos_shell::Sink;
 use std::alloc::Global;
 use vm_store::Store;
 
-// How a salvage ended whose pieces were gathered, by whether the last write of them failed. A piece that couldn't be
-// written though none failed found no memory.
-fn salvage_end(salvaged: Result<bool, DumpFault>, failed: bool) -> Result<bool, DumpFault>
-    ensures { IsSalvageEnd salvaged failed result }
-{
-    match salvaged {
-        Ok(_) if failed => Err(DumpFault::Write),
-        Err(DumpFault::Write) if !failed => Err(DumpFault::Memory),
-        _ => salvaged,
-    }
-}
-
 // Writes the script of what can be read, and gives the writer back. False where there is none.
 fn write_salvage<S: Store, W: Sink + Drop>(
     alloc: Global,
@@ -41,14 +28,14 @@ fn write_salvage<S: Store, W: Sink + Drop>(
 ) -> (W, Result<bool, DumpFault>)
     ensures reads { OnlyReadsStore (S.facts store.old) (S.facts store.new) }
     ensures fails { IfErr result.1 (IsDumpRefusal (S.facts store.old) (S.facts store.new)) }
-    ensures cause { IfErr result.1 (λ fault. HasDumpCause fault (∥ StopsWriting W.writes result.0 ∥₁)) }
+    ensures cause { IsErrOf result.1 DumpFault.Write → ∥ StopsWriting W.writes result.0 ∥₁ }
     ensures ok { IfOk result.1 (λ some. IsTrue (S.facts store.old).honest
         → HasSalvage (salvage_text all (S.facts store.old).content) some (W.contents writer) (W.contents result.0)) }
 {
     let mut pieces = Pieces::new(alloc, writer);
     let salvaged = salvage(alloc, store, all, &mut pieces);
     let Watched { sink, failed } = pieces.finish();
-    (sink, salvage_end(salvaged, failed))
+    (sink, script_end(salvaged, failed))
 }
 
 // What comes of a salvage, by how it ended.
@@ -58,10 +45,7 @@ fn salvage_ending(alloc: Global, name: &str, salvaged: Result<bool, DumpFault>) 
     match salvaged {
         Ok(true) => Ending::Done,
         Ok(false) => refused(alloc, name, Obstacle::Unsalvaged),
-        Err(DumpFault::Memory) => Ending::Memory,
-        Err(DumpFault::File) => refused(alloc, name, Obstacle::Unread),
-        Err(DumpFault::Damaged) => refused(alloc, name, Obstacle::Changed),
-        Err(DumpFault::Write) => Ending::WriteFault,
+        Err(fault) => fault_ending(alloc, name, fault),
     }
 }
 

@@ -3,7 +3,8 @@ use Rattle.std.proofs.Common.{◌≡◌, ◌∙◌, IsTrue, ap}
 use Rattle.geos_shell.specs.Streams.{StopsWriting}
 use Rattle.file_map.specs.Drawn.{IsDrawn}
 use Rattle.document_tools.specs.Maps.{picture_of}
-use Rattle.document_tools.proofs.Looked.{all_drawn, drawn_through, known_empty, map_caused, on_ok}
+use Rattle.file_map.specs.declared.fault.MapFault.TheVariants.{Memory, Write}
+use Rattle.document_tools.proofs.Looked.{all_drawn, caused_by_write, drawn_through, known_empty, on_ok}
 use Rattle.document_tools.proofs.mapping.draw_to.Goals as goal
 
 -- What was drawn in pieces reached the writer.
@@ -19,4 +20,4 @@ returns-clause-text g c =
 
 pub returns-clause-cause : goal.returns-clause-cause
 returns-clause-cause g c =
-    map_caused (StopsWriting g.W.Sink.writes c.finish-sink.result.sink) c.draw-drawn.result c.map_end.result c.finish-sink.result.failed c.finish-sink.result.cause c.map_end.ensures
+    caused_by_write (StopsWriting g.W.Sink.writes c.finish-sink.result.sink) Memory Write c.draw-drawn.result c.map_end.result c.finish-sink.result.failed (λ e. cc (e)) c.finish-sink.result.cause c.map_end.ensures

@@ -4,8 +4,9 @@ use Rattle.std.proofs.lemmas.Result.{IfOk-weaker}
 use Rattle.geos_shell.specs.Streams.{StopsWriting}
 use Rattle.file_salvage.specs.Salvaged.{salvage_text}
 use Rattle.document_tools.specs.Salvages.{HasSalvage}
-use Rattle.document_tools.proofs.Looked.{known_empty}
-use Rattle.document_tools.proofs.SalvageLemmas.{all_salvaged, salvage_caused, salvaged_through}
+use Rattle.document_dump.specs.declared.fault.DumpFault.TheVariants.{Memory, Write}
+use Rattle.document_tools.proofs.Looked.{caused_by_write, known_empty}
+use Rattle.document_tools.proofs.SalvageLemmas.{all_salvaged, salvaged_through}
 use Rattle.document_tools.proofs.salvaging.write_salvage.Goals as goal
 
 -- What was salvaged in pieces reached the writer.
@@ -16,9 +17,9 @@ returns-clause-ok g c =
     let start = append_known (contents first.watched.sink) first.gathered.items in let mid = append_known (contents last.watched.sink) last.gathered.items in
     let begun : start ≡ contents c.args.writer =
     known_empty (contents first.watched.sink) first.gathered.items c.new-pieces.ensures.gathered ∙ ap contents c.new-pieces.ensures.sink in
-    all_salvaged (λ some. IsTrue store.honest → HasSalvage (salvage_text c.args.all store.content) some (contents c.args.writer) (contents end.sink)) c.salvage-salvaged.result c.salvage_end.result end.failed c.salvage_end.ensures
+    all_salvaged (λ some. IsTrue store.honest → HasSalvage (salvage_text c.args.all store.content) some (contents c.args.writer) (contents end.sink)) c.salvage-salvaged.result c.script_end.result end.failed c.script_end.ensures
     (IfOk-weaker c.salvage-salvaged.result _ _ (λ some text well so. salvaged_through (salvage_text c.args.all store.content) some (contents c.args.writer) start mid (contents end.sink) begun (c.finish-sink.ensures well) (text so)) c.salvage-salvaged.ensures.ok)
 
 pub returns-clause-cause : goal.returns-clause-cause
 returns-clause-cause g c =
-    salvage_caused (StopsWriting g.W.Sink.writes c.finish-sink.result.sink) c.salvage-salvaged.result c.salvage_end.result c.finish-sink.result.failed c.finish-sink.result.cause c.salvage_end.ensures
+    caused_by_write (StopsWriting g.W.Sink.writes c.finish-sink.result.sink) Memory Write c.salvage-salvaged.result c.script_end.result c.finish-sink.result.failed (λ e. cc (e)) c.finish-sink.result.cause c.script_end.ensures
