@@ -1,8 +1,9 @@
 #!/bin/sh
 # Needs: file groff man
-# Looks over the pages for newcomers: that the manual pages are in order, that geosvm.1 has the commands of SCRIPT.md, that the magic
-# lines tell a document, that the commands and replies of TUTORIAL.md are those of its scripts, and that what DESIGNING.md and RATTLE.md
-# quote of scripts and of a program stands there. With a program it runs the tutorial's scripts too, on files.
+# Looks over the pages for newcomers: that no page has a line of over 120 columns, that the manual pages are in order, that geosvm.1 has the
+# commands of SCRIPT.md, that the magic lines tell a document, that the commands and replies of TUTORIAL.md are those of its scripts, and
+# that what DESIGNING.md and RATTLE.md quote of scripts and of a program stands there. With a program it runs the tutorial's scripts too, on
+# files.
 #
 #     sh checks/pages_checked.sh [crates/geosvm/out/geosvm]
 set -u
@@ -40,6 +41,15 @@ there() {
 same() {
     told "$1" "" "$(diff "$folder/wanted" "$folder/got")"
 }
+
+# What a build or an installation made is no page of ours. Columns are counted in characters, and all bytes of one but the first are 80 to
+# bf, whatever awk knows of UTF-8. Rows of tables are lines too.
+echo "-- columns"
+find . \( -name out -o -name target -o -name .git \) -prune -o -name '*.md' -print | sort >"$folder/pages"
+told "README.md is among the pages" ./README.md "$(grep -x ./README.md "$folder/pages")"
+told "no page has a line of over 120 columns" "" "$(while read -r page; do
+    LC_ALL=C awk '{ columns = gsub(/[^\200-\277]/, "") } columns > 120 { print FILENAME ":" FNR ", " columns }' "$page"
+done <"$folder/pages")"
 
 echo "-- manual pages"
 if there groff; then
