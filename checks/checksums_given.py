@@ -61,6 +61,17 @@ class Given(Tries):
     def both_dumped(self, one, other):
         return all(dump(self.geosdoc, one, *flags) == dump(self.geosdoc, other, *flags) is not None for flags in ((), ("--saved",)))
 
+    def is_alone(self, path):
+        """One slot alone is open; where it is shut by a bit that flips, the file is refused."""
+        data = bytearray(read(path))
+        gates = [at for at in (4, 516) if data[at] == 1]
+        if len(gates) != 1:
+            return False
+        data[gates[0]] ^= 1
+        write(self.path("shut"), data)
+        told = subprocess.run([self.geosvm, self.path("shut")], input=b"list\n", capture_output=True)
+        return told.returncode != 0 and b"NotDocument" in told.stderr
+
     def new_file(self):
         path, plain = self.path("new"), self.path("plain")
         run([self.geosvm, "--new", "--checksums", path], "")
@@ -88,6 +99,7 @@ class Given(Tries):
                 self.told(f"{what}, {commit}: the same replies", answers[0] == answers[1])
                 self.told(f"{what}, {commit}: the same documents", self.both_dumped(plain, summed))
                 self.told(f"{what}, {commit}: all sums are right", is_summed(read(summed)) and version_of(read(plain)) == 2)
+                self.told(f"{what}, {commit}: the commit before is shut, one behind it isn't", self.is_alone(summed) == (not more))
         run([self.geosvm, summed], "newraw 5 5\nupdate\n")
         self.told(f"{what}: it stays so", is_summed(read(summed)))
 
