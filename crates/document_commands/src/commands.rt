@@ -3,11 +3,11 @@ ghost use Rattle.std.specs.Prelude.{◌≡◌, IfErr, IfOk, IfSome, map, true};
 ghost use Rattle.clap.specs.Words.{app_of, found_of, kind_of, rows_of, subcommand_of, subcommand_rows_of, takes};
 ghost use Rattle.clap.specs.declared.error.kind.ErrorKind.TheVariants.{OutOfMemory};
 ghost use Rattle.document_commands.specs.Arguments.{has_flag_word};
-ghost use Rattle.document_commands.specs.Requests.{IsAskedBy, check_command, diff_command, diff_scope_by, dump_command, dump_scope_by, form_by, geosdoc, map_command, map_format_by, restore_command, salvage_command, salvage_scope_by, stat_command};
+ghost use Rattle.document_commands.specs.Requests.{IsAskedBy, check_command, checksums_by, diff_command, diff_scope_by, dump_command, dump_scope_by, form_by, geosdoc, map_command, map_format_by, restore_command, salvage_command, salvage_scope_by, stat_command};
 
 use crate::arguments::{file_operand, flag, second_operand};
 use crate::requested::{
-    Asked, DiffScope, DumpScope, Form, MapFormat, NoRequest, Request, SalvageScope,
+    Asked, Checksums, DiffScope, DumpScope, Form, MapFormat, NoRequest, Request, SalvageScope,
 };
 use clap::error::ErrorKind;
 use clap::{ArgMatches, Command, Error};
@@ -119,6 +119,7 @@ fn restore_command<'a>(alloc: Global) -> Result<Command<'a>, AllocError>
 {
     Command::new(alloc, "restore")
         .about("Makes a document, in a file that isn't there yet, by a script from standard input")
+        .arg(flag(alloc, "checksums", "With checksums: a file of version 3"))?
         .arg(file_operand(alloc))
 }
 
@@ -138,7 +139,7 @@ fn request_of<'a>(matches: &ArgMatches<'a>) -> Option<Request<'a>>
             Some(Request::Diff(compared(matches), file, second))
         }
         "salvage" => Some(Request::Look(Asked::Salvage(taken(matches)), file)),
-        "restore" => Some(Request::Restore(file)),
+        "restore" => Some(Request::Restore(checksums(matches), file)),
         _ => None,
     }
 }
@@ -182,6 +183,16 @@ fn taken(matches: &ArgMatches<'_>) -> SalvageScope
         SalvageScope::All
     } else {
         SalvageScope::Whole
+    }
+}
+
+fn checksums(matches: &ArgMatches<'_>) -> Checksums
+    ensures { result ≡ checksums_by (rows_of (found_of matches.now)) }
+{
+    if is_set(matches, "checksums") {
+        Checksums::With
+    } else {
+        Checksums::Without
     }
 }
 
