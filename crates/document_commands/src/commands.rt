@@ -65,11 +65,11 @@ fn dump_command<'a>(alloc: Global) -> Result<Command<'a>, AllocError>
 {
     Command::new(alloc, "dump")
         .about("Writes a script that makes the document again: geosdoc restore FILE2 < SCRIPT")
-        .arg(flag(alloc, "saved", "The saved document alone"))?
+        .arg(flag(alloc, "saved", "Writes the saved document alone"))?
         .arg(flag(
             alloc,
             "other",
-            "What the other slot leads to: the commit before",
+            "Writes what the other slot leads to: the commit before",
         )
         .conflicts_with("saved")?)?
         .arg(file_operand(alloc))
@@ -80,7 +80,7 @@ fn stat_command<'a>(alloc: Global) -> Result<Command<'a>, AllocError>
 {
     Command::new(alloc, "stat")
         .about("Counts the file's pages, and the document's blocks, chunks and arrays")
-        .arg(flag(alloc, "json", "As one JSON object"))?
+        .arg(flag(alloc, "json", "Writes one JSON object"))?
         .arg(file_operand(alloc))
 }
 
@@ -89,7 +89,7 @@ fn map_command<'a>(alloc: Global) -> Result<Command<'a>, AllocError>
 {
     Command::new(alloc, "map")
         .about("Draws what lies on the pages of the file, and its heaps")
-        .arg(flag(alloc, "svg", "As SVG, for a browser"))?
+        .arg(flag(alloc, "svg", "Draws it as SVG, for a browser"))?
         .arg(file_operand(alloc))
 }
 
@@ -100,7 +100,7 @@ fn diff_command<'a>(alloc: Global) -> Result<Command<'a>, AllocError>
         .about(
             "Tells what differs between two documents: 0 for nothing, 1 for anything, 2 for a fault",
         )
-        .arg(flag(alloc, "saved", "The saved documents"))?
+        .arg(flag(alloc, "saved", "Compares the saved documents"))?
         .arg(file_operand(alloc))?
         .arg(second_operand(alloc))
 }
@@ -110,7 +110,7 @@ fn salvage_command<'a>(alloc: Global) -> Result<Command<'a>, AllocError>
 {
     Command::new(alloc, "salvage")
         .about("Writes a script of all that can be read of a file that doesn't open")
-        .arg(flag(alloc, "all", "Blocks whose sum is wrong too"))?
+        .arg(flag(alloc, "all", "Takes blocks whose sum is wrong too"))?
         .arg(file_operand(alloc))
 }
 
@@ -119,7 +119,11 @@ fn restore_command<'a>(alloc: Global) -> Result<Command<'a>, AllocError>
 {
     Command::new(alloc, "restore")
         .about("Makes a document, in a file that isn't there yet, by a script from standard input")
-        .arg(flag(alloc, "checksums", "With checksums: a file of version 3"))?
+        .arg(flag(
+            alloc,
+            "checksums",
+            "Makes a file with checksums, of version 3",
+        ))?
         .arg(file_operand(alloc))
 }
 
