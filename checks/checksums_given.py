@@ -1,6 +1,7 @@
 # Needs: python3
 """Gives documents checksums, by `--checksums` of the program: new ones at once, those of versions 1 and 2 by their next commit, whichever
-that is, and the target of a save-as. All sums are looked at by docs/FORMAT.md alone, and bytes of a block are changed while a run is at work.
+that is, the target of a save-as, and what `geosdoc restore --checksums` makes. All sums are looked at by docs/FORMAT.md alone, and bytes of
+a block are changed while a run is at work.
 
     python3 checks/checksums_given.py GEOSVM GEOSDOC [COUNT] [SEED]
 
@@ -14,8 +15,8 @@ import sys
 import tempfile
 
 from dumped_documents import run, slots_of, word
-from salvaged import script_of
-from summed_documents import PAGE, Tries, dump, is_summed, little
+from salvaged import salvage, script_of
+from summed_documents import PAGE, Tries, dump, is_summed, little, with_wrong_sums
 
 # Slot 0 of a first file with checksums, and its directory: docs/FORMAT.md has these bytes.
 FIRST_SLOT = bytes.fromhex("47564d4601030000010000000000000002000000100000000200000010000000367de34c367de34cbc3fa7a7")
@@ -82,6 +83,8 @@ class Given(Tries):
         self.told("a new file without checksums", version_of(read(plain)) == 2 and len(read(plain)) == 1040)
         checked = subprocess.run([self.geosdoc, "check", path], capture_output=True, text=True)
         self.told("a new file: geosdoc tells its version", checked.returncode == 0 and "version 3" in checked.stdout)
+        self.told("a restore of no commit: the same file", read(self.restore("new", "", "--checksums")) == data)
+        self.told("a restore of no commit without checksums", read(self.restore("new", "")) == read(plain))
 
     def given(self, what, old, chance):
         """A file without checksums: what a run without a commit leaves of it, and each commit."""
@@ -116,6 +119,33 @@ class Given(Tries):
             self.told(f"save-as {flags}: all sums of both", made == 2 or is_summed(read(target)) and is_summed(read(source)))
             run([self.geosvm, "--as", again, target], "newraw 4 400\nsaveas\n")
             self.told(f"save-as {flags}: the version goes on", version_of(read(again)) == made and (made == 2 or is_summed(read(again))))
+
+    def restore(self, name, script, *flags):
+        path = self.path(name)
+        if os.path.exists(path):
+            os.remove(path)
+        assert run([self.geosdoc, "restore", *flags, path], script) == "", "a restore tells nothing"
+        return path
+
+    def restored(self, what, old, chance):
+        """A dump and a salvage are restored with checksums and without: to the same documents, and with them where they are asked for."""
+        source, made, damaged = self.path("source"), self.path("made"), self.path("damaged")
+        write(source, old)
+        script = dump(self.geosdoc, source).decode()
+        plain, summed = self.restore("plain", script), self.restore("summed", script, "--checksums")
+        run([self.geosvm, "--new", "--checksums", made], script)
+        self.told(f"{what}, restored: the same documents", self.both_dumped(plain, source) and self.both_dumped(summed, source))
+        self.told(f"{what}, restored: checksums just where they are asked for", is_summed(read(summed)) and version_of(read(plain)) == 2)
+        self.told(f"{what}, restored: what geosvm makes by the script", read(summed) == read(made))
+        if not is_summed(read(summed)):
+            return
+        data, handles = with_wrong_sums(chance, read(summed))
+        write(damaged, data)
+        status, script, told = salvage(self.geosdoc, damaged)
+        self.told(f"{what}: a file with wrong sums is salvaged", (status, told, script.count("# block ")) == (0, "", len(handles)))
+        plain, summed = self.restore("plain", script), self.restore("summed", script, "--checksums")
+        self.told(f"{what}, salvaged: the same documents", self.both_dumped(plain, summed))
+        self.told(f"{what}, salvaged: checksums just where they are asked for", is_summed(read(summed)) and version_of(read(plain)) == 2)
 
     def changed_meanwhile(self):
         """Bytes of a block that isn't in memory are changed under a run: it is told when the block is read."""
@@ -157,6 +187,7 @@ def main():
             tries.given(f"document{i} of version 2", old, chance)
             tries.given(f"document{i} of version 1", as_version_1(old), chance)
             tries.saved_as(old)
+            tries.restored(f"document{i}", old, chance)
     print(f"{tries.passed} passed, {tries.failed} failed")
     sys.exit(tries.failed != 0)
 

@@ -21,6 +21,7 @@ with; no line is refused. A line that begins with `#` is a note. At the left mar
     opens, opens no Damaged              geosdoc check tells that, and geosvm opens it just so; where nothing of the slot that counts
                                          is found it opens, and where something is it doesn't
     finds TEXT                           the check has that line
+    next dump --other, salvage           its last lines name these commands as what can be done, or say this; nothing behind `next`: none does
     overlap: TEXT                        and this one; it has no other ones of overlaps than those that stand here
     dump                                 geosdoc dump writes the lines below that begin with `| `, the file stays as it is, and the dump
                                          makes both documents again, and that of the saved one alone makes this
@@ -227,6 +228,10 @@ class Case:
     def do_finds(self, rest, lines):
         if rest not in self.found:
             raise Wrong(f"wanted {rest!r}, found {self.found}")
+
+    def do_next(self, rest, lines):
+        steps = [line.removeprefix("next: geosdoc ").removeprefix("next: ") for line in self.found if line.startswith("next: ")]
+        expect(rest, ", ".join(step.split(" FILE | geosdoc restore FILE2 makes ")[0] for step in steps), "what can be done")
 
     def do_overlap(self, rest, lines):
         expect("overlap: " + rest, self.overlaps.pop(0) if self.overlaps else None)

@@ -182,6 +182,10 @@ def try_geosdoc(ends, geosdoc):
     with open(ends.path("document"), "rb") as one, open(ends.path("again"), "rb") as other:
         ends.told("geosdoc restore makes what geosvm makes", one.read(), other.read())
     os.remove(ends.path("again"))
+    ends.told("geosdoc restore --checksums", (0, "", ""), ends.run([geosdoc, "restore", "--checksums", "again"], MADE))
+    with open(ends.path("again"), "rb") as made:
+        ends.told("geosdoc restore --checksums makes a file of version 3", 3, made.read()[5])
+    os.remove(ends.path("again"))
 
 
 def try_locks(ends, geosvm, geosdoc):

@@ -1,6 +1,7 @@
 # Needs: python3
 """Makes documents of version 3 of documents of version 2, opens them, edits and saves them, and damages them: each damage must be told, or
-change nothing. Blocks whose sum is wrong must be left out of a salvage, and be in it with `--all`.
+change nothing. Blocks whose sum is wrong must be left out of a salvage, and be in it with `--all`; a line of it tells where the sum of the
+directory is wrong.
 
     python3 checks/summed_documents.py GEOSVM GEOSDOC [COUNT] [SEED]
 
@@ -97,6 +98,14 @@ def listed(data):
     return word(data, start + 8), entries
 
 
+def has_directory_sum(data):
+    """The directory of the updated document has the sum that its slot gives."""
+    slot = max(slots_of(data))[1]
+    at = 0 if data[:32] == slot else 512
+    start, size = PAGE * word(slot, 16, 4), word(slot, 20, 4)
+    return crc32c(data[start:start + size]) == word(data, at + 32, 4)
+
+
 def document_without(data, handles):
     """The updated document but for the blocks of these handles."""
     map_block, entries = listed(data)
@@ -163,6 +172,8 @@ class Tries:
             file.write(data)
         status, script, told = salvage(self.geosdoc, path, *flags)
         assert (status, told) == (0, ""), (status, told)
+        tells = "# its directory's sum is wrong: handles, user IDs, types and the map block may be, too" in script.splitlines()
+        assert tells != has_directory_sum(data), ("the directory's sum", tells)
         return script, {line for line in script.splitlines() if line.startswith("# block ")}
 
     def summed(self, what, chance, old):

@@ -1,5 +1,5 @@
 -- What a match says of the command that it entered, and of its flags.
-use Rattle.std.proofs.Common.{◌≡◌, ◌≢◌, ◌∙◌, ◌&&◌, ◌++◌, ap, Bool, true, false, not, List, [], ◌∷◌, length, Option, Some, None, Result, Ok, Err, refl, sym, subst, codes, arith}
+use Rattle.std.proofs.Common.{◌≡◌, ◌∙◌, ◌&&◌, ◌++◌, ap, Bool, true, false, not, List, [], ◌∷◌, length, Option, Some, None, refl, sym, subst, codes, arith}
 use Rattle.std.specs.Option.{option_map, option_map_or, unwrap_or}
 use Rattle.std.specs.Prelude.{Box}
 use Rattle.std.specs.Borrow.{Bor}
@@ -9,9 +9,9 @@ use Rattle.std.specs.Str.Parse.{ParsesBool}
 use Rattle.std.proofs.lemmas.Bool.{eqb-true}
 use Rattle.std.proofs.lemmas.Slice.Eq.{bytes_eq-Decides}
 use Rattle.clap.specs.Adds.{AddsConflicts}
-use Rattle.clap.specs.Matches.{ReadsOne, first_value, found_of, one_text, subcommand_name_of}
+use Rattle.clap.specs.Matches.{ReadsOne, first_value, one_text, subcommand_name_of}
 use Rattle.clap.specs.Simple.{App, app_of, has_plain_fields, subcommand_rows, subcommand_rows_of}
-use Rattle.clap.specs.Walk.{Row, Rule, first_of, is_empty, is_free_arg, one_of, rows_of, rule_of}
+use Rattle.clap.specs.Walk.{Row, Rule, first_of, is_empty, is_free_arg, rows_of, rule_of}
 use Rattle.clap.specs.Words.{Text}
 use Rattle.clap.specs.declared.builder.arg.Arg.{Arg}
 use Rattle.clap.specs.declared.builder.command.Command.{Command}

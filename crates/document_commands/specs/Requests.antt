@@ -1,9 +1,11 @@
 -- The commands of `geosdoc`.
-use Rattle.std.specs.Prelude.{◌≡◌, true, false, List, [], Option, Some, None, codes, if◌then◌else◌}
+use Rattle.std.specs.Prelude.{◌≡◌, true, false, List, Option, Some, None, codes, if◌then◌else◌}
 use Rattle.clap.specs.Simple.{on_top}
 use Rattle.clap.specs.Words.{App, Row, Rule, Text, first_of, new_app, with_rule, with_subcommand}
 use Rattle.document_commands.specs.Arguments.{file_rule, flag_rule, has_flag_word, second_operand, with_version_flag}
 use Rattle.document_commands.specs.declared.requested.Asked.TheVariants as asked
+use Rattle.document_commands.specs.declared.requested.Checksums.{Checksums}
+use Rattle.document_commands.specs.declared.requested.Checksums.TheVariants as sums
 use Rattle.document_commands.specs.declared.requested.DiffScope.{DiffScope}
 use Rattle.document_commands.specs.declared.requested.DiffScope.TheVariants as scopes
 use Rattle.document_commands.specs.declared.requested.DumpScope.{DumpScope}
@@ -50,9 +52,9 @@ diff_command =
 abbrev pub salvage_command : App
 salvage_command = with_rule (with_rule (new_app (codes "salvage")) (flag_rule (codes "all"))) file_rule
 
--- restore FILE
+-- restore [--checksums] FILE
 abbrev pub restore_command : App
-restore_command = with_rule (new_app (codes "restore")) file_rule
+restore_command = with_rule (with_rule (new_app (codes "restore")) (flag_rule (codes "checksums"))) file_rule
 
 -- a command that does nothing without another one behind it, and tells its help where nothing is behind it
 abbrev pub with_commands_alone : App → App
@@ -81,6 +83,9 @@ map_format_by rows = if has_flag_word (codes "svg") rows then pictures.Svg else 
 abbrev pub salvage_scope_by : List Row → SalvageScope
 salvage_scope_by rows = if has_flag_word (codes "all") rows then takings.All else takings.Whole
 
+abbrev pub checksums_by : List Row → Checksums
+checksums_by rows = if has_flag_word (codes "checksums") rows then sums.With else sums.Without
+
 abbrev pub diff_scope_by : List Row → DiffScope
 diff_scope_by rows = if has_flag_word (codes "saved") rows then scopes.Saved else scopes.Updated
 
@@ -98,7 +103,8 @@ IsAsked name rows (requests.Look (asked.Salvage taken) file) =
 IsAsked name rows (requests.Diff scope file second) =
     (name ≡ codes "diff") × (scope ≡ diff_scope_by rows) × (first_of (codes "file") rows ≡ Some file.now)
     × (first_of (codes "file2") rows ≡ Some second.now)
-IsAsked name rows (requests.Restore file) = (name ≡ codes "restore") × (first_of (codes "file") rows ≡ Some file.now)
+IsAsked name rows (requests.Restore checksums file) =
+    (name ≡ codes "restore") × (checksums ≡ checksums_by rows) × (first_of (codes "file") rows ≡ Some file.now)
 
 -- a command was named, and the request is its
 abbrev pub IsAskedBy : Option (Text × List Row) → Request → Type 0

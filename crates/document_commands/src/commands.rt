@@ -3,11 +3,11 @@ ghost use Rattle.std.specs.Prelude.{◌≡◌, IfErr, IfOk, IfSome, map, true};
 ghost use Rattle.clap.specs.Words.{app_of, found_of, kind_of, rows_of, subcommand_of, subcommand_rows_of, takes};
 ghost use Rattle.clap.specs.declared.error.kind.ErrorKind.TheVariants.{OutOfMemory};
 ghost use Rattle.document_commands.specs.Arguments.{has_flag_word};
-ghost use Rattle.document_commands.specs.Requests.{IsAskedBy, check_command, diff_command, diff_scope_by, dump_command, dump_scope_by, form_by, geosdoc, map_command, map_format_by, restore_command, salvage_command, salvage_scope_by, stat_command};
+ghost use Rattle.document_commands.specs.Requests.{IsAskedBy, check_command, checksums_by, diff_command, diff_scope_by, dump_command, dump_scope_by, form_by, geosdoc, map_command, map_format_by, restore_command, salvage_command, salvage_scope_by, stat_command};
 
 use crate::arguments::{file_operand, flag, second_operand};
 use crate::requested::{
-    Asked, DiffScope, DumpScope, Form, MapFormat, NoRequest, Request, SalvageScope,
+    Asked, Checksums, DiffScope, DumpScope, Form, MapFormat, NoRequest, Request, SalvageScope,
 };
 use clap::error::ErrorKind;
 use clap::{ArgMatches, Command, Error};
@@ -65,11 +65,11 @@ fn dump_command<'a>(alloc: Global) -> Result<Command<'a>, AllocError>
 {
     Command::new(alloc, "dump")
         .about("Writes a script that makes the document again: geosdoc restore FILE2 < SCRIPT")
-        .arg(flag(alloc, "saved", "The saved document alone"))?
+        .arg(flag(alloc, "saved", "Writes the saved document alone"))?
         .arg(flag(
             alloc,
             "other",
-            "What the other slot leads to: the commit before",
+            "Writes what the other slot leads to: the commit before",
         )
         .conflicts_with("saved")?)?
         .arg(file_operand(alloc))
@@ -80,7 +80,7 @@ fn stat_command<'a>(alloc: Global) -> Result<Command<'a>, AllocError>
 {
     Command::new(alloc, "stat")
         .about("Counts the file's pages, and the document's blocks, chunks and arrays")
-        .arg(flag(alloc, "json", "As one JSON object"))?
+        .arg(flag(alloc, "json", "Writes one JSON object"))?
         .arg(file_operand(alloc))
 }
 
@@ -89,7 +89,7 @@ fn map_command<'a>(alloc: Global) -> Result<Command<'a>, AllocError>
 {
     Command::new(alloc, "map")
         .about("Draws what lies on the pages of the file, and its heaps")
-        .arg(flag(alloc, "svg", "As SVG, for a browser"))?
+        .arg(flag(alloc, "svg", "Draws it as SVG, for a browser"))?
         .arg(file_operand(alloc))
 }
 
@@ -100,7 +100,7 @@ fn diff_command<'a>(alloc: Global) -> Result<Command<'a>, AllocError>
         .about(
             "Tells what differs between two documents: 0 for nothing, 1 for anything, 2 for a fault",
         )
-        .arg(flag(alloc, "saved", "The saved documents"))?
+        .arg(flag(alloc, "saved", "Compares the saved documents"))?
         .arg(file_operand(alloc))?
         .arg(second_operand(alloc))
 }
@@ -110,7 +110,7 @@ fn salvage_command<'a>(alloc: Global) -> Result<Command<'a>, AllocError>
 {
     Command::new(alloc, "salvage")
         .about("Writes a script of all that can be read of a file that doesn't open")
-        .arg(flag(alloc, "all", "Blocks whose sum is wrong too"))?
+        .arg(flag(alloc, "all", "Takes blocks whose sum is wrong too"))?
         .arg(file_operand(alloc))
 }
 
@@ -119,6 +119,11 @@ fn restore_command<'a>(alloc: Global) -> Result<Command<'a>, AllocError>
 {
     Command::new(alloc, "restore")
         .about("Makes a document, in a file that isn't there yet, by a script from standard input")
+        .arg(flag(
+            alloc,
+            "checksums",
+            "Makes a file with checksums, of version 3",
+        ))?
         .arg(file_operand(alloc))
 }
 
@@ -138,7 +143,7 @@ fn request_of<'a>(matches: &ArgMatches<'a>) -> Option<Request<'a>>
             Some(Request::Diff(compared(matches), file, second))
         }
         "salvage" => Some(Request::Look(Asked::Salvage(taken(matches)), file)),
-        "restore" => Some(Request::Restore(file)),
+        "restore" => Some(Request::Restore(checksums(matches), file)),
         _ => None,
     }
 }
@@ -182,6 +187,16 @@ fn taken(matches: &ArgMatches<'_>) -> SalvageScope
         SalvageScope::All
     } else {
         SalvageScope::Whole
+    }
+}
+
+fn checksums(matches: &ArgMatches<'_>) -> Checksums
+    ensures { result ≡ checksums_by (rows_of (found_of matches.now)) }
+{
+    if is_set(matches, "checksums") {
+        Checksums::With
+    } else {
+        Checksums::Without
     }
 }
 

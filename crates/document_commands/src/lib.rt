@@ -7,5 +7,5 @@ mod requested;
 
 pub use commands::request;
 pub use requested::{
-    Asked, DiffScope, DumpScope, Form, MapFormat, NoRequest, Request, SalvageScope,
+    Asked, Checksums, DiffScope, DumpScope, Form, MapFormat, NoRequest, Request, SalvageScope,
 };

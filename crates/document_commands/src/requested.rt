@@ -50,6 +50,15 @@ pub enum SalvageScope {
     All,
 }
 
+/// Whether a file that is made has checksums.
+#[derive(Clone, Copy)]
+pub enum Checksums {
+    /// It has none, and is of version 2.
+    Without,
+    /// It has them, and is of version 3.
+    With,
+}
+
 /// Which documents of two files are compared.
 #[derive(Clone, Copy)]
 pub enum DiffScope {
@@ -69,7 +78,7 @@ pub enum Request<'a> {
     /// Documents of the first file and of the second one are to be compared.
     Diff(DiffScope, &'a str, &'a str),
     /// A file is to be made by a script.
-    Restore(&'a str),
+    Restore(Checksums, &'a str),
 }
 
 /// Why words ask for nothing.

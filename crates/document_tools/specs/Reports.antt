@@ -76,11 +76,18 @@ is_standing state = false
 abbrev pub has_other : Report → Bool
 has_other r = is_some (counting_number r.first r.second) && (is_standing r.first || is_standing r.second)
 
+abbrev pub other_step : List ℕ
+other_step = codes "next: geosdoc dump --other FILE | geosdoc restore FILE2 makes the documents of the commit before\n"
+
+abbrev pub salvage_step : List ℕ
+salvage_step =
+    codes "next: geosdoc salvage FILE | geosdoc restore FILE2 makes a document of the blocks that can be read\n"
+
+-- a salvage wherever there is a slot, and before it, where they stand, the documents of the commit before
 abbrev pub step_text : Report → List ℕ
 step_text r =
-    if has_other r then codes "next: geosdoc dump --other FILE | geosdoc restore FILE2 makes the documents of the commit before\n"
-    else if is_marked r.first || is_marked r.second then
-    codes "next: geosdoc salvage FILE | geosdoc restore FILE2 makes a document of the blocks that can be read\n"
+    if has_other r then other_step ++ salvage_step
+    else if is_marked r.first || is_marked r.second then salvage_step
     else codes "next: see whether this is the right file; nothing of a document is where its slots would be\n"
 
 -- nothing where it opens

@@ -1,5 +1,5 @@
 -- A restore: a script makes the document of a file that wasn't there.
-use Rattle.std.specs.Prelude.{◌≡◌, ◌≢◌, ◌⊎◌, ℕ, List, [], ◌++◌, codes, true, false, IsTrue, Option, None, Result, Ok, Err, IfErr, ⊤}
+use Rattle.std.specs.Prelude.{◌≡◌, ◌≢◌, ◌⊎◌, ℕ, List, [], ◌++◌, codes, Bool, true, false, IsTrue, Option, None, Result, Ok, Err, IfErr, ⊤}
 use Rattle.std.specs.Fmt.{decimal}
 use Rattle.vm_store.specs.Facts.{StoreFacts}
 use Rattle.vm_store.specs.Files.{Opener}
@@ -107,20 +107,21 @@ EndsUncreated file fault ending =
     ((fault ≡ Memory) × (ending ≡ endings.Memory))
     ⊎ ((fault ≢ Memory) × IsRefusedFor file (Unmade Failed) ending)
 
--- A document is made in the empty file, and the script is run on it; or there is none, and the file is closed.
-abbrev pub RestoresIn : {F S : Type 0} → Opener F S → (S → StoreFacts) → List ℕ → S → F → Option (List ℕ)
+-- A document is made in the empty file, with checksums or without, and the script is run on it; or there is none, and
+-- the file is closed.
+abbrev pub RestoresIn : {F S : Type 0} → Opener F S → (S → StoreFacts) → List ℕ → Bool → S → F → Option (List ℕ)
     → Option (List ℕ) → Type 0 → Ending → F → Type 0
-RestoresIn {F} {S} calls facts file store old from to reading ending new =
+RestoresIn {F} {S} calls facts file checksums store old from to reading ending new =
     ((fault : Fault) × (left : S) × IsNotCreated facts fault store left × calls.closes old left new
     × EndsUncreated file fault ending × (to ≡ from))
-    ⊎ ((session : SessionState S) × IsCreated facts frames None false store session
+    ⊎ ((session : SessionState S) × IsCreated facts frames None checksums store session
     × RunsScript calls facts file session old from to reading ending new)
 
 -- What a restore comes to. Nothing is opened but what was made before.
-abbrev pub Restores : {F S M : Type 0} → Opener F S → (S → StoreFacts) → MakeCalls M → List ℕ → F → M → F → M
+abbrev pub Restores : {F S M : Type 0} → Opener F S → (S → StoreFacts) → MakeCalls M → List ℕ → Bool → F → M → F → M
     → Option (List ℕ) → Option (List ℕ) → Type 0 → Ending → Type 0
-Restores {F} {S} calls facts makes file old made new makes_on from to reading ending =
+Restores {F} {S} calls facts makes file checksums old made new makes_on from to reading ending =
     ((fault : MakeFault) × MakesNone calls facts makes file old made new makes_on fault
     × IsRefusedFor file (Unmade fault) ending × (to ≡ from))
     ⊎ ((store : S) × (opened : F) × MakesFile calls facts makes file old made store opened makes_on
-    × RestoresIn calls facts file store opened from to reading ending new)
+    × RestoresIn calls facts file checksums store opened from to reading ending new)

@@ -5,6 +5,8 @@ use Rattle.vm_store.specs.Files.{Opener}
 use Rattle.geos_shell.specs.Streams.{ReadCalls, StopsReading, WriteCalls}
 use Rattle.document_commands.specs.declared.requested.Asked.{Asked}
 use Rattle.document_commands.specs.declared.requested.Asked.TheVariants as asked
+use Rattle.document_commands.specs.declared.requested.Checksums.{Checksums}
+use Rattle.document_commands.specs.declared.requested.Checksums.TheVariants as sums
 use Rattle.document_commands.specs.declared.requested.DiffScope.{DiffScope}
 use Rattle.document_commands.specs.declared.requested.DiffScope.TheVariants as scopes
 use Rattle.document_commands.specs.declared.requested.DumpScope.{DumpScope}
@@ -61,6 +63,11 @@ abbrev pub version_of_scope : DiffScope → Version
 version_of_scope scopes.Updated = versions.Updated
 version_of_scope scopes.Saved = versions.Saved
 
+-- a file that is made has checksums
+abbrev pub gives_checksums : Checksums → Bool
+gives_checksums sums.Without = false
+gives_checksums sums.With = true
+
 -- no file is opened but to be read alone, none is made, and no script is read
 abbrev pub OnlyLooks : {V F M R : Type 0} → Machine V F M R → Machine V F M R → Type 0
 OnlyLooks old new = (new.files ≡ old.files) × (new.maker ≡ old.maker) × (new.reader ≡ old.reader)
@@ -78,7 +85,8 @@ CarriesOut views viewed calls facts makes remaining reads contents writes (reque
     from to ending =
     ComparesFiles views viewed contents writes first.now second.now (version_of_scope scope) old.viewer new.viewer from to
     ending × OnlyLooks old new
-CarriesOut views viewed calls facts makes remaining reads contents writes (requests.Restore file) old new from to ending =
-    Restores calls facts makes file.now old.files old.maker new.files new.maker (remaining old.reader)
+CarriesOut views viewed calls facts makes remaining reads contents writes (requests.Restore checksums file) old new
+    from to ending =
+    Restores calls facts makes file.now (gives_checksums checksums) old.files old.maker new.files new.maker (remaining old.reader)
     (remaining new.reader) (StopsReading reads (2 ^ 24) old.reader new.reader) ending
     × (new.viewer ≡ old.viewer) × (to ≡ from)

@@ -4,8 +4,10 @@ ghost use Rattle.document_tools.specs.Reports.{has_other, is_marked, is_standing
 
 use file_report::{Report, SlotState};
 
-const OTHER: &[u8] =
-    b"next: geosdoc dump --other FILE | geosdoc restore FILE2 makes the documents of the commit before\n";
+// The documents of the commit before are whole, but lack the last commit, of which a salvage may have more.
+const OTHER_OR_SALVAGE: &[u8] =
+    b"next: geosdoc dump --other FILE | geosdoc restore FILE2 makes the documents of the commit before\n\
+    next: geosdoc salvage FILE | geosdoc restore FILE2 makes a document of the blocks that can be read\n";
 
 const SALVAGE: &[u8] =
     b"next: geosdoc salvage FILE | geosdoc restore FILE2 makes a document of the blocks that can be read\n";
@@ -41,7 +43,7 @@ fn step_text(report: &Report) -> &'static [u8]
     ensures { result.now ≡ step_text report.now }
 {
     if has_other(report) {
-        OTHER
+        OTHER_OR_SALVAGE
     } else if is_marked(&report.first) || is_marked(&report.second) {
         SALVAGE
     } else {

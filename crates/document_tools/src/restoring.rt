@@ -212,13 +212,14 @@ fn restore_in<F: Files, R: Source>(
     alloc: Global,
     files: &mut F,
     file: &str,
+    checksums: bool,
     store: F::Opened,
     reader: &mut R,
 ) -> Ending
-    ensures { RestoresIn F.calls F.Opened.facts file.now store files.old (R.remaining reader.old)
+    ensures { RestoresIn F.calls F.Opened.facts file.now checksums store files.old (R.remaining reader.old)
         (R.remaining reader.new) (StopsReading R.reads (2 ^ 24) reader.old reader.new) result files.new }
 {
-    match Session::create(alloc, store, FRAMES, false) {
+    match Session::create(alloc, store, FRAMES, checksums) {
         Ok(session) => run_script(alloc, files, file, session, reader),
         Err(refused) => {
             files.close(refused.store);
@@ -227,20 +228,21 @@ fn restore_in<F: Files, R: Source>(
     }
 }
 
-/// Makes a file of a name where none is, and in it the document that a script makes. A line that is refused ends it;
-/// the file is left then as the commits before it made it.
+/// Makes a file of a name where none is, with checksums or without, and in it the document that a script makes. A line
+/// that is refused ends it; the file is left then as the commits before it made it.
 pub fn restore<F: Files, M: MakesNew, R: Source>(
     alloc: Global,
     files: &mut F,
     maker: &mut M,
     file: &str,
+    checksums: bool,
     reader: &mut R,
 ) -> Ending
-    ensures { Restores F.calls F.Opened.facts M.makes file.now files.old maker.old files.new maker.new
+    ensures { Restores F.calls F.Opened.facts M.makes file.now checksums files.old maker.old files.new maker.new
         (R.remaining reader.old) (R.remaining reader.new) (StopsReading R.reads (2 ^ 24) reader.old reader.new) result }
 {
     match make(files, maker, file) {
-        Ok(store) => restore_in(alloc, files, file, store, reader),
+        Ok(store) => restore_in(alloc, files, file, checksums, store, reader),
         Err(fault) => refused(alloc, file, Obstacle::Unmade(fault)),
     }
 }

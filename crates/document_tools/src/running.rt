@@ -4,7 +4,7 @@ ghost use Rattle.document_tools.specs.Endings.{PrintsLine, ending_status, error_
 ghost use Rattle.document_tools.specs.Checks.{ChecksFile};
 ghost use Rattle.document_tools.specs.Comparisons.{ComparesFiles};
 ghost use Rattle.document_tools.specs.Stats.{StatsFile};
-ghost use Rattle.document_tools.specs.Runs.{CarriesOut, DumpsRequested, CarriesOutLook, takes_all, version_of_scope};
+ghost use Rattle.document_tools.specs.Runs.{CarriesOut, DumpsRequested, CarriesOutLook, gives_checksums, takes_all, version_of_scope};
 ghost use Rattle.document_tools.specs.Salvages.{SalvagesFile};
 ghost use Rattle.document_tools.specs.declared.ending.Ending.{Ending};
 
@@ -18,7 +18,7 @@ use crate::restoring::{MakesNew, restore};
 use crate::salvaging::salvage_file;
 use crate::stating::stat_file;
 use crate::viewer::Viewer;
-use document_commands::{Asked, DiffScope, DumpScope, Form, Request, SalvageScope};
+use document_commands::{Asked, Checksums, DiffScope, DumpScope, Form, Request, SalvageScope};
 use document_diff::Version;
 use document_dump::Which;
 use geos_shell::{Sink, Source};
@@ -132,6 +132,15 @@ fn diff_asked<V: Viewer, W: Sink + Drop>(
     }
 }
 
+fn gives_checksums(checksums: Checksums) -> bool
+    ensures { result ≡ gives_checksums checksums }
+{
+    match checksums {
+        Checksums::Without => false,
+        Checksums::With => true,
+    }
+}
+
 fn carry_out<V: Viewer, F: Files, M: MakesNew, R: Source, W: Sink + Drop>(
     alloc: Global,
     request: Request<'_>,
@@ -147,14 +156,15 @@ fn carry_out<V: Viewer, F: Files, M: MakesNew, R: Source, W: Sink + Drop>(
         Request::Diff(scope, first, second) => {
             diff_asked(alloc, &mut machine.viewer, scope, first, second, writer)
         }
-        Request::Restore(file) => {
+        Request::Restore(checksums, file) => {
             let Machine {
                 files,
                 maker,
                 reader,
                 ..
             } = machine;
-            let ending = restore(alloc, files, maker, file, reader);
+            let checksums = gives_checksums(checksums);
+            let ending = restore(alloc, files, maker, file, checksums, reader);
             (writer, ending)
         }
     }

@@ -1,16 +1,15 @@
 -- What stands among the places of a row, and that the whole entries stay where others are taken beside them.
-use Rattle.std.proofs.Common.{All, ◌≡◌, ℕ, suc, ◌+◌, ◌<◌, ◌≤◌, ◌⊎◌, Bool, true, false, cond, ◌==◌, List, [], ◌∷◌, Option, None, Some, is_some, nat_le, get_or, length, slice_index, slice_index_or, refl, sym, ap, subst, ◌∙◌, arith, inl, inr}
+use Rattle.std.proofs.Common.{All, ◌≡◌, ℕ, suc, ◌+◌, ◌<◌, ◌≤◌, ◌⊎◌, Bool, true, false, cond, ◌==◌, List, [], ◌∷◌, Option, None, Some, nat_le, get_or, length, slice_index, slice_index_or, refl, sym, ap, subst, ◌∙◌, arith, inl, inr}
 use Rattle.std.specs.Bool.{⊤}
-use Rattle.std.proofs.lemmas.Bool.{and_from, cases_Bool, cases_lt, cond-false, cond-true, eqb-false, le-leb, leb-true, lt-leb, or_parts}
-use Rattle.std.proofs.lemmas.List.Elements.{All-cons, All-nil, All-weaker}
+use Rattle.std.proofs.lemmas.Bool.{and_cases, and_from, cases_Bool, cases_lt, cond-false, cond-true, eq-eqb, eqb-false, eqb-true, le-leb, leb-true, lt-leb, or_cases, or_left, or_parts, or_right}
+use Rattle.std.proofs.lemmas.List.Elements.{All-cons, All-head, All-nil, All-tail, All-weaker}
 use Rattle.std.proofs.lemmas.List.Folds.{list_all_at}
 use Rattle.std.proofs.lemmas.List.FromFn.{get_or-map-range_with_len}
-use Rattle.file_format.specs.File.{block_of}
 use Rattle.file_format.specs.declared.file.Entry.{Entry}
-use Rattle.file_salvage.specs.Entries.{damage_at, damages, entry_at, entry_count, fits_row, free_among, free_at, free_below, free_beside, free_numbers, free_unsummed, frees_beside, is_taken, taken_at, taken_row, whole_row}
+use Rattle.file_salvage.specs.Entries.{entry_at, fits_row, free_among, free_at, free_below, free_beside, free_numbers, free_unsummed, frees_beside, is_taken, taken_row, whole_row}
 use Rattle.file_salvage.specs.Rows.{IsRow, longest_row}
 use Rattle.file_salvage.specs.declared.flaw.Flaw.{Flaw}
-use Rattle.file_salvage.proofs.EntryLemmas.{damages_count, frees_beside_count, frees_count, image, image_beside, whole_image}
+use Rattle.file_salvage.proofs.EntryLemmas.{frees_beside_count, frees_count}
 use Rattle.file_salvage.proofs.RowLemmas.{is_longest, is_row}
 
 -- One more place in a row.
@@ -40,6 +39,15 @@ all_beside numbers top n most j (i ∷ row) beside few is other =
       all_beside numbers top i (slice_index numbers i) j row beside (omega (arith, is.0, few)) is.3 parts.1,
     )
 
+-- no place can stand beside all of a longest row, or one more would be longer
+not_beside : (numbers : List ℕ) (j : ℕ) → j < length numbers → 1 ≤ slice_index numbers j → slice_index numbers j ≤ 65535 → AreBeside numbers j (longest_row numbers) → ⊥
+not_beside numbers j within some low beside =
+    let n : ℕ = length numbers in
+    let row : List ℕ = longest_row numbers in
+    let more = inserted numbers n 65535 j row (is_row numbers n 65535) within some low beside in
+    let long : length more.0 ≤ length row = is_longest numbers n 65535 more.0 more.1 in
+    absurd (omega (arith, long, more.2))
+
 -- a place that can stand beside all others is in a longest row
 must_have : (numbers : List ℕ) (j : ℕ) → j < length numbers → 1 ≤ slice_index numbers j → slice_index numbers j ≤ 65535
     → ((i : ℕ) → i < length numbers → 1 ≤ slice_index numbers i → (i ≡ j → ⊥) → Beside numbers j i) → is_taken j (longest_row numbers) ≡ true
@@ -49,9 +57,7 @@ must_have numbers j within some low beside = elim (cases_Bool (is_taken j (longe
       let n : ℕ = length numbers in
       let row : List ℕ = longest_row numbers in
       let is : IsRow numbers n 65535 row = is_row numbers n 65535 in
-      let more = inserted numbers n 65535 j row is within some low (all_beside numbers n n 65535 j row beside (omega arith) is other) in
-      let long : length more.0 ≤ length row = is_longest numbers n 65535 more.0 more.1 in
-      absurd (omega (arith, long, more.2))
+      absurd (not_beside numbers j within some low (all_beside numbers n n 65535 j row beside (omega arith) is other))
 ]
 
 -- What holds of each place of a row.
@@ -99,7 +105,72 @@ fits_at numbers row i m fit k d inside = elim (cases_Bool (fits_with numbers i m
   | inr other ↦ (let none = list_all_at (fits_with numbers i m) row k d inside other in absurd (cc (sym fit ∙ none)))
 ]
 
-among : (fit : Bool) (n : ℕ) → 1 ≤ cond fit n 0 → (fit ≡ true) × (cond fit n 0 ≡ n)
+-- what holds of all of a row holds of each that is taken
+pub of_each : (P : ℕ → Type 0) (row : List ℕ) → All P row → (j : ℕ) → is_taken j row ≡ true → P j
+of_each P [] all j holds = absurd (cc holds)
+of_each P (i ∷ row) all j holds = elim (or_cases (i == j) (is_taken j row) holds) as (λ _. P j) [
+  | inl same ↦ subst P (eqb-true i j same) (All-head P i row all)
+  | inr rest ↦ of_each P row (All-tail P i row all) j rest
+]
+
+-- A place that isn't in a longest row can't stand beside one that is.
+
+-- a place of the row is such a one
+abbrev pub Apart : List ℕ → List ℕ → ℕ → ℕ → Type 0
+Apart numbers row i m = (j : ℕ) × (is_taken j row ≡ true) × (fits_with numbers i m j ≡ false)
+
+first_apart : (numbers row : List ℕ) (i m j : ℕ) → fits_with numbers i m j ≡ false → Apart numbers (j ∷ row) i m
+first_apart numbers row i m j wrong = (j, or_left (j == j) (is_taken j row) (eq-eqb j j refl), wrong)
+
+later_apart : (numbers row : List ℕ) (i m k : ℕ) → Apart numbers row i m → Apart numbers (k ∷ row) i m
+later_apart numbers row i m k found = (found.0, or_right (k == found.0) (is_taken found.0 row) found.1, found.2)
+
+pub unfit : (numbers row : List ℕ) (i m : ℕ) → fits_row numbers row i m ≡ false → Apart numbers row i m
+unfit numbers [] i m wrong = absurd (cc wrong)
+unfit numbers (j ∷ row) i m wrong = elim (and_cases (fits_with numbers i m j) (fits_row numbers row i m) wrong) as (λ _. Apart numbers (j ∷ row) i m) [
+  | inl here ↦ first_apart numbers row i m j here
+  | inr rest ↦ later_apart numbers row i m j (unfit numbers row i m rest)
+]
+
+beside_by : (numbers : List ℕ) (i j : ℕ) → (j ≡ i → ⊥) → fits_with numbers i (slice_index numbers i) j ≡ true → Beside numbers i j
+beside_by numbers i j other fit =
+    let x : ℕ = slice_index numbers i in
+    let y : ℕ = slice_index numbers j in
+    elim (cases_lt i j) as (λ _. Beside numbers i j) [
+      | inl less ↦ inr (less, leb-true x y (sym (cond-false (nat_le j i) (nat_le y x) (nat_le x y) (lt-leb j i less)) ∙ fit))
+      | inr most ↦ elim (cases_lt j i) as (λ _. Beside numbers i j) [
+        | inl above ↦ inl (above, leb-true y x (sym (cond-true (nat_le j i) (nat_le y x) (nat_le x y) (le-leb j i most)) ∙ fit))
+        | inr least ↦ (let same : j ≡ i = omega (arith, most, least) in absurd (other same))
+      ]
+    ]
+
+beside_or_apart : (numbers row : List ℕ) (i : ℕ) → is_taken i row ≡ false → AreBeside numbers i row ⊎ Apart numbers row i (slice_index numbers i)
+beside_or_apart numbers [] i other = inl tt
+beside_or_apart numbers (j ∷ row) i other =
+    let x : ℕ = slice_index numbers i in
+    let parts = or_parts (j == i) (is_taken i row) other in
+    elim (cases_Bool (fits_with numbers i x j)) as (λ _. AreBeside numbers i (j ∷ row) ⊎ Apart numbers (j ∷ row) i x) [
+      | inl fit ↦ elim (beside_or_apart numbers row i parts.1) as (λ _. AreBeside numbers i (j ∷ row) ⊎ Apart numbers (j ∷ row) i x) [
+        | inl rest ↦ inl (beside_by numbers i j (eqb-false j i parts.0) fit, rest)
+        | inr found ↦ inr (later_apart numbers row i x j found)
+      ]
+      | inr wrong ↦ inr (first_apart numbers row i x j wrong)
+    ]
+
+pub taken_or_apart : (numbers : List ℕ) (i : ℕ) → i < length numbers → 1 ≤ slice_index numbers i → slice_index numbers i ≤ 65535
+    → (is_taken i (longest_row numbers) ≡ true) ⊎ Apart numbers (longest_row numbers) i (slice_index numbers i)
+taken_or_apart numbers i within some low =
+    let row : List ℕ = longest_row numbers in
+    let x : ℕ = slice_index numbers i in
+    elim (cases_Bool (is_taken i row)) as (λ _. (is_taken i row ≡ true) ⊎ Apart numbers row i x) [
+      | inl holds ↦ inl holds
+      | inr other ↦ elim (beside_or_apart numbers row i other) as (λ _. (is_taken i row ≡ true) ⊎ Apart numbers row i x) [
+        | inl beside ↦ absurd (not_beside numbers i within some low beside)
+        | inr found ↦ inr found
+      ]
+    ]
+
+pub among : (fit : Bool) (n : ℕ) → 1 ≤ cond fit n 0 → (fit ≡ true) × (cond fit n 0 ≡ n)
 among true n some = (refl, refl)
 among false n some = absurd (omega (arith, some))
 
@@ -120,10 +191,10 @@ module _ (bytes : List ℕ) (damages : List (Option Flaw)) where
   abbrev unsummed_at : ℕ → ℕ
   unsummed_at i = free_unsummed i (entry_at bytes i) (slice_index_or damages i None)
 
-  number_at : (i : ℕ) → i < length damages → slice_index numbers i ≡ free_at bytes damages i
+  pub number_at : (i : ℕ) → i < length damages → slice_index numbers i ≡ free_at bytes damages i
   number_at i below = let at : 0 + i ≡ i = omega arith in get_or-map-range_with_len (free_at bytes damages) 0 (length damages) i i 0 below at
 
-  more_at : (i : ℕ) → i < length damages → slice_index more i ≡ free_among numbers row i (unsummed_at i)
+  pub more_at : (i : ℕ) → i < length damages → slice_index more i ≡ free_among numbers row i (unsummed_at i)
   more_at i below = let at : 0 + i ≡ i = omega arith in get_or-map-range_with_len (free_beside bytes damages numbers row) 0 (length damages) i i 0 below at
 
   -- a place of the row has its number still
@@ -167,41 +238,3 @@ module _ (bytes : List ℕ) (damages : List (Option Flaw)) where
       let all = frees_beside_count bytes damages numbers row in
       let kept : slice_index more j ≡ slice_index numbers j = kept_at j (omega (arith, of.0, count)) of.1 (own_fits numbers n 65535 row is k d inside) in
       must_have more j (omega (arith, of.0, count, all)) (omega (arith, of.1, kept)) (omega (arith, of.2, kept)) (λ i below some other. beside_at k d inside kept i (omega (arith, below, all)) some other)
-
--- Each that is taken has its block, and without all each is whole.
-
-sound : (i : ℕ) (e : Entry) (damage : Option Flaw) → 1 ≤ free_below i e damage → damage ≡ None
-sound i e None some = refl
-sound i e (Some flaw) some = absurd (omega (arith, some))
-
-module _ (file : List ℕ) (version : ℕ) (bytes : List ℕ) where
-  abbrev found : List (Option Flaw)
-  found = damages file version bytes
-
-  pub whole_taken : All (λ i. damage_at file version bytes i ≡ None) (taken_row false bytes (damages file version bytes))
-  whole_taken = λ k d inside.
-      let numbers : List ℕ = free_numbers bytes found in
-      let i : ℕ = get_or (whole_row bytes found) k d in
-      let of : InRow numbers (length numbers) 65535 i = in_row numbers (length numbers) 65535 _ (is_row numbers (length numbers) 65535) k d inside in
-      let at : 0 + i ≡ i = omega arith in
-      let count = damages_count file version bytes in
-      let both = frees_count bytes found in
-      let free : slice_index numbers i ≡ free_at bytes found i = get_or-map-range_with_len (free_at bytes found) 0 (length found) i i 0 (omega (arith, of.0, both)) at in
-      let is : slice_index_or found i None ≡ damage_at file version bytes i = get_or-map-range_with_len (damage_at file version bytes) 0 (entry_count bytes) i i None (omega (arith, of.0, both, count)) at in
-      sym is ∙ sound i (entry_at bytes i) (slice_index_or found i None) (subst (λ (n : ℕ). 1 ≤ n) free of.1)
-
-  row_had : (numbers : List ℕ) → length numbers ≡ length found → ((i : ℕ) → i < entry_count bytes → 1 ≤ slice_index numbers i → 1 ≤ free_unsummed i (entry_at bytes i) (slice_index_or found i None))
-      → All (λ i. is_some (block_of file (taken_at bytes found i)) ≡ true) (longest_row numbers)
-  row_had numbers count images = λ k d inside.
-      let i : ℕ = get_or (longest_row numbers) k d in
-      let of : InRow numbers (length numbers) 65535 i = in_row numbers (length numbers) 65535 _ (is_row numbers (length numbers) 65535) k d inside in
-      let all = damages_count file version bytes in
-      let below : i < entry_count bytes = omega (arith, of.0, count, all) in
-      image file version bytes i below (images i below of.1)
-
-  pub taken_had : (all : Bool) → All (λ i. is_some (block_of file (taken_at bytes (damages file version bytes) i)) ≡ true) (taken_row all bytes (damages file version bytes))
-  taken_had false = row_had (free_numbers bytes found) (frees_count bytes found) (whole_image file version bytes)
-  taken_had true =
-      let numbers : List ℕ = free_numbers bytes found in
-      let row : List ℕ = whole_row bytes found in
-      row_had (frees_beside bytes found numbers row) (frees_beside_count bytes found numbers row) (image_beside file version bytes numbers row)

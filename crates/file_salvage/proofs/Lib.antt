@@ -1,5 +1,6 @@
 pub mod BesideLemmas
 pub mod EntryLemmas
+pub mod LawsLemmas
 pub mod PlaceLemmas
 pub mod RowLemmas
 pub mod ScriptLemmas

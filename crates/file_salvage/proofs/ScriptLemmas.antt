@@ -18,7 +18,7 @@ use Rattle.document_dump.specs.declared.fault.DumpFault.{DumpFault}
 use Rattle.document_dump.specs.declared.fault.DumpFault.TheVariants as faults
 use Rattle.file_salvage.specs.Entries.{all_notes, damages, taken_entries}
 use Rattle.file_salvage.specs.Places.{salvaged_place}
-use Rattle.file_salvage.specs.Salvaged.{IsNoteFault, IsSalvage, directory_bytes_at, map_kept, map_note, map_of, notes_of, place_note, salvage_text, damages_of, salvaged_entries, script_of}
+use Rattle.file_salvage.specs.Salvaged.{IsNoteFault, IsSalvage, directory_bytes_at, head_note, map_kept, map_note, map_of, notes_of, salvage_text, damages_of, salvaged_entries, script_of}
 use Rattle.file_salvage.specs.declared.place.Place.{Place}
 use Rattle.file_salvage.proofs.EntryLemmas.{Numbered, entries_have}
 
@@ -31,16 +31,17 @@ listed_document : (file : List ℕ) (map_block : ℕ) (es : List Entry) → HasB
 listed_document file map_block es has = document_some map_block (blocks_of_entries file es) has
 
 -- the parts of a script, one after another
-pub scripted : (all : Bool) (file : List ℕ) (p : Place) (from one two three to : Option (List ℕ)) → Appends from one (place_note p)
+pub scripted : (all : Bool) (file : List ℕ) (p : Place) (from one two three to : Option (List ℕ)) → Appends from one (head_note p (directory_bytes_at file p))
     → Appends one two (all_notes all (directory_bytes_at file p) (damages_of file p))
     → Appends two three (map_note (map_of file p) (map_kept (map_of file p) (salvaged_entries all file p)))
     → ((d : Document) → IsListedAs file (map_kept (map_of file p) (salvaged_entries all file p)) (salvaged_entries all file p) d → Appends three to (saved_text d))
     → IsSalvage (script_of all file p) true from to
 scripted all file p from one two three to a b c dumped =
+    let head = head_note p (directory_bytes_at file p) in
     let lines = all_notes all (directory_bytes_at file p) (damages_of file p) in
     let map_line = map_note (map_of file p) (map_kept (map_of file p) (salvaged_entries all file p)) in
     let d = listed_document file (map_kept (map_of file p) (salvaged_entries all file p)) (salvaged_entries all file p) (entries_have file p.version (directory_bytes_at file p) all) in
-    let before : Appends from three (notes_of all file p) = Appends-trans from two three (place_note p ++ lines) map_line (Appends-trans from one two (place_note p) lines a b) c in
+    let before : Appends from three (notes_of all file p) = Appends-trans from two three (head ++ lines) map_line (Appends-trans from one two head lines a b) c in
     let whole : Appends from to (notes_of all file p ++ saved_text d.0) = Appends-trans from three to (notes_of all file p) (saved_text d.0) before (dumped d.0 d.1) in
     subst (λ (o : Option (List ℕ)). IsSalvage o true from to) (sym (ap (option_map (λ x. notes_of all file p ++ saved_text x)) d.1)) (refl, whole)
 
@@ -57,7 +58,7 @@ refused_by_note a b fault (inr write) = rw write tt
 
 -- the same, by what was read
 pub written : (all : Bool) (file : List ℕ) (p : Place) (bytes : List ℕ) (es : List Entry) (map_block kept : ℕ) (from one two three to : Option (List ℕ)) → bytes ≡ directory_bytes_at file p
-    → es ≡ taken_entries all bytes (damages file p.version bytes) → map_block ≡ word_at bytes 8 → kept ≡ map_kept map_block es → Appends from one (place_note p)
+    → es ≡ taken_entries all bytes (damages file p.version bytes) → map_block ≡ word_at bytes 8 → kept ≡ map_kept map_block es → Appends from one (head_note p bytes)
     → Appends one two (all_notes all bytes (damages file p.version bytes)) → Appends two three (map_note map_block kept) → ((d : Document) → IsListedAs file kept es d → Appends three to (saved_text d))
     → IsSalvage (script_of all file p) true from to
 written all file p bytes es map_block kept from one two three to bytes_is es_is map_is kept_is a b c dumped =
@@ -65,7 +66,7 @@ written all file p bytes es map_block kept from one two three to bytes_is es_is 
     let es_are : es ≡ whole = es_is ∙ ap (λ (x : List ℕ). taken_entries all x (damages file p.version x)) bytes_is in
     let map_now : map_block ≡ map_of file p = map_is ∙ ap (λ (x : List ℕ). word_at x 8) bytes_is in
     let kept_now : kept ≡ map_kept (map_of file p) whole = kept_is ∙ ap₂ map_kept map_now es_are in
-    scripted all file p from one two three to a (subst (λ (x : List ℕ). Appends one two (all_notes all x (damages file p.version x))) bytes_is b)
+    scripted all file p from one two three to (subst (λ (x : List ℕ). Appends from one (head_note p x)) bytes_is a) (subst (λ (x : List ℕ). Appends one two (all_notes all x (damages file p.version x))) bytes_is b)
     (subst (λ (k : ℕ). Appends two three (map_note (map_of file p) k)) kept_now (subst (λ (m : ℕ). Appends two three (map_note m kept)) map_now c))
     (λ d listed. dumped d (subst (λ (e : List Entry). IsListedAs file kept e d) (sym es_are) (subst (λ (k : ℕ). IsListedAs file k whole d) (sym kept_now) listed)))
 

@@ -112,11 +112,12 @@ has_handle h entries = list_any (λ e. e.handle.0 == h) entries
 abbrev pub is_taken : ℕ → List ℕ → Bool
 is_taken i row = list_any (λ j. j == i) row
 
--- what is wrong with the block of the entry at a place: it isn't whole, or isn't taken, or is taken without its sum
-abbrev pub flaw_beside : List ℕ → ℕ → Option Flaw → Option Flaw
-flaw_beside row i None = if is_taken i row then None else Some flaws.Order
-flaw_beside row i (Some flaws.Sum) = Some (if is_taken i row then flaws.Taken else flaws.Sum)
-flaw_beside row i (Some flaw) = Some flaw
+-- what is wrong with the block of an entry that is taken or isn't: it isn't whole, or isn't taken, or is taken without
+-- its sum
+abbrev pub flaw_beside : Bool → Option Flaw → Option Flaw
+flaw_beside is_taken None = if is_taken then None else Some flaws.Order
+flaw_beside is_taken (Some flaws.Sum) = Some (if is_taken then flaws.Taken else flaws.Sum)
+flaw_beside is_taken (Some flaw) = Some flaw
 
 abbrev pub flaw_words : Flaw → List ℕ
 flaw_words flaws.Entry = codes " is left out: its entry is damaged\n"
@@ -132,7 +133,7 @@ note_of h (Some flaw) = codes "# block" ++ 32 ∷ four_digits h ++ flaw_words fl
 
 abbrev pub note_at : List ℕ → List (Option Flaw) → List ℕ → ℕ → List ℕ
 note_at bytes damages row i =
-    note_of (entry_at bytes i).handle.0 (flaw_beside row i (slice_index_or damages i None))
+    note_of (entry_at bytes i).handle.0 (flaw_beside (is_taken i row) (slice_index_or damages i None))
 
 -- the lines of the first n entries
 unfoldable pub notes : List ℕ → List (Option Flaw) → List ℕ → ℕ → List ℕ

@@ -6,7 +6,7 @@ use Rattle.geos_model.specs.Words.{word_at}
 use Rattle.file_format.specs.File.{bytes_in, directory_mark, entry_start, is_version, is_version_in, longest_directory, slot_of}
 use Rattle.file_format.specs.declared.file.Extent.{Extent}
 use Rattle.file_format.specs.declared.file.Slot.{Slot}
-use Rattle.file_report.specs.Findings.{directory_extent}
+use Rattle.file_report.specs.Findings.{directory_extent, directory_sum}
 use Rattle.file_report.specs.declared.finding.Named.{Named}
 use Rattle.file_report.specs.declared.finding.Named.TheVariants.{Updated, Saved}
 use Rattle.file_salvage.specs.declared.place.Place.{Place}
@@ -14,7 +14,13 @@ use Rattle.file_salvage.specs.declared.place.Place.{Place}
 -- the directory of one of a slot's documents, of the second slot or the first
 abbrev pub place_in_slot : Bool → Slot → Named → Place
 place_in_slot second s name =
-    record { second = second; name = name; version = s.version; extent = directory_extent s name }
+    record {
+      second = second;
+      name = name;
+      version = s.version;
+      extent = directory_extent s name;
+      sum = directory_sum s name;
+    }
 
 -- the first bytes of an extent, as many as a directory's header has
 abbrev pub head_of : Extent → Extent

@@ -4,7 +4,7 @@ use Rattle.std.specs.Prelude.{◌≡◌, ◌⊎◌, ℕ, List, [], ◌∷◌, �
 use Rattle.std.specs.Io.KnownBytes.{Appends}
 use Rattle.std.specs.Option.{option_and_then, option_map}
 use Rattle.geos_model.specs.Document.{Document}
-use Rattle.file_format.specs.File.{bytes_in, document_of}
+use Rattle.file_format.specs.File.{bytes_in, document_of, has_sum}
 use Rattle.geos_model.specs.Words.{word_at}
 use Rattle.file_format.specs.declared.file.Entry.{Entry}
 use Rattle.geos_model.specs.Script.{four_digits}
@@ -43,13 +43,22 @@ salvaged_document all file p =
     document_of file
     (listing (map_kept (map_of file p) (salvaged_entries all file p)) (salvaged_entries all file p))
 
--- Lines before its script: of which document it is, which blocks are left out or taken without their sum, and whether
--- the map block is left out.
+-- Lines before its script: of which document it is, whether the directory's sum is wrong, which blocks are left out or
+-- taken without their sum, and whether the map block is left out.
 
 abbrev pub place_note : Place → List ℕ
 place_note p =
     codes "# what can be read of the " ++ name_text p.name
     ++ (if p.second then codes " document of slot 1\n" else codes " document of slot 0\n")
+
+-- where the bytes of a directory haven't the sum that its slot gives
+abbrev pub sum_note : Option ℕ → List ℕ → List ℕ
+sum_note sum bytes =
+    if has_sum sum bytes then []
+    else codes "# its directory's sum is wrong: handles, user IDs, types and the map block may be, too\n"
+
+abbrev pub head_note : Place → List ℕ → List ℕ
+head_note p bytes = place_note p ++ sum_note p.sum bytes
 
 abbrev pub lost_map : ℕ → List ℕ
 lost_map map_block = codes "# map block" ++ 32 ∷ four_digits map_block ++ codes " is left out\n"
@@ -59,7 +68,7 @@ map_note map_block kept = if map_block == kept then [] else lost_map map_block
 
 abbrev pub notes_of : Bool → List ℕ → Place → List ℕ
 notes_of all file p =
-    place_note p ++ all_notes all (directory_bytes_at file p) (damages_of file p)
+    head_note p (directory_bytes_at file p) ++ all_notes all (directory_bytes_at file p) (damages_of file p)
     ++ map_note (map_of file p) (map_kept (map_of file p) (salvaged_entries all file p))
 
 -- the script of what a directory has, with those lines

@@ -1,5 +1,5 @@
 //! Which entries of a directory are whole, and which are taken.
-ghost use Rattle.std.specs.Prelude.{◌≡◌, ◌++◌, ◌<◌, ◌≤◌, All, IfErr, IfOk, IsErrOf, IsTrue, OnOk, is_some, length, map};
+ghost use Rattle.std.specs.Prelude.{◌≡◌, ◌++◌, ◌<◌, ◌≤◌, ℕ, All, IfErr, IfOk, IsErrOf, IsTrue, OnOk, false, get_or, is_some, length, map};
 ghost use Rattle.std.specs.Io.KnownBytes.{Appends};
 ghost use Rattle.vm_store.specs.Facts.{FailedSince};
 ghost use Rattle.file_format.specs.Reading.{IsResourceFault, OnlyReadsStore};
@@ -307,19 +307,26 @@ pub fn has_handle(handle: u16, entries: &[Entry]) -> bool
     entries.iter().any(|entry| entry.handle.0 == handle)
 }
 
-fn is_taken(i: usize, row: &[usize]) -> bool
-    ensures { result ≡ is_taken i row.now }
+// Of each of so many entries whether it is taken.
+fn taken_marks(alloc: Global, count: usize, row: &[usize]) -> Result<Vec<bool>, AllocError>
+    requires { All (λ i. i < count) row.now }
+    ensures count { IfOk result (λ marks. length marks.items ≡ count) }
+    ensures marks { IfOk result (λ marks. (i : ℕ) → i < count → get_or marks.items i false ≡ is_taken i row.now) }
 {
-    row.iter().any(|place| *place == i)
+    let mut marks = vec![in alloc; false; count]?;
+    for place in row {
+        marks[*place] = true;
+    }
+    Ok(marks)
 }
 
-fn flaw_beside(row: &[usize], i: usize, damage: Option<Flaw>) -> Option<Flaw>
-    ensures { result ≡ flaw_beside row.now i damage }
+fn flaw_beside(is_taken: bool, damage: Option<Flaw>) -> Option<Flaw>
+    ensures { result ≡ flaw_beside is_taken damage }
 {
     match damage {
-        None if is_taken(i, row) => None,
+        None if is_taken => None,
         None => Some(Flaw::Order),
-        Some(Flaw::Sum) if is_taken(i, row) => Some(Flaw::Taken),
+        Some(Flaw::Sum) if is_taken => Some(Flaw::Taken),
         Some(_) => damage,
     }
 }
@@ -359,13 +366,15 @@ fn send_notes<W: Write>(
     row: &[usize],
     writer: &mut W,
 ) -> Result<(), DumpFault>
-    requires { length damages.now ≡ entry_count bytes.now }
+    requires count { length damages.now ≡ entry_count bytes.now }
+    requires within { All (λ i. i < length damages.now) row.now }
     ensures err { IfErr result IsNoteFault }
     ensures ok { OnOk result (Appends (W.contents writer.old) (W.contents writer.new)
         (notes bytes.now damages.now row.now (length damages.now))) }
 {
+    let marks = taken_marks(alloc, damages.len(), row)?;
     for i in 0..damages.len() {
-        let flaw = flaw_beside(row, i, damages[i]);
+        let flaw = flaw_beside(marks[i], damages[i]);
         send_note(alloc, entry_at(bytes, i), flaw, writer)?;
     }
     Ok(())

@@ -12,4 +12,6 @@ pub struct Place {
     /// The version of the slot.
     pub version: u8,
     pub extent: Extent,
+    /// The sum that the slot gives of it, none but in version 3.
+    pub sum: Option<u32>,
 }

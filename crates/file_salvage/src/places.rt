@@ -3,6 +3,7 @@ ghost use Rattle.std.specs.Prelude.{◌≡◌, ◌≤◌, IfErr, IfOk, IfSome, I
 ghost use Rattle.vm_store.specs.Facts.{FailedSince};
 ghost use Rattle.file_format.specs.File.{bytes_in, longest_directory};
 ghost use Rattle.file_format.specs.Reading.{IsResourceFault, OnlyReadsStore};
+ghost use Rattle.file_report.specs.Findings.{directory_sum};
 ghost use Rattle.file_salvage.specs.Places.{head_of, if_readable, is_header, is_place, is_second_first, place_in_slot, readable_in, readable_of, salvaged_place};
 
 use crate::place::Place;
@@ -16,6 +17,17 @@ use geos_model::Fault;
 use std::alloc::Global;
 use vm_store::Store;
 
+// The sum of the directory of one of a slot's documents, if there is one.
+fn directory_sum(slot: Slot, name: Named) -> Option<u32>
+    ensures { result ≡ directory_sum slot name }
+{
+    let sums = slot.sums?;
+    match name {
+        Named::Updated => Some(sums.working),
+        Named::Saved => Some(sums.saved),
+    }
+}
+
 fn place_of(second: bool, slot: Slot, name: Named) -> Place
     ensures { result ≡ place_in_slot second slot name }
 {
@@ -27,6 +39,7 @@ fn place_of(second: bool, slot: Slot, name: Named) -> Place
             Named::Updated => slot.working,
             Named::Saved => slot.saved,
         },
+        sum: directory_sum(slot, name),
     }
 }
 

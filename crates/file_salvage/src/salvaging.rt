@@ -5,14 +5,14 @@ ghost use Rattle.geos_model.specs.Words.{word_at};
 ghost use Rattle.file_format.specs.Reading.{OnlyReadsStore};
 ghost use Rattle.document_dump.specs.Faults.{IsDumpRefusal};
 ghost use Rattle.file_salvage.specs.Places.{is_place};
-ghost use Rattle.file_salvage.specs.Salvaged.{IsNoteFault, IsSalvage, lost_map, map_kept, map_note, place_note, salvage_text, script_of};
+ghost use Rattle.file_salvage.specs.Salvaged.{IsNoteFault, IsSalvage, head_note, lost_map, map_kept, map_note, place_note, salvage_text, script_of, sum_note};
 
 use crate::entries::{Listing, has_handle, send, take_entries};
 use crate::place::Place;
 use crate::places::{find_place, read_place};
 use byteorder::{ByteOrder, LittleEndian};
 use document_dump::{DumpFault, dump_entries};
-use file_format::{Entry, read_length};
+use file_format::{Entry, has_sum, read_length};
 use file_report::Named;
 use geos_model::VmHandle;
 use geos_script::{Word, push_words};
@@ -33,6 +33,25 @@ fn push_place_note(out: &mut Vec<u8>, place: Place) -> Result<(), AllocError>
     } else {
         out.extend_from_slice(b" document of slot 0\n")
     }
+}
+
+fn push_sum_note(out: &mut Vec<u8>, sum: Option<u32>, bytes: &[u8]) -> Result<(), AllocError>
+    ensures { OnOk result (out.new.items ≡ out.old.items ++ sum_note sum bytes.now) }
+{
+    if has_sum(sum, bytes) {
+        return Ok(());
+    }
+    out.extend_from_slice(
+        b"# its directory's sum is wrong: handles, user IDs, types and the map block may be, too\n",
+    )
+}
+
+// Of which document a directory of these bytes is, and whether its sum is wrong.
+fn push_head_note(out: &mut Vec<u8>, place: Place, bytes: &[u8]) -> Result<(), AllocError>
+    ensures { OnOk result (out.new.items ≡ out.old.items ++ head_note place bytes.now) }
+{
+    push_place_note(out, place)?;
+    push_sum_note(out, place.sum, bytes)
 }
 
 // The map block of a directory, 0 where there is none.
@@ -70,12 +89,17 @@ fn push_map_note(out: &mut Vec<u8>, map_block: u16, kept: u16) -> Result<(), All
     push_lost_map(out, map_block)
 }
 
-fn send_place_note<W: Write>(alloc: Global, place: Place, writer: &mut W) -> Result<(), DumpFault>
+fn send_head_note<W: Write>(
+    alloc: Global,
+    place: Place,
+    bytes: &[u8],
+    writer: &mut W,
+) -> Result<(), DumpFault>
     ensures err { IfErr result IsNoteFault }
-    ensures ok { OnOk result (Appends (W.contents writer.old) (W.contents writer.new) (place_note place)) }
+    ensures ok { OnOk result (Appends (W.contents writer.old) (W.contents writer.new) (head_note place bytes.now)) }
 {
     let mut note = Vec::new(alloc);
-    push_place_note(&mut note, place)?;
+    push_head_note(&mut note, place, bytes)?;
     send(note.as_slice(), writer)?;
     Ok(())
 }
@@ -114,7 +138,7 @@ fn salvage_place<S: Store, W: Write>(
 {
     let directory = read_place(alloc, store, file_length, place)?;
     let bytes = directory.as_slice();
-    send_place_note(alloc, place, writer)?;
+    send_head_note(alloc, place, bytes, writer)?;
     let listing = Listing {
         file_version: place.version,
         file_length,
@@ -130,9 +154,9 @@ fn salvage_place<S: Store, W: Write>(
 }
 
 /// Writes a script of commands that makes all blocks anew that are whole in a file, whether or not it opens, with lines
-/// before it that tell which are left out. With `all` those are taken too whose image can be read and hasn't its sum,
-/// and a line tells of each. False where no directory can be read; then nothing is written. Nothing is written to the
-/// store. The writer gets many short pieces, so it should be buffered.
+/// before it that tell which are left out, and whether the directory's sum is wrong. With `all` those are taken too whose
+/// image can be read and hasn't its sum, and a line tells of each. False where no directory can be read; then nothing is
+/// written. Nothing is written to the store. The writer gets many short pieces, so it should be buffered.
 pub fn salvage<S: Store, W: Write>(
     alloc: Global,
     store: &mut S,

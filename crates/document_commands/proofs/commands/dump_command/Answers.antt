@@ -4,7 +4,6 @@ use Rattle.clap.specs.Simple.{app_of_fields}
 use Rattle.clap.specs.Words.{app_of, new_app, with_rule}
 use Rattle.clap.specs.declared.builder.arg.Arg.{Arg}
 use Rattle.document_commands.specs.Arguments.{flag_rule}
-use Rattle.document_commands.specs.Requests.{exclusive_flag}
 use Rattle.document_commands.proofs.Entered.{exclusive}
 use Rattle.document_commands.proofs.commands.dump_command.Goals as goal
 

@@ -1,4 +1,3 @@
-use Rattle.std.proofs.Common.{codes}
 use Rattle.clap.specs.Words.{found_of, rows_of}
 use Rattle.document_commands.proofs.Entered.{asked_by, file_named, second_named}
 use Rattle.document_commands.proofs.commands.request_of.Goals as goal
@@ -31,7 +30,7 @@ returns-in-salvage c =
 pub returns-in-restore : goal.returns-in-restore
 returns-in-restore c =
     let f = found_of c.in_ok-name.matches.now in
-    asked_by c.args.matches.now c.in_ok-name.name.now (rows_of f) _ c.in_ok-name.ensures.name c.in_ok-name.ensures.rows (c.in-restore.is, file_named f c.in_ok-file.file.now c.in_ok-file.ensures)
+    asked_by c.args.matches.now c.in_ok-name.name.now (rows_of f) _ c.in_ok-name.ensures.name c.in_ok-name.ensures.rows (c.in-restore.is, c.checksums.ensures, file_named f c.in_ok-file.file.now c.in_ok-file.ensures)
 
 pub returns-in_ok-second-in-diff : goal.returns-in_ok-second-in-diff
 returns-in_ok-second-in-diff c =

@@ -1,4 +1,4 @@
-use Rattle.std.proofs.Common.{◌≡◌, ◌<◌, ℕ, List, Option, None, length, ap, ap₂, subst, sym, ◌∙◌, arith}
+use Rattle.std.proofs.Common.{◌≡◌, ◌<◌, ℕ, Bool, false, List, Option, None, length, ap₂, subst, sym, ◌∙◌, arith}
 use Rattle.std.proofs.KnownBytes.{Appends-nil, Appends-trans}
 use Rattle.std.proofs.lemmas.List.{get_or_default}
 use Rattle.std.specs.Io.KnownBytes.{Appends}
@@ -23,8 +23,11 @@ loop-i-preserved g c =
     let mid = g.W.Write.contents c.loop-i.writer in
     let to = g.W.Write.contents c.send_note.new.writer in
     let below : i < length damages = omega arith in
+    let count = c.in_ok-marks.ensures.count in
+    let marked = c.index.ensures ∙ get_or_default c.in_ok-marks.marks.items i _ false (omega (arith, below, count)) ∙ c.in_ok-marks.ensures.marks i below in
     let note : note_of c.entry_at.result.handle.0 c.flaw_beside-flaw.result ≡ note_at bytes damages row i =
-    ap₂ (λ (e : Entry) (f : Option Flaw). note_of e.handle.0 f) c.entry_at.ensures (c.flaw_beside-flaw.ensures ∙ ap (λ (d : Option Flaw). flaw_beside row i d) (get_or_default damages i _ None below)) in
+    ap₂ (λ (e : Entry) (f : Option Flaw). note_of e.handle.0 f) c.entry_at.ensures
+    (c.flaw_beside-flaw.ensures ∙ ap₂ (λ (is : Bool) (d : Option Flaw). flaw_beside is d) marked (get_or_default damages i _ None below)) in
     let now = subst (λ (l : List ℕ). Appends mid to l) note c.in_ok-send_note.ensures.ok in
     subst (λ (l : List ℕ). Appends from to l) (sym (notes_more bytes damages row i)) (Appends-trans from mid to (notes bytes damages row i) (note_at bytes damages row i) c.loop-i.invariant now)
 

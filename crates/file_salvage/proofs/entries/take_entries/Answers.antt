@@ -9,8 +9,13 @@ use Rattle.file_salvage.proofs.entries.take_entries.Goals as goal
 pub taken-requires : goal.taken-requires
 taken-requires g c = ap length c.as_slice.ensures.value ∙ c.in_ok-damages.ensures.count
 
-pub send_notes-requires : goal.send_notes-requires
-send_notes-requires g c = ap length c.as_slice-2.ensures.value ∙ c.in_ok-damages.ensures.count
+pub send_notes-requires-clause-count : goal.send_notes-requires-clause-count
+send_notes-requires-clause-count g c = ap length c.as_slice-2.ensures.value ∙ c.in_ok-damages.ensures.count
+
+pub send_notes-requires-clause-within : goal.send_notes-requires-clause-within
+send_notes-requires-clause-within g c =
+    let length_is : length c.as_slice.result.now ≡ length c.as_slice-2.result.now = ap length (c.as_slice.ensures.value ∙ sym c.as_slice-2.ensures.value) in
+    subst (λ (l : List ℕ). All (λ (i : ℕ). i < length c.as_slice-2.result.now) l) (sym c.as_slice-3.ensures.value) (subst (λ (n : ℕ). All (λ (i : ℕ). i < n) c.in_ok-row.row.items) length_is c.in_ok-row.ensures.within)
 
 pub entries_at-requires-clause-count : goal.entries_at-requires-clause-count
 entries_at-requires-clause-count g c = ap length c.as_slice-4.ensures.value ∙ c.in_ok-damages.ensures.count

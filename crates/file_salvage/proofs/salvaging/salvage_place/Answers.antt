@@ -19,14 +19,14 @@ returns-clause-ok g c = λ so.
     let second = OnlyReadsStore-trans a b d (g.met.S.Store.timely c.args.store.now) first c.take_entries.ensures.reads in
     let bytes = c.as_slice-bytes.result.now in
     let es = c.as_slice-entries.result.now in
-    let one = contents c.send_place_note.new.writer in
+    let one = contents c.send_head_note.new.writer in
     let two = contents c.take_entries.new.writer in
     let three = contents c.send_map_note.new.writer in
     let to = contents c.dump_entries.new.writer in
     written c.args.all a.content p bytes es c.map_of-map_block.result c.map_kept-kept.result (contents c.args.writer.now) one two three to
     (c.as_slice-bytes.ensures.value ∙ c.in_ok-directory.ensures.bytes so)
     (c.as_slice-entries.ensures.value ∙ subst (λ (file : List ℕ). c.in_ok-found.found.items ≡ taken_entries c.args.all bytes (damages file p.version bytes)) (same_bytes_then a b first so) (c.in_ok-found.ensures.entries (still a b first so)))
-    c.map_of-map_block.ensures c.map_kept-kept.ensures c.in_ok-send_place_note.ensures.ok
+    c.map_of-map_block.ensures c.map_kept-kept.ensures c.in_ok-send_head_note.ensures.ok
     (subst (λ (file : List ℕ). Appends one two (all_notes c.args.all bytes (damages file p.version bytes))) (same_bytes_then a b first so) (c.in_ok-found.ensures.told (still a b first so)))
     c.in_ok-send_map_note.ensures.ok
     (λ x listed. c.in_ok-dump_entries.ensures.ok (still a d second so) x (subst (λ (file : List ℕ). IsListedAs file c.map_kept-kept.result es x) (sym (same_bytes_then a d second so)) listed))
@@ -39,10 +39,10 @@ dump_entries-requires g c = λ so.
     still_holds (λ (file : List ℕ). HasBlocks file c.as_slice-entries.result.now) b d c.take_entries.ensures.reads
     (λ honest. subst (HasBlocks b.content) (sym (c.as_slice-entries.ensures.value ∙ c.in_ok-found.ensures.entries honest)) (entries_have b.content c.args.place.version bytes c.args.all)) so
 
-pub returns-in_err-send_place_note-clause-fails : goal.returns-in_err-send_place_note-clause-fails
-returns-in_err-send_place_note-clause-fails g c =
-    let p = err_from_is_err_and c.from_residual-in_err-send_place_note.result c.from_residual-in_err-send_place_note.ensures.1 in
-    rw (p.1, p.2) (refused_by_note (g.S.Store.facts c.args.store.now) (g.S.Store.facts c.read_place.new.store) _ c.in_err-send_place_note.ensures.err)
+pub returns-in_err-send_head_note-clause-fails : goal.returns-in_err-send_head_note-clause-fails
+returns-in_err-send_head_note-clause-fails g c =
+    let p = err_from_is_err_and c.from_residual-in_err-send_head_note.result c.from_residual-in_err-send_head_note.ensures.1 in
+    rw (p.1, p.2) (refused_by_note (g.S.Store.facts c.args.store.now) (g.S.Store.facts c.read_place.new.store) _ c.in_err-send_head_note.ensures.err)
 
 pub returns-in_err-found-clause-reads : goal.returns-in_err-found-clause-reads
 returns-in_err-found-clause-reads g c = OnlyReadsStore-trans (g.S.Store.facts c.args.store.now) (g.S.Store.facts c.read_place.new.store) _ (g.met.S.Store.timely c.args.store.now) c.read_place.ensures.looks c.take_entries.ensures.reads
