@@ -103,6 +103,7 @@ class Given(Tries):
                 self.told(f"{what}, {commit}: the same documents", self.both_dumped(plain, summed))
                 self.told(f"{what}, {commit}: all sums are right", is_summed(read(summed)) and version_of(read(plain)) == 2)
                 self.told(f"{what}, {commit}: the commit before is shut, one behind it isn't", self.is_alone(summed) == (not more))
+                self.told(f"{what}, {commit}: so is its dump", (dump(self.geosdoc, summed, "--other") is None) == (not more))
         run([self.geosvm, summed], "newraw 5 5\nupdate\n")
         self.told(f"{what}: it stays so", is_summed(read(summed)))
 
