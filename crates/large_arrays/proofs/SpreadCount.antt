@@ -111,7 +111,7 @@ if_none-few [] = inr refl
 if_none-few (p ∷ ps) = inl refl
 
 -- a run ends in a piece that there is
-ends : (ps : List Piece) (j : ℕ) → 0 < length ps → (end_place (map length ps) j).0 < length ps
+pub ends : (ps : List Piece) (j : ℕ) → 0 < length ps → (end_place (map length ps) j).0 < length ps
 ends [] j some = absurd (omega arith)
 ends (p ∷ ps) j some =
     let low = end-low (length p) (map length ps) j in

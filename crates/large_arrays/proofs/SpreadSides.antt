@@ -99,15 +99,17 @@ with_last-begun size room (x ∷ ps) y ys = any_head size (weight size x) (with_
     any_head size n [] head = head
     any_head size n (p ∷ ps) head = omega arith
 
--- Left of a run and right of it no two pieces are to be joined, none is empty, and beyond a neighbour that isn't there
--- is nothing.
-pub record AreSides (size : ℕ) (before : List Piece) (l r : Piece) (behind : List Piece) : Type 0 where
-  pub left_apart : are_apart size (before ++ l ∷ []) ≡ true
-  pub right_apart : are_apart size (r ∷ behind) ≡ true
+-- Left of a run and right of it no piece is empty, and beyond a neighbour that isn't there is nothing.
+pub record AreSides (before : List Piece) (l r : Piece) (behind : List Piece) : Type 0 where
   pub left_full : none_empty before ≡ true
   pub right_full : none_empty behind ≡ true
   pub left_end : l ≡ [] → before ≡ []
   pub right_end : r ≡ [] → behind ≡ []
+
+-- And no two are to be joined.
+pub record AreApartSides (size : ℕ) (before : List Piece) (l r : Piece) (behind : List Piece) : Type 0 where
+  pub left : are_apart size (before ++ l ∷ []) ≡ true
+  pub right : are_apart size (r ∷ behind) ≡ true
 
 -- what stands there after an edit
 abbrev pub whole : ℕ → Piece → List Piece → Piece → List Piece
@@ -134,28 +136,28 @@ whole-begun size y ys mid r =
     subst (HasHead size (weight size (y ∷ ys))) (append-nil (whole size (y ∷ ys) mid r)) (whole-heavy size y ys mid r [])
 
 -- Right of it no two are to be joined.
-whole-apart : (size : ℕ) (before : List Piece) (l : Piece) (mid : List Piece) (r : Piece) (behind : List Piece) → AreSides size before l r behind
+whole-apart : (size : ℕ) (before : List Piece) (l : Piece) (mid : List Piece) (r : Piece) (behind : List Piece) → AreSides before l r behind → AreApartSides size before l r behind
     → are_apart size mid ≡ true → are_apart size (if_none (whole size l mid r) ++ behind) ≡ true
-whole-apart size before l mid [] behind sides apart =
+whole-apart size before l mid [] behind sides apart_sides apart =
     ap (λ (ps : List Piece). are_apart size (if_none (with_first size l mid) ++ ps)) (sides.right_end refl)
     ∙ ap (are_apart size) (append-nil (if_none (with_first size l mid))) ∙ still (with_first size l mid) (with_first-apart size l mid apart)
   where
     still : (ps : List Piece) → are_apart size ps ≡ true → are_apart size (if_none ps) ≡ true
     still [] good = refl
     still (p ∷ ps) good = good
-whole-apart size before l mid (y ∷ ys) behind sides apart =
+whole-apart size before l mid (y ∷ ys) behind sides apart_sides apart =
     ap (λ (ps : List Piece). are_apart size (ps ++ behind)) (if_none-same size 0 (whole size l mid (y ∷ ys)) (with_last-begun size join_room (with_first size l mid) y ys))
-    ∙ with_last-apart size join_room (with_first size l mid) y ys behind (omega arith) (with_first-apart size l mid apart) sides.right_apart
+    ∙ with_last-apart size join_room (with_first size l mid) y ys behind (omega arith) (with_first-apart size l mid apart) apart_sides.right
 
 -- With what is left of it too.
-pub around-apart : (size : ℕ) (before : List Piece) (l : Piece) (mid : List Piece) (r : Piece) (behind : List Piece) → AreSides size before l r behind
+pub around-apart : (size : ℕ) (before : List Piece) (l : Piece) (mid : List Piece) (r : Piece) (behind : List Piece) → AreSides before l r behind → AreApartSides size before l r behind
     → are_apart size mid ≡ true → are_apart size (before ++ (if_none (whole size l mid r) ++ behind)) ≡ true
-around-apart size before [] mid r behind sides apart =
+around-apart size before [] mid r behind sides apart_sides apart =
     ap (λ (ps : List Piece). are_apart size (ps ++ (if_none (whole size [] mid r) ++ behind))) (sides.left_end refl)
-    ∙ whole-apart size before [] mid r behind sides apart
-around-apart size before (y ∷ ys) mid r behind sides apart =
-    append-apart size before (y ∷ ys) (if_none (whole size (y ∷ ys) mid r) ++ behind) sides.left_apart
-    (whole-apart size before (y ∷ ys) mid r behind sides apart)
+    ∙ whole-apart size before [] mid r behind sides apart_sides apart
+around-apart size before (y ∷ ys) mid r behind sides apart_sides apart =
+    append-apart size before (y ∷ ys) (if_none (whole size (y ∷ ys) mid r) ++ behind) apart_sides.left
+    (whole-apart size before (y ∷ ys) mid r behind sides apart_sides apart)
     (subst (λ (ps : List Piece). HasHead size (weight size (y ∷ ys)) (ps ++ behind)) (sym (if_none-same size (weight size (y ∷ ys)) (whole size (y ∷ ys) mid r) (whole-begun size y ys mid r)))
     (whole-heavy size y ys mid r behind))
 
@@ -166,7 +168,7 @@ begun-full size n before ps behind head left here right =
     full_all (before ++ (if_none ps ++ behind))
     (append-full before (if_none ps ++ behind) left (append-full (if_none ps) behind (ap none_empty (if_none-same size n ps head) ∙ here) right))
 
-pub around-full : (size : ℕ) (before : List Piece) (l : Piece) (mid : List Piece) (r : Piece) (behind : List Piece) → AreSides size before l r behind
+pub around-full : (size : ℕ) (before : List Piece) (l : Piece) (mid : List Piece) (r : Piece) (behind : List Piece) → AreSides before l r behind
     → none_empty mid ≡ true → is_full (before ++ (if_none (whole size l mid r) ++ behind)) ≡ true
 around-full size before (y ∷ ys) mid r behind sides full =
     begun-full size (weight size (y ∷ ys)) before (whole size (y ∷ ys) mid r) behind (whole-begun size y ys mid r) sides.left_full
@@ -206,7 +208,7 @@ from_on-apart size zero (p ∷ ps) apart = apart
 from_on-apart size (suc k) (p ∷ ps) apart = from_on-apart size k ps (tail-apart size p ps apart)
 
 -- a piece that is there isn't empty
-got-full : (k : ℕ) (ps : List Piece) → none_empty ps ≡ true → k < length ps → get_or ps k [] ≡ [] → ⊥
+pub got-full : (k : ℕ) (ps : List Piece) → none_empty ps ≡ true → k < length ps → get_or ps k [] ≡ [] → ⊥
 got-full k [] full low none = absurd (omega arith)
 got-full (suc k) (p ∷ ps) full low none = got-full k ps (and_parts (has_element p) (none_empty ps) full).1 (omega arith) none
 got-full zero (p ∷ ps) full low none =
@@ -214,12 +216,21 @@ got-full zero (p ∷ ps) full low none =
     let long = ap length none in
     absurd (omega arith)
 
--- The pieces beside a run from one piece to another: where none is empty, and where there is one piece.
-sides-full : (size k t : ℕ) (ps : List Piece) → are_apart size ps ≡ true → none_empty ps ≡ true → k < length ps
-    → AreSides size (take (k - 1) ps) (piece_before ps k) (get_or ps (suc t) []) (drop (suc (suc t)) ps)
-sides-full size k t ps apart full low = record {
-  left_apart = left k low;
-  right_apart = from_on-apart size (suc t) ps apart;
+-- The pieces beside a run from one piece to another are apart where all are.
+pub apart-sides : (size k t : ℕ) (ps : List Piece) → are_apart size ps ≡ true → k < length ps
+    → AreApartSides size (take (k - 1) ps) (piece_before ps k) (get_or ps (suc t) []) (drop (suc (suc t)) ps)
+apart-sides size k t ps apart low = record { left = left k low; right = from_on-apart size (suc t) ps apart }
+  where
+    left : (k : ℕ) → k < length ps → are_apart size (take (k - 1) ps ++ piece_before ps k ∷ []) ≡ true
+    left zero low = refl
+    left (suc k) low =
+        let less : suc k - 1 ≡ k = omega arith in
+        ap (λ (n : ℕ). are_apart size (take n ps ++ get_or ps k [] ∷ [])) less ∙ up_to-apart size k ps apart (omega arith)
+
+-- What is there, where none is empty, and where there is one piece.
+sides-full : (k t : ℕ) (ps : List Piece) → none_empty ps ≡ true → k < length ps
+    → AreSides (take (k - 1) ps) (piece_before ps k) (get_or ps (suc t) []) (drop (suc (suc t)) ps)
+sides-full k t ps full low = record {
   left_full = taken-full (k - 1) ps full;
   right_full = dropped-full (suc (suc t)) ps full;
   left_end = left_none k low;
@@ -229,38 +240,31 @@ sides-full size k t ps apart full low = record {
   ];
 }
   where
-    left : (k : ℕ) → k < length ps → are_apart size (take (k - 1) ps ++ piece_before ps k ∷ []) ≡ true
-    left zero low = refl
-    left (suc k) low =
-        let less : suc k - 1 ≡ k = omega arith in
-        ap (λ (n : ℕ). are_apart size (take n ps ++ get_or ps k [] ∷ [])) less ∙ up_to-apart size k ps apart (omega arith)
-
     left_none : (k : ℕ) → k < length ps → piece_before ps k ≡ [] → take (k - 1) ps ≡ []
     left_none zero low none = refl
     left_none (suc k) low none = absurd (got-full k ps full (omega arith) none)
 
-sides-single : (size k t : ℕ) (p : Piece) → k < 1
-    → AreSides size (take (k - 1) (p ∷ [])) (piece_before (p ∷ []) k) (get_or (p ∷ []) (suc t) []) (drop (suc (suc t)) (p ∷ []))
-sides-single size (suc k) t p low = absurd (omega arith)
-sides-single size zero t p low =
+sides-single : (k t : ℕ) (p : Piece) → k < 1
+    → AreSides (take (k - 1) (p ∷ [])) (piece_before (p ∷ []) k) (get_or (p ∷ []) (suc t) []) (drop (suc (suc t)) (p ∷ []))
+sides-single (suc k) t p low = absurd (omega arith)
+sides-single zero t p low =
     let none_left : List Piece = [] in
     let nothing : drop (suc t) none_left ≡ none_left = drop_all (suc t) none_left (omega arith) in record {
-      left_apart = refl;
-      right_apart = ap (λ (ps : List Piece). are_apart size (get_or none_left t [] ∷ ps)) nothing;
       left_full = refl;
       right_full = ap none_empty nothing;
       left_end = λ none. refl;
       right_end = λ none. nothing;
     }
 
-pub sides : (size k t : ℕ) (ps : List Piece) → are_apart size ps ≡ true → is_full ps ≡ true → k < length ps
-    → AreSides size (take (k - 1) ps) (piece_before ps k) (get_or ps (suc t) []) (drop (suc (suc t)) ps)
-sides size k t [] apart full low = absurd (omega arith)
-sides size k t (p ∷ []) apart full low = sides-single size k t p low
-sides size k t (p ∷ q ∷ ps) apart full low = sides-full size k t (p ∷ q ∷ ps) apart (many p q ps full) low
-  where
-    many : (p q : Piece) (ps : List Piece) → is_full (p ∷ q ∷ ps) ≡ true → none_empty (p ∷ q ∷ ps) ≡ true
-    many p q ps full = elim (cases_Bool (length (p ∷ q ∷ ps) == 1)) [
-      | inl one ↦ (let is = eqb-true (length (p ∷ q ∷ ps)) 1 one in absurd (omega arith))
-      | inr more ↦ ap (λ (b : Bool). b || none_empty (p ∷ q ∷ ps)) (sym more) ∙ full
-    ]
+-- Where there are several none is empty.
+pub many-full : (ps : List Piece) → is_full ps ≡ true → 1 < length ps → none_empty ps ≡ true
+many-full ps full several = elim (cases_Bool (length ps == 1)) [
+  | inl one ↦ (let is = eqb-true (length ps) 1 one in absurd (omega arith))
+  | inr more ↦ ap (λ (b : Bool). b || none_empty ps) (sym more) ∙ full
+]
+
+pub sides : (k t : ℕ) (ps : List Piece) → is_full ps ≡ true → k < length ps
+    → AreSides (take (k - 1) ps) (piece_before ps k) (get_or ps (suc t) []) (drop (suc (suc t)) ps)
+sides k t [] full low = absurd (omega arith)
+sides k t (p ∷ []) full low = sides-single k t p low
+sides k t (p ∷ q ∷ ps) full low = sides-full k t (p ∷ q ∷ ps) (many-full (p ∷ q ∷ ps) full (omega arith)) low

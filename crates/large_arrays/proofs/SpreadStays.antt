@@ -6,7 +6,7 @@ use Rattle.large_arrays.specs.Pieces.{Piece, join_room, all_fit, each_fits, are_
 use Rattle.large_arrays.specs.Spread.{end_place, first_place, packed_from, middle, left_piece, right_piece, with_last, with_left, around, respread, if_none}
 use Rattle.large_arrays.proofs.SpreadFits.{room_of, respread-fits}
 use Rattle.large_arrays.proofs.SpreadApart.{packed-apart, with_last-apart}
-use Rattle.large_arrays.proofs.SpreadSides.{AreSides, is_full, packed-full, with_last-full, sides, around-apart, around-full}
+use Rattle.large_arrays.proofs.SpreadSides.{is_full, packed-full, with_last-full, sides, apart-sides, around-apart, around-full}
 use Rattle.large_arrays.proofs.SpreadPlaces.{first-low}
 
 -- The tests of pieces that are spread.
@@ -23,7 +23,7 @@ spread_parts size ps spread =
     let two = and_parts (nat_lt 0 (length ps)) (is_full ps) three.0 in
     record { some = ltb-true 0 (length ps) two.0; full = two.1; fit = three.1; apart = all.1 }
 
-spread_from : (size : ℕ) (ps : List Piece) → AreSpread size ps → are_spread size ps ≡ true
+pub spread_from : (size : ℕ) (ps : List Piece) → AreSpread size ps → are_spread size ps ≡ true
 spread_from size ps are =
     and_from (nat_lt 0 (length ps) && is_full ps && all_fit size ps) (are_apart size ps)
     (and_from (nat_lt 0 (length ps) && is_full ps) (all_fit size ps) (and_from (nat_lt 0 (length ps)) (is_full ps) (lt-ltb 0 (length ps) are.some) are.full) are.fit)
@@ -72,11 +72,11 @@ if_none-some : (ps : List Piece) → 0 < length (if_none ps)
 if_none-some [] = omega arith
 if_none-some (p ∷ ps) = omega arith
 
-pub respread-spread : (size : ℕ) (ps : List Piece) (i j : ℕ) (new : Piece) → are_spread size ps ≡ true → each_fits size new ≡ true
-    → are_spread size (respread size ps i j new) ≡ true
+-- The pieces after an edit: there is one, and none is empty but a single one.
+pub respread-full : (size : ℕ) (ps : List Piece) (i j : ℕ) (new : Piece) → 0 < length ps → is_full ps ≡ true
+    → (0 < length (respread size ps i j new)) × (is_full (respread size ps i j new) ≡ true)
 unfolding respread
-respread-spread size ps i j new spread each =
-    let are = spread_parts size ps spread in
+respread-full size ps i j new some full =
     let from = first_place (map length ps) i j in
     let to = end_place (map length ps) j in
     let before : List Piece = take (from.0 - 1) ps in
@@ -85,11 +85,35 @@ respread-spread size ps i j new spread each =
     let r : Piece = right_piece ps j in
     let mid : List Piece = middle size ps i j new in
     let here : List Piece = around size ps i j new in
-    let beside : AreSides size before l r behind = sides size from.0 to.0 ps are.apart are.full (begins ps i j are.some) in
-    let assoc : (before ++ here) ++ behind ≡ before ++ (here ++ behind) = append_assoc before here behind in
+    let beside = sides from.0 to.0 ps full (begins ps i j some) in
+    (some_there before here behind (if_none-some (with_last size join_room (with_left size ps i j new) r)),
+    ap is_full (append_assoc before here behind) ∙ around-full size before l mid r behind beside (middle-full size ps i j new))
+
+-- No two are to be joined, where none were.
+pub respread-apart : (size : ℕ) (ps : List Piece) (i j : ℕ) (new : Piece) → 0 < length ps → is_full ps ≡ true → are_apart size ps ≡ true
+    → are_apart size (respread size ps i j new) ≡ true
+unfolding respread
+respread-apart size ps i j new some full apart =
+    let from = first_place (map length ps) i j in
+    let to = end_place (map length ps) j in
+    let before : List Piece = take (from.0 - 1) ps in
+    let behind : List Piece = drop (suc (suc to.0)) ps in
+    let l : Piece = left_piece ps i j in
+    let r : Piece = right_piece ps j in
+    let mid : List Piece = middle size ps i j new in
+    let here : List Piece = around size ps i j new in
+    let low = begins ps i j some in
+    ap (are_apart size) (append_assoc before here behind)
+    ∙ around-apart size before l mid r behind (sides from.0 to.0 ps full low) (apart-sides size from.0 to.0 ps apart low) (middle-apart size ps i j new)
+
+pub respread-spread : (size : ℕ) (ps : List Piece) (i j : ℕ) (new : Piece) → are_spread size ps ≡ true → each_fits size new ≡ true
+    → are_spread size (respread size ps i j new) ≡ true
+respread-spread size ps i j new spread each =
+    let are = spread_parts size ps spread in
+    let stays = respread-full size ps i j new are.some are.full in
     spread_from size (respread size ps i j new) (record {
-      some = some_there before here behind (if_none-some (with_last size join_room (with_left size ps i j new) r));
-      full = ap is_full assoc ∙ around-full size before l mid r behind beside (middle-full size ps i j new);
+      some = stays.0;
+      full = stays.1;
       fit = respread-fits size ps i j new are.fit each;
-      apart = ap (are_apart size) assoc ∙ around-apart size before l mid r behind beside (middle-apart size ps i j new);
+      apart = respread-apart size ps i j new are.some are.full are.apart;
     })
