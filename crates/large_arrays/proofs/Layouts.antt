@@ -64,7 +64,7 @@ piece-fits_at size (p ∷ ps) (suc k) small fit sized low =
     piece-fits_at size ps k small (and_parts (fits size p) (all_fit size ps) fit).1 (and_parts (is_sized size p) (all_sized size ps) sized).1 (omega arith)
 
 -- how many elements each has is a word
-counts-words : (size : ℕ) (ps : List Piece) → size < 65536 → all_fit size ps ≡ true → all_sized size ps ≡ true → are_words (map length ps) ≡ true
+pub counts-words : (size : ℕ) (ps : List Piece) → size < 65536 → all_fit size ps ≡ true → all_sized size ps ≡ true → are_words (map length ps) ≡ true
 counts-words size [] small fit sized = refl
 counts-words size (p ∷ ps) small fit sized =
     let few = branch-few size p (piece-fits size p ps small fit sized) in

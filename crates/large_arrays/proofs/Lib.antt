@@ -13,3 +13,7 @@ pub mod DistinctHandles
 pub mod Layouts
 pub mod Windows
 pub mod WindowHandles
+pub mod Replacing
+pub mod PutBranches
+pub mod PieceLists
+pub mod WindowEdits
