@@ -1,14 +1,14 @@
 -- A branch's bytes read back as its elements, and they are those of a block of a chain without a link.
-use Rattle.std.proofs.Common.{◌≡◌, ℕ, suc, ◌+◌, ◌*◌, ◌<◌, ◌≤◌, Bool, true, false, not, ◌&&◌, ◌||◌, ◌==◌, nat_le, nat_lt, if◌then◌else◌, List, [], ◌∷◌, ◌++◌, length, drop, Option, Some, None, sum_by, refl, sym, ap, ap₂, subst, ◌∙◌, arith, inl, inr, length-append, eqb-true, ltb-true, lt-ltb, le-leb, leb-true}
+use Rattle.std.proofs.Common.{◌≡◌, ℕ, ◌+◌, ◌*◌, ◌<◌, ◌≤◌, Bool, true, false, ◌&&◌, ◌||◌, ◌==◌, nat_le, nat_lt, if◌then◌else◌, List, [], ◌∷◌, ◌++◌, length, drop, Option, Some, None, sum_by, refl, sym, ap, ap₂, ◌∙◌, arith, inl, inr, length-append, eqb-true, lt-ltb, le-leb, leb-true}
 use Rattle.std.proofs.lemmas.Bool.{cases_Bool, and_parts, and_from, cond-true, cond-false, eq-eqb}
 use Rattle.std.proofs.lemmas.List.Sums.{sum_by-append}
 use Rattle.std.specs.List.{list_all}
 use Rattle.std.specs.Option.{option_and_then}
 use Rattle.geos_model.specs.Bytes.{same_bytes}
 use Rattle.geos_model.specs.Words.{word, word_at}
-use Rattle.geos_model.specs.Array.{Array, array_bytes, array_of, is_even, array_start}
+use Rattle.geos_model.specs.Array.{Array, array_bytes, array_of, is_even}
 use Rattle.geos_model.specs.Chain.{is_linked, links}
-use Rattle.geos_model.proofs.Arrays.{joined, table_of, same_bytes-is, same_bytes-refl, array_again, array_bytes-of, array_bytes-spelled, length-array_bytes, length-elements, length_table-any, table-even, size-read, size_lt}
+use Rattle.geos_model.proofs.Arrays.{joined, table_of, same_bytes-is, same_bytes-refl, array_again, array_bytes-of, array_bytes-spelled, length-array_bytes, length-elements, length-joined, length_table-any, table-even, size-read, size_lt}
 use Rattle.large_arrays.specs.Pieces.{Piece, weight, fits, branch_room}
 use Rattle.large_arrays.specs.Layout.{branch_bytes, branch_of}
 
@@ -53,6 +53,15 @@ weight-is size piece =
           let is : weight size piece ≡ weigh 0 = ap weigh (cond-false (size == 0) 2 0 one) in
           omega arith)
     ]
+
+-- where they have one size it is that of all
+pub weight-even : (size : ℕ) (piece : Piece) → (size == 0) ≡ false → is_sized size piece ≡ true → weight size piece ≡ length piece * size
+weight-even size piece one sized =
+    let all : list_all (λ x. length x == size) piece ≡ true = ap (λ (b : Bool). b || list_all (λ x. length x == size) piece) (sym one) ∙ sized in
+    let is = weight-is size piece in
+    let table : length (table_of (array_of_piece size piece)) ≡ 0 = ap length (table-even (array_of_piece size piece) one) in
+    let bytes = length-joined size piece all in
+    omega arith
 
 pub length-branch_bytes : (size : ℕ) (piece : Piece) → length (branch_bytes size piece) ≡ 10 + weight size piece
 unfolding branch_bytes
@@ -131,8 +140,10 @@ branch_of-is size count bytes piece small e = by_array (array_of (drop 2 bytes))
           let read = array_bytes-of (drop 2 bytes) a is in
           let twice : array_bytes a ≡ array_bytes (array_of_piece size xs) = read.1 ∙ ap (drop 2) (sym written) ∙ behind size xs in
           let one_size : a.size ≡ size = same_size a (array_of_piece size xs) (size_lt a read.0) small twice in
-          let sized : is_sized a.size xs ≡ true = (and_parts (nat_lt a.size 65536) (is_sized a.size xs) read.0).1 in
-          (ap length (sym same) ∙ eqb-true (length xs) count parts.0, ap (branch_bytes size) (sym same) ∙ written,
-          ap₂ (λ (n : ℕ) (ys : Piece). is_sized n ys) (sym one_size) (sym same) ∙ sized))
+          let sized : is_sized a.size xs ≡ true = (and_parts (nat_lt a.size 65536) (is_sized a.size xs) read.0).1 in (
+            ap length (sym same) ∙ eqb-true (length xs) count parts.0,
+            ap (branch_bytes size) (sym same) ∙ written,
+            ap₂ (λ (n : ℕ) (ys : Piece). is_sized n ys) (sym one_size) (sym same) ∙ sized,
+          ))
       | inr other ↦ (let none : None ≡ Some piece = sym (cond-false _ _ _ other) ∙ found in absurd (cc))
     ]

@@ -1,14 +1,13 @@
 -- Handles of which none is there twice.
-use Rattle.std.proofs.Common.{◌≡◌, ℕ, zero, suc, ◌+◌, ◌*◌, ◌-◌, ◌<◌, ◌≤◌, Bool, true, false, not, ◌&&◌, ◌||◌, ◌==◌, nat_lt, cond, List, [], ◌∷◌, ◌++◌, length, take, drop, get_or, replicate, Option, Some, None, is_none, count_by, refl, sym, ap, subst, ◌∙◌, ◌⊎◌, inl, inr, arith, lt-ltb}
-use Rattle.std.proofs.lemmas.Bool.{cases_Bool, and_parts, and_from, not_from_false, eqb-true, eq-eqb, true≢false}
-use Rattle.std.proofs.lemmas.List.{length-replicate, get_or-replicate, get_or_default, take-append-drop}
+use Rattle.std.proofs.Common.{◌≡◌, ℕ, suc, ◌*◌, ◌≤◌, Bool, true, false, not, ◌||◌, ◌==◌, nat_lt, cond, List, [], ◌∷◌, ◌++◌, length, take, drop, get_or, replicate, Option, None, is_none, count_by, refl, sym, ap, subst, ◌∙◌, inl, inr, arith, lt-ltb}
+use Rattle.std.proofs.lemmas.Bool.{cases_Bool, and_from, not_from_false, eqb-true}
+use Rattle.std.proofs.lemmas.List.{length-replicate, get_or-replicate, take-append-drop}
 use Rattle.std.proofs.lemmas.List.Folds.{sum_by-replicate}
 use Rattle.std.proofs.lemmas.List.Elements.{Contains-append_left, Contains-append_right, Contains-append_cases}
 use Rattle.std.specs.List.{Contains, list_any, list_all}
 use Rattle.geos_model.specs.ElementArray.{Element, all_distinct}
-use Rattle.geos_model.specs.Document.{most_blocks}
 use Rattle.geos_model.proofs.Chains.{contains_cases, contains_first, contains_later}
-use Rattle.geos_model.proofs.BlockLists.{none_passes, distinct-first, distinct-rest}
+use Rattle.geos_model.proofs.BlockLists.{distinct-first, distinct-rest}
 use Rattle.geos_model.proofs.FreeLists.{free_in, length-free_le}
 
 -- Numbers up to one, none of them twice, are one more than that at most.
@@ -72,12 +71,14 @@ pub distinct-parts : (xs ys : List ℕ) → all_distinct (xs ++ ys) ≡ true
 distinct-parts [] ys once = (refl, once, λ h first last. absurd (let low = first.1 in omega arith))
 distinct-parts (x ∷ xs) ys once =
     let rest = distinct-parts xs ys (distinct-rest x (xs ++ ys) once) in
-    let absent : Contains (xs ++ ys) x → ⊥ = distinct-first x (xs ++ ys) once in
-    (distinct-cons x xs (λ there. absent (Contains-append_left xs ys x there)) rest.0, rest.1,
-    λ h first last. elim (contains_cases x xs h first) [
-      | inl is ↦ absent (subst (Contains (xs ++ ys)) (sym is) (Contains-append_right xs ys h last))
-      | inr later ↦ rest.2 h later last
-    ])
+    let absent : Contains (xs ++ ys) x → ⊥ = distinct-first x (xs ++ ys) once in (
+      distinct-cons x xs (λ there. absent (Contains-append_left xs ys x there)) rest.0,
+      rest.1,
+      λ h first last. elim (contains_cases x xs h first) [
+        | inl is ↦ absent (subst (Contains (xs ++ ys)) (sym is) (Contains-append_right xs ys h last))
+        | inr later ↦ rest.2 h later last
+      ],
+    )
 
 -- what is among the first or among the rest is there
 pub there_before : (n : ℕ) (hs : List ℕ) (h : ℕ) → Contains (take n hs) h → Contains hs h

@@ -1,28 +1,25 @@
 -- The blocks of a large array, by their bytes: from the array to them and back.
-use Rattle.std.proofs.Common.{◌≡◌, ℕ, zero, suc, ◌+◌, ◌<◌, ◌≤◌, Bool, true, false, not, ◌&&◌, ◌||◌, ◌==◌, nat_le, nat_lt, if◌then◌else◌, List, [], ◌∷◌, ◌++◌, length, map, get_or, filter, replicate, Option, Some, None, is_some, unwrap_or, refl, sym, ap, ap₂, subst, ◌∙◌, inl, inr, arith, zero-add, append-nil, leb-true, le-leb, lt-ltb, eqb-true}
-use Rattle.std.proofs.lemmas.Bool.{cases_Bool, and_parts, and_from, cond-true, cond-false, ne_eqb}
+use Rattle.std.proofs.Common.{◌≡◌, ℕ, zero, suc, ◌+◌, ◌<◌, ◌≤◌, Bool, true, not, ◌&&◌, ◌||◌, ◌==◌, nat_le, nat_lt, List, [], ◌∷◌, length, map, get_or, filter, replicate, Option, Some, None, is_some, unwrap_or, refl, sym, ap, ap₂, subst, ◌∙◌, inl, inr, arith, zero-add, append-nil, leb-true, le-leb, lt-ltb}
+use Rattle.std.proofs.lemmas.Bool.{and_parts, and_from, cond-true, ne_eqb}
 use Rattle.std.proofs.lemmas.List.{length-map, get_or-map, ext_get_or}
 use Rattle.std.proofs.lemmas.List.FromFn.{length-map-range_with_len, get_or-map-range_with_len}
 use Rattle.std.proofs.lemmas.List.Elements.{Contains-get_or}
-use Rattle.std.proofs.lemmas.List.Folds.{list_all-append}
 use Rattle.std.specs.List.{AllZip, Contains, list_all, range_with_len}
 use Rattle.std.specs.FinMap.{get}
 use Rattle.geos_model.specs.ElementArray.{all_distinct}
-use Rattle.geos_model.specs.Heap.{capacity}
-use Rattle.geos_model.specs.Document.{Document, IsValid, most_blocks, is_vm_handle, is_live, is_raw, raw_bytes_of}
+use Rattle.geos_model.specs.Document.{Document, IsValid, most_blocks, is_raw, raw_bytes_of}
 use Rattle.geos_model.specs.Chain.{is_linked, links, is_member, chain}
 use Rattle.geos_model.specs.ChainLaws.{IsForest, nothing, block, AreMembers}
 use Rattle.geos_model.proofs.Arrays.{are_words}
 use Rattle.geos_model.proofs.Validity.{raw_bytes-few}
 use Rattle.geos_model.proofs.Chains.{contains_cases, contains_first, contains_later, raw_block, member-handle, walk-chain, chain-members}
 use Rattle.large_arrays.specs.Pieces.{Piece, weight, branch_room, fits, all_fit, elements_of}
-use Rattle.large_arrays.specs.Layout.{Root, greatest_element_size, root_bytes, is_root, root_of, root_in, branch_bytes, branch_of}
+use Rattle.large_arrays.specs.Layout.{Root, greatest_element_size, root_bytes, is_root, root_of, branch_bytes, branch_of}
 use Rattle.large_arrays.specs.Blocks.{root_at, branch_at, pieces_at, IsLargeArray}
 use Rattle.large_arrays.proofs.RootBytes.{FitsRoot, root-again, root_linked, root_links, root_of-is}
 use Rattle.large_arrays.proofs.BranchBytes.{FitsBranch, is_sized, branch-again, branch_linked, branch_links, branch-few, branch_of-is, length-branch_bytes}
 use Rattle.large_arrays.proofs.Pairs.{pairs-length, pairs-at, pairs-from_at}
 use Rattle.large_arrays.proofs.DistinctHandles.{distinct-few}
-use Rattle.geos_model.proofs.BlockLists.{distinct-rest}
 
 -- the block under a handle is a branch with these elements
 abbrev pub HasBranch : Document → ℕ → ℕ → Piece → Type 0

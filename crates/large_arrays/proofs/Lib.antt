@@ -17,3 +17,9 @@ pub mod Replacing
 pub mod PutBranches
 pub mod PieceLists
 pub mod WindowEdits
+pub mod GivenElements
+pub mod OverwrittenPieces
+pub mod SameWeights
+pub mod Overwriting
+pub mod Inserting
+pub mod Creating

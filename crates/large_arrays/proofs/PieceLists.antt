@@ -1,41 +1,24 @@
 -- Lemmas on pieces and handles for the edits of arrays.
-use Rattle.std.proofs.Common.{◌≡◌, ℕ, zero, suc, ◌+◌, ◌-◌, ◌<◌, ◌≤◌, Bool, true, false, not, ◌&&◌, ◌||◌, ◌==◌, nat_le, nat_lt, if◌then◌else◌, List, [], ◌∷◌, ◌++◌, length, take, drop, map, filter, get_or, refl, sym, ap, ap₂, subst, ◌∙◌, ◌⊎◌, inl, inr, arith, ltb-true, ltb-false, lt-ltb, eqb-true, append_assoc, length-append}
-use Rattle.std.proofs.lemmas.Bool.{cases_Bool, and_parts, and_from, cond-true, cond-false, not-true, eq-eqb, true≢false}
-use Rattle.std.proofs.lemmas.List.{length-map, take-append-drop, append-nil}
-use Rattle.std.proofs.lemmas.List.FromFn.{length-map-range_with_len}
+use Rattle.std.proofs.Common.{◌≡◌, ℕ, ◌<◌, Bool, true, false, not, ◌&&◌, ◌||◌, ◌==◌, nat_le, nat_lt, List, [], ◌∷◌, ◌++◌, length, take, drop, map, filter, refl, sym, ap, ap₂, subst, ◌∙◌, inl, inr, arith, ltb-true, lt-ltb, eqb-true}
+use Rattle.std.proofs.lemmas.Bool.{cases_Bool, and_parts, and_from, not-true, eq-eqb}
+use Rattle.std.proofs.lemmas.List.{length-map, take-append-drop}
 use Rattle.std.proofs.lemmas.List.Folds.{list_all-append}
 use Rattle.std.proofs.lemmas.List.Elements.{All-contains, All-contains_itself, All-filter, filter_passes}
-use Rattle.std.proofs.lemmas.Simd.{map-map}
-use Rattle.std.specs.List.{Contains, list_all, list_any, range_with_len, splice}
-use Rattle.geos_model.specs.ElementArray.{all_distinct}
-use Rattle.geos_model.specs.Document.{Document, IsValid, is_live}
-use Rattle.geos_model.specs.Chain.{free_handles, new_handles}
-use Rattle.geos_model.specs.ChainLaws.{AreNew}
-use Rattle.geos_model.proofs.Chains.{contains_cases, contains_first, contains_later, chain-members}
-use Rattle.geos_model.proofs.BlockLists.{none_passes, distinct-rest}
-use Rattle.geos_model.proofs.ChainCopies.{kept-there, new-new}
-use Rattle.large_arrays.specs.Pieces.{Piece, weight, all_fit, each_fits, elements_of, are_spread, are_apart}
+use Rattle.std.specs.List.{Contains, list_all, list_any}
+use Rattle.geos_model.proofs.Chains.{contains_first, contains_later}
+use Rattle.geos_model.proofs.BlockLists.{none_passes}
+use Rattle.geos_model.proofs.ChainCopies.{kept-there}
+use Rattle.large_arrays.specs.Pieces.{Piece, elements_of}
 use Rattle.large_arrays.specs.Layout.{Root, greatest_element_size, is_root}
-use Rattle.large_arrays.specs.Spread.{first_place, end_place, respread}
-use Rattle.large_arrays.specs.Blocks.{root_at, pieces_at, IsLargeArray}
-use Rattle.large_arrays.specs.Window.{Window, window, window_first, window_end, window_pieces, window_handles, staying, freed_handles, with_window, elements_replaced}
-use Rattle.large_arrays.specs.EditLaws.{IsEdited}
+use Rattle.large_arrays.specs.Spread.{respread}
 use Rattle.large_arrays.proofs.SpreadElements.{respread-elements}
-use Rattle.large_arrays.proofs.SpreadFits.{respread-fits}
 use Rattle.large_arrays.proofs.SpreadSides.{is_full}
-use Rattle.large_arrays.proofs.SpreadStays.{respread-full, respread-spread}
 use Rattle.large_arrays.proofs.BranchBytes.{is_sized}
-use Rattle.large_arrays.proofs.Pairs.{pairs-length}
-use Rattle.large_arrays.proofs.DistinctHandles.{distinct-parts, there_before, there_behind}
-use Rattle.large_arrays.proofs.Layouts.{HasBranch, HasLayout, all_sized, array-layout, layout-chain}
-use Rattle.large_arrays.proofs.Windows.{IsWindow, window-is}
-use Rattle.large_arrays.proofs.WindowHandles.{handles, handles-places, window_handles-many, window_handles-from, window_handles-once}
-use Rattle.large_arrays.proofs.Replacing.{olds, new_root, new_pieces, AreNamed, AreReplaced, AreGood, counts-spliced, replaced-edited}
-use Rattle.large_arrays.proofs.PutBranches.{put-replaced}
+use Rattle.large_arrays.proofs.Layouts.{all_sized}
 
 -- Elements of one size, in pieces or all together.
 
-sized-append : (size : ℕ) (xs ys : Piece) → is_sized size (xs ++ ys) ≡ (is_sized size xs && is_sized size ys)
+pub sized-append : (size : ℕ) (xs ys : Piece) → is_sized size (xs ++ ys) ≡ (is_sized size xs && is_sized size ys)
 sized-append size xs ys = by_test (size == 0)
   where
     all : Piece → Bool
@@ -45,7 +28,7 @@ sized-append size xs ys = by_test (size == 0)
     by_test true = refl
     by_test false = list_all-append (λ x. length x == size) xs ys
 
-sized-none : (size : ℕ) → is_sized size [] ≡ true
+pub sized-none : (size : ℕ) → is_sized size [] ≡ true
 sized-none size = by_test (size == 0)
   where
     by_test : (b : Bool) → (b || true) ≡ true
@@ -56,7 +39,7 @@ pub sized_elements : (size : ℕ) (ps : List Piece) → all_sized size ps ≡ is
 sized_elements size [] = sym (sized-none size)
 sized_elements size (p ∷ ps) = ap (λ (b : Bool). is_sized size p && b) (sized_elements size ps) ∙ sym (sized-append size p (elements_of ps))
 
-sized_part : (size n : ℕ) (xs : Piece) → is_sized size xs ≡ true → (is_sized size (take n xs) ≡ true) × (is_sized size (drop n xs) ≡ true)
+pub sized_part : (size n : ℕ) (xs : Piece) → is_sized size xs ≡ true → (is_sized size (take n xs) ≡ true) × (is_sized size (drop n xs) ≡ true)
 sized_part size n xs all =
     and_parts (is_sized size (take n xs)) (is_sized size (drop n xs))
     (sym (sized-append size (take n xs) (drop n xs)) ∙ ap (is_sized size) (take-append-drop n xs) ∙ all)
@@ -74,7 +57,7 @@ respread-sized size ps i j new all each =
 
 -- A root by its pieces.
 
-counts_full : (ps : List Piece) → list_all (λ c. nat_lt 0 c) (map length ps) ≡ list_all (λ x. nat_lt 0 (length x)) ps
+pub counts_full : (ps : List Piece) → list_all (λ c. nat_lt 0 c) (map length ps) ≡ list_all (λ x. nat_lt 0 (length x)) ps
 counts_full [] = refl
 counts_full (p ∷ ps) = ap (λ (b : Bool). nat_lt 0 (length p) && b) (counts_full ps)
 
@@ -83,9 +66,10 @@ root_full r ps is counts =
     let parts = and_parts (nat_lt 0 (length r.counts) && nat_le r.size greatest_element_size) (length r.counts == 1 || list_all (λ c. nat_lt 0 c) r.counts) is in
     let two = and_parts (nat_lt 0 (length r.counts)) (nat_le r.size greatest_element_size) parts.0 in
     let count : length r.counts ≡ length ps = ap length counts ∙ length-map ps (λ (p : Piece). length p) in
-    let some = ltb-true 0 (length r.counts) two.0 in
-    (omega arith,
-    ap₂ (λ (n : ℕ) (b : Bool). n == 1 || b) (sym count) (sym (counts_full ps) ∙ ap (list_all (λ c. nat_lt 0 c)) (sym counts)) ∙ parts.1)
+    let some = ltb-true 0 (length r.counts) two.0 in (
+      omega arith,
+      ap₂ (λ (n : ℕ) (b : Bool). n == 1 || b) (sym count) (sym (counts_full ps) ∙ ap (list_all (λ c. nat_lt 0 c)) (sym counts)) ∙ parts.1,
+    )
 
 pub root_from : (r : Root) (ps : List Piece) → nat_le r.size greatest_element_size ≡ true → r.counts ≡ map length ps → 0 < length ps → is_full ps ≡ true → is_root r ≡ true
 root_from r ps small counts some full =

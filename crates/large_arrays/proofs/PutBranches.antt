@@ -1,17 +1,15 @@
 -- The document in which a root and some branches are put in, and others taken out.
-use Rattle.std.proofs.Common.{◌≡◌, ℕ, zero, suc, ◌+◌, ◌-◌, ◌<◌, ◌≤◌, Bool, true, false, not, ◌&&◌, ◌==◌, nat_le, List, [], ◌∷◌, ◌++◌, length, take, drop, map, get_or, Option, Some, None, is_some, refl, sym, ap, ap₂, subst, ◌∙◌, ◌⊎◌, inl, inr, arith, length-append, length-drop, leb-true, le-leb}
+use Rattle.std.proofs.Common.{◌≡◌, ℕ, suc, ◌-◌, ◌≤◌, Bool, true, false, nat_le, List, [], ◌∷◌, ◌++◌, length, take, drop, map, Option, Some, None, is_some, refl, sym, ap, subst, ◌∙◌, inl, inr, arith, length-append, length-drop, leb-true, le-leb}
 use Rattle.std.proofs.lemmas.Bool.{and_parts, and_from}
 use Rattle.std.proofs.lemmas.List.{length-map, length-take}
 use Rattle.std.proofs.lemmas.List.Folds.{list_all-append}
 use Rattle.std.proofs.lemmas.List.Elements.{All-nil, All-cons, All-head, All-tail}
-use Rattle.std.specs.List.{All, AllZip, Contains, splice, zip}
+use Rattle.std.specs.List.{All, AllZip, Contains, zip}
 use Rattle.std.specs.Option.{option_map_or}
 use Rattle.std.specs.FinMap.{get}
 use Rattle.geos_model.specs.Heap.{capacity}
 use Rattle.geos_model.specs.ElementArray.{all_distinct}
 use Rattle.geos_model.specs.Document.{Block, Document, IsValid, IsValidBlock, most_blocks, is_vm_handle, is_live, is_raw, no_attributes, attributes_of, handles_of, with_blocks, without_blocks}
-use Rattle.geos_model.specs.declared.block.Attributes.{Attributes}
-use Rattle.geos_model.specs.declared.command.Body.TheVariants.{Raw}
 use Rattle.geos_model.proofs.Validity.{attributes-fit, raw-typed}
 use Rattle.geos_model.proofs.Chains.{contains_cases, contains_first, contains_later, chain-members}
 use Rattle.geos_model.proofs.BlockLists.{put_elsewhere, put_stands, put_map_block, put_valid, taken_elsewhere, taken_gone, taken_map_block, taken_valid, distinct-first}
@@ -23,13 +21,13 @@ use Rattle.large_arrays.proofs.BranchBytes.{length-branch_bytes}
 use Rattle.large_arrays.proofs.Layouts.{HasBranch, HasLayout, raw-handle, layout-chain}
 use Rattle.large_arrays.proofs.Pairs.{pairs-length}
 use Rattle.large_arrays.proofs.DistinctHandles.{distinct-cons, there_before, there_behind}
-use Rattle.large_arrays.proofs.Replacing.{raw-there, olds, new_root, new_pieces, AreNamed, AreReplaced, AreGood, new_handle, new-few, root_apart}
+use Rattle.large_arrays.proofs.Replacing.{raw-there, olds, new_root, AreNamed, AreReplaced, AreGood, new-few, root_apart}
 
 -- branches under their handles
 abbrev pub branch_blocks : Document → ℕ → List ℕ → List Piece → List (ℕ × Block)
 branch_blocks d size news placed = map (λ p. raw_block d p.0 (branch_bytes size p.1)) (zip news placed)
 
-branch_blocks-handles : (d : Document) (size : ℕ) (news : List ℕ) (placed : List Piece) → length news ≡ length placed → handles_of (branch_blocks d size news placed) ≡ news
+pub branch_blocks-handles : (d : Document) (size : ℕ) (news : List ℕ) (placed : List Piece) → length news ≡ length placed → handles_of (branch_blocks d size news placed) ≡ news
 branch_blocks-handles d size [] [] long = refl
 branch_blocks-handles d size [] (p ∷ ps) long = absurd (let none : 0 ≡ suc (length ps) = long in omega arith)
 branch_blocks-handles d size (h ∷ hs) [] long = absurd (let none : suc (length hs) ≡ 0 = long in omega arith)
@@ -37,23 +35,24 @@ branch_blocks-handles d size (h ∷ hs) (p ∷ ps) long =
     let same : suc (length hs) ≡ suc (length ps) = long in ap (λ (xs : List ℕ). h ∷ xs) (branch_blocks-handles d size hs ps (omega arith))
 
 -- where they stand there are these branches
-branch_blocks-stand : (d new : Document) (size : ℕ) (news : List ℕ) (placed : List Piece) → length news ≡ length placed
+pub branch_blocks-stand : (d new : Document) (size : ℕ) (news : List ℕ) (placed : List Piece) → length news ≡ length placed
     → All (λ p. get new.blocks p.0 ≡ Some p.1) (branch_blocks d size news placed) → AllZip (HasBranch new size) news placed
 branch_blocks-stand d new size [] [] long stand = tt
 branch_blocks-stand d new size [] (p ∷ ps) long stand = absurd (let none : 0 ≡ suc (length ps) = long in omega arith)
 branch_blocks-stand d new size (h ∷ hs) [] long stand = absurd (let none : suc (length hs) ≡ 0 = long in omega arith)
 branch_blocks-stand d new size (h ∷ hs) (p ∷ ps) long stand =
     let same : suc (length hs) ≡ suc (length ps) = long in
-    let block : ℕ × Block = raw_block d h (branch_bytes size p) in
-    (raw-there new h block.1 (branch_bytes size p) (All-head (λ q. get new.blocks q.0 ≡ Some q.1) block (branch_blocks d size hs ps) stand) refl,
-    branch_blocks-stand d new size hs ps (omega arith) (All-tail (λ q. get new.blocks q.0 ≡ Some q.1) block (branch_blocks d size hs ps) stand))
+    let block : ℕ × Block = raw_block d h (branch_bytes size p) in (
+      raw-there new h block.1 (branch_bytes size p) (All-head (λ q. get new.blocks q.0 ≡ Some q.1) block (branch_blocks d size hs ps) stand) refl,
+      branch_blocks-stand d new size hs ps (omega arith) (All-tail (λ q. get new.blocks q.0 ≡ Some q.1) block (branch_blocks d size hs ps) stand),
+    )
 
 -- A handle under which a raw block can be put with the attributes that it has.
-record CanHave (d : Document) (h : ℕ) : Type 0 where
-  handle : is_vm_handle h ≡ true
-  typed : (attributes_of d h).heap_type ≡ 0
+pub record CanHave (d : Document) (h : ℕ) : Type 0 where
+  pub handle : is_vm_handle h ≡ true
+  pub typed : (attributes_of d h).heap_type ≡ 0
 
-can_put : (d : Document) (h : ℕ) (bytes : List ℕ) → IsValid d → CanHave d h → length bytes ≤ capacity → IsValidBlock h (raw_block d h bytes).1
+pub can_put : (d : Document) (h : ℕ) (bytes : List ℕ) → IsValid d → CanHave d h → length bytes ≤ capacity → IsValidBlock h (raw_block d h bytes).1
 can_put d h bytes valid can few = record {
   handle = can.handle;
   attributes = attributes-fit d h valid;
@@ -61,7 +60,7 @@ can_put d h bytes valid can few = record {
   typed = λ _. can.typed;
 }
 
-branch_blocks-valid : (d : Document) (size : ℕ) (news : List ℕ) (placed : List Piece) → IsValid d → ((h : ℕ) → Contains news h → CanHave d h) → all_fit size placed ≡ true
+pub branch_blocks-valid : (d : Document) (size : ℕ) (news : List ℕ) (placed : List Piece) → IsValid d → ((h : ℕ) → Contains news h → CanHave d h) → all_fit size placed ≡ true
     → All (λ p. IsValidBlock p.0 p.1) (branch_blocks d size news placed)
 branch_blocks-valid d size [] placed valid can fit = All-nil (λ p. IsValidBlock p.0 p.1)
 branch_blocks-valid d size (h ∷ hs) [] valid can fit = All-nil (λ p. IsValidBlock p.0 p.1)
@@ -74,7 +73,7 @@ branch_blocks-valid d size (h ∷ hs) (p ∷ ps) valid can fit =
     (branch_blocks-valid d size hs ps valid (λ x there. can x (contains_later h hs x there)) parts.1)
 
 -- a block that isn't live has the attributes of none
-no_type : (d : Document) (h : ℕ) → is_live d h ≡ false → (attributes_of d h).heap_type ≡ 0
+pub no_type : (d : Document) (h : ℕ) → is_live d h ≡ false → (attributes_of d h).heap_type ≡ 0
 no_type d h free = by_block (get d.blocks h) free
   where
     by_block : (o : Option Block) → is_some o ≡ false → (option_map_or (λ b. b.attributes) o no_attributes).heap_type ≡ 0
@@ -112,7 +111,7 @@ module _ (d : Document) (b : ℕ) (r : Root) (pieces : List Piece) (first behind
   in_branches : (h : ℕ) → Contains old_ones h → Contains r.branches h
   in_branches h there = there_behind first r.branches h (there_before (behind - first) (drop first r.branches) h there)
 
-  can_new : (h : ℕ) → Contains news h → CanHave d h
+  pub can_new : (h : ℕ) → Contains news h → CanHave d h
   can_new h fresh = elim (named.from h fresh) [
     | inl old ↦ can_old h (contains_later b r.branches h (in_branches h old))
     | inr free ↦ record { handle = free.0; typed = no_type d h free.1 }
@@ -131,7 +130,7 @@ module _ (d : Document) (b : ℕ) (r : Root) (pieces : List Piece) (first behind
   beside : (h : ℕ) → (Contains (b ∷ news) h → ⊥) → get replaced.blocks h ≡ get taken.blocks h
   beside h other = put_elsewhere taken blocks h (λ there. other (subst (λ xs. Contains xs h) handles_are there))
 
-  placed_fit : all_fit r.size placed ≡ true
+  pub placed_fit : all_fit r.size placed ≡ true
   placed_fit =
       let test : Piece → Bool = λ p. fits r.size p in
       let tail : List Piece = placed ++ drop behind pieces in

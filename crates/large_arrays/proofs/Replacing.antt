@@ -1,8 +1,8 @@
--- A document in which some branches of a large array are replaced by others is that of the array with others in place of
--- those pieces.
-use Rattle.std.proofs.Common.{◌≡◌, ℕ, zero, suc, ◌+◌, ◌-◌, ◌<◌, ◌≤◌, Bool, true, false, not, nat_le, ◌==◌, List, [], ◌∷◌, ◌++◌, length, take, drop, map, get_or, Option, Some, None, is_some, unwrap_or, refl, sym, ap, ap₂, subst, ◌∙◌, ◌⊎◌, inl, inr, arith, length-append, length-drop, leb-true}
+-- A document in which some branches of a large array are replaced by others is that of the array with others in the
+-- place of those pieces.
+use Rattle.std.proofs.Common.{◌≡◌, ℕ, ◌+◌, ◌-◌, ◌≤◌, true, false, not, nat_le, ◌==◌, List, [], ◌∷◌, ◌++◌, length, take, drop, map, Option, Some, None, is_some, unwrap_or, refl, sym, ap, ap₂, subst, ◌∙◌, ◌⊎◌, inl, inr, arith, leb-true}
 use Rattle.std.proofs.lemmas.Bool.{cases_Bool, and_parts, eqb-true, eq-eqb, true≢false}
-use Rattle.std.proofs.lemmas.List.{length-take-le, length-map, take-append-drop, drop-drop, map-append}
+use Rattle.std.proofs.lemmas.List.{take-append-drop, drop-drop, map-append}
 use Rattle.std.proofs.lemmas.List.{take-map, drop-map}
 use Rattle.std.proofs.lemmas.List.Elements.{Contains-append_left, Contains-append_right, Contains-append_cases}
 use Rattle.std.specs.List.{AllZip, Contains, splice}
@@ -10,13 +10,13 @@ use Rattle.std.specs.Option.{option_map_or}
 use Rattle.std.specs.FinMap.{get}
 use Rattle.geos_model.specs.ElementArray.{all_distinct}
 use Rattle.geos_model.specs.Document.{Block, Document, IsValid, most_blocks, is_vm_handle, is_heap_body, bytes_of_body, no_attributes, is_live, is_raw, raw_bytes_of, attributes_of}
-use Rattle.geos_model.specs.Chain.{chain, chain_blocks}
+use Rattle.geos_model.specs.Chain.{chain_blocks}
 use Rattle.geos_model.specs.declared.command.Body.TheVariants.{Raw}
 use Rattle.geos_model.proofs.Chains.{contains_cases, contains_first, contains_later, chain-members}
 use Rattle.geos_model.proofs.BlockLists.{distinct-first, distinct-rest}
 use Rattle.large_arrays.specs.Pieces.{Piece, all_fit, elements_of, are_spread}
-use Rattle.large_arrays.specs.Layout.{Root, root_bytes, is_root, branch_bytes}
-use Rattle.large_arrays.specs.Blocks.{root_at, pieces_at, IsLargeArray}
+use Rattle.large_arrays.specs.Layout.{Root, root_bytes, is_root}
+use Rattle.large_arrays.specs.Blocks.{pieces_at}
 use Rattle.large_arrays.specs.EditLaws.{IsEdited}
 use Rattle.large_arrays.proofs.Layouts.{HasBranch, HasLayout, all_sized, raw-handle, layout-root, layout-pieces, layout-chain, layout-array}
 use Rattle.large_arrays.proofs.Pairs.{pairs-length, pairs-append, pairs-take, pairs-drop}
@@ -25,9 +25,10 @@ use Rattle.large_arrays.proofs.DistinctHandles.{distinct-few, distinct-cons, dis
 -- a raw block under a handle
 pub raw-there : (d : Document) (h : ℕ) (block : Block) (bytes : List ℕ) → get d.blocks h ≡ Some block → block.body ≡ Raw bytes
     → (is_raw d h ≡ true) × (raw_bytes_of d h ≡ bytes)
-raw-there d h block bytes there raw =
-    (ap (λ (o : Option Block). option_map_or (λ x. not (is_heap_body x.body)) o false) there ∙ ap (λ body. not (is_heap_body body)) raw,
-    ap (λ (o : Option Block). option_map_or (λ x. bytes_of_body x.body) o []) there ∙ ap bytes_of_body raw)
+raw-there d h block bytes there raw = (
+  ap (λ (o : Option Block). option_map_or (λ x. not (is_heap_body x.body)) o false) there ∙ ap (λ body. not (is_heap_body body)) raw,
+  ap (λ (o : Option Block). option_map_or (λ x. bytes_of_body x.body) o []) there ∙ ap bytes_of_body raw,
+)
 
 -- a handle is in a list or not
 pub known : (hs : List ℕ) (h : ℕ) → Contains hs h ⊎ (Contains hs h → ⊥)
@@ -50,10 +51,13 @@ kept d new size [] [] all same = tt
 kept d new size [] (p ∷ ps) all same = absurd all
 kept d new size (h ∷ hs) [] all same = absurd all
 kept d new size (h ∷ hs) (p ∷ ps) all same =
-    let here = same h (contains_first h hs) in
-    ((ap (λ (o : Option Block). option_map_or (λ x. not (is_heap_body x.body)) o false) here ∙ (all.0).0,
-    ap (λ (o : Option Block). option_map_or (λ x. bytes_of_body x.body) o []) here ∙ (all.0).1),
-    kept d new size hs ps all.1 (λ x there. same x (contains_later h hs x there)))
+    let here = same h (contains_first h hs) in (
+      (
+        ap (λ (o : Option Block). option_map_or (λ x. not (is_heap_body x.body)) o false) here ∙ (all.0).0,
+        ap (λ (o : Option Block). option_map_or (λ x. bytes_of_body x.body) o []) here ∙ (all.0).1,
+      ),
+      kept d new size hs ps all.1 (λ x there. same x (contains_later h hs x there)),
+    )
 
 -- how many elements each piece has, with others in the place of some
 pub counts-spliced : (counts : List ℕ) (first behind : ℕ) (pieces placed : List Piece) → counts ≡ map length pieces

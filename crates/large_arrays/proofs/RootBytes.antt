@@ -1,5 +1,5 @@
 -- A root's bytes read back as the root, and they are those of a tree block with the root's branches.
-use Rattle.std.proofs.Common.{◌≡◌, ℕ, zero, suc, ◌+◌, ◌*◌, ◌<◌, ◌≤◌, Bool, true, false, not, ◌&&◌, ◌||◌, ◌==◌, nat_le, nat_lt, if◌then◌else◌, List, [], ◌∷◌, ◌++◌, map, length, drop, filter, Option, Some, None, unwrap_or, flat_map, refl, sym, ap, ap₂, subst, ◌∙◌, arith, inl, inr, length-append, append_assoc, append-nil, drop-drop, drop_at, eqb-true, ltb-true, lt-ltb, le-leb, leb-true}
+use Rattle.std.proofs.Common.{◌≡◌, ℕ, ◌+◌, ◌*◌, ◌≤◌, true, not, ◌&&◌, ◌||◌, ◌==◌, nat_le, nat_lt, if◌then◌else◌, List, [], ◌∷◌, ◌++◌, map, length, drop, filter, Some, None, flat_map, refl, sym, ap, ap₂, subst, ◌∙◌, arith, inl, inr, length-append, append_assoc, append-nil, drop-drop, drop_at, ltb-true, le-leb, leb-true}
 use Rattle.std.proofs.lemmas.Bool.{cases_Bool, and_parts, and_from, cond-true, cond-false, eq-eqb}
 use Rattle.std.proofs.lemmas.List.FromFn.{length-map-range_with_len}
 use Rattle.std.specs.List.{range_with_len, list_all}
@@ -10,7 +10,7 @@ use Rattle.geos_model.specs.Document.{most_blocks}
 use Rattle.geos_model.specs.Chain.{tree_mark, is_tree, branches_at, branch_count, has_branches, is_linked, link_count, first_link, links}
 use Rattle.geos_model.proofs.Images.{word-reads_back}
 use Rattle.geos_model.proofs.Arrays.{are_words, words_read, length-words, same_bytes-is, same_bytes-refl}
-use Rattle.large_arrays.specs.Layout.{Root, total, large_mark, greatest_element_size, root_bytes, is_root, root_read, root_of, root_in}
+use Rattle.large_arrays.specs.Layout.{Root, total, large_mark, greatest_element_size, root_bytes, is_root, root_read, root_of}
 
 -- A branch in a root: a zero word, and the handle.
 abbrev link_of : ℕ → List ℕ
@@ -36,10 +36,11 @@ links_read bytes start k (h ∷ hs) rest small at =
     let zero_here : word_at bytes (start + 4 * k) ≡ 0 = ap (little_number 2) at ∙ word-reads_back 0 (word h ++ behind) (omega arith) in
     let next : drop (start + 4 * (k + 1)) bytes ≡ behind =
     ap (λ (n : ℕ). drop n bytes) shift ∙ sym (drop-drop 4 (start + 4 * k) bytes) ∙ ap (drop 4) at in
-    let more = links_read bytes start (k + 1) hs rest parts.1 next in
-    (ap₂ (λ (n : ℕ) (ns : List ℕ). n ∷ ns) word_here more.0,
-    and_from (word_at bytes (start + 4 * k) == 0) (list_all (λ i. word_at bytes (start + 4 * i) == 0) (range_with_len (k + 1) (length hs)))
-    (eq-eqb (word_at bytes (start + 4 * k)) 0 zero_here) more.1)
+    let more = links_read bytes start (k + 1) hs rest parts.1 next in (
+      ap₂ (λ (n : ℕ) (ns : List ℕ). n ∷ ns) word_here more.0,
+      and_from (word_at bytes (start + 4 * k) == 0) (list_all (λ i. word_at bytes (start + 4 * i) == 0) (range_with_len (k + 1) (length hs)))
+          (eq-eqb (word_at bytes (start + 4 * k)) 0 zero_here) more.1,
+    )
 
 -- A root whose numbers have room in its bytes.
 pub record FitsRoot (r : Root) : Type 0 where

@@ -49,10 +49,10 @@ if_none-elements (p ∷ ps) = refl
 
 -- Where elements are cut.
 
-take_past : (p rest : Piece) (i : ℕ) → length p ≤ i → take i (p ++ rest) ≡ p ++ take (i - length p) rest
+pub take_past : (p rest : Piece) (i : ℕ) → length p ≤ i → take i (p ++ rest) ≡ p ++ take (i - length p) rest
 take_past p rest i past = ap (λ (n : ℕ). take n (p ++ rest)) (sym (add-sub_of_le past)) ∙ take-append-add p rest (i - length p)
 
-drop_past : (p rest : Piece) (i : ℕ) → length p ≤ i → drop i (p ++ rest) ≡ drop (i - length p) rest
+pub drop_past : (p rest : Piece) (i : ℕ) → length p ≤ i → drop i (p ++ rest) ≡ drop (i - length p) rest
 drop_past p rest i past = ap (λ (n : ℕ). drop n (p ++ rest)) (sym (add-sub_of_le past)) ∙ drop-append-add p rest (i - length p)
 
 -- the elements before a place, and from it on

@@ -36,7 +36,7 @@ first-low c counts i j =
     ]
 
 -- A run doesn't end before it begins.
-start-end : (counts : List ℕ) (i j : ℕ) → i < j → (start_place counts i).0 ≤ (end_place counts j).0
+pub start-end : (counts : List ℕ) (i j : ℕ) → i < j → (start_place counts i).0 ≤ (end_place counts j).0
 start-end [] i j less = omega arith
 start-end (c ∷ []) i j less = omega arith
 start-end (c ∷ next ∷ counts) i j less =

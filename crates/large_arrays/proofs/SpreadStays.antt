@@ -85,9 +85,10 @@ respread-full size ps i j new some full =
     let r : Piece = right_piece ps j in
     let mid : List Piece = middle size ps i j new in
     let here : List Piece = around size ps i j new in
-    let beside = sides from.0 to.0 ps full (begins ps i j some) in
-    (some_there before here behind (if_none-some (with_last size join_room (with_left size ps i j new) r)),
-    ap is_full (append_assoc before here behind) ∙ around-full size before l mid r behind beside (middle-full size ps i j new))
+    let beside = sides from.0 to.0 ps full (begins ps i j some) in (
+      some_there before here behind (if_none-some (with_last size join_room (with_left size ps i j new) r)),
+      ap is_full (append_assoc before here behind) ∙ around-full size before l mid r behind beside (middle-full size ps i j new),
+    )
 
 -- No two are to be joined, where none were.
 pub respread-apart : (size : ℕ) (ps : List Piece) (i j : ℕ) (new : Piece) → 0 < length ps → is_full ps ≡ true → are_apart size ps ≡ true

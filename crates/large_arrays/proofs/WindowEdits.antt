@@ -1,21 +1,19 @@
 -- An edit of an array on blocks: the pieces of its window are replaced, and so the array is that of the list's edit.
-use Rattle.std.proofs.Common.{◌≡◌, ℕ, zero, suc, ◌+◌, ◌-◌, ◌<◌, ◌≤◌, Bool, true, false, not, ◌&&◌, ◌||◌, ◌==◌, nat_le, nat_lt, if◌then◌else◌, List, [], ◌∷◌, ◌++◌, length, take, drop, map, filter, get_or, refl, sym, ap, ap₂, subst, ◌∙◌, ◌⊎◌, inl, inr, arith, ltb-true, ltb-false, lt-ltb, eqb-true, append_assoc, length-append}
-use Rattle.std.proofs.lemmas.Bool.{cases_Bool, and_parts, and_from, cond-true, cond-false, not-true, eq-eqb, true≢false}
-use Rattle.std.proofs.lemmas.List.{length-map, take-append-drop, append-nil}
+use Rattle.std.proofs.Common.{◌≡◌, ℕ, suc, ◌-◌, ◌<◌, ◌≤◌, Bool, true, false, ◌&&◌, ◌==◌, nat_le, nat_lt, List, [], ◌∷◌, length, take, drop, map, get_or, refl, sym, ap, ap₂, subst, ◌∙◌, inl, inr, arith, ltb-false, eqb-true}
+use Rattle.std.proofs.lemmas.Bool.{cases_Bool, and_parts, cond-true, cond-false, eq-eqb, true≢false}
+use Rattle.std.proofs.lemmas.List.{length-map, take-append-drop}
 use Rattle.std.proofs.lemmas.List.FromFn.{length-map-range_with_len}
-use Rattle.std.proofs.lemmas.List.Folds.{list_all-append}
-use Rattle.std.proofs.lemmas.List.Elements.{All-contains, All-contains_itself, All-filter, filter_passes}
 use Rattle.std.proofs.lemmas.Simd.{map-map}
-use Rattle.std.specs.List.{Contains, list_all, list_any, range_with_len, splice}
+use Rattle.std.specs.List.{Contains, list_any, range_with_len, splice}
 use Rattle.geos_model.specs.ElementArray.{all_distinct}
 use Rattle.geos_model.specs.Document.{Document, IsValid, is_live}
 use Rattle.geos_model.specs.Chain.{free_handles, new_handles}
 use Rattle.geos_model.specs.ChainLaws.{AreNew}
-use Rattle.geos_model.proofs.Chains.{contains_cases, contains_first, contains_later, chain-members}
+use Rattle.geos_model.proofs.Chains.{contains_later, chain-members}
 use Rattle.geos_model.proofs.BlockLists.{none_passes, distinct-rest}
-use Rattle.geos_model.proofs.ChainCopies.{kept-there, new-new}
-use Rattle.large_arrays.specs.Pieces.{Piece, weight, all_fit, each_fits, elements_of, are_spread, are_apart}
-use Rattle.large_arrays.specs.Layout.{Root, greatest_element_size, is_root}
+use Rattle.geos_model.proofs.ChainCopies.{new-new}
+use Rattle.large_arrays.specs.Pieces.{Piece, weight, all_fit, each_fits, elements_of, are_spread}
+use Rattle.large_arrays.specs.Layout.{Root}
 use Rattle.large_arrays.specs.Spread.{first_place, end_place, respread}
 use Rattle.large_arrays.specs.Blocks.{root_at, pieces_at, IsLargeArray}
 use Rattle.large_arrays.specs.Window.{Window, window, window_first, window_end, window_pieces, window_handles, staying, freed_handles, with_window, elements_replaced}
@@ -30,9 +28,8 @@ use Rattle.large_arrays.proofs.DistinctHandles.{distinct-parts, there_before, th
 use Rattle.large_arrays.proofs.Layouts.{HasBranch, HasLayout, all_sized, array-layout, layout-chain}
 use Rattle.large_arrays.proofs.Windows.{IsWindow, window-is}
 use Rattle.large_arrays.proofs.WindowHandles.{handles, handles-places, window_handles-many, window_handles-from, window_handles-once}
-use Rattle.large_arrays.proofs.Replacing.{olds, new_root, new_pieces, AreNamed, AreReplaced, AreGood, counts-spliced, replaced-edited}
+use Rattle.large_arrays.proofs.Replacing.{new_root, AreNamed, AreGood, counts-spliced, replaced-edited}
 use Rattle.large_arrays.proofs.PutBranches.{put-replaced}
-
 use Rattle.large_arrays.proofs.PieceLists.{respread-sized, root_full, root_from, root_small, freed-old, freed-not, freed-all}
 
 -- Nothing refuses the edit of a window.

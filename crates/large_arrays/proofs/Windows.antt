@@ -1,10 +1,10 @@
 -- The pieces that an edit replaces, and those that come in their place: all others stay.
-use Rattle.std.proofs.Common.{◌≡◌, ℕ, Bool, true, false, ◌&&◌, zero, suc, ◌+◌, ◌-◌, ◌<◌, ◌≤◌, ◌==◌, nat_le, nat_lt, if◌then◌else◌, List, [], ◌∷◌, ◌++◌, length, take, drop, map, get_or, refl, sym, ap, ap₂, subst, ◌∙◌, ◌⊎◌, inl, inr, append_assoc, length-append, length-drop, ltb-true, ltb-false, take_at, drop_at, arith}
+use Rattle.std.proofs.Common.{◌≡◌, ℕ, Bool, true, false, ◌&&◌, zero, suc, ◌+◌, ◌-◌, ◌<◌, ◌≤◌, ◌==◌, nat_lt, if◌then◌else◌, List, [], ◌∷◌, ◌++◌, length, take, drop, map, get_or, refl, sym, ap, ap₂, ◌∙◌, inl, inr, append_assoc, length-append, length-drop, ltb-true, ltb-false, take_at, drop_at, arith}
 use Rattle.std.proofs.lemmas.Bool.{cases_Bool, cond-true, cond-false, and_parts, lt-ltb, eqb-true}
 use Rattle.std.proofs.lemmas.List.{append-nil, length-take-le, drop_all, get_or_past}
 use Rattle.std.specs.List.{splice}
-use Rattle.large_arrays.specs.Pieces.{Piece, join_room, weight, are_joined}
-use Rattle.large_arrays.specs.Spread.{end_place, first_place, middle, piece_before, left_piece, right_piece, with_first, with_last, with_left, around, respread, if_none}
+use Rattle.large_arrays.specs.Pieces.{Piece, join_room, are_joined}
+use Rattle.large_arrays.specs.Spread.{end_place, first_place, middle, piece_before, left_piece, right_piece, with_first, with_last, around, respread, if_none}
 use Rattle.large_arrays.specs.Window.{left_joins, right_joins, window_first, window_end, window_pieces}
 use Rattle.large_arrays.proofs.SpreadSides.{is_full, whole, got-full, many-full, sides}
 use Rattle.large_arrays.proofs.SpreadPlaces.{first-end}
@@ -100,10 +100,11 @@ if_none-begun size y [] (x ∷ xs) =
 cut_begun : (size : ℕ) (l : Piece) (mid : List Piece) (r y : Piece) (ys : List Piece) → with_first size l mid ≡ y ∷ ys
     → (rest : List Piece) × (if_none (whole size l mid r) ≡ rest ++ unjoined (joins_right size l mid r) r)
 cut_begun size l mid r y ys is =
-    let right = cut_right size y ys r in
-    (right.rest,
-    ap (λ (ps : List Piece). if_none (with_last size join_room ps r)) is ∙ if_none-begun size y ys r ∙ right.is
-    ∙ ap (λ (b : Bool). right.rest ++ unjoined b r) (sym (joins_right-some size l mid r y ys is)))
+    let right = cut_right size y ys r in (
+      right.rest,
+      ap (λ (ps : List Piece). if_none (with_last size join_room ps r)) is ∙ if_none-begun size y ys r ∙ right.is
+          ∙ ap (λ (b : Bool). right.rest ++ unjoined b r) (sym (joins_right-some size l mid r y ys is)),
+    )
 
 cut : (size : ℕ) (l : Piece) (mid : List Piece) (r : Piece) → Cut size l mid r
 cut size [] [] [] = record { rest = [] ∷ []; is = refl }

@@ -24,7 +24,8 @@ total r = sum_by (λ c. c) r.counts
 abbrev pub large_mark : List ℕ
 large_mark = codes "GARR"
 
--- A tree block: its three words, the mark, the size, how many elements there are, how many each branch has, the branches.
+-- A tree block: its three words, the mark, the size, how many elements there are, how many each branch has, and the
+-- branches.
 unfoldable pub root_bytes : Root → List ℕ
 root_bytes r =
     word tree_mark ++ word (16 + 2 * length r.counts) ++ word (length r.counts)

@@ -86,9 +86,9 @@ abbrev pub greatest : ℕ × ℕ → List (ℕ × ℕ) → ℕ
 greatest best [] = best.0
 greatest best (x ∷ xs) = if nat_lt best.1 x.1 then greatest x xs else greatest best xs
 
--- The handles of so many pieces that come in the place of these blocks. One piece is in the block of which most stays. Where
--- one block was, it has the first piece or the last, of which more was in it. Else the first and the last block have
--- the first and the last piece, and those between the pieces between.
+-- The handles of so many pieces that come in the place of these blocks. One piece is in the block of which most stays.
+-- Where one block was, it has the first piece or the last, of which more was in it. Else the first and the last block
+-- have the first and the last piece, and those between the pieces between.
 abbrev pub window_handles : List (ℕ × ℕ) → Bool → ℕ → List ℕ → List ℕ
 window_handles olds head zero new = []
 window_handles [] head (suc n) new = new
@@ -113,7 +113,8 @@ window d b i j new =
     let first = window_first r.size pieces i j new in
     let behind = window_end r.size pieces i j new in
     let placed = window_pieces r.size pieces i j new in
-    let olds = map (λ k. (get_or r.branches k 0, staying r.size pieces i j k)) (range_with_len first (behind - first)) in
+    let places = range_with_len first (behind - first) in
+    let olds = map (λ k. (get_or r.branches k 0, staying r.size pieces i j k)) places in
     let from = first_place r.counts i j in
     let to = end_place r.counts j in
     let head = nat_le (weight r.size (drop to.1 (get_or pieces to.0 [])))

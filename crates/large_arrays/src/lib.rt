@@ -3,4 +3,4 @@
 
 mod law;
 
-pub use law::spread_law;
+pub use law::{large_edits_law, spread_law};
