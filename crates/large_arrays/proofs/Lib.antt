@@ -1,0 +1,25 @@
+mod BytesExamples
+pub mod SpreadElements
+pub mod SpreadFits
+pub mod SpreadApart
+pub mod SpreadSides
+pub mod SpreadPlaces
+pub mod SpreadStays
+pub mod SpreadCount
+pub mod RootBytes
+pub mod BranchBytes
+pub mod Pairs
+pub mod DistinctHandles
+pub mod Layouts
+pub mod Windows
+pub mod WindowHandles
+pub mod Replacing
+pub mod PutBranches
+pub mod PieceLists
+pub mod WindowEdits
+pub mod GivenElements
+pub mod OverwrittenPieces
+pub mod SameWeights
+pub mod Overwriting
+pub mod Inserting
+pub mod Creating

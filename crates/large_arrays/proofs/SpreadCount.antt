@@ -1,0 +1,145 @@
+-- How many pieces there are after an edit.
+use Rattle.std.proofs.Common.{◌≡◌, ℕ, true, zero, suc, ◌+◌, ◌-◌, ◌<◌, ◌≤◌, ◌==◌, nat_le, nat_lt, List, [], ◌∷◌, ◌++◌, length, take, drop, map, get_or, refl, sym, ap, subst, ◌∙◌, inl, inr, append_assoc, length-append, length-drop, length-take, ltb-true, ltb-false, ◌⊎◌, arith}
+use Rattle.std.proofs.lemmas.Bool.{cases_Bool, cond-true, cond-false}
+use Rattle.std.proofs.lemmas.List.{length-take-le, get_or_past, append-nil, length-map}
+use Rattle.large_arrays.specs.Pieces.{Piece, branch_room, join_room, weight, are_joined, fits, are_spread}
+use Rattle.large_arrays.specs.Spread.{end_place, first_place, packed_from, with_last, with_first, middle, piece_before, right_piece, with_left, respread, if_none}
+use Rattle.large_arrays.proofs.SpreadFits.{part-fits, taken-fits, got-fits, room_of}
+use Rattle.large_arrays.proofs.SpreadPlaces.{end-low, first-end}
+use Rattle.large_arrays.proofs.SpreadStays.{spread_parts, begins}
+
+-- What fits into a piece that was begun goes in there.
+packed-begun : (size : ℕ) (y : List ℕ) (ys xs zs : Piece) → fits size ((y ∷ ys) ++ xs) ≡ true
+    → packed_from size (y ∷ ys) (xs ++ zs) ≡ packed_from size ((y ∷ ys) ++ xs) zs
+packed-begun size y ys [] zs all = ap (λ (ps : Piece). packed_from size ps zs) (sym (append-nil (y ∷ ys)))
+packed-begun size y ys (x ∷ xs) zs all =
+    let same : (y ∷ ys) ++ x ∷ xs ≡ ((y ∷ ys) ++ x ∷ []) ++ xs = sym (append_assoc (y ∷ ys) (x ∷ []) xs) in
+    let whole : fits size (((y ∷ ys) ++ x ∷ []) ++ xs) ≡ true = ap (fits size) (sym same) ∙ all in
+    let b = nat_le (weight size ((y ∷ ys) ++ x ∷ [])) branch_room in
+    cond-true b _ _ (part-fits size ((y ∷ ys) ++ x ∷ []) xs whole).0
+    ∙ packed-begun size y (ys ++ x ∷ []) xs zs whole
+    ∙ ap (λ (ps : Piece). packed_from size ps zs) (sym same)
+
+-- So each further element makes one piece more at most.
+packed-few : (size : ℕ) (y xs : Piece) → length (packed_from size y xs) ≤ suc (length xs)
+packed-few size [] [] = omega arith
+packed-few size (y ∷ ys) [] = omega arith
+packed-few size [] (x ∷ xs) = (let rest = packed-few size (x ∷ []) xs in omega arith)
+packed-few size (y ∷ ys) (x ∷ xs) =
+    let b = nat_le (weight size ((y ∷ ys) ++ x ∷ [])) branch_room in
+    let few : List Piece → Type 0 = λ ps. length ps ≤ suc (length (x ∷ xs)) in
+    elim (cases_Bool b) [
+      | inl within ↦
+          (let rest = packed-few size ((y ∷ ys) ++ x ∷ []) xs in
+          let n : ℕ = length (packed_from size ((y ∷ ys) ++ x ∷ []) xs) in
+          let most : n ≤ suc (length (x ∷ xs)) = omega arith in
+          subst few (sym (cond-true b _ _ within)) most)
+      | inr past ↦
+          (let rest = packed-few size (x ∷ []) xs in
+          let n : ℕ = length (packed_from size (x ∷ []) xs) in
+          let most : suc n ≤ suc (length (x ∷ xs)) = omega arith in
+          subst few (sym (cond-false b _ _ past)) most)
+    ]
+
+kept-few : (size : ℕ) (head new : Piece) → fits size head ≡ true → length (packed_from size [] (head ++ new)) ≤ suc (length new)
+kept-few size [] new all = packed-few size [] new
+kept-few size (y ∷ ys) new all =
+    subst (λ (ps : List Piece). length ps ≤ suc (length new)) (sym (packed-begun size y [] ys new all)) (packed-few size (y ∷ ys) new)
+
+with_last-few : (size room : ℕ) (ps : List Piece) (y : Piece) → length (with_last size room ps y) ≤ suc (length ps)
+with_last-few size room ps [] = omega arith
+with_last-few size room [] (y ∷ ys) = omega arith
+with_last-few size room (x ∷ []) (y ∷ ys) =
+    let b = nat_le (weight size x + weight size (y ∷ ys)) room in
+    let few : List Piece → Type 0 = λ ps. length ps ≤ 2 in
+    elim (cases_Bool b) [
+      | inl within ↦ subst few (sym (cond-true b _ _ within)) (let one : 1 ≤ 2 = omega arith in one)
+      | inr past ↦ subst few (sym (cond-false b _ _ past)) (let two : 2 ≤ 2 = omega arith in two)
+    ]
+with_last-few size room (x ∷ next ∷ ps) (y ∷ ys) = (let rest = with_last-few size room (next ∷ ps) (y ∷ ys) in omega arith)
+
+with_first-few : (size : ℕ) (y : Piece) (ps : List Piece) → length (with_first size y ps) ≤ suc (length ps)
+with_first-few size [] ps = omega arith
+with_first-few size (y ∷ ys) [] = omega arith
+with_first-few size (y ∷ ys) (x ∷ ps) =
+    let b = are_joined size (y ∷ ys) x in
+    let few : List Piece → Type 0 = λ qs. length qs ≤ suc (suc (length ps)) in
+    let n : ℕ = length ps in
+    elim (cases_Bool b) [
+      | inl joined ↦ subst few (sym (cond-true b _ _ joined)) (let one : suc n ≤ suc (suc n) = omega arith in one)
+      | inr apart ↦ subst few (sym (cond-false b _ _ apart)) (let two : suc (suc n) ≤ suc (suc n) = omega arith in two)
+    ]
+
+middle-few : (size : ℕ) (ps : List Piece) (i j : ℕ) (new : Piece) → are_spread size ps ≡ true → length (middle size ps i j new) ≤ suc (suc (length new))
+middle-few size ps i j new spread =
+    let from = first_place (map length ps) i j in
+    let to = end_place (map length ps) j in
+    let head : Piece = take from.1 (get_or ps from.0 []) in
+    let all = (spread_parts size ps spread).fit in
+    let kept = kept-few size head new (taken-fits size from.1 (get_or ps from.0 []) (got-fits size ps from.0 all)) in
+    let last = with_last-few size (room_of (from.0 == to.0)) (packed_from size [] (head ++ new)) (drop to.1 (get_or ps to.0 [])) in
+    omega arith
+
+-- With a neighbour there is one more at most, and none more where there is no neighbour.
+left-few : (size : ℕ) (ps : List Piece) (k : ℕ) (mid : List Piece) → k < length ps
+    → length (take (k - 1) ps) + length (with_first size (piece_before ps k) mid) ≤ k + length mid
+left-few size ps zero mid low = omega arith
+left-few size ps (suc k) mid low =
+    let less : suc k - 1 ≡ k = omega arith in
+    let front : length (take (suc k - 1) ps) ≡ suc k - 1 = length-take-le (suc k - 1) ps (omega arith) in
+    let more = with_first-few size (get_or ps k []) mid in
+    omega arith
+
+right-few : (size : ℕ) (ps : List Piece) (t : ℕ) (qs : List Piece) → t < length ps
+    → length (with_last size join_room qs (get_or ps (suc t) [])) + length (drop (suc (suc t)) ps) + suc t ≤ length qs + length ps
+right-few size ps t qs low = elim (cases_Bool (nat_lt (suc t) (length ps))) [
+  | inl there ↦
+      (let more = ltb-true (suc t) (length ps) there in
+      let behind = length-drop (suc (suc t)) ps in
+      let last = with_last-few size join_room qs (get_or ps (suc t) []) in
+      omega arith)
+  | inr past ↦
+      (let most = ltb-false (suc t) (length ps) past in
+      let behind = length-drop (suc (suc t)) ps in
+      let none : get_or ps (suc t) [] ≡ [] = get_or_past ps (suc t) [] most in
+      let last : length (with_last size join_room qs (get_or ps (suc t) [])) ≡ length qs = ap (λ (y : Piece). length (with_last size join_room qs y)) none in
+      omega arith)
+]
+
+if_none-few : (ps : List Piece) → (length (if_none ps) ≡ length ps) ⊎ (length (if_none ps) ≡ 1)
+if_none-few [] = inr refl
+if_none-few (p ∷ ps) = inl refl
+
+-- a run ends in a piece that there is
+pub ends : (ps : List Piece) (j : ℕ) → 0 < length ps → (end_place (map length ps) j).0 < length ps
+ends [] j some = absurd (omega arith)
+ends (p ∷ ps) j some =
+    let low = end-low (length p) (map length ps) j in
+    let as_many = length-map ps (λ (q : Piece). length q) in
+    omega arith
+
+-- An edit makes one piece more at most than there are new elements.
+pub respread-few : (size : ℕ) (ps : List Piece) (i j : ℕ) (new : Piece) → i ≤ j → are_spread size ps ≡ true
+    → length (respread size ps i j new) ≤ length ps + 1 + length new
+unfolding respread
+respread-few size ps i j new order spread =
+    let some = (spread_parts size ps spread).some in
+    let from = first_place (map length ps) i j in
+    let to = end_place (map length ps) j in
+    let mid : List Piece = middle size ps i j new in
+    let lefted : List Piece = with_left size ps i j new in
+    let whole : List Piece = with_last size join_room lefted (right_piece ps j) in
+    let before : List Piece = take (from.0 - 1) ps in
+    let behind : List Piece = drop (suc (suc to.0)) ps in
+    let parts = middle-few size ps i j new spread in
+    let left = left-few size ps from.0 mid (begins ps i j some) in
+    let right = right-few size ps to.0 lefted (ends ps j some) in
+    let run = first-end (map length ps) i j order in
+    let front = length-append before (if_none whole) in
+    let all = length-append (before ++ if_none whole) behind in
+    let short = length-take (from.0 - 1) ps in
+    let rest = length-drop (suc (suc to.0)) ps in
+    elim (if_none-few whole) [
+      | inl same ↦ omega arith
+      | inr one ↦ omega arith
+    ]

@@ -1,0 +1,72 @@
+-- In which pieces a run begins and ends.
+use Rattle.std.proofs.Common.{◌≡◌, ℕ, suc, ◌-◌, ◌<◌, ◌≤◌, ◌==◌, nat_le, nat_lt, List, [], ◌∷◌, length, sym, ap, subst, inl, inr, leb-true, ltb-false, arith}
+use Rattle.std.proofs.lemmas.Bool.{cases_Bool, cond-true, cond-false, eqb-true, eqb-false}
+use Rattle.large_arrays.specs.Spread.{start_place, end_place, first_place}
+
+-- They are pieces that there are.
+start-low : (c : ℕ) (counts : List ℕ) (i : ℕ) → (start_place (c ∷ counts) i).0 ≤ length counts
+start-low c [] i = omega arith
+start-low c (next ∷ counts) i =
+    let b = nat_lt i c in
+    let low : ℕ × ℕ → Type 0 = λ at. at.0 ≤ length (next ∷ counts) in
+    let rest = start-low next counts (i - c) in
+    elim (cases_Bool b) [
+      | inl here ↦ subst low (sym (cond-true b _ _ here)) (let least : 0 ≤ length (next ∷ counts) = omega arith in least)
+      | inr past ↦ subst low (sym (cond-false b _ _ past)) (let more : suc (start_place (next ∷ counts) (i - c)).0 ≤ length (next ∷ counts) = omega arith in more)
+    ]
+
+pub end-low : (c : ℕ) (counts : List ℕ) (i : ℕ) → (end_place (c ∷ counts) i).0 ≤ length counts
+end-low c [] i = omega arith
+end-low c (next ∷ counts) i =
+    let b = nat_le i c in
+    let low : ℕ × ℕ → Type 0 = λ at. at.0 ≤ length (next ∷ counts) in
+    let rest = end-low next counts (i - c) in
+    elim (cases_Bool b) [
+      | inl here ↦ subst low (sym (cond-true b _ _ here)) (let least : 0 ≤ length (next ∷ counts) = omega arith in least)
+      | inr past ↦ subst low (sym (cond-false b _ _ past)) (let more : suc (end_place (next ∷ counts) (i - c)).0 ≤ length (next ∷ counts) = omega arith in more)
+    ]
+
+pub first-low : (c : ℕ) (counts : List ℕ) (i j : ℕ) → (first_place (c ∷ counts) i j).0 ≤ length counts
+first-low c counts i j =
+    let b = i == j in
+    let low : ℕ × ℕ → Type 0 = λ at. at.0 ≤ length counts in
+    elim (cases_Bool b) [
+      | inl same ↦ subst low (sym (cond-true b _ _ same)) (end-low c counts i)
+      | inr other ↦ subst low (sym (cond-false b _ _ other)) (start-low c counts i)
+    ]
+
+-- A run doesn't end before it begins.
+pub start-end : (counts : List ℕ) (i j : ℕ) → i < j → (start_place counts i).0 ≤ (end_place counts j).0
+start-end [] i j less = omega arith
+start-end (c ∷ []) i j less = omega arith
+start-end (c ∷ next ∷ counts) i j less =
+    let b = nat_lt i c in
+    let e = nat_le j c in
+    let last : ℕ = (end_place (c ∷ next ∷ counts) j).0 in
+    let low : ℕ × ℕ → Type 0 = λ at. at.0 ≤ last in
+    elim (cases_Bool b) [
+      | inl here ↦ subst low (sym (cond-true b _ _ here)) (let least : 0 ≤ last = omega arith in least)
+      | inr past ↦
+          (let from : c ≤ i = ltb-false i c past in
+          let start : ℕ = suc (start_place (next ∷ counts) (i - c)).0 in
+          let rest = start-end (next ∷ counts) (i - c) (j - c) (omega arith) in
+          let there : start ≤ suc (end_place (next ∷ counts) (j - c)).0 = omega arith in
+          let behind : start ≤ last = elim (cases_Bool e) [
+            | inl within ↦ (let most = leb-true j c within in absurd (omega arith))
+            | inr beyond ↦ subst (λ (at : ℕ × ℕ). start ≤ at.0) (sym (cond-false e _ _ beyond)) there
+          ] in
+          subst low (sym (cond-false b _ _ past)) behind)
+    ]
+
+pub first-end : (counts : List ℕ) (i j : ℕ) → i ≤ j → (first_place counts i j).0 ≤ (end_place counts j).0
+first-end counts i j most =
+    let b = i == j in
+    let low : ℕ × ℕ → Type 0 = λ at. at.0 ≤ (end_place counts j).0 in
+    elim (cases_Bool b) [
+      | inl same ↦
+          (let is : i ≡ j = eqb-true i j same in
+          let place : (end_place counts i).0 ≡ (end_place counts j).0 = ap (λ (n : ℕ). (end_place counts n).0) is in
+          subst low (sym (cond-true b _ _ same)) (omega arith))
+      | inr other ↦
+          (let differ = eqb-false i j other in let less : i < j = omega arith in subst low (sym (cond-false b _ _ other)) (start-end counts i j less))
+    ]

@@ -1,0 +1,14 @@
+//! The laws of large arrays: each is the contract of a function that does nothing.
+ghost use Rattle.large_arrays.specs.EditLaws.{LargeEditsLaw};
+ghost use Rattle.large_arrays.specs.SpreadLaws.{SpreadLaw};
+
+/// An edit of the pieces is the edit of the list, and leaves the pieces spread.
+pub fn spread_law()
+    ensures { SpreadLaw }
+{}
+
+/// An array is made without elements. An edit of an array that nothing refuses is the list's edit, leaves it as well
+/// spread as it was, and leaves all else as it is.
+pub fn large_edits_law()
+    ensures { LargeEditsLaw }
+{}
