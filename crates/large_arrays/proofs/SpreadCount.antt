@@ -2,7 +2,7 @@
 use Rattle.std.proofs.Common.{◌≡◌, ℕ, true, zero, suc, ◌+◌, ◌-◌, ◌<◌, ◌≤◌, ◌==◌, nat_le, nat_lt, List, [], ◌∷◌, ◌++◌, length, take, drop, map, get_or, refl, sym, ap, subst, ◌∙◌, inl, inr, append_assoc, length-append, length-drop, length-take, ltb-true, ltb-false, ◌⊎◌, arith}
 use Rattle.std.proofs.lemmas.Bool.{cases_Bool, cond-true, cond-false}
 use Rattle.std.proofs.lemmas.List.{length-take-le, get_or_past, append-nil, length-map}
-use Rattle.large_arrays.specs.Pieces.{Piece, branch_room, join_room, weight, are_joined, fits, are_spread}
+use Rattle.large_arrays.specs.Pieces.{Piece, branch_room, join_room, weight, are_joined, fits, are_spread, all_fit}
 use Rattle.large_arrays.specs.Spread.{end_place, first_place, packed_from, with_last, with_first, middle, piece_before, right_piece, with_left, respread, if_none}
 use Rattle.large_arrays.proofs.SpreadFits.{part-fits, taken-fits, got-fits, room_of}
 use Rattle.large_arrays.proofs.SpreadPlaces.{end-low, first-end}
@@ -70,12 +70,11 @@ with_first-few size (y ∷ ys) (x ∷ ps) =
       | inr apart ↦ subst few (sym (cond-false b _ _ apart)) (let two : suc (suc n) ≤ suc (suc n) = omega arith in two)
     ]
 
-middle-few : (size : ℕ) (ps : List Piece) (i j : ℕ) (new : Piece) → are_spread size ps ≡ true → length (middle size ps i j new) ≤ suc (suc (length new))
-middle-few size ps i j new spread =
+pub middle-few : (size : ℕ) (ps : List Piece) (i j : ℕ) (new : Piece) → all_fit size ps ≡ true → length (middle size ps i j new) ≤ suc (suc (length new))
+middle-few size ps i j new all =
     let from = first_place (map length ps) i j in
     let to = end_place (map length ps) j in
     let head : Piece = take from.1 (get_or ps from.0 []) in
-    let all = (spread_parts size ps spread).fit in
     let kept = kept-few size head new (taken-fits size from.1 (get_or ps from.0 []) (got-fits size ps from.0 all)) in
     let last = with_last-few size (room_of (from.0 == to.0)) (packed_from size [] (head ++ new)) (drop to.1 (get_or ps to.0 [])) in
     omega arith
@@ -131,7 +130,7 @@ respread-few size ps i j new order spread =
     let whole : List Piece = with_last size join_room lefted (right_piece ps j) in
     let before : List Piece = take (from.0 - 1) ps in
     let behind : List Piece = drop (suc (suc to.0)) ps in
-    let parts = middle-few size ps i j new spread in
+    let parts = middle-few size ps i j new (spread_parts size ps spread).fit in
     let left = left-few size ps from.0 mid (begins ps i j some) in
     let right = right-few size ps to.0 lefted (ends ps j some) in
     let run = first-end (map length ps) i j order in

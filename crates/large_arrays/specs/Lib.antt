@@ -1,5 +1,6 @@
 pub mod Blocks
 pub mod BranchReading
+pub mod ChangeLaws
 pub mod EditLaws
 pub mod Edits
 pub mod Layout

@@ -6,5 +6,5 @@ mod law;
 mod root;
 
 pub use branch::read_branch;
-pub use law::{large_edits_law, spread_law};
+pub use law::{few_change_law, large_edits_law, spread_law};
 pub use root::{RootView, read_root};
