@@ -1,5 +1,5 @@
 -- In which pieces a run begins and ends.
-use Rattle.std.proofs.Common.{◌≡◌, ℕ, suc, ◌-◌, ◌<◌, ◌≤◌, ◌==◌, nat_le, nat_lt, List, [], ◌∷◌, length, sym, ap, subst, inl, inr, leb-true, ltb-false, arith, refl, ◌+◌, ◌∙◌, false, ltb-true, true}
+use Rattle.std.proofs.Common.{◌≡◌, ℕ, suc, ◌-◌, ◌<◌, ◌≤◌, ◌==◌, nat_le, nat_lt, List, [], ◌∷◌, length, sym, ap, subst, inl, inr, leb-true, ltb-false, arith, refl, ◌+◌, ◌∙◌, false, ltb-true, true, leb-false}
 use Rattle.std.proofs.lemmas.Bool.{cases_Bool, cond-true, cond-false, eqb-true, eqb-false, eq-eqb, le-leb}
 use Rattle.large_arrays.specs.Spread.{start_place, end_place, first_place}
 
@@ -107,4 +107,45 @@ first-end_one counts i = elim (cases_Bool (i == i + 1)) [
   | inl same ↦ (let never : i ≡ i + 1 = eqb-true i (i + 1) same in absurd (omega arith))
   | inr other ↦
       ap (λ (at : ℕ × ℕ). at.0) (cond-false (i == i + 1) (end_place counts i) (start_place counts i) other) ∙ start-end_one counts i
+]
+
+-- Where a run begins and ends in one piece, it doesn't end before it begins.
+start-end_same : (counts : List ℕ) (i j : ℕ) → i < j → (start_place counts i).0 ≡ (end_place counts j).0 → (start_place counts i).1 ≤ (end_place counts j).1
+start-end_same [] i j less = λ same. omega arith
+start-end_same (c ∷ []) i j less = λ same. omega arith
+start-end_same (c ∷ next ∷ counts) i j less =
+    let start : ℕ × ℕ = start_place (next ∷ counts) (i - c) in
+    let end : ℕ × ℕ = end_place (next ∷ counts) (j - c) in
+    let ordered : ℕ × ℕ → ℕ × ℕ → Type 0 = λ x y. x.0 ≡ y.0 → x.1 ≤ y.1 in
+    let s : ℕ × ℕ = start_place (c ∷ next ∷ counts) i in
+    let e : ℕ × ℕ = end_place (c ∷ next ∷ counts) j in
+    elim (cases_Bool (nat_lt i c)) [
+      | inl here ↦ elim (cases_Bool (nat_le j c)) [
+        | inl within ↦ both ordered (0, i) (0, j) s e (cond-true (nat_lt i c) (0, i) (suc start.0, start.1) here) (cond-true (nat_le j c) (0, j) (suc end.0, end.1) within) (λ same. omega arith)
+        | inr beyond ↦ both ordered (0, i) (suc end.0, end.1) s e (cond-true (nat_lt i c) (0, i) (suc start.0, start.1) here) (cond-false (nat_le j c) (0, j) (suc end.0, end.1) beyond) (λ same. absurd (let never : 0 ≡ suc end.0 = same in omega arith))
+      ]
+      | inr past ↦ elim (cases_Bool (nat_le j c)) [
+        | inl within ↦ (let low = leb-true j c within in let from = ltb-false i c past in absurd (omega arith))
+        | inr beyond ↦
+            (let more = leb-false j c beyond in
+            let from = ltb-false i c past in
+            both ordered (suc start.0, start.1) (suc end.0, end.1) s e (cond-false (nat_lt i c) (0, i) (suc start.0, start.1) past) (cond-false (nat_le j c) (0, j) (suc end.0, end.1) beyond)
+            (λ same. start-end_same (next ∷ counts) (i - c) (j - c) (omega arith) (let less_one : suc start.0 ≡ suc end.0 = same in omega arith)))
+      ]
+    ]
+  where
+    both : (P : ℕ × ℕ → ℕ × ℕ → Type 0) (a b x y : ℕ × ℕ) → x ≡ a → y ≡ b → P a b → P x y
+    both P a b x y is also holds = subst (λ (z : ℕ × ℕ). P z y) (sym is) (subst (P a) (sym also) holds)
+
+pub first-end_same : (counts : List ℕ) (i j : ℕ) → i ≤ j → (first_place counts i j).0 ≡ (end_place counts j).0 → (first_place counts i j).1 ≤ (end_place counts j).1
+first-end_same counts i j order same = elim (cases_Bool (i == j)) [
+  | inl is ↦
+      (let place : first_place counts i j ≡ end_place counts j =
+      cond-true (i == j) (end_place counts i) (start_place counts i) is ∙ ap (end_place counts) (eqb-true i j is) in
+      let second = ap (λ (at : ℕ × ℕ). at.1) place in
+      omega arith)
+  | inr other ↦
+      (let differ = eqb-false i j other in
+      let place : first_place counts i j ≡ start_place counts i = cond-false (i == j) (end_place counts i) (start_place counts i) other in
+      subst (λ (at : ℕ × ℕ). at.0 ≡ (end_place counts j).0 → at.1 ≤ (end_place counts j).1) (sym place) (start-end_same counts i j (omega arith)) same)
 ]
