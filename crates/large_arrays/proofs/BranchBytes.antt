@@ -17,7 +17,7 @@ abbrev pub is_sized : ℕ → Piece → Bool
 is_sized size piece = size == 0 || list_all (λ x. length x == size) piece
 
 -- the chunk array in a branch
-abbrev array_of_piece : ℕ → Piece → Array
+abbrev pub array_of_piece : ℕ → Piece → Array
 array_of_piece size piece = record { extra = []; size = size; elements = piece }
 
 weight-two : (piece : Piece) → sum_by (λ x. length x + 2) piece ≡ 2 * length piece + length (joined piece)
@@ -88,7 +88,7 @@ branch-few size piece fit =
     omega arith
 
 -- they stand behind a zero word
-behind : (size : ℕ) (piece : Piece) → drop 2 (branch_bytes size piece) ≡ array_bytes (array_of_piece size piece)
+pub behind : (size : ℕ) (piece : Piece) → drop 2 (branch_bytes size piece) ≡ array_bytes (array_of_piece size piece)
 unfolding branch_bytes
 behind size piece = refl
 
@@ -116,7 +116,7 @@ unfolding branch_bytes
 branch_links size piece = refl
 
 -- the same bytes are of arrays of one size
-same_size : (a b : Array) → a.size < 65536 → b.size < 65536 → array_bytes a ≡ array_bytes b → a.size ≡ b.size
+pub same_size : (a b : Array) → a.size < 65536 → b.size < 65536 → array_bytes a ≡ array_bytes b → a.size ≡ b.size
 same_size a b a_small b_small same =
     sym (size-read a a_small) ∙ ap (λ (bytes : List ℕ). word_at bytes 2) (sym (array_bytes-spelled a) ∙ same ∙ array_bytes-spelled b) ∙ size-read b b_small
 

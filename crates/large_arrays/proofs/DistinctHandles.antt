@@ -1,6 +1,6 @@
 -- Handles of which none is there twice.
-use Rattle.std.proofs.Common.{◌≡◌, ℕ, suc, ◌*◌, ◌≤◌, Bool, true, false, not, ◌||◌, ◌==◌, nat_lt, cond, List, [], ◌∷◌, ◌++◌, length, take, drop, get_or, replicate, Option, None, is_none, count_by, refl, sym, ap, subst, ◌∙◌, inl, inr, arith, lt-ltb}
-use Rattle.std.proofs.lemmas.Bool.{cases_Bool, and_from, not_from_false, eqb-true}
+use Rattle.std.proofs.Common.{◌≡◌, ℕ, suc, ◌+◌, ◌*◌, ◌≤◌, Bool, true, false, not, ◌||◌, ◌==◌, if◌then◌else◌, nat_lt, cond, List, [], ◌∷◌, ◌++◌, length, take, drop, get_or, replicate, Option, None, is_none, count_by, refl, sym, ap, subst, ◌∙◌, inl, inr, arith, lt-ltb}
+use Rattle.std.proofs.lemmas.Bool.{cases_Bool, and_from, not_from_false, eqb-true, cond-true, cond-false, eq-eqb, true≢false}
 use Rattle.std.proofs.lemmas.List.{length-replicate, get_or-replicate, take-append-drop}
 use Rattle.std.proofs.lemmas.List.Folds.{sum_by-replicate}
 use Rattle.std.proofs.lemmas.List.Elements.{Contains-append_left, Contains-append_right, Contains-append_cases}
@@ -86,3 +86,45 @@ there_before n hs h there = subst (λ xs. Contains xs h) (take-append-drop n hs)
 
 pub there_behind : (n : ℕ) (hs : List ℕ) (h : ℕ) → Contains (drop n hs) h → Contains hs h
 there_behind n hs h there = subst (λ xs. Contains xs h) (take-append-drop n hs) (Contains-append_right (take n hs) (drop n hs) h there)
+
+-- Handles of which none is there twice are no more than those among which they are.
+
+abbrev without : ℕ → List ℕ → List ℕ
+without h [] = []
+without h (x ∷ xs) = if x == h then xs else x ∷ without h xs
+
+without-fewer : (h : ℕ) (xs : List ℕ) → Contains xs h → length (without h xs) + 1 ≡ length xs
+without-fewer h [] there = absurd (let low = there.1 in omega arith)
+without-fewer h (x ∷ xs) there = elim (cases_Bool (x == h)) [
+  | inl is ↦ (let same : length (without h (x ∷ xs)) ≡ length xs = ap length (cond-true (x == h) xs (x ∷ without h xs) is) in omega arith)
+  | inr other ↦
+      (let later : Contains xs h = elim (contains_cases x xs h there) [
+        | inl at ↦ absurd (true≢false (sym (eq-eqb x h at) ∙ other))
+        | inr beyond ↦ beyond
+      ] in
+      let rest = without-fewer h xs later in
+      let same : length (without h (x ∷ xs)) ≡ suc (length (without h xs)) = ap length (cond-false (x == h) xs (x ∷ without h xs) other) in
+      omega arith)
+]
+
+without-others : (h y : ℕ) (xs : List ℕ) → Contains xs y → (y ≡ h → ⊥) → Contains (without h xs) y
+without-others h y [] there apart = there
+without-others h y (x ∷ xs) there apart = elim (cases_Bool (x == h)) [
+  | inl is ↦ subst (λ zs. Contains zs y) (sym (cond-true (x == h) xs (x ∷ without h xs) is)) (elim (contains_cases x xs y there) [
+    | inl at ↦ absurd (apart (sym at ∙ eqb-true x h is))
+    | inr beyond ↦ beyond
+  ])
+  | inr other ↦ subst (λ zs. Contains zs y) (sym (cond-false (x == h) xs (x ∷ without h xs) other)) (elim (contains_cases x xs y there) [
+    | inl at ↦ subst (Contains (x ∷ without h xs)) at (contains_first x (without h xs))
+    | inr beyond ↦ contains_later x (without h xs) y (without-others h y xs beyond apart)
+  ])
+]
+
+pub contained-few : (hs xs : List ℕ) → all_distinct hs ≡ true → ((h : ℕ) → Contains hs h → Contains xs h) → length hs ≤ length xs
+contained-few [] xs once within = omega arith
+contained-few (h ∷ hs) xs once within =
+    let here = within h (contains_first h hs) in
+    let fewer = without-fewer h xs here in
+    let rest = contained-few hs (without h xs) (distinct-rest h hs once) (λ y there.
+    without-others h y xs (within y (contains_later h hs y there)) (λ is. distinct-first h hs once (subst (Contains hs) is there))) in
+    omega arith

@@ -23,3 +23,6 @@ pub mod SameWeights
 pub mod Overwriting
 pub mod Inserting
 pub mod Creating
+pub mod RootLemmas
+pub mod PlaceSteps
+pub mod BranchLemmas

@@ -18,9 +18,10 @@ use Rattle.large_arrays.specs.Pieces.{Piece, all_fit, elements_of, are_spread}
 use Rattle.large_arrays.specs.Layout.{Root, root_bytes, is_root}
 use Rattle.large_arrays.specs.Blocks.{pieces_at}
 use Rattle.large_arrays.specs.EditLaws.{IsEdited}
+use Rattle.large_arrays.specs.ChangeLaws.{IsChanged}
 use Rattle.large_arrays.proofs.Layouts.{HasBranch, HasLayout, all_sized, raw-handle, layout-root, layout-pieces, layout-chain, layout-array}
 use Rattle.large_arrays.proofs.Pairs.{pairs-length, pairs-append, pairs-take, pairs-drop}
-use Rattle.large_arrays.proofs.DistinctHandles.{distinct-few, distinct-cons, distinct-append, distinct-parts, there_before, there_behind}
+use Rattle.large_arrays.proofs.DistinctHandles.{contained-few, distinct-few, distinct-cons, distinct-append, distinct-parts, there_before, there_behind}
 
 -- a raw block under a handle
 pub raw-there : (d : Document) (h : ℕ) (block : Block) (bytes : List ℕ) → get d.blocks h ≡ Some block → block.body ≡ Raw bytes
@@ -308,3 +309,34 @@ module _ (d : Document) (b : ℕ) (r : Root) (pieces : List Piece) (first behind
             ap (are_spread r.size) (ap (pieces_at new) (layout-root new b new_root new_pieces replaced.valid new-layout) ∙ layout-pieces new b new_root new_pieces replaced.valid new-layout)
             ∙ spread (ap (are_spread r.size) (sym (ap (pieces_at d) (layout-root d b r pieces valid has) ∙ layout-pieces d b r pieces valid has)) ∙ old);
       }
+
+      -- A branch that stays with other bytes is one that was replaced, and came again.
+      same_bytes : (h : ℕ) → get new.blocks h ≡ get d.blocks h → raw_bytes_of new h ≡ raw_bytes_of d h
+      same_bytes h same = ap (λ (o : Option Block). option_map_or (λ x. bytes_of_body x.body) o []) same
+
+      changed_old : (h : ℕ) → IsChanged d new b h → Contains olds h
+      changed_old h changed =
+          let was : Contains r.branches h = subst (λ (q : Root). Contains q.branches h) (layout-root d b r pieces valid has) changed.was in
+          elim (Contains-append_cases front (olds ++ back) h (subst (λ xs. Contains xs h) parts was)) [
+            | inl early ↦ absurd (changed.other (same_bytes h (front_kept h early)))
+            | inr later ↦ elim (Contains-append_cases olds back h later) [
+              | inl old ↦ old
+              | inr end ↦ absurd (changed.other (same_bytes h (back_kept h end)))
+            ]
+          ]
+
+      changed_new : (h : ℕ) → IsChanged d new b h → Contains news h
+      changed_new h changed =
+          let is : Contains new_branches h = subst (λ (q : Root). Contains q.branches h) (layout-root new b new_root new_pieces replaced.valid new-layout) changed.stays in
+          elim (Contains-append_cases front (news ++ back) h is) [
+            | inl early ↦ absurd (changed.other (same_bytes h (front_kept h early)))
+            | inr later ↦ elim (Contains-append_cases news back h later) [
+              | inl fresh ↦ fresh
+              | inr end ↦ absurd (changed.other (same_bytes h (back_kept h end)))
+            ]
+          ]
+
+      pub changed-few : (hs : List ℕ) → all_distinct hs ≡ true → ((h : ℕ) → Contains hs h → IsChanged d new b h)
+          → (length hs ≤ length olds) × (length hs ≤ length news)
+      changed-few hs once changed =
+          (contained-few hs olds once (λ h there. changed_old h (changed h there)), contained-few hs news once (λ h there. changed_new h (changed h there)))

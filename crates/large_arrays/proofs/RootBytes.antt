@@ -1,19 +1,18 @@
 -- A root's bytes read back as the root, and they are those of a tree block with the root's branches.
-use Rattle.std.proofs.Common.{◌≡◌, ℕ, ◌+◌, ◌*◌, ◌≤◌, true, not, ◌&&◌, ◌||◌, ◌==◌, nat_le, nat_lt, if◌then◌else◌, List, [], ◌∷◌, ◌++◌, map, length, drop, filter, Some, None, flat_map, refl, sym, ap, ap₂, subst, ◌∙◌, arith, inl, inr, length-append, append_assoc, append-nil, drop-drop, drop_at, ltb-true, le-leb, leb-true}
+use Rattle.std.proofs.Common.{◌≡◌, ℕ, ◌+◌, ◌*◌, ◌<◌, true, not, ◌&&◌, ◌||◌, ◌==◌, nat_le, nat_lt, if◌then◌else◌, List, [], ◌∷◌, ◌++◌, map, length, drop, filter, Some, None, flat_map, refl, sym, ap, ap₂, subst, ◌∙◌, arith, inl, inr, length-append, append_assoc, append-nil, drop-drop, drop_at, ltb-true, le-leb, leb-true}
 use Rattle.std.proofs.lemmas.Bool.{cases_Bool, and_parts, and_from, cond-true, cond-false, eq-eqb}
 use Rattle.std.proofs.lemmas.List.FromFn.{length-map-range_with_len}
 use Rattle.std.specs.List.{range_with_len, list_all}
 use Rattle.byteorder.specs.Endian.{little_number}
 use Rattle.geos_model.specs.Bytes.{same_bytes}
 use Rattle.geos_model.specs.Words.{word, double_word, word_at}
-use Rattle.geos_model.specs.Document.{most_blocks}
 use Rattle.geos_model.specs.Chain.{tree_mark, is_tree, branches_at, branch_count, has_branches, is_linked, link_count, first_link, links}
 use Rattle.geos_model.proofs.Images.{word-reads_back}
 use Rattle.geos_model.proofs.Arrays.{are_words, words_read, length-words, same_bytes-is, same_bytes-refl}
 use Rattle.large_arrays.specs.Layout.{Root, total, large_mark, greatest_element_size, root_bytes, is_root, root_read, root_of}
 
 -- A branch in a root: a zero word, and the handle.
-abbrev link_of : ℕ → List ℕ
+abbrev pub link_of : ℕ → List ℕ
 link_of h = word 0 ++ word h
 
 length-links : (hs : List ℕ) → length (flat_map link_of hs) ≡ 4 * length hs
@@ -21,7 +20,7 @@ length-links [] = refl
 length-links (h ∷ hs) = (let rest = length-links hs in omega arith)
 
 -- such that lie one after another from a place on
-links_read : (bytes : List ℕ) (start k : ℕ) (hs rest : List ℕ) → are_words hs ≡ true → drop (start + 4 * k) bytes ≡ flat_map link_of hs ++ rest
+pub links_read : (bytes : List ℕ) (start k : ℕ) (hs rest : List ℕ) → are_words hs ≡ true → drop (start + 4 * k) bytes ≡ flat_map link_of hs ++ rest
     → (map (λ i. word_at bytes (start + 2 + 4 * i)) (range_with_len k (length hs)) ≡ hs)
     × (list_all (λ i. word_at bytes (start + 4 * i) == 0) (range_with_len k (length hs)) ≡ true)
 links_read bytes start k [] rest small at = (refl, refl)
@@ -46,19 +45,19 @@ links_read bytes start k (h ∷ hs) rest small at =
 pub record FitsRoot (r : Root) : Type 0 where
   pub is : is_root r ≡ true
   pub as_many : length r.branches ≡ length r.counts
-  pub few : length r.counts ≤ most_blocks
+  pub few : 16 + 2 * length r.counts < 65536
   pub counts : are_words r.counts ≡ true
   pub branches : are_words r.branches ≡ true
 
 -- its bytes, from the right: what has a fixed length, and the rest
-abbrev root_head : Root → List ℕ
+abbrev pub root_head : Root → List ℕ
 root_head r =
     word tree_mark ++ word (16 + 2 * length r.counts) ++ word (length r.counts) ++ large_mark ++ word r.size ++ double_word (total r)
 
-abbrev root_spelled : Root → List ℕ
+abbrev pub root_spelled : Root → List ℕ
 root_spelled r = root_head r ++ (flat_map word r.counts ++ flat_map link_of r.branches)
 
-root_bytes-spelled : (r : Root) → root_bytes r ≡ root_spelled r
+pub root_bytes-spelled : (r : Root) → root_bytes r ≡ root_spelled r
 unfolding root_bytes
 root_bytes-spelled r = append_assoc (root_head r) (flat_map word r.counts) (flat_map link_of r.branches)
 
@@ -87,13 +86,13 @@ module _ (r : Root) (fits : FitsRoot r) where
   behind_head : drop 16 bytes ≡ flat_map word r.counts ++ flat_map link_of r.branches
   behind_head = drop_at (root_head r) (flat_map word r.counts ++ flat_map link_of r.branches) 16 refl
 
-  place-read : word_at bytes 2 ≡ 16 + 2 * n
+  pub place-read : word_at bytes 2 ≡ 16 + 2 * n
   place-read = word-reads_back (16 + 2 * n) [] (let few = fits.few in omega arith)
 
-  count-read : word_at bytes 4 ≡ n
+  pub count-read : word_at bytes 4 ≡ n
   count-read = word-reads_back n [] (let few = fits.few in omega arith)
 
-  size-read : word_at bytes 10 ≡ r.size
+  pub size-read : word_at bytes 10 ≡ r.size
   size-read =
       let parts = and_parts (nat_lt 0 n && nat_le r.size greatest_element_size) (n == 1 || list_all (λ c. nat_lt 0 c) r.counts) fits.is in
       let two = and_parts (nat_lt 0 n) (nat_le r.size greatest_element_size) parts.0 in
@@ -103,7 +102,7 @@ module _ (r : Root) (fits : FitsRoot r) where
   counts-read : map (λ i. word_at bytes (16 + 2 * i)) (range_with_len 0 n) ≡ r.counts
   counts-read = words_read bytes 16 0 r.counts (flat_map link_of r.branches) fits.counts behind_head
 
-  behind_counts : drop (16 + 2 * n + 4 * 0) bytes ≡ flat_map link_of r.branches ++ []
+  pub behind_counts : drop (16 + 2 * n + 4 * 0) bytes ≡ flat_map link_of r.branches ++ []
   behind_counts =
       let long : length (root_head r ++ flat_map word r.counts) ≡ 16 + 2 * n + 4 * 0 =
       length-append (root_head r) (flat_map word r.counts) ∙ (let words = length-words r.counts in omega arith) in
@@ -170,19 +169,25 @@ module _ (r : Root) (fits : FitsRoot r) where
       ∙ ap₂ (λ (f k : ℕ). filter (λ h. not (h == 0)) (map (λ i. word_at bytes (f + 4 * i)) (range_with_len 0 k))) first count
       ∙ ap (filter (λ h. not (h == 0))) branches-read
 
--- What bytes read as is what reading makes of them, and it has as many branches as counts.
-pub root_of-is : (bytes : List ℕ) (r : Root) → root_of bytes ≡ Some r
-    → (is_root r ≡ true) × (root_bytes r ≡ bytes) × (length r.branches ≡ length r.counts)
+-- What bytes read as is what reading makes of them.
+pub root_of-read : (bytes : List ℕ) (r : Root) → root_of bytes ≡ Some r → (root_read bytes ≡ r) × (is_root r ≡ true) × (root_bytes r ≡ bytes)
 unfolding root_of
-root_of-is bytes r e =
+root_of-read bytes r e =
     let q : Root = root_read bytes in
     elim (cases_Bool (is_root q && same_bytes (root_bytes q) bytes)) [
       | inl so ↦
           (let some : Some q ≡ Some r = sym (cond-true _ _ _ so) ∙ e in
           let is : q ≡ r = cc in
           let parts = and_parts (is_root r) (same_bytes (root_bytes r) bytes) (subst (λ x. (is_root x && same_bytes (root_bytes x) bytes) ≡ true) is so) in
-          let counts = length-map-range_with_len (λ i. word_at bytes (16 + 2 * i)) 0 (word_at bytes 4) in
-          let branches = length-map-range_with_len (λ i. word_at bytes (18 + 2 * word_at bytes 4 + 4 * i)) 0 (word_at bytes 4) in
-          (parts.0, same_bytes-is (root_bytes r) bytes parts.1, subst (λ x. length x.branches ≡ length x.counts) is (branches ∙ sym counts)))
+          (is, parts.0, same_bytes-is (root_bytes r) bytes parts.1))
       | inr other ↦ (let none : None ≡ Some r = sym (cond-false _ _ _ other) ∙ e in absurd (cc))
     ]
+
+-- It has as many branches as counts.
+pub root_of-is : (bytes : List ℕ) (r : Root) → root_of bytes ≡ Some r
+    → (is_root r ≡ true) × (root_bytes r ≡ bytes) × (length r.branches ≡ length r.counts)
+root_of-is bytes r e =
+    let read = root_of-read bytes r e in
+    let counts = length-map-range_with_len (λ i. word_at bytes (16 + 2 * i)) 0 (word_at bytes 4) in
+    let branches = length-map-range_with_len (λ i. word_at bytes (18 + 2 * word_at bytes 4 + 4 * i)) 0 (word_at bytes 4) in
+    (read.1, read.2, subst (λ x. length x.branches ≡ length x.counts) read.0 (branches ∙ sym counts))

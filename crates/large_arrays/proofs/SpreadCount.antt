@@ -1,11 +1,11 @@
 -- How many pieces there are after an edit.
-use Rattle.std.proofs.Common.{◌≡◌, ℕ, true, zero, suc, ◌+◌, ◌-◌, ◌<◌, ◌≤◌, ◌==◌, nat_le, nat_lt, List, [], ◌∷◌, ◌++◌, length, take, drop, map, get_or, refl, sym, ap, subst, ◌∙◌, inl, inr, append_assoc, length-append, length-drop, length-take, ltb-true, ltb-false, ◌⊎◌, arith}
-use Rattle.std.proofs.lemmas.Bool.{cases_Bool, cond-true, cond-false}
-use Rattle.std.proofs.lemmas.List.{length-take-le, get_or_past, append-nil, length-map}
-use Rattle.large_arrays.specs.Pieces.{Piece, branch_room, join_room, weight, are_joined, fits, are_spread}
+use Rattle.std.proofs.Common.{◌≡◌, ℕ, true, zero, suc, ◌+◌, ◌-◌, ◌<◌, ◌≤◌, ◌==◌, nat_le, nat_lt, List, [], ◌∷◌, ◌++◌, length, take, drop, map, get_or, refl, sym, ap, subst, ◌∙◌, inl, inr, append_assoc, length-append, length-drop, length-take, ltb-true, ltb-false, ◌⊎◌, arith, leb-true, if◌then◌else◌, le-leb}
+use Rattle.std.proofs.lemmas.Bool.{cases_Bool, cond-true, cond-false, cases_eq, eq-eqb}
+use Rattle.std.proofs.lemmas.List.{length-take-le, get_or_past, append-nil, length-map, take-append-drop, drop-drop}
+use Rattle.large_arrays.specs.Pieces.{Piece, branch_room, join_room, weight, are_joined, fits, are_spread, all_fit}
 use Rattle.large_arrays.specs.Spread.{end_place, first_place, packed_from, with_last, with_first, middle, piece_before, right_piece, with_left, respread, if_none}
-use Rattle.large_arrays.proofs.SpreadFits.{part-fits, taken-fits, got-fits, room_of}
-use Rattle.large_arrays.proofs.SpreadPlaces.{end-low, first-end}
+use Rattle.large_arrays.proofs.SpreadFits.{part-fits, taken-fits, got-fits, room_of, weight-append}
+use Rattle.large_arrays.proofs.SpreadPlaces.{end-low, first-end, first-end_same}
 use Rattle.large_arrays.proofs.SpreadStays.{spread_parts, begins}
 
 -- What fits into a piece that was begun goes in there.
@@ -70,12 +70,11 @@ with_first-few size (y ∷ ys) (x ∷ ps) =
       | inr apart ↦ subst few (sym (cond-false b _ _ apart)) (let two : suc (suc n) ≤ suc (suc n) = omega arith in two)
     ]
 
-middle-few : (size : ℕ) (ps : List Piece) (i j : ℕ) (new : Piece) → are_spread size ps ≡ true → length (middle size ps i j new) ≤ suc (suc (length new))
-middle-few size ps i j new spread =
+pub middle-few : (size : ℕ) (ps : List Piece) (i j : ℕ) (new : Piece) → all_fit size ps ≡ true → length (middle size ps i j new) ≤ suc (suc (length new))
+middle-few size ps i j new all =
     let from = first_place (map length ps) i j in
     let to = end_place (map length ps) j in
     let head : Piece = take from.1 (get_or ps from.0 []) in
-    let all = (spread_parts size ps spread).fit in
     let kept = kept-few size head new (taken-fits size from.1 (get_or ps from.0 []) (got-fits size ps from.0 all)) in
     let last = with_last-few size (room_of (from.0 == to.0)) (packed_from size [] (head ++ new)) (drop to.1 (get_or ps to.0 [])) in
     omega arith
@@ -131,9 +130,81 @@ respread-few size ps i j new order spread =
     let whole : List Piece = with_last size join_room lefted (right_piece ps j) in
     let before : List Piece = take (from.0 - 1) ps in
     let behind : List Piece = drop (suc (suc to.0)) ps in
-    let parts = middle-few size ps i j new spread in
+    let parts = middle-few size ps i j new (spread_parts size ps spread).fit in
     let left = left-few size ps from.0 mid (begins ps i j some) in
     let right = right-few size ps to.0 lefted (ends ps j some) in
+    let run = first-end (map length ps) i j order in
+    let front = length-append before (if_none whole) in
+    let all = length-append (before ++ if_none whole) behind in
+    let short = length-take (from.0 - 1) ps in
+    let rest = length-drop (suc (suc to.0)) ps in
+    elim (if_none-few whole) [
+      | inl same ↦ omega arith
+      | inr one ↦ omega arith
+    ]
+
+-- A deletion makes no piece more.
+
+-- what stays of a piece is one piece at most
+kept-one : (size : ℕ) (head tail : Piece) → weight size head + weight size tail ≤ branch_room
+    → length (with_last size branch_room (packed_from size [] (head ++ [])) tail) ≤ 1
+kept-one size [] [] few = omega arith
+kept-one size [] (y ∷ ys) few = omega arith
+kept-one size (x ∷ xs) tail few =
+    let one : packed_from size [] ((x ∷ xs) ++ []) ≡ (x ∷ xs) ∷ [] =
+    packed-begun size x [] xs [] (le-leb (weight size (x ∷ xs)) branch_room (omega arith)) in
+    subst (λ (ps : List Piece). length (with_last size branch_room ps tail) ≤ 1) (sym one) (by_tail tail few)
+  where
+    by_tail : (tail : Piece) → weight size (x ∷ xs) + weight size tail ≤ branch_room → length (with_last size branch_room ((x ∷ xs) ∷ []) tail) ≤ 1
+    by_tail [] few = omega arith
+    by_tail (y ∷ ys) few =
+        let b = nat_le (weight size (x ∷ xs) + weight size (y ∷ ys)) branch_room in
+        subst (λ (ps : List Piece). length ps ≤ 1) (sym (cond-true b _ _ (le-leb (weight size (x ∷ xs) + weight size (y ∷ ys)) branch_room few)))
+        (let one : 1 ≤ 1 = omega arith in one)
+
+-- two parts of a piece that don't overlap weigh no more than it
+parts-weigh : (size a e : ℕ) (p : Piece) → a ≤ e → weight size (take a p) + weight size (drop e p) ≤ weight size p
+parts-weigh size a e p order =
+    let all = weight-append size (take a p) (drop a p) in
+    let whole = ap (weight size) (take-append-drop a p) in
+    let rest = weight-append size (take (e - a) (drop a p)) (drop (e - a) (drop a p)) in
+    let rest_whole = ap (weight size) (take-append-drop (e - a) (drop a p)) in
+    let sum : a + (e - a) ≡ e = omega arith in
+    let behind : weight size (drop (e - a) (drop a p)) ≡ weight size (drop e p) = ap (weight size) (drop-drop (e - a) a p ∙ ap (λ (n : ℕ). drop n p) sum) in
+    omega arith
+
+middle-one : (size : ℕ) (ps : List Piece) (i j : ℕ) → i ≤ j → all_fit size ps ≡ true → (first_place (map length ps) i j).0 ≡ (end_place (map length ps) j).0
+    → length (middle size ps i j []) ≤ 1
+middle-one size ps i j order all same =
+    let from = first_place (map length ps) i j in
+    let to = end_place (map length ps) j in
+    let p : Piece = get_or ps from.0 [] in
+    let kept : List Piece = packed_from size [] (take from.1 p ++ []) in
+    let room : (if from.0 == to.0 then branch_room else join_room) ≡ branch_room = cond-true (from.0 == to.0) branch_room join_room (eq-eqb from.0 to.0 same) in
+    let fit = leb-true (weight size p) branch_room (got-fits size ps from.0 all) in
+    let parts = parts-weigh size from.1 to.1 p (first-end_same (map length ps) i j order same) in
+    subst (λ (m : ℕ). length (with_last size m kept (drop to.1 (get_or ps to.0 []))) ≤ 1) (sym room)
+    (subst (λ (k : ℕ). length (with_last size branch_room kept (drop to.1 (get_or ps k []))) ≤ 1) same (kept-one size (take from.1 p) (drop to.1 p) (omega arith)))
+
+pub respread-fewer : (size : ℕ) (ps : List Piece) (i j : ℕ) → i ≤ j → are_spread size ps ≡ true → length (respread size ps i j []) ≤ length ps
+unfolding respread
+respread-fewer size ps i j order spread =
+    let are = spread_parts size ps spread in
+    let some = are.some in
+    let from = first_place (map length ps) i j in
+    let to = end_place (map length ps) j in
+    let mid : List Piece = middle size ps i j [] in
+    let lefted : List Piece = with_left size ps i j [] in
+    let whole : List Piece = with_last size join_room lefted (right_piece ps j) in
+    let before : List Piece = take (from.0 - 1) ps in
+    let behind : List Piece = drop (suc (suc to.0)) ps in
+    let parts : length mid + from.0 ≤ to.0 + 1 = elim (cases_eq from.0 to.0) [
+      | inl same ↦ (let one = middle-one size ps i j order are.fit same in omega arith)
+      | inr other ↦ (let two = middle-few size ps i j [] are.fit in let run = first-end (map length ps) i j order in omega arith)
+    ] in
+    let left = left-few size ps from.0 mid (begins ps i j some) in
+    let low = ends ps j some in
+    let right = right-few size ps to.0 lefted low in
     let run = first-end (map length ps) i j order in
     let front = length-append before (if_none whole) in
     let all = length-append (before ++ if_none whole) behind in

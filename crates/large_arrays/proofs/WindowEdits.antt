@@ -1,7 +1,7 @@
 -- An edit of an array on blocks: the pieces of its window are replaced, and so the array is that of the list's edit.
-use Rattle.std.proofs.Common.{◌≡◌, ℕ, suc, ◌-◌, ◌<◌, ◌≤◌, Bool, true, false, ◌&&◌, ◌==◌, nat_le, nat_lt, List, [], ◌∷◌, length, take, drop, map, get_or, refl, sym, ap, ap₂, subst, ◌∙◌, inl, inr, arith, ltb-false, eqb-true}
+use Rattle.std.proofs.Common.{◌≡◌, ℕ, suc, ◌-◌, ◌<◌, ◌≤◌, Bool, true, false, ◌&&◌, ◌==◌, nat_le, nat_lt, List, [], ◌∷◌, length, take, drop, map, get_or, refl, sym, ap, ap₂, subst, ◌∙◌, inl, inr, arith, ltb-false, eqb-true, ◌⊎◌, if◌then◌else◌, ◌+◌}
 use Rattle.std.proofs.lemmas.Bool.{cases_Bool, and_parts, cond-true, cond-false, eq-eqb, true≢false}
-use Rattle.std.proofs.lemmas.List.{length-map, take-append-drop}
+use Rattle.std.proofs.lemmas.List.{length-map, take-append-drop, length-take}
 use Rattle.std.proofs.lemmas.List.FromFn.{length-map-range_with_len}
 use Rattle.std.proofs.lemmas.Simd.{map-map}
 use Rattle.std.specs.List.{Contains, list_any, range_with_len, splice}
@@ -9,14 +9,14 @@ use Rattle.geos_model.specs.ElementArray.{all_distinct}
 use Rattle.geos_model.specs.Document.{Document, IsValid, is_live}
 use Rattle.geos_model.specs.Chain.{free_handles, new_handles}
 use Rattle.geos_model.specs.ChainLaws.{AreNew}
-use Rattle.geos_model.proofs.Chains.{contains_later, chain-members}
+use Rattle.geos_model.proofs.Chains.{contains_later, chain-members, contains_first}
 use Rattle.geos_model.proofs.BlockLists.{none_passes, distinct-rest}
 use Rattle.geos_model.proofs.ChainCopies.{new-new}
 use Rattle.large_arrays.specs.Pieces.{Piece, weight, all_fit, each_fits, elements_of, are_spread}
 use Rattle.large_arrays.specs.Layout.{Root}
 use Rattle.large_arrays.specs.Spread.{first_place, end_place, respread}
 use Rattle.large_arrays.specs.Blocks.{root_at, pieces_at, IsLargeArray}
-use Rattle.large_arrays.specs.Window.{Window, window, window_first, window_end, window_pieces, window_handles, staying, freed_handles, with_window, elements_replaced}
+use Rattle.large_arrays.specs.Window.{Window, window, window_first, window_end, window_pieces, window_handles, staying, freed_handles, with_window, elements_replaced, left_joins, right_joins}
 use Rattle.large_arrays.specs.EditLaws.{IsEdited}
 use Rattle.large_arrays.proofs.SpreadElements.{respread-elements}
 use Rattle.large_arrays.proofs.SpreadFits.{respread-fits}
@@ -28,9 +28,11 @@ use Rattle.large_arrays.proofs.DistinctHandles.{distinct-parts, there_before, th
 use Rattle.large_arrays.proofs.Layouts.{HasBranch, HasLayout, all_sized, array-layout, layout-chain}
 use Rattle.large_arrays.proofs.Windows.{IsWindow, window-is}
 use Rattle.large_arrays.proofs.WindowHandles.{handles, handles-places, window_handles-many, window_handles-from, window_handles-once}
-use Rattle.large_arrays.proofs.Replacing.{new_root, AreNamed, AreGood, counts-spliced, replaced-edited}
+use Rattle.large_arrays.proofs.Replacing.{new_root, AreNamed, AreGood, counts-spliced, replaced-edited, changed-few}
 use Rattle.large_arrays.proofs.PutBranches.{put-replaced}
 use Rattle.large_arrays.proofs.PieceLists.{respread-sized, root_full, root_from, root_small, freed-old, freed-not, freed-all}
+use Rattle.large_arrays.specs.ChangeLaws.{IsChanged, FewChange}
+use Rattle.large_arrays.proofs.SpreadCount.{middle-few}
 
 -- Nothing refuses the edit of a window.
 pub record MayReplace (d : Document) (w : Window) : Type 0 where
@@ -173,6 +175,38 @@ module _ (d : Document) (b size : ℕ) (elements : Piece) (i j : ℕ) (new : Pie
         subst (λ (s : ℕ). IsEdited d (with_window d b w) b s (splice elements i j new)) array.sized
         (subst (λ (xs : Piece). IsEdited d (with_window d b w) b r.size xs) same_elements edited)
 
+    -- branches that change and stay are of the window, before and after
+    pub window-changed : (hs : List ℕ) → all_distinct hs ≡ true → ((h : ℕ) → Contains hs h → IsChanged d (with_window d b w) b h)
+        → (length hs ≤ behind - first) × (length hs ≤ length placed)
+    unfolding window
+    window-changed hs once changed =
+        let freed : List ℕ = freed_handles w in
+        let put = put-replaced d b r pieces first behind w.news freed placed valid has named good no_map in
+        let few = changed-few d b r pieces first behind w.news freed placed valid has named (with_window d b w) put good hs once changed in
+        let from_old = few.0 in
+        let from_new = few.1 in
+        let olds_long = length-take (behind - first) (drop first r.branches) in
+        let news_long = named.as_many in
+        (omega arith, omega arith)
+
+  -- there are three at most, where the run is in one piece, or nothing is new
+  pub window-few : MayReplace d w → ((first_place (map length pieces) i j).0 ≡ (end_place (map length pieces) j).0) ⊎ (length new ≡ 0) → FewChange d (with_window d b w) b
+  window-few may cases hs once changed =
+      let few = window-changed may hs once changed in
+      let from_old = few.0 in
+      let from_new = few.1 in
+      elim cases [
+        | inl one ↦ spread_run (left_joins r.size pieces i j new) (right_joins r.size pieces i j new) one from_old
+        | inr none ↦ (let placed_few = win.few in let mid = middle-few r.size pieces i j new has.fit in omega arith)
+      ]
+    where
+      spread_run : (lj rj : Bool) → (first_place (map length pieces) i j).0 ≡ (end_place (map length pieces) j).0
+          → length hs ≤ (end_place (map length pieces) j).0 + (if rj then 2 else 1) - ((first_place (map length pieces) i j).0 - (if lj then 1 else 0)) → length hs ≤ 3
+      spread_run true true one few = omega arith
+      spread_run true false one few = omega arith
+      spread_run false true one few = omega arith
+      spread_run false false one few = omega arith
+
 -- An edit of nothing.
 pub unchanged : (d : Document) (b size : ℕ) (elements : Piece) → IsValid d → IsLargeArray d b size elements → IsEdited d d b size elements
 unchanged d b size elements valid array = record {
@@ -212,4 +246,23 @@ elements-replaced d b size elements i j new valid array order fit sized may =
       | inr some ↦
           subst (λ (e : Document). IsEdited d e b size (splice elements i j new)) (sym (cond-false nothing d (with_window d b (window d b i j new)) some))
           (window-edited d b size elements i j new valid array order fit sized (may some))
+    ]
+
+none_changed : (d : Document) (b : ℕ) → FewChange d d b
+none_changed d b [] once changed = omega arith
+none_changed d b (h ∷ hs) once changed = absurd ((changed h (contains_first h hs)).other refl)
+
+pub replaced-few : (d : Document) (b size : ℕ) (elements : Piece) (i j : ℕ) (new : Piece) → IsValid d → IsLargeArray d b size elements → i ≤ j
+    → each_fits (root_at d b).size new ≡ true → is_sized (root_at d b).size new ≡ true
+    → (((i == j) && (length new == 0)) ≡ false → MayReplace d (window d b i j new))
+    → ((first_place (map length (pieces_at d (root_at d b))) i j).0 ≡ (end_place (map length (pieces_at d (root_at d b))) j).0) ⊎ (length new ≡ 0)
+    → FewChange d (elements_replaced d b i j new) b
+unfolding elements_replaced
+replaced-few d b size elements i j new valid array order fit sized may cases =
+    let nothing = (i == j) && (length new == 0) in
+    elim (cases_Bool nothing) [
+      | inl none ↦ subst (λ (e : Document). FewChange d e b) (sym (cond-true nothing d (with_window d b (window d b i j new)) none)) (none_changed d b)
+      | inr some ↦
+          subst (λ (e : Document). FewChange d e b) (sym (cond-false nothing d (with_window d b (window d b i j new)) some))
+          (window-few d b size elements i j new valid array order fit sized (may some) cases)
     ]

@@ -37,6 +37,7 @@ joins_left size l mid r =
 record CutRight (size : ℕ) (y : Piece) (ys : List Piece) (r : Piece) : Type 0 where
   rest : List Piece
   is : with_last size join_room (y ∷ ys) r ≡ rest ++ unjoined (there r && are_joined size (last (y ∷ ys)) r) r
+  few : length rest ≤ suc (length ys)
 
 last-next : (y next : Piece) (ys : List Piece) → last (y ∷ next ∷ ys) ≡ last (next ∷ ys)
 last-next y next ys =
@@ -44,15 +45,20 @@ last-next y next ys =
     ap (λ (k : ℕ). get_or (y ∷ next ∷ ys) k []) less
 
 cut_right : (size : ℕ) (y : Piece) (ys : List Piece) (r : Piece) → CutRight size y ys r
-cut_right size y ys [] = record { rest = y ∷ ys; is = sym (append-nil (y ∷ ys)) }
+cut_right size y ys [] = record { rest = y ∷ ys; is = sym (append-nil (y ∷ ys)); few = omega arith }
 cut_right size y [] (x ∷ xs) =
     let b = are_joined size y (x ∷ xs) in
     elim (cases_Bool b) [
       | inl joined ↦ record {
         rest = (y ++ x ∷ xs) ∷ [];
         is = cond-true b _ _ joined ∙ ap (λ (c : Bool). (y ++ x ∷ xs) ∷ unjoined c (x ∷ xs)) (sym joined);
+        few = omega arith;
       }
-      | inr apart ↦ record { rest = y ∷ []; is = cond-false b _ _ apart ∙ ap (λ (c : Bool). y ∷ unjoined c (x ∷ xs)) (sym apart) }
+      | inr apart ↦ record {
+        rest = y ∷ [];
+        is = cond-false b _ _ apart ∙ ap (λ (c : Bool). y ∷ unjoined c (x ∷ xs)) (sym apart);
+        few = omega arith;
+      }
     ]
 cut_right size y (next ∷ ys) (x ∷ xs) =
     let more = cut_right size next ys (x ∷ xs) in record {
@@ -60,12 +66,14 @@ cut_right size y (next ∷ ys) (x ∷ xs) =
       is =
           ap (λ (ps : List Piece). y ∷ ps) more.is
           ∙ ap (λ (p : Piece). y ∷ (more.rest ++ unjoined (are_joined size p (x ∷ xs)) (x ∷ xs))) (sym (last-next y next ys));
+      few = (let rest = more.few in omega arith);
     }
 
 -- Both neighbours, where they aren't joined.
 record Cut (size : ℕ) (l : Piece) (mid : List Piece) (r : Piece) : Type 0 where
   pub rest : List Piece
   pub is : if_none (whole size l mid r) ≡ unjoined (joins_left size l mid r) l ++ (rest ++ unjoined (joins_right size l mid r) r)
+  pub few : length rest ≤ suc (length mid)
 
 -- what is joined to the right, where there is a piece
 joins_right-some : (size : ℕ) (l : Piece) (mid : List Piece) (r y : Piece) (ys : List Piece) → with_first size l mid ≡ y ∷ ys
@@ -98,29 +106,32 @@ if_none-begun size y [] (x ∷ xs) =
 
 -- from a first piece on
 cut_begun : (size : ℕ) (l : Piece) (mid : List Piece) (r y : Piece) (ys : List Piece) → with_first size l mid ≡ y ∷ ys
-    → (rest : List Piece) × (if_none (whole size l mid r) ≡ rest ++ unjoined (joins_right size l mid r) r)
+    → (rest : List Piece) × (if_none (whole size l mid r) ≡ rest ++ unjoined (joins_right size l mid r) r) × (length rest ≤ suc (length ys))
 cut_begun size l mid r y ys is =
     let right = cut_right size y ys r in (
       right.rest,
       ap (λ (ps : List Piece). if_none (with_last size join_room ps r)) is ∙ if_none-begun size y ys r ∙ right.is
           ∙ ap (λ (b : Bool). right.rest ++ unjoined b r) (sym (joins_right-some size l mid r y ys is)),
+      right.few,
     )
 
 cut : (size : ℕ) (l : Piece) (mid : List Piece) (r : Piece) → Cut size l mid r
-cut size [] [] [] = record { rest = [] ∷ []; is = refl }
-cut size [] [] (x ∷ xs) = record { rest = []; is = refl }
-cut size [] (m ∷ ms) r = (let right = cut_begun size [] (m ∷ ms) r m ms refl in record { rest = right.0; is = right.1 })
-cut size (z ∷ zs) [] [] = record { rest = []; is = refl }
+cut size [] [] [] = record { rest = [] ∷ []; is = refl; few = omega arith }
+cut size [] [] (x ∷ xs) = record { rest = []; is = refl; few = omega arith }
+cut size [] (m ∷ ms) r = (let right = cut_begun size [] (m ∷ ms) r m ms refl in let most = right.2 in record { rest = right.0; is = right.1; few = omega arith })
+cut size (z ∷ zs) [] [] = record { rest = []; is = refl; few = omega arith }
 cut size (z ∷ zs) [] (x ∷ xs) =
     let b = are_joined size (z ∷ zs) (x ∷ xs) in
     elim (cases_Bool b) [
       | inl joined ↦ record {
         rest = ((z ∷ zs) ++ x ∷ xs) ∷ [];
         is = ap if_none (cond-true b _ _ joined) ∙ ap (λ (c : Bool). unjoined c (z ∷ zs) ++ (((z ∷ zs) ++ x ∷ xs) ∷ unjoined c (x ∷ xs))) (sym joined);
+        few = omega arith;
       }
       | inr apart ↦ record {
         rest = [];
         is = ap if_none (cond-false b _ _ apart) ∙ ap (λ (c : Bool). unjoined c (z ∷ zs) ++ unjoined c (x ∷ xs)) (sym apart);
+        few = omega arith;
       }
     ]
 cut size (z ∷ zs) (m ∷ ms) r =
@@ -132,6 +143,7 @@ cut size (z ∷ zs) (m ∷ ms) r =
           (let right = cut_begun size l (m ∷ ms) r (l ++ m) ms (cond-true b _ _ joined) in record {
             rest = right.0;
             is = right.1 ∙ ap (λ (c : Bool). unjoined c l ++ (right.0 ++ unjoined (joins_right size l (m ∷ ms) r) r)) (sym (left ∙ joined));
+            few = (let most = right.2 in omega arith);
           })
       | inr apart ↦
           (let begun : with_first size l (m ∷ ms) ≡ l ∷ m ∷ ms = cond-false b _ _ apart in
@@ -144,6 +156,7 @@ cut size (z ∷ zs) (m ∷ ms) r =
                 ap (λ (ps : List Piece). if_none (with_last size join_room ps r)) begun ∙ if_none-begun size l (m ∷ ms) r
                 ∙ under size l m ms r ∙ ap (λ (ps : List Piece). l ∷ ps) right.is
                 ∙ ap₂ (λ (c e : Bool). unjoined c l ++ (right.rest ++ unjoined e r)) (sym (left ∙ apart)) (sym test);
+            few = (let most = right.few in omega arith);
           })
     ]
   where
@@ -232,6 +245,7 @@ pub record IsWindow (size : ℕ) (ps : List Piece) (i j : ℕ) (new : Piece) : T
   pub order : window_first size ps i j new < window_end size ps i j new
   pub within : window_end size ps i j new ≤ length ps
   pub is : respread size ps i j new ≡ splice ps (window_first size ps i j new) (window_end size ps i j new) (window_pieces size ps i j new)
+  pub few : length (window_pieces size ps i j new) ≤ suc (length (middle size ps i j new))
 
 module _ (size : ℕ) (ps : List Piece) (i j : ℕ) (new : Piece) (some : 0 < length ps) (full : is_full ps ≡ true) (order : i ≤ j) where
   abbrev f : ℕ
@@ -338,4 +352,5 @@ module _ (size : ℕ) (ps : List Piece) (i j : ℕ) (new : Piece) (some : 0 < le
         order = omega arith;
         within = within;
         is = respread_is ∙ ap (λ (qs : List Piece). fore ++ (qs ++ aft)) (sym placed);
+        few = (let most = parts.few in let same = ap length placed in omega arith);
       }

@@ -1,8 +1,12 @@
 pub mod Blocks
+pub mod BranchReading
+pub mod ChangeLaws
 pub mod EditLaws
 pub mod Edits
 pub mod Layout
 pub mod Pieces
+pub mod RootParts
+pub mod RootViewing
 pub mod Spread
 pub mod SpreadLaws
 pub mod Window

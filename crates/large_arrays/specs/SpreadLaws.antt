@@ -1,5 +1,5 @@
 -- Laws of the spread.
-use Rattle.std.specs.Prelude.{◌≡◌, ◌≤◌, ◌+◌, ℕ, List, true, length}
+use Rattle.std.specs.Prelude.{◌≡◌, ◌≤◌, ◌+◌, ℕ, List, true, length, []}
 use Rattle.std.specs.List.{splice}
 use Rattle.large_arrays.specs.Pieces.{Piece, elements_of, each_fits, are_spread}
 use Rattle.large_arrays.specs.Spread.{respread}
@@ -14,3 +14,6 @@ pub record SpreadLaw : Type 0 where
   -- There is one piece more at most than there are new elements: of one element two pieces more.
   pub few : (size : ℕ) (pieces : List Piece) (i j : ℕ) (new : Piece) → i ≤ j → are_spread size pieces ≡ true
       → length (respread size pieces i j new) ≤ length pieces + 1 + length new
+  -- A deletion makes no piece more.
+  pub fewer : (size : ℕ) (pieces : List Piece) (i j : ℕ) → i ≤ j → are_spread size pieces ≡ true
+      → length (respread size pieces i j []) ≤ length pieces

@@ -1,4 +1,5 @@
 //! The laws of large arrays: each is the contract of a function that does nothing.
+ghost use Rattle.large_arrays.specs.ChangeLaws.{FewChangeLaw};
 ghost use Rattle.large_arrays.specs.EditLaws.{LargeEditsLaw};
 ghost use Rattle.large_arrays.specs.SpreadLaws.{SpreadLaw};
 
@@ -11,4 +12,10 @@ pub fn spread_law()
 /// spread as it was, and leaves all else as it is.
 pub fn large_edits_law()
     ensures { LargeEditsLaw }
+{}
+
+/// An insertion, a deletion, and an element that is set where sizes vary give three branches at most of those that stay
+/// other bytes.
+pub fn few_change_law()
+    ensures { FewChangeLaw }
 {}

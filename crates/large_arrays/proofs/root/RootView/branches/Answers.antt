@@ -1,0 +1,12 @@
+use Rattle.std.proofs.Common.{◌∙◌, sym, ap, length}
+use Rattle.large_arrays.specs.Layout.{Root}
+use Rattle.large_arrays.proofs.RootLemmas.{length-counts_read, length-branches_read}
+use Rattle.large_arrays.proofs.root.RootView.branches.Goals as goal
+
+pub returns-clause-counts : goal.returns-clause-counts
+returns-clause-counts c =
+    c.self.invariant.branches ∙ sym (length-counts_read c.self.inside.bytes.now) ∙ ap (λ (r : Root). length r.counts) c.self.view_is
+
+pub returns-clause-branches : goal.returns-clause-branches
+returns-clause-branches c =
+    c.self.invariant.branches ∙ sym (length-branches_read c.self.inside.bytes.now) ∙ ap (λ (r : Root). length r.branches) c.self.view_is

@@ -1,0 +1,44 @@
+use Rattle.std.proofs.Common.{◌≡◌, ◌∙◌, ◌+◌, ◌-◌, ℕ, List, sym, ap, length, get_or, drop, arith}
+use Rattle.large_arrays.specs.Layout.{Root}
+use Rattle.large_arrays.specs.RootParts.{branches_in}
+use Rattle.large_arrays.specs.Spread.{end_place}
+use Rattle.large_arrays.proofs.RootLemmas.{length-counts_read}
+use Rattle.large_arrays.proofs.PlaceSteps.{shifted, end-next, end-last}
+use Rattle.large_arrays.proofs.root.RootView.end_place.Goals as goal
+
+pub count-requires : goal.count-requires
+count-requires c =
+    let bytes : List ℕ = c.self.inside.bytes.now in
+    let many : length c.args.self.now.counts ≡ branches_in bytes = ap (λ (r : Root). length r.counts) (sym c.self.view_is) ∙ length-counts_read bytes in
+    let all = c.self.invariant.branches in
+    let low = c.loop-k-test.true in
+    omega (arith, many, all, low)
+
+pub loop-k-preserved : goal.loop-k-preserved
+loop-k-preserved c =
+    let bytes : List ℕ = c.self.inside.bytes.now in
+    let counts : List ℕ = c.args.self.now.counts in
+    let k : ℕ = c.loop-k.k in
+    let left : ℕ = c.loop-k.left in
+    let many : length counts ≡ branches_in bytes = ap (λ (r : Root). length r.counts) (sym c.self.view_is) ∙ length-counts_read bytes in
+    let all = c.self.invariant.branches in
+    let low = c.loop-k-test.true in
+    let count : c.from-count.result ≡ get_or counts k 0 = c.from-count.ensures ∙ c.count.ensures in
+    let past = c.if-left-count.false in
+    c.loop-k.invariant
+    ∙ end-next counts k left (omega (arith, many, all, low)) (omega (arith, count, past))
+    ∙ ap (λ (x : ℕ). shifted (k + 1) (end_place (drop (k + 1) counts) (left - x))) (sym count)
+
+pub returns : goal.returns
+returns c =
+    let bytes : List ℕ = c.self.inside.bytes.now in
+    let counts : List ℕ = c.args.self.now.counts in
+    let k : ℕ = c.loop-k.k in
+    let left : ℕ = c.loop-k.left in
+    let many : length counts ≡ branches_in bytes = ap (λ (r : Root). length r.counts) (sym c.self.view_is) ∙ length-counts_read bytes in
+    let all = c.self.invariant.branches in
+    let some = c.self.invariant.parts.head.length.some in
+    let from = c.loop-k-test.false in
+    let upto = c.loop-k.auto.k-end in
+    let end : k + 0 ≡ c.self.inside.branches - 1 = omega (arith, from, upto) in
+    sym (c.loop-k.invariant ∙ ap (shifted k) (end-last counts k left (omega (arith, many, all, some, from, upto))) ∙ ap (λ (m : ℕ). (m, left)) end)
