@@ -9,18 +9,18 @@ use Rattle.geos_model.specs.Words.{word, word_at}
 use Rattle.geos_model.specs.Array.{Array, array_bytes, array_of, is_even}
 use Rattle.geos_model.specs.Chain.{is_linked, links}
 use Rattle.geos_model.proofs.Arrays.{joined, table_of, same_bytes-is, same_bytes-refl, array_again, array_bytes-of, array_bytes-spelled, length-array_bytes, length-elements, length-joined, length_table-any, table-even, size-read, size_lt}
-use Rattle.large_arrays.specs.Pieces.{Piece, weight, fits, branch_room}
+use Rattle.large_arrays.specs.Pieces.{BranchPiece, weight, fits_branch, branch_room}
 use Rattle.large_arrays.specs.Layout.{branch_bytes, branch_of}
 
 -- each element has the size, where it is one
-abbrev pub is_sized : ℕ → Piece → Bool
+abbrev pub is_sized : ℕ → BranchPiece → Bool
 is_sized size piece = size == 0 || list_all (λ x. length x == size) piece
 
 -- the chunk array in a branch
-abbrev pub array_of_piece : ℕ → Piece → Array
+abbrev pub array_of_piece : ℕ → BranchPiece → Array
 array_of_piece size piece = record { extra = []; size = size; elements = piece }
 
-weight-two : (piece : Piece) → sum_by (λ x. length x + 2) piece ≡ 2 * length piece + length (joined piece)
+weight-two : (piece : BranchPiece) → sum_by (λ x. length x + 2) piece ≡ 2 * length piece + length (joined piece)
 weight-two [] = refl
 weight-two (x ∷ xs) =
     let rest = weight-two xs in
@@ -28,7 +28,7 @@ weight-two (x ∷ xs) =
     let step = sum_by-append (λ (y : List ℕ). length y + 2) (x ∷ []) xs in
     omega arith
 
-weight-none : (piece : Piece) → sum_by (λ x. length x + 0) piece ≡ length (joined piece)
+weight-none : (piece : BranchPiece) → sum_by (λ x. length x + 0) piece ≡ length (joined piece)
 weight-none [] = refl
 weight-none (x ∷ xs) =
     let rest = weight-none xs in
@@ -37,7 +37,7 @@ weight-none (x ∷ xs) =
     omega arith
 
 -- What elements weigh is what they take behind the header.
-weight-is : (size : ℕ) (piece : Piece) → length (table_of (array_of_piece size piece)) + length (joined piece) ≡ weight size piece
+weight-is : (size : ℕ) (piece : BranchPiece) → length (table_of (array_of_piece size piece)) + length (joined piece) ≡ weight size piece
 weight-is size piece =
     let a : Array = array_of_piece size piece in
     let weigh : ℕ → ℕ = λ e. sum_by (λ x. length x + e) piece in
@@ -55,7 +55,7 @@ weight-is size piece =
     ]
 
 -- where they have one size it is that of all
-pub weight-even : (size : ℕ) (piece : Piece) → (size == 0) ≡ false → is_sized size piece ≡ true → weight size piece ≡ length piece * size
+pub weight-even : (size : ℕ) (piece : BranchPiece) → (size == 0) ≡ false → is_sized size piece ≡ true → weight size piece ≡ length piece * size
 weight-even size piece one sized =
     let all : list_all (λ x. length x == size) piece ≡ true = ap (λ (b : Bool). b || list_all (λ x. length x == size) piece) (sym one) ∙ sized in
     let is = weight-is size piece in
@@ -63,7 +63,7 @@ weight-even size piece one sized =
     let bytes = length-joined size piece all in
     omega arith
 
-pub length-branch_bytes : (size : ℕ) (piece : Piece) → length (branch_bytes size piece) ≡ 10 + weight size piece
+pub length-branch_bytes : (size : ℕ) (piece : BranchPiece) → length (branch_bytes size piece) ≡ 10 + weight size piece
 unfolding branch_bytes
 length-branch_bytes size piece =
     let whole = length-array_bytes (array_of_piece size piece) in
@@ -71,16 +71,16 @@ length-branch_bytes size piece =
     omega arith
 
 -- Elements that can be those of a branch.
-pub record FitsBranch (size : ℕ) (piece : Piece) : Type 0 where
+pub record FitsBranch (size : ℕ) (piece : BranchPiece) : Type 0 where
   pub small : size < 65536
-  pub room : fits size piece ≡ true
+  pub room : fits_branch size piece ≡ true
   pub sized : is_sized size piece ≡ true
 
-even : (size : ℕ) (piece : Piece) → FitsBranch size piece → is_even (array_of_piece size piece) ≡ true
+even : (size : ℕ) (piece : BranchPiece) → FitsBranch size piece → is_even (array_of_piece size piece) ≡ true
 even size piece fit = and_from (nat_lt size 65536) (is_sized size piece) (lt-ltb size 65536 fit.small) fit.sized
 
 -- they are few enough for a word
-pub branch-few : (size : ℕ) (piece : Piece) → FitsBranch size piece → length piece ≤ branch_room
+pub branch-few : (size : ℕ) (piece : BranchPiece) → FitsBranch size piece → length piece ≤ branch_room
 branch-few size piece fit =
     let count = length-elements (array_of_piece size piece) (even size piece fit) in
     let is = weight-is size piece in
@@ -88,11 +88,11 @@ branch-few size piece fit =
     omega arith
 
 -- they stand behind a zero word
-pub behind : (size : ℕ) (piece : Piece) → drop 2 (branch_bytes size piece) ≡ array_bytes (array_of_piece size piece)
+pub behind : (size : ℕ) (piece : BranchPiece) → drop 2 (branch_bytes size piece) ≡ array_bytes (array_of_piece size piece)
 unfolding branch_bytes
 behind size piece = refl
 
-pub branch-again : (size : ℕ) (piece : Piece) → FitsBranch size piece → branch_of size (length piece) (branch_bytes size piece) ≡ Some piece
+pub branch-again : (size : ℕ) (piece : BranchPiece) → FitsBranch size piece → branch_of size (length piece) (branch_bytes size piece) ≡ Some piece
 unfolding branch_of
 branch-again size piece fit =
     let a : Array = array_of_piece size piece in
@@ -100,18 +100,18 @@ branch-again size piece fit =
     let whole = length-array_bytes a in
     let is = weight-is size piece in
     let most = leb-true (weight size piece) branch_room fit.room in
-    let test : Array → Option Piece = λ b. if length b.elements == length piece && same_bytes (branch_bytes size b.elements) bytes then Some b.elements else None in
+    let test : Array → Option BranchPiece = λ b. if length b.elements == length piece && same_bytes (branch_bytes size b.elements) bytes then Some b.elements else None in
     let read : array_of (drop 2 bytes) ≡ Some a = ap array_of (behind size piece) ∙ array_again a (even size piece fit) (omega arith) in
     ap (option_and_then test) read
     ∙ cond-true _ _ _ (and_from (length piece == length piece) (same_bytes bytes bytes) (eq-eqb (length piece) (length piece) refl) (same_bytes-refl bytes))
 
-pub branch_linked : (size : ℕ) (piece : Piece) → is_linked (branch_bytes size piece) ≡ true
+pub branch_linked : (size : ℕ) (piece : BranchPiece) → is_linked (branch_bytes size piece) ≡ true
 unfolding branch_bytes
 branch_linked size piece =
     let bytes : List ℕ = word 0 ++ array_bytes (array_of_piece size piece) in
     and_from (nat_le 2 (length bytes)) true (le-leb 2 (length bytes) (omega arith)) refl
 
-pub branch_links : (size : ℕ) (piece : Piece) → links (branch_bytes size piece) ≡ []
+pub branch_links : (size : ℕ) (piece : BranchPiece) → links (branch_bytes size piece) ≡ []
 unfolding branch_bytes
 branch_links size piece = refl
 
@@ -121,7 +121,7 @@ same_size a b a_small b_small same =
     sym (size-read a a_small) ∙ ap (λ (bytes : List ℕ). word_at bytes 2) (sym (array_bytes-spelled a) ∙ same ∙ array_bytes-spelled b) ∙ size-read b b_small
 
 -- What bytes read as: so many elements, and the bytes are theirs.
-pub branch_of-is : (size count : ℕ) (bytes : List ℕ) (piece : Piece) → size < 65536 → branch_of size count bytes ≡ Some piece
+pub branch_of-is : (size count : ℕ) (bytes : List ℕ) (piece : BranchPiece) → size < 65536 → branch_of size count bytes ≡ Some piece
     → (length piece ≡ count) × (branch_bytes size piece ≡ bytes) × (is_sized size piece ≡ true)
 unfolding branch_of
 branch_of-is size count bytes piece small e = by_array (array_of (drop 2 bytes)) refl e
@@ -132,7 +132,7 @@ branch_of-is size count bytes piece small e = by_array (array_of (drop 2 bytes))
     by_array None is found = absurd (cc found)
     by_array (Some a) is found = elim (cases_Bool (length a.elements == count && same_bytes (branch_bytes size a.elements) bytes)) [
       | inl so ↦
-          (let xs : Piece = a.elements in
+          (let xs : BranchPiece = a.elements in
           let some : Some xs ≡ Some piece = sym (cond-true _ _ _ so) ∙ found in
           let same : xs ≡ piece = cc in
           let parts = and_parts (length xs == count) (same_bytes (branch_bytes size xs) bytes) so in
@@ -143,7 +143,7 @@ branch_of-is size count bytes piece small e = by_array (array_of (drop 2 bytes))
           let sized : is_sized a.size xs ≡ true = (and_parts (nat_lt a.size 65536) (is_sized a.size xs) read.0).1 in (
             ap length (sym same) ∙ eqb-true (length xs) count parts.0,
             ap (branch_bytes size) (sym same) ∙ written,
-            ap₂ (λ (n : ℕ) (ys : Piece). is_sized n ys) (sym one_size) (sym same) ∙ sized,
+            ap₂ (λ (n : ℕ) (ys : BranchPiece). is_sized n ys) (sym one_size) (sym same) ∙ sized,
           ))
       | inr other ↦ (let none : None ≡ Some piece = sym (cond-false _ _ _ other) ∙ found in absurd (cc))
     ]

@@ -7,23 +7,23 @@ use Rattle.geos_model.specs.Words.{word, word_at}
 use Rattle.geos_model.specs.Array.{Array, array_bytes, array_of}
 use Rattle.geos_model.proofs.Images.{word-reads_back}
 use Rattle.geos_model.proofs.Arrays.{table_of, same_bytes-is, same_bytes-refl, array_bytes-of, length-array_bytes, length_table-any, table-even, size_lt}
-use Rattle.chunk_arrays.specs.Parts.{AreBytes}
+use Rattle.chunk_arrays.specs.Parts.{AreByteValues}
 use Rattle.chunk_arrays.proofs.CutLemmas.{word_rejoin}
-use Rattle.large_arrays.specs.Pieces.{Piece}
+use Rattle.large_arrays.specs.Pieces.{BranchPiece}
 use Rattle.large_arrays.specs.Layout.{branch_bytes, branch_of}
 use Rattle.large_arrays.specs.BranchReading.{BeginsWithZero, IsPlain}
 use Rattle.large_arrays.proofs.BranchBytes.{array_of_piece, behind, same_size, branch_of-is, length-branch_bytes}
 
-spelled : (size : ℕ) (piece : Piece) → branch_bytes size piece ≡ word 0 ++ array_bytes (array_of_piece size piece)
+spelled : (size : ℕ) (piece : BranchPiece) → branch_bytes size piece ≡ word 0 ++ array_bytes (array_of_piece size piece)
 unfolding branch_bytes
 spelled size piece = refl
 
-zero_first : (size : ℕ) (piece : Piece) → word_at (branch_bytes size piece) 0 ≡ 0
+zero_first : (size : ℕ) (piece : BranchPiece) → word_at (branch_bytes size piece) 0 ≡ 0
 unfolding branch_bytes
 zero_first size piece = word-reads_back 0 [] (omega arith)
 
 -- a branch begins with a zero word
-branch-zero : (size count : ℕ) (bytes : List ℕ) (piece : Piece) → size < 65536 → branch_of size count bytes ≡ Some piece → BeginsWithZero bytes
+branch-zero : (size count : ℕ) (bytes : List ℕ) (piece : BranchPiece) → size < 65536 → branch_of size count bytes ≡ Some piece → BeginsWithZero bytes
 branch-zero size count bytes piece small found =
     let is = (branch_of-is size count bytes piece small found).1 in
     let long = length-branch_bytes size piece in
@@ -34,11 +34,11 @@ branch-zero size count bytes piece small found =
 pub no_zero : (size count : ℕ) (bytes : List ℕ) → size < 65536 → (BeginsWithZero bytes → ⊥) → branch_of size count bytes ≡ None
 no_zero size count bytes small none = by_piece (branch_of size count bytes) refl
   where
-    by_piece : (o : Option Piece) → branch_of size count bytes ≡ o → o ≡ None
+    by_piece : (o : Option BranchPiece) → branch_of size count bytes ≡ o → o ≡ None
     by_piece None found = refl
     by_piece (Some piece) found = absurd (none (branch-zero size count bytes piece small found))
 
-abbrev tested : ℕ → ℕ → List ℕ → Array → Option Piece
+abbrev tested : ℕ → ℕ → List ℕ → Array → Option BranchPiece
 tested size count bytes a =
     if length a.elements == count && same_bytes (branch_bytes size a.elements) bytes then Some a.elements else None
 
@@ -51,7 +51,7 @@ no_array size count bytes none = ap (option_and_then (tested size count bytes)) 
 same_tables : (a b : Array) → a.size ≡ b.size → a.elements ≡ b.elements → length (table_of a) ≡ length (table_of b)
 same_tables a b size elements = elim (cases_Bool (a.size == 0)) [
   | inl any ↦
-      length_table-any a any ∙ ap (λ (xs : Piece). 2 * length xs) elements
+      length_table-any a any ∙ ap (λ (xs : BranchPiece). 2 * length xs) elements
       ∙ sym (length_table-any b (ap (λ (n : ℕ). n == 0) (sym size) ∙ any))
   | inr one ↦ ap length (table-even a one) ∙ sym (ap length (table-even b (ap (λ (n : ℕ). n == 0) (sym size) ∙ one)))
 ]
@@ -86,7 +86,7 @@ not_plain size count bytes a small is none =
     ])
 
 -- And where all is so, they are the branch.
-pub branch-found : (size count : ℕ) (bytes : List ℕ) (a : Array) → AreBytes bytes → BeginsWithZero bytes → array_of (drop 2 bytes) ≡ Some a → IsPlain a size count
+pub branch-found : (size count : ℕ) (bytes : List ℕ) (a : Array) → AreByteValues bytes → BeginsWithZero bytes → array_of (drop 2 bytes) ≡ Some a → IsPlain a size count
     → branch_of size count bytes ≡ Some a.elements
 unfolding branch_of
 branch-found size count bytes a are zero is plain =

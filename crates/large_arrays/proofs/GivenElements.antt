@@ -6,7 +6,7 @@ use Rattle.std.proofs.Math.Nat.{div-mul-le_self, div-add-mod, div-eq_of_lt, add-
 use Rattle.std.specs.List.{list_all}
 use Rattle.geos_model.specs.Array.{cut_evenly}
 use Rattle.geos_model.proofs.Validity.{not_false}
-use Rattle.large_arrays.specs.Pieces.{Piece, weight, branch_room, fits, each_fits}
+use Rattle.large_arrays.specs.Pieces.{BranchPiece, weight, branch_room, fits_branch, each_fits}
 use Rattle.large_arrays.specs.Layout.{greatest_element_size}
 use Rattle.large_arrays.specs.Edits.{cut_elements, ends_within_element, element_count, is_too_long}
 use Rattle.large_arrays.proofs.BranchBytes.{is_sized}
@@ -16,7 +16,7 @@ varying-fits : (size : ℕ) (bytes : List ℕ) → (size == 0) ≡ true → is_t
 varying-fits size bytes any short =
     let few = ltb-false branch_room (length bytes + 2) (sym (ap (λ (b : Bool). b && nat_lt branch_room (length bytes + 2)) any) ∙ short) in
     let two : weight size (bytes ∷ []) ≡ length bytes + 2 = ap (λ (e : ℕ). 0 + (length bytes + e)) (cond-true (size == 0) 2 0 any) ∙ (let none : 0 + (length bytes + 2) ≡ length bytes + 2 = omega arith in none) in
-    and_from (fits size (bytes ∷ [])) true (le-leb (weight size (bytes ∷ [])) branch_room (omega arith)) refl
+    and_from (fits_branch size (bytes ∷ [])) true (le-leb (weight size (bytes ∷ [])) branch_room (omega arith)) refl
 
 -- what is cut at one size has no element that is longer
 even-fits : (size count : ℕ) (bytes : List ℕ) → (size == 0) ≡ false → size ≤ greatest_element_size → each_fits size (cut_evenly count size bytes) ≡ true
@@ -25,7 +25,7 @@ even-fits size (suc count) bytes one small =
     let x : List ℕ = take size bytes in
     let long = length-take size bytes in
     let none : weight size (x ∷ []) ≡ length x + 0 = ap (λ (e : ℕ). 0 + (length x + e)) (cond-false (size == 0) 2 0 one) ∙ (let same : 0 + (length x + 0) ≡ length x + 0 = omega arith in same) in
-    and_from (fits size (x ∷ [])) (each_fits size (cut_evenly count size (drop size bytes))) (le-leb (weight size (x ∷ [])) branch_room (omega arith))
+    and_from (fits_branch size (x ∷ [])) (each_fits size (cut_evenly count size (drop size bytes))) (le-leb (weight size (x ∷ [])) branch_room (omega arith))
     (even-fits size count (drop size bytes) one small)
 
 -- and none that is shorter, if there are so many bytes
@@ -47,7 +47,7 @@ given-fits size bytes small short = elim (cases_Bool (size == 0)) [
 
 pub given-sized : (size : ℕ) (bytes : List ℕ) → is_sized size (cut_elements size bytes) ≡ true
 given-sized size bytes =
-    let all : Piece → Bool = λ xs. list_all (λ x. length x == size) xs in
+    let all : BranchPiece → Bool = λ xs. list_all (λ x. length x == size) xs in
     elim (cases_Bool (size == 0)) [
       | inl any ↦ ap (λ (b : Bool). b || all (cut_elements size bytes)) any
       | inr one ↦

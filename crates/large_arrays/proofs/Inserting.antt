@@ -7,8 +7,8 @@ use Rattle.geos_model.specs.Document.{Document, IsValid}
 use Rattle.geos_model.specs.Chain.{free_handles}
 use Rattle.geos_model.specs.declared.fault.Fault.TheVariants.{IsMap, Range, TooBig, NoHandles, NoElement}
 use Rattle.geos_model.proofs.Refusals.{none_applies, or_none}
-use Rattle.large_arrays.specs.Pieces.{Piece, each_fits}
-use Rattle.large_arrays.specs.Layout.{Root, greatest_element_size, total}
+use Rattle.large_arrays.specs.Pieces.{BranchPiece, each_fits}
+use Rattle.large_arrays.specs.Layout.{Root, greatest_element_size, total_count}
 use Rattle.large_arrays.specs.Blocks.{root_at, pieces_at, IsLargeArray}
 use Rattle.large_arrays.specs.Window.{window, freed_handles, elements_replaced, elements_overwritten}
 use Rattle.large_arrays.specs.Edits.{on_root, on_window, on_run, cut_elements, ends_within_element, element_count, is_too_long, large_inserted, large_set, large_deleted, insert_large_conditions, set_large_conditions, delete_large_conditions}
@@ -28,23 +28,23 @@ tested : (accepted nothing test : Bool) → accepted ≡ true → nothing ≡ fa
 tested accepted nothing test is some none =
     ap₂ (λ (a n : Bool). (a && not n) && test) (sym is) (sym some) ∙ none
 
-pub array-small : (d : Document) (b size : ℕ) (elements : Piece) → IsValid d → IsLargeArray d b size elements → (root_at d b).size ≤ greatest_element_size
+pub array-small : (d : Document) (b size : ℕ) (elements : BranchPiece) → IsValid d → IsLargeArray d b size elements → (root_at d b).size ≤ greatest_element_size
 array-small d b size elements valid array =
     leb-true (root_at d b).size greatest_element_size (root_small (root_at d b) (array-layout d b size elements valid array).is)
 
 -- Elements that can come in the place of others, where nothing refuses that.
-record IsAccepted (d : Document) (b i j : ℕ) (new : Piece) : Type 0 where
+record IsAccepted (d : Document) (b i j : ℕ) (new : BranchPiece) : Type 0 where
   fit : each_fits (root_at d b).size new ≡ true
   sized : is_sized (root_at d b).size new ≡ true
   may : ((i == j) && (length new == 0)) ≡ false → MayReplace d (window d b i j new)
 
-insert-accepted : (d : Document) (b size : ℕ) (elements : Piece) (i : ℕ) (bytes : List ℕ) → IsValid d → IsLargeArray d b size elements
+insert-accepted : (d : Document) (b size : ℕ) (elements : BranchPiece) (i : ℕ) (bytes : List ℕ) → IsValid d → IsLargeArray d b size elements
     → first_refusal (insert_large_conditions d b i bytes) ≡ None → IsAccepted d b i i (cut_elements (root_at d b).size bytes)
 insert-accepted d b size elements i bytes valid array none =
     let cs : Conditions = insert_large_conditions d b i bytes in
     let r : Root = root_at d b in
-    let new : Piece = cut_elements r.size bytes in
-    let range = nat_lt (total r) i || ends_within_element r.size bytes in
+    let new : BranchPiece = cut_elements r.size bytes in
+    let range = nat_lt (total_count r) i || ends_within_element r.size bytes in
     let long = is_too_long r.size bytes in
     let in_range : range ≡ false = (or_none (none_applies cs none Range refl)).0 in
     let short : long ≡ false = (or_none (none_applies cs none TooBig refl)).0 in
@@ -64,7 +64,7 @@ delete-accepted : (d : Document) (b i n : ℕ) → first_refusal (delete_large_c
 delete-accepted d b i n none =
     let cs : Conditions = delete_large_conditions d b i n in
     let r : Root = root_at d b in
-    let past = nat_lt (total r) (i + n) in
+    let past = nat_lt (total_count r) (i + n) in
     let within : past ≡ false = (or_none (none_applies cs none NoElement refl)).0 in
     let map = (or_none (none_applies cs none IsMap refl)).0 in
     let handles = (or_none (none_applies cs none NoHandles refl)).0 in
@@ -78,12 +78,12 @@ delete-accepted d b i n none =
     }
 
 -- an element that is set where sizes vary
-set-accepted : (d : Document) (b size : ℕ) (elements : Piece) (i : ℕ) (bytes : List ℕ) → IsValid d → IsLargeArray d b size elements
+set-accepted : (d : Document) (b size : ℕ) (elements : BranchPiece) (i : ℕ) (bytes : List ℕ) → IsValid d → IsLargeArray d b size elements
     → ((root_at d b).size == 0) ≡ true → first_refusal (set_large_conditions d b i bytes) ≡ None → IsAccepted d b i (i + 1) (bytes ∷ [])
 set-accepted d b size elements i bytes valid array any none =
     let r : Root = root_at d b in
-    let new : Piece = bytes ∷ [] in
-    let past = nat_lt (total r) (i + element_count r.size bytes) in
+    let new : BranchPiece = bytes ∷ [] in
+    let past = nat_lt (total_count r) (i + element_count r.size bytes) in
     let long = is_too_long r.size bytes in
     let with_branches : Conditions → Conditions = λ own. on_root d b ++ (NoElement, past) ∷ (Range, ends_within_element r.size bytes) ∷ (TooBig, long) ∷ own in
     let window_own : Conditions = on_window (not (past || long)) d b i (i + 1) new in
@@ -105,7 +105,7 @@ set-accepted d b size elements i bytes valid array any none =
       };
     }
 
-pub array-inserted : (d : Document) (b size : ℕ) (elements : Piece) (i : ℕ) (bytes : List ℕ) → IsValid d → IsLargeArray d b size elements
+pub array-inserted : (d : Document) (b size : ℕ) (elements : BranchPiece) (i : ℕ) (bytes : List ℕ) → IsValid d → IsLargeArray d b size elements
     → first_refusal (insert_large_conditions d b i bytes) ≡ None
     → IsEdited d (large_inserted d b i bytes) b size (splice elements i i (cut_elements size bytes))
 array-inserted d b size elements i bytes valid array none =
@@ -113,32 +113,32 @@ array-inserted d b size elements i bytes valid array none =
     subst (λ (s : ℕ). IsEdited d (large_inserted d b i bytes) b size (splice elements i i (cut_elements s bytes))) array.sized
     (elements-replaced d b size elements i i (cut_elements (root_at d b).size bytes) valid array (omega arith) is.fit is.sized is.may)
 
-pub inserted-few : (d : Document) (b size : ℕ) (elements : Piece) (i : ℕ) (bytes : List ℕ) → IsValid d → IsLargeArray d b size elements
+pub inserted-few : (d : Document) (b size : ℕ) (elements : BranchPiece) (i : ℕ) (bytes : List ℕ) → IsValid d → IsLargeArray d b size elements
     → first_refusal (insert_large_conditions d b i bytes) ≡ None → FewChange d (large_inserted d b i bytes) b
 inserted-few d b size elements i bytes valid array none =
     let is = insert-accepted d b size elements i bytes valid array none in
     replaced-few d b size elements i i (cut_elements (root_at d b).size bytes) valid array (omega arith) is.fit is.sized is.may
     (inl (first-end_none (map length (pieces_at d (root_at d b))) i))
 
-pub array-deleted : (d : Document) (b size : ℕ) (elements : Piece) (i n : ℕ) → IsValid d → IsLargeArray d b size elements
+pub array-deleted : (d : Document) (b size : ℕ) (elements : BranchPiece) (i n : ℕ) → IsValid d → IsLargeArray d b size elements
     → first_refusal (delete_large_conditions d b i n) ≡ None
     → IsEdited d (large_deleted d b i n) b size (splice elements i (i + n) [])
 array-deleted d b size elements i n valid array none =
     let is = delete-accepted d b i n none in
     elements-replaced d b size elements i (i + n) [] valid array (omega arith) is.fit is.sized is.may
 
-pub deleted-few : (d : Document) (b size : ℕ) (elements : Piece) (i n : ℕ) → IsValid d → IsLargeArray d b size elements
+pub deleted-few : (d : Document) (b size : ℕ) (elements : BranchPiece) (i n : ℕ) → IsValid d → IsLargeArray d b size elements
     → first_refusal (delete_large_conditions d b i n) ≡ None → FewChange d (large_deleted d b i n) b
 deleted-few d b size elements i n valid array none =
     let is = delete-accepted d b i n none in
     replaced-few d b size elements i (i + n) [] valid array (omega arith) is.fit is.sized is.may (inr refl)
 
-pub varying-set : (d : Document) (b size : ℕ) (elements : Piece) (i : ℕ) (bytes : List ℕ) → IsValid d → IsLargeArray d b size elements
+pub varying-set : (d : Document) (b size : ℕ) (elements : BranchPiece) (i : ℕ) (bytes : List ℕ) → IsValid d → IsLargeArray d b size elements
     → ((root_at d b).size == 0) ≡ true → first_refusal (set_large_conditions d b i bytes) ≡ None
     → IsEdited d (large_set d b i bytes) b size (splice elements i (i + element_count size bytes) (cut_elements size bytes))
 varying-set d b size elements i bytes valid array any none =
     let r : Root = root_at d b in
-    let new : Piece = bytes ∷ [] in
+    let new : BranchPiece = bytes ∷ [] in
     let is = set-accepted d b size elements i bytes valid array any none in
     let new_is : cut_elements r.size bytes ≡ new = given-one r.size bytes any in
     let edited : IsEdited d (elements_replaced d b i (i + 1) new) b size (splice elements i (i + 1) new) =
@@ -147,10 +147,10 @@ varying-set d b size elements i bytes valid array any none =
     subst (λ (s : ℕ). IsEdited d (large_set d b i bytes) b size (splice elements i (i + element_count s bytes) (cut_elements s bytes))) array.sized
     (subst (λ (e : Document). IsEdited d e b size (splice elements i (i + element_count r.size bytes) (cut_elements r.size bytes)))
     (sym (cond-true (r.size == 0) (elements_replaced d b i (i + 1) new) (elements_overwritten d b i (cut_elements r.size bytes)) any))
-    (subst (λ (xs : Piece). IsEdited d (elements_replaced d b i (i + 1) new) b size xs)
-    (ap₂ (λ (n : ℕ) (ys : Piece). splice elements i (i + n) ys) (sym one) (sym new_is)) edited))
+    (subst (λ (xs : BranchPiece). IsEdited d (elements_replaced d b i (i + 1) new) b size xs)
+    (ap₂ (λ (n : ℕ) (ys : BranchPiece). splice elements i (i + n) ys) (sym one) (sym new_is)) edited))
 
-pub varying_set-few : (d : Document) (b : ℕ) (elements : Piece) (i : ℕ) (bytes : List ℕ) → IsValid d → IsLargeArray d b 0 elements
+pub varying_set-few : (d : Document) (b : ℕ) (elements : BranchPiece) (i : ℕ) (bytes : List ℕ) → IsValid d → IsLargeArray d b 0 elements
     → first_refusal (set_large_conditions d b i bytes) ≡ None → FewChange d (large_set d b i bytes) b
 varying_set-few d b elements i bytes valid array none =
     let r : Root = root_at d b in
@@ -161,20 +161,20 @@ varying_set-few d b elements i bytes valid array none =
     (inl (first-end_one (map length (pieces_at d r)) i)))
 
 -- An array has as many elements as its root says.
-pub array-total : (d : Document) (b size : ℕ) (elements : Piece) → IsValid d → IsLargeArray d b size elements → total (root_at d b) ≡ length elements
+pub array-total : (d : Document) (b size : ℕ) (elements : BranchPiece) → IsValid d → IsLargeArray d b size elements → total_count (root_at d b) ≡ length elements
 array-total d b size elements valid array =
     let r : Root = root_at d b in
     ap sum (array-layout d b size elements valid array).counts ∙ sum-lengths (pieces_at d r) ∙ ap length array.same
 
 -- Elements that are set where they have one size.
-pub even-set : (d : Document) (b size : ℕ) (elements : Piece) (i : ℕ) (bytes : List ℕ) → IsValid d → IsLargeArray d b size elements
+pub even-set : (d : Document) (b size : ℕ) (elements : BranchPiece) (i : ℕ) (bytes : List ℕ) → IsValid d → IsLargeArray d b size elements
     → ((root_at d b).size == 0) ≡ false → first_refusal (set_large_conditions d b i bytes) ≡ None
     → IsEdited d (large_set d b i bytes) b size (splice elements i (i + element_count size bytes) (cut_elements size bytes))
 even-set d b size elements i bytes valid array one none =
     let cs : Conditions = set_large_conditions d b i bytes in
     let r : Root = root_at d b in
-    let new : Piece = cut_elements r.size bytes in
-    let past = nat_lt (total r) (i + element_count r.size bytes) in
+    let new : BranchPiece = cut_elements r.size bytes in
+    let past = nat_lt (total_count r) (i + element_count r.size bytes) in
     let uneven = ends_within_element r.size bytes in
     let run_own : Conditions = on_run (not (past || uneven)) d b i (element_count r.size bytes) in
     let window_own : Conditions = on_window (not (past || is_too_long r.size bytes)) d b i (i + 1) (bytes ∷ []) in
@@ -184,7 +184,7 @@ even-set d b size elements i bytes valid array one none =
     let whole : uneven ≡ false = (or_none (none_applies (with_branches run_own) own_none Range refl)).0 in
     let count : element_count r.size bytes ≡ length new = given-count r.size bytes one whole in
     let all = array-total d b size elements valid array in
-    let most = ltb-false (total r) (i + element_count r.size bytes) within in
+    let most = ltb-false (total_count r) (i + element_count r.size bytes) within in
     let edited : IsEdited d (elements_overwritten d b i new) b size (splice elements i (i + length new) new) =
     elements-overwritten d b size elements i new valid array one (omega arith) (given-sized r.size bytes) in
     subst (λ (s : ℕ). IsEdited d (large_set d b i bytes) b size (splice elements i (i + element_count s bytes) (cut_elements s bytes))) array.sized
@@ -192,7 +192,7 @@ even-set d b size elements i bytes valid array one none =
     (sym (cond-false (r.size == 0) (elements_replaced d b i (i + 1) (bytes ∷ [])) (elements_overwritten d b i new) one))
     (subst (λ (n : ℕ). IsEdited d (elements_overwritten d b i new) b size (splice elements i (i + n) new)) (sym count) edited))
 
-pub array-set : (d : Document) (b size : ℕ) (elements : Piece) (i : ℕ) (bytes : List ℕ) → IsValid d → IsLargeArray d b size elements
+pub array-set : (d : Document) (b size : ℕ) (elements : BranchPiece) (i : ℕ) (bytes : List ℕ) → IsValid d → IsLargeArray d b size elements
     → first_refusal (set_large_conditions d b i bytes) ≡ None
     → IsEdited d (large_set d b i bytes) b size (splice elements i (i + element_count size bytes) (cut_elements size bytes))
 array-set d b size elements i bytes valid array none = elim (cases_Bool ((root_at d b).size == 0)) [

@@ -13,7 +13,7 @@ use Rattle.geos_model.specs.ChainLaws.{IsForest, nothing, block, AreMembers}
 use Rattle.geos_model.proofs.Arrays.{are_words}
 use Rattle.geos_model.proofs.Validity.{raw_bytes-few}
 use Rattle.geos_model.proofs.Chains.{contains_cases, contains_first, contains_later, raw_block, member-handle, walk-chain, chain-members}
-use Rattle.large_arrays.specs.Pieces.{Piece, weight, branch_room, fits, all_fit, elements_of}
+use Rattle.large_arrays.specs.Pieces.{BranchPiece, weight, branch_room, fits_branch, all_fit, elements_in_pieces}
 use Rattle.large_arrays.specs.Layout.{Root, greatest_element_size, root_bytes, is_root, root_of, branch_bytes, branch_of}
 use Rattle.large_arrays.specs.Blocks.{root_at, branch_at, pieces_at, IsLargeArray}
 use Rattle.large_arrays.proofs.RootBytes.{FitsRoot, root-again, root_linked, root_links, root_of-is}
@@ -22,14 +22,14 @@ use Rattle.large_arrays.proofs.Pairs.{pairs-length, pairs-at, pairs-from_at}
 use Rattle.large_arrays.proofs.DistinctHandles.{distinct-few}
 
 -- the block under a handle is a branch with these elements
-abbrev pub HasBranch : Document → ℕ → ℕ → Piece → Type 0
+abbrev pub HasBranch : Document → ℕ → ℕ → BranchPiece → Type 0
 HasBranch d size h piece = (is_raw d h ≡ true) × (raw_bytes_of d h ≡ branch_bytes size piece)
 
-abbrev pub all_sized : ℕ → List Piece → Bool
+abbrev pub all_sized : ℕ → List BranchPiece → Bool
 all_sized size pieces = list_all (λ x. is_sized size x) pieces
 
 -- The blocks from a root on have these pieces.
-pub record HasLayout (d : Document) (b : ℕ) (r : Root) (pieces : List Piece) : Type 0 where
+pub record HasLayout (d : Document) (b : ℕ) (r : Root) (pieces : List BranchPiece) : Type 0 where
   pub raw : is_raw d b ≡ true
   pub bytes : raw_bytes_of d b ≡ root_bytes r
   pub is : is_root r ≡ true
@@ -47,26 +47,26 @@ root-small r is =
     omega arith
 
 -- a piece of such
-pub piece-fits : (size : ℕ) (p : Piece) (ps : List Piece) → size < 65536 → all_fit size (p ∷ ps) ≡ true → all_sized size (p ∷ ps) ≡ true → FitsBranch size p
+pub piece-fits : (size : ℕ) (p : BranchPiece) (ps : List BranchPiece) → size < 65536 → all_fit size (p ∷ ps) ≡ true → all_sized size (p ∷ ps) ≡ true → FitsBranch size p
 piece-fits size p ps small fit sized = record {
   small = small;
-  room = (and_parts (fits size p) (all_fit size ps) fit).0;
+  room = (and_parts (fits_branch size p) (all_fit size ps) fit).0;
   sized = (and_parts (is_sized size p) (all_sized size ps) sized).0;
 }
 
-pub piece-fits_at : (size : ℕ) (ps : List Piece) (k : ℕ) → size < 65536 → all_fit size ps ≡ true → all_sized size ps ≡ true → k < length ps → FitsBranch size (get_or ps k [])
+pub piece-fits_at : (size : ℕ) (ps : List BranchPiece) (k : ℕ) → size < 65536 → all_fit size ps ≡ true → all_sized size ps ≡ true → k < length ps → FitsBranch size (get_or ps k [])
 piece-fits_at size [] k small fit sized low = absurd (omega arith)
 piece-fits_at size (p ∷ ps) zero small fit sized low = piece-fits size p ps small fit sized
 piece-fits_at size (p ∷ ps) (suc k) small fit sized low =
-    piece-fits_at size ps k small (and_parts (fits size p) (all_fit size ps) fit).1 (and_parts (is_sized size p) (all_sized size ps) sized).1 (omega arith)
+    piece-fits_at size ps k small (and_parts (fits_branch size p) (all_fit size ps) fit).1 (and_parts (is_sized size p) (all_sized size ps) sized).1 (omega arith)
 
 -- how many elements each has is a word
-pub counts-words : (size : ℕ) (ps : List Piece) → size < 65536 → all_fit size ps ≡ true → all_sized size ps ≡ true → are_words (map length ps) ≡ true
+pub counts-words : (size : ℕ) (ps : List BranchPiece) → size < 65536 → all_fit size ps ≡ true → all_sized size ps ≡ true → are_words (map length ps) ≡ true
 counts-words size [] small fit sized = refl
 counts-words size (p ∷ ps) small fit sized =
     let few = branch-few size p (piece-fits size p ps small fit sized) in
     and_from (nat_lt (length p) 65536) (are_words (map length ps)) (lt-ltb (length p) 65536 (omega arith))
-    (counts-words size ps small (and_parts (fits size p) (all_fit size ps) fit).1 (and_parts (is_sized size p) (all_sized size ps) sized).1)
+    (counts-words size ps small (and_parts (fits_branch size p) (all_fit size ps) fit).1 (and_parts (is_sized size p) (all_sized size ps) sized).1)
 
 handles-words : (hs : List ℕ) → ((h : ℕ) → Contains hs h → (1 ≤ h) × (h ≤ most_blocks)) → are_words hs ≡ true
 handles-words [] low = refl
@@ -86,11 +86,11 @@ all_links (h ∷ hs) low =
     ∙ ap (λ (xs : List ℕ). h ∷ xs) (all_links hs (λ x there. low x (contains_later h hs x there)))
 
 -- a branch is a block of a chain, and links to none
-branch_member : (d : Document) (size h : ℕ) (p : Piece) → HasBranch d size h p → is_member d h ≡ true
+branch_member : (d : Document) (size h : ℕ) (p : BranchPiece) → HasBranch d size h p → is_member d h ≡ true
 branch_member d size h p has =
     and_from (is_raw d h) (is_linked (raw_bytes_of d h)) has.0 (ap is_linked has.1 ∙ branch_linked size p)
 
-branches_forest : (d : Document) (size : ℕ) (hs : List ℕ) (ps : List Piece) → AllZip (HasBranch d size) hs ps → IsForest d hs hs
+branches_forest : (d : Document) (size : ℕ) (hs : List ℕ) (ps : List BranchPiece) → AllZip (HasBranch d size) hs ps → IsForest d hs hs
 branches_forest d size [] [] all = nothing
 branches_forest d size [] (p ∷ ps) all = absurd all
 branches_forest d size (h ∷ hs) [] all = absurd all
@@ -98,7 +98,7 @@ branches_forest d size (h ∷ hs) (p ∷ ps) all =
     let leaf : links (raw_bytes_of d h) ≡ [] = ap links (all.0).1 ∙ branch_links size p in
     block h hs [] hs (branch_member d size h p all.0) (subst (λ (xs : List ℕ). IsForest d xs []) (sym leaf) nothing) (branches_forest d size hs ps all.1)
 
-branches_members : (d : Document) (size : ℕ) (hs : List ℕ) (ps : List Piece) → AllZip (HasBranch d size) hs ps → (h : ℕ) → Contains hs h → is_member d h ≡ true
+branches_members : (d : Document) (size : ℕ) (hs : List ℕ) (ps : List BranchPiece) → AllZip (HasBranch d size) hs ps → (h : ℕ) → Contains hs h → is_member d h ≡ true
 branches_members d size [] ps all h there = absurd (let low = there.1 in omega arith)
 branches_members d size (x ∷ hs) [] all h there = absurd all
 branches_members d size (x ∷ hs) (p ∷ ps) all h there = elim (contains_cases x hs h there) [
@@ -113,7 +113,7 @@ raw-handle d valid h raw =
     (leb-true 1 h parts.0, leb-true h most_blocks parts.1)
 
 -- From the blocks to the array.
-module _ (d : Document) (b : ℕ) (r : Root) (pieces : List Piece) (valid : IsValid d) (has : HasLayout d b r pieces) where
+module _ (d : Document) (b : ℕ) (r : Root) (pieces : List BranchPiece) (valid : IsValid d) (has : HasLayout d b r pieces) where
   abbrev n : ℕ
   n = length pieces
 
@@ -133,7 +133,7 @@ module _ (d : Document) (b : ℕ) (r : Root) (pieces : List Piece) (valid : IsVa
   as_many = pairs-length (HasBranch d r.size) r.branches pieces has.branches
 
   count : length r.counts ≡ n
-  count = ap length has.counts ∙ length-map pieces (λ (p : Piece). length p)
+  count = ap length has.counts ∙ length-map pieces (λ (p : BranchPiece). length p)
 
   pub layout_root : FitsRoot r
   layout_root =
@@ -157,24 +157,24 @@ module _ (d : Document) (b : ℕ) (r : Root) (pieces : List Piece) (valid : IsVa
   -- And reading each branch gives its piece.
   pub layout-branch : (k : ℕ) → k < n → branch_at d r k ≡ Some (get_or pieces k [])
   layout-branch k low =
-      let piece : Piece = get_or pieces k [] in
+      let piece : BranchPiece = get_or pieces k [] in
       let h : ℕ = get_or r.branches k 0 in
       let here = pairs-at (HasBranch d r.size) r.branches pieces k 0 [] has.branches low in
       let length_here : get_or r.counts k 0 ≡ length piece =
-      ap (λ (cs : List ℕ). get_or cs k 0) has.counts ∙ get_or-map (λ (p : Piece). length p) pieces k [] 0 low in
+      ap (λ (cs : List ℕ). get_or cs k 0) has.counts ∙ get_or-map (λ (p : BranchPiece). length p) pieces k [] 0 low in
       cond-true (is_raw d h) (branch_of r.size (get_or r.counts k 0) (raw_bytes_of d h)) None here.0
       ∙ ap₂ (λ (c : ℕ) (bytes : List ℕ). branch_of r.size c bytes) length_here here.1
       ∙ branch-again r.size piece (piece-fits_at r.size pieces k small has.fit has.sized low)
 
   pub layout-pieces : pieces_at d r ≡ pieces
   layout-pieces =
-      let read : ℕ → Piece = λ k. unwrap_or (branch_at d r k) (replicate (get_or r.counts k 0) (replicate r.size 0)) in
+      let read : ℕ → BranchPiece = λ k. unwrap_or (branch_at d r k) (replicate (get_or r.counts k 0) (replicate r.size 0)) in
       let many = length-map-range_with_len read 0 (length r.branches) in
       let all = as_many in
       ext_get_or [] (map read (range_with_len 0 (length r.branches))) pieces (many ∙ all) (λ k low.
       let within : k < n = omega arith in
       get_or-map-range_with_len read 0 (length r.branches) k k [] (omega arith) (zero-add k)
-      ∙ ap (λ (o : Option Piece). unwrap_or o (replicate (get_or r.counts k 0) (replicate r.size 0))) (layout-branch k within))
+      ∙ ap (λ (o : Option BranchPiece). unwrap_or o (replicate (get_or r.counts k 0) (replicate r.size 0))) (layout-branch k within))
 
   -- The blocks are a chain.
   root_member : is_member d b ≡ true
@@ -190,7 +190,7 @@ module _ (d : Document) (b : ℕ) (r : Root) (pieces : List Piece) (valid : IsVa
       subst (λ (hs : List ℕ). IsForest d (b ∷ []) (b ∷ hs)) (append-nil r.branches) (block b [] r.branches [] root_member below nothing) in
       walk-chain d b (b ∷ r.branches) valid (record { forest = forest; once = has.once })
 
-  pub layout-array : IsLargeArray d b r.size (elements_of pieces)
+  pub layout-array : IsLargeArray d b r.size (elements_in_pieces pieces)
   layout-array =
       let is = layout-root in
       let all = as_many in record {
@@ -200,7 +200,7 @@ module _ (d : Document) (b : ℕ) (r : Root) (pieces : List Piece) (valid : IsVa
         branch = λ k low.
             (let branches = ap (λ (q : Root). length q.branches) is in
             ap (λ (q : Root). is_some (branch_at d q k)) is ∙ ap is_some (layout-branch k (omega arith)));
-        same = ap (λ (q : Root). elements_of (pieces_at d q)) is ∙ ap elements_of layout-pieces;
+        same = ap (λ (q : Root). elements_in_pieces (pieces_at d q)) is ∙ ap elements_in_pieces layout-pieces;
       }
 
 -- From the array to its blocks.
@@ -214,11 +214,11 @@ some_is : {X : Type 0} (o : Option X) (x : X) → is_some o ≡ true → o ≡ S
 some_is None x there = absurd (cc there)
 some_is (Some y) x there = refl
 
-module _ (d : Document) (b size : ℕ) (elements : Piece) (valid : IsValid d) (array : IsLargeArray d b size elements) where
+module _ (d : Document) (b size : ℕ) (elements : BranchPiece) (valid : IsValid d) (array : IsLargeArray d b size elements) where
   abbrev r : Root
   r = root_at d b
 
-  abbrev pieces : List Piece
+  abbrev pieces : List BranchPiece
   pieces = pieces_at d r
 
   root_found : root_of (raw_bytes_of d b) ≡ Some r
@@ -230,7 +230,7 @@ module _ (d : Document) (b size : ℕ) (elements : Piece) (valid : IsValid d) (a
   members : AreMembers d b (b ∷ r.branches)
   members = chain-members d b (b ∷ r.branches) array.linked
 
-  abbrev read : ℕ → Piece
+  abbrev read : ℕ → BranchPiece
   read k = unwrap_or (branch_at d r k) (replicate (get_or r.counts k 0) (replicate r.size 0))
 
   many : length pieces ≡ length r.branches
@@ -263,14 +263,14 @@ module _ (d : Document) (b size : ℕ) (elements : Piece) (valid : IsValid d) (a
         raw = members.raw b (contains_first b r.branches);
         bytes = sym root.1;
         is = root.0;
-        counts = (let mapped = length-map pieces (λ (p : Piece). length p) in
+        counts = (let mapped = length-map pieces (λ (p : BranchPiece). length p) in
             ext_get_or 0 r.counts (map length pieces) (omega arith) (λ k low.
             let within : k < length pieces = omega arith in
-            sym (branch_is k within).long ∙ sym (get_or-map (λ (p : Piece). length p) pieces k [] 0 within)));
+            sym (branch_is k within).long ∙ sym (get_or-map (λ (p : BranchPiece). length p) pieces k [] 0 within)));
         once = members.once;
         branches = pairs-from_at (HasBranch d r.size) r.branches pieces 0 [] (sym all) (λ k low. (branch_is k low).has);
-        fit = list_all-from_at (λ p. fits r.size p) pieces [] (λ k low.
-            let piece : Piece = get_or pieces k [] in
+        fit = list_all-from_at (λ p. fits_branch r.size p) pieces [] (λ k low.
+            let piece : BranchPiece = get_or pieces k [] in
             let few = raw_bytes-few d (get_or r.branches k 0) valid in
             let long : length (raw_bytes_of d (get_or r.branches k 0)) ≡ 10 + weight r.size piece = ap length ((branch_is k low).has).1 ∙ length-branch_bytes r.size piece in
             le-leb (weight r.size piece) branch_room (omega arith));

@@ -11,7 +11,7 @@ use Rattle.geos_model.specs.declared.command.Body.{Body}
 use Rattle.geos_model.specs.declared.command.Body.TheVariants.{Raw, Heap}
 use Rattle.geos_model.proofs.Chains.{contains_later}
 use Rattle.geos_model.proofs.BlockLists.{distinct-rest, put_elsewhere, put_stands, put_map_block, put_valid}
-use Rattle.large_arrays.specs.Pieces.{Piece, all_fit, elements_of, are_spread}
+use Rattle.large_arrays.specs.Pieces.{BranchPiece, all_fit, elements_in_pieces, are_spread}
 use Rattle.large_arrays.specs.Layout.{Root, root_bytes, is_root}
 use Rattle.large_arrays.specs.Spread.{start_place, end_place, overwritten}
 use Rattle.large_arrays.specs.Blocks.{root_at, pieces_at, IsLargeArray}
@@ -46,7 +46,7 @@ raw_is d b bytes raw is = by_block (get d.blocks b) raw is
     by_block None raw is = absurd (cc raw)
     by_block (Some block) raw is = by_body block block.body refl raw is
 
-length-over : (xs new : Piece) (i j : ℕ) → j ≡ i + length new → j ≤ length xs → length (splice xs i j new) ≡ length xs
+length-over : (xs new : BranchPiece) (i j : ℕ) → j ≡ i + length new → j ≤ length xs → length (splice xs i j new) ≡ length xs
 length-over xs new i j run within =
     let front = length-take-le i xs (omega arith) in
     let back = length-drop j xs in
@@ -54,12 +54,12 @@ length-over xs new i j run within =
     let outer = length-append (take i xs) (new ++ drop j xs) in
     omega arith
 
-module _ (d : Document) (b size : ℕ) (elements : Piece) (i : ℕ) (new : Piece) (valid : IsValid d) (array : IsLargeArray d b size elements)
+module _ (d : Document) (b size : ℕ) (elements : BranchPiece) (i : ℕ) (new : BranchPiece) (valid : IsValid d) (array : IsLargeArray d b size elements)
     (one : ((root_at d b).size == 0) ≡ false) (within : i + length new ≤ length elements) (sized : is_sized (root_at d b).size new ≡ true) (some : 0 < length new) where
   abbrev r : Root
   r = root_at d b
 
-  abbrev pieces : List Piece
+  abbrev pieces : List BranchPiece
   pieces = pieces_at d r
 
   has : HasLayout d b r pieces
@@ -77,32 +77,32 @@ module _ (d : Document) (b size : ℕ) (elements : Piece) (i : ℕ) (new : Piece
   abbrev behind : ℕ
   behind = suc (end_place r.counts j).0
 
-  abbrev over : List Piece
+  abbrev over : List BranchPiece
   over = overwritten pieces i new
 
   abbrev handles : List ℕ
   handles = take (behind - first) (drop first r.branches)
 
-  abbrev placed : List Piece
+  abbrev placed : List BranchPiece
   placed = drop first (take behind over)
 
-  low : j ≤ length (elements_of pieces)
+  low : j ≤ length (elements_in_pieces pieces)
   low = (let same = ap length array.same in omega arith)
 
-  all-many : sum (map length pieces) ≡ length (splice (elements_of pieces) i j new)
-  all-many = sum-lengths pieces ∙ sym (length-over (elements_of pieces) new i j refl low)
+  all-many : sum (map length pieces) ≡ length (splice (elements_in_pieces pieces) i j new)
+  all-many = sum-lengths pieces ∙ sym (length-over (elements_in_pieces pieces) new i j refl low)
 
-  over-elements : elements_of over ≡ splice (elements_of pieces) i j new
+  over-elements : elements_in_pieces over ≡ splice (elements_in_pieces pieces) i j new
   unfolding overwritten
-  over-elements = cut_by-elements (map length pieces) (splice (elements_of pieces) i j new) all-many
+  over-elements = cut_by-elements (map length pieces) (splice (elements_in_pieces pieces) i j new) all-many
 
   over-lengths : map length over ≡ map length pieces
   unfolding overwritten
-  over-lengths = cut_by-lengths (map length pieces) (splice (elements_of pieces) i j new) all-many
+  over-lengths = cut_by-lengths (map length pieces) (splice (elements_in_pieces pieces) i j new) all-many
 
   over-sized : all_sized r.size over ≡ true
   over-sized =
-      let xs : Piece = elements_of pieces in
+      let xs : BranchPiece = elements_in_pieces pieces in
       let old : is_sized r.size xs ≡ true = sym (sized_elements r.size pieces) ∙ has.sized in
       sized_elements r.size over ∙ ap (is_sized r.size) over-elements
       ∙ sized-append r.size (take i xs) (new ++ drop j xs)
@@ -132,10 +132,10 @@ module _ (d : Document) (b size : ℕ) (elements : Piece) (i : ℕ) (new : Piece
       let right : drop behind pieces ≡ drop behind over =
       ap (λ (n : ℕ). drop n pieces) end ∙ sym (overwritten-behind pieces i j new refl low) ∙ ap (λ (n : ℕ). drop n over) (sym end) in
       let before = order in
-      ap₂ (λ (xs ys : List Piece). xs ++ (placed ++ ys)) left right
+      ap₂ (λ (xs ys : List BranchPiece). xs ++ (placed ++ ys)) left right
       ∙ sym (append_assoc (take first over) placed (drop behind over))
-      ∙ ap (λ (xs : List Piece). (xs ++ placed) ++ drop behind over) (sym (take-take first behind over before))
-      ∙ ap (λ (xs : List Piece). xs ++ drop behind over) (take-append-drop first (take behind over))
+      ∙ ap (λ (xs : List BranchPiece). (xs ++ placed) ++ drop behind over) (sym (take-take first behind over before))
+      ∙ ap (λ (xs : List BranchPiece). xs ++ drop behind over) (take-append-drop first (take behind over))
       ∙ take-append-drop behind over
 
   as_many : length r.branches ≡ length pieces
@@ -214,21 +214,21 @@ module _ (d : Document) (b size : ℕ) (elements : Piece) (i : ℕ) (new : Piece
 
   pub run-edited : IsEdited d (with_blocks d blocks) b size (splice elements i j new)
   run-edited =
-      let same : elements_of (splice pieces first behind placed) ≡ splice elements i j new =
-      ap elements_of over_is ∙ over-elements ∙ ap (λ (xs : Piece). splice xs i j new) array.same in
+      let same : elements_in_pieces (splice pieces first behind placed) ≡ splice elements i j new =
+      ap elements_in_pieces over_is ∙ over-elements ∙ ap (λ (xs : BranchPiece). splice xs i j new) array.same in
       subst (λ (s : ℕ). IsEdited d (with_blocks d blocks) b s (splice elements i j new)) array.sized
-      (subst (λ (xs : Piece). IsEdited d (with_blocks d blocks) b r.size xs) same
+      (subst (λ (xs : BranchPiece). IsEdited d (with_blocks d blocks) b r.size xs) same
       (replaced-edited d b r pieces first behind handles [] placed valid has named (with_blocks d blocks) replaced good still_spread))
 
 -- Elements of one size in the place of as many others.
-pub elements-overwritten : (d : Document) (b size : ℕ) (elements : Piece) (i : ℕ) (new : Piece) → IsValid d → IsLargeArray d b size elements
+pub elements-overwritten : (d : Document) (b size : ℕ) (elements : BranchPiece) (i : ℕ) (new : BranchPiece) → IsValid d → IsLargeArray d b size elements
     → ((root_at d b).size == 0) ≡ false → i + length new ≤ length elements → is_sized (root_at d b).size new ≡ true
     → IsEdited d (elements_overwritten d b i new) b size (splice elements i (i + length new) new)
 unfolding elements_overwritten
 elements-overwritten d b size elements i [] valid array one within sized =
     let none : i + 0 ≡ i = omega arith in
     let still : elements ≡ splice elements i (i + 0) [] = sym (take-append-drop i elements) ∙ ap (λ (k : ℕ). splice elements i k []) (sym none) in
-    subst (λ (xs : Piece). IsEdited d d b size xs) still (unchanged d b size elements valid array)
+    subst (λ (xs : BranchPiece). IsEdited d d b size xs) still (unchanged d b size elements valid array)
 elements-overwritten d b size elements i (x ∷ new) valid array one within sized =
     let nothing = length (x ∷ new) == 0 in
     elim (cases_Bool nothing) [

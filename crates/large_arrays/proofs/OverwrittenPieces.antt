@@ -4,7 +4,7 @@ use Rattle.std.proofs.lemmas.Bool.{cases_Bool, cond-true, cond-false}
 use Rattle.std.proofs.lemmas.List.{length-take, length-take-le, take-append-drop, take-append-le, drop-append-le, drop-drop, drop-take, drop_all}
 use Rattle.std.proofs.lemmas.List.Sums.{sum_by-append}
 use Rattle.std.specs.List.{splice}
-use Rattle.large_arrays.specs.Pieces.{Piece, elements_of}
+use Rattle.large_arrays.specs.Pieces.{BranchPiece, elements_in_pieces}
 use Rattle.large_arrays.specs.Spread.{start_place, end_place, cut_by}
 use Rattle.large_arrays.proofs.SpreadElements.{take_past, drop_past}
 
@@ -15,39 +15,39 @@ sum-cons : (c : ℕ) (cs : List ℕ) → sum (c ∷ cs) ≡ c + sum cs
 sum-cons c cs = (let step = sum_by-append (λ (x : ℕ). x) (c ∷ []) cs in omega arith)
 
 -- how many elements pieces have
-pub sum-lengths : (ps : List Piece) → sum (map length ps) ≡ length (elements_of ps)
+pub sum-lengths : (ps : List BranchPiece) → sum (map length ps) ≡ length (elements_in_pieces ps)
 sum-lengths [] = refl
 sum-lengths (p ∷ ps) =
     let step = sum-cons (length p) (map length ps) in
     let rest = sum-lengths ps in
-    let all = length-append p (elements_of ps) in
+    let all = length-append p (elements_in_pieces ps) in
     omega arith
 
 -- Elements in pieces of so many.
 
-pub cut_by-elements : (cs : List ℕ) (xs : Piece) → sum cs ≡ length xs → elements_of (cut_by cs xs) ≡ xs
+pub cut_by-elements : (cs : List ℕ) (xs : BranchPiece) → sum cs ≡ length xs → elements_in_pieces (cut_by cs xs) ≡ xs
 cut_by-elements [] [] all = refl
 cut_by-elements [] (x ∷ xs) all = absurd (let never : 0 ≡ suc (length xs) = all in omega arith)
 cut_by-elements (c ∷ cs) xs all =
     let step = sum-cons c cs in
     let rest = length-drop c xs in
-    ap (λ (ys : Piece). take c xs ++ ys) (cut_by-elements cs (drop c xs) (omega arith)) ∙ take-append-drop c xs
+    ap (λ (ys : BranchPiece). take c xs ++ ys) (cut_by-elements cs (drop c xs) (omega arith)) ∙ take-append-drop c xs
 
-pub cut_by-lengths : (cs : List ℕ) (xs : Piece) → sum cs ≡ length xs → map length (cut_by cs xs) ≡ cs
+pub cut_by-lengths : (cs : List ℕ) (xs : BranchPiece) → sum cs ≡ length xs → map length (cut_by cs xs) ≡ cs
 cut_by-lengths [] xs all = refl
 cut_by-lengths (c ∷ cs) xs all =
     let step = sum-cons c cs in
     let rest = length-drop c xs in
     ap₂ (λ (n : ℕ) (ns : List ℕ). n ∷ ns) (length-take-le c xs (omega arith)) (cut_by-lengths cs (drop c xs) (omega arith))
 
-cut_by-same : (ps : List Piece) → cut_by (map length ps) (elements_of ps) ≡ ps
+cut_by-same : (ps : List BranchPiece) → cut_by (map length ps) (elements_in_pieces ps) ≡ ps
 cut_by-same [] = refl
 cut_by-same (p ∷ ps) =
-    ap₂ (λ (x : Piece) (xs : Piece). x ∷ cut_by (map length ps) xs) (take_at p (elements_of ps) (length p) refl) (drop_at p (elements_of ps) (length p) refl)
-    ∙ ap (λ (qs : List Piece). p ∷ qs) (cut_by-same ps)
+    ap₂ (λ (x : BranchPiece) (xs : BranchPiece). x ∷ cut_by (map length ps) xs) (take_at p (elements_in_pieces ps) (length p) refl) (drop_at p (elements_in_pieces ps) (length p) refl)
+    ∙ ap (λ (qs : List BranchPiece). p ∷ qs) (cut_by-same ps)
 
 -- from a place on, over two lists
-drop_over : (n : ℕ) (xs ys : Piece) → drop n (xs ++ ys) ≡ drop n xs ++ drop (n - length xs) ys
+drop_over : (n : ℕ) (xs ys : BranchPiece) → drop n (xs ++ ys) ≡ drop n xs ++ drop (n - length xs) ys
 drop_over n xs ys = elim (cases_Bool (nat_le n (length xs))) [
   | inl within ↦
       (let low = leb-true n (length xs) within in
@@ -55,11 +55,11 @@ drop_over n xs ys = elim (cases_Bool (nat_le n (length xs))) [
       drop-append-le n xs ys low ∙ ap (λ (k : ℕ). drop n xs ++ drop k ys) (sym none))
   | inr past ↦
       (let more = leb-false n (length xs) past in
-      drop_past xs ys n (omega arith) ∙ ap (λ (zs : Piece). zs ++ drop (n - length xs) ys) (sym (drop_all n xs (omega arith))))
+      drop_past xs ys n (omega arith) ∙ ap (λ (zs : BranchPiece). zs ++ drop (n - length xs) ys) (sym (drop_all n xs (omega arith))))
 ]
 
 -- of what was taken from a list
-drop_taken : (n m : ℕ) (xs : Piece) → drop n (take m xs) ≡ take (m - n) (drop n xs)
+drop_taken : (n m : ℕ) (xs : BranchPiece) → drop n (take m xs) ≡ take (m - n) (drop n xs)
 drop_taken n m xs = elim (cases_Bool (nat_le n m)) [
   | inl within ↦
       (let low = leb-true n m within in
@@ -73,7 +73,7 @@ drop_taken n m xs = elim (cases_Bool (nat_le n m)) [
 ]
 
 -- A run in a piece and in those behind it.
-module _ (p rest : Piece) (i j : ℕ) (new : Piece) (run : j ≡ i + length new) (within : j ≤ length (p ++ rest)) where
+module _ (p rest : BranchPiece) (i j : ℕ) (new : BranchPiece) (run : j ≡ i + length new) (within : j ≤ length (p ++ rest)) where
   abbrev n : ℕ
   n = length p
 
@@ -88,10 +88,10 @@ module _ (p rest : Piece) (i j : ℕ) (new : Piece) (run : j ≡ i + length new)
       let past : n - i - length new ≡ 0 = omega arith in
       let sum : n + (j - n) ≡ j = omega arith in
       drop_over n front (new ++ drop j (p ++ rest))
-      ∙ ap₂ (λ (xs : Piece) (k : ℕ). xs ++ drop (n - k) (new ++ drop j (p ++ rest))) (drop_taken n i (p ++ rest) ∙ ap (take (i - n)) (drop_at p rest n refl)) long
-      ∙ ap (λ (xs : Piece). take (i - n) rest ++ xs) (drop_over (n - i) new (drop j (p ++ rest))
+      ∙ ap₂ (λ (xs : BranchPiece) (k : ℕ). xs ++ drop (n - k) (new ++ drop j (p ++ rest))) (drop_taken n i (p ++ rest) ∙ ap (take (i - n)) (drop_at p rest n refl)) long
+      ∙ ap (λ (xs : BranchPiece). take (i - n) rest ++ xs) (drop_over (n - i) new (drop j (p ++ rest))
       ∙ ap₂ (λ (k m : ℕ). drop (n - i) new ++ drop k (drop m (p ++ rest))) past (sym sum)
-      ∙ ap (λ (xs : Piece). drop (n - i) new ++ xs) (sym (drop-drop (j - n) n (p ++ rest)) ∙ ap (drop (j - n)) (drop_at p rest n refl)))
+      ∙ ap (λ (xs : BranchPiece). drop (n - i) new ++ xs) (sym (drop-drop (j - n) n (p ++ rest)) ∙ ap (drop (j - n)) (drop_at p rest n refl)))
 
   -- before the run stands the piece
   splice-before : n ≤ i → take n (splice (p ++ rest) i j new) ≡ p
@@ -113,17 +113,17 @@ module _ (p rest : Piece) (i j : ℕ) (new : Piece) (run : j ≡ i + length new)
       ∙ drop-drop (n - j) j (p ++ rest) ∙ ap (λ (k : ℕ). drop k (p ++ rest)) sum ∙ drop_at p rest n refl
 
 -- Pieces before the one in which the run begins stay.
-pub overwritten-before : (ps : List Piece) (i j : ℕ) (new : Piece) → j ≡ i + length new → j ≤ length (elements_of ps)
-    → take (start_place (map length ps) i).0 (cut_by (map length ps) (splice (elements_of ps) i j new)) ≡ take (start_place (map length ps) i).0 ps
+pub overwritten-before : (ps : List BranchPiece) (i j : ℕ) (new : BranchPiece) → j ≡ i + length new → j ≤ length (elements_in_pieces ps)
+    → take (start_place (map length ps) i).0 (cut_by (map length ps) (splice (elements_in_pieces ps) i j new)) ≡ take (start_place (map length ps) i).0 ps
 overwritten-before [] i j new run within = refl
 overwritten-before (p ∷ []) i j new run within = refl
 overwritten-before (p ∷ q ∷ ps) i j new run within =
-    let rest : Piece = elements_of (q ∷ ps) in
+    let rest : BranchPiece = elements_in_pieces (q ∷ ps) in
     let cs : List ℕ = map length (q ∷ ps) in
     let n : ℕ = length p in
     let b = nat_lt i n in
     let later = start_place cs (i - n) in
-    let all : Piece = splice (p ++ rest) i j new in
+    let all : BranchPiece = splice (p ++ rest) i j new in
     let same : ℕ × ℕ → Type 0 = λ at. take at.0 (cut_by (n ∷ cs) all) ≡ take at.0 (p ∷ q ∷ ps) in
     elim (cases_Bool b) [
       | inl here ↦ subst same (sym (cond-true b _ _ here)) refl
@@ -135,22 +135,22 @@ overwritten-before (p ∷ q ∷ ps) i j new run within =
           splice-behind p rest i j new run within (omega arith) ∙ ap (λ (k : ℕ). splice rest (i - n) (j - n) (drop k new)) none in
           let more = overwritten-before (q ∷ ps) (i - n) (j - n) new (omega arith) (omega arith) in
           let cut : cut_by (n ∷ cs) all ≡ p ∷ cut_by cs (splice rest (i - n) (j - n) new) =
-          ap₂ (λ (x : Piece) (xs : Piece). x ∷ cut_by cs xs) (splice-before p rest i j new run within low) moved in
-          subst same (sym (cond-false b _ _ past)) (ap (take (suc later.0)) cut ∙ ap (λ (qs : List Piece). p ∷ qs) more))
+          ap₂ (λ (x : BranchPiece) (xs : BranchPiece). x ∷ cut_by cs xs) (splice-before p rest i j new run within low) moved in
+          subst same (sym (cond-false b _ _ past)) (ap (take (suc later.0)) cut ∙ ap (λ (qs : List BranchPiece). p ∷ qs) more))
     ]
 
 -- And those behind the one in which it ends.
-pub overwritten-behind : (ps : List Piece) (i j : ℕ) (new : Piece) → j ≡ i + length new → j ≤ length (elements_of ps)
-    → drop (suc (end_place (map length ps) j).0) (cut_by (map length ps) (splice (elements_of ps) i j new)) ≡ drop (suc (end_place (map length ps) j).0) ps
+pub overwritten-behind : (ps : List BranchPiece) (i j : ℕ) (new : BranchPiece) → j ≡ i + length new → j ≤ length (elements_in_pieces ps)
+    → drop (suc (end_place (map length ps) j).0) (cut_by (map length ps) (splice (elements_in_pieces ps) i j new)) ≡ drop (suc (end_place (map length ps) j).0) ps
 overwritten-behind [] i j new run within = refl
 overwritten-behind (p ∷ []) i j new run within = refl
 overwritten-behind (p ∷ q ∷ ps) i j new run within =
-    let rest : Piece = elements_of (q ∷ ps) in
+    let rest : BranchPiece = elements_in_pieces (q ∷ ps) in
     let cs : List ℕ = map length (q ∷ ps) in
     let n : ℕ = length p in
     let b = nat_le j n in
     let later = end_place cs (j - n) in
-    let all : Piece = splice (p ++ rest) i j new in
+    let all : BranchPiece = splice (p ++ rest) i j new in
     let same : ℕ × ℕ → Type 0 = λ at. drop (suc at.0) (cut_by (n ∷ cs) all) ≡ drop (suc at.0) (p ∷ q ∷ ps) in
     elim (cases_Bool b) [
       | inl here ↦
@@ -162,5 +162,5 @@ overwritten-behind (p ∷ q ∷ ps) i j new run within =
           let left = length-drop (n - i) new in
           let behind = overwritten-behind (q ∷ ps) (i - n) (j - n) (drop (n - i) new) (omega arith) (omega arith) in
           let moved : drop n all ≡ splice rest (i - n) (j - n) (drop (n - i) new) = splice-behind p rest i j new run within (omega arith) in
-          subst same (sym (cond-false b _ _ past)) (ap (λ (xs : Piece). drop (suc later.0) (cut_by cs xs)) moved ∙ behind))
+          subst same (sym (cond-false b _ _ past)) (ap (λ (xs : BranchPiece). drop (suc later.0) (cut_by cs xs)) moved ∙ behind))
     ]

@@ -8,7 +8,7 @@ use Rattle.std.specs.List.{Contains, list_all, list_any}
 use Rattle.geos_model.proofs.Chains.{contains_first, contains_later}
 use Rattle.geos_model.proofs.BlockLists.{none_passes}
 use Rattle.geos_model.proofs.ChainCopies.{kept-there}
-use Rattle.large_arrays.specs.Pieces.{Piece, elements_of}
+use Rattle.large_arrays.specs.Pieces.{BranchPiece, elements_in_pieces}
 use Rattle.large_arrays.specs.Layout.{Root, greatest_element_size, is_root}
 use Rattle.large_arrays.specs.Spread.{respread}
 use Rattle.large_arrays.proofs.SpreadElements.{respread-elements}
@@ -18,10 +18,10 @@ use Rattle.large_arrays.proofs.Layouts.{all_sized}
 
 -- Elements of one size, in pieces or all together.
 
-pub sized-append : (size : ℕ) (xs ys : Piece) → is_sized size (xs ++ ys) ≡ (is_sized size xs && is_sized size ys)
+pub sized-append : (size : ℕ) (xs ys : BranchPiece) → is_sized size (xs ++ ys) ≡ (is_sized size xs && is_sized size ys)
 sized-append size xs ys = by_test (size == 0)
   where
-    all : Piece → Bool
+    all : BranchPiece → Bool
     all zs = list_all (λ x. length x == size) zs
 
     by_test : (b : Bool) → (b || all (xs ++ ys)) ≡ ((b || all xs) && (b || all ys))
@@ -35,19 +35,19 @@ sized-none size = by_test (size == 0)
     by_test true = refl
     by_test false = refl
 
-pub sized_elements : (size : ℕ) (ps : List Piece) → all_sized size ps ≡ is_sized size (elements_of ps)
+pub sized_elements : (size : ℕ) (ps : List BranchPiece) → all_sized size ps ≡ is_sized size (elements_in_pieces ps)
 sized_elements size [] = sym (sized-none size)
-sized_elements size (p ∷ ps) = ap (λ (b : Bool). is_sized size p && b) (sized_elements size ps) ∙ sym (sized-append size p (elements_of ps))
+sized_elements size (p ∷ ps) = ap (λ (b : Bool). is_sized size p && b) (sized_elements size ps) ∙ sym (sized-append size p (elements_in_pieces ps))
 
-pub sized_part : (size n : ℕ) (xs : Piece) → is_sized size xs ≡ true → (is_sized size (take n xs) ≡ true) × (is_sized size (drop n xs) ≡ true)
+pub sized_part : (size n : ℕ) (xs : BranchPiece) → is_sized size xs ≡ true → (is_sized size (take n xs) ≡ true) × (is_sized size (drop n xs) ≡ true)
 sized_part size n xs all =
     and_parts (is_sized size (take n xs)) (is_sized size (drop n xs))
     (sym (sized-append size (take n xs) (drop n xs)) ∙ ap (is_sized size) (take-append-drop n xs) ∙ all)
 
-pub respread-sized : (size : ℕ) (ps : List Piece) (i j : ℕ) (new : Piece) → all_sized size ps ≡ true → is_sized size new ≡ true
+pub respread-sized : (size : ℕ) (ps : List BranchPiece) (i j : ℕ) (new : BranchPiece) → all_sized size ps ≡ true → is_sized size new ≡ true
     → all_sized size (respread size ps i j new) ≡ true
 respread-sized size ps i j new all each =
-    let xs : Piece = elements_of ps in
+    let xs : BranchPiece = elements_in_pieces ps in
     let old : is_sized size xs ≡ true = sym (sized_elements size ps) ∙ all in
     sized_elements size (respread size ps i j new)
     ∙ ap (is_sized size) (respread-elements size ps i j new)
@@ -57,23 +57,23 @@ respread-sized size ps i j new all each =
 
 -- A root by its pieces.
 
-pub counts_full : (ps : List Piece) → list_all (λ c. nat_lt 0 c) (map length ps) ≡ list_all (λ x. nat_lt 0 (length x)) ps
+pub counts_full : (ps : List BranchPiece) → list_all (λ c. nat_lt 0 c) (map length ps) ≡ list_all (λ x. nat_lt 0 (length x)) ps
 counts_full [] = refl
 counts_full (p ∷ ps) = ap (λ (b : Bool). nat_lt 0 (length p) && b) (counts_full ps)
 
-pub root_full : (r : Root) (ps : List Piece) → is_root r ≡ true → r.counts ≡ map length ps → (0 < length ps) × (is_full ps ≡ true)
+pub root_full : (r : Root) (ps : List BranchPiece) → is_root r ≡ true → r.counts ≡ map length ps → (0 < length ps) × (is_full ps ≡ true)
 root_full r ps is counts =
     let parts = and_parts (nat_lt 0 (length r.counts) && nat_le r.size greatest_element_size) (length r.counts == 1 || list_all (λ c. nat_lt 0 c) r.counts) is in
     let two = and_parts (nat_lt 0 (length r.counts)) (nat_le r.size greatest_element_size) parts.0 in
-    let count : length r.counts ≡ length ps = ap length counts ∙ length-map ps (λ (p : Piece). length p) in
+    let count : length r.counts ≡ length ps = ap length counts ∙ length-map ps (λ (p : BranchPiece). length p) in
     let some = ltb-true 0 (length r.counts) two.0 in (
       omega arith,
       ap₂ (λ (n : ℕ) (b : Bool). n == 1 || b) (sym count) (sym (counts_full ps) ∙ ap (list_all (λ c. nat_lt 0 c)) (sym counts)) ∙ parts.1,
     )
 
-pub root_from : (r : Root) (ps : List Piece) → nat_le r.size greatest_element_size ≡ true → r.counts ≡ map length ps → 0 < length ps → is_full ps ≡ true → is_root r ≡ true
+pub root_from : (r : Root) (ps : List BranchPiece) → nat_le r.size greatest_element_size ≡ true → r.counts ≡ map length ps → 0 < length ps → is_full ps ≡ true → is_root r ≡ true
 root_from r ps small counts some full =
-    let count : length r.counts ≡ length ps = ap length counts ∙ length-map ps (λ (p : Piece). length p) in
+    let count : length r.counts ≡ length ps = ap length counts ∙ length-map ps (λ (p : BranchPiece). length p) in
     and_from (nat_lt 0 (length r.counts) && nat_le r.size greatest_element_size) (length r.counts == 1 || list_all (λ c. nat_lt 0 c) r.counts)
     (and_from (nat_lt 0 (length r.counts)) (nat_le r.size greatest_element_size) (lt-ltb 0 (length r.counts) (omega arith)) small)
     (ap₂ (λ (n : ℕ) (b : Bool). n == 1 || b) count (ap (list_all (λ c. nat_lt 0 c)) counts ∙ counts_full ps) ∙ full)

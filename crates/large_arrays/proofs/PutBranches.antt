@@ -13,7 +13,7 @@ use Rattle.geos_model.specs.Document.{Block, Document, IsValid, IsValidBlock, mo
 use Rattle.geos_model.proofs.Validity.{attributes-fit, raw-typed}
 use Rattle.geos_model.proofs.Chains.{contains_cases, contains_first, contains_later, chain-members}
 use Rattle.geos_model.proofs.BlockLists.{put_elsewhere, put_stands, put_map_block, put_valid, taken_elsewhere, taken_gone, taken_map_block, taken_valid, distinct-first}
-use Rattle.large_arrays.specs.Pieces.{Piece, weight, branch_room, fits, all_fit}
+use Rattle.large_arrays.specs.Pieces.{BranchPiece, weight, branch_room, fits_branch, all_fit}
 use Rattle.large_arrays.specs.Layout.{Root, root_bytes, branch_bytes}
 use Rattle.large_arrays.specs.Window.{raw_block}
 use Rattle.large_arrays.proofs.RootBytes.{length-root_bytes}
@@ -24,10 +24,10 @@ use Rattle.large_arrays.proofs.DistinctHandles.{distinct-cons, there_before, the
 use Rattle.large_arrays.proofs.Replacing.{raw-there, olds, new_root, AreNamed, AreReplaced, AreGood, new-few, root_apart}
 
 -- branches under their handles
-abbrev pub branch_blocks : Document → ℕ → List ℕ → List Piece → List (ℕ × Block)
+abbrev pub branch_blocks : Document → ℕ → List ℕ → List BranchPiece → List (ℕ × Block)
 branch_blocks d size news placed = map (λ p. raw_block d p.0 (branch_bytes size p.1)) (zip news placed)
 
-pub branch_blocks-handles : (d : Document) (size : ℕ) (news : List ℕ) (placed : List Piece) → length news ≡ length placed → handles_of (branch_blocks d size news placed) ≡ news
+pub branch_blocks-handles : (d : Document) (size : ℕ) (news : List ℕ) (placed : List BranchPiece) → length news ≡ length placed → handles_of (branch_blocks d size news placed) ≡ news
 branch_blocks-handles d size [] [] long = refl
 branch_blocks-handles d size [] (p ∷ ps) long = absurd (let none : 0 ≡ suc (length ps) = long in omega arith)
 branch_blocks-handles d size (h ∷ hs) [] long = absurd (let none : suc (length hs) ≡ 0 = long in omega arith)
@@ -35,7 +35,7 @@ branch_blocks-handles d size (h ∷ hs) (p ∷ ps) long =
     let same : suc (length hs) ≡ suc (length ps) = long in ap (λ (xs : List ℕ). h ∷ xs) (branch_blocks-handles d size hs ps (omega arith))
 
 -- where they stand there are these branches
-pub branch_blocks-stand : (d new : Document) (size : ℕ) (news : List ℕ) (placed : List Piece) → length news ≡ length placed
+pub branch_blocks-stand : (d new : Document) (size : ℕ) (news : List ℕ) (placed : List BranchPiece) → length news ≡ length placed
     → All (λ p. get new.blocks p.0 ≡ Some p.1) (branch_blocks d size news placed) → AllZip (HasBranch new size) news placed
 branch_blocks-stand d new size [] [] long stand = tt
 branch_blocks-stand d new size [] (p ∷ ps) long stand = absurd (let none : 0 ≡ suc (length ps) = long in omega arith)
@@ -60,12 +60,12 @@ can_put d h bytes valid can few = record {
   typed = λ _. can.typed;
 }
 
-pub branch_blocks-valid : (d : Document) (size : ℕ) (news : List ℕ) (placed : List Piece) → IsValid d → ((h : ℕ) → Contains news h → CanHave d h) → all_fit size placed ≡ true
+pub branch_blocks-valid : (d : Document) (size : ℕ) (news : List ℕ) (placed : List BranchPiece) → IsValid d → ((h : ℕ) → Contains news h → CanHave d h) → all_fit size placed ≡ true
     → All (λ p. IsValidBlock p.0 p.1) (branch_blocks d size news placed)
 branch_blocks-valid d size [] placed valid can fit = All-nil (λ p. IsValidBlock p.0 p.1)
 branch_blocks-valid d size (h ∷ hs) [] valid can fit = All-nil (λ p. IsValidBlock p.0 p.1)
 branch_blocks-valid d size (h ∷ hs) (p ∷ ps) valid can fit =
-    let parts = and_parts (fits size p) (all_fit size ps) fit in
+    let parts = and_parts (fits_branch size p) (all_fit size ps) fit in
     let most = leb-true (weight size p) branch_room parts.0 in
     let long = length-branch_bytes size p in
     All-cons (λ q. IsValidBlock q.0 q.1) (raw_block d h (branch_bytes size p)) (branch_blocks d size hs ps)
@@ -80,7 +80,7 @@ no_type d h free = by_block (get d.blocks h) free
     by_block None free = refl
     by_block (Some b) free = absurd (cc free)
 
-module _ (d : Document) (b : ℕ) (r : Root) (pieces : List Piece) (first behind : ℕ) (news freed : List ℕ) (placed : List Piece)
+module _ (d : Document) (b : ℕ) (r : Root) (pieces : List BranchPiece) (first behind : ℕ) (news freed : List ℕ) (placed : List BranchPiece)
     (valid : IsValid d) (has : HasLayout d b r pieces) (named : AreNamed d b r pieces first behind news freed placed) (good : AreGood d b r pieces first behind news freed placed)
     (no_map : Contains freed d.map_block → ⊥) where
   abbrev root : Root
@@ -132,17 +132,17 @@ module _ (d : Document) (b : ℕ) (r : Root) (pieces : List Piece) (first behind
 
   pub placed_fit : all_fit r.size placed ≡ true
   placed_fit =
-      let test : Piece → Bool = λ p. fits r.size p in
-      let tail : List Piece = placed ++ drop behind pieces in
+      let test : BranchPiece → Bool = λ p. fits_branch r.size p in
+      let tail : List BranchPiece = placed ++ drop behind pieces in
       let all = and_parts (all_fit r.size (take first pieces)) (all_fit r.size tail) (sym (list_all-append test (take first pieces) tail) ∙ good.fit) in
       (and_parts (all_fit r.size placed) (all_fit r.size (drop behind pieces)) (sym (list_all-append test placed (drop behind pieces)) ∙ all.1)).0
 
   length_root : length (root_bytes root) ≤ capacity
   length_root =
-      let counted = length-map pieces (λ (p : Piece). length p) in
+      let counted = length-map pieces (λ (p : BranchPiece). length p) in
       let counts : length r.counts ≡ length pieces = ap length has.counts ∙ counted in
       let branches = pairs-length (HasBranch d r.size) r.branches pieces has.branches in
-      let mapped = length-map placed (λ (p : Piece). length p) in
+      let mapped = length-map placed (λ (p : BranchPiece). length p) in
       let as_many = named.as_many in
       let few = new-few d b r pieces first behind news freed placed valid has named in
       let front_counts = length-take first r.counts in

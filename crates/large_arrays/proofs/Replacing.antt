@@ -14,11 +14,11 @@ use Rattle.geos_model.specs.Chain.{chain_blocks}
 use Rattle.geos_model.specs.declared.command.Body.TheVariants.{Raw}
 use Rattle.geos_model.proofs.Chains.{contains_cases, contains_first, contains_later, chain-members}
 use Rattle.geos_model.proofs.BlockLists.{distinct-first, distinct-rest}
-use Rattle.large_arrays.specs.Pieces.{Piece, all_fit, elements_of, are_spread}
+use Rattle.large_arrays.specs.Pieces.{BranchPiece, all_fit, elements_in_pieces, are_spread}
 use Rattle.large_arrays.specs.Layout.{Root, root_bytes, is_root}
 use Rattle.large_arrays.specs.Blocks.{pieces_at}
 use Rattle.large_arrays.specs.EditLaws.{IsEdited}
-use Rattle.large_arrays.specs.ChangeLaws.{IsChanged}
+use Rattle.large_arrays.specs.ChangeLaws.{HasOtherBytes}
 use Rattle.large_arrays.proofs.Layouts.{HasBranch, HasLayout, all_sized, raw-handle, layout-root, layout-pieces, layout-chain, layout-array}
 use Rattle.large_arrays.proofs.Pairs.{pairs-length, pairs-append, pairs-take, pairs-drop}
 use Rattle.large_arrays.proofs.DistinctHandles.{contained-few, distinct-few, distinct-cons, distinct-append, distinct-parts, there_before, there_behind}
@@ -46,7 +46,7 @@ known (x ∷ hs) h = elim (cases_Bool (x == h)) [
 ]
 
 -- branches stay where their blocks do
-kept : (d new : Document) (size : ℕ) (hs : List ℕ) (ps : List Piece) → AllZip (HasBranch d size) hs ps
+kept : (d new : Document) (size : ℕ) (hs : List ℕ) (ps : List BranchPiece) → AllZip (HasBranch d size) hs ps
     → ((h : ℕ) → Contains hs h → get new.blocks h ≡ get d.blocks h) → AllZip (HasBranch new size) hs ps
 kept d new size [] [] all same = tt
 kept d new size [] (p ∷ ps) all same = absurd all
@@ -61,17 +61,17 @@ kept d new size (h ∷ hs) (p ∷ ps) all same =
     )
 
 -- how many elements each piece has, with others in the place of some
-pub counts-spliced : (counts : List ℕ) (first behind : ℕ) (pieces placed : List Piece) → counts ≡ map length pieces
+pub counts-spliced : (counts : List ℕ) (first behind : ℕ) (pieces placed : List BranchPiece) → counts ≡ map length pieces
     → splice counts first behind (map length placed) ≡ map length (splice pieces first behind placed)
 counts-spliced counts first behind pieces placed is =
-    let size : Piece → ℕ = λ p. length p in
+    let size : BranchPiece → ℕ = λ p. length p in
     ap (λ (cs : List ℕ). splice cs first behind (map size placed)) is
     ∙ ap₂ (λ (xs ys : List ℕ). xs ++ (map size placed ++ ys)) (take-map size first pieces) (drop-map size behind pieces)
     ∙ ap (λ (xs : List ℕ). map size (take first pieces) ++ xs) (sym (map-append size placed (drop behind pieces)))
     ∙ sym (map-append size (take first pieces) (placed ++ drop behind pieces))
 
 -- What comes in the place of some branches.
-module _ (d : Document) (b : ℕ) (r : Root) (pieces : List Piece) (first behind : ℕ) (news freed : List ℕ) (placed : List Piece) where
+module _ (d : Document) (b : ℕ) (r : Root) (pieces : List BranchPiece) (first behind : ℕ) (news freed : List ℕ) (placed : List BranchPiece) where
   abbrev pub front : List ℕ
   front = take first r.branches
 
@@ -84,7 +84,7 @@ module _ (d : Document) (b : ℕ) (r : Root) (pieces : List Piece) (first behind
   abbrev pub new_branches : List ℕ
   new_branches = splice r.branches first behind news
 
-  abbrev pub new_pieces : List Piece
+  abbrev pub new_pieces : List BranchPiece
   new_pieces = splice pieces first behind placed
 
   abbrev pub new_root : Root
@@ -230,8 +230,8 @@ module _ (d : Document) (b : ℕ) (r : Root) (pieces : List Piece) (first behind
       pub new-layout : HasLayout new b new_root new_pieces
       new-layout =
           let root = raw-there new b (record { attributes = attributes_of d b; body = Raw (root_bytes new_root) }) (root_bytes new_root) replaced.root refl in
-          let has_old : ℕ → Piece → Type 0 = HasBranch d r.size in
-          let has_new : ℕ → Piece → Type 0 = HasBranch new r.size in
+          let has_old : ℕ → BranchPiece → Type 0 = HasBranch d r.size in
+          let has_new : ℕ → BranchPiece → Type 0 = HasBranch new r.size in
           record {
             raw = root.0;
             bytes = root.1;
@@ -296,7 +296,7 @@ module _ (d : Document) (b : ℕ) (r : Root) (pieces : List Piece) (first behind
           ]) (λ gone. other (contains_later b r.branches h (in_olds h (named.freed_old h gone))))
 
       -- So the array is the one with these pieces, and all else stays.
-      pub replaced-edited : (are_spread r.size pieces ≡ true → are_spread r.size new_pieces ≡ true) → IsEdited d new b r.size (elements_of new_pieces)
+      pub replaced-edited : (are_spread r.size pieces ≡ true → are_spread r.size new_pieces ≡ true) → IsEdited d new b r.size (elements_in_pieces new_pieces)
       replaced-edited spread = record {
         valid = replaced.valid;
         array = layout-array new b new_root new_pieces replaced.valid new-layout;
@@ -314,7 +314,7 @@ module _ (d : Document) (b : ℕ) (r : Root) (pieces : List Piece) (first behind
       same_bytes : (h : ℕ) → get new.blocks h ≡ get d.blocks h → raw_bytes_of new h ≡ raw_bytes_of d h
       same_bytes h same = ap (λ (o : Option Block). option_map_or (λ x. bytes_of_body x.body) o []) same
 
-      changed_old : (h : ℕ) → IsChanged d new b h → Contains olds h
+      changed_old : (h : ℕ) → HasOtherBytes d new b h → Contains olds h
       changed_old h changed =
           let was : Contains r.branches h = subst (λ (q : Root). Contains q.branches h) (layout-root d b r pieces valid has) changed.was in
           elim (Contains-append_cases front (olds ++ back) h (subst (λ xs. Contains xs h) parts was)) [
@@ -325,7 +325,7 @@ module _ (d : Document) (b : ℕ) (r : Root) (pieces : List Piece) (first behind
             ]
           ]
 
-      changed_new : (h : ℕ) → IsChanged d new b h → Contains news h
+      changed_new : (h : ℕ) → HasOtherBytes d new b h → Contains news h
       changed_new h changed =
           let is : Contains new_branches h = subst (λ (q : Root). Contains q.branches h) (layout-root new b new_root new_pieces replaced.valid new-layout) changed.stays in
           elim (Contains-append_cases front (news ++ back) h is) [
@@ -336,7 +336,7 @@ module _ (d : Document) (b : ℕ) (r : Root) (pieces : List Piece) (first behind
             ]
           ]
 
-      pub changed-few : (hs : List ℕ) → all_distinct hs ≡ true → ((h : ℕ) → Contains hs h → IsChanged d new b h)
+      pub changed-few : (hs : List ℕ) → all_distinct hs ≡ true → ((h : ℕ) → Contains hs h → HasOtherBytes d new b h)
           → (length hs ≤ length olds) × (length hs ≤ length news)
       changed-few hs once changed =
           (contained-few hs olds once (λ h there. changed_old h (changed h there)), contained-few hs news once (λ h there. changed_new h (changed h there)))

@@ -9,7 +9,7 @@ use Rattle.geos_model.specs.Words.{word, double_word, word_at}
 use Rattle.geos_model.specs.Chain.{tree_mark, is_tree, branches_at, branch_count, has_branches, is_linked, link_count, first_link, links}
 use Rattle.geos_model.proofs.Images.{word-reads_back}
 use Rattle.geos_model.proofs.Arrays.{are_words, words_read, length-words, same_bytes-is, same_bytes-refl}
-use Rattle.large_arrays.specs.Layout.{Root, total, large_mark, greatest_element_size, root_bytes, is_root, root_read, root_of}
+use Rattle.large_arrays.specs.Layout.{Root, total_count, large_mark, greatest_element_size, root_bytes, is_root, root_read, root_of}
 
 -- A branch in a root: a zero word, and the handle.
 abbrev pub link_of : ℕ → List ℕ
@@ -52,7 +52,7 @@ pub record FitsRoot (r : Root) : Type 0 where
 -- its bytes, from the right: what has a fixed length, and the rest
 abbrev pub root_head : Root → List ℕ
 root_head r =
-    word tree_mark ++ word (16 + 2 * length r.counts) ++ word (length r.counts) ++ large_mark ++ word r.size ++ double_word (total r)
+    word tree_mark ++ word (16 + 2 * length r.counts) ++ word (length r.counts) ++ large_mark ++ word r.size ++ double_word (total_count r)
 
 abbrev pub root_spelled : Root → List ℕ
 root_spelled r = root_head r ++ (flat_map word r.counts ++ flat_map link_of r.branches)

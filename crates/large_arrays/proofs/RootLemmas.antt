@@ -13,9 +13,9 @@ use Rattle.geos_model.specs.Words.{word, double_word, word_at, double_word_at}
 use Rattle.geos_model.specs.Chain.{tree_mark}
 use Rattle.geos_model.proofs.Images.{word-reads_back}
 use Rattle.geos_model.proofs.Arrays.{are_words, same_bytes-refl}
-use Rattle.chunk_arrays.specs.Parts.{AreBytes}
+use Rattle.chunk_arrays.specs.Parts.{AreByteValues}
 use Rattle.chunk_arrays.proofs.CutLemmas.{word_at-lt, rejoin, word_rejoin, words_rejoin}
-use Rattle.large_arrays.specs.Layout.{Root, greatest_element_size, large_mark, root_bytes, is_root, root_read, root_of, total}
+use Rattle.large_arrays.specs.Layout.{Root, greatest_element_size, large_mark, root_bytes, is_root, root_read, root_of, total_count}
 use Rattle.large_arrays.specs.RootParts.{branches_in, count_in, HasCounts, HasZeros, HasRoot}
 use Rattle.large_arrays.proofs.RootBytes.{FitsRoot, link_of, links_read, root_head, root_spelled, root_bytes-spelled, length-root_bytes, place-read, behind_counts, root_of-read}
 
@@ -31,7 +31,7 @@ quad_written a b c e la lb lc le =
     let four : n / 16777216 % 256 ≡ e = omega arith in
     ap₂ (λ (x y : ℕ). x ∷ y ∷ n / 65536 % 256 ∷ n / 16777216 % 256 ∷ []) one two ∙ ap₂ (λ (x y : ℕ). a ∷ b ∷ x ∷ y ∷ []) three four
 
-double_written : (xs : List ℕ) → 4 ≤ length xs → AreBytes xs → double_word (little_number 4 xs) ≡ take 4 xs
+double_written : (xs : List ℕ) → 4 ≤ length xs → AreByteValues xs → double_word (little_number 4 xs) ≡ take 4 xs
 double_written [] l are = absurd (omega arith)
 double_written (a ∷ []) l are = absurd (omega arith)
 double_written (a ∷ b ∷ []) l are = absurd (omega arith)
@@ -39,14 +39,14 @@ double_written (a ∷ b ∷ c ∷ []) l are = absurd (omega arith)
 double_written (a ∷ b ∷ c ∷ e ∷ xs) l are = quad_written a b c e (are 0) (are 1) (are 2) (are 3)
 
 -- such a number, and the bytes behind it
-double_rejoin : (bytes : List ℕ) → AreBytes bytes → (i : ℕ) → i + 4 ≤ length bytes → double_word (double_word_at bytes i) ++ drop (i + 4) bytes ≡ drop i bytes
+double_rejoin : (bytes : List ℕ) → AreByteValues bytes → (i : ℕ) → i + 4 ≤ length bytes → double_word (double_word_at bytes i) ++ drop (i + 4) bytes ≡ drop i bytes
 double_rejoin bytes are i l =
     let long = length-drop i bytes in
-    let are_behind : AreBytes (drop i bytes) = λ k. subst (λ n. n < 256) (sym (get_or-drop i bytes k 0)) (are (i + k)) in
+    let are_behind : AreByteValues (drop i bytes) = λ k. subst (λ n. n < 256) (sym (get_or-drop i bytes k 0)) (are (i + k)) in
     ap (λ (w : List ℕ). w ++ drop (i + 4) bytes) (double_written (drop i bytes) (omega arith) are_behind) ∙ rejoin bytes i 4
 
 -- branches, and the bytes behind them
-links_rejoin : (bytes : List ℕ) → AreBytes bytes → (start k n : ℕ) → start + 4 * (k + n) ≤ length bytes
+links_rejoin : (bytes : List ℕ) → AreByteValues bytes → (start k n : ℕ) → start + 4 * (k + n) ≤ length bytes
     → ((i : ℕ) → k ≤ i → i < k + n → word_at bytes (start + 4 * i) ≡ 0)
     → flat_map link_of (map (λ i. word_at bytes (start + 2 + 4 * i)) (range_with_len k n)) ++ drop (start + 4 * (k + n)) bytes ≡ drop (start + 4 * k) bytes
 links_rejoin bytes are start k zero l zeros =
@@ -100,7 +100,7 @@ length-counts_read bytes = length-map-range_with_len (λ i. word_at bytes (16 + 
 pub length-branches_read : (bytes : List ℕ) → length (root_read bytes).branches ≡ branches_in bytes
 length-branches_read bytes = length-map-range_with_len (λ i. word_at bytes (18 + 2 * word_at bytes 4 + 4 * i)) 0 (word_at bytes 4)
 
-module _ (bytes : List ℕ) (are : AreBytes bytes) (has : HasRoot bytes) where
+module _ (bytes : List ℕ) (are : AreByteValues bytes) (has : HasRoot bytes) where
   abbrev n : ℕ
   n = branches_in bytes
 
@@ -114,7 +114,7 @@ module _ (bytes : List ℕ) (are : AreBytes bytes) (has : HasRoot bytes) where
   head_rejoin : root_head r ++ drop 16 bytes ≡ bytes
   head_rejoin =
       let room = has.head.header in
-      ap (λ (m : ℕ). word tree_mark ++ word (16 + 2 * m) ++ word m ++ large_mark ++ word r.size ++ double_word (total r) ++ drop 16 bytes) (length-counts_read bytes)
+      ap (λ (m : ℕ). word tree_mark ++ word (16 + 2 * m) ++ word m ++ large_mark ++ word r.size ++ double_word (total_count r) ++ drop 16 bytes) (length-counts_read bytes)
       ∙ ap (λ (m : ℕ). word tree_mark ++ word (16 + 2 * n) ++ word n ++ large_mark ++ word r.size ++ double_word m ++ drop 16 bytes) (sym has.total)
       ∙ ap (λ (l : List ℕ). word tree_mark ++ word (16 + 2 * n) ++ word n ++ large_mark ++ word r.size ++ l) (double_rejoin bytes are 12 (omega arith))
       ∙ ap (λ (l : List ℕ). word tree_mark ++ word (16 + 2 * n) ++ word n ++ large_mark ++ l) (word_rejoin bytes are 10 (omega arith))
@@ -170,7 +170,7 @@ module _ (bytes : List ℕ) (are : AreBytes bytes) (has : HasRoot bytes) where
 
 -- The second half: a root's bytes have these parts.
 
-words-read : (bytes : List ℕ) → AreBytes bytes → (f : ℕ → ℕ) (a n : ℕ) → are_words (map (λ i. word_at bytes (f i)) (range_with_len a n)) ≡ true
+words-read : (bytes : List ℕ) → AreByteValues bytes → (f : ℕ → ℕ) (a n : ℕ) → are_words (map (λ i. word_at bytes (f i)) (range_with_len a n)) ≡ true
 words-read bytes are f a n = tests_from (λ p. nat_lt p 65536) (λ i. word_at bytes (f i)) a n (λ i from low. lt-ltb (word_at bytes (f i)) 65536 (word_at-lt bytes are (f i)))
 
 sum-few : (cs : List ℕ) → are_words cs ≡ true → sum_by (λ c. c) cs ≤ 65535 * length cs
@@ -182,7 +182,7 @@ sum-few (c ∷ cs) small =
     let step = sum_by-append (λ (x : ℕ). x) (c ∷ []) cs in
     omega arith
 
-module _ (bytes : List ℕ) (are : AreBytes bytes) (short : length bytes ≤ capacity) (q : Root) (found : root_of bytes ≡ Some q) where
+module _ (bytes : List ℕ) (are : AreByteValues bytes) (short : length bytes ≤ capacity) (q : Root) (found : root_of bytes ≡ Some q) where
   abbrev back : Root
   back = root_read bytes
 
@@ -221,12 +221,12 @@ module _ (bytes : List ℕ) (are : AreBytes bytes) (short : length bytes ≤ cap
       let two = and_parts (nat_lt 0 (length back.counts)) (nat_le back.size greatest_element_size) parts.0 in
       (two.0, two.1, parts.1)
 
-  total_back : double_word_at bytes 12 ≡ total back
+  total_back : double_word_at bytes 12 ≡ total_count back
   total_back =
       let few = sum-few back.counts fits.counts in
       let all = whole in
-      let low : total back < 4294967296 = omega arith in
-      ap (λ (l : List ℕ). double_word_at l 12) (sym spells) ∙ little_number-reads_back 4 (total back) [] low
+      let low : total_count back < 4294967296 = omega arith in
+      ap (λ (l : List ℕ). double_word_at l 12) (sym spells) ∙ little_number-reads_back 4 (total_count back) [] low
 
   zeros_back : HasZeros bytes
   zeros_back i low =
@@ -272,7 +272,7 @@ module _ (bytes : List ℕ) (are : AreBytes bytes) (short : length bytes ≤ cap
       }
 
 -- Bytes without these parts are no root.
-pub no_root : (bytes : List ℕ) → AreBytes bytes → length bytes ≤ capacity → (HasRoot bytes → ⊥) → root_of bytes ≡ None
+pub no_root : (bytes : List ℕ) → AreByteValues bytes → length bytes ≤ capacity → (HasRoot bytes → ⊥) → root_of bytes ≡ None
 no_root bytes are short none = by_root (root_of bytes) refl
   where
     by_root : (o : Option Root) → root_of bytes ≡ o → o ≡ None

@@ -1,7 +1,7 @@
 -- After an edit no two neighbours are so small that they are joined.
 use Rattle.std.proofs.Common.{◌≡◌, ℕ, Bool, true, not, ◌+◌, ◌<◌, ◌≤◌, nat_le, List, [], ◌∷◌, ◌++◌, refl, sym, ap, subst, ◌∙◌, inl, inr, leb-true, leb-false, arith}
 use Rattle.std.proofs.lemmas.Bool.{cases_Bool, cond-true, cond-false, and_parts, and_from, not-true}
-use Rattle.large_arrays.specs.Pieces.{Piece, branch_room, join_room, weight, are_joined, are_apart}
+use Rattle.large_arrays.specs.Pieces.{BranchPiece, branch_room, join_room, weight, are_joined, are_apart}
 use Rattle.large_arrays.specs.Spread.{packed_from, with_last, with_first}
 use Rattle.large_arrays.proofs.SpreadFits.{weight-append}
 
@@ -16,19 +16,19 @@ not_within sum room more = elim (cases_Bool (nat_le sum room)) [
 ]
 
 -- There is a first piece, and it weighs so much at least.
-abbrev pub HasHead : ℕ → ℕ → List Piece → Type 0
+abbrev pub HasHead : ℕ → ℕ → List BranchPiece → Type 0
 HasHead size n [] = ⊥
 HasHead size n (x ∷ ps) = n ≤ weight size x
 
 -- A piece stands before others, and with the least that the first of them weighs it is too large to be joined.
-pub cons-apart : (size : ℕ) (x : Piece) (n : ℕ) (ps : List Piece) → are_apart size ps ≡ true → HasHead size n ps
+pub cons-apart : (size : ℕ) (x : BranchPiece) (n : ℕ) (ps : List BranchPiece) → are_apart size ps ≡ true → HasHead size n ps
     → join_room < weight size x + n → are_apart size (x ∷ ps) ≡ true
 cons-apart size x n [] apart head more = refl
 cons-apart size x n (y ∷ ps) apart head more =
     and_from (not (are_joined size x y)) (are_apart size (y ∷ ps)) (not_within (weight size x + weight size y) join_room (omega arith)) apart
 
 -- the first piece may be heavier
-pub head-apart : (size : ℕ) (y z : Piece) (ps : List Piece) → are_apart size (y ∷ ps) ≡ true → weight size y ≤ weight size z
+pub head-apart : (size : ℕ) (y z : BranchPiece) (ps : List BranchPiece) → are_apart size (y ∷ ps) ≡ true → weight size y ≤ weight size z
     → are_apart size (z ∷ ps) ≡ true
 head-apart size y z [] apart more = refl
 head-apart size y z (x ∷ ps) apart more =
@@ -37,10 +37,10 @@ head-apart size y z (x ∷ ps) apart more =
     and_from (not (are_joined size z x)) (are_apart size (x ∷ ps)) (not_within (weight size z + weight size x) join_room (omega arith)) parts.1
 
 -- Packing: the first piece has what was begun.
-pub packed-heavy : (size : ℕ) (y : List ℕ) (ys xs : Piece) → HasHead size (weight size (y ∷ ys)) (packed_from size (y ∷ ys) xs)
+pub packed-heavy : (size : ℕ) (y : List ℕ) (ys xs : BranchPiece) → HasHead size (weight size (y ∷ ys)) (packed_from size (y ∷ ys) xs)
 packed-heavy size y ys [] = omega arith
 packed-heavy size y ys (x ∷ xs) =
-    let whole : Piece = (y ∷ ys) ++ x ∷ [] in
+    let whole : BranchPiece = (y ∷ ys) ++ x ∷ [] in
     let b = nat_le (weight size whole) branch_room in
     let n = weight size (y ∷ ys) in
     elim (cases_Bool b) [
@@ -50,11 +50,11 @@ packed-heavy size y ys (x ∷ xs) =
       | inr past ↦ subst (HasHead size n) (sym (cond-false b _ _ past)) (let least : n ≤ n = omega arith in least)
     ]
   where
-    heavier : (size m n : ℕ) (ps : List Piece) → m ≤ n → HasHead size n ps → HasHead size m ps
+    heavier : (size m n : ℕ) (ps : List BranchPiece) → m ≤ n → HasHead size n ps → HasHead size m ps
     heavier size m n [] less head = head
     heavier size m n (p ∷ ps) less head = omega arith
 
-pub packed-apart : (size : ℕ) (y xs : Piece) → are_apart size (packed_from size y xs) ≡ true
+pub packed-apart : (size : ℕ) (y xs : BranchPiece) → are_apart size (packed_from size y xs) ≡ true
 packed-apart size [] [] = refl
 packed-apart size (y ∷ ys) [] = refl
 packed-apart size [] (x ∷ xs) = packed-apart size (x ∷ []) xs
@@ -70,13 +70,13 @@ packed-apart size (y ∷ ys) (x ∷ xs) =
     ]
 
 -- A piece behind others, and what stands behind it.
-pub with_last-heavy : (size room : ℕ) (x : Piece) (ps : List Piece) (y : Piece) (cs : List Piece)
+pub with_last-heavy : (size room : ℕ) (x : BranchPiece) (ps : List BranchPiece) (y : BranchPiece) (cs : List BranchPiece)
     → HasHead size (weight size x) (with_last size room (x ∷ ps) y ++ cs)
 with_last-heavy size room x ps [] cs = omega arith
 with_last-heavy size room x (p ∷ ps) (y ∷ ys) cs = omega arith
 with_last-heavy size room x [] (y ∷ ys) cs =
     let b = nat_le (weight size x + weight size (y ∷ ys)) room in
-    let head : List Piece → Type 0 = λ ps. HasHead size (weight size x) (ps ++ cs) in
+    let head : List BranchPiece → Type 0 = λ ps. HasHead size (weight size x) (ps ++ cs) in
     elim (cases_Bool b) [
       | inl fits ↦
           (let sum = weight-append size x (y ∷ ys) in let least : weight size x ≤ weight size (x ++ y ∷ ys) = omega arith in
@@ -84,13 +84,13 @@ with_last-heavy size room x [] (y ∷ ys) cs =
       | inr past ↦ (let least : weight size x ≤ weight size x = omega arith in subst head (sym (cond-false b _ _ past)) least)
     ]
 
-pub with_last-apart : (size room : ℕ) (ps : List Piece) (y : List ℕ) (ys : Piece) (cs : List Piece) → join_room ≤ room
+pub with_last-apart : (size room : ℕ) (ps : List BranchPiece) (y : List ℕ) (ys : BranchPiece) (cs : List BranchPiece) → join_room ≤ room
     → are_apart size ps ≡ true → are_apart size ((y ∷ ys) ∷ cs) ≡ true
     → are_apart size (with_last size room ps (y ∷ ys) ++ cs) ≡ true
 with_last-apart size room [] y ys cs most apart last = last
 with_last-apart size room (x ∷ []) y ys cs most apart last =
     let b = nat_le (weight size x + weight size (y ∷ ys)) room in
-    let test : List Piece → Bool = λ ps. are_apart size (ps ++ cs) in
+    let test : List BranchPiece → Bool = λ ps. are_apart size (ps ++ cs) in
     elim (cases_Bool b) [
       | inl fits ↦
           (let sum = weight-append size x (y ∷ ys) in
@@ -107,7 +107,7 @@ with_last-apart size room (x ∷ next ∷ ps) y ys cs most apart last =
     (with_last-heavy size room next ps (y ∷ ys) cs) (more_than (weight size x + weight size next) join_room parts.0)
 
 -- A piece before others.
-pub with_first-heavy : (size : ℕ) (y : List ℕ) (ys : Piece) (ps : List Piece) → HasHead size (weight size (y ∷ ys)) (with_first size (y ∷ ys) ps)
+pub with_first-heavy : (size : ℕ) (y : List ℕ) (ys : BranchPiece) (ps : List BranchPiece) → HasHead size (weight size (y ∷ ys)) (with_first size (y ∷ ys) ps)
 with_first-heavy size y ys [] = omega arith
 with_first-heavy size y ys (x ∷ ps) =
     let b = are_joined size (y ∷ ys) x in
@@ -119,7 +119,7 @@ with_first-heavy size y ys (x ∷ ps) =
       | inr apart ↦ (let least : n ≤ n = omega arith in subst (HasHead size n) (sym (cond-false b _ _ apart)) least)
     ]
 
-pub with_first-apart : (size : ℕ) (y : Piece) (ps : List Piece) → are_apart size ps ≡ true → are_apart size (with_first size y ps) ≡ true
+pub with_first-apart : (size : ℕ) (y : BranchPiece) (ps : List BranchPiece) → are_apart size ps ≡ true → are_apart size (with_first size y ps) ≡ true
 with_first-apart size [] ps apart = apart
 with_first-apart size (y ∷ ys) [] apart = refl
 with_first-apart size (y ∷ ys) (x ∷ ps) apart =
@@ -134,7 +134,7 @@ with_first-apart size (y ∷ ys) (x ∷ ps) apart =
     ]
 
 -- Pieces before others, of which the first is as heavy as the piece that stood there.
-pub append-apart : (size : ℕ) (fore : List Piece) (l : Piece) (ps : List Piece) → are_apart size (fore ++ l ∷ []) ≡ true
+pub append-apart : (size : ℕ) (fore : List BranchPiece) (l : BranchPiece) (ps : List BranchPiece) → are_apart size (fore ++ l ∷ []) ≡ true
     → are_apart size ps ≡ true → HasHead size (weight size l) ps → are_apart size (fore ++ ps) ≡ true
 append-apart size [] l ps before apart head = apart
 append-apart size (a ∷ []) l ps before apart head =

@@ -12,7 +12,7 @@ use Rattle.geos_model.specs.ChainLaws.{AreNew}
 use Rattle.geos_model.proofs.Chains.{contains_later, chain-members, contains_first}
 use Rattle.geos_model.proofs.BlockLists.{none_passes, distinct-rest}
 use Rattle.geos_model.proofs.ChainCopies.{new-new}
-use Rattle.large_arrays.specs.Pieces.{Piece, weight, all_fit, each_fits, elements_of, are_spread}
+use Rattle.large_arrays.specs.Pieces.{BranchPiece, weight, all_fit, each_fits, elements_in_pieces, are_spread}
 use Rattle.large_arrays.specs.Layout.{Root}
 use Rattle.large_arrays.specs.Spread.{first_place, end_place, respread}
 use Rattle.large_arrays.specs.Blocks.{root_at, pieces_at, IsLargeArray}
@@ -31,7 +31,7 @@ use Rattle.large_arrays.proofs.WindowHandles.{handles, handles-places, window_ha
 use Rattle.large_arrays.proofs.Replacing.{new_root, AreNamed, AreGood, counts-spliced, replaced-edited, changed-few}
 use Rattle.large_arrays.proofs.PutBranches.{put-replaced}
 use Rattle.large_arrays.proofs.PieceLists.{respread-sized, root_full, root_from, root_small, freed-old, freed-not, freed-all}
-use Rattle.large_arrays.specs.ChangeLaws.{IsChanged, FewChange}
+use Rattle.large_arrays.specs.ChangeLaws.{HasOtherBytes, FewChange}
 use Rattle.large_arrays.proofs.SpreadCount.{middle-few}
 
 -- Nothing refuses the edit of a window.
@@ -39,12 +39,12 @@ pub record MayReplace (d : Document) (w : Window) : Type 0 where
   pub no_map : list_any (λ h. h == d.map_block) (freed_handles w) ≡ false
   pub room : nat_lt (length (free_handles d)) (length w.pieces - length w.olds) ≡ false
 
-module _ (d : Document) (b size : ℕ) (elements : Piece) (i j : ℕ) (new : Piece) (valid : IsValid d) (array : IsLargeArray d b size elements)
+module _ (d : Document) (b size : ℕ) (elements : BranchPiece) (i j : ℕ) (new : BranchPiece) (valid : IsValid d) (array : IsLargeArray d b size elements)
     (order : i ≤ j) (fit : each_fits (root_at d b).size new ≡ true) (sized : is_sized (root_at d b).size new ≡ true) where
   abbrev r : Root
   r = root_at d b
 
-  abbrev pieces : List Piece
+  abbrev pieces : List BranchPiece
   pieces = pieces_at d r
 
   has : HasLayout d b r pieces
@@ -62,7 +62,7 @@ module _ (d : Document) (b size : ℕ) (elements : Piece) (i j : ℕ) (new : Pie
   abbrev behind : ℕ
   behind = window_end r.size pieces i j new
 
-  abbrev placed : List Piece
+  abbrev placed : List BranchPiece
   placed = window_pieces r.size pieces i j new
 
   abbrev w : Window
@@ -150,7 +150,7 @@ module _ (d : Document) (b size : ℕ) (elements : Piece) (i j : ℕ) (new : Pie
         let full = respread-full r.size pieces i j new whole.0 whole.1 in
         record {
           is = root_from root (splice pieces first behind placed) (root_small r has.is) (counts-spliced r.counts first behind pieces placed has.counts)
-              (subst (λ (ps : List Piece). 0 < length ps) after full.0) (ap is_full (sym after) ∙ full.1);
+              (subst (λ (ps : List BranchPiece). 0 < length ps) after full.0) (ap is_full (sym after) ∙ full.1);
           fit = ap (all_fit r.size) (sym after) ∙ respread-fits r.size pieces i j new has.fit fit;
           sized = ap (all_sized r.size) (sym after) ∙ respread-sized r.size pieces i j new has.sized sized;
         }
@@ -158,9 +158,9 @@ module _ (d : Document) (b size : ℕ) (elements : Piece) (i j : ℕ) (new : Pie
     no_map : Contains (freed_handles w) d.map_block → ⊥
     no_map there = none_passes (λ h. h == d.map_block) (freed_handles w) d.map_block may.no_map (eq-eqb d.map_block d.map_block refl) there
 
-    same_elements : elements_of (splice pieces first behind placed) ≡ splice elements i j new
+    same_elements : elements_in_pieces (splice pieces first behind placed) ≡ splice elements i j new
     same_elements =
-        ap elements_of (sym after) ∙ respread-elements r.size pieces i j new ∙ ap (λ (xs : Piece). splice xs i j new) array.same
+        ap elements_in_pieces (sym after) ∙ respread-elements r.size pieces i j new ∙ ap (λ (xs : BranchPiece). splice xs i j new) array.same
 
     still_spread : are_spread r.size pieces ≡ true → are_spread r.size (splice pieces first behind placed) ≡ true
     still_spread spread = ap (are_spread r.size) (sym after) ∙ respread-spread r.size pieces i j new spread fit
@@ -170,13 +170,13 @@ module _ (d : Document) (b size : ℕ) (elements : Piece) (i j : ℕ) (new : Pie
     window-edited =
         let freed : List ℕ = freed_handles w in
         let put = put-replaced d b r pieces first behind w.news freed placed valid has named good no_map in
-        let edited : IsEdited d (with_window d b w) b r.size (elements_of (splice pieces first behind placed)) =
+        let edited : IsEdited d (with_window d b w) b r.size (elements_in_pieces (splice pieces first behind placed)) =
         replaced-edited d b r pieces first behind w.news freed placed valid has named (with_window d b w) put good still_spread in
         subst (λ (s : ℕ). IsEdited d (with_window d b w) b s (splice elements i j new)) array.sized
-        (subst (λ (xs : Piece). IsEdited d (with_window d b w) b r.size xs) same_elements edited)
+        (subst (λ (xs : BranchPiece). IsEdited d (with_window d b w) b r.size xs) same_elements edited)
 
     -- branches that change and stay are of the window, before and after
-    pub window-changed : (hs : List ℕ) → all_distinct hs ≡ true → ((h : ℕ) → Contains hs h → IsChanged d (with_window d b w) b h)
+    pub window-changed : (hs : List ℕ) → all_distinct hs ≡ true → ((h : ℕ) → Contains hs h → HasOtherBytes d (with_window d b w) b h)
         → (length hs ≤ behind - first) × (length hs ≤ length placed)
     unfolding window
     window-changed hs once changed =
@@ -208,7 +208,7 @@ module _ (d : Document) (b size : ℕ) (elements : Piece) (i j : ℕ) (new : Pie
       spread_run false false one few = omega arith
 
 -- An edit of nothing.
-pub unchanged : (d : Document) (b size : ℕ) (elements : Piece) → IsValid d → IsLargeArray d b size elements → IsEdited d d b size elements
+pub unchanged : (d : Document) (b size : ℕ) (elements : BranchPiece) → IsValid d → IsLargeArray d b size elements → IsEdited d d b size elements
 unchanged d b size elements valid array = record {
   valid = valid;
   array = array;
@@ -220,15 +220,15 @@ unchanged d b size elements valid array = record {
   spread = λ spread. spread;
 }
 
-splice_nothing : (xs : Piece) (i : ℕ) → splice xs i i [] ≡ xs
+splice_nothing : (xs : BranchPiece) (i : ℕ) → splice xs i i [] ≡ xs
 splice_nothing xs i = take-append-drop i xs
 
-no_elements : (new : Piece) → length new ≡ 0 → new ≡ []
+no_elements : (new : BranchPiece) → length new ≡ 0 → new ≡ []
 no_elements [] none = refl
 no_elements (x ∷ new) none = absurd (let never : suc (length new) ≡ 0 = none in omega arith)
 
 -- Elements in the place of others.
-pub elements-replaced : (d : Document) (b size : ℕ) (elements : Piece) (i j : ℕ) (new : Piece) → IsValid d → IsLargeArray d b size elements → i ≤ j
+pub elements-replaced : (d : Document) (b size : ℕ) (elements : BranchPiece) (i j : ℕ) (new : BranchPiece) → IsValid d → IsLargeArray d b size elements → i ≤ j
     → each_fits (root_at d b).size new ≡ true → is_sized (root_at d b).size new ≡ true
     → (((i == j) && (length new == 0)) ≡ false → MayReplace d (window d b i j new))
     → IsEdited d (elements_replaced d b i j new) b size (splice elements i j new)
@@ -240,9 +240,9 @@ elements-replaced d b size elements i j new valid array order fit sized may =
           (let parts = and_parts (i == j) (length new == 0) none in
           let same : i ≡ j = eqb-true i j parts.0 in
           let empty = no_elements new (eqb-true (length new) 0 parts.1) in
-          let still : elements ≡ splice elements i j new = sym (splice_nothing elements i) ∙ ap₂ (λ (k : ℕ) (xs : Piece). splice elements i k xs) same (sym empty) in
+          let still : elements ≡ splice elements i j new = sym (splice_nothing elements i) ∙ ap₂ (λ (k : ℕ) (xs : BranchPiece). splice elements i k xs) same (sym empty) in
           subst (λ (e : Document). IsEdited d e b size (splice elements i j new)) (sym (cond-true nothing d (with_window d b (window d b i j new)) none))
-          (subst (λ (xs : Piece). IsEdited d d b size xs) still (unchanged d b size elements valid array)))
+          (subst (λ (xs : BranchPiece). IsEdited d d b size xs) still (unchanged d b size elements valid array)))
       | inr some ↦
           subst (λ (e : Document). IsEdited d e b size (splice elements i j new)) (sym (cond-false nothing d (with_window d b (window d b i j new)) some))
           (window-edited d b size elements i j new valid array order fit sized (may some))
@@ -252,7 +252,7 @@ none_changed : (d : Document) (b : ℕ) → FewChange d d b
 none_changed d b [] once changed = omega arith
 none_changed d b (h ∷ hs) once changed = absurd ((changed h (contains_first h hs)).other refl)
 
-pub replaced-few : (d : Document) (b size : ℕ) (elements : Piece) (i j : ℕ) (new : Piece) → IsValid d → IsLargeArray d b size elements → i ≤ j
+pub replaced-few : (d : Document) (b size : ℕ) (elements : BranchPiece) (i j : ℕ) (new : BranchPiece) → IsValid d → IsLargeArray d b size elements → i ≤ j
     → each_fits (root_at d b).size new ≡ true → is_sized (root_at d b).size new ≡ true
     → (((i == j) && (length new == 0)) ≡ false → MayReplace d (window d b i j new))
     → ((first_place (map length (pieces_at d (root_at d b))) i j).0 ≡ (end_place (map length (pieces_at d (root_at d b))) j).0) ⊎ (length new ≡ 0)

@@ -3,7 +3,7 @@ use Rattle.std.proofs.Common.{◌≡◌, ℕ, Bool, true, false, ◌&&◌, zero,
 use Rattle.std.proofs.lemmas.Bool.{cases_Bool, cond-true, cond-false, and_parts, lt-ltb, eqb-true}
 use Rattle.std.proofs.lemmas.List.{append-nil, length-take-le, drop_all, get_or_past}
 use Rattle.std.specs.List.{splice}
-use Rattle.large_arrays.specs.Pieces.{Piece, join_room, are_joined}
+use Rattle.large_arrays.specs.Pieces.{BranchPiece, join_room, are_joined}
 use Rattle.large_arrays.specs.Spread.{end_place, first_place, middle, piece_before, left_piece, right_piece, with_first, with_last, around, respread, if_none}
 use Rattle.large_arrays.specs.Window.{left_joins, right_joins, window_first, window_end, window_pieces}
 use Rattle.large_arrays.proofs.SpreadSides.{is_full, whole, got-full, many-full, sides}
@@ -12,39 +12,39 @@ use Rattle.large_arrays.proofs.SpreadStays.{begins}
 use Rattle.large_arrays.proofs.SpreadCount.{ends}
 
 -- there is such a piece
-abbrev there : Piece → Bool
+abbrev there : BranchPiece → Bool
 there [] = false
 there (y ∷ ys) = true
 
 -- a neighbour where it isn't joined
-abbrev unjoined : Bool → Piece → List Piece
+abbrev unjoined : Bool → BranchPiece → List BranchPiece
 unjoined joins [] = []
 unjoined true (y ∷ ys) = []
 unjoined false (y ∷ ys) = (y ∷ ys) ∷ []
 
-abbrev last : List Piece → Piece
+abbrev last : List BranchPiece → BranchPiece
 last ps = get_or ps (length ps - 1) []
 
-abbrev joins_right : ℕ → Piece → List Piece → Piece → Bool
+abbrev joins_right : ℕ → BranchPiece → List BranchPiece → BranchPiece → Bool
 joins_right size l mid r =
     there r && nat_lt 0 (length (with_first size l mid)) && are_joined size (last (with_first size l mid)) r
 
-abbrev joins_left : ℕ → Piece → List Piece → Piece → Bool
+abbrev joins_left : ℕ → BranchPiece → List BranchPiece → BranchPiece → Bool
 joins_left size l mid r =
     there l && (if length mid == 0 then joins_right size l mid r else are_joined size l (get_or mid 0 []))
 
 -- The last piece, and the one behind it, where they aren't joined.
-record CutRight (size : ℕ) (y : Piece) (ys : List Piece) (r : Piece) : Type 0 where
-  rest : List Piece
+record CutRight (size : ℕ) (y : BranchPiece) (ys : List BranchPiece) (r : BranchPiece) : Type 0 where
+  rest : List BranchPiece
   is : with_last size join_room (y ∷ ys) r ≡ rest ++ unjoined (there r && are_joined size (last (y ∷ ys)) r) r
   few : length rest ≤ suc (length ys)
 
-last-next : (y next : Piece) (ys : List Piece) → last (y ∷ next ∷ ys) ≡ last (next ∷ ys)
+last-next : (y next : BranchPiece) (ys : List BranchPiece) → last (y ∷ next ∷ ys) ≡ last (next ∷ ys)
 last-next y next ys =
     let less : length (y ∷ next ∷ ys) - 1 ≡ suc (length (next ∷ ys) - 1) = omega arith in
     ap (λ (k : ℕ). get_or (y ∷ next ∷ ys) k []) less
 
-cut_right : (size : ℕ) (y : Piece) (ys : List Piece) (r : Piece) → CutRight size y ys r
+cut_right : (size : ℕ) (y : BranchPiece) (ys : List BranchPiece) (r : BranchPiece) → CutRight size y ys r
 cut_right size y ys [] = record { rest = y ∷ ys; is = sym (append-nil (y ∷ ys)); few = omega arith }
 cut_right size y [] (x ∷ xs) =
     let b = are_joined size y (x ∷ xs) in
@@ -64,22 +64,22 @@ cut_right size y (next ∷ ys) (x ∷ xs) =
     let more = cut_right size next ys (x ∷ xs) in record {
       rest = y ∷ more.rest;
       is =
-          ap (λ (ps : List Piece). y ∷ ps) more.is
-          ∙ ap (λ (p : Piece). y ∷ (more.rest ++ unjoined (are_joined size p (x ∷ xs)) (x ∷ xs))) (sym (last-next y next ys));
+          ap (λ (ps : List BranchPiece). y ∷ ps) more.is
+          ∙ ap (λ (p : BranchPiece). y ∷ (more.rest ++ unjoined (are_joined size p (x ∷ xs)) (x ∷ xs))) (sym (last-next y next ys));
       few = (let rest = more.few in omega arith);
     }
 
 -- Both neighbours, where they aren't joined.
-record Cut (size : ℕ) (l : Piece) (mid : List Piece) (r : Piece) : Type 0 where
-  pub rest : List Piece
+record Cut (size : ℕ) (l : BranchPiece) (mid : List BranchPiece) (r : BranchPiece) : Type 0 where
+  pub rest : List BranchPiece
   pub is : if_none (whole size l mid r) ≡ unjoined (joins_left size l mid r) l ++ (rest ++ unjoined (joins_right size l mid r) r)
   pub few : length rest ≤ suc (length mid)
 
 -- what is joined to the right, where there is a piece
-joins_right-some : (size : ℕ) (l : Piece) (mid : List Piece) (r y : Piece) (ys : List Piece) → with_first size l mid ≡ y ∷ ys
+joins_right-some : (size : ℕ) (l : BranchPiece) (mid : List BranchPiece) (r y : BranchPiece) (ys : List BranchPiece) → with_first size l mid ≡ y ∷ ys
     → joins_right size l mid r ≡ (there r && are_joined size (last (y ∷ ys)) r)
 joins_right-some size l mid r y ys is =
-    ap (λ (ps : List Piece). there r && nat_lt 0 (length ps) && are_joined size (last ps) r) is
+    ap (λ (ps : List BranchPiece). there r && nat_lt 0 (length ps) && are_joined size (last ps) r) is
     ∙ short (there r) (nat_lt 0 (length (y ∷ ys))) (are_joined size (last (y ∷ ys)) r) (lt-ltb 0 (length (y ∷ ys)) (omega arith))
   where
     short : (a b c : Bool) → b ≡ true → (a && b && c) ≡ (a && c)
@@ -87,14 +87,14 @@ joins_right-some size l mid r y ys is =
     short false b c is = refl
 
 -- and to the left, where there is one
-joins_left-some : (size : ℕ) (z : List ℕ) (zs m : Piece) (ms : List Piece) (r : Piece)
+joins_left-some : (size : ℕ) (z : List ℕ) (zs m : BranchPiece) (ms : List BranchPiece) (r : BranchPiece)
     → joins_left size (z ∷ zs) (m ∷ ms) r ≡ are_joined size (z ∷ zs) m
 joins_left-some size z zs m ms r = elim (cases_Bool (length (m ∷ ms) == 0)) [
   | inl none ↦ (let is = eqb-true (length (m ∷ ms)) 0 none in absurd (omega arith))
   | inr some ↦ cond-false (length (m ∷ ms) == 0) _ _ some
 ]
 
-if_none-begun : (size : ℕ) (y : Piece) (ys : List Piece) (r : Piece) → if_none (with_last size join_room (y ∷ ys) r) ≡ with_last size join_room (y ∷ ys) r
+if_none-begun : (size : ℕ) (y : BranchPiece) (ys : List BranchPiece) (r : BranchPiece) → if_none (with_last size join_room (y ∷ ys) r) ≡ with_last size join_room (y ∷ ys) r
 if_none-begun size y ys [] = refl
 if_none-begun size y (next ∷ ys) (x ∷ xs) = refl
 if_none-begun size y [] (x ∷ xs) =
@@ -105,17 +105,17 @@ if_none-begun size y [] (x ∷ xs) =
     ]
 
 -- from a first piece on
-cut_begun : (size : ℕ) (l : Piece) (mid : List Piece) (r y : Piece) (ys : List Piece) → with_first size l mid ≡ y ∷ ys
-    → (rest : List Piece) × (if_none (whole size l mid r) ≡ rest ++ unjoined (joins_right size l mid r) r) × (length rest ≤ suc (length ys))
+cut_begun : (size : ℕ) (l : BranchPiece) (mid : List BranchPiece) (r y : BranchPiece) (ys : List BranchPiece) → with_first size l mid ≡ y ∷ ys
+    → (rest : List BranchPiece) × (if_none (whole size l mid r) ≡ rest ++ unjoined (joins_right size l mid r) r) × (length rest ≤ suc (length ys))
 cut_begun size l mid r y ys is =
     let right = cut_right size y ys r in (
       right.rest,
-      ap (λ (ps : List Piece). if_none (with_last size join_room ps r)) is ∙ if_none-begun size y ys r ∙ right.is
+      ap (λ (ps : List BranchPiece). if_none (with_last size join_room ps r)) is ∙ if_none-begun size y ys r ∙ right.is
           ∙ ap (λ (b : Bool). right.rest ++ unjoined b r) (sym (joins_right-some size l mid r y ys is)),
       right.few,
     )
 
-cut : (size : ℕ) (l : Piece) (mid : List Piece) (r : Piece) → Cut size l mid r
+cut : (size : ℕ) (l : BranchPiece) (mid : List BranchPiece) (r : BranchPiece) → Cut size l mid r
 cut size [] [] [] = record { rest = [] ∷ []; is = refl; few = omega arith }
 cut size [] [] (x ∷ xs) = record { rest = []; is = refl; few = omega arith }
 cut size [] (m ∷ ms) r = (let right = cut_begun size [] (m ∷ ms) r m ms refl in let most = right.2 in record { rest = right.0; is = right.1; few = omega arith })
@@ -135,7 +135,7 @@ cut size (z ∷ zs) [] (x ∷ xs) =
       }
     ]
 cut size (z ∷ zs) (m ∷ ms) r =
-    let l : Piece = z ∷ zs in
+    let l : BranchPiece = z ∷ zs in
     let b = are_joined size l m in
     let left : joins_left size l (m ∷ ms) r ≡ b = joins_left-some size z zs m ms r in
     elim (cases_Bool b) [
@@ -149,29 +149,29 @@ cut size (z ∷ zs) (m ∷ ms) r =
           (let begun : with_first size l (m ∷ ms) ≡ l ∷ m ∷ ms = cond-false b _ _ apart in
           let right = cut_right size m ms r in
           let test : joins_right size l (m ∷ ms) r ≡ (there r && are_joined size (last (m ∷ ms)) r) =
-          joins_right-some size l (m ∷ ms) r l (m ∷ ms) begun ∙ ap (λ (p : Piece). there r && are_joined size p r) (last-next l m ms) in
+          joins_right-some size l (m ∷ ms) r l (m ∷ ms) begun ∙ ap (λ (p : BranchPiece). there r && are_joined size p r) (last-next l m ms) in
           record {
             rest = right.rest;
             is =
-                ap (λ (ps : List Piece). if_none (with_last size join_room ps r)) begun ∙ if_none-begun size l (m ∷ ms) r
-                ∙ under size l m ms r ∙ ap (λ (ps : List Piece). l ∷ ps) right.is
+                ap (λ (ps : List BranchPiece). if_none (with_last size join_room ps r)) begun ∙ if_none-begun size l (m ∷ ms) r
+                ∙ under size l m ms r ∙ ap (λ (ps : List BranchPiece). l ∷ ps) right.is
                 ∙ ap₂ (λ (c e : Bool). unjoined c l ++ (right.rest ++ unjoined e r)) (sym (left ∙ apart)) (sym test);
             few = (let most = right.few in omega arith);
           })
     ]
   where
-    under : (size : ℕ) (l m : Piece) (ms : List Piece) (r : Piece) → with_last size join_room (l ∷ m ∷ ms) r ≡ l ∷ with_last size join_room (m ∷ ms) r
+    under : (size : ℕ) (l m : BranchPiece) (ms : List BranchPiece) (r : BranchPiece) → with_last size join_room (l ∷ m ∷ ms) r ≡ l ∷ with_last size join_room (m ∷ ms) r
     under size l m ms [] = refl
     under size l m ms (x ∷ xs) = refl
 
 -- The pieces of a run and its neighbours, in their places.
 
-up_to : (k : ℕ) (ps : List Piece) → k < length ps → take k ps ++ get_or ps k [] ∷ [] ≡ take (suc k) ps
+up_to : (k : ℕ) (ps : List BranchPiece) → k < length ps → take k ps ++ get_or ps k [] ∷ [] ≡ take (suc k) ps
 up_to k [] low = absurd (omega arith)
 up_to zero (p ∷ ps) low = refl
-up_to (suc k) (p ∷ ps) low = ap (λ (qs : List Piece). p ∷ qs) (up_to k ps (omega arith))
+up_to (suc k) (p ∷ ps) low = ap (λ (qs : List BranchPiece). p ∷ qs) (up_to k ps (omega arith))
 
-from_on : (k : ℕ) (ps : List Piece) → k < length ps → get_or ps k [] ∷ drop (suc k) ps ≡ drop k ps
+from_on : (k : ℕ) (ps : List BranchPiece) → k < length ps → get_or ps k [] ∷ drop (suc k) ps ≡ drop k ps
 from_on k [] low = absurd (omega arith)
 from_on zero (p ∷ ps) low = refl
 from_on (suc k) (p ∷ ps) low = from_on k ps (omega arith)
@@ -183,7 +183,7 @@ abbrev two_or_one : Bool → ℕ
 two_or_one b = if b then 2 else 1
 
 -- what stands up to the window
-left-part : (k : ℕ) (ps : List Piece) (b : Bool) → k < length ps → (piece_before ps k ≡ [] → take (k - 1) ps ≡ []) → (there (piece_before ps k) ≡ false → k ≡ 0)
+left-part : (k : ℕ) (ps : List BranchPiece) (b : Bool) → k < length ps → (piece_before ps k ≡ [] → take (k - 1) ps ≡ []) → (there (piece_before ps k) ≡ false → k ≡ 0)
     → take (k - 1) ps ++ unjoined b (piece_before ps k) ≡ take (k - one_or_none b) ps
 left-part zero ps true low none first = refl
 left-part zero ps false low none first = refl
@@ -195,15 +195,15 @@ left-part (suc k) ps b low none first = by_piece (get_or ps k []) refl b
     all : suc k ≡ suc k - 0
     all = omega arith
 
-    by_piece : (l : Piece) → get_or ps k [] ≡ l → (b : Bool) → take (suc k - 1) ps ++ unjoined b l ≡ take (suc k - one_or_none b) ps
+    by_piece : (l : BranchPiece) → get_or ps k [] ≡ l → (b : Bool) → take (suc k - 1) ps ++ unjoined b l ≡ take (suc k - one_or_none b) ps
     by_piece [] is b = absurd (let never : suc k ≡ 0 = first (ap there is) in omega arith)
     by_piece (y ∷ ys) is true = append-nil (take (suc k - 1) ps)
     by_piece (y ∷ ys) is false =
-        ap (λ (n : ℕ). take n ps ++ (y ∷ ys) ∷ []) less ∙ ap (λ (l : Piece). take k ps ++ l ∷ []) (sym is) ∙ up_to k ps (omega arith)
+        ap (λ (n : ℕ). take n ps ++ (y ∷ ys) ∷ []) less ∙ ap (λ (l : BranchPiece). take k ps ++ l ∷ []) (sym is) ∙ up_to k ps (omega arith)
         ∙ ap (λ (n : ℕ). take n ps) all
 
 -- and from it on
-right-part : (t : ℕ) (ps : List Piece) (b : Bool) → (there (get_or ps (suc t) []) ≡ false → length ps ≤ suc t) → (there (get_or ps (suc t) []) ≡ true → suc t < length ps)
+right-part : (t : ℕ) (ps : List BranchPiece) (b : Bool) → (there (get_or ps (suc t) []) ≡ false → length ps ≤ suc t) → (there (get_or ps (suc t) []) ≡ true → suc t < length ps)
     → unjoined b (get_or ps (suc t) []) ++ drop (suc (suc t)) ps ≡ drop (t + two_or_one b) ps
 right-part t ps b past within = by_piece (get_or ps (suc t) []) refl b
   where
@@ -213,54 +213,54 @@ right-part t ps b past within = by_piece (get_or ps (suc t) []) refl b
     two : t + 2 ≡ suc (suc t)
     two = omega arith
 
-    by_piece : (r : Piece) → get_or ps (suc t) [] ≡ r → (b : Bool) → unjoined b r ++ drop (suc (suc t)) ps ≡ drop (t + two_or_one b) ps
+    by_piece : (r : BranchPiece) → get_or ps (suc t) [] ≡ r → (b : Bool) → unjoined b r ++ drop (suc (suc t)) ps ≡ drop (t + two_or_one b) ps
     by_piece [] is true = ap (λ (n : ℕ). drop n ps) (sym two)
     by_piece [] is false =
         let most = past (ap there is) in
         drop_all (suc (suc t)) ps (omega arith) ∙ sym (drop_all (t + 1) ps (omega arith))
     by_piece (y ∷ ys) is true = ap (λ (n : ℕ). drop n ps) (sym two)
     by_piece (y ∷ ys) is false =
-        ap (λ (r : Piece). r ∷ drop (suc (suc t)) ps) (sym is) ∙ from_on (suc t) ps (within (ap there is)) ∙ ap (λ (n : ℕ). drop n ps) (sym one)
+        ap (λ (r : BranchPiece). r ∷ drop (suc (suc t)) ps) (sym is) ∙ from_on (suc t) ps (within (ap there is)) ∙ ap (λ (n : ℕ). drop n ps) (sym one)
 
 -- A neighbour is there where its place is one of the pieces.
-piece_there : (k : ℕ) (ps : List Piece) → is_full ps ≡ true → 1 < length ps → k < length ps → there (get_or ps k []) ≡ true
+piece_there : (k : ℕ) (ps : List BranchPiece) → is_full ps ≡ true → 1 < length ps → k < length ps → there (get_or ps k []) ≡ true
 piece_there k ps full several low = by_piece (get_or ps k []) (got-full k ps (many-full ps full several) low)
   where
-    by_piece : (p : Piece) → (p ≡ [] → ⊥) → there p ≡ true
+    by_piece : (p : BranchPiece) → (p ≡ [] → ⊥) → there p ≡ true
     by_piece [] some = absurd (some refl)
     by_piece (y ∷ ys) some = refl
 
-there-right : (t : ℕ) (ps : List Piece) → is_full ps ≡ true → nat_lt (t + 1) (length ps) ≡ there (get_or ps (suc t) [])
+there-right : (t : ℕ) (ps : List BranchPiece) → is_full ps ≡ true → nat_lt (t + 1) (length ps) ≡ there (get_or ps (suc t) [])
 there-right t ps full = elim (cases_Bool (nat_lt (t + 1) (length ps))) [
   | inl within ↦ (let low = ltb-true (t + 1) (length ps) within in within ∙ sym (piece_there (suc t) ps full (omega arith) (omega arith)))
   | inr past ↦ (let most = ltb-false (t + 1) (length ps) past in past ∙ sym (ap there (get_or_past ps (suc t) [] (omega arith))))
 ]
 
-there-left : (k : ℕ) (ps : List Piece) → is_full ps ≡ true → k < length ps → nat_lt 0 k ≡ there (piece_before ps k)
+there-left : (k : ℕ) (ps : List BranchPiece) → is_full ps ≡ true → k < length ps → nat_lt 0 k ≡ there (piece_before ps k)
 there-left zero ps full low = refl
 there-left (suc k) ps full low = lt-ltb 0 (suc k) (omega arith) ∙ sym (piece_there k ps full (omega arith) (omega arith))
 
 -- All pieces after an edit are those before the window, those in its place, and those behind it.
-pub record IsWindow (size : ℕ) (ps : List Piece) (i j : ℕ) (new : Piece) : Type 0 where
+pub record IsWindow (size : ℕ) (ps : List BranchPiece) (i j : ℕ) (new : BranchPiece) : Type 0 where
   pub order : window_first size ps i j new < window_end size ps i j new
   pub within : window_end size ps i j new ≤ length ps
   pub is : respread size ps i j new ≡ splice ps (window_first size ps i j new) (window_end size ps i j new) (window_pieces size ps i j new)
   pub few : length (window_pieces size ps i j new) ≤ suc (length (middle size ps i j new))
 
-module _ (size : ℕ) (ps : List Piece) (i j : ℕ) (new : Piece) (some : 0 < length ps) (full : is_full ps ≡ true) (order : i ≤ j) where
+module _ (size : ℕ) (ps : List BranchPiece) (i j : ℕ) (new : BranchPiece) (some : 0 < length ps) (full : is_full ps ≡ true) (order : i ≤ j) where
   abbrev f : ℕ
   f = (first_place (map length ps) i j).0
 
   abbrev t : ℕ
   t = (end_place (map length ps) j).0
 
-  abbrev l : Piece
+  abbrev l : BranchPiece
   l = left_piece ps i j
 
-  abbrev r : Piece
+  abbrev r : BranchPiece
   r = right_piece ps j
 
-  abbrev mid : List Piece
+  abbrev mid : List BranchPiece
   mid = middle size ps i j new
 
   right_is : right_joins size ps i j new ≡ joins_right size l mid r
@@ -280,10 +280,10 @@ module _ (size : ℕ) (ps : List Piece) (i j : ℕ) (new : Piece) (some : 0 < le
   parts = cut size l mid r
 
   -- the three parts
-  abbrev fore : List Piece
+  abbrev fore : List BranchPiece
   fore = take (window_first size ps i j new) ps
 
-  abbrev aft : List Piece
+  abbrev aft : List BranchPiece
   aft = drop (window_end size ps i j new) ps
 
   run : f ≤ t
@@ -305,16 +305,16 @@ module _ (size : ℕ) (ps : List Piece) (i j : ℕ) (new : Piece) (some : 0 < le
   respread_is : respread size ps i j new ≡ fore ++ (parts.rest ++ aft)
   unfolding respread
   respread_is =
-      let before : List Piece = take (f - 1) ps in
-      let behind : List Piece = drop (suc (suc t)) ps in
-      let here : List Piece = around size ps i j new in
+      let before : List BranchPiece = take (f - 1) ps in
+      let behind : List BranchPiece = drop (suc (suc t)) ps in
+      let here : List BranchPiece = around size ps i j new in
       let mid_is : here ≡ unjoined lj l ++ (parts.rest ++ unjoined rj r) =
       parts.is ∙ ap₂ (λ (b c : Bool). unjoined b l ++ (parts.rest ++ unjoined c r)) (sym left_is) (sym right_is) in
       append_assoc before here behind
-      ∙ ap (λ (qs : List Piece). before ++ (qs ++ behind)) mid_is
-      ∙ ap (λ (qs : List Piece). before ++ qs) (append_assoc (unjoined lj l) (parts.rest ++ unjoined rj r) behind ∙ ap (λ (qs : List Piece). unjoined lj l ++ qs) (append_assoc parts.rest (unjoined rj r) behind))
+      ∙ ap (λ (qs : List BranchPiece). before ++ (qs ++ behind)) mid_is
+      ∙ ap (λ (qs : List BranchPiece). before ++ qs) (append_assoc (unjoined lj l) (parts.rest ++ unjoined rj r) behind ∙ ap (λ (qs : List BranchPiece). unjoined lj l ++ qs) (append_assoc parts.rest (unjoined rj r) behind))
       ∙ sym (append_assoc before (unjoined lj l) (parts.rest ++ (unjoined rj r ++ behind)))
-      ∙ ap₂ (λ (xs zs : List Piece). xs ++ (parts.rest ++ zs)) fore_is aft_is
+      ∙ ap₂ (λ (xs zs : List BranchPiece). xs ++ (parts.rest ++ zs)) fore_is aft_is
 
   one_at_most : (b : Bool) → one_or_none b ≤ 1
   one_at_most true = omega arith
@@ -338,7 +338,7 @@ module _ (size : ℕ) (ps : List Piece) (i j : ℕ) (new : Piece) (some : 0 < le
       let upto = run in
       let behind = behind_run rj in
       let within = end_within rj refl in
-      let after : List Piece = respread size ps i j new in
+      let after : List BranchPiece = respread size ps i j new in
       let front : length fore ≡ first = length-take-le first ps (omega arith) in
       let back : length aft ≡ length ps - end = length-drop end ps in
       let inner = length-append parts.rest aft in
@@ -346,11 +346,11 @@ module _ (size : ℕ) (ps : List Piece) (i j : ℕ) (new : Piece) (some : 0 < le
       let long : length after ≡ length fore + (length parts.rest + length aft) = ap length respread_is ∙ outer ∙ ap (λ (n : ℕ). length fore + n) inner in
       let count : length after - (length ps - end + first) ≡ length parts.rest = omega arith in
       let placed : window_pieces size ps i j new ≡ parts.rest =
-      ap₂ (λ (n : ℕ) (qs : List Piece). take n qs) count (ap (drop first) respread_is ∙ drop_at fore (parts.rest ++ aft) first front)
+      ap₂ (λ (n : ℕ) (qs : List BranchPiece). take n qs) count (ap (drop first) respread_is ∙ drop_at fore (parts.rest ++ aft) first front)
       ∙ take_at parts.rest aft (length parts.rest) refl in
       record {
         order = omega arith;
         within = within;
-        is = respread_is ∙ ap (λ (qs : List Piece). fore ++ (qs ++ aft)) (sym placed);
+        is = respread_is ∙ ap (λ (qs : List BranchPiece). fore ++ (qs ++ aft)) (sym placed);
         few = (let most = parts.few in let same = ap length placed in omega arith);
       }

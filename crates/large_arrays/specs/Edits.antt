@@ -8,8 +8,8 @@ use Rattle.geos_model.specs.Document.{Document, is_live, is_raw, raw_bytes_of, w
 use Rattle.geos_model.specs.Chain.{free_handles, new_handles}
 use Rattle.geos_model.specs.declared.fault.Fault.TheVariants.{NoBlock, WrongKind, NotArray, NoElement, BadChain, IsMap, Range, TooBig, NoHandles}
 use Rattle.geos_model.specs.declared.command.Body.TheVariants.{Raw}
-use Rattle.large_arrays.specs.Pieces.{Piece, branch_room, elements_of}
-use Rattle.large_arrays.specs.Layout.{Root, greatest_element_size, total, root_bytes, root_of, branch_bytes}
+use Rattle.large_arrays.specs.Pieces.{BranchPiece, branch_room, elements_in_pieces}
+use Rattle.large_arrays.specs.Layout.{Root, greatest_element_size, total_count, root_bytes, root_of, branch_bytes}
 use Rattle.large_arrays.specs.Spread.{start_place, end_place}
 use Rattle.large_arrays.specs.Blocks.{root_at, pieces_at}
 use Rattle.large_arrays.specs.Window.{looked_at, are_branches, window, freed_handles, raw_block, elements_replaced, elements_overwritten}
@@ -17,7 +17,7 @@ use Rattle.large_arrays.specs.Window.{looked_at, are_branches, window, freed_han
 -- Bytes as elements.
 
 -- one element where sizes vary, as many as fit into the bytes where they don't
-abbrev pub cut_elements : ℕ → List ℕ → Piece
+abbrev pub cut_elements : ℕ → List ℕ → BranchPiece
 cut_elements size bytes = if size == 0 then bytes ∷ [] else cut_evenly (length bytes / size) size bytes
 
 -- the bytes are no whole number of elements
@@ -70,7 +70,7 @@ create_large_conditions d size =
     (Range, nat_lt greatest_element_size size) ∷ (NoHandles, nat_lt (length (free_handles d)) 2) ∷ []
 
 -- of the branches, where nothing before refuses the edit
-abbrev pub on_window : Bool → Document → ℕ → ℕ → ℕ → Piece → Conditions
+abbrev pub on_window : Bool → Document → ℕ → ℕ → ℕ → BranchPiece → Conditions
 on_window accepted d b i j new =
     let r = root_at d b in
     let w = window d b i j new in
@@ -82,7 +82,7 @@ on_window accepted d b i j new =
 abbrev pub insert_large_conditions : Document → ℕ → ℕ → List ℕ → Conditions
 insert_large_conditions d b i bytes =
     let r = root_at d b in
-    let range = nat_lt (total r) i || ends_within_element r.size bytes in
+    let range = nat_lt (total_count r) i || ends_within_element r.size bytes in
     let long = is_too_long r.size bytes in
     on_root d b ++ (Range, range) ∷ (TooBig, long)
     ∷ on_window (not (range || long)) d b i i (cut_elements r.size bytes)
@@ -100,7 +100,7 @@ on_run accepted d b i n =
 abbrev pub set_large_conditions : Document → ℕ → ℕ → List ℕ → Conditions
 set_large_conditions d b i bytes =
     let r = root_at d b in
-    let past = nat_lt (total r) (i + element_count r.size bytes) in
+    let past = nat_lt (total_count r) (i + element_count r.size bytes) in
     let uneven = ends_within_element r.size bytes in
     let long = is_too_long r.size bytes in
     on_root d b ++ (NoElement, past) ∷ (Range, uneven) ∷ (TooBig, long)
@@ -109,28 +109,28 @@ set_large_conditions d b i bytes =
 
 abbrev pub delete_large_conditions : Document → ℕ → ℕ → ℕ → Conditions
 delete_large_conditions d b i n =
-    let past = nat_lt (total (root_at d b)) (i + n) in
+    let past = nat_lt (total_count (root_at d b)) (i + n) in
     on_root d b ++ (NoElement, past) ∷ on_window (not past) d b i (i + n) []
 
 abbrev pub get_large_conditions : Document → ℕ → ℕ → Conditions
 get_large_conditions d b i =
-    let past = nat_le (total (root_at d b)) i in
+    let past = nat_le (total_count (root_at d b)) i in
     on_root d b ++ (NoElement, past) ∷ on_run (not past) d b i 1
 
 abbrev pub read_large_conditions : Document → ℕ → ℕ → ℕ → Conditions
 read_large_conditions d b i n =
     let r = root_at d b in
-    let past = nat_lt (total r) (i + n) in
+    let past = nat_lt (total_count r) (i + n) in
     let long = (r.size == 0) || nat_lt capacity (n * r.size) in
     on_root d b ++ (NoElement, past) ∷ (Range, long) ∷ on_run (not (past || long)) d b i n
 
 -- What look-ups answer.
 
 abbrev pub large_count : Document → ℕ → ℕ
-large_count d b = total (root_at d b)
+large_count d b = total_count (root_at d b)
 
 abbrev pub large_element : Document → ℕ → ℕ → List ℕ
-large_element d b i = get_or (elements_of (pieces_at d (root_at d b))) i []
+large_element d b i = get_or (elements_in_pieces (pieces_at d (root_at d b))) i []
 
 abbrev pub large_run : Document → ℕ → ℕ → ℕ → List ℕ
-large_run d b i n = flat_map (λ x. x) (take n (drop i (elements_of (pieces_at d (root_at d b)))))
+large_run d b i n = flat_map (λ x. x) (take n (drop i (elements_in_pieces (pieces_at d (root_at d b)))))

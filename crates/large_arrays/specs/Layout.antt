@@ -7,7 +7,7 @@ use Rattle.geos_model.specs.Bytes.{same_bytes}
 use Rattle.geos_model.specs.Words.{word, double_word, word_at}
 use Rattle.geos_model.specs.Array.{array_bytes, array_of}
 use Rattle.geos_model.specs.Chain.{tree_mark}
-use Rattle.large_arrays.specs.Pieces.{Piece}
+use Rattle.large_arrays.specs.Pieces.{BranchPiece}
 
 -- the size of elements that have one size
 abbrev pub greatest_element_size : ℕ
@@ -18,8 +18,8 @@ pub record Root : Type 0 where
   pub counts : List ℕ  -- how many elements each branch has
   pub branches : List ℕ  -- their handles
 
-abbrev pub total : Root → ℕ
-total r = sum_by (λ c. c) r.counts
+abbrev pub total_count : Root → ℕ
+total_count r = sum_by (λ c. c) r.counts
 
 abbrev pub large_mark : List ℕ
 large_mark = codes "GARR"
@@ -29,7 +29,7 @@ large_mark = codes "GARR"
 unfoldable pub root_bytes : Root → List ℕ
 root_bytes r =
     word tree_mark ++ word (16 + 2 * length r.counts) ++ word (length r.counts)
-    ++ large_mark ++ word r.size ++ double_word (total r)
+    ++ large_mark ++ word r.size ++ double_word (total_count r)
     ++ flat_map word r.counts ++ flat_map (λ h. word 0 ++ word h) r.branches
 
 -- there is a branch, and none is empty but a single one
@@ -54,11 +54,11 @@ root_of bytes = let r = root_read bytes in if is_root r && same_bytes (root_byte
 abbrev pub root_in : List ℕ → Root
 root_in bytes = unwrap_or (root_of bytes) (record { size = 0; counts = []; branches = [] })
 
-unfoldable pub branch_bytes : ℕ → Piece → List ℕ
+unfoldable pub branch_bytes : ℕ → BranchPiece → List ℕ
 branch_bytes size piece = word 0 ++ array_bytes (record { extra = []; size = size; elements = piece })
 
 -- the elements of a branch that the root says to have so many
-unfoldable pub branch_of : ℕ → ℕ → List ℕ → Option Piece
+unfoldable pub branch_of : ℕ → ℕ → List ℕ → Option BranchPiece
 branch_of size count bytes =
     option_and_then (λ a. if length a.elements == count && same_bytes (branch_bytes size a.elements) bytes
     then Some a.elements else None) (array_of (drop 2 bytes))

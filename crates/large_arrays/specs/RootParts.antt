@@ -2,7 +2,7 @@
 use Rattle.std.specs.Prelude.{◌≡◌, ◌≢◌, ◌<◌, ◌≤◌, ◌+◌, ◌*◌, ℕ, List, length, take, drop}
 use Rattle.geos_model.specs.Words.{word_at, double_word_at}
 use Rattle.geos_model.specs.Chain.{tree_mark}
-use Rattle.large_arrays.specs.Layout.{greatest_element_size, large_mark, root_read, total}
+use Rattle.large_arrays.specs.Layout.{greatest_element_size, large_mark, root_read, total_count}
 
 -- how many branches a root says that it has
 abbrev pub branches_in : List ℕ → ℕ
@@ -12,8 +12,8 @@ branches_in bytes = word_at bytes 4
 abbrev pub count_in : List ℕ → ℕ → ℕ
 count_in bytes i = word_at bytes (16 + 2 * i)
 
-abbrev pub link_place : List ℕ → ℕ → ℕ
-link_place bytes i = 16 + 2 * branches_in bytes + 4 * i
+abbrev pub branch_link_place : List ℕ → ℕ → ℕ
+branch_link_place bytes i = 16 + 2 * branches_in bytes + 4 * i
 
 -- the marks, and a size that elements can have
 pub record HasMarks (bytes : List ℕ) : Type 0 where
@@ -39,10 +39,10 @@ HasCounts bytes = branches_in bytes ≢ 1 → (i : ℕ) → i < branches_in byte
 
 -- each branch begins with a zero word
 abbrev pub HasZeros : List ℕ → Type 0
-HasZeros bytes = (i : ℕ) → i < branches_in bytes → word_at bytes (link_place bytes i) ≡ 0
+HasZeros bytes = (i : ℕ) → i < branches_in bytes → word_at bytes (branch_link_place bytes i) ≡ 0
 
 pub record HasRoot (bytes : List ℕ) : Type 0 where
   pub head : HasHead bytes
-  pub total : double_word_at bytes 12 ≡ total (root_read bytes)
+  pub total : double_word_at bytes 12 ≡ total_count (root_read bytes)
   pub counts : HasCounts bytes
   pub zeros : HasZeros bytes

@@ -5,20 +5,20 @@ use Rattle.geos_model.specs.ElementArray.{all_distinct}
 use Rattle.geos_model.specs.Document.{Block, Document, attributes_of, with_blocks, without_blocks}
 use Rattle.geos_model.specs.Chain.{new_handles}
 use Rattle.geos_model.specs.declared.command.Body.TheVariants.{Raw}
-use Rattle.large_arrays.specs.Pieces.{Piece, weight, join_room, are_joined}
+use Rattle.large_arrays.specs.Pieces.{BranchPiece, weight, join_room, are_joined}
 use Rattle.large_arrays.specs.Layout.{Root, root_bytes, branch_bytes}
 use Rattle.large_arrays.specs.Spread.{start_place, end_place, first_place, middle, left_piece, right_piece, with_left, respread, overwritten}
 use Rattle.large_arrays.specs.Blocks.{root_at, branch_at, pieces_at}
 
 -- a run's right neighbour is joined to what stands before it
-abbrev pub right_joins : ℕ → List Piece → ℕ → ℕ → Piece → Bool
+abbrev pub right_joins : ℕ → List BranchPiece → ℕ → ℕ → BranchPiece → Bool
 right_joins size pieces i j new =
     let before = with_left size pieces i j new in
     nat_lt ((end_place (map length pieces) j).0 + 1) (length pieces) && nat_lt 0 (length before)
     && are_joined size (get_or before (length before - 1) []) (right_piece pieces j)
 
 -- its left neighbour is joined to what stands behind it
-abbrev pub left_joins : ℕ → List Piece → ℕ → ℕ → Piece → Bool
+abbrev pub left_joins : ℕ → List BranchPiece → ℕ → ℕ → BranchPiece → Bool
 left_joins size pieces i j new =
     let mid = middle size pieces i j new in
     nat_lt 0 (first_place (map length pieces) i j).0
@@ -28,7 +28,7 @@ left_joins size pieces i j new =
 -- Which branches an edit looks at: those of the run; and a neighbour. Where sizes vary that is looked at unless the
 -- piece beside it is so large already that the two can't be joined; else only to be joined, since the root tells how
 -- large it is.
-abbrev pub looks_left : ℕ → List Piece → ℕ → ℕ → Piece → Bool
+abbrev pub looks_left : ℕ → List BranchPiece → ℕ → ℕ → BranchPiece → Bool
 looks_left size pieces i j new =
     let mid = middle size pieces i j new in
     if size == 0 then nat_lt 0 (first_place (map length pieces) i j).0
@@ -36,7 +36,7 @@ looks_left size pieces i j new =
     else nat_le (weight size (get_or mid 0 [])) join_room)
     else left_joins size pieces i j new
 
-abbrev pub looks_right : ℕ → List Piece → ℕ → ℕ → Piece → Bool
+abbrev pub looks_right : ℕ → List BranchPiece → ℕ → ℕ → BranchPiece → Bool
 looks_right size pieces i j new =
     let mid = middle size pieces i j new in
     if size == 0 then nat_lt ((end_place (map length pieces) j).0 + 1) (length pieces)
@@ -44,7 +44,7 @@ looks_right size pieces i j new =
     else nat_le (weight size (get_or mid (length mid - 1) [])) join_room)
     else right_joins size pieces i j new
 
-abbrev pub looked_at : ℕ → List Piece → ℕ → ℕ → Piece → List ℕ
+abbrev pub looked_at : ℕ → List BranchPiece → ℕ → ℕ → BranchPiece → List ℕ
 looked_at size pieces i j new =
     let first = (first_place (map length pieces) i j).0 - (if looks_left size pieces i j new then 1 else 0) in
     let behind = (end_place (map length pieces) j).0 + (if looks_right size pieces i j new then 2 else 1) in
@@ -56,23 +56,23 @@ are_branches d b r ks =
     list_all (λ k. is_some (branch_at d r k)) ks && all_distinct (b ∷ map (λ k. get_or r.branches k 0) ks)
 
 -- the places of the pieces that an edit replaces: of the first one, and the one behind the last
-abbrev pub window_first : ℕ → List Piece → ℕ → ℕ → Piece → ℕ
+abbrev pub window_first : ℕ → List BranchPiece → ℕ → ℕ → BranchPiece → ℕ
 window_first size pieces i j new =
     (first_place (map length pieces) i j).0 - (if left_joins size pieces i j new then 1 else 0)
 
-abbrev pub window_end : ℕ → List Piece → ℕ → ℕ → Piece → ℕ
+abbrev pub window_end : ℕ → List BranchPiece → ℕ → ℕ → BranchPiece → ℕ
 window_end size pieces i j new =
     (end_place (map length pieces) j).0 + (if right_joins size pieces i j new then 2 else 1)
 
 -- the pieces in their place
-abbrev pub window_pieces : ℕ → List Piece → ℕ → ℕ → Piece → List Piece
+abbrev pub window_pieces : ℕ → List BranchPiece → ℕ → ℕ → BranchPiece → List BranchPiece
 window_pieces size pieces i j new =
     let after = respread size pieces i j new in
     let stay = length pieces - window_end size pieces i j new in
     take (length after - (stay + window_first size pieces i j new)) (drop (window_first size pieces i j new) after)
 
 -- what stays in its block of the piece at a place: all of a neighbour, of the first and the last piece what is left
-abbrev pub staying : ℕ → List Piece → ℕ → ℕ → ℕ → ℕ
+abbrev pub staying : ℕ → List BranchPiece → ℕ → ℕ → ℕ → ℕ
 staying size pieces i j k =
     let from = first_place (map length pieces) i j in
     let to = end_place (map length pieces) j in
@@ -104,9 +104,9 @@ pub record Window : Type 0 where
   pub behind : ℕ
   pub olds : List ℕ
   pub news : List ℕ
-  pub pieces : List Piece
+  pub pieces : List BranchPiece
 
-unfoldable pub window : Document → ℕ → ℕ → ℕ → Piece → Window
+unfoldable pub window : Document → ℕ → ℕ → ℕ → BranchPiece → Window
 window d b i j new =
     let r = root_at d b in
     let pieces = pieces_at d r in
@@ -150,12 +150,12 @@ with_window d b w =
     ∷ map (λ p. raw_block d p.0 (branch_bytes r.size p.1)) (zip w.news w.pieces))
 
 -- elements in the place of those from one to another
-unfoldable pub elements_replaced : Document → ℕ → ℕ → ℕ → Piece → Document
+unfoldable pub elements_replaced : Document → ℕ → ℕ → ℕ → BranchPiece → Document
 elements_replaced d b i j new =
     if (i == j) && (length new == 0) then d else with_window d b (window d b i j new)
 
 -- elements written over, of one size: the pieces that have one
-unfoldable pub elements_overwritten : Document → ℕ → ℕ → Piece → Document
+unfoldable pub elements_overwritten : Document → ℕ → ℕ → BranchPiece → Document
 elements_overwritten d b i new =
     let r = root_at d b in
     let first = (start_place r.counts i).0 in

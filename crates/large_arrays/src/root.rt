@@ -3,7 +3,7 @@ ghost use Rattle.std.specs.Prelude.{◌≡◌, ◌^◌, ◌<◌, ◌≤◌, ◌+
 ghost use Rattle.std.specs.List.{range_with_len};
 ghost use Rattle.geos_model.specs.Words.{word_at, double_word_at};
 ghost use Rattle.geos_model.specs.Heap.{capacity};
-ghost use Rattle.large_arrays.specs.Layout.{root_of, total};
+ghost use Rattle.large_arrays.specs.Layout.{root_of, total_count};
 ghost use Rattle.large_arrays.specs.Spread.{start_place, end_place};
 ghost use Rattle.large_arrays.specs.RootParts.{HasMarks, HasLength, HasHead, HasCounts, HasZeros, branches_in};
 
@@ -165,7 +165,7 @@ impl<'a> RootView<'a> {
 
     /// How many elements there are.
     pub fn total(&self) -> u32
-        ensures { result ≡ total self.now }
+        ensures { result ≡ total_count self.now }
     {
         self.total
     }

@@ -1,7 +1,7 @@
 use Rattle.std.proofs.Common.{◌≡◌, ◌∙◌, ◌-◌, ℕ, List, length, take, drop, refl, sym, ap, arith, length-drop}
 use Rattle.std.proofs.lemmas.List.{take_all}
 use Rattle.geos_model.specs.Array.{array_of}
-use Rattle.chunk_arrays.specs.Parts.{AreBytes}
+use Rattle.chunk_arrays.specs.Parts.{AreByteValues}
 use Rattle.large_arrays.proofs.BranchLemmas.{no_zero, no_array, not_plain, branch-found}
 use Rattle.large_arrays.proofs.branch.read_branch.Goals as goal
 
@@ -19,7 +19,7 @@ returns-in-Err c = (refl, no_array c.args.size c.args.count c.args.bytes.now (ap
 pub returns-then-is_plain : goal.returns-then-is_plain
 returns-then-is_plain c =
     let bytes : List ℕ = c.args.bytes.now in
-    let are : AreBytes bytes = (λ i. (c.type_inv.bytes i).fits) in
+    let are : AreByteValues bytes = (λ i. (c.type_inv.bytes i).fits) in
     branch-found c.args.size c.args.count bytes c.in-Ok.view.array are (c.begins_with_zero.ensures.0 c.if-not-begins_with_zero.false)
     (ap array_of (sym (c.new.ensures ∙ rest c.args.bytes.now)) ∙ c.in-Ok.ensures) (c.is_plain.ensures.0 c.if-is_plain.true)
 
