@@ -189,7 +189,7 @@ impl<'a> View<'a> {
     }
 
     /// The bytes of the elements from one up to another, one after another.
-    pub(crate) fn run(&self, from: usize, to: usize) -> &'a [u8]
+    pub fn run(&self, from: usize, to: usize) -> &'a [u8]
         requires order { from ≤ to }
         requires within { to ≤ length self.now.array.elements }
         ensures { result.now ≡ flat_map (λ x. x) (take (to - from) (drop from self.now.array.elements)) }
@@ -200,7 +200,7 @@ impl<'a> View<'a> {
     }
 
     /// The words of the table of places from one element up to another, where sizes vary.
-    pub(crate) fn places(&self, from: usize, to: usize) -> &'a [u8]
+    pub fn places(&self, from: usize, to: usize) -> &'a [u8]
         requires any { self.now.array.size ≡ 0 }
         requires order { from ≤ to }
         requires within { to ≤ length self.now.array.elements }

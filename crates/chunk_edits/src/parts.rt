@@ -50,7 +50,7 @@ impl Model for Splice {
 
 impl Splice {
     /// The splice that puts bytes in the place of a part that begins at `at`.
-    pub(crate) fn of(alloc: Global, at: u32, old: &[u8], new: &[u8]) -> Result<Splice, AllocError>
+    pub fn of(alloc: Global, at: u32, old: &[u8], new: &[u8]) -> Result<Splice, AllocError>
         requires old { length old.now < 2 ^ 16 }
         requires new { length new.now < 2 ^ 32 }
         ensures { IfOk result (λ s. s ≡ record { at = at; old = old.now; new = new.now }) }

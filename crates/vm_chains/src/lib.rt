@@ -16,5 +16,5 @@ mod walking;
 
 pub use comparing::{equal, test_roots};
 pub use measuring::size;
-pub use planning::{copy_plan, free_plan};
+pub use planning::{copy_plan, free_handles, free_plan};
 pub use walking::{test_root, walk};

@@ -121,7 +121,7 @@ fn images<S: Store>(
 }
 
 /// The least free handles, rising, as many as these if there are so many.
-fn free_handles<S: Store>(
+pub fn free_handles<S: Store>(
     alloc: Global,
     blocks: &FileBlocks<S>,
     wanted: usize,
