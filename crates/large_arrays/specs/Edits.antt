@@ -9,10 +9,10 @@ use Rattle.geos_model.specs.Chain.{free_handles, new_handles}
 use Rattle.geos_model.specs.declared.fault.Fault.TheVariants.{NoBlock, WrongKind, NotArray, NoElement, BadChain, IsMap, Range, TooBig, NoHandles}
 use Rattle.geos_model.specs.declared.command.Body.TheVariants.{Raw}
 use Rattle.large_arrays.specs.Pieces.{BranchPiece, branch_room, elements_in_pieces}
-use Rattle.large_arrays.specs.Layout.{Root, greatest_element_size, total_count, root_bytes, root_of, branch_bytes}
+use Rattle.large_arrays.specs.Layout.{Root, greatest_element_size, most_branches, total_count, root_bytes, root_of, branch_bytes}
 use Rattle.large_arrays.specs.Spread.{start_place, end_place}
 use Rattle.large_arrays.specs.Blocks.{root_at, pieces_at}
-use Rattle.large_arrays.specs.Window.{looked_at, are_branches, window, freed_handles, raw_block, elements_replaced, elements_overwritten}
+use Rattle.large_arrays.specs.Window.{looked_at, are_branches, window, freed_handles, replaced_root, raw_block, elements_replaced, elements_overwritten}
 
 -- Bytes as elements.
 
@@ -77,7 +77,8 @@ on_window accepted d b i j new =
     let there = accepted && not ((i == j) && (length new == 0)) in
     (BadChain, there && not (are_branches d b r (looked_at r.size (pieces_at d r) i j new)))
     ∷ (IsMap, there && list_any (λ h. h == d.map_block) (freed_handles w))
-    ∷ (NoHandles, there && nat_lt (length (free_handles d)) (length w.pieces - length w.olds)) ∷ []
+    ∷ (NoHandles, there && nat_lt (length (free_handles d)) (length w.pieces - length w.olds))
+    ∷ (NoHandles, there && nat_lt most_branches (length (replaced_root r w).branches)) ∷ []
 
 abbrev pub insert_large_conditions : Document → ℕ → ℕ → List ℕ → Conditions
 insert_large_conditions d b i bytes =

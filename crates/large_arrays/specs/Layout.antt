@@ -13,6 +13,10 @@ use Rattle.large_arrays.specs.Pieces.{BranchPiece}
 abbrev pub greatest_element_size : ℕ
 greatest_element_size = 4096
 
+-- how many branches there are at most: all blocks of a document but the root
+abbrev pub most_branches : ℕ
+most_branches = 8191
+
 pub record Root : Type 0 where
   pub size : ℕ  -- of each element in bytes, 0 where they vary
   pub counts : List ℕ  -- how many elements each branch has
