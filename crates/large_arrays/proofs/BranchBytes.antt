@@ -37,7 +37,7 @@ weight-none (x ∷ xs) =
     omega arith
 
 -- What elements weigh is what they take behind the header.
-weight-is : (size : ℕ) (piece : BranchPiece) → length (table_of (array_of_piece size piece)) + length (joined piece) ≡ weight size piece
+pub weight-is : (size : ℕ) (piece : BranchPiece) → length (table_of (array_of_piece size piece)) + length (joined piece) ≡ weight size piece
 weight-is size piece =
     let a : Array = array_of_piece size piece in
     let weigh : ℕ → ℕ = λ e. sum_by (λ x. length x + e) piece in

@@ -31,11 +31,20 @@ use Rattle.large_arrays.proofs.Replacing.{raw-there}
 use Rattle.large_arrays.proofs.PutBranches.{no_type, can_put}
 
 -- a list of two by its elements
-two_of : (hs : List ℕ) → length hs ≡ 2 → hs ≡ get_or hs 0 0 ∷ get_or hs 1 0 ∷ []
+pub two_of : (hs : List ℕ) → length hs ≡ 2 → hs ≡ get_or hs 0 0 ∷ get_or hs 1 0 ∷ []
 two_of [] two = absurd (let never : 0 ≡ 2 = two in omega arith)
 two_of (x ∷ []) two = absurd (let never : 1 ≡ 2 = two in omega arith)
 two_of (x ∷ y ∷ []) two = refl
 two_of (x ∷ y ∷ z ∷ hs) two = absurd (let never : suc (suc (suc (length hs))) ≡ 2 = two in omega arith)
+
+-- the blocks of an array that is made
+abbrev pub made_root : Document → ℕ → Root
+made_root d size = record { size = size; counts = 0 ∷ []; branches = get_or (new_handles d 2) 1 0 ∷ [] }
+
+abbrev pub made_blocks : Document → ℕ → ℕ → List (ℕ × Block)
+made_blocks d uid size =
+    (get_or (new_handles d 2) 0 0, record { attributes = record { user_id = uid; heap_type = 0 }; body = Raw (root_bytes (made_root d size)) })
+    ∷ raw_block d (get_or (new_handles d 2) 1 0) (branch_bytes size []) ∷ []
 
 module _ (d : Document) (uid size : ℕ) (valid : IsValid d) (word : uid < 65536) (small : size ≤ greatest_element_size) (enough : 2 ≤ length (free_handles d)) where
   abbrev hs : List ℕ
@@ -48,13 +57,13 @@ module _ (d : Document) (uid size : ℕ) (valid : IsValid d) (word : uid < 65536
   h = get_or hs 1 0
 
   abbrev r : Root
-  r = record { size = size; counts = 0 ∷ []; branches = h ∷ [] }
+  r = made_root d size
 
   abbrev root_block : Block
   root_block = record { attributes = record { user_id = uid; heap_type = 0 }; body = Raw (root_bytes r) }
 
   abbrev blocks : List (ℕ × Block)
-  blocks = (b, root_block) ∷ raw_block d h (branch_bytes size []) ∷ []
+  blocks = made_blocks d uid size
 
   abbrev made : Document
   made = with_blocks d blocks

@@ -19,7 +19,7 @@ varying-fits size bytes any short =
     and_from (fits_branch size (bytes ∷ [])) true (le-leb (weight size (bytes ∷ [])) branch_room (omega arith)) refl
 
 -- what is cut at one size has no element that is longer
-even-fits : (size count : ℕ) (bytes : List ℕ) → (size == 0) ≡ false → size ≤ greatest_element_size → each_fits size (cut_evenly count size bytes) ≡ true
+pub even-fits : (size count : ℕ) (bytes : List ℕ) → (size == 0) ≡ false → size ≤ greatest_element_size → each_fits size (cut_evenly count size bytes) ≡ true
 even-fits size zero bytes one small = refl
 even-fits size (suc count) bytes one small =
     let x : List ℕ = take size bytes in
@@ -29,7 +29,7 @@ even-fits size (suc count) bytes one small =
     (even-fits size count (drop size bytes) one small)
 
 -- and none that is shorter, if there are so many bytes
-even-sized : (size count : ℕ) (bytes : List ℕ) → count * size ≤ length bytes → list_all (λ x. length x == size) (cut_evenly count size bytes) ≡ true
+pub even-sized : (size count : ℕ) (bytes : List ℕ) → count * size ≤ length bytes → list_all (λ x. length x == size) (cut_evenly count size bytes) ≡ true
 even-sized size zero bytes enough = refl
 even-sized size (suc count) bytes enough =
     let more : suc count * size ≡ count * size + size = omega arith in

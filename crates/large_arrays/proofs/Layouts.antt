@@ -1,13 +1,14 @@
 -- The blocks of a large array, by their bytes: from the array to them and back.
-use Rattle.std.proofs.Common.{◌≡◌, ℕ, zero, suc, ◌+◌, ◌<◌, ◌≤◌, Bool, true, not, ◌&&◌, ◌||◌, ◌==◌, nat_le, nat_lt, List, [], ◌∷◌, length, map, get_or, filter, replicate, Option, Some, None, is_some, unwrap_or, refl, sym, ap, ap₂, subst, ◌∙◌, inl, inr, arith, zero-add, append-nil, leb-true, le-leb, lt-ltb}
-use Rattle.std.proofs.lemmas.Bool.{and_parts, and_from, cond-true, ne_eqb}
-use Rattle.std.proofs.lemmas.List.{length-map, get_or-map, ext_get_or}
+use Rattle.std.proofs.Common.{◌≡◌, ℕ, zero, suc, ◌+◌, ◌<◌, ◌≤◌, Bool, true, false, not, ◌&&◌, ◌||◌, ◌==◌, if◌then◌else◌, nat_le, nat_lt, List, [], ◌∷◌, length, map, get_or, filter, replicate, Option, Some, None, is_some, unwrap_or, refl, sym, ap, ap₂, subst, ◌∙◌, inl, inr, arith, zero-add, append-nil, leb-true, le-leb, lt-ltb}
+use Rattle.std.proofs.lemmas.Bool.{and_parts, and_from, cond-true, eq-eqb, ne_eqb}
+use Rattle.std.proofs.lemmas.List.{length-map, length-replicate, get_or-map, ext_get_or}
 use Rattle.std.proofs.lemmas.List.FromFn.{length-map-range_with_len, get_or-map-range_with_len}
-use Rattle.std.proofs.lemmas.List.Elements.{Contains-get_or}
 use Rattle.std.specs.List.{AllZip, Contains, list_all, range_with_len}
+use Rattle.std.specs.Option.{option_map, option_map_or}
 use Rattle.std.specs.FinMap.{get}
 use Rattle.geos_model.specs.ElementArray.{all_distinct}
-use Rattle.geos_model.specs.Document.{Document, IsValid, most_blocks, is_raw, raw_bytes_of}
+use Rattle.geos_model.specs.Document.{Block, Document, IsValid, most_blocks, no_attributes, is_live, is_raw, raw_bytes_of, attributes_of}
+use Rattle.geos_model.specs.Places.{attributes_under}
 use Rattle.geos_model.specs.Chain.{is_linked, links, is_member, chain}
 use Rattle.geos_model.specs.ChainLaws.{IsForest, nothing, block, AreMembers}
 use Rattle.geos_model.proofs.Arrays.{are_words}
@@ -112,6 +113,16 @@ raw-handle d valid h raw =
     let parts = and_parts (nat_le 1 h) (nat_le h most_blocks) (valid.blocks h there.0 there.1).handle in
     (leb-true 1 h parts.0, leb-true h most_blocks parts.1)
 
+pub raw-live : (d : Document) (h : ℕ) → is_raw d h ≡ true → is_live d h ≡ true
+raw-live d h raw = let there = raw_block (get d.blocks h) raw in ap is_some there.1
+
+-- it has attributes
+pub raw-attributes : (d : Document) (h : ℕ) → is_raw d h ≡ true → attributes_under d h ≡ Some (attributes_of d h)
+raw-attributes d h raw =
+    let there = raw_block (get d.blocks h) raw in
+    ap (λ (o : Option Block). option_map (λ x. x.attributes) o) there.1
+    ∙ sym (ap (λ (o : Option Block). Some (option_map_or (λ x. x.attributes) o no_attributes)) there.1)
+
 -- From the blocks to the array.
 module _ (d : Document) (b : ℕ) (r : Root) (pieces : List BranchPiece) (valid : IsValid d) (has : HasLayout d b r pieces) where
   abbrev n : ℕ
@@ -203,9 +214,9 @@ module _ (d : Document) (b : ℕ) (r : Root) (pieces : List BranchPiece) (valid 
         same = ap (λ (q : Root). elements_in_pieces (pieces_at d q)) is ∙ ap elements_in_pieces layout-pieces;
       }
 
--- From the array to its blocks.
+-- From bytes to a root and to branches, whatever else there is.
 
-list_all-from_at : {X : Type 0} (p : X → Bool) (xs : List X) (x : X) → ((k : ℕ) → k < length xs → p (get_or xs k x) ≡ true) → list_all p xs ≡ true
+pub list_all-from_at : {X : Type 0} (p : X → Bool) (xs : List X) (x : X) → ((k : ℕ) → k < length xs → p (get_or xs k x) ≡ true) → list_all p xs ≡ true
 list_all-from_at p [] x each = refl
 list_all-from_at p (y ∷ xs) x each =
     and_from (p y) (list_all p xs) (each zero (omega arith)) (list_all-from_at p xs x (λ k low. each (suc k) (omega arith)))
@@ -214,7 +225,35 @@ some_is : {X : Type 0} (o : Option X) (x : X) → is_some o ≡ true → o ≡ S
 some_is None x there = absurd (cc there)
 some_is (Some y) x there = refl
 
-module _ (d : Document) (b size : ℕ) (elements : BranchPiece) (valid : IsValid d) (array : IsLargeArray d b size elements) where
+if_found : (c : Bool) (o : Option BranchPiece) (p : BranchPiece) → (if c then o else None) ≡ Some p → (c ≡ true) × (o ≡ Some p)
+if_found true o p is = (refl, is)
+if_found false o p is = absurd (cc is)
+
+-- a branch is a raw block
+pub branch-raw : (d : Document) (b k : ℕ) → is_some (branch_at d (root_at d b) k) ≡ true → is_raw d (get_or (root_at d b).branches k 0) ≡ true
+branch-raw d b k there =
+    let r : Root = root_at d b in
+    let h : ℕ = get_or r.branches k 0 in
+    (if_found (is_raw d h) (branch_of r.size (get_or r.counts k 0) (raw_bytes_of d h)) (unwrap_or (branch_at d r k) []) (some_is (branch_at d r k) [] there)).0
+
+-- elements of a size, where nothing was read
+abbrev zeros : ℕ → ℕ → BranchPiece
+zeros size count = replicate count (replicate size 0)
+
+zeros-sized : (size count : ℕ) → is_sized size (zeros size count) ≡ true
+zeros-sized size count = by_test (size == 0)
+  where
+    each : (k : ℕ) → list_all (λ x. length x == size) (zeros size k) ≡ true
+    each zero = refl
+    each (suc k) =
+        let row : List ℕ = replicate size 0 in
+        and_from (length row == size) (list_all (λ x. length x == size) (zeros size k)) (eq-eqb (length row) size (length-replicate {A = ℕ} size 0)) (each k)
+
+    by_test : (c : Bool) → (c || list_all (λ x. length x == size) (zeros size count)) ≡ true
+    by_test true = refl
+    by_test false = each count
+
+module _ (d : Document) (b : ℕ) (found : is_some (root_of (raw_bytes_of d b)) ≡ true) where
   abbrev r : Root
   r = root_at d b
 
@@ -222,57 +261,93 @@ module _ (d : Document) (b size : ℕ) (elements : BranchPiece) (valid : IsValid
   pieces = pieces_at d r
 
   root_found : root_of (raw_bytes_of d b) ≡ Some r
-  root_found = some_is (root_of (raw_bytes_of d b)) (record { size = 0; counts = []; branches = [] }) array.root
+  root_found = some_is (root_of (raw_bytes_of d b)) (record { size = 0; counts = []; branches = [] }) found
 
-  root_facts : (is_root r ≡ true) × (root_bytes r ≡ raw_bytes_of d b) × (length r.branches ≡ length r.counts)
-  root_facts = root_of-is (raw_bytes_of d b) r root_found
-
-  members : AreMembers d b (b ∷ r.branches)
-  members = chain-members d b (b ∷ r.branches) array.linked
+  pub root-facts : (is_root r ≡ true) × (root_bytes r ≡ raw_bytes_of d b) × (length r.branches ≡ length r.counts)
+  root-facts = root_of-is (raw_bytes_of d b) r root_found
 
   abbrev read : ℕ → BranchPiece
-  read k = unwrap_or (branch_at d r k) (replicate (get_or r.counts k 0) (replicate r.size 0))
+  read k = unwrap_or (branch_at d r k) (zeros r.size (get_or r.counts k 0))
 
-  many : length pieces ≡ length r.branches
-  many = length-map-range_with_len read 0 (length r.branches)
+  pub pieces-many : length pieces ≡ length r.branches
+  pieces-many = length-map-range_with_len read 0 (length r.branches)
 
-  -- what a branch is
-  record IsBranchAt (k : ℕ) : Type 0 where
-    has : HasBranch d r.size (get_or r.branches k 0) (get_or pieces k [])
-    long : length (get_or pieces k []) ≡ get_or r.counts k 0
-    sized : is_sized r.size (get_or pieces k []) ≡ true
+  read-here : (k : ℕ) → k < length pieces → get_or pieces k [] ≡ read k
+  read-here k low =
+      let all = pieces-many in
+      get_or-map-range_with_len read 0 (length r.branches) k k [] (omega arith) (zero-add k)
 
-  branch_is : (k : ℕ) → k < length pieces → IsBranchAt k
-  branch_is k low =
+  -- what was read of a branch
+  pub record IsBranchAt (k : ℕ) : Type 0 where
+    pub has : HasBranch d r.size (get_or r.branches k 0) (get_or pieces k [])
+    pub long : length (get_or pieces k []) ≡ get_or r.counts k 0
+    pub sized : is_sized r.size (get_or pieces k []) ≡ true
+
+  pub branch-read : (k : ℕ) → k < length pieces → is_some (branch_at d r k) ≡ true → IsBranchAt k
+  branch-read k low there =
       let h : ℕ = get_or r.branches k 0 in
-      let all = many in
-      let within : k < length r.branches = omega arith in
-      let raw : is_raw d h ≡ true = members.raw h (contains_later b r.branches h (Contains-get_or r.branches k 0 within)) in
-      let found : branch_at d r k ≡ Some (read k) = some_is (branch_at d r k) (replicate (get_or r.counts k 0) (replicate r.size 0)) (array.branch k within) in
-      let here : get_or pieces k [] ≡ read k = get_or-map-range_with_len read 0 (length r.branches) k k [] within (zero-add k) in
-      let bytes : branch_of r.size (get_or r.counts k 0) (raw_bytes_of d h) ≡ Some (get_or pieces k []) =
-      sym (cond-true (is_raw d h) (branch_of r.size (get_or r.counts k 0) (raw_bytes_of d h)) None raw) ∙ found ∙ ap Some (sym here) in
-      let is = branch_of-is r.size (get_or r.counts k 0) (raw_bytes_of d h) (get_or pieces k []) (root-small r root_facts.0) bytes in
-      record { has = (raw, sym is.1); long = is.0; sized = is.2 }
+      let here : branch_at d r k ≡ Some (get_or pieces k []) =
+      some_is (branch_at d r k) (zeros r.size (get_or r.counts k 0)) there ∙ ap Some (sym (read-here k low)) in
+      let parts = if_found (is_raw d h) (branch_of r.size (get_or r.counts k 0) (raw_bytes_of d h)) (get_or pieces k []) here in
+      let is = branch_of-is r.size (get_or r.counts k 0) (raw_bytes_of d h) (get_or pieces k []) (root-small r root-facts.0) parts.1 in
+      record { has = (parts.0, sym is.1); long = is.0; sized = is.2 }
 
-  pub array-layout : HasLayout d b r pieces
+  -- such a piece has room in a branch
+  pub branch-fits : IsValid d → (k : ℕ) → k < length pieces → is_some (branch_at d r k) ≡ true → fits_branch r.size (get_or pieces k []) ≡ true
+  branch-fits valid k low there =
+      let piece : BranchPiece = get_or pieces k [] in
+      let few = raw_bytes-few d (get_or r.branches k 0) valid in
+      let long : length (raw_bytes_of d (get_or r.branches k 0)) ≡ 10 + weight r.size piece = ap length ((branch-read k low there).has).1 ∙ length-branch_bytes r.size piece in
+      le-leb (weight r.size piece) branch_room (omega arith)
+
+  -- each piece, also one that wasn't read, has as many elements as the root says, of its size
+  piece_is : (k : ℕ) → k < length pieces → (length (get_or pieces k []) ≡ get_or r.counts k 0) × (is_sized r.size (get_or pieces k []) ≡ true)
+  piece_is k low = by_branch (branch_at d r k) refl
+    where
+      by_branch : (o : Option BranchPiece) → branch_at d r k ≡ o → (length (get_or pieces k []) ≡ get_or r.counts k 0) × (is_sized r.size (get_or pieces k []) ≡ true)
+      by_branch None is =
+          let count : ℕ = get_or r.counts k 0 in
+          let row : List ℕ = replicate r.size 0 in
+          let here : get_or pieces k [] ≡ zeros r.size count = read-here k low ∙ ap (λ (o : Option BranchPiece). unwrap_or o (zeros r.size count)) is in
+          (ap (λ (p : BranchPiece). length p) here ∙ length-replicate {A = List ℕ} count row, ap (is_sized r.size) here ∙ zeros-sized r.size count)
+      by_branch (Some p) is = (let here = branch-read k low (ap is_some is) in (here.long, here.sized))
+
+  pub root-counts : r.counts ≡ map length pieces
+  root-counts =
+      let mapped = length-map pieces (λ (p : BranchPiece). length p) in
+      let all = pieces-many in
+      let as_many = root-facts.2 in
+      ext_get_or 0 r.counts (map length pieces) (omega arith) (λ k low.
+      let within : k < length pieces = omega arith in
+      sym (piece_is k within).0 ∙ sym (get_or-map (λ (p : BranchPiece). length p) pieces k [] 0 within))
+
+  pub pieces-sized : all_sized r.size pieces ≡ true
+  pieces-sized = list_all-from_at (λ p. is_sized r.size p) pieces [] (λ k low. (piece_is k low).1)
+
+-- From the array to its blocks.
+module _ (d : Document) (b size : ℕ) (elements : BranchPiece) (valid : IsValid d) (array : IsLargeArray d b size elements) where
+  abbrev root : Root
+  root = root_at d b
+
+  abbrev placed : List BranchPiece
+  placed = pieces_at d root
+
+  members : AreMembers d b (b ∷ root.branches)
+  members = chain-members d b (b ∷ root.branches) array.linked
+
+  branch_there : (k : ℕ) → k < length placed → is_some (branch_at d root k) ≡ true
+  branch_there k low = (let all = pieces-many d b array.root in array.branch k (omega arith))
+
+  pub array-layout : HasLayout d b root placed
   array-layout =
-      let all = many in
-      let root = root_facts in
-      let as_many = root.2 in record {
-        raw = members.raw b (contains_first b r.branches);
-        bytes = sym root.1;
-        is = root.0;
-        counts = (let mapped = length-map pieces (λ (p : BranchPiece). length p) in
-            ext_get_or 0 r.counts (map length pieces) (omega arith) (λ k low.
-            let within : k < length pieces = omega arith in
-            sym (branch_is k within).long ∙ sym (get_or-map (λ (p : BranchPiece). length p) pieces k [] 0 within)));
+      let all = pieces-many d b array.root in
+      let facts = root-facts d b array.root in record {
+        raw = members.raw b (contains_first b root.branches);
+        bytes = sym facts.1;
+        is = facts.0;
+        counts = root-counts d b array.root;
         once = members.once;
-        branches = pairs-from_at (HasBranch d r.size) r.branches pieces 0 [] (sym all) (λ k low. (branch_is k low).has);
-        fit = list_all-from_at (λ p. fits_branch r.size p) pieces [] (λ k low.
-            let piece : BranchPiece = get_or pieces k [] in
-            let few = raw_bytes-few d (get_or r.branches k 0) valid in
-            let long : length (raw_bytes_of d (get_or r.branches k 0)) ≡ 10 + weight r.size piece = ap length ((branch_is k low).has).1 ∙ length-branch_bytes r.size piece in
-            le-leb (weight r.size piece) branch_room (omega arith));
-        sized = list_all-from_at (λ p. is_sized r.size p) pieces [] (λ k low. (branch_is k low).sized);
+        branches = pairs-from_at (HasBranch d root.size) root.branches placed 0 [] (sym all) (λ k low. (branch-read d b array.root k low (branch_there k low)).has);
+        fit = list_all-from_at (λ p. fits_branch root.size p) placed [] (λ k low. branch-fits d b array.root valid k low (branch_there k low));
+        sized = pieces-sized d b array.root;
       }

@@ -85,7 +85,7 @@ root_small r is =
 
 -- The handles that go.
 
-absent_any : (news : List ℕ) (h : ℕ) → (Contains news h → ⊥) → list_any (λ x. x == h) news ≡ false
+pub absent_any : (news : List ℕ) (h : ℕ) → (Contains news h → ⊥) → list_any (λ x. x == h) news ≡ false
 absent_any [] h absent = refl
 absent_any (x ∷ news) h absent =
     let rest = absent_any news h (λ there. absent (contains_later x news h there)) in

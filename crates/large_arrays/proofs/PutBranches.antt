@@ -1,8 +1,7 @@
 -- The document in which a root and some branches are put in, and others taken out.
-use Rattle.std.proofs.Common.{◌≡◌, ℕ, suc, ◌-◌, ◌≤◌, Bool, true, false, nat_le, List, [], ◌∷◌, ◌++◌, length, take, drop, map, Option, Some, None, is_some, refl, sym, ap, subst, ◌∙◌, inl, inr, arith, length-append, length-drop, leb-true, le-leb}
-use Rattle.std.proofs.lemmas.Bool.{and_parts, and_from}
+use Rattle.std.proofs.Common.{◌≡◌, ℕ, suc, ◌≤◌, true, false, nat_le, List, [], ◌∷◌, ◌++◌, length, take, drop, map, Option, Some, None, is_some, refl, sym, ap, subst, ◌∙◌, inl, inr, arith, length-append, length-drop, leb-true, le-leb}
+use Rattle.std.proofs.lemmas.Bool.{and_parts, and_from, true≢false}
 use Rattle.std.proofs.lemmas.List.{length-map, length-take}
-use Rattle.std.proofs.lemmas.List.Folds.{list_all-append}
 use Rattle.std.proofs.lemmas.List.Elements.{All-nil, All-cons, All-head, All-tail}
 use Rattle.std.specs.List.{All, AllZip, Contains, zip}
 use Rattle.std.specs.Option.{option_map_or}
@@ -11,17 +10,15 @@ use Rattle.geos_model.specs.Heap.{capacity}
 use Rattle.geos_model.specs.ElementArray.{all_distinct}
 use Rattle.geos_model.specs.Document.{Block, Document, IsValid, IsValidBlock, most_blocks, is_vm_handle, is_live, is_raw, no_attributes, attributes_of, handles_of, with_blocks, without_blocks}
 use Rattle.geos_model.proofs.Validity.{attributes-fit, raw-typed}
-use Rattle.geos_model.proofs.Chains.{contains_cases, contains_first, contains_later, chain-members}
-use Rattle.geos_model.proofs.BlockLists.{put_elsewhere, put_stands, put_map_block, put_valid, taken_elsewhere, taken_gone, taken_map_block, taken_valid, distinct-first}
+use Rattle.geos_model.proofs.Chains.{contains_cases, contains_first, contains_later}
+use Rattle.geos_model.proofs.BlockLists.{put_elsewhere, put_stands, put_map_block, put_valid, taken_elsewhere, taken_gone, taken_map_block, taken_valid}
 use Rattle.large_arrays.specs.Pieces.{BranchPiece, weight, branch_room, fits_branch, all_fit}
 use Rattle.large_arrays.specs.Layout.{Root, root_bytes, branch_bytes}
 use Rattle.large_arrays.specs.Window.{raw_block}
-use Rattle.large_arrays.proofs.RootBytes.{length-root_bytes}
 use Rattle.large_arrays.proofs.BranchBytes.{length-branch_bytes}
-use Rattle.large_arrays.proofs.Layouts.{HasBranch, HasLayout, raw-handle, layout-chain}
-use Rattle.large_arrays.proofs.Pairs.{pairs-length}
-use Rattle.large_arrays.proofs.DistinctHandles.{distinct-cons, there_before, there_behind}
-use Rattle.large_arrays.proofs.Replacing.{raw-there, olds, new_root, AreNamed, AreReplaced, AreGood, new-few, root_apart}
+use Rattle.large_arrays.proofs.Layouts.{HasBranch, raw-handle, raw-live}
+use Rattle.large_arrays.proofs.DistinctHandles.{distinct-cons}
+use Rattle.large_arrays.proofs.Replacing.{raw-there, olds, new_root, AreNamed, AreReplaced}
 
 -- branches under their handles
 abbrev pub branch_blocks : Document → ℕ → List ℕ → List BranchPiece → List (ℕ × Block)
@@ -80,9 +77,31 @@ no_type d h free = by_block (get d.blocks h) free
     by_block None free = refl
     by_block (Some b) free = absurd (cc free)
 
-module _ (d : Document) (b : ℕ) (r : Root) (pieces : List BranchPiece) (first behind : ℕ) (news freed : List ℕ) (placed : List BranchPiece)
-    (valid : IsValid d) (has : HasLayout d b r pieces) (named : AreNamed d b r pieces first behind news freed placed) (good : AreGood d b r pieces first behind news freed placed)
-    (no_map : Contains freed d.map_block → ⊥) where
+-- a root has as many counts as branches, with others in the place of some
+pub new_root-many : (d : Document) (b : ℕ) (r : Root) (pieces : List BranchPiece) (first behind : ℕ) (news freed : List ℕ) (placed : List BranchPiece)
+    → length r.branches ≡ length r.counts → length news ≡ length placed
+    → let root = new_root d b r pieces first behind news freed placed in length root.branches ≡ length root.counts
+new_root-many d b r pieces first behind news freed placed same as_many =
+    let mapped = length-map placed (λ (p : BranchPiece). length p) in
+    let front_counts = length-take first r.counts in
+    let front_branches = length-take first r.branches in
+    let back_counts = length-drop behind r.counts in
+    let back_branches = length-drop behind r.branches in
+    let inner_counts = length-append (map (λ p. length p) placed) (drop behind r.counts) in
+    let inner_branches = length-append news (drop behind r.branches) in
+    let all_counts = length-append (take first r.counts) (map (λ p. length p) placed ++ drop behind r.counts) in
+    let all_branches = length-append (take first r.branches) (news ++ drop behind r.branches) in
+    omega arith
+
+-- a raw block can have other bytes
+raw-can : (d : Document) (h : ℕ) → IsValid d → is_raw d h ≡ true → CanHave d h
+raw-can d h valid raw =
+    let low = raw-handle d valid h raw in record {
+      handle = and_from (nat_le 1 h) (nat_le h most_blocks) (le-leb 1 h low.0) (le-leb h most_blocks low.1);
+      typed = raw-typed d h valid raw;
+    }
+
+module _ (d : Document) (b : ℕ) (r : Root) (pieces : List BranchPiece) (first behind : ℕ) (news freed : List ℕ) (placed : List BranchPiece) where
   abbrev root : Root
   root = new_root d b r pieces first behind news freed placed
 
@@ -98,78 +117,67 @@ module _ (d : Document) (b : ℕ) (r : Root) (pieces : List BranchPiece) (first 
   abbrev pub replaced : Document
   replaced = with_blocks taken blocks
 
-  raw_there : (h : ℕ) → Contains (b ∷ r.branches) h → is_raw d h ≡ true
-  raw_there h there = (chain-members d b (b ∷ r.branches) (layout-chain d b r pieces valid has)).raw h there
+  -- The root and the branches that others replace stand there.
+  pub record CanPut : Type 0 where
+    pub raw : is_raw d b ≡ true
+    pub raw_olds : (h : ℕ) → Contains old_ones h → is_raw d h ≡ true
+    pub apart : Contains old_ones b → ⊥
 
-  can_old : (h : ℕ) → Contains (b ∷ r.branches) h → CanHave d h
-  can_old h there =
-      let low = raw-handle d valid h (raw_there h there) in record {
-        handle = and_from (nat_le 1 h) (nat_le h most_blocks) (le-leb 1 h low.0) (le-leb h most_blocks low.1);
-        typed = raw-typed d h valid (raw_there h there);
-      }
+  -- What comes has room in blocks, and the map block doesn't go.
+  pub record FitsPut : Type 0 where
+    pub fit : all_fit r.size placed ≡ true
+    pub long : length (root_bytes root) ≤ capacity
+    pub no_map : Contains freed d.map_block → ⊥
 
-  in_branches : (h : ℕ) → Contains old_ones h → Contains r.branches h
-  in_branches h there = there_behind first r.branches h (there_before (behind - first) (drop first r.branches) h there)
+  module _ (can : CanPut) (named : AreNamed d b r pieces first behind news freed placed) where
+    pub put-apart : Contains news b → ⊥
+    put-apart fresh = elim (named.from b fresh) [
+      | inl old ↦ can.apart old
+      | inr free ↦ true≢false (sym (raw-live d b can.raw) ∙ free.1)
+    ]
 
-  pub can_new : (h : ℕ) → Contains news h → CanHave d h
-  can_new h fresh = elim (named.from h fresh) [
-    | inl old ↦ can_old h (contains_later b r.branches h (in_branches h old))
-    | inr free ↦ record { handle = free.0; typed = no_type d h free.1 }
-  ]
+    pub can_new : IsValid d → (h : ℕ) → Contains news h → CanHave d h
+    can_new valid h fresh = elim (named.from h fresh) [
+      | inl old ↦ raw-can d h valid (can.raw_olds h old)
+      | inr free ↦ record { handle = free.0; typed = no_type d h free.1 }
+    ]
 
-  handles_are : handles_of blocks ≡ b ∷ news
-  handles_are = ap (λ (hs : List ℕ). b ∷ hs) (branch_blocks-handles d r.size news placed named.as_many)
+    pub put-handles : handles_of blocks ≡ b ∷ news
+    put-handles = ap (λ (hs : List ℕ). b ∷ hs) (branch_blocks-handles d r.size news placed named.as_many)
 
-  no_root : Contains news b → ⊥
-  no_root = root_apart d b r pieces first behind news freed placed valid has named
+    stand : All (λ p. get replaced.blocks p.0 ≡ Some p.1) blocks
+    stand = put_stands taken blocks (ap all_distinct put-handles ∙ distinct-cons b news put-apart named.once)
 
-  stand : All (λ p. get replaced.blocks p.0 ≡ Some p.1) blocks
-  stand = put_stands taken blocks (ap all_distinct handles_are ∙ distinct-cons b news no_root named.once)
+    -- what is no block that is put in is what it was, or gone
+    beside : (h : ℕ) → (Contains (b ∷ news) h → ⊥) → get replaced.blocks h ≡ get taken.blocks h
+    beside h other = put_elsewhere taken blocks h (λ there. other (subst (λ xs. Contains xs h) put-handles there))
 
-  -- what is no block that is put in is what it was, or gone
-  beside : (h : ℕ) → (Contains (b ∷ news) h → ⊥) → get replaced.blocks h ≡ get taken.blocks h
-  beside h other = put_elsewhere taken blocks h (λ there. other (subst (λ xs. Contains xs h) handles_are there))
+    pub put-map : replaced.map_block ≡ d.map_block
+    put-map = put_map_block taken blocks ∙ taken_map_block d freed
 
-  pub placed_fit : all_fit r.size placed ≡ true
-  placed_fit =
-      let test : BranchPiece → Bool = λ p. fits_branch r.size p in
-      let tail : List BranchPiece = placed ++ drop behind pieces in
-      let all = and_parts (all_fit r.size (take first pieces)) (all_fit r.size tail) (sym (list_all-append test (take first pieces) tail) ∙ good.fit) in
-      (and_parts (all_fit r.size placed) (all_fit r.size (drop behind pieces)) (sym (list_all-append test placed (drop behind pieces)) ∙ all.1)).0
+    pub put-root : get replaced.blocks b ≡ Some (raw_block d b (root_bytes root)).1
+    put-root = All-head (λ p. get replaced.blocks p.0 ≡ Some p.1) (raw_block d b (root_bytes root)) (branch_blocks d r.size news placed) stand
 
-  length_root : length (root_bytes root) ≤ capacity
-  length_root =
-      let counted = length-map pieces (λ (p : BranchPiece). length p) in
-      let counts : length r.counts ≡ length pieces = ap length has.counts ∙ counted in
-      let branches = pairs-length (HasBranch d r.size) r.branches pieces has.branches in
-      let mapped = length-map placed (λ (p : BranchPiece). length p) in
-      let as_many = named.as_many in
-      let few = new-few d b r pieces first behind news freed placed valid has named in
-      let front_counts = length-take first r.counts in
-      let front_branches = length-take first r.branches in
-      let back_counts = length-drop behind r.counts in
-      let back_branches = length-drop behind r.branches in
-      let inner_counts = length-append (map (λ p. length p) placed) (drop behind r.counts) in
-      let inner_branches = length-append news (drop behind r.branches) in
-      let all_counts = length-append (take first r.counts) (map (λ p. length p) placed ++ drop behind r.counts) in
-      let all_branches = length-append (take first r.branches) (news ++ drop behind r.branches) in
-      let same : length root.branches ≡ length root.counts = omega arith in
-      let long = length-root_bytes root same in
-      omega arith
+    pub put-elsewhere : (h : ℕ) → (Contains (b ∷ news) h → ⊥) → (Contains freed h → ⊥) → get replaced.blocks h ≡ get d.blocks h
+    put-elsewhere h other not_gone = beside h other ∙ taken_elsewhere d freed h not_gone
 
-  pub put-replaced : AreReplaced d b r pieces first behind news freed placed replaced
-  put-replaced = record {
-    valid = put_valid taken blocks (taken_valid d freed valid no_map)
+    pub put-valid : IsValid d → FitsPut → IsValid replaced
+    put-valid valid fits =
+        put_valid taken blocks (taken_valid d freed valid fits.no_map)
         (All-cons (λ p. IsValidBlock p.0 p.1) (raw_block d b (root_bytes root)) (branch_blocks d r.size news placed)
-        (can_put d b (root_bytes root) valid (can_old b (contains_first b r.branches)) length_root)
-        (branch_blocks-valid d r.size news placed valid can_new placed_fit));
-    map_block = put_map_block taken blocks ∙ taken_map_block d freed;
-    root = All-head (λ p. get replaced.blocks p.0 ≡ Some p.1) (raw_block d b (root_bytes root)) (branch_blocks d r.size news placed) stand;
-    put = branch_blocks-stand d replaced r.size news placed named.as_many (All-tail (λ p. get replaced.blocks p.0 ≡ Some p.1) (raw_block d b (root_bytes root)) (branch_blocks d r.size news placed) stand);
-    elsewhere = λ h other not_gone. beside h other ∙ taken_elsewhere d freed h not_gone;
-    gone = λ h free.
-        beside h (λ there. elim (contains_cases b news h there) [
-          | inl is ↦ distinct-first b r.branches has.once (subst (Contains r.branches) (sym is) (in_branches h (named.freed_old h free)))
-          | inr fresh ↦ named.freed_not h free fresh
-        ]) ∙ taken_gone d freed h free;
-  }
+        (can_put d b (root_bytes root) valid (raw-can d b valid can.raw) fits.long)
+        (branch_blocks-valid d r.size news placed valid (can_new valid) fits.fit))
+
+    pub put-replaced : IsValid d → FitsPut → AreReplaced d b r pieces first behind news freed placed replaced
+    put-replaced valid fits = record {
+      valid = put-valid valid fits;
+      map_block = put-map;
+      root = put-root;
+      put = branch_blocks-stand d replaced r.size news placed named.as_many (All-tail (λ p. get replaced.blocks p.0 ≡ Some p.1) (raw_block d b (root_bytes root)) (branch_blocks d r.size news placed) stand);
+      elsewhere = put-elsewhere;
+      gone = λ h free.
+          beside h (λ there. elim (contains_cases b news h there) [
+            | inl is ↦ can.apart (subst (Contains old_ones) (sym is) (named.freed_old h free))
+            | inr fresh ↦ named.freed_not h free fresh
+          ]) ∙ taken_gone d freed h free;
+    }

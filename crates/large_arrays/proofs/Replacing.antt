@@ -1,7 +1,7 @@
 -- A document in which some branches of a large array are replaced by others is that of the array with others in the
 -- place of those pieces.
-use Rattle.std.proofs.Common.{◌≡◌, ℕ, ◌+◌, ◌-◌, ◌≤◌, true, false, not, nat_le, ◌==◌, List, [], ◌∷◌, ◌++◌, length, take, drop, map, Option, Some, None, is_some, unwrap_or, refl, sym, ap, ap₂, subst, ◌∙◌, ◌⊎◌, inl, inr, arith, leb-true}
-use Rattle.std.proofs.lemmas.Bool.{cases_Bool, and_parts, eqb-true, eq-eqb, true≢false}
+use Rattle.std.proofs.Common.{◌≡◌, ℕ, ◌+◌, ◌-◌, ◌≤◌, true, false, not, ◌==◌, List, [], ◌∷◌, ◌++◌, length, take, drop, map, Option, Some, None, is_some, unwrap_or, refl, sym, ap, ap₂, subst, ◌∙◌, ◌⊎◌, inl, inr, arith}
+use Rattle.std.proofs.lemmas.Bool.{cases_Bool, eqb-true, eq-eqb, true≢false}
 use Rattle.std.proofs.lemmas.List.{take-append-drop, drop-drop, map-append}
 use Rattle.std.proofs.lemmas.List.{take-map, drop-map}
 use Rattle.std.proofs.lemmas.List.Elements.{Contains-append_left, Contains-append_right, Contains-append_cases}
@@ -9,7 +9,7 @@ use Rattle.std.specs.List.{AllZip, Contains, splice}
 use Rattle.std.specs.Option.{option_map_or}
 use Rattle.std.specs.FinMap.{get}
 use Rattle.geos_model.specs.ElementArray.{all_distinct}
-use Rattle.geos_model.specs.Document.{Block, Document, IsValid, most_blocks, is_vm_handle, is_heap_body, bytes_of_body, no_attributes, is_live, is_raw, raw_bytes_of, attributes_of}
+use Rattle.geos_model.specs.Document.{Block, Document, IsValid, is_vm_handle, is_heap_body, bytes_of_body, no_attributes, is_live, is_raw, raw_bytes_of, attributes_of}
 use Rattle.geos_model.specs.Chain.{chain_blocks}
 use Rattle.geos_model.specs.declared.command.Body.TheVariants.{Raw}
 use Rattle.geos_model.proofs.Chains.{contains_cases, contains_first, contains_later, chain-members}
@@ -19,9 +19,9 @@ use Rattle.large_arrays.specs.Layout.{Root, root_bytes, is_root}
 use Rattle.large_arrays.specs.Blocks.{pieces_at}
 use Rattle.large_arrays.specs.EditLaws.{IsEdited}
 use Rattle.large_arrays.specs.ChangeLaws.{HasOtherBytes}
-use Rattle.large_arrays.proofs.Layouts.{HasBranch, HasLayout, all_sized, raw-handle, layout-root, layout-pieces, layout-chain, layout-array}
+use Rattle.large_arrays.proofs.Layouts.{HasBranch, HasLayout, all_sized, layout-root, layout-pieces, layout-chain, layout-array}
 use Rattle.large_arrays.proofs.Pairs.{pairs-length, pairs-append, pairs-take, pairs-drop}
-use Rattle.large_arrays.proofs.DistinctHandles.{contained-few, distinct-few, distinct-cons, distinct-append, distinct-parts, there_before, there_behind}
+use Rattle.large_arrays.proofs.DistinctHandles.{contained-few, distinct-cons, distinct-append, distinct-parts, there_before, there_behind}
 
 -- a raw block under a handle
 pub raw-there : (d : Document) (h : ℕ) (block : Block) (bytes : List ℕ) → get d.blocks h ≡ Some block → block.body ≡ Raw bytes
@@ -184,32 +184,6 @@ module _ (d : Document) (b : ℕ) (r : Root) (pieces : List BranchPiece) (first 
           | inl fresh ↦ front_apart h there fresh
           | inr end ↦ halves.2 h there (Contains-append_right olds back h end)
         ]))
-
-    -- the handles are those of a document
-    pub new_handle : (h : ℕ) → Contains news h → (1 ≤ h) × (h ≤ most_blocks)
-    new_handle h fresh = elim (named.from h fresh) [
-      | inl old ↦ old_handle h (contains_later b r.branches h (in_olds h old))
-      | inr free ↦ (let two = and_parts (nat_le 1 h) (nat_le h most_blocks) free.0 in (leb-true 1 h two.0, leb-true h most_blocks two.1))
-    ]
-      where
-        old_handle : (h : ℕ) → Contains (b ∷ r.branches) h → (1 ≤ h) × (h ≤ most_blocks)
-        old_handle h there = raw-handle d valid h ((chain-members d b (b ∷ r.branches) (layout-chain d b r pieces valid has)).raw h there)
-
-    pub new-few : length new_branches ≤ most_blocks
-    new-few =
-        let raw = (chain-members d b (b ∷ r.branches) (layout-chain d b r pieces valid has)).raw in
-        let old : (h : ℕ) → Contains (b ∷ r.branches) h → h ≤ most_blocks = λ h there. (raw-handle d valid h (raw h there)).1 in
-        let few = distinct-few most_blocks (b ∷ new_branches) once_new (λ h there. elim (contains_cases b new_branches h there) [
-          | inl is ↦ old h (subst (Contains (b ∷ r.branches)) is (contains_first b r.branches))
-          | inr within ↦ elim (Contains-append_cases front (news ++ back) h within) [
-            | inl early ↦ old h (contains_later b r.branches h (in_front h early))
-            | inr later ↦ elim (Contains-append_cases news back h later) [
-              | inl fresh ↦ (new_handle h fresh).1
-              | inr end ↦ old h (contains_later b r.branches h (in_back h end))
-            ]
-          ]
-        ]) in
-        omega arith
 
     module _ (new : Document) (replaced : AreReplaced new) (good : AreGood) where
       -- what stays is as it was

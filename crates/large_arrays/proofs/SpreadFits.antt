@@ -23,6 +23,13 @@ each-of size (x ∷ xs) all =
     let parts = part-fits size (x ∷ []) xs all in
     and_from (fits_branch size (x ∷ [])) (each_fits size xs) parts.0 (each-of size xs parts.1)
 
+-- and two that are joined do
+pub joined-fits : (size : ℕ) (xs ys : BranchPiece) → are_joined size xs ys ≡ true → fits_branch size (xs ++ ys) ≡ true
+joined-fits size xs ys joined =
+    let sum = weight-append size xs ys in
+    let most = leb-true (weight size xs + weight size ys) join_room joined in
+    le-leb (weight size (xs ++ ys)) branch_room (omega (arith, sum, most))
+
 pub packed-fits : (size : ℕ) (y xs : BranchPiece) → fits_branch size y ≡ true → each_fits size xs ≡ true → all_fit size (packed_from size y xs) ≡ true
 packed-fits size [] [] first each = refl
 packed-fits size (y ∷ ys) [] first each = and_from (fits_branch size (y ∷ ys)) true first refl
@@ -58,8 +65,7 @@ with_first-fits size (y ∷ ys) (x ∷ ps) first all =
     let parts = and_parts (fits_branch size x) (all_fit size ps) all in
     let b = are_joined size (y ∷ ys) x in
     elim (cases_Bool b) [
-      | inl joined ↦ (let sum = weight-append size (y ∷ ys) x in let most = leb-true (weight size (y ∷ ys) + weight size x) join_room joined in
-          ap (all_fit size) (cond-true b _ _ joined) ∙ and_from (fits_branch size ((y ∷ ys) ++ x)) (all_fit size ps) (le-leb (weight size ((y ∷ ys) ++ x)) branch_room (omega (arith, sum, most))) parts.1)
+      | inl joined ↦ ap (all_fit size) (cond-true b _ _ joined) ∙ and_from (fits_branch size ((y ∷ ys) ++ x)) (all_fit size ps) (joined-fits size (y ∷ ys) x joined) parts.1
       | inr apart ↦ ap (all_fit size) (cond-false b _ _ apart) ∙ and_from (fits_branch size (y ∷ ys)) (all_fit size (x ∷ ps)) first all
     ]
 
@@ -96,17 +102,19 @@ pub room-few : (same : Bool) → room_of same ≤ branch_room
 room-few true = omega arith
 room-few false = omega arith
 
-middle-fits : (size : ℕ) (ps : List BranchPiece) (i j : ℕ) (new : BranchPiece) → all_fit size ps ≡ true → each_fits size new ≡ true → all_fit size (middle size ps i j new) ≡ true
-middle-fits size ps i j new all each =
+-- what comes in the place of a run, where its first and its last piece fit
+pub middle-fits : (size : ℕ) (ps : List BranchPiece) (i j : ℕ) (new : BranchPiece) → fits_branch size (get_or ps (first_place (map length ps) i j).0 []) ≡ true
+    → fits_branch size (get_or ps (end_place (map length ps) j).0 []) ≡ true → each_fits size new ≡ true → all_fit size (middle size ps i j new) ≡ true
+middle-fits size ps i j new first last each =
     let from = first_place (map length ps) i j in
     let to = end_place (map length ps) j in
     let head = take from.1 (get_or ps from.0 []) in
     let tail = drop to.1 (get_or ps to.0 []) in
     let kept : each_fits size (head ++ new) ≡ true =
     list_all-append (λ (x : List ℕ). fits_branch size (x ∷ [])) head new
-    ∙ and_from (each_fits size head) (each_fits size new) (each-of size head (taken-fits size from.1 (get_or ps from.0 []) (got-fits size ps from.0 all))) each in
+    ∙ and_from (each_fits size head) (each_fits size new) (each-of size head (taken-fits size from.1 (get_or ps from.0 []) first)) each in
     with_last-fits size (room_of (from.0 == to.0)) (packed_from size [] (head ++ new)) tail (room-few (from.0 == to.0))
-    (packed-fits size [] (head ++ new) refl kept) (dropped-fits size to.1 (get_or ps to.0 []) (got-fits size ps to.0 all))
+    (packed-fits size [] (head ++ new) refl kept) (dropped-fits size to.1 (get_or ps to.0 []) last)
 
 taken_all : (size n : ℕ) (ps : List BranchPiece) → all_fit size ps ≡ true → (all_fit size (take n ps) ≡ true) × (all_fit size (drop n ps) ≡ true)
 taken_all size n ps all =
@@ -126,7 +134,8 @@ respread-fits size ps i j new all each =
     let within : all_fit size mid ≡ true =
     if_none-fits size (with_last size join_room (with_first size (left_piece ps i j) (middle size ps i j new)) (right_piece ps j))
     (with_last-fits size join_room (with_first size (left_piece ps i j) (middle size ps i j new)) (right_piece ps j) (room-few false)
-    (with_first-fits size (left_piece ps i j) (middle size ps i j new) (before-fits size ps from.0 all) (middle-fits size ps i j new all each))
+    (with_first-fits size (left_piece ps i j) (middle size ps i j new) (before-fits size ps from.0 all)
+    (middle-fits size ps i j new (got-fits size ps from.0 all) (got-fits size ps to.0 all) each))
     (got-fits size ps (suc to.0) all)) in
     list_all-append (λ (p : BranchPiece). fits_branch size p) (first ++ mid) last
     ∙ and_from (all_fit size (first ++ mid)) (all_fit size last)

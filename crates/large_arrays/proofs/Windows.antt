@@ -1,11 +1,12 @@
 -- The pieces that an edit replaces, and those that come in their place: all others stay.
 use Rattle.std.proofs.Common.{◌≡◌, ℕ, Bool, true, false, ◌&&◌, zero, suc, ◌+◌, ◌-◌, ◌<◌, ◌≤◌, ◌==◌, nat_lt, if◌then◌else◌, List, [], ◌∷◌, ◌++◌, length, take, drop, map, get_or, refl, sym, ap, ap₂, ◌∙◌, inl, inr, append_assoc, length-append, length-drop, ltb-true, ltb-false, take_at, drop_at, arith}
-use Rattle.std.proofs.lemmas.Bool.{cases_Bool, cond-true, cond-false, and_parts, lt-ltb, eqb-true}
+use Rattle.std.proofs.lemmas.Bool.{cases_Bool, cond-true, cond-false, and_parts, and_from, lt-ltb, eqb-true}
 use Rattle.std.proofs.lemmas.List.{append-nil, length-take-le, drop_all, get_or_past}
 use Rattle.std.specs.List.{splice}
-use Rattle.large_arrays.specs.Pieces.{BranchPiece, join_room, are_joined}
+use Rattle.large_arrays.specs.Pieces.{BranchPiece, join_room, are_joined, fits_branch, all_fit}
 use Rattle.large_arrays.specs.Spread.{end_place, first_place, middle, piece_before, left_piece, right_piece, with_first, with_last, around, respread, if_none}
 use Rattle.large_arrays.specs.Window.{left_joins, right_joins, window_first, window_end, window_pieces}
+use Rattle.large_arrays.proofs.SpreadFits.{joined-fits}
 use Rattle.large_arrays.proofs.SpreadSides.{is_full, whole, got-full, many-full, sides}
 use Rattle.large_arrays.proofs.SpreadPlaces.{first-end}
 use Rattle.large_arrays.proofs.SpreadStays.{begins}
@@ -38,14 +39,15 @@ record CutRight (size : ℕ) (y : BranchPiece) (ys : List BranchPiece) (r : Bran
   rest : List BranchPiece
   is : with_last size join_room (y ∷ ys) r ≡ rest ++ unjoined (there r && are_joined size (last (y ∷ ys)) r) r
   few : length rest ≤ suc (length ys)
+  fit : all_fit size (y ∷ ys) ≡ true → all_fit size rest ≡ true
 
-last-next : (y next : BranchPiece) (ys : List BranchPiece) → last (y ∷ next ∷ ys) ≡ last (next ∷ ys)
+pub last-next : (y next : BranchPiece) (ys : List BranchPiece) → last (y ∷ next ∷ ys) ≡ last (next ∷ ys)
 last-next y next ys =
     let less : length (y ∷ next ∷ ys) - 1 ≡ suc (length (next ∷ ys) - 1) = omega arith in
     ap (λ (k : ℕ). get_or (y ∷ next ∷ ys) k []) less
 
 cut_right : (size : ℕ) (y : BranchPiece) (ys : List BranchPiece) (r : BranchPiece) → CutRight size y ys r
-cut_right size y ys [] = record { rest = y ∷ ys; is = sym (append-nil (y ∷ ys)); few = omega arith }
+cut_right size y ys [] = record { rest = y ∷ ys; is = sym (append-nil (y ∷ ys)); few = omega arith; fit = λ all. all }
 cut_right size y [] (x ∷ xs) =
     let b = are_joined size y (x ∷ xs) in
     elim (cases_Bool b) [
@@ -53,11 +55,13 @@ cut_right size y [] (x ∷ xs) =
         rest = (y ++ x ∷ xs) ∷ [];
         is = cond-true b _ _ joined ∙ ap (λ (c : Bool). (y ++ x ∷ xs) ∷ unjoined c (x ∷ xs)) (sym joined);
         few = omega arith;
+        fit = λ all. and_from (fits_branch size (y ++ x ∷ xs)) true (joined-fits size y (x ∷ xs) joined) refl;
       }
       | inr apart ↦ record {
         rest = y ∷ [];
         is = cond-false b _ _ apart ∙ ap (λ (c : Bool). y ∷ unjoined c (x ∷ xs)) (sym apart);
         few = omega arith;
+        fit = λ all. all;
       }
     ]
 cut_right size y (next ∷ ys) (x ∷ xs) =
@@ -67,6 +71,9 @@ cut_right size y (next ∷ ys) (x ∷ xs) =
           ap (λ (ps : List BranchPiece). y ∷ ps) more.is
           ∙ ap (λ (p : BranchPiece). y ∷ (more.rest ++ unjoined (are_joined size p (x ∷ xs)) (x ∷ xs))) (sym (last-next y next ys));
       few = (let rest = more.few in omega arith);
+      fit = λ all.
+          let parts = and_parts (fits_branch size y) (all_fit size (next ∷ ys)) all in
+          and_from (fits_branch size y) (all_fit size more.rest) parts.0 (more.fit parts.1);
     }
 
 -- Both neighbours, where they aren't joined.
@@ -74,6 +81,7 @@ record Cut (size : ℕ) (l : BranchPiece) (mid : List BranchPiece) (r : BranchPi
   pub rest : List BranchPiece
   pub is : if_none (whole size l mid r) ≡ unjoined (joins_left size l mid r) l ++ (rest ++ unjoined (joins_right size l mid r) r)
   pub few : length rest ≤ suc (length mid)
+  pub fit : all_fit size mid ≡ true → all_fit size rest ≡ true
 
 -- what is joined to the right, where there is a piece
 joins_right-some : (size : ℕ) (l : BranchPiece) (mid : List BranchPiece) (r y : BranchPiece) (ys : List BranchPiece) → with_first size l mid ≡ y ∷ ys
@@ -107,19 +115,21 @@ if_none-begun size y [] (x ∷ xs) =
 -- from a first piece on
 cut_begun : (size : ℕ) (l : BranchPiece) (mid : List BranchPiece) (r y : BranchPiece) (ys : List BranchPiece) → with_first size l mid ≡ y ∷ ys
     → (rest : List BranchPiece) × (if_none (whole size l mid r) ≡ rest ++ unjoined (joins_right size l mid r) r) × (length rest ≤ suc (length ys))
+    × (all_fit size (y ∷ ys) ≡ true → all_fit size rest ≡ true)
 cut_begun size l mid r y ys is =
     let right = cut_right size y ys r in (
       right.rest,
       ap (λ (ps : List BranchPiece). if_none (with_last size join_room ps r)) is ∙ if_none-begun size y ys r ∙ right.is
           ∙ ap (λ (b : Bool). right.rest ++ unjoined b r) (sym (joins_right-some size l mid r y ys is)),
       right.few,
+      right.fit,
     )
 
 cut : (size : ℕ) (l : BranchPiece) (mid : List BranchPiece) (r : BranchPiece) → Cut size l mid r
-cut size [] [] [] = record { rest = [] ∷ []; is = refl; few = omega arith }
-cut size [] [] (x ∷ xs) = record { rest = []; is = refl; few = omega arith }
-cut size [] (m ∷ ms) r = (let right = cut_begun size [] (m ∷ ms) r m ms refl in let most = right.2 in record { rest = right.0; is = right.1; few = omega arith })
-cut size (z ∷ zs) [] [] = record { rest = []; is = refl; few = omega arith }
+cut size [] [] [] = record { rest = [] ∷ []; is = refl; few = omega arith; fit = λ all. refl }
+cut size [] [] (x ∷ xs) = record { rest = []; is = refl; few = omega arith; fit = λ all. refl }
+cut size [] (m ∷ ms) r = (let right = cut_begun size [] (m ∷ ms) r m ms refl in let most = right.2 in record { rest = right.0; is = right.1; few = omega arith; fit = right.3 })
+cut size (z ∷ zs) [] [] = record { rest = []; is = refl; few = omega arith; fit = λ all. refl }
 cut size (z ∷ zs) [] (x ∷ xs) =
     let b = are_joined size (z ∷ zs) (x ∷ xs) in
     elim (cases_Bool b) [
@@ -127,11 +137,13 @@ cut size (z ∷ zs) [] (x ∷ xs) =
         rest = ((z ∷ zs) ++ x ∷ xs) ∷ [];
         is = ap if_none (cond-true b _ _ joined) ∙ ap (λ (c : Bool). unjoined c (z ∷ zs) ++ (((z ∷ zs) ++ x ∷ xs) ∷ unjoined c (x ∷ xs))) (sym joined);
         few = omega arith;
+        fit = λ all. and_from (fits_branch size ((z ∷ zs) ++ x ∷ xs)) true (joined-fits size (z ∷ zs) (x ∷ xs) joined) refl;
       }
       | inr apart ↦ record {
         rest = [];
         is = ap if_none (cond-false b _ _ apart) ∙ ap (λ (c : Bool). unjoined c (z ∷ zs) ++ unjoined c (x ∷ xs)) (sym apart);
         few = omega arith;
+        fit = λ all. refl;
       }
     ]
 cut size (z ∷ zs) (m ∷ ms) r =
@@ -144,6 +156,8 @@ cut size (z ∷ zs) (m ∷ ms) r =
             rest = right.0;
             is = right.1 ∙ ap (λ (c : Bool). unjoined c l ++ (right.0 ++ unjoined (joins_right size l (m ∷ ms) r) r)) (sym (left ∙ joined));
             few = (let most = right.2 in omega arith);
+            fit = λ all.
+                right.3 (and_from (fits_branch size (l ++ m)) (all_fit size ms) (joined-fits size l m joined) (and_parts (fits_branch size m) (all_fit size ms) all).1);
           })
       | inr apart ↦
           (let begun : with_first size l (m ∷ ms) ≡ l ∷ m ∷ ms = cond-false b _ _ apart in
@@ -157,6 +171,7 @@ cut size (z ∷ zs) (m ∷ ms) r =
                 ∙ under size l m ms r ∙ ap (λ (ps : List BranchPiece). l ∷ ps) right.is
                 ∙ ap₂ (λ (c e : Bool). unjoined c l ++ (right.rest ++ unjoined e r)) (sym (left ∙ apart)) (sym test);
             few = (let most = right.few in omega arith);
+            fit = right.fit;
           })
     ]
   where
@@ -246,6 +261,7 @@ pub record IsWindow (size : ℕ) (ps : List BranchPiece) (i j : ℕ) (new : Bran
   pub within : window_end size ps i j new ≤ length ps
   pub is : respread size ps i j new ≡ splice ps (window_first size ps i j new) (window_end size ps i j new) (window_pieces size ps i j new)
   pub few : length (window_pieces size ps i j new) ≤ suc (length (middle size ps i j new))
+  pub fit : all_fit size (middle size ps i j new) ≡ true → all_fit size (window_pieces size ps i j new) ≡ true
 
 module _ (size : ℕ) (ps : List BranchPiece) (i j : ℕ) (new : BranchPiece) (some : 0 < length ps) (full : is_full ps ≡ true) (order : i ≤ j) where
   abbrev f : ℕ
@@ -353,4 +369,5 @@ module _ (size : ℕ) (ps : List BranchPiece) (i j : ℕ) (new : BranchPiece) (s
         within = within;
         is = respread_is ∙ ap (λ (qs : List BranchPiece). fore ++ (qs ++ aft)) (sym placed);
         few = (let most = parts.few in let same = ap length placed in omega arith);
+        fit = λ all. ap (all_fit size) placed ∙ parts.fit all;
       }

@@ -1,5 +1,5 @@
 //! A branch of a large array, read where it lies.
-ghost use Rattle.std.specs.Prelude.{◌≡◌, ◌^◌, ◌<◌, ◌↔◌, Some, None, IsTrue, MatchResult};
+ghost use Rattle.std.specs.Prelude.{◌≡◌, ◌^◌, ◌<◌, ◌↔◌, Some, None, IsTrue, IfOk, MatchResult};
 ghost use Rattle.large_arrays.specs.Layout.{branch_of};
 ghost use Rattle.large_arrays.specs.BranchReading.{BeginsWithZero, IsPlain};
 
@@ -12,8 +12,9 @@ use lmem_heap::KnownBytes;
 /// vary. BadChain where they are none. It takes time in proportion to the number of elements, and no memory.
 pub fn read_branch<'a>(bytes: &'a [u8], size: usize, count: usize) -> Result<View<'a>, Fault>
     requires { size < 2 ^ 16 }
-    ensures { MatchResult result (λ view. branch_of size count bytes.now ≡ Some view.array.elements)
+    ensures value { MatchResult result (λ view. branch_of size count bytes.now ≡ Some view.array.elements)
         (λ fault. (fault ≡ Fault.BadChain) × (branch_of size count bytes.now ≡ None)) }
+    ensures plain { IfOk result (λ view. IsPlain view.array size count) }
 {
     if !begins_with_zero(bytes) {
         return Err(Fault::BadChain);

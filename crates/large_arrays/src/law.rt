@@ -1,5 +1,6 @@
 //! The laws of large arrays: each is the contract of a function that does nothing.
 ghost use Rattle.large_arrays.specs.ChangeLaws.{FewChangeLaw};
+ghost use Rattle.large_arrays.specs.DocumentLaws.{LargeStaysLaw, LargeValidityLaw};
 ghost use Rattle.large_arrays.specs.EditLaws.{LargeEditsLaw};
 ghost use Rattle.large_arrays.specs.SpreadLaws.{SpreadLaw};
 
@@ -18,4 +19,15 @@ pub fn large_edits_law()
 /// other bytes.
 pub fn few_change_law()
     ensures { FewChangeLaw }
+{}
+
+/// Whatever the document, also where branches are damaged, an edit that nothing refuses leaves a valid one.
+pub fn large_validity_law()
+    ensures { LargeValidityLaw }
+{}
+
+/// Whatever the document, an edit that nothing refuses changes no block that there is but the root and branches that it
+/// looks at.
+pub fn large_stays_law()
+    ensures { LargeStaysLaw }
 {}

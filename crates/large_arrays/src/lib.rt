@@ -2,9 +2,21 @@
 #![tactic(auto)]
 
 mod branch;
+mod cut_body;
+mod differences;
+mod handles;
 mod law;
+mod new_elements;
+mod piece;
 mod root;
+mod spot;
 
 pub use branch::read_branch;
-pub use law::{few_change_law, large_edits_law, spread_law};
+pub use cut_body::CutBody;
+pub use differences::body_differences;
+pub use handles::{OldBranch, blocks_needed, freed_handles, window_handles};
+pub use law::{few_change_law, large_edits_law, large_stays_law, large_validity_law, spread_law};
+pub use new_elements::NewElements;
+pub use piece::{BRANCH_ROOM, JOIN_ROOM, Piece};
 pub use root::{RootView, read_root};
+pub use spot::{BranchLink, Spot, links_from};

@@ -1,5 +1,5 @@
 //! The root of a large array, read where it lies.
-ghost use Rattle.std.specs.Prelude.{◌≡◌, ◌^◌, ◌<◌, ◌≤◌, ◌+◌, ◌*◌, ◌↔◌, Some, None, IsTrue, MatchResult, length, get_or, map, sum_by};
+ghost use Rattle.std.specs.Prelude.{◌≡◌, ◌^◌, ◌<◌, ◌≤◌, ◌+◌, ◌*◌, ◌↔◌, Some, None, true, is_some, IsTrue, MatchResult, length, get_or, map, sum_by};
 ghost use Rattle.std.specs.List.{range_with_len};
 ghost use Rattle.geos_model.specs.Words.{word_at, double_word_at};
 ghost use Rattle.geos_model.specs.Heap.{capacity};
@@ -66,6 +66,20 @@ pub fn read_root<'a>(bytes: &'a [u8]) -> Result<RootView<'a>, Fault>
         size,
         total,
     })
+}
+
+/// The root that these bytes of a raw body are, which are known to be one: nothing is tested.
+pub(crate) fn known_root<'a>(bytes: &'a [u8]) -> RootView<'a>
+    requires short { length bytes.now ≤ capacity }
+    requires root { is_some (root_of bytes.now) ≡ true }
+    ensures { root_of bytes.now ≡ Some result }
+{
+    RootView {
+        bytes,
+        branches: usize::from(word(bytes, 4)),
+        size: usize::from(word(bytes, 10)),
+        total: stored_total(bytes),
+    }
 }
 
 /// The word at a place.
@@ -175,6 +189,7 @@ impl<'a> RootView<'a> {
         ensures counts { result ≡ length self.now.counts }
         ensures branches { result ≡ length self.now.branches }
         ensures some { 0 < result }
+        ensures few { result < 2 ^ 16 }
     {
         self.branches
     }
@@ -197,7 +212,8 @@ impl<'a> RootView<'a> {
 
     /// In which branch an element is, or a run begins, and how many of that branch's elements are before it.
     pub fn start_place(&self, i: u32) -> (usize, u32)
-        ensures { result ≡ start_place self.now.counts i }
+        ensures value { result ≡ start_place self.now.counts i }
+        ensures within { result.0 < length self.now.counts }
     {
         let last = self.branches - 1;
         let mut left = i;
@@ -213,7 +229,8 @@ impl<'a> RootView<'a> {
 
     /// In which branch a run ends, or elements are put in, and how many of that branch's elements are before that.
     pub fn end_place(&self, i: u32) -> (usize, u32)
-        ensures { result ≡ end_place self.now.counts i }
+        ensures value { result ≡ end_place self.now.counts i }
+        ensures within { result.0 < length self.now.counts }
     {
         let last = self.branches - 1;
         let mut left = i;

@@ -1,4 +1,5 @@
-use Rattle.std.proofs.Common.{◌∙◌, sym, ap, length}
+use Rattle.std.proofs.Common.{◌∙◌, sym, ap, length, arith}
+use Rattle.chunk_arrays.proofs.CutLemmas.{word_at-lt}
 use Rattle.large_arrays.specs.Layout.{Root}
 use Rattle.large_arrays.proofs.RootLemmas.{length-counts_read, length-branches_read}
 use Rattle.large_arrays.proofs.root.RootView.branches.Goals as goal
@@ -10,3 +11,6 @@ returns-clause-counts c =
 pub returns-clause-branches : goal.returns-clause-branches
 returns-clause-branches c =
     c.self.invariant.branches ∙ sym (length-branches_read c.self.inside.bytes.now) ∙ ap (λ (r : Root). length r.branches) c.self.view_is
+
+pub returns-clause-few : goal.returns-clause-few
+returns-clause-few c = let low = word_at-lt c.self.inside.bytes.now c.self.invariant.are_bytes 4 in let is = c.self.invariant.branches in omega (arith, low, is)

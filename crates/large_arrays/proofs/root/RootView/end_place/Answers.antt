@@ -29,8 +29,8 @@ loop-k-preserved c =
     ∙ end-next counts k left (omega (arith, many, all, low)) (omega (arith, count, past))
     ∙ ap (λ (x : ℕ). shifted (k + 1) (end_place (drop (k + 1) counts) (left - x))) (sym count)
 
-pub returns : goal.returns
-returns c =
+pub returns-clause-value : goal.returns-clause-value
+returns-clause-value c =
     let bytes : List ℕ = c.self.inside.bytes.now in
     let counts : List ℕ = c.args.self.now.counts in
     let k : ℕ = c.loop-k.k in
@@ -42,3 +42,19 @@ returns c =
     let upto = c.loop-k.auto.k-end in
     let end : k + 0 ≡ c.self.inside.branches - 1 = omega (arith, from, upto) in
     sym (c.loop-k.invariant ∙ ap (shifted k) (end-last counts k left (omega (arith, many, all, some, from, upto))) ∙ ap (λ (m : ℕ). (m, left)) end)
+
+pub returns-then-left-count-clause-within : goal.returns-then-left-count-clause-within
+returns-then-left-count-clause-within c =
+    let bytes : List ℕ = c.self.inside.bytes.now in
+    let many : length c.args.self.now.counts ≡ branches_in bytes = ap (λ (r : Root). length r.counts) (sym c.self.view_is) ∙ length-counts_read bytes in
+    let all = c.self.invariant.branches in
+    let low = c.loop-k-test.true in
+    omega (arith, many, all, low)
+
+pub returns-clause-within : goal.returns-clause-within
+returns-clause-within c =
+    let bytes : List ℕ = c.self.inside.bytes.now in
+    let many : length c.args.self.now.counts ≡ branches_in bytes = ap (λ (r : Root). length r.counts) (sym c.self.view_is) ∙ length-counts_read bytes in
+    let all = c.self.invariant.branches in
+    let some = c.self.invariant.parts.head.length.some in
+    omega (arith, many, all, some)

@@ -1,0 +1,6 @@
+use Rattle.std.proofs.Common.{◌≡◌, ◌++◌, take}
+use Rattle.large_arrays.specs.HandleLists.{numbers, old_handles}
+use Rattle.large_arrays.proofs.handles.push_handles.Given as goal
+
+abbrev pub invariant-loop-old : goal.invariant-loop-old
+invariant-loop-old l = numbers l.handles.items ≡ numbers l.initial.handles.items ++ old_handles (take l.old-index l.olds)
