@@ -1,9 +1,9 @@
 -- Handles of which none is there twice.
-use Rattle.std.proofs.Common.{◌≡◌, ℕ, suc, ◌+◌, ◌*◌, ◌≤◌, Bool, true, false, not, ◌||◌, ◌==◌, if◌then◌else◌, nat_lt, cond, List, [], ◌∷◌, ◌++◌, length, take, drop, get_or, replicate, Option, None, is_none, count_by, refl, sym, ap, subst, ◌∙◌, inl, inr, arith, lt-ltb}
+use Rattle.std.proofs.Common.{◌≡◌, ℕ, suc, ◌+◌, ◌*◌, ◌≤◌, Bool, true, false, not, ◌||◌, ◌==◌, if◌then◌else◌, nat_lt, cond, List, [], ◌∷◌, ◌++◌, length, take, drop, filter, get_or, replicate, Option, None, is_none, count_by, refl, sym, ap, subst, ◌∙◌, inl, inr, arith, lt-ltb}
 use Rattle.std.proofs.lemmas.Bool.{cases_Bool, and_from, not_from_false, eqb-true, cond-true, cond-false, eq-eqb, true≢false}
 use Rattle.std.proofs.lemmas.List.{length-replicate, get_or-replicate, take-append-drop}
 use Rattle.std.proofs.lemmas.List.Folds.{sum_by-replicate}
-use Rattle.std.proofs.lemmas.List.Elements.{Contains-append_left, Contains-append_right, Contains-append_cases}
+use Rattle.std.proofs.lemmas.List.Elements.{Contains-append_left, Contains-append_right, Contains-append_cases, All-contains, All-contains_itself, All-filter}
 use Rattle.std.specs.List.{Contains, list_any, list_all}
 use Rattle.geos_model.specs.ElementArray.{Element, all_distinct}
 use Rattle.geos_model.proofs.Chains.{contains_cases, contains_first, contains_later}
@@ -79,6 +79,18 @@ distinct-parts (x ∷ xs) ys once =
         | inr later ↦ rest.2 h later last
       ],
     )
+
+-- some of them
+pub distinct-filter : (p : ℕ → Bool) (hs : List ℕ) → all_distinct hs ≡ true → all_distinct (filter p hs) ≡ true
+distinct-filter p [] once = refl
+distinct-filter p (h ∷ hs) once =
+    let rest = distinct-filter p hs (distinct-rest h hs once) in
+    let absent : Contains (filter p hs) h → ⊥ =
+    λ there. distinct-first h hs once (All-contains (Contains hs) (filter p hs) h (All-filter p (Contains hs) hs (All-contains_itself hs)) there) in
+    elim (cases_Bool (p h)) [
+      | inl keep ↦ ap all_distinct (cond-true (p h) (h ∷ filter p hs) (filter p hs) keep) ∙ distinct-cons h (filter p hs) absent rest
+      | inr go ↦ ap all_distinct (cond-false (p h) (h ∷ filter p hs) (filter p hs) go) ∙ rest
+    ]
 
 -- what is among the first or among the rest is there
 pub there_before : (n : ℕ) (hs : List ℕ) (h : ℕ) → Contains (take n hs) h → Contains hs h

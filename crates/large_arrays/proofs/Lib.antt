@@ -29,6 +29,7 @@ pub mod Overwriting
 pub mod Inserting
 pub mod Creating
 pub mod ValidEdits
+pub mod LargeReaching
 pub mod RootLemmas
 pub mod PlaceSteps
 pub mod BranchLemmas
@@ -39,3 +40,7 @@ pub mod NewElementsLemmas
 pub mod BodyLemmas
 pub mod CommonParts
 pub mod Differing
+pub mod RootRuns
+pub mod Marking
+pub mod RefusalOrder
+pub mod LoadedBlocks

@@ -108,14 +108,14 @@ module _ (d : Document) (b : ℕ) (r : Root) (pieces : List BranchPiece) (first 
   abbrev old_ones : List ℕ
   old_ones = olds d b r pieces first behind news freed placed
 
-  abbrev blocks : List (ℕ × Block)
-  blocks = raw_block d b (root_bytes root) ∷ branch_blocks d r.size news placed
+  abbrev pub put_in : List (ℕ × Block)
+  put_in = raw_block d b (root_bytes root) ∷ branch_blocks d r.size news placed
 
   abbrev taken : Document
   taken = without_blocks d freed
 
   abbrev pub replaced : Document
-  replaced = with_blocks taken blocks
+  replaced = with_blocks taken put_in
 
   -- The root and the branches that others replace stand there.
   pub record CanPut : Type 0 where
@@ -142,18 +142,18 @@ module _ (d : Document) (b : ℕ) (r : Root) (pieces : List BranchPiece) (first 
       | inr free ↦ record { handle = free.0; typed = no_type d h free.1 }
     ]
 
-    pub put-handles : handles_of blocks ≡ b ∷ news
+    pub put-handles : handles_of put_in ≡ b ∷ news
     put-handles = ap (λ (hs : List ℕ). b ∷ hs) (branch_blocks-handles d r.size news placed named.as_many)
 
-    stand : All (λ p. get replaced.blocks p.0 ≡ Some p.1) blocks
-    stand = put_stands taken blocks (ap all_distinct put-handles ∙ distinct-cons b news put-apart named.once)
+    stand : All (λ p. get replaced.blocks p.0 ≡ Some p.1) put_in
+    stand = put_stands taken put_in (ap all_distinct put-handles ∙ distinct-cons b news put-apart named.once)
 
     -- what is no block that is put in is what it was, or gone
     beside : (h : ℕ) → (Contains (b ∷ news) h → ⊥) → get replaced.blocks h ≡ get taken.blocks h
-    beside h other = put_elsewhere taken blocks h (λ there. other (subst (λ xs. Contains xs h) put-handles there))
+    beside h other = put_elsewhere taken put_in h (λ there. other (subst (λ xs. Contains xs h) put-handles there))
 
     pub put-map : replaced.map_block ≡ d.map_block
-    put-map = put_map_block taken blocks ∙ taken_map_block d freed
+    put-map = put_map_block taken put_in ∙ taken_map_block d freed
 
     pub put-root : get replaced.blocks b ≡ Some (raw_block d b (root_bytes root)).1
     put-root = All-head (λ p. get replaced.blocks p.0 ≡ Some p.1) (raw_block d b (root_bytes root)) (branch_blocks d r.size news placed) stand
@@ -163,7 +163,7 @@ module _ (d : Document) (b : ℕ) (r : Root) (pieces : List BranchPiece) (first 
 
     pub put-valid : IsValid d → FitsPut → IsValid replaced
     put-valid valid fits =
-        put_valid taken blocks (taken_valid d freed valid fits.no_map)
+        put_valid taken put_in (taken_valid d freed valid fits.no_map)
         (All-cons (λ p. IsValidBlock p.0 p.1) (raw_block d b (root_bytes root)) (branch_blocks d r.size news placed)
         (can_put d b (root_bytes root) valid (raw-can d b valid can.raw) fits.long)
         (branch_blocks-valid d r.size news placed valid (can_new valid) fits.fit))

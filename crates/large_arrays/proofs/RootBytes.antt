@@ -15,7 +15,7 @@ use Rattle.large_arrays.specs.Layout.{Root, total_count, large_mark, greatest_el
 abbrev pub link_of : ℕ → List ℕ
 link_of h = word 0 ++ word h
 
-length-links : (hs : List ℕ) → length (flat_map link_of hs) ≡ 4 * length hs
+pub length-links : (hs : List ℕ) → length (flat_map link_of hs) ≡ 4 * length hs
 length-links [] = refl
 length-links (h ∷ hs) = (let rest = length-links hs in omega arith)
 

@@ -126,7 +126,7 @@ module _ (bytes : List ℕ) (are : AreByteValues bytes) (has : HasRoot bytes) wh
       ∙ ap (λ (m : ℕ). word m ++ drop 2 bytes) (sym has.head.marks.mark)
       ∙ word_rejoin bytes are 0 (omega arith)
 
-  links_are : flat_map link_of r.branches ≡ drop (16 + 2 * n) bytes
+  pub links_are : flat_map link_of r.branches ≡ drop (16 + 2 * n) bytes
   links_are =
       let all = long in
       let place : 18 + 2 * n ≡ 16 + 2 * n + 2 = omega arith in
@@ -138,14 +138,14 @@ module _ (bytes : List ℕ) (are : AreByteValues bytes) (has : HasRoot bytes) wh
       ∙ links_rejoin bytes are (16 + 2 * n) 0 n (omega arith) (λ i _ low. has.zeros i (omega arith))
       ∙ ap (λ (m : ℕ). drop m bytes) start
 
-  behind_are : flat_map word r.counts ++ flat_map link_of r.branches ≡ drop 16 bytes
+  pub behind_are : flat_map word r.counts ++ flat_map link_of r.branches ≡ drop 16 bytes
   behind_are =
       let all = long in
       let end : 16 + 2 * n ≡ 16 + 2 * (0 + n) = omega arith in
       ap (λ (l : List ℕ). flat_map word r.counts ++ l) (links_are ∙ ap (λ (m : ℕ). drop m bytes) end)
       ∙ words_rejoin bytes are 16 0 n (omega arith)
 
-  bytes-read : root_bytes r ≡ bytes
+  pub bytes-read : root_bytes r ≡ bytes
   bytes-read = root_bytes-spelled r ∙ ap (λ (l : List ℕ). root_head r ++ l) behind_are ∙ head_rejoin
 
   is-read : is_root r ≡ true
@@ -170,10 +170,10 @@ module _ (bytes : List ℕ) (are : AreByteValues bytes) (has : HasRoot bytes) wh
 
 -- The second half: a root's bytes have these parts.
 
-words-read : (bytes : List ℕ) → AreByteValues bytes → (f : ℕ → ℕ) (a n : ℕ) → are_words (map (λ i. word_at bytes (f i)) (range_with_len a n)) ≡ true
+pub words-read : (bytes : List ℕ) → AreByteValues bytes → (f : ℕ → ℕ) (a n : ℕ) → are_words (map (λ i. word_at bytes (f i)) (range_with_len a n)) ≡ true
 words-read bytes are f a n = tests_from (λ p. nat_lt p 65536) (λ i. word_at bytes (f i)) a n (λ i from low. lt-ltb (word_at bytes (f i)) 65536 (word_at-lt bytes are (f i)))
 
-sum-few : (cs : List ℕ) → are_words cs ≡ true → sum_by (λ c. c) cs ≤ 65535 * length cs
+pub sum-few : (cs : List ℕ) → are_words cs ≡ true → sum_by (λ c. c) cs ≤ 65535 * length cs
 sum-few [] small = omega arith
 sum-few (c ∷ cs) small =
     let parts = and_parts (nat_lt c 65536) (are_words cs) small in

@@ -1,5 +1,5 @@
 -- The edit of a window in any document: of the branches only those that are looked at have to be there.
-use Rattle.std.proofs.Common.{◌≡◌, ℕ, ◌-◌, ◌<◌, ◌≤◌, Bool, true, false, ◌==◌, nat_le, nat_lt, List, [], ◌∷◌, length, take, drop, map, get_or, is_some, refl, sym, ap, subst, ◌∙◌, inl, inr, arith, ltb-false}
+use Rattle.std.proofs.Common.{◌≡◌, ℕ, ◌-◌, ◌<◌, ◌≤◌, Bool, true, false, not, ◌==◌, nat_le, nat_lt, List, [], ◌∷◌, ◌++◌, length, take, drop, map, get_or, is_some, refl, sym, ap, subst, ◌∙◌, inl, inr, arith, ltb-false}
 use Rattle.std.proofs.lemmas.Bool.{eq-eqb, true≢false}
 use Rattle.std.proofs.lemmas.List.{length-map}
 use Rattle.std.proofs.lemmas.List.FromFn.{length-map-range_with_len}
@@ -27,7 +27,8 @@ use Rattle.large_arrays.proofs.Layouts.{root-facts, root-counts, pieces-many, br
 use Rattle.large_arrays.proofs.Windows.{IsWindow, window-is}
 use Rattle.large_arrays.proofs.WindowHandles.{handles, handles-places, window_handles-many, window_handles-from, window_handles-once}
 use Rattle.large_arrays.proofs.Replacing.{AreNamed, AreReplaced}
-use Rattle.large_arrays.proofs.PutBranches.{CanPut, FitsPut, new_root-many, put-map, put-root, put-elsewhere, put-replaced}
+use Rattle.large_arrays.proofs.DistinctHandles.{distinct-append, distinct-cons, distinct-filter}
+use Rattle.large_arrays.proofs.PutBranches.{put-apart, CanPut, FitsPut, new_root-many, put-map, put-root, put-elsewhere, put-replaced}
 use Rattle.large_arrays.proofs.PieceLists.{root_full, freed-old, freed-not, freed-all}
 use Rattle.large_arrays.proofs.SeenBranches.{seen_blocks, seen_first, seen_end, AreSeen, LooksAround, looks-around, window-seen, seen-part, seen-raw, part-there, seen-blocks_are}
 
@@ -161,6 +162,20 @@ module _ (d : Document) (b i j : ℕ) (new : BranchPiece) (root : HasRoot d b) (
       raw_olds = seen-raw d b first behind seen;
       apart = distinct-first b old_ones seen.once;
     }
+
+    -- each block that changes is there once: those that go, the root, and those of the new pieces
+    pub window-once : all_distinct (freed_handles w ++ b ∷ w.news) ≡ true
+    unfolding window
+    window-once =
+        let named = window-named in
+        let freed : List ℕ = freed_handles w in
+        let apart : Contains w.news b → ⊥ = put-apart d b r pieces first behind w.news freed placed window-can named in
+        distinct-append freed (b ∷ w.news) (distinct-filter (λ h. not (list_any (λ x. x == h) w.news)) (handles old_pairs) olds_once)
+        (distinct-cons b w.news apart named.once)
+        (λ h gone there. elim (contains_cases b w.news h there) [
+          | inl is ↦ distinct-first b old_ones seen.once (subst (Contains old_ones) (sym is) (named.freed_old h gone))
+          | inr come ↦ named.freed_not h gone come
+        ])
 
     -- the pieces of the run that stay in part were read
     run_fits : IsValid d → (k : ℕ) → from ≤ k → k < to → fits_branch r.size (get_or pieces k []) ≡ true

@@ -7,10 +7,14 @@ pub mod EditLaws
 pub mod Edits
 pub mod HandleLists
 pub mod ElementLengths
+pub mod LargeCost
+pub mod LargePlaces
 pub mod Layout
 pub mod NewElementsViewing
 pub mod PieceKeeping
+pub mod Loading
 pub mod Pieces
+pub mod RootEdits
 pub mod RootParts
 pub mod RootViewing
 pub mod SizedElements

@@ -2,6 +2,7 @@
 ghost use Rattle.large_arrays.specs.ChangeLaws.{FewChangeLaw};
 ghost use Rattle.large_arrays.specs.DocumentLaws.{LargeStaysLaw, LargeValidityLaw};
 ghost use Rattle.large_arrays.specs.EditLaws.{LargeEditsLaw};
+ghost use Rattle.large_arrays.specs.LargePlaces.{LargePlacesLaw};
 ghost use Rattle.large_arrays.specs.SpreadLaws.{SpreadLaw};
 
 /// An edit of the pieces is the edit of the list, and leaves the pieces spread.
@@ -30,4 +31,9 @@ pub fn large_validity_law()
 /// looks at.
 pub fn large_stays_law()
     ensures { LargeStaysLaw }
+{}
+
+/// An edit that nothing refuses changes the document at the places that are told of it, each once, and nowhere else.
+pub fn large_places_law()
+    ensures { LargePlacesLaw }
 {}

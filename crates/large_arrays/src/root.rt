@@ -1,10 +1,11 @@
 //! The root of a large array, read where it lies.
-ghost use Rattle.std.specs.Prelude.{◌≡◌, ◌^◌, ◌<◌, ◌≤◌, ◌+◌, ◌*◌, ◌↔◌, Some, None, true, is_some, IsTrue, MatchResult, length, get_or, map, sum_by};
+ghost use Rattle.std.specs.Prelude.{◌≡◌, ◌^◌, ◌<◌, ◌≤◌, ◌+◌, ◌-◌, ◌*◌, ◌↔◌, Some, None, true, is_some, IsTrue, MatchResult, length, get_or, map, take, drop, sum_by};
 ghost use Rattle.std.specs.List.{range_with_len};
 ghost use Rattle.geos_model.specs.Words.{word_at, double_word_at};
 ghost use Rattle.geos_model.specs.Heap.{capacity};
 ghost use Rattle.large_arrays.specs.Layout.{root_of, total_count};
 ghost use Rattle.large_arrays.specs.Spread.{start_place, end_place};
+ghost use Rattle.large_arrays.specs.RootEdits.{count_bytes, link_bytes, run_of};
 ghost use Rattle.large_arrays.specs.RootParts.{HasMarks, HasLength, HasHead, HasCounts, HasZeros, branches_in};
 
 use byteorder::{ByteOrder, LittleEndian};
@@ -12,7 +13,10 @@ use geos_model::Fault;
 use std::marker::Model;
 
 /// The first word of a tree block.
-const TREE_MARK: u16 = 0xFFFF;
+pub(crate) const TREE_MARK: u16 = 0xFFFF;
+
+/// By which a tree block is known as a root.
+pub(crate) const MARK: [u8; 4] = *b"GARR";
 
 /// The greatest size of elements that have one size.
 const GREATEST_SIZE: u16 = 4_096;
@@ -111,7 +115,7 @@ fn has_marks(bytes: &[u8]) -> bool
     ensures { IsTrue result ↔ HasMarks bytes.now }
 {
     word(bytes, 0) == TREE_MARK
-        && &bytes[6..10] == b"GARR".as_slice()
+        && &bytes[6..10] == MARK.as_slice()
         && word(bytes, 10) <= GREATEST_SIZE
 }
 
@@ -208,6 +212,47 @@ impl<'a> RootView<'a> {
         ensures { result ≡ get_or self.now.branches k 0 }
     {
         word(self.bytes, 18 + 2 * self.branches + 4 * k)
+    }
+
+    /// How many elements the branches have that aren't among those from one up to another.
+    pub(crate) fn total_without(&self, first: usize, behind: usize) -> u32
+        requires order { first ≤ behind }
+        requires within { behind ≤ length self.now.counts }
+        ensures value { result ≡
+            sum_by (λ c. c) (take first self.now.counts) + sum_by (λ c. c) (drop behind self.now.counts) }
+        ensures few { result ≤ 65535 * (length self.now.counts - (behind - first)) }
+    {
+        let mut total = self.total;
+        for k in first..behind {
+            total -= u32::from(self.count(k));
+        }
+        total
+    }
+
+    /// The size of elements, as it stands in the root.
+    pub(crate) fn size_word(&self) -> u16
+        ensures { result ≡ self.now.size }
+    {
+        word(self.bytes, 10)
+    }
+
+    /// The bytes of counts, from one branch up to another.
+    pub(crate) fn count_bytes(&self, from: usize, to: usize) -> &'a [u8]
+        requires order { from ≤ to }
+        requires within { to ≤ length self.now.counts }
+        ensures { result.now ≡ count_bytes (run_of self.now.counts from to) }
+    {
+        &self.bytes[16 + 2 * from..16 + 2 * to]
+    }
+
+    /// The bytes of branches, from one up to another.
+    pub(crate) fn link_bytes(&self, from: usize, to: usize) -> &'a [u8]
+        requires order { from ≤ to }
+        requires within { to ≤ length self.now.branches }
+        ensures { result.now ≡ link_bytes (run_of self.now.branches from to) }
+    {
+        let start = 16 + 2 * self.branches;
+        &self.bytes[start + 4 * from..start + 4 * to]
     }
 
     /// In which branch an element is, or a run begins, and how many of that branch's elements are before it.
