@@ -44,3 +44,5 @@ pub mod RootRuns
 pub mod Marking
 pub mod RefusalOrder
 pub mod LoadedBlocks
+pub mod PlannedChanges
+pub mod PackingLemmas

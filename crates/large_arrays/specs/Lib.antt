@@ -1,6 +1,7 @@
 pub mod Blocks
 pub mod BranchReading
 pub mod ChangeLaws
+pub mod ChangePlans
 pub mod Differences
 pub mod DocumentLaws
 pub mod EditLaws
@@ -9,12 +10,14 @@ pub mod HandleLists
 pub mod ElementLengths
 pub mod LargeCost
 pub mod LargePlaces
+pub mod Filling
 pub mod Layout
 pub mod NewElementsViewing
 pub mod PieceKeeping
 pub mod Loading
 pub mod Pieces
 pub mod RootEdits
+pub mod PiecesKeeping
 pub mod RootParts
 pub mod RootViewing
 pub mod SizedElements

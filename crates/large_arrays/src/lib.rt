@@ -2,6 +2,7 @@
 #![tactic(auto)]
 
 mod branch;
+mod changes;
 mod cut_body;
 mod differences;
 mod distinct;
@@ -9,12 +10,14 @@ mod handles;
 mod law;
 mod loading;
 mod new_elements;
+mod packing;
 mod piece;
 mod root;
 mod root_edits;
 mod spot;
 
 pub use branch::read_branch;
+pub use changes::{plan_block, plan_body, plan_freeing};
 pub use cut_body::CutBody;
 pub use differences::body_differences;
 pub use distinct::are_distinct;
@@ -25,6 +28,7 @@ pub use law::{
 };
 pub use loading::{load_branch, load_root, loaded_branch, loaded_root};
 pub use new_elements::NewElements;
+pub use packing::Pieces;
 pub use piece::{BRANCH_ROOM, JOIN_ROOM, Piece};
 pub use root::{RootView, read_root};
 pub use root_edits::new_root;

@@ -77,6 +77,7 @@ impl Piece {
     pub fn weight(&self) -> usize
         ensures value { result ≡ weight self.now.size self.now.elements }
         ensures fits { result ≤ branch_room }
+        ensures holds { IsPiece self.now }
     {
         self.bytes.len() + 2 * self.lengths.len()
     }

@@ -1,0 +1,79 @@
+//! Changes of a document, from the bytes that its blocks have and get. A list of them stands in the order in which they
+//! are carried out.
+ghost use Rattle.std.specs.Prelude.{◌≡◌, ◌≤◌, ◌++◌, ◌∷◌, ℕ, List, [], true, IfOk, OnOk, length};
+ghost use Rattle.geos_model.specs.Document.{Document, handles_of, is_live, is_raw, raw_bytes_of};
+ghost use Rattle.geos_model.specs.Heap.{capacity};
+ghost use Rattle.document_file.specs.Members.{imaged_blocks};
+ghost use Rattle.vm_blocks.specs.Changes.{CanRemoveAll, IsFreeHandle};
+ghost use Rattle.vm_blocks.specs.Preparing.{CanRemoveByHandle};
+ghost use Rattle.large_arrays.specs.ChangePlans.{ArePlanned, ArePlannedByHandle, IsUntouched};
+
+use crate::cut_body::CutBody;
+use crate::differences::body_differences;
+use geos_model::{Attributes, VmHandle};
+use std::alloc::{AllocError, Global};
+use vm_blocks::{BlockImage, Change, Members, PartChange};
+
+/// The change by which blocks go, if there are any, to begin with.
+pub fn plan_freeing(alloc: Global, freed: Members) -> Result<Vec<Change>, AllocError>
+    ensures planned { IfOk result (λ changes. (d : Document) → CanRemoveAll d (imaged_blocks freed.list.items)
+        → ArePlanned changes.items d (handles_of (imaged_blocks freed.list.items)) []) }
+    ensures listed { IfOk result (λ changes. (d : Document)
+        → CanRemoveByHandle d (handles_of (imaged_blocks freed.list.items))
+        → ArePlannedByHandle changes.items d (handles_of (imaged_blocks freed.list.items)) []) }
+{
+    let mut changes = Vec::new(alloc);
+    if freed.list.is_empty() {
+        return Ok(changes);
+    }
+    changes.push(Change::BlocksOut(freed))?;
+    Ok(changes)
+}
+
+/// Behind the others the changes by which a raw body becomes another: they hold what differs.
+pub fn plan_body(
+    alloc: Global,
+    changes: &mut Vec<Change>,
+    handle: VmHandle,
+    old: &CutBody<'_>,
+    new: &CutBody<'_>,
+) -> Result<(), AllocError>
+    ensures planned { OnOk result ((d : Document) (freed : List ℕ) (bodies : List (ℕ × List ℕ))
+        → ArePlanned changes.old.items d freed bodies → IsUntouched freed bodies handle.0
+        → is_raw d handle.0 ≡ true → raw_bytes_of d handle.0 ≡ old.now.bytes.now
+        → ArePlanned changes.new.items d freed (bodies ++ (handle.0, new.now.bytes.now) ∷ [])) }
+    ensures listed { OnOk result ((d : Document) (freed : List ℕ) (bodies : List (ℕ × List ℕ))
+        → ArePlannedByHandle changes.old.items d freed bodies → IsUntouched freed bodies handle.0
+        → is_live d handle.0 ≡ true
+        → ArePlannedByHandle changes.new.items d freed (bodies ++ (handle.0, new.now.bytes.now) ∷ [])) }
+{
+    for splice in body_differences(alloc, old, new)? {
+        changes.push(Change::Part(handle, PartChange::Raw(splice)))?;
+    }
+    Ok(())
+}
+
+/// Behind the others the change by which a raw block comes in. It has the attributes of none.
+pub fn plan_block(
+    alloc: Global,
+    changes: &mut Vec<Change>,
+    handle: VmHandle,
+    bytes: Vec<u8>,
+) -> Result<(), AllocError>
+    requires { length bytes.items ≤ capacity }
+    ensures planned { OnOk result ((d : Document) (freed : List ℕ) (bodies : List (ℕ × List ℕ))
+        → ArePlanned changes.old.items d freed bodies → IsUntouched freed bodies handle.0 → IsFreeHandle d handle.0
+        → ArePlanned changes.new.items d freed (bodies ++ (handle.0, bytes.items) ∷ [])) }
+    ensures listed { OnOk result ((d : Document) (freed : List ℕ) (bodies : List (ℕ × List ℕ))
+        → ArePlannedByHandle changes.old.items d freed bodies → IsUntouched freed bodies handle.0
+        → IsFreeHandle d handle.0
+        → ArePlannedByHandle changes.new.items d freed (bodies ++ (handle.0, bytes.items) ∷ [])) }
+{
+    let none = Attributes {
+        user_id: 0,
+        heap_type: 0,
+    };
+    let block = BlockImage::raw(none, bytes)?;
+    changes.push(Change::BlocksIn(Members::one(alloc, handle, block)?))?;
+    Ok(())
+}
