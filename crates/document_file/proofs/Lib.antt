@@ -8,6 +8,7 @@ pub mod EffectsLemmas
 pub mod FirstFileLemmas
 pub mod FollowLemmas
 pub mod FreeSpaceLemmas
+pub mod FrontLemmas
 pub mod GateAwayLemmas
 pub mod GivenSumsLemmas
 pub mod ImageLemmas

@@ -5,6 +5,7 @@ pub mod Disk
 pub mod Documents
 pub mod Effects
 pub mod FreeSpace
+pub mod Fronts
 pub mod Held
 pub mod Images
 pub mod Listing

@@ -3,7 +3,7 @@ ghost use Rattle.std.specs.Prelude.{if◌then◌else◌, ◌≡◌, ◌≢◌, �
 ghost use Rattle.std.specs.Option.{option_map};
 ghost use Rattle.std.specs.FinMap.{get, keys};
 ghost use Rattle.vm_store.specs.Facts.{FailedSince, IsUnchanged};
-ghost use Rattle.geos_model.specs.Document.{empty_document, is_live, is_vm_handle, next_handle, most_blocks, attributes_of, with_attributes, block_at, is_heap, IsTyped};
+ghost use Rattle.geos_model.specs.Document.{empty_document, is_live, is_vm_handle, next_handle, most_blocks, attributes_of, with_attributes, block_at, is_heap, raw_bytes_of, IsTyped};
 ghost use Rattle.geos_model.specs.Image.{image};
 ghost use Rattle.geos_model.specs.declared.command.Body.TheVariants as bodies;
 ghost use Rattle.geos_model.specs.Reply.{found};
@@ -11,6 +11,7 @@ ghost use Rattle.file_format.specs.File.{bytes_in, directory_text, open_slot, st
 ghost use Rattle.document_file.specs.Disk.{FileState, ContentStands, SameUnlessCorrupt, KeepsCommitted, IsCrashConsistent, HasSequence, unmarked};
 ghost use Rattle.document_file.specs.Effects.{IsFile, IsNewFile, IsTurned, SameStore, OnlyReads, LeavesDocument, IsCommit, Fails, NoFault, IsDamage, IsWorn};
 ghost use Rattle.document_file.specs.Documents.{has_checksums, has_one_directory, sequence_in};
+ghost use Rattle.document_file.specs.Fronts.{first_word};
 ghost use Rattle.document_file.specs.Making.{first_directory, first_file, first_open, no_blocks};
 ghost use Rattle.file_format.specs.Reading.{IsResourceFault, IsOpenRefusal};
 ghost use Rattle.document_file.specs.Calls.{IsPut, put_all, remove_all, IsImageLength, last_sequence};
@@ -18,6 +19,7 @@ ghost use Rattle.document_file.specs.Calls.{IsPut, put_all, remove_all, IsImageL
 use crate::commit::{commit_pending, commit_summed, saved_beside};
 use crate::copying::copy_document;
 use crate::directory::{pending_directory_of, saved_anew};
+use crate::front::read_first_word;
 use crate::listing::{Bounds, bounds_of, find_from, first_free, live_handles, tightened, widened};
 use crate::making::make_empty;
 use crate::member::Member;
@@ -179,6 +181,8 @@ impl<S: Store> VmFile<S> {
         ensures image { IfSome result (λ place. IsTrue (S.facts self.now.disk.store).honest
             → bytes_in (S.facts self.now.disk.store).content place.extent
             ≡ image (block_at self.now.document block.0).body) }
+        ensures size { IfSome result (λ place. IsTrue (S.facts self.now.disk.store).honest
+            → length (image (block_at self.now.document block.0).body) ≡ place.extent.length) }
     {
         place_in(&self.live, block)
     }
@@ -282,6 +286,20 @@ impl<S: Store> VmFile<S> {
             self.old.disk.store self.new.disk.store result }
     {
         read_raw(&mut self.store, &self.live, block, region)
+    }
+
+    /// The first word of a raw block, without the bytes behind it. None where it has no word, or where images have
+    /// sums: then only the whole image tells whether it is damaged. File; no memory.
+    pub fn read_first_word(&mut self, block: VmHandle) -> Result<Option<u16>, Fault>
+        requires live { is_live self.old.document block.0 ≡ true }
+        requires raw { is_heap self.old.document block.0 ≡ false }
+        ensures reads { OnlyReads S.facts self.old self.new }
+        ensures word { IfOk result (λ word. IsTrue (S.facts self.old.disk.store).honest
+            → word ≡ first_word self.old.disk.checksums (raw_bytes_of self.old.document block.0)) }
+        ensures fails { IfErr result (λ fault. (fault ≡ Fault.File)
+            × FailedSince (S.facts self.old.disk.store) (S.facts self.new.disk.store)) }
+    {
+        read_first_word(&mut self.store, &self.live, block)
     }
 
     /// Sets the attributes of a block. Only a heap has a type.

@@ -6,6 +6,7 @@ mod copying;
 mod directory;
 mod extent;
 mod file;
+mod front;
 mod image;
 mod kind;
 mod law;
