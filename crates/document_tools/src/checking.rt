@@ -39,7 +39,7 @@ fn report_lines(
 fn check_text(alloc: Global, report: &Report) -> Result<Vec<u8>, AllocError>
     ensures { IfOk result (λ text. IsCheckText report.now text.items) }
 {
-    let counts = report.counting_slot();
+    let counts = report.counting_number();
     let counting = report.counting();
     let pages = counting_text(alloc, counting, report.file_length)?;
     let told = pages.as_slice();

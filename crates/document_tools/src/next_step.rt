@@ -36,7 +36,7 @@ fn is_standing(state: &SlotState) -> bool
 fn has_other(report: &Report) -> bool
     ensures { result ≡ has_other report.now }
 {
-    report.counting_slot().is_some() && (is_standing(&report.first) || is_standing(&report.second))
+    report.counting_number().is_some() && (is_standing(&report.first) || is_standing(&report.second))
 }
 
 fn step_text(report: &Report) -> &'static [u8]

@@ -26,7 +26,7 @@ fn counting_slot(report: &Report) -> Result<u8, Fault>
         (λ slot. counting_number report.now.first report.now.second ≡ Some slot)
         (λ fault. IsUncounted report.now (Unopened fault)) }
 {
-    if let Some(slot) = report.counting_slot() {
+    if let Some(slot) = report.counting_number() {
         return Ok(slot);
     }
     match report.verdict {

@@ -33,6 +33,10 @@ named_directory file s name = summed_directory s.version file (directory_sum s n
 abbrev pub are_zeros : List ℕ → Bool
 are_zeros bytes = list_all (λ b. b == 0) bytes
 
+-- the version of a directory
+abbrev pub directory_version : List ℕ → ℕ
+directory_version bytes = word_at bytes 4
+
 -- the header of a directory is wrong in a file of a version
 abbrev pub IsHeaderFault : ℕ → List ℕ → HeaderFault → Type 0
 IsHeaderFault file_version bytes header.Mark = take 4 bytes ≢ directory_mark
@@ -61,6 +65,10 @@ handle_before bytes i = if i == 0 then 0 else handle_at bytes (i - 1)
 abbrev pub zeros_of : ℕ → ℕ
 zeros_of version = if version == 1 then 4 else 2
 
+-- the text of an entry has them, in a directory of a version
+abbrev pub has_entry_zeros : ℕ → List ℕ → Bool
+has_entry_zeros version text = are_zeros (drop (16 - zeros_of version) (take 16 text))
+
 -- An entry with this text is wrong in a directory of a version, behind one with the handle `last`, in a file of a
 -- version and of n bytes.
 abbrev pub IsEntryFault : ℕ → ℕ → ℕ → ℕ → List ℕ → Entry → EntryFault → Type 0
@@ -68,8 +76,7 @@ IsEntryFault file_version n version last text e entry.Order = e.handle.0 ≤ las
 IsEntryFault file_version n version last text e entry.Handle = greatest_handle version < e.handle.0
 IsEntryFault file_version n version last text e entry.Length = (e.extent.length ≡ 0) ⊎ (longest_image < e.extent.length)
 IsEntryFault file_version n version last text e entry.Outside = is_in_file file_version n e.extent ≡ false
-IsEntryFault file_version n version last text e entry.Zeros =
-    are_zeros (drop (16 - zeros_of version) (take 16 text)) ≡ false
+IsEntryFault file_version n version last text e entry.Zeros = has_entry_zeros version text ≡ false
 
 -- the map block of a directory is given, and no entry has its handle
 pub record IsUnlisted (bytes : List ℕ) (map_block : ℕ) : Type 0 where

@@ -189,7 +189,7 @@ impl Report {
     }
 
     /// Its number, 0 or 1.
-    pub fn counting_slot(&self) -> Option<u8>
+    pub fn counting_number(&self) -> Option<u8>
         ensures { result ≡ counting_number self.now.first self.now.second }
     {
         match chosen(&self.first, &self.second) {

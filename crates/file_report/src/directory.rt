@@ -4,9 +4,9 @@ ghost use Rattle.file_report.specs.Findings.{FindsMore, HasEntry, IsSeen, direct
 ghost use Rattle.file_report.specs.Reading.{IsSoOf, IsSoOfRead, IsWrong};
 
 use crate::entry::{
-    count_of, entry_text_at, handle_before, has_entry_zeros, has_header_zeros, has_mark, is_above,
-    is_directory_length, is_handle, is_image_length, is_map_block, is_whole, map_block_of,
-    version_of, whole_entries,
+    count_of, directory_version, entry_text_at, handle_before, has_entry_zeros, has_header_zeros,
+    has_mark, is_above, is_directory_length, is_handle, is_image_length, is_map_block, is_whole,
+    map_block_of, whole_entries,
 };
 use crate::finding::{EntryFault, Finding, HeaderFault, Named, note_unless};
 use file_format::{
@@ -48,7 +48,7 @@ fn note_header(
     ensures { OnOk result (FindsMore (IsSeen file_version file_length bytes.now name)
         findings.old.items findings.new.items) }
 {
-    let version = version_of(bytes);
+    let version = directory_version(bytes);
     let count = count_of(bytes);
     let marked = has_mark(bytes);
     note_unless(marked, Finding::Header(name, HeaderFault::Mark), findings)?;
@@ -82,7 +82,7 @@ fn note_entry(
     ensures { OnOk result (FindsMore (IsSeen file_version file_length bytes.now name)
         findings.old.items findings.new.items) }
 {
-    let version = version_of(bytes);
+    let version = directory_version(bytes);
     let text = entry_text_at(bytes, i);
     let last = handle_before(bytes, i);
     let entry = read_entry(version, text);

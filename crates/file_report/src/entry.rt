@@ -1,8 +1,8 @@
 //! The entries of a directory that may be wrong, by their bytes.
-ghost use Rattle.std.specs.Prelude.{◌≡◌, ◌<◌, ◌≤◌, ◌≢◌, ◌⊎◌, ◌-◌, ℕ, false, length, take, drop};
+ghost use Rattle.std.specs.Prelude.{◌≡◌, ◌<◌, ◌≤◌, ◌≢◌, ◌⊎◌, ℕ, false, length, take, drop};
 ghost use Rattle.geos_model.specs.Words.{word_at};
 ghost use Rattle.file_format.specs.File.{directory_mark, entry_length, entry_start, greatest_handle, longest_directory, longest_image};
-ghost use Rattle.file_report.specs.Findings.{HasEntry, are_zeros, handle_at, handle_before, entry_text_at, zeros_of};
+ghost use Rattle.file_report.specs.Findings.{HasEntry, are_zeros, directory_version, handle_at, handle_before, has_entry_zeros, entry_text_at, zeros_of};
 
 use byteorder::{ByteOrder, LittleEndian};
 use file_format::{
@@ -14,7 +14,7 @@ fn start_of_entry(bytes: &[u8], i: usize) -> usize
     requires { HasEntry bytes.now i }
     ensures { result ≡ entry_start (word_at bytes.now 4) i }
 {
-    HEADER_LENGTH + entry_length(version_of(bytes)) * i
+    HEADER_LENGTH + entry_length(directory_version(bytes)) * i
 }
 
 /// The text of an entry.
@@ -24,7 +24,7 @@ pub fn entry_text_at(bytes: &[u8], i: usize) -> &[u8]
     ensures size { length result.now ≡ entry_length (word_at bytes.now 4) }
 {
     let at = start_of_entry(bytes, i);
-    &bytes[at..at + entry_length(version_of(bytes))]
+    &bytes[at..at + entry_length(directory_version(bytes))]
 }
 
 /// Whether a directory has its mark.
@@ -55,7 +55,7 @@ pub fn is_whole(bytes: &[u8], count: u16) -> bool
     requires { 16 ≤ length bytes.now }
     ensures { result ≡ false → length bytes.now ≢ entry_start (word_at bytes.now 4) count }
 {
-    bytes.len() == entry_start(version_of(bytes), usize::from(count))
+    bytes.len() == entry_start(directory_version(bytes), usize::from(count))
 }
 
 /// Whether a header ends in zeros.
@@ -97,15 +97,15 @@ pub fn is_image_length(length: u32) -> bool
 /// Whether an entry of a directory of this version has its zeros.
 pub fn has_entry_zeros(version: u16, text: &[u8]) -> bool
     requires { 16 ≤ length text.now }
-    ensures { result ≡ are_zeros (drop (16 - zeros_of version) (take 16 text.now)) }
+    ensures { result ≡ has_entry_zeros version text.now }
 {
     are_zeros(&text[..16][16 - zeros_of(version)..])
 }
 
 /// The version of a directory.
-pub fn version_of(bytes: &[u8]) -> u16
+pub fn directory_version(bytes: &[u8]) -> u16
     requires { 16 ≤ length bytes.now }
-    ensures { result ≡ word_at bytes.now 4 }
+    ensures { result ≡ directory_version bytes.now }
 {
     LittleEndian::read_u16(&bytes[4..])
 }
@@ -147,7 +147,7 @@ pub fn whole_entries(bytes: &[u8]) -> usize
     ensures within { (i : ℕ) → i < result → HasEntry bytes.now i }
     ensures all { (i : ℕ) → HasEntry bytes.now i → i < result }
 {
-    (bytes.len() - HEADER_LENGTH) / entry_length(version_of(bytes))
+    (bytes.len() - HEADER_LENGTH) / entry_length(directory_version(bytes))
 }
 
 // Whether an entry has this handle.

@@ -11,8 +11,9 @@ mod heaps;
 mod pages;
 
 pub use checking::{Report, SlotReport, SlotState, check};
+pub use directory::{directory_extent, directory_sum};
 pub use document::read_image;
-pub use entry::entry_text_at;
+pub use entry::{directory_version, entry_text_at, has_entry_zeros, map_block_of};
 pub use finding::{EntryFault, Finding, HeaderFault, Named};
 pub use free::{FreePages, free_pages};
 pub use heaps::read_heap;

@@ -117,7 +117,7 @@ pub enum Part {
     Image(VmHandle),
 }
 
-fn part_in(content: Content) -> Part
+fn part_of_content(content: Content) -> Part
     ensures { result ≡ part_of_content content }
 {
     match content {
@@ -131,7 +131,7 @@ fn part_in(content: Content) -> Part
 fn is_shared(one: Usage, other: Usage) -> bool
     ensures { IsTrue result ↔ IsShared one other }
 {
-    part_in(one.content) == part_in(other.content) && one.extent == other.extent
+    part_of_content(one.content) == part_of_content(other.content) && one.extent == other.extent
 }
 
 // Whether there is a page on which both lie.

@@ -4,8 +4,8 @@ use Rattle.file_report.proofs.directory.note_entry.Goals as goal
 
 pub returns : goal.returns
 returns c =
-    let of : IsEntryOf c.args.bytes.now c.args.i c.version_of-version.result c.handle_before-last.result c.entry_text_at-text.result.now c.read_entry-entry.result =
-    record { version_is = c.version_of-version.ensures; last_is = c.handle_before-last.ensures; text_is = c.entry_text_at-text.ensures.text; entry_is = c.read_entry-entry.ensures } in
+    let of : IsEntryOf c.args.bytes.now c.args.i c.directory_version-version.result c.handle_before-last.result c.entry_text_at-text.result.now c.read_entry-entry.result =
+    record { version_is = c.directory_version-version.ensures; last_is = c.handle_before-last.ensures; text_is = c.entry_text_at-text.ensures.text; entry_is = c.read_entry-entry.ensures } in
     finds_both _ _ _ _ (entry_noted _ _ _ _ _ _ _ _ _ _ _ _ _ of c.is_above-above.ensures c.in_ok-note_unless.ensures.found)
     (finds_both _ _ _ _ (entry_noted _ _ _ _ _ _ _ _ _ _ _ _ _ of c.is_handle-handle.ensures c.in_ok-note_unless-2.ensures.found)
     (finds_both _ _ _ _ (entry_noted _ _ _ _ _ _ _ _ _ _ _ _ _ of c.is_image_length-length.ensures c.in_ok-note_unless-3.ensures.found)
