@@ -1,10 +1,10 @@
 -- Blocks of a copy, planned one by one.
-use Rattle.std.proofs.Common.{◌≡◌, ℕ, zero, suc, take, ◌+◌, ◌-◌, ◌<◌, ◌≤◌, List, [], ◌∷◌, ◌++◌, true, false, not, cond, length, drop, map, get_or, refl, sym, ap, ◌∙◌, arith}
-use Rattle.std.proofs.lemmas.Bool.{cond-true, cond-false}
+use Rattle.std.proofs.Common.{◌≡◌, ℕ, zero, suc, take, ◌+◌, ◌-◌, ◌<◌, ◌≤◌, List, [], ◌∷◌, ◌++◌, Bool, true, false, not, cond, length, drop, map, get_or, Option, Some, None, refl, sym, ap, ◌∙◌, inl, inr, arith}
+use Rattle.std.proofs.lemmas.Bool.{cases_Bool, cond-true, cond-false}
 use Rattle.std.proofs.lemmas.List.{append_assoc, append-nil, length_push, drop_more, map-append}
-use Rattle.std.specs.List.{zip, filter, range_with_len}
-use Rattle.geos_model.specs.Chain.{free_handles, name_of, relinked_block}
-use Rattle.geos_model.specs.Document.{Block, Document, block_at, is_live, most_blocks, vm_handles}
+use Rattle.std.specs.List.{zip, filter, find, range_with_len}
+use Rattle.geos_model.specs.Chain.{free_handles, name_of, new_handles, relinked_block}
+use Rattle.geos_model.specs.Document.{Block, Document, block_at, is_live, most_blocks, next_handle, vm_handles}
 use Rattle.geos_model.specs.declared.handle.VmHandle.{VmHandle}
 use Rattle.document_file.specs.Members.{imaged_block, imaged_blocks}
 use Rattle.vm_chains.specs.Numbers.{numbers}
@@ -33,10 +33,6 @@ module _ (d : Document) (hs new : List VmHandle) where
 unfoldable pub free_from : Document → ℕ → List ℕ
 free_from d i = filter (λ h. not (is_live d h)) (range_with_len (i + 1) (most_blocks - i))
 
-pub all_free : (d : Document) → free_from d 0 ≡ free_handles d
-unfolding vm_handles free_from
-all_free d = refl
-
 pub none_free : (d : Document) (i : ℕ) → most_blocks ≤ i → free_from d i ≡ []
 unfolding free_from
 none_free d i past =
@@ -55,6 +51,47 @@ free_next d i within free = split d i within ∙ cond-true _ _ _ (ap not free)
 pub live_next : (d : Document) (i : ℕ) → i < most_blocks → is_live d (i + 1) ≡ true → free_from d i ≡ free_from d (i + 1)
 live_next d i within live = split d i within ∙ cond-false _ _ _ (ap not live)
 
+take_none : (n : ℕ) → take n [] ≡ (let none : List ℕ = [] in none)
+take_none zero = refl
+take_none (suc n) = refl
+
+-- the least one is the first of them
+first_found : (test : ℕ → Bool) (i n h : ℕ) → find test (range_with_len i n) ≡ Some h → (i ≤ h) × (filter test (range_with_len i n) ≡ filter test (range_with_len h (i + n - h)))
+first_found test i zero h is = absurd (cc is)
+first_found test i (suc n) h is = elim (cases_Bool (test i)) as (λ _. (i ≤ h) × (filter test (range_with_len i (suc n)) ≡ filter test (range_with_len h (i + suc n - h)))) [
+  | inl here ↦
+      (let some : Some i ≡ Some h = sym (cond-true _ _ _ here) ∙ is in
+      let same : i ≡ h = cc some in
+      let left : suc n ≡ i + suc n - h = omega (arith, same) in
+      (omega (arith, same), λ j. filter test (range_with_len (same j) (left j))))
+  | inr past ↦
+      (let on = first_found test (i + 1) n h (sym (cond-false _ _ _ past) ∙ is) in
+      let low : i + 1 ≤ h = on.0 in
+      let left : i + 1 + n - h ≡ i + suc n - h = omega arith in
+      (omega (arith, low), cond-false _ _ _ past ∙ on.1 ∙ ap (λ (k : ℕ). filter test (range_with_len h k)) left))
+]
+
+pub free_first : (d : Document) (h : ℕ) → next_handle d ≡ Some h → free_from d (h - 1) ≡ free_handles d
+unfolding vm_handles next_handle free_from
+free_first d h is =
+    let found = first_found (λ k. not (is_live d k)) 1 most_blocks h is in
+    let low : 1 ≤ h = found.0 in
+    let from : h - 1 + 1 ≡ h = omega (arith, low) in
+    let left : most_blocks - (h - 1) ≡ 1 + most_blocks - h = omega (arith, low) in
+    (λ j. filter (λ k. not (is_live d k)) (range_with_len (from j) (left j))) ∙ sym found.1
+
+-- and where there is no least one there is none
+none_found : (test : ℕ → Bool) (xs : List ℕ) → find test xs ≡ None → filter test xs ≡ []
+none_found test [] is = refl
+none_found test (x ∷ xs) is = elim (cases_Bool (test x)) as (λ _. filter test (x ∷ xs) ≡ []) [
+  | inl here ↦ (let some : Some x ≡ None = sym (cond-true _ _ _ here) ∙ is in absurd (cc some))
+  | inr past ↦ cond-false _ _ _ past ∙ none_found test xs (sym (cond-false _ _ _ past) ∙ is)
+]
+
+pub all_taken : (d : Document) (wanted : ℕ) → next_handle d ≡ None → [] ≡ new_handles d wanted
+unfolding vm_handles next_handle
+all_taken d wanted is = sym (take_none wanted) ∙ sym (ap (λ (hs : List ℕ). take wanted hs) (none_found (λ k. not (is_live d k)) vm_handles is))
+
 -- one more of those that are wanted
 pub new_more : (found : List VmHandle) (h : VmHandle) (wanted : ℕ) (rest all : List ℕ) → length found < wanted → numbers found ++ take (wanted - length found) (h.0 ∷ rest) ≡ all → numbers (found ++ h ∷ []) ++ take (wanted - length (found ++ h ∷ [])) rest ≡ all
 new_more found h wanted rest all few so_far =
@@ -62,10 +99,6 @@ new_more found h wanted rest all few so_far =
     (λ j. map-append (λ (x : VmHandle). x.0) found (h ∷ []) j ++ take (wanted - length_push found h j) rest)
     ∙ append_assoc (numbers found) (h.0 ∷ []) (take (wanted - (length found + 1)) rest)
     ∙ sym (ap (λ (k : ℕ). numbers found ++ take k (h.0 ∷ rest)) left) ∙ so_far
-
-take_none : (n : ℕ) → take n [] ≡ (let none : List ℕ = [] in none)
-take_none zero = refl
-take_none (suc n) = refl
 
 -- all that there are
 pub new_end : (found : List VmHandle) (n : ℕ) (rest all : List ℕ) → rest ≡ [] → numbers found ++ take n rest ≡ all → numbers found ≡ all

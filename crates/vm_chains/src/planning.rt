@@ -129,7 +129,11 @@ pub fn free_handles<S: Store>(
     ensures { IfOk result (λ handles. numbers handles.items ≡ new_handles blocks.now.document wanted) }
 {
     let mut handles = Vec::new(alloc);
-    for i in 0..MOST_BLOCKS {
+    // Below the least free handle all are live.
+    let Some(first) = blocks.next_handle() else {
+        return Ok(handles);
+    };
+    for i in usize::from(first.0) - 1..MOST_BLOCKS {
         if handles.len() == wanted {
             return Ok(handles);
         }

@@ -1,18 +1,24 @@
 use Rattle.std.proofs.Common.{◌≡◌, ◌+◌, ◌-◌, ◌<◌, ◌++◌, ◌∷◌, [], ℕ, List, Vec, Global, take, length, sym, ap, ◌∙◌, arith}
 use Rattle.std.proofs.lemmas.List.{length_push}
+use Rattle.std.specs.Option.{option_map}
 use Rattle.geos_model.specs.Chain.{free_handles}
 use Rattle.geos_model.specs.declared.handle.VmHandle.{VmHandle}
 use Rattle.vm_chains.specs.Numbers.{numbers}
-use Rattle.vm_chains.proofs.CopyLemmas.{free_from, all_free, none_free, free_next, live_next, new_more, new_end}
+use Rattle.vm_chains.proofs.CopyLemmas.{all_taken, free_first, free_from, none_free, free_next, live_next, new_more, new_end}
 use Rattle.vm_chains.proofs.planning.free_handles.Goals as goal
 use Rattle.vm_chains.proofs.planning.free_handles.Goals.{then-not-is_live+in_ok-push, else-not-is_live}
+
+pub returns-in_default : goal.returns-in_default
+returns-in_default g c = ap numbers c.new-handles.ensures.items ∙ all_taken c.args.blocks.now.document c.args.wanted (sym c.next_handle.ensures.value ∙ ap (option_map (λ h. h.0)) c.in_default.is)
 
 pub loop-i-init : goal.loop-i-init
 loop-i-init g c =
     let nothing = c.new-handles.ensures.items in
     let d = c.args.blocks.now.document in
+    let first = free_first d c.in-Some.first.0 (sym c.next_handle.ensures.value ∙ ap (option_map (λ h. h.0)) c.in-Some.is) in
+    let from : free_from d (c.from-i.result - 1) ≡ free_handles d = ap (λ (h : ℕ). free_from d (h - 1)) c.from-i.ensures ∙ first in
     record {
-      found = (λ j. numbers (nothing j) ++ take (c.args.wanted - length (nothing j)) (all_free d j)) ∙ ap (λ (n : ℕ). take n (free_handles d)) (omega arith);
+      found = (λ j. numbers (nothing j) ++ take (c.args.wanted - length (nothing j)) (from j)) ∙ ap (λ (n : ℕ). take n (free_handles d)) (omega arith);
       few = omega (arith, ap (λ (hs : List VmHandle). length hs) nothing);
     }
 
