@@ -226,7 +226,7 @@ told_rise (Ok x) a b more = more
 told_rise (Err x) a b more = omega (arith, more)
 
 module _ {S : Type 0} (facts : S → StoreFacts) (a b : S) (live : BlockTable) (slots now : Slots) (pair : Pair) (call : IsCommit facts a b live slots now pair) where
-  pair_there : IsTrue (facts a).honest → KeepsAll (pair_extents pair) (facts a).content (facts a).content
+  pub pair_there : IsTrue (facts a).honest → KeepsAll (pair_extents pair) (facts a).content (facts a).content
   pair_there so =
       let updated = stored_within slots.next_version (facts a).content pair.updated (call.stored so).updated in
       let saved = stored_within slots.next_version (facts a).content pair.saved (call.stored so).saved in

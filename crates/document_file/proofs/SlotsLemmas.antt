@@ -7,7 +7,8 @@ use Rattle.byteorder.specs.Numbers.{length-bytes_low_first}
 use Rattle.vm_store.specs.Facts.{byte, Torn, Holds, Counts, FailedSince, StoreFacts, IsDurable, IsUnchanged}
 use Rattle.file_format.specs.File.{slot_mark, extent_text, slot_sums_text}
 use Rattle.document_file.specs.Ranges.{start_of, end_of, IsPlaced, KeepsExtent, KeepsAll, IsOut, IsClear}
-use Rattle.document_file.specs.Slots.{pair_extents, prepared_extents, referenced_extents, counting_of, spare_of, switched, Failed, LeftBy, gate_text, behind_gate, sums_of, unsummed_slot, LeadsTo, IsUnmarked, IsOlder, IsBeside, Outcome, AreExtentsPlaced, IsBesideOut, Spares, FailedEarly, CrashLeavesSlots, Outlives, IsShutBehind}
+use Rattle.document_file.specs.Slots.{pair_extents, prepared_extents, referenced_extents, counting_of, spare_of, switched, Failed, LeftBy, gate_text, behind_gate, sums_of, unsummed_slot, LeadsTo, IsUnmarked, IsOlder, IsBeside, Outcome, AreExtentsPlaced, IsBesideOut, Spares, FailedEarly, CrashLeavesSlots, CrashLeavesShut, Outlives, IsKeptBehind, IsShutBehind, slot_value}
+use Rattle.document_file.specs.Documents.{Documents, documents_in, IsOpenTo}
 use Rattle.document_file.proofs.SumsLemmas.{behind_few}
 use Rattle.document_file.specs.declared.table.Pair.{Pair}
 use Rattle.document_file.specs.declared.slot.SpareSlot.{SpareSlot}
@@ -331,15 +332,26 @@ module _ (slots now : Slots) (pair : Pair) (file : List ℕ) (a b : StoreFacts) 
 pub as_left : (slots : Slots) (pair : Pair) (file : List ℕ) (a b : StoreFacts) → Outlives a b file (λ s. Failed slots pair s) → Outlives a b file (λ s. LeftBy slots pair s)
 as_left slots pair file a b p = Outlives-more a b file (λ s. Failed slots pair s) (λ s. LeftBy slots pair s) (λ s is. inl is) p
 
--- what comes before a commit leaves its slot as it is
-pub shut_after : {T E : Type 0} (r : Result T E) (a b c : StoreFacts) (old new : Slots) → b.honest ≡ a.honest → a.failures ≤ b.failures → OnOk r (IsShutBehind b c old new) → OnOk r (IsShutBehind a c old new)
-shut_after (Ok x) a b c old new same first shut = λ gives holds.
-    elim (shut gives (subst IsTrue (sym same) holds)) as (λ _. FailedSince a c ⊎ (byte c.content (512 * spare_of new + 4) ≡ 0)) [ inl failed ↦ inl (omega (arith, first, failed)) | inr is ↦ inr is ]
-shut_after (Err x) a b c old new same first shut = tt
+-- What comes before a commit leaves its slot as it is.
+
+pub shut_after : {T E : Type 0} (r : Result T E) (a b c : StoreFacts) (slots : Slots) → b.honest ≡ a.honest → a.failures ≤ b.failures → OnOk r (IsShutBehind b c slots) → OnOk r (IsShutBehind a c slots)
+shut_after (Ok x) a b c slots same first shut = λ gives holds. elim (shut gives (subst IsTrue (sym same) holds)) as (λ _. FailedSince a c ⊎ CrashLeavesShut c (counting_of slots)) [ inl failed ↦ inl (omega (arith, first, failed)) | inr is ↦ inr is ]
+shut_after (Err x) a b c slots same first shut = tt
+
+pub kept_after : {T E : Type 0} (r : Result T E) (a b c : StoreFacts) (slots : Slots) → b.honest ≡ a.honest → (IsTrue a.honest → documents_in b.content slots.committed ≡ documents_in a.content slots.committed) → OnOk r (IsKeptBehind b c slots) → OnOk r (IsKeptBehind a c slots)
+kept_after (Ok x) a b c slots same documents kept = λ none holds f left.
+    subst (λ (d : Documents). IsOpenTo (counting_of slots) (slot_value slots.version slots.sequence slots.committed) d f) (documents holds) (kept none (subst IsTrue (sym same) holds) f left)
+kept_after (Err x) a b c slots same documents kept = tt
 
 -- the gate of the slot that counted before, where its shutting was tried
-pub shut_tried : {T E : Type 0} (r : Result T E) (a b : StoreFacts) (slots : Slots) (at : ℕ) → at ≡ 512 * spare_of slots + 4 → Counts r a b → OnOk r (IsTrue a.honest → Holds b.content at (0 ∷ [])) → IsTrue a.honest → FailedSince a b ⊎ (byte b.content (512 * spare_of slots + 4) ≡ 0)
-shut_tried (Ok x) a b slots at is counts holds so =
-    let here : at ≡ at + 0 = omega arith in
-    inr (sym (ap (byte b.content) is) ∙ ap (byte b.content) here ∙ (holds so).each 0 (omega arith))
-shut_tried (Err x) a b slots at is counts holds so = inl (omega (arith, counts))
+pub shut_tried : {T E : Type 0} (r : Result T E) (a b : StoreFacts) (slots : Slots) (at : ℕ) → at ≡ 512 * spare_of slots + 4 → Counts r a b → OnOk r (IsTrue a.honest → Holds b.content at (0 ∷ [])) → OnOk r (IsTrue a.honest → IsDurable b) → IsTrue a.honest
+    → FailedSince a b ⊎ CrashLeavesShut b (spare_of slots)
+shut_tried (Ok x) a b slots at is counts holds durable so = inr (λ c left. durable_byte b (512 * spare_of slots + 4) 0 (durable so) (subst (λ n. Holds b.content n (0 ∷ [])) is (holds so)) c left)
+shut_tried (Err x) a b slots at is counts holds durable so = inl (omega (arith, counts))
+
+-- which is that one
+pub shut_before : (a b c : StoreFacts) (slots : Slots) (pair : Pair) (now : Slots) → a.failures ≤ b.failures → now ≡ switched slots pair → FailedSince b c ⊎ CrashLeavesShut c (spare_of now) → FailedSince a c ⊎ CrashLeavesShut c (counting_of slots)
+shut_before a b c slots pair now first is shut = elim shut as (λ _. FailedSince a c ⊎ CrashLeavesShut c (counting_of slots)) [
+  | inl failed ↦ inl (omega (arith, first, failed))
+  | inr gate ↦ inr (subst (CrashLeavesShut c) (ap spare_of is ∙ not_slot slots pair) gate)
+]

@@ -14,13 +14,13 @@ use Rattle.vm_store.specs.Facts.{StoreFacts, byte, IsTimely}
 use Rattle.geos_model.specs.Bytes.{same_bytes}
 use Rattle.geos_model.specs.Document.{Block, IsTyped, is_heap_body}
 use Rattle.geos_model.specs.Image.{body_of, body_read}
-use Rattle.file_format.specs.File.{stands, open_slot, if_open, slot_text, slot_mark, slot_fields, counting_slot, document_at, document_of, blocks_of_entries, bytes_in, has_sum, prepended, summed_document}
+use Rattle.file_format.specs.File.{stands, open_slot, if_open, slot_text, slot_mark, slot_fields, counting_slot, pair_of, document_at, document_of, blocks_of_entries, bytes_in, has_sum, prepended, summed_document}
 use Rattle.file_format.specs.declared.file.Extent.{Extent}
 use Rattle.file_format.specs.declared.file.Entry.{Entry}
 use Rattle.file_format.specs.declared.file.Slot.{Slot}
 use Rattle.geos_model.proofs.Table.{table_entries, table_map}
 use Rattle.file_format.proofs.FileDocuments.{block_of-is, bytes_in-keeps, directory_of-some, document_at-kept, is_in_file-parts}
-use Rattle.file_format.proofs.FileStands.{stands-from, counts-first, counts-second, counts-first_newer, counts-second_newer, open_slot-text, open_slot-shut, slot_bytes}
+use Rattle.file_format.proofs.FileStands.{stands-from, pair_of-from, counts-first, counts-second, counts-first_newer, counts-second_newer, open_slot-text, open_slot-shut, slot_bytes}
 use Rattle.document_file.specs.Ranges.{IsPlaced, KeepsExtent, KeepsAll}
 use Rattle.document_file.specs.Sums.{AreSummed, IsSummed, has_sums}
 use Rattle.document_file.proofs.SumsLemmas.{sum_for-has, sum_for-fits, sums_sealed, sums_fit, sums_working, sums_saved, behind_few, next_is}
@@ -219,6 +219,20 @@ stands_for version sequence pair file c fits stored updated saved counts_is =
       saved_is = ap (λ (o : Option ℕ). summed_document version c o pair.saved.directory) (sums_saved version (unsummed_slot version sequence pair) pair.updated.sum pair.saved.sum fits.updated_sum fits.saved_sum) ∙ stored_kept version file c pair.saved fits.tables.saved stored.saved saved;
     })
 
+-- the documents of a slot, whether or not it counts
+pub slot_documents : (version sequence : ℕ) (pair : Pair) (file c : List ℕ) → FitsPair version sequence pair → AreStored version file pair → KeepsAll (pair_extents pair) file c → pair_of c (slot_value version sequence pair) ≡ Ok (documents_in file pair)
+slot_documents version sequence pair file c fits stored keeps =
+    let updated = all_left (KeepsExtent file c) (stored_extents pair.updated) (stored_extents pair.saved) keeps in
+    let saved = all_right (KeepsExtent file c) (stored_extents pair.updated) (stored_extents pair.saved) keeps in
+    pair_of-from c (slot_value version sequence pair) (document_in file pair.updated.table.value) (document_in file pair.saved.table.value) (record {
+      version = fits.versioned;
+      reserved = refl;
+      sequence = fits.some;
+      sealed = sums_sealed (unsummed_slot version sequence pair) pair.updated.sum pair.saved.sum;
+      working = ap (λ (o : Option ℕ). summed_document version c o pair.updated.directory) (sums_working version (unsummed_slot version sequence pair) pair.updated.sum pair.saved.sum fits.updated_sum fits.saved_sum) ∙ stored_kept version file c pair.updated fits.tables.updated stored.updated updated;
+      saved_is = ap (λ (o : Option ℕ). summed_document version c o pair.saved.directory) (sums_saved version (unsummed_slot version sequence pair) pair.updated.sum pair.saved.sum fits.updated_sum fits.saved_sum) ∙ stored_kept version file c pair.saved fits.tables.saved stored.saved saved;
+    })
+
 -- The file of a crash.
 
 abbrev pub AllPlaced : Pair → Type 0
@@ -270,7 +284,7 @@ pub record AreReadable (slots : Slots) (file : List ℕ) : Type 0 where
   pub committed : AreStored slots.version file slots.committed
   pub prepared : IsPreparedReadable slots.next_version file slots.sequence slots.spare
 
-stale_beaten : (second : Bool) (sequence : ℕ) (c : List ℕ) → sequence < 2 ^ 64 → 1024 ≤ length c → IsUnmarked (if second then 0 else 1) c ⊎ IsOlder (if second then 0 else 1) sequence c → Beaten (open_slot c (if second then 0 else 1)) sequence
+pub stale_beaten : (second : Bool) (sequence : ℕ) (c : List ℕ) → sequence < 2 ^ 64 → 1024 ≤ length c → IsUnmarked (if second then 0 else 1) c ⊎ IsOlder (if second then 0 else 1) sequence c → Beaten (open_slot c (if second then 0 else 1)) sequence
 stale_beaten second sequence c range long (inl unmarked) = inl (unmarked_shut (if second then 0 else 1) c (both_within c second long) unmarked)
 stale_beaten second sequence c range long (inr older) = older_beaten (if second then 0 else 1) sequence c range (both_within c second long) older
 

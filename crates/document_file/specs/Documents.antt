@@ -4,7 +4,7 @@ use Rattle.std.specs.FinMap.{empty}
 use Rattle.std.specs.Option.{option_map}
 use Rattle.geos_model.specs.Document.{Block, Document, is_heap_body}
 use Rattle.geos_model.specs.Image.{body_of, body_read}
-use Rattle.file_format.specs.File.{Directory, bytes_in, directory_of, open_slot, counting_slot}
+use Rattle.file_format.specs.File.{Directory, bytes_in, directory_of, open_slot, counting_slot, pair_of}
 use Rattle.geos_model.specs.declared.command.Body.{Body}
 use Rattle.geos_model.specs.declared.command.Body.TheVariants.{Raw, Heap}
 use Rattle.geos_model.specs.declared.fault.Fault.{Fault}
@@ -124,3 +124,7 @@ is_for_both (Err fault) = false
 -- whether the slot that counts has one directory for both documents
 abbrev pub has_one_directory : List ℕ → Bool
 has_one_directory file = is_for_both (counting_slot (open_slot file 0) (open_slot file 1))
+
+-- a slot, 0 or 1, is open and leads to documents
+abbrev pub IsOpenTo : ℕ → Slot → Documents → List ℕ → Type 0
+IsOpenTo page slot documents file = (open_slot file page ≡ Some slot) × (pair_of file slot ≡ Ok documents)

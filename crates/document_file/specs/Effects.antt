@@ -1,6 +1,6 @@
 -- What a call leaves of a file, and why it is refused: each layer from the file up to the session says it in these
 -- words.
-use Rattle.std.specs.Prelude.{◌≡◌, ◌≢◌, ◌⊎◌, ◌↔◌, ◌≤◌, Bool, true, false, IsTrue, [], None, Some, Result, OnOk, IfErr, IsErrOf, MatchResult}
+use Rattle.std.specs.Prelude.{◌≡◌, ◌≢◌, ◌⊎◌, ◌↔◌, ◌≤◌, ℕ, Bool, true, false, IsTrue, List, [], None, Some, Result, OnOk, IfErr, IsErrOf, MatchResult}
 use Rattle.vm_store.specs.Facts.{StoreFacts, FailedSince, IsUnchanged}
 use Rattle.geos_model.specs.Document.{Document, IsValid}
 use Rattle.geos_model.specs.declared.fault.Fault.{Fault}
@@ -8,9 +8,10 @@ use Rattle.geos_model.specs.declared.fault.Fault.TheVariants.{File, Damaged, Wor
 use Rattle.file_format.specs.Reading.{IsResourceFault}
 use Rattle.document_file.specs.Calls.{last_sequence}
 use Rattle.document_file.specs.Disk.{Disk, FileState, SameUnlessCorrupt, IsFileDocument, KeepsCommitted, MayCommit, IsCrashConsistent, HasSequence, ContentStands}
-use Rattle.document_file.specs.Documents.{Documents, has_checksums, version_in}
+use Rattle.document_file.specs.Documents.{Documents, IsOpenTo, version_in}
 use Rattle.file_format.specs.File.{open_slot}
-use Rattle.document_file.specs.Sums.{version_for}
+use Rattle.file_format.specs.declared.file.Slot.{Slot}
+use Rattle.document_file.specs.Sums.{has_sums, version_for}
 
 -- What always holds of a file. Over an honest store a crash now leaves what may be read, the updated and the saved
 -- document are valid, and unless a commit failed in its last step the number is on the disk.
@@ -34,14 +35,27 @@ abbrev pub HasCommitVersion : {S : Type 0} → (S → StoreFacts) → Disk S →
 HasCommitVersion facts disk =
     IsTrue (facts disk.store).honest → version_in (facts disk.store).content ≡ Some (version_for disk.checksums)
 
--- Where a commit gave a file its sums, one slot alone is open, or the store failed meanwhile: what the other one leads
--- to has none, so nothing would tell once its pages are written over.
+-- The slot of the last acknowledged commit, 0 or 1: it counts, but where the pair of a commit that failed is read.
+pub record IsCommitSlot {S : Type 0} (facts : S → StoreFacts) (disk : Disk S) (page : ℕ) (slot : Slot) : Type 0 where
+  pub is_slot : page ≤ 1
+  pub opened : open_slot (facts disk.store).content page ≡ Some slot
+  pub numbered : slot.sequence ≡ disk.sequence
+
+-- Where a commit gives a file its sums, the slot of the commit before is shut in whatever a crash now leaves, or the
+-- store failed meanwhile: what that slot leads to has none, so nothing would tell once its pages are written over.
 abbrev pub IsTurned : {S : Type 0} → (S → StoreFacts) → Disk S → Disk S → Type 0
 IsTurned facts old new =
-    IsTrue (facts old.store).honest → old.in_doubt ≡ [] → old.checksums ≡ true
-    → has_checksums (facts old.store).content ≡ false
+    IsTrue (facts old.store).honest → (page : ℕ) (slot : Slot) → IsCommitSlot facts old page slot
+    → has_sums slot.version ≡ false → old.checksums ≡ true
     → FailedSince (facts old.store) (facts new.store)
-    ⊎ ((open_slot (facts new.store).content 0 ≡ None) ⊎ (open_slot (facts new.store).content 1 ≡ None))
+    ⊎ ((c : List ℕ) → (facts new.store).may_leave c → open_slot c page ≡ None)
+
+-- Where it gives none, that slot stays open in whatever a crash now leaves, and leads to what it led to.
+abbrev pub KeepsSlot : {S : Type 0} → (S → StoreFacts) → Disk S → Disk S → Type 0
+KeepsSlot facts old new =
+    IsTrue (facts old.store).honest → (page : ℕ) (slot : Slot) → IsCommitSlot facts old page slot
+    → has_sums slot.version ≡ old.checksums
+    → (c : List ℕ) → (facts new.store).may_leave c → IsOpenTo page slot (old.updated, old.saved) c
 
 -- The file was just made of a document, which is the updated and the saved one, under the first number.
 pub record IsNewFile {S : Type 0} (facts : S → StoreFacts) (d : Document) (disk : Disk S) : Type 0 where

@@ -8,6 +8,7 @@ use Rattle.document_file.specs.Ranges.{IsPlaced, KeepsAll, IsOut, IsClear}
 use Rattle.checksum.specs.Crc32c.{crc32c}
 use Rattle.file_format.specs.declared.file.SlotSums.{SlotSums}
 use Rattle.file_format.specs.declared.file.Slot.{Slot}
+use Rattle.document_file.specs.Documents.{documents_in, IsOpenTo}
 use Rattle.document_file.specs.Sums.{has_sums}
 use Rattle.document_file.specs.declared.table.Place.{Place}
 use Rattle.document_file.specs.declared.table.BlockTable.{BlockTable}
@@ -72,11 +73,15 @@ switched slots pair =
 abbrev pub GivesSums : Slots → Type 0
 GivesSums slots = (has_sums slots.next_version ≡ true) × (has_sums slots.version ≡ false)
 
--- Where a commit gives a file sums, the slot that counted before is shut, or the store failed meanwhile.
-abbrev pub IsShutBehind : StoreFacts → StoreFacts → Slots → Slots → Type 0
-IsShutBehind before after old new =
-    GivesSums old → IsTrue before.honest
-    → FailedSince before after ⊎ (byte after.content (512 * spare_of new + 4) ≡ 0)
+-- a crash now leaves the gate of a slot shut
+abbrev pub CrashLeavesShut : StoreFacts → ℕ → Type 0
+CrashLeavesShut store slot = (c : List ℕ) → store.may_leave c → byte c (512 * slot + 4) ≡ 0
+
+-- Where a commit gives a file sums, a crash behind it leaves the slot that counted before shut, or the store failed
+-- meanwhile.
+abbrev pub IsShutBehind : StoreFacts → StoreFacts → Slots → Type 0
+IsShutBehind before after old =
+    GivesSums old → IsTrue before.honest → FailedSince before after ⊎ CrashLeavesShut after (counting_of old)
 
 -- what a commit that failed before its last step may leave of the slots
 abbrev pub FailedEarly : Slots → Slots → Type 0
@@ -131,6 +136,13 @@ abbrev pub behind_gate : ℕ → ℕ → Pair → List ℕ
 behind_gate version sequence pair =
     gate_text version sequence pair.updated.directory pair.saved.directory
     ++ slot_sums_text (sums_of (unsummed_slot version sequence pair) pair.updated.sum pair.saved.sum)
+
+-- Where a commit gives no sums, a crash behind it leaves the slot that counted before open, and what it led to.
+abbrev pub IsKeptBehind : StoreFacts → StoreFacts → Slots → Type 0
+IsKeptBehind before after old =
+    has_sums old.next_version ≡ has_sums old.version → IsTrue before.honest → (c : List ℕ) → after.may_leave c
+    → IsOpenTo (counting_of old) (slot_value old.version old.sequence old.committed)
+    (documents_in before.content old.committed) c
 
 -- Whatever its gate, the slot has this version and this number and leads to this pair, whose bytes are those of the
 -- file.

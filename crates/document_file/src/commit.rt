@@ -1,13 +1,13 @@
 //! Commits: the steps through the slots, and what they make of the documents.
 ghost use Rattle.std.specs.Prelude.{if◌then◌else◌, IfOk, ◌≡◌, ◌≤◌, ◌↔◌, ◌⊎◌, ◌+◌, ◌∷◌, [], ◌*◌, ◌<◌, ℕ, List, All, IsTrue, OnOk, OnErr, MatchResult, length, IfErr, IsErrOf};
-ghost use Rattle.vm_store.specs.Facts.{byte, raised, IsDurable, Torn, Holds, Counts, FailedSince};
+ghost use Rattle.vm_store.specs.Facts.{raised, IsDurable, Torn, Holds, Counts, FailedSince};
 ghost use Rattle.file_format.specs.File.{slot_mark};
 ghost use Rattle.document_file.specs.Ranges.{start_of, IsClear, IsPlaced, KeepsAll};
 ghost use Rattle.document_file.specs.Calls.{last_sequence};
 ghost use Rattle.document_file.specs.Sound.{AreTables, IsBlockTable, IsFormed, IsWhole, IsSound, disk_of};
 ghost use Rattle.document_file.specs.Documents.{document_in, documents_in, AreStored, IsStored};
 ghost use Rattle.vm_store.specs.Laws.{Tears};
-ghost use Rattle.document_file.specs.Slots.{behind_gate, pair_extents, stored_extents, spare_of, switched, AreExtentsPlaced, CrashLeavesSlots, Outlives, FailedEarly, Failed, LeftBy, GivesSums, IsShutBehind};
+ghost use Rattle.document_file.specs.Slots.{behind_gate, pair_extents, stored_extents, spare_of, switched, AreExtentsPlaced, CrashLeavesSlots, Outlives, FailedEarly, Failed, LeftBy, GivesSums, CrashLeavesShut, IsKeptBehind, IsShutBehind};
 ghost use Rattle.document_file.specs.Disk.{MayCommit};
 ghost use Rattle.document_file.specs.PendingDirectories.{IsPendingDirectory, IsSavedAnew, IsSpared};
 ghost use Rattle.document_file.specs.Copies.{IsSameStored};
@@ -118,6 +118,10 @@ fn open_gate<S: Store>(store: &mut S, slots: &mut Slots, pair: Pair) -> Result<(
     ensures leaves { (file : List ℕ) → IsTrue (S.facts store.old).honest
         → CrashLeavesSlots (S.facts store.old) (record slots.old { spare = SpareSlot.Prepared pair }) file
         → CrashLeavesSlots (S.facts store.new) slots.new file }
+    // the slot that counted is as it was
+    ensures still { (file : List ℕ) → IsTrue (S.facts store.old).honest
+        → CrashLeavesSlots (S.facts store.old) (record slots.old { spare = SpareSlot.Prepared pair }) file
+        → CrashLeavesSlots (S.facts store.new) (record slots.old { spare = SpareSlot.Prepared pair }) file }
 {
     match write_through(store, spare_gate(slots), &[1]) {
         Ok(()) => {
@@ -155,7 +159,7 @@ fn shut_stale<S: Store>(store: &mut S, slots: &Slots)
     ensures failures { (S.facts store.old).failures ≤ (S.facts store.new).failures }
     // The gate.
     ensures shut { IsTrue (S.facts store.old).honest → FailedSince (S.facts store.old) (S.facts store.new)
-        ⊎ (byte (S.facts store.new).content (512 * spare_of slots.now + 4) ≡ 0) }
+        ⊎ CrashLeavesShut (S.facts store.new) (spare_of slots.now) }
     // Crashes.
     ensures elsewhere { IsTrue (S.facts store.old).honest
         → Torn 0 1024 (S.facts store.old).content (S.facts store.new).content }
@@ -190,7 +194,12 @@ fn commit_slots<S: Store>(store: &mut S, slots: &mut Slots, pair: Pair) -> Resul
         ⊎ ((file : List ℕ) → IsTrue (S.facts store.old).honest → CrashLeavesSlots (S.facts store.old) slots.old file
         → Outlives (S.facts store.old) (S.facts store.new) file (λ s. FailedEarly slots.old s))) }
     // The slot that counted before.
-    ensures shut { OnOk result (IsShutBehind (S.facts store.old) (S.facts store.new) slots.old slots.new) }
+    ensures shut { OnOk result (IsShutBehind (S.facts store.old) (S.facts store.new) slots.old) }
+    ensures still { OnOk result ((file : List ℕ) → IsTrue (S.facts store.old).honest
+        → has_sums slots.old.next_version ≡ has_sums slots.old.version
+        → CrashLeavesSlots (S.facts store.old) slots.old file
+        → KeepsAll (pair_extents pair) file (S.facts store.old).content
+        → CrashLeavesSlots (S.facts store.new) (record slots.old { spare = SpareSlot.Prepared pair }) file) }
     // Crashes.
     ensures elsewhere { IsTrue (S.facts store.old).honest
         → Torn 0 1024 (S.facts store.old).content (S.facts store.new).content }
@@ -237,7 +246,8 @@ pub fn commit_pair<S: Store>(
         → document_in (S.facts store.new).content live.now ≡ document_in (S.facts store.old).content live.now }
     // Where it is acknowledged.
     ensures switched { OnOk result (slots.new ≡ switched slots.old pair) }
-    ensures shut { OnOk result (IsShutBehind (S.facts store.old) (S.facts store.new) slots.old slots.new) }
+    ensures shut { OnOk result (IsShutBehind (S.facts store.old) (S.facts store.new) slots.old) }
+    ensures kept { OnOk result (IsKeptBehind (S.facts store.old) (S.facts store.new) slots.old) }
     // Refusals.
     ensures file { IsErrOf result Fault.File → FailedSince (S.facts store.old) (S.facts store.new) }
     ensures refusals { IfErr result (λ fault. fault ≡ Fault.File) }
@@ -287,7 +297,8 @@ pub fn commit_pending<S: Store>(
     // Where it is acknowledged.
     ensures switched { OnOk result
         (slots.new ≡ switched slots.old (record { updated = pending.document; saved = saved })) }
-    ensures shut { OnOk result (IsShutBehind (S.facts store.old) (S.facts store.new) slots.old slots.new) }
+    ensures shut { OnOk result (IsShutBehind (S.facts store.old) (S.facts store.new) slots.old) }
+    ensures kept { OnOk result (IsKeptBehind (S.facts store.old) (S.facts store.new) slots.old) }
     // Refusals.
     ensures file { IsErrOf result Fault.File → FailedSince (S.facts store.old) (S.facts store.new) }
     ensures refusals { IfErr result (λ fault. fault ≡ Fault.File) }
@@ -329,7 +340,8 @@ fn commit_beside<S: Store>(
     // Where it is acknowledged.
     ensures switched { OnOk result
         (slots.new ≡ switched slots.old (record { updated = pending.document; saved = saved })) }
-    ensures shut { OnOk result (IsShutBehind (S.facts store.old) (S.facts store.new) slots.old slots.new) }
+    ensures shut { OnOk result (IsShutBehind (S.facts store.old) (S.facts store.new) slots.old) }
+    ensures kept { OnOk result (IsKeptBehind (S.facts store.old) (S.facts store.new) slots.old) }
     // Refusals.
     ensures file { IsErrOf result Fault.File → FailedSince (S.facts store.old) (S.facts store.new) }
     ensures refusals { IfErr result (λ fault. fault ≡ Fault.File) }
@@ -370,7 +382,8 @@ pub fn commit_summed<S: Store>(
     // Where it is acknowledged.
     ensures switched { OnOk result
         (slots.new ≡ switched slots.old (record { updated = pending.document; saved = saved.document })) }
-    ensures shut { OnOk result (IsShutBehind (S.facts store.old) (S.facts store.new) slots.old slots.new) }
+    ensures shut { OnOk result (IsShutBehind (S.facts store.old) (S.facts store.new) slots.old) }
+    ensures kept { OnOk result (IsKeptBehind (S.facts store.old) (S.facts store.new) slots.old) }
     // Refusals.
     ensures file { IsErrOf result Fault.File → FailedSince (S.facts store.old) (S.facts store.new) }
     ensures refusals { IfErr result (λ fault. fault ≡ Fault.File) }

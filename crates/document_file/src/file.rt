@@ -9,7 +9,7 @@ ghost use Rattle.geos_model.specs.declared.command.Body.TheVariants as bodies;
 ghost use Rattle.geos_model.specs.Reply.{found};
 ghost use Rattle.file_format.specs.File.{bytes_in, directory_text, open_slot, stands};
 ghost use Rattle.document_file.specs.Disk.{FileState, ContentStands, SameUnlessCorrupt, KeepsCommitted, IsCrashConsistent, HasSequence, unmarked};
-ghost use Rattle.document_file.specs.Effects.{IsFile, IsNewFile, IsTurned, SameStore, OnlyReads, LeavesDocument, IsCommit, Fails, NoFault, IsDamage, IsWorn};
+ghost use Rattle.document_file.specs.Effects.{IsFile, IsNewFile, IsTurned, KeepsSlot, SameStore, OnlyReads, LeavesDocument, IsCommit, Fails, NoFault, IsDamage, IsWorn};
 ghost use Rattle.document_file.specs.Documents.{has_checksums, has_one_directory, sequence_in};
 ghost use Rattle.document_file.specs.Fronts.{first_word};
 ghost use Rattle.document_file.specs.Making.{first_directory, first_file, first_open, no_blocks};
@@ -402,6 +402,7 @@ impl<S: Store> VmFile<S> {
         ensures commit { IsCommit S.facts (self.old.document, self.old.disk.saved) self.old.document
             self.old self.new result }
         ensures turned { OnOk result (IsTurned S.facts self.old.disk self.new.disk) }
+        ensures kept { OnOk result (KeepsSlot S.facts self.old.disk self.new.disk) }
         ensures early { IfErr result (λ fault. fault ≢ Fault.File → self.new ≡ self.old) }
         ensures fails { Fails S.facts IsWorn self.old.disk.store self.new.disk.store result }
     {
@@ -413,6 +414,7 @@ impl<S: Store> VmFile<S> {
         ensures commit { IsCommit S.facts (self.old.document, self.old.document) self.old.document
             self.old self.new result }
         ensures turned { OnOk result (IsTurned S.facts self.old.disk self.new.disk) }
+        ensures kept { OnOk result (KeepsSlot S.facts self.old.disk self.new.disk) }
         ensures early { IfErr result (λ fault. fault ≢ Fault.File → self.new ≡ self.old) }
         ensures fails { Fails S.facts IsWorn self.old.disk.store self.new.disk.store result }
     {
@@ -424,6 +426,7 @@ impl<S: Store> VmFile<S> {
         ensures commit { IsCommit S.facts (self.old.document, if saves then self.old.document else self.old.disk.saved)
             self.old.document self.old self.new result }
         ensures turned { OnOk result (IsTurned S.facts self.old.disk self.new.disk) }
+        ensures kept { OnOk result (KeepsSlot S.facts self.old.disk self.new.disk) }
         ensures early { IfErr result (λ fault. fault ≢ Fault.File → self.new ≡ self.old) }
         ensures fails { Fails S.facts IsWorn self.old.disk.store self.new.disk.store result }
     {
@@ -451,6 +454,7 @@ impl<S: Store> VmFile<S> {
         ensures commit { IsCommit S.facts (self.old.disk.saved, self.old.disk.saved) self.old.disk.saved
             self.old self.new result }
         ensures turned { OnOk result (IsTurned S.facts self.old.disk self.new.disk) }
+        ensures kept { OnOk result (KeepsSlot S.facts self.old.disk self.new.disk) }
         ensures early { IfErr result (λ fault. fault ≢ Fault.File → self.new ≡ self.old) }
         ensures fails { Fails S.facts IsWorn self.old.disk.store self.new.disk.store result }
     {

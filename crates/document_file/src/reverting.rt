@@ -7,7 +7,7 @@ ghost use Rattle.document_file.specs.Disk.{KeepsCommitted, MayCommit};
 ghost use Rattle.document_file.specs.Documents.{document_in, IsStored};
 ghost use Rattle.document_file.specs.FreeSpace.{IsSpaceOf};
 ghost use Rattle.document_file.specs.PendingDirectories.{IsSavedAnew, IsSpared, reverted};
-ghost use Rattle.document_file.specs.Slots.{block_extents, referenced_extents, switched, IsShutBehind};
+ghost use Rattle.document_file.specs.Slots.{block_extents, referenced_extents, switched, IsKeptBehind, IsShutBehind};
 ghost use Rattle.document_file.specs.Sound.{IsFormed, IsSound, disk_of};
 ghost use Rattle.document_file.specs.Sums.{has_sums};
 
@@ -115,7 +115,8 @@ pub fn commit_reverted<S: Store>(
         → document_in (S.facts store.new).content live.now ≡ document_in (S.facts store.old).content live.now }
     // Where it is acknowledged.
     ensures switched { OnOk result (slots.new ≡ switched slots.old pair) }
-    ensures shut { OnOk result (IsShutBehind (S.facts store.old) (S.facts store.new) slots.old slots.new) }
+    ensures shut { OnOk result (IsShutBehind (S.facts store.old) (S.facts store.new) slots.old) }
+    ensures kept { OnOk result (IsKeptBehind (S.facts store.old) (S.facts store.new) slots.old) }
     // Refusals.
     ensures file { IsErrOf result Fault.File → FailedSince (S.facts store.old) (S.facts store.new) }
     ensures refusals { IfErr result (λ fault. fault ≡ Fault.File) }

@@ -1,7 +1,8 @@
 use Rattle.std.proofs.Common.{arith}
 use Rattle.std.proofs.lemmas.Result.{err_from_is_err_and}
-use Rattle.document_file.proofs.CommitLemmas.{IsCommit, told_rise, ok_commits, ok_sound, ok_live, err_commits, err_sound, err_live}
+use Rattle.document_file.proofs.CommitLemmas.{IsCommit, pair_there, told_rise, ok_commits, ok_sound, ok_live, err_commits, err_sound, err_live}
 use Rattle.geos_model.specs.declared.fault.Fault.TheVariants.{File}
+use Rattle.document_file.proofs.TurnedLemmas.{counting_kept}
 use Rattle.document_file.proofs.commit.commit_pair.Given.{Over}
 use Rattle.document_file.proofs.commit.commit_pair.Goals.{After-commit_slots}
 use Rattle.document_file.proofs.commit.commit_pair.Goals as goal
@@ -41,3 +42,10 @@ returns-in_err-commit_slots-clause-sound g c = err_sound g.S.Store.facts _ _ c.a
 
 pub returns-in_err-commit_slots-clause-live : goal.returns-in_err-commit_slots-clause-live
 returns-in_err-commit_slots-clause-live g c = err_live g.S.Store.facts _ _ c.args.live.now c.args.slots.now c.commit_slots.new.slots c.args.pair (called g (goal.at.returns-in_err-commit_slots-clause-live g c).After-commit_slots) c.in_err-commit_slots.ensures.err
+
+pub returns-clause-kept : goal.returns-clause-kept
+returns-clause-kept g c same so =
+    let whole = c.requires.whole so in
+    let there = pair_there g.S.Store.facts _ _ c.args.live.now c.args.slots.now c.commit_slots.new.slots c.args.pair (called g (goal.at.returns-clause-kept g c).After-commit_slots) so in
+    counting_kept (g.S.Store.facts c.args.store.now) (g.S.Store.facts c.commit_slots.new.store) c.args.live.now c.args.slots.now c.args.pair c.requires.formed whole
+    (c.in_ok-commit_slots.ensures.still (g.S.Store.facts c.args.store.now).content so same whole.leaves there)

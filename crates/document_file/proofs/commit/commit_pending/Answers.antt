@@ -3,7 +3,7 @@ use Rattle.std.proofs.lemmas.Result.{err_from_is_err_and}
 use Rattle.document_file.proofs.PendingDirectoryLemmas.{both_placed, both_tables, both_stored, both_documents}
 use Rattle.document_file.proofs.PassingLemmas.{KeepsCommitted-fails, KeepsCommitted-MayCommit}
 use Rattle.document_file.proofs.StandsLemmas.{sound_settled}
-use Rattle.document_file.proofs.SlotsLemmas.{shut_after}
+use Rattle.document_file.proofs.SlotsLemmas.{kept_after, shut_after}
 use Rattle.document_file.proofs.commit.commit_pending.Goals as goal
 
 pub returns-in_err-write_pending-clause-commits : goal.returns-in_err-write_pending-clause-commits
@@ -32,4 +32,12 @@ returns-clause-commits g c =
     c.commit_pair.ensures.commits
 
 pub returns-clause-shut : goal.returns-clause-shut
-returns-clause-shut g c = shut_after c.commit_pair.result (g.S.Store.facts c.args.store.now) (g.S.Store.facts c.write_pending.new.store) (g.S.Store.facts c.commit_pair.new.store) c.args.slots.now c.commit_pair.new.slots c.write_pending.ensures.passes.honest c.write_pending.ensures.passes.failures c.commit_pair.ensures.shut
+returns-clause-shut g c = shut_after c.commit_pair.result (g.S.Store.facts c.args.store.now) (g.S.Store.facts c.write_pending.new.store) (g.S.Store.facts c.commit_pair.new.store) c.args.slots.now c.write_pending.ensures.passes.honest c.write_pending.ensures.passes.failures c.commit_pair.ensures.shut
+
+pub returns-clause-kept : goal.returns-clause-kept
+returns-clause-kept g c = kept_after c.commit_pair.result (g.S.Store.facts c.args.store.now) (g.S.Store.facts c.write_pending.new.store) (g.S.Store.facts c.commit_pair.new.store) c.args.slots.now c.write_pending.ensures.passes.honest
+    (λ so.
+    let updated = c.write_pending.ensures.passes.updated so in
+    let saved = c.write_pending.ensures.passes.saved so in
+    λ i. (updated i, saved i))
+    c.commit_pair.ensures.kept

@@ -3,7 +3,7 @@ use Rattle.std.proofs.lemmas.Result.{err_from_is_err_and}
 use Rattle.document_file.proofs.PassingLemmas.{KeepsCommitted-fails, KeepsCommitted-MayCommit}
 use Rattle.document_file.proofs.SavedAnewLemmas.{anew_apart, anew_document, anew_placed, anew_table}
 use Rattle.document_file.proofs.StandsLemmas.{sound_settled}
-use Rattle.document_file.proofs.SlotsLemmas.{shut_after}
+use Rattle.document_file.proofs.SlotsLemmas.{kept_after, shut_after}
 use Rattle.document_file.proofs.commit.commit_summed.Goals as goal
 
 pub returns-in_err-write_saved-clause-commits : goal.returns-in_err-write_saved-clause-commits
@@ -31,4 +31,12 @@ returns-clause-commits g c =
     c.commit_beside.ensures.commits
 
 pub returns-clause-shut : goal.returns-clause-shut
-returns-clause-shut g c = shut_after c.commit_beside.result (g.S.Store.facts c.args.store.now) (g.S.Store.facts c.write_saved.new.store) (g.S.Store.facts c.commit_beside.new.store) c.args.slots.now c.commit_beside.new.slots c.write_saved.ensures.passes.honest c.write_saved.ensures.passes.failures c.commit_beside.ensures.shut
+returns-clause-shut g c = shut_after c.commit_beside.result (g.S.Store.facts c.args.store.now) (g.S.Store.facts c.write_saved.new.store) (g.S.Store.facts c.commit_beside.new.store) c.args.slots.now c.write_saved.ensures.passes.honest c.write_saved.ensures.passes.failures c.commit_beside.ensures.shut
+
+pub returns-clause-kept : goal.returns-clause-kept
+returns-clause-kept g c = kept_after c.commit_beside.result (g.S.Store.facts c.args.store.now) (g.S.Store.facts c.write_saved.new.store) (g.S.Store.facts c.commit_beside.new.store) c.args.slots.now c.write_saved.ensures.passes.honest
+    (λ so.
+    let updated = c.write_saved.ensures.passes.updated so in
+    let saved = c.write_saved.ensures.passes.saved so in
+    λ i. (updated i, saved i))
+    c.commit_beside.ensures.kept

@@ -26,3 +26,13 @@ pub returns-in-Err-clause-leaves : goal.returns-in-Err-clause-leaves
 returns-in-Err-clause-leaves g c file holds leaves =
     let slots : Slots = record c.args.slots.now { spare = Prepared c.args.pair } in
     gate_leaves slots file _ _ _ (with_pair_kept c.args.slots.now c.args.pair c.requires.kept c.requires.placed) leaves c.spare_gate.ensures (λ is. cc) (c.write_through.ensures.tears holds)
+
+pub returns-in-Ok-clause-still : goal.returns-in-Ok-clause-still
+returns-in-Ok-clause-still g c file holds leaves =
+    let slots : Slots = record c.args.slots.now { spare = Prepared c.args.pair } in
+    gate_leaves slots file _ _ _ (with_pair_kept c.args.slots.now c.args.pair c.requires.kept c.requires.placed) leaves c.spare_gate.ensures (λ is. cc) (c.write_through.ensures.tears holds)
+
+pub returns-in-Err-clause-still : goal.returns-in-Err-clause-still
+returns-in-Err-clause-still g c file holds leaves =
+    let slots : Slots = record c.args.slots.now { spare = Prepared c.args.pair } in
+    gate_leaves slots file _ _ _ (with_pair_kept c.args.slots.now c.args.pair c.requires.kept c.requires.placed) leaves c.spare_gate.ensures (λ is. cc) (c.write_through.ensures.tears holds)

@@ -4,7 +4,7 @@ use Rattle.document_file.proofs.SlotsLemmas.{gate_leaves, gate_outlives, shut_tr
 use Rattle.document_file.proofs.commit.shut_stale.Goals as goal
 
 pub returns-clause-shut : goal.returns-clause-shut
-returns-clause-shut g c so = shut_tried c.write_through.result (g.S.Store.facts c.args.store.now) (g.S.Store.facts c.write_through.new.store) c.args.slots.now c.spare_gate.result c.spare_gate.ensures c.write_through.ensures.failures c.write_through.ensures.written so
+returns-clause-shut g c so = shut_tried c.write_through.result (g.S.Store.facts c.args.store.now) (g.S.Store.facts c.write_through.new.store) c.args.slots.now c.spare_gate.result c.spare_gate.ensures c.write_through.ensures.failures c.write_through.ensures.written c.write_through.ensures.durable so
 
 pub returns-clause-crash : goal.returns-clause-crash
 returns-clause-crash g c file holds leaves =

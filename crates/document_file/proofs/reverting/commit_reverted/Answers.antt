@@ -3,7 +3,7 @@ use Rattle.std.proofs.lemmas.Result.{err_from_is_err_and}
 use Rattle.document_file.proofs.CopiesLemmas.{pair_documents, pair_placed, pair_stored, pair_tables}
 use Rattle.document_file.proofs.PassingLemmas.{KeepsCommitted-fails, KeepsCommitted-MayCommit}
 use Rattle.document_file.proofs.SavedAnewLemmas.{reverted_document, reverted_placed, reverted_table}
-use Rattle.document_file.proofs.SlotsLemmas.{shut_after}
+use Rattle.document_file.proofs.SlotsLemmas.{kept_after, shut_after}
 use Rattle.document_file.proofs.StandsLemmas.{sound_settled}
 use Rattle.document_file.specs.PendingDirectories.{reverted}
 use Rattle.document_file.proofs.reverting.commit_reverted.Goals as goal
@@ -42,4 +42,12 @@ returns-clause-commits g c =
     c.commit_pair.ensures.commits
 
 pub returns-clause-shut : goal.returns-clause-shut
-returns-clause-shut g c = shut_after c.commit_pair.result (g.S.Store.facts c.args.store.now) (g.S.Store.facts c.write_anew.new.store) (g.S.Store.facts c.commit_pair.new.store) c.args.slots.now c.commit_pair.new.slots c.write_anew.ensures.passes.honest c.write_anew.ensures.passes.failures c.commit_pair.ensures.shut
+returns-clause-shut g c = shut_after c.commit_pair.result (g.S.Store.facts c.args.store.now) (g.S.Store.facts c.write_anew.new.store) (g.S.Store.facts c.commit_pair.new.store) c.args.slots.now c.write_anew.ensures.passes.honest c.write_anew.ensures.passes.failures c.commit_pair.ensures.shut
+
+pub returns-clause-kept : goal.returns-clause-kept
+returns-clause-kept g c = kept_after c.commit_pair.result (g.S.Store.facts c.args.store.now) (g.S.Store.facts c.write_anew.new.store) (g.S.Store.facts c.commit_pair.new.store) c.args.slots.now c.write_anew.ensures.passes.honest
+    (λ so.
+    let updated = c.write_anew.ensures.passes.updated so in
+    let saved = c.write_anew.ensures.passes.saved so in
+    λ i. (updated i, saved i))
+    c.commit_pair.ensures.kept

@@ -19,12 +19,12 @@ use Rattle.document_file.specs.Slots.{block_extents, referenced_extents}
 use Rattle.document_file.proofs.PutBlocksLemmas.{few_extents, five_long}
 use Rattle.document_file.specs.Documents.{Documents, document_in}
 use Rattle.document_file.specs.Disk.{FileState, MayCommit, SameUnlessCorrupt}
-use Rattle.document_file.specs.Effects.{IsCommit, IsTurned}
+use Rattle.document_file.specs.Effects.{IsCommit, IsTurned, KeepsSlot}
 use Rattle.document_file.specs.Sound.{IsFormed, disk_of}
 use Rattle.document_file.proofs.CopiesLemmas.{copy_itself, copy_drifts, beside_document, beside_alike}
 use Rattle.document_file.proofs.FollowLemmas.{known_if, next_taken}
 use Rattle.document_file.proofs.EffectsLemmas.{refused, refused_by, tried, view_settled}
-use Rattle.document_file.proofs.TurnedLemmas.{turned_alone, turned_version}
+use Rattle.document_file.proofs.TurnedLemmas.{turned_kept_slot, turned_shut, turned_version}
 use Rattle.document_file.specs.Sums.{has_sums}
 use Rattle.std.proofs.lemmas.Result.{err_from_is_err_and}
 use Rattle.document_file.proofs.file.VmFile.commit_live.Goals as goal
@@ -137,7 +137,7 @@ returns-in-Some-clause-turned g c =
     let facts = g.S.Store.facts in let i = c.self.inside in
     subst (λ (f : FileState g.row.S.Denot). OnOk c.commit_summed.result (IsTurned facts f.disk (disk_of facts c.commit_summed.new.store c.commit_summed.new.slots))) c.self.view_is
     (on_ok_weaker c.commit_summed.result
-    (turned_alone facts i.store c.commit_summed.new.store i.live i.slots c.commit_summed.new.slots (g.met.S.Store.timely i.store) c.self.invariant.sound) c.commit_summed.ensures.shut)
+    (turned_shut facts i.store c.commit_summed.new.store i.live i.slots c.commit_summed.new.slots (g.met.S.Store.timely i.store) c.self.invariant.sound) c.commit_summed.ensures.shut)
 
 pub commit_pending-requires-clause-saved : goal.commit_pending-requires-clause-saved
 commit_pending-requires-clause-saved g c =
@@ -175,7 +175,7 @@ pub returns-clause-turned : goal.returns-clause-turned
 returns-clause-turned g c =
     let facts = g.S.Store.facts in let i = c.self.inside in
     subst (λ (f : FileState g.row.S.Denot). IsTurned facts f.disk (disk_of facts c.commit_pending.new.store c.commit_pending.new.slots)) c.self.view_is
-    (turned_alone facts i.store c.commit_pending.new.store i.live i.slots c.commit_pending.new.slots (g.met.S.Store.timely i.store) c.self.invariant.sound c.in_ok-commit_pending.ensures.shut)
+    (turned_shut facts i.store c.commit_pending.new.store i.live i.slots c.commit_pending.new.slots (g.met.S.Store.timely i.store) c.self.invariant.sound c.in_ok-commit_pending.ensures.shut)
 
 pub invariant_of-self-2 : goal.invariant_of-self-2
 invariant_of-self-2 g c =
@@ -188,3 +188,16 @@ invariant_of-self-2 g c =
           (λ there. next_taken i.live i.slots now c.args.saves c.in_ok-pending.pending.document c.in_ok-saved.saved _ c.in_ok-pending.ensures.pending.table c.in_ok-saved.ensures c.in_ok-commit_pending.ensures.switched (c.follow_commit-is_known.ensures.followed there))
           c.then_some.ensures;
     }
+
+pub returns-clause-kept : goal.returns-clause-kept
+returns-clause-kept g c =
+    let facts = g.S.Store.facts in let i = c.self.inside in
+    subst (λ (f : FileState g.row.S.Denot). KeepsSlot facts f.disk (disk_of facts c.commit_pending.new.store c.commit_pending.new.slots)) c.self.view_is
+    (turned_kept_slot facts i.store c.commit_pending.new.store i.live i.slots c.commit_pending.new.slots (g.met.S.Store.timely i.store) c.self.invariant.sound c.in_ok-commit_pending.ensures.kept)
+
+pub returns-in-Some-clause-kept : goal.returns-in-Some-clause-kept
+returns-in-Some-clause-kept g c =
+    let facts = g.S.Store.facts in let i = c.self.inside in
+    subst (λ (f : FileState g.row.S.Denot). OnOk c.commit_summed.result (KeepsSlot facts f.disk (disk_of facts c.commit_summed.new.store c.commit_summed.new.slots))) c.self.view_is
+    (on_ok_weaker c.commit_summed.result
+    (turned_kept_slot facts i.store c.commit_summed.new.store i.live i.slots c.commit_summed.new.slots (g.met.S.Store.timely i.store) c.self.invariant.sound) c.commit_summed.ensures.kept)

@@ -7,7 +7,7 @@ use Rattle.document_file.specs.Copies.{IsCopy}
 use Rattle.document_file.specs.Disk.{FileState, SameUnlessCorrupt}
 use Rattle.document_file.specs.Documents.{Documents, document_in}
 use Rattle.document_file.specs.Listing.{AreBounds}
-use Rattle.document_file.specs.Effects.{IsCommit, IsTurned}
+use Rattle.document_file.specs.Effects.{IsCommit, IsTurned, KeepsSlot}
 use Rattle.document_file.specs.Sound.{disk_of}
 use Rattle.document_file.specs.declared.slot.Slots.{Slots}
 use Rattle.document_file.specs.declared.table.Pair.{Pair}
@@ -15,7 +15,7 @@ use Rattle.document_file.proofs.CopiesLemmas.{sound_saved, copy_document, copy_i
 use Rattle.document_file.specs.PendingDirectories.{reverted}
 use Rattle.document_file.proofs.SavedAnewLemmas.{reverted_document}
 use Rattle.document_file.proofs.EffectsLemmas.{refused, refused_by, tried, view_settled}
-use Rattle.document_file.proofs.TurnedLemmas.{turned_alone, turned_version}
+use Rattle.document_file.proofs.TurnedLemmas.{turned_kept_slot, turned_shut, turned_version}
 use Rattle.document_file.specs.Sums.{has_sums}
 use Rattle.document_file.proofs.file.VmFile.commit_revert.Goals as goal
 
@@ -101,4 +101,10 @@ pub returns-clause-turned : goal.returns-clause-turned
 returns-clause-turned g c =
     let facts = g.S.Store.facts in let i = c.self.inside in
     subst (λ (f : FileState g.row.S.Denot). IsTurned facts f.disk (disk_of facts c.commit_reverted.new.store c.commit_reverted.new.slots)) c.self.view_is
-    (turned_alone facts i.store c.commit_reverted.new.store i.live i.slots c.commit_reverted.new.slots (g.met.S.Store.timely i.store) c.self.invariant.sound c.in_ok-commit_reverted.ensures.shut)
+    (turned_shut facts i.store c.commit_reverted.new.store i.live i.slots c.commit_reverted.new.slots (g.met.S.Store.timely i.store) c.self.invariant.sound c.in_ok-commit_reverted.ensures.shut)
+
+pub returns-clause-kept : goal.returns-clause-kept
+returns-clause-kept g c =
+    let facts = g.S.Store.facts in let i = c.self.inside in
+    subst (λ (f : FileState g.row.S.Denot). KeepsSlot facts f.disk (disk_of facts c.commit_reverted.new.store c.commit_reverted.new.slots)) c.self.view_is
+    (turned_kept_slot facts i.store c.commit_reverted.new.store i.live i.slots c.commit_reverted.new.slots (g.met.S.Store.timely i.store) c.self.invariant.sound c.in_ok-commit_reverted.ensures.kept)
