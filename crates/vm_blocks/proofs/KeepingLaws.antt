@@ -97,6 +97,11 @@ module _ {S : Type 0} (facts : S → StoreFacts) where
   unfolding IsEnvironmentFault
   lacks-memory a b = inl refl
 
+  -- the store failed in this call
+  pub lacks-file : (a b : S) (fault : Fault) → (fault ≡ File) × FailedSince (facts a) (facts b) → IsEnvironmentFault facts a b fault
+  unfolding IsEnvironmentFault
+  lacks-file a b fault failed = inr (inl failed)
+
   -- what is read and can't be, over a store that isn't honest
   pub lacks-damaged : (a b : S) → (IsHonest facts a → ⊥) → IsEnvironmentFault facts a b Damaged
   unfolding IsHonest IsEnvironmentFault

@@ -13,6 +13,7 @@ pub mod DocumentUnderFrames
 pub mod Exactness
 pub mod FileImages
 pub mod InMemory
+pub mod Fronts
 pub mod Incoming
 pub mod KeepingLaws
 pub mod KindLemmas

@@ -1,9 +1,10 @@
 //! Bodies in memory, and as the bytes that a file keeps.
-ghost use Rattle.std.specs.Prelude.{◌≡◌, true, false, Some, None, IfOk, MatchOption};
+ghost use Rattle.std.specs.Prelude.{◌≡◌, ◌≤◌, true, false, Some, None, IfOk, MatchOption, length};
 ghost use Rattle.std.specs.FinMap.{contains_key};
 ghost use Rattle.geos_model.specs.Image.{body_of as body_of_image};
-ghost use Rattle.geos_model.specs.Document.{chunks_of_body, is_heap_body, is_valid_body};
-ghost use Rattle.geos_model.specs.Heap.{chunk_bytes};
+ghost use Rattle.document_file.specs.Fronts.{first_word};
+ghost use Rattle.geos_model.specs.Document.{bytes_of_body, chunks_of_body, is_heap_body, is_valid_body};
+ghost use Rattle.geos_model.specs.Heap.{capacity, chunk_bytes};
 ghost use Rattle.lmem_heap.specs.Known.{is_array_of};
 ghost use Rattle.vm_blocks.specs.Bodies.{body_value};
 
@@ -27,6 +28,27 @@ impl BlockBody {
         ensures { result ≡ is_heap_body (body_value self.now) }
     {
         matches!(self, BlockBody::Heap(_))
+    }
+
+    /// The bytes of a raw body; a heap has none.
+    pub(crate) fn raw_bytes(&self) -> &[u8]
+        ensures value { result.now ≡ bytes_of_body (body_value self.now) }
+        ensures small { length result.now ≤ capacity }
+    {
+        match self {
+            BlockBody::Raw(raw) => raw.bytes(),
+            BlockBody::Heap(_) => &[],
+        }
+    }
+
+    /// The first word of a raw body, if it has one.
+    pub(crate) fn first_word(&self) -> Option<u16>
+        ensures { result ≡ first_word false (bytes_of_body (body_value self.now)) }
+    {
+        match self {
+            BlockBody::Raw(raw) if raw.bytes().len() >= 2 => Some(raw.word(0)),
+            _ => None,
+        }
     }
 
     /// It as a file keeps it.

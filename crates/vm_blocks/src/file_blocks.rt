@@ -15,6 +15,7 @@ ghost use Rattle.lru.specs.LruCache.{lru_cache};
 
 mod changing;
 mod commits;
+mod fronts;
 mod loads;
 mod locking;
 
