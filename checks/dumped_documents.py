@@ -37,8 +37,10 @@ def document_at(data, page, length):
     text = data[512 * page:512 * page + length]
     assert text[:4] == b"GDIR" and len(text) == length
     blocks = {}
+    # In version 3 an entry has a sum behind these 16 bytes.
+    size_of_entry = 20 if word(text, 4) == 3 else 16
     for i in range(word(text, 6)):
-        entry = text[16 + 16 * i:32 + 16 * i]
+        entry = text[16 + size_of_entry * i:32 + size_of_entry * i]
         at, size = 512 * word(entry, 4, 4), word(entry, 8, 4)
         blocks[word(entry, 0)] = (word(entry, 2), word(entry, 12), data[at:at + size])
     return word(text, 8), blocks

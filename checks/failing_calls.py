@@ -10,7 +10,8 @@ failing_calls.c tells each call, and has the call that is asked for fail: with a
 its bytes, or with an error from it on. Of each run of a program is looked at: what it told; that what it left opens to the documents of
 the last commit that was acknowledged, or of one that was tried since; that no other file was touched. And of what is left by a stop of
 the machine behind any call: that it leads to such documents too, where only what was synced is there, or that and one write more, or
-the first few, or all. So it is seen whether the file is synced before and after each commit, and its folder after a file was made.
+the first few, or all. So it is seen whether the file is synced before and after each commit, and its folder after a file was made; and
+whether a commit that gives a file its checksums is told only once no stop leaves a slot open beside it that has none.
 """
 import errno
 import os
@@ -19,12 +20,14 @@ import subprocess
 import sys
 import tempfile
 
-from dumped_documents import documents_of
+from dumped_documents import documents_of, slots_of
 
 HERE = os.path.dirname(os.path.abspath(__file__))
 OTHER = b"some other file\n"
 SAVED = "newraw 7 2\nvwrite 0001 0 0001\nsave\n"
 SCRIPT = "vwrite 0001 0 0010\nsave\nvwrite 0001 0 0011\nupdate\nvread 0001\nvwrite 0001 0 0012\nsave\nnewraw 8 9000\nvwrite 0001 0 0013\nupdate\nrevert\n"
+BY_REVERT = "vwrite 0001 0 0010\nrevert\n"
+COMMITS = ("save", "update", "revert")
 TO_TARGET = "vwrite 0001 0 0020\nsaveas\nvwrite 0001 0 0021\nsave\n"
 
 # What fails otherwise than by EIO and by an interruption.
@@ -260,7 +263,9 @@ class Scenario:
     def __init__(self, name, words, script, file=SAVED, target=None, makes=False, opens=True):
         self.name, self.words, self.script, self.file, self.target, self.makes = name, words, script, file, target, makes
         self.opens = opens
+        self.gives_checksums = "--checksums" in words
         self.files = None
+        self.shutting = set()
 
     def prepare(self, geosvm, folder):
         """The files of a run, anew; the program makes them once."""
@@ -276,8 +281,9 @@ class Scenario:
                 file.write(content)
         return self.files
 
-    def fails_as(self, call, how, number=1, notes_files=False):
-        """What is to be told: "well", "refused" where something has to be, "any" where it needn't, or just that."""
+    def fails_as(self, call, how, number=1, last=1, notes_files=False):
+        """What is to be told where the calls of these numbers fail: "well", "refused" where something has to be, "any" where it needn't, or
+        just that."""
         if notes_files and call.name == "stat" and number in (3, 8):
             # By this one geosvm knows FILE, or FILE2, under another name. A file that it won't know is opened all the same.
             return "any"
@@ -285,13 +291,36 @@ class Scenario:
             return "refused"
         if call.name in HARMLESS:
             return "any"
-        if how in (errno.EINTR, "short"):
+        if how in (errno.EINTR, "short") or call.kind == "file" and self.is_shutting(call.name, range(number, last + 1)):
             return "well"
         if call.kind in ("input", "output"):
             return "geosvm: read fault\n" if call.kind == "input" else "geosvm: write fault\n"
         # One that can't be made beside the file is made in its place.
         is_beside = call.name in ("rename", "stat", "open", "ftruncate") or call.name == "flock" and number > 1 + ("--as" in self.words)
         return "any" if is_beside and (self.makes or self.target) else "refused"
+
+    def is_shutting(self, name, numbers):
+        """All of these shut the slot that counted before the commit that gave the file its checksums: it is acknowledged by then."""
+        return all((name, number) in self.shutting for number in numbers)
+
+
+def shutting_calls(calls):
+    """The write of the gate that is shut right behind the first one that is opened, and the sync behind it, each by its number."""
+    numbers = {"pwrite": 0, "fsync": 0}
+    steps = []
+    for call in calls:
+        if call.kind == "file" and call.name in numbers:
+            numbers[call.name] += 1
+            steps.append((call.name, numbers[call.name], call.at, call.more))
+    for opening, _, shutting, sync in zip(steps, steps[1:], steps[2:], steps[3:]):
+        if [(step[0], step[3]) for step in (opening, shutting)] == [("pwrite", "01"), ("pwrite", "00")] and {opening[2], shutting[2]} == {4, 516}:
+            return {shutting[:2], sync[:2]}
+    return set()
+
+
+def is_alone(content):
+    """No slot without checksums is open, beside the one that counts."""
+    return all(slot[5] == 3 for _, slot in slots_of(content))
 
 
 def judge(scenario, folder, files, ran, wanted, before, target_before):
@@ -345,10 +374,14 @@ def judge_stops(scenario, folder, files, ran, machine, before):
         call.result < 0 and call.result != -errno.ENOENT and call.name in ("flock", "open", "stat", "rename") for call in ran.calls)
     replies = ran.output.splitlines()
     seen, allowed, allowed_for, told = set(), [], None, 0
+    lines = scenario.script.splitlines()
+    has_failed = False
     for at, call in enumerate(ran.calls):
         machine.happens(call)
         told += replies_of([call])
         has_begun = has_begun or told > 0
+        has_failed = has_failed or call.name in ("pwrite", "fsync") and call.result < 0 and call.result != -errno.EINTR
+        is_given = scenario.gives_checksums and any(line in COMMITS and reply == "ok" for line, reply in zip(lines, replies[:told]))
         if told != allowed_for:
             allowed, allowed_for = allowed_behind(scenario.script, replies, told, None if scenario.makes else before), told
         for content in machine.left("document"):
@@ -364,6 +397,8 @@ def judge_stops(scenario, folder, files, ran, machine, before):
                 continue
             if content is None:
                 return f"the name of the file is lost by a stop behind call {at} ({call.name} {call.kind})"
+            if is_given and not has_failed and not is_alone(content):
+                return f"a stop behind call {at} ({call.name} {call.kind}), {told} replies, leaves a slot without checksums open"
             with open(image, "wb") as file:
                 file.write(content)
             pair = pair_of(image)
@@ -414,6 +449,9 @@ def try_scenario(checks, library, geosvm, program, scenario, room, has_streams=T
     wanted = "well" if scenario.opens else "refused"
     checks.told(f"{scenario.name}, nothing fails", judge(scenario, folder, files, first, wanted, before, target_before))
     checks.told(f"{scenario.name}, the machine stops", judge_stops(scenario, folder, files, first, machine, before))
+    if scenario.gives_checksums:
+        scenario.shutting = shutting_calls(first.calls)
+        checks.told(f"{scenario.name}, the slot that counted is shut, and that is synced", {name for name, _ in scenario.shutting} != {"pwrite", "fsync"})
     kinds = {}
     for call in first.calls:
         kinds[call.name, call.kind] = kinds.get((call.name, call.kind), 0) + 1
@@ -428,7 +466,9 @@ def try_scenario(checks, library, geosvm, program, scenario, room, has_streams=T
                 machine = Machine(folder)
                 ran = run(library, folder, words, scenario.script, f"{name} {kind}", number, how, lasts)
                 call = [call for call in ran.calls if (call.name, call.kind) == (name, kind)][number - 1]
-                wanted = scenario.fails_as(call, how, number, notes_files=has_streams)
+                # Behind a sync that failed every further one of the file fails.
+                last = most if lasts or name == "fsync" else number
+                wanted = scenario.fails_as(call, how, number, last, notes_files=has_streams)
                 found = judge(scenario, folder, files, ran, wanted, before, target_before)
                 found = found or judge_stops(scenario, folder, files, ran, machine, before)
                 if found:
@@ -565,6 +605,8 @@ def main():
 SCENARIOS = [
     Scenario("opened", ["document"], SCRIPT),
     Scenario("no document", ["document"], SCRIPT, file=b"this is no document\n" * 100, opens=False),
+    Scenario("given checksums", ["--checksums", "document"], SCRIPT),
+    Scenario("given checksums by a revert", ["--checksums", "document"], BY_REVERT),
     Scenario("made", ["--new", "document"], SAVED + SCRIPT, file=None, makes=True),
     Scenario("made anew", ["--new", "document"], SAVED + SCRIPT, makes=True),
     Scenario("saved as a new one", ["--as", "target", "document"], SCRIPT + TO_TARGET),
