@@ -5,9 +5,9 @@ byte and handle for handle.
     python3 checks/salvaged.py GEOSVM GEOSDOC [COUNT] [SEED]
 
 GEOSVM and GEOSDOC are the programs of `crates/geosvm` and `crates/geosdoc`. Of each document 1 to 10 blocks of about 100 are damaged, in
-their entries or their images; of some a slot or the header of a directory as well, and some files are cut. Of one document in four more
-just one entry has another handle, and all other blocks must come back. A damage is one that can be seen: another byte within a raw block
-can't. Files are read here by docs/FORMAT.md alone.
+their entries or their images; of some a slot or the header of a directory as well, of some both gates are closed, and some files are cut.
+A line tells that the slot is closed, just where it is. Of one document in four more just one entry has another handle, and all other blocks
+must come back. A damage is one that can be seen: another byte within a raw block can't. Files are read here by docs/FORMAT.md alone.
 """
 import os
 import random
@@ -188,7 +188,18 @@ def damaged_file(chance, data):
             if 512 * place[0] + 16 <= length:
                 return document_in(whole, place, length, set())
         return None
-    return document_in(whole, place, len(whole), damage(chance, data, place))
+    damaged = damage(chance, data, place)
+    if kind == 4:
+        # No slot is open: that with the greater number comes first, as of open ones.
+        data[4], data[516] = 0, 2
+    return document_in(whole, place, len(whole), damaged)
+
+
+def tells_gate(data, notes):
+    """The lines tell that the slot is closed, just where it is."""
+    slot = int(notes[0].rpartition(" ")[2])
+    told = "# its slot is closed: it may be an earlier document, or written over in part, or not whole yet" in notes
+    return told == (data[512 * slot + 4] != 1)
 
 
 def try_one(geosvm, geosdoc, folder, seed, damaged):
@@ -214,7 +225,7 @@ def try_one(geosvm, geosdoc, folder, seed, damaged):
     if subprocess.run([geosdoc, "check", path], stdout=subprocess.PIPE).returncode == 0:
         return 0, 0
     notes = [line for line in script.splitlines() if line.startswith("#")]
-    assert notes and notes[0].startswith("# what can be read of the "), notes[:1]
+    assert notes and notes[0].startswith("# what can be read of the ") and tells_gate(data, notes), notes[:2]
     compare(geosvm, geosdoc, again, script, wanted, seed % 2 == 1)
     return len(wanted[1]), sum(line.startswith("# block ") for line in notes)
 

@@ -30,7 +30,8 @@ pub enum Which {
     Saved,
 }
 
-pub(crate) fn send<W: Write>(bytes: &[u8], writer: &mut W) -> Result<bool, DumpFault>
+/// Writes bytes of a script, and says whether there are any.
+pub fn send<W: Write>(bytes: &[u8], writer: &mut W) -> Result<bool, DumpFault>
     ensures err { IfErr result IsWriteFault }
     ensures ok { IfOk result (λ some. (some ≡ is_some_text bytes.now)
         × Appends (W.contents writer.old) (W.contents writer.new) bytes.now) }

@@ -11,6 +11,6 @@ mod lines;
 mod rows;
 mod versions;
 
-pub use dumping::{Which, dump};
+pub use dumping::{Which, dump, send};
 pub use entries::dump_entries;
 pub use fault::DumpFault;

@@ -5,8 +5,8 @@ use Rattle.std.proofs.lemmas.List.FromFn.{get_or-map-range_with_len}
 use Rattle.file_format.specs.File.{block_of, greatest_handle, is_entry}
 use Rattle.file_format.specs.declared.file.Entry.{Entry}
 use Rattle.file_format.proofs.Files.{greatest_handle-most}
-use Rattle.file_report.specs.Findings.{entry_text_at}
-use Rattle.file_salvage.specs.Entries.{damage_at, damages, directory_version, entry_at, entry_count, fits_row, free_among, free_at, free_below, free_numbers, free_unsummed, frees_beside, has_zeros, image_flaw, is_right, is_taken, taken_at, taken_row, whole_row}
+use Rattle.file_report.specs.Findings.{directory_version, entry_text_at, has_entry_zeros}
+use Rattle.file_salvage.specs.Entries.{damage_at, damages, entry_at, entry_count, fits_row, free_among, free_at, free_below, free_numbers, free_unsummed, frees_beside, image_flaw, is_right, is_taken, taken_at, taken_row, whole_row}
 use Rattle.file_salvage.specs.Laws.{can_be_taken, room_at, stand_together, taken_in}
 use Rattle.file_salvage.specs.Rows.{longest_row}
 use Rattle.file_salvage.specs.declared.flaw.Flaw.{Flaw}
@@ -56,7 +56,7 @@ low_handle version file_length bytes i right =
     let e : Entry = entry_at bytes i in
     let h : ℕ = e.handle.0 in
     let entry : Bool = is_entry version file_length (directory_version bytes) e in
-    let zeros : Bool = has_zeros (directory_version bytes) (entry_text_at bytes i) in
+    let zeros : Bool = has_entry_zeros (directory_version bytes) (entry_text_at bytes i) in
     let is : entry ≡ true = (and_parts (nat_le 1 h) entry (and_parts (nat_le 1 h && entry) zeros right).0).1 in
     let first = (and_parts _ _ (and_parts _ _ (and_parts _ _ is).0).0).0 in
     let low : h ≤ greatest_handle (directory_version bytes) = leb-true h (greatest_handle (directory_version bytes)) first in

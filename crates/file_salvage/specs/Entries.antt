@@ -1,19 +1,14 @@
 -- Which entries of a directory are whole, and which are taken. Its bytes may be fewer than its header tells: then
 -- entries are missing.
-use Rattle.std.specs.Prelude.{ℕ, List, [], ◌∷◌, ◌++◌, ◌-◌, ◌/◌, Bool, not, ◌==◌, ◌&&◌, nat_le, length, map, take, drop, slice_index, slice_index_or, if◌then◌else◌, Option, None, Some, is_some, codes}
+use Rattle.std.specs.Prelude.{ℕ, List, [], ◌∷◌, ◌++◌, ◌-◌, ◌/◌, Bool, not, ◌==◌, ◌&&◌, nat_le, length, map, slice_index, slice_index_or, if◌then◌else◌, Option, None, Some, is_some, codes}
 use Rattle.std.specs.List.{flat_map, list_all, list_any, range_with_len}
-use Rattle.geos_model.specs.Words.{word_at}
 use Rattle.file_format.specs.File.{block_of, entry_length, entry_read, is_entry}
 use Rattle.file_format.specs.declared.file.Entry.{Entry}
-use Rattle.file_report.specs.Findings.{entry_text_at}
+use Rattle.file_report.specs.Findings.{directory_version, entry_text_at, has_entry_zeros}
 use Rattle.geos_model.specs.Script.{four_digits}
 use Rattle.file_salvage.specs.Rows.{longest_row}
 use Rattle.file_salvage.specs.declared.flaw.Flaw.{Flaw}
 use Rattle.file_salvage.specs.declared.flaw.Flaw.TheVariants as flaws
-
--- the version of a directory
-abbrev pub directory_version : List ℕ → ℕ
-directory_version bytes = word_at bytes 4
 
 -- how many entries these bytes of a directory have whole
 abbrev pub entry_count : List ℕ → ℕ
@@ -22,20 +17,12 @@ entry_count bytes = (length bytes - 16) / entry_length (directory_version bytes)
 abbrev pub entry_at : List ℕ → ℕ → Entry
 entry_at bytes i = entry_read (directory_version bytes) (entry_text_at bytes i)
 
--- where the zeros of an entry begin, in a directory of a version: in version 1 they stand for its type too
-abbrev pub zeros_start : ℕ → ℕ
-zeros_start version = if version == 1 then 12 else 14
-
--- the text of an entry has these zeros, which a sum may follow
-abbrev pub has_zeros : ℕ → List ℕ → Bool
-has_zeros version text = list_all (λ b. b == 0) (drop (zeros_start version) (take 16 text))
-
 -- the text of an entry is one of a directory in a file of a version and of n bytes
 abbrev pub is_right : ℕ → ℕ → List ℕ → ℕ → Bool
 is_right file_version n bytes i =
     let e = entry_at bytes i in
     nat_le 1 e.handle.0 && is_entry file_version n (directory_version bytes) e
-    && has_zeros (directory_version bytes) (entry_text_at bytes i)
+    && has_entry_zeros (directory_version bytes) (entry_text_at bytes i)
 
 -- an entry without its sum
 abbrev pub without_sum : Entry → Entry

@@ -17,6 +17,7 @@ place_in_slot second s name =
     record {
       second = second;
       name = name;
+      is_open = s.gate == 1;
       version = s.version;
       extent = directory_extent s name;
       sum = directory_sum s name;

@@ -43,13 +43,19 @@ salvaged_document all file p =
     document_of file
     (listing (map_kept (map_of file p) (salvaged_entries all file p)) (salvaged_entries all file p))
 
--- Lines before its script: of which document it is, whether the directory's sum is wrong, which blocks are left out or
--- taken without their sum, and whether the map block is left out.
+-- Lines before its script: of which document it is, whether its slot is closed, whether the directory's sum is wrong,
+-- which blocks are left out or taken without their sum, and whether the map block is left out.
 
 abbrev pub place_note : Place → List ℕ
 place_note p =
     codes "# what can be read of the " ++ name_text p.name
     ++ (if p.second then codes " document of slot 1\n" else codes " document of slot 0\n")
+
+-- where its slot isn't open
+abbrev pub gate_note : Bool → List ℕ
+gate_note is_open =
+    if is_open then []
+    else codes "# its slot is closed: it may be an earlier document, or written over in part, or not whole yet\n"
 
 -- where the bytes of a directory haven't the sum that its slot gives
 abbrev pub sum_note : Option ℕ → List ℕ → List ℕ
@@ -58,7 +64,7 @@ sum_note sum bytes =
     else codes "# its directory's sum is wrong: handles, user IDs, types and the map block may be, too\n"
 
 abbrev pub head_note : Place → List ℕ → List ℕ
-head_note p bytes = place_note p ++ sum_note p.sum bytes
+head_note p bytes = place_note p ++ gate_note p.is_open ++ sum_note p.sum bytes
 
 abbrev pub lost_map : ℕ → List ℕ
 lost_map map_block = codes "# map block" ++ 32 ∷ four_digits map_block ++ codes " is left out\n"

@@ -5,18 +5,17 @@ ghost use Rattle.vm_store.specs.Facts.{FailedSince};
 ghost use Rattle.file_format.specs.Reading.{IsResourceFault, OnlyReadsStore};
 ghost use Rattle.file_format.specs.File as file;
 ghost use Rattle.file_format.specs.File.{block_of, entry_length};
-ghost use Rattle.document_dump.specs.Faults.{IsDumpRefusal, IsWriteFault};
-ghost use Rattle.file_salvage.specs.Entries.{all_notes, damage_at, damages, directory_version, entry_at, entry_beside, entry_count, fits_row, flaw_beside, free_among, free_below, free_numbers, free_unsummed, frees_beside, has_handle, has_zeros, image_flaw, is_right, is_taken, note_of, notes, taken_at, taken_entries, taken_row, without_sum, zeros_start};
+ghost use Rattle.document_dump.specs.Faults.{IsDumpRefusal};
+ghost use Rattle.file_salvage.specs.Entries.{all_notes, damage_at, damages, entry_at, entry_beside, entry_count, fits_row, flaw_beside, free_among, free_below, free_numbers, free_unsummed, frees_beside, has_handle, image_flaw, is_right, is_taken, note_of, notes, taken_at, taken_entries, taken_row, without_sum};
 ghost use Rattle.file_salvage.specs.Salvaged.{IsNoteFault};
 
 use crate::flaw::Flaw;
 use crate::rows::longest_row;
-use byteorder::{ByteOrder, LittleEndian};
-use document_dump::DumpFault;
+use document_dump::{DumpFault, send};
 use file_format::{
     Entry, HEADER_LENGTH, LONGEST_IMAGE, entry_length, is_in_file, most_handles, read_entry,
 };
-use file_report::{entry_text_at, read_image};
+use file_report::{directory_version, entry_text_at, has_entry_zeros, read_image};
 use geos_model::Fault;
 use geos_script::{Word, push_words};
 use std::alloc::{AllocError, Global};
@@ -31,51 +30,18 @@ pub struct Listing<'a> {
     pub bytes: &'a [u8],
 }
 
-pub fn send<W: Write>(bytes: &[u8], writer: &mut W) -> Result<(), DumpFault>
-    ensures err { IfErr result IsWriteFault }
-    ensures ok { OnOk result (Appends (W.contents writer.old) (W.contents writer.new) bytes.now) }
-{
-    match writer.write_all(bytes) {
-        Ok(()) => Ok(()),
-        Err(_) => Err(DumpFault::Write),
-    }
-}
-
-fn version_in(bytes: &[u8]) -> u16
-    requires { 16 ≤ length bytes.now }
-    ensures { result ≡ directory_version bytes.now }
-{
-    LittleEndian::read_u16(&bytes[4..])
-}
-
 fn entry_count(bytes: &[u8]) -> usize
     requires { 16 ≤ length bytes.now }
     ensures { result ≡ entry_count bytes.now }
 {
-    (bytes.len() - HEADER_LENGTH) / entry_length(version_in(bytes))
+    (bytes.len() - HEADER_LENGTH) / entry_length(directory_version(bytes))
 }
 
 fn entry_at(bytes: &[u8], i: usize) -> Entry
     requires { i < entry_count bytes.now }
     ensures { result ≡ entry_at bytes.now i }
 {
-    read_entry(version_in(bytes), entry_text_at(bytes, i))
-}
-
-// Where the zeros of an entry begin, in a directory of this version.
-fn zeros_start(version: u16) -> usize
-    ensures value { result ≡ zeros_start version }
-    ensures within { result ≤ 16 }
-{
-    if version == 1 { 12 } else { 14 }
-}
-
-// Whether the text of an entry has its zeros, in a directory of this version.
-fn has_zeros(version: u16, text: &[u8]) -> bool
-    requires { 16 ≤ length text.now }
-    ensures { result ≡ has_zeros version text.now }
-{
-    text[zeros_start(version)..16].iter().all(|byte| *byte == 0)
+    read_entry(directory_version(bytes), entry_text_at(bytes, i))
 }
 
 fn is_entry(listing: Listing<'_>, version: u16, entry: Entry) -> bool
@@ -92,11 +58,11 @@ fn is_right(listing: Listing<'_>, i: usize) -> bool
     ensures { result ≡ is_right listing.entry.file_version listing.entry.file_length listing.entry.bytes.now i }
 {
     let bytes = listing.bytes;
-    let version = version_in(bytes);
+    let version = directory_version(bytes);
     let entry = entry_at(bytes, i);
     entry.handle.0 >= 1
         && is_entry(listing, version, entry)
-        && has_zeros(version, entry_text_at(bytes, i))
+        && has_entry_zeros(version, entry_text_at(bytes, i))
 }
 
 // Whether an entry has its block. Memory, File.
@@ -110,7 +76,7 @@ fn has_block<S: Store>(alloc: Global, store: &mut S, entry: Entry) -> Result<boo
     Ok(read_image(alloc, store, &entry)?.is_some())
 }
 
-fn unsummed(entry: Entry) -> Entry
+fn without_sum(entry: Entry) -> Entry
     ensures { result ≡ without_sum entry }
 {
     Entry { sum: None, ..entry }
@@ -124,7 +90,7 @@ fn image_flaw<S: Store>(alloc: Global, store: &mut S, entry: Entry) -> Result<Fl
     ensures file { IsErrOf result Fault.File → FailedSince (S.facts store.old) (S.facts store.new) }
     ensures refusals { IfErr result IsResourceFault }
 {
-    if has_block(alloc, store, unsummed(entry))? {
+    if has_block(alloc, store, without_sum(entry))? {
         Ok(Flaw::Sum)
     } else {
         Ok(Flaw::Image)
@@ -190,7 +156,11 @@ fn free_below(i: usize, entry: Entry, damage: Option<Flaw>) -> u16
     }
 }
 
-fn frees(alloc: Global, bytes: &[u8], damages: &[Option<Flaw>]) -> Result<Vec<u16>, AllocError>
+fn free_numbers(
+    alloc: Global,
+    bytes: &[u8],
+    damages: &[Option<Flaw>],
+) -> Result<Vec<u16>, AllocError>
     requires { length damages.now ≡ entry_count bytes.now }
     ensures { IfOk result (λ numbers. numbers.items ≡ free_numbers bytes.now damages.now) }
 {
@@ -211,7 +181,7 @@ fn free_unsummed(i: usize, entry: Entry, damage: Option<Flaw>) -> u16
 }
 
 // Whether a number at a place can stand among those of a row.
-fn fits(numbers: &[u16], row: &[usize], i: usize, number: u16) -> bool
+fn fits_row(numbers: &[u16], row: &[usize], i: usize, number: u16) -> bool
     requires { All (λ j. j < length numbers.now) row.now }
     ensures { result ≡ fits_row numbers.now row.now i number }
 {
@@ -228,7 +198,7 @@ fn free_among(numbers: &[u16], row: &[usize], i: usize, number: u16) -> u16
     requires { All (λ j. j < length numbers.now) row.now }
     ensures { result ≡ free_among numbers.now row.now i number }
 {
-    if fits(numbers, row, i, number) {
+    if fits_row(numbers, row, i, number) {
         number
     } else {
         0
@@ -255,7 +225,7 @@ fn frees_beside(
 }
 
 // The places of the entries that are taken, the last one first.
-fn taken(
+fn taken_row(
     alloc: Global,
     all: bool,
     bytes: &[u8],
@@ -265,7 +235,7 @@ fn taken(
     ensures row { IfOk result (λ row. row.items ≡ taken_row all bytes.now damages.now) }
     ensures within { IfOk result (λ row. All (λ i. i < length damages.now) row.items) }
 {
-    let frees = frees(alloc, bytes, damages)?;
+    let frees = free_numbers(alloc, bytes, damages)?;
     let row = longest_row(alloc, frees.as_slice())?;
     if !all {
         return Ok(row);
@@ -280,7 +250,7 @@ fn entry_beside(entry: Entry, damage: Option<Flaw>) -> Entry
 {
     match damage {
         None => entry,
-        Some(_) => unsummed(entry),
+        Some(_) => without_sum(entry),
     }
 }
 
@@ -402,7 +372,7 @@ pub fn take_entries<S: Store, W: Write>(
 {
     let bytes = listing.bytes;
     let damages = damages(alloc, store, listing)?;
-    let row = taken(alloc, all, bytes, damages.as_slice())?;
+    let row = taken_row(alloc, all, bytes, damages.as_slice())?;
     send_notes(alloc, bytes, damages.as_slice(), row.as_slice(), writer)?;
     let entries = entries_at(alloc, bytes, damages.as_slice(), row.as_slice())?;
     Ok(entries)

@@ -9,6 +9,8 @@ pub struct Place {
     pub second: bool,
     /// Of which of its documents.
     pub name: Named,
+    /// Whether the slot is open.
+    pub is_open: bool,
     /// The version of the slot.
     pub version: u8,
     pub extent: Extent,

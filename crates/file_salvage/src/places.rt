@@ -3,7 +3,6 @@ ghost use Rattle.std.specs.Prelude.{◌≡◌, ◌≤◌, IfErr, IfOk, IfSome, I
 ghost use Rattle.vm_store.specs.Facts.{FailedSince};
 ghost use Rattle.file_format.specs.File.{bytes_in, longest_directory};
 ghost use Rattle.file_format.specs.Reading.{IsResourceFault, OnlyReadsStore};
-ghost use Rattle.file_report.specs.Findings.{directory_sum};
 ghost use Rattle.file_salvage.specs.Places.{head_of, if_readable, is_header, is_place, is_second_first, place_in_slot, readable_in, readable_of, salvaged_place};
 
 use crate::place::Place;
@@ -12,34 +11,21 @@ use file_format::{
     Extent, HEADER_LENGTH, LONGEST_DIRECTORY, PAGE, Slot, entry_start, is_known, is_version,
     read_extent, read_raw_slot, start_of,
 };
-use file_report::Named;
+use file_report::{Named, directory_extent, directory_sum};
 use geos_model::Fault;
 use std::alloc::Global;
 use vm_store::Store;
 
-// The sum of the directory of one of a slot's documents, if there is one.
-fn directory_sum(slot: Slot, name: Named) -> Option<u32>
-    ensures { result ≡ directory_sum slot name }
-{
-    let sums = slot.sums?;
-    match name {
-        Named::Updated => Some(sums.working),
-        Named::Saved => Some(sums.saved),
-    }
-}
-
-fn place_of(second: bool, slot: Slot, name: Named) -> Place
+fn place_in_slot(second: bool, slot: Slot, name: Named) -> Place
     ensures { result ≡ place_in_slot second slot name }
 {
     Place {
         second,
         name,
+        is_open: slot.gate == 1,
         version: slot.version,
-        extent: match name {
-            Named::Updated => slot.working,
-            Named::Saved => slot.saved,
-        },
-        sum: directory_sum(slot, name),
+        extent: directory_extent(&slot, name),
+        sum: directory_sum(&slot, name),
     }
 }
 
@@ -116,12 +102,12 @@ fn readable_in<S: Store>(
     let Some(slot) = slot else {
         return Ok(None);
     };
-    let updated = place_of(second, slot, Named::Updated);
+    let updated = place_in_slot(second, slot, Named::Updated);
     let first = if_readable(alloc, store, file_length, updated)?;
     if first.is_some() {
         return Ok(first);
     }
-    let saved = place_of(second, slot, Named::Saved);
+    let saved = place_in_slot(second, slot, Named::Saved);
     if_readable(alloc, store, file_length, saved)
 }
 

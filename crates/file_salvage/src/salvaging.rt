@@ -1,19 +1,17 @@
 //! A salvage: the script of what can be read of a file.
 ghost use Rattle.std.specs.Prelude.{◌≡◌, ◌++◌, ◌≤◌, IfErr, IfOk, IsTrue, OnOk, length, true};
 ghost use Rattle.std.specs.Io.KnownBytes.{Appends};
-ghost use Rattle.geos_model.specs.Words.{word_at};
 ghost use Rattle.file_format.specs.Reading.{OnlyReadsStore};
 ghost use Rattle.document_dump.specs.Faults.{IsDumpRefusal};
 ghost use Rattle.file_salvage.specs.Places.{is_place};
-ghost use Rattle.file_salvage.specs.Salvaged.{IsNoteFault, IsSalvage, head_note, lost_map, map_kept, map_note, place_note, salvage_text, script_of, sum_note};
+ghost use Rattle.file_salvage.specs.Salvaged.{IsNoteFault, IsSalvage, gate_note, head_note, lost_map, map_kept, map_note, place_note, salvage_text, script_of, sum_note};
 
-use crate::entries::{Listing, has_handle, send, take_entries};
+use crate::entries::{Listing, has_handle, take_entries};
 use crate::place::Place;
 use crate::places::{find_place, read_place};
-use byteorder::{ByteOrder, LittleEndian};
-use document_dump::{DumpFault, dump_entries};
+use document_dump::{DumpFault, dump_entries, send};
 use file_format::{Entry, has_sum, read_length};
-use file_report::Named;
+use file_report::{Named, map_block_of};
 use geos_model::VmHandle;
 use geos_script::{Word, push_words};
 use std::alloc::{AllocError, Global};
@@ -35,6 +33,17 @@ fn push_place_note(out: &mut Vec<u8>, place: Place) -> Result<(), AllocError>
     }
 }
 
+fn push_gate_note(out: &mut Vec<u8>, is_open: bool) -> Result<(), AllocError>
+    ensures { OnOk result (out.new.items ≡ out.old.items ++ gate_note is_open) }
+{
+    if is_open {
+        return Ok(());
+    }
+    out.extend_from_slice(
+        b"# its slot is closed: it may be an earlier document, or written over in part, or not whole yet\n",
+    )
+}
+
 fn push_sum_note(out: &mut Vec<u8>, sum: Option<u32>, bytes: &[u8]) -> Result<(), AllocError>
     ensures { OnOk result (out.new.items ≡ out.old.items ++ sum_note sum bytes.now) }
 {
@@ -46,20 +55,13 @@ fn push_sum_note(out: &mut Vec<u8>, sum: Option<u32>, bytes: &[u8]) -> Result<()
     )
 }
 
-// Of which document a directory of these bytes is, and whether its sum is wrong.
+// Of which document a directory of these bytes is, whether its slot is closed, and whether its sum is wrong.
 fn push_head_note(out: &mut Vec<u8>, place: Place, bytes: &[u8]) -> Result<(), AllocError>
     ensures { OnOk result (out.new.items ≡ out.old.items ++ head_note place bytes.now) }
 {
     push_place_note(out, place)?;
+    push_gate_note(out, place.is_open)?;
     push_sum_note(out, place.sum, bytes)
-}
-
-// The map block of a directory, 0 where there is none.
-fn map_of(bytes: &[u8]) -> u16
-    requires { 16 ≤ length bytes.now }
-    ensures { result ≡ word_at bytes.now 8 }
-{
-    LittleEndian::read_u16(&bytes[8..])
 }
 
 fn map_kept(map_block: u16, entries: &[Entry]) -> u16
@@ -146,7 +148,7 @@ fn salvage_place<S: Store, W: Write>(
     };
     let found = take_entries(alloc, store, all, listing, writer)?;
     let entries = found.as_slice();
-    let map_block = map_of(bytes);
+    let map_block = map_block_of(bytes);
     let kept = map_kept(map_block, entries);
     send_map_note(alloc, map_block, kept, writer)?;
     dump_entries(alloc, store, entries, VmHandle(kept), writer)?;
@@ -154,7 +156,7 @@ fn salvage_place<S: Store, W: Write>(
 }
 
 /// Writes a script of commands that makes all blocks anew that are whole in a file, whether or not it opens, with lines
-/// before it that tell which are left out, and whether the directory's sum is wrong. With `all` those are taken too whose
+/// before it that tell which are left out, whether the slot is closed, and whether the directory's sum is wrong. With `all` those are taken too whose
 /// image can be read and hasn't its sum, and a line tells of each. False where no directory can be read; then nothing is
 /// written. Nothing is written to the store. The writer gets many short pieces, so it should be buffered.
 pub fn salvage<S: Store, W: Write>(

@@ -6,8 +6,8 @@ use Rattle.file_salvage.specs.declared.flaw.Flaw.{Flaw}
 use Rattle.file_salvage.proofs.ScriptLemmas.{refused_by_note}
 use Rattle.file_salvage.proofs.entries.take_entries.Goals as goal
 
-pub taken-requires : goal.taken-requires
-taken-requires g c = ap length c.as_slice.ensures.value ∙ c.in_ok-damages.ensures.count
+pub taken_row-requires : goal.taken_row-requires
+taken_row-requires g c = ap length c.as_slice.ensures.value ∙ c.in_ok-damages.ensures.count
 
 pub send_notes-requires-clause-count : goal.send_notes-requires-clause-count
 send_notes-requires-clause-count g c = ap length c.as_slice-2.ensures.value ∙ c.in_ok-damages.ensures.count

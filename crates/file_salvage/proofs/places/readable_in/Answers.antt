@@ -18,10 +18,10 @@ returns-clause-readable g c =
     let updated = c.in_ok-first.first in
     IfOk-weaker c.if_readable-2.result _ _
     (λ found then so.
-    let now : found ≡ if_readable a.content c.place_of-saved.result = subst (λ (file : List ℕ). found ≡ if_readable file c.place_of-saved.result) (same_bytes_then a b looks so) (then (still a b looks so)) in
+    let now : found ≡ if_readable a.content c.place_in_slot-saved.result = subst (λ (file : List ℕ). found ≡ if_readable file c.place_in_slot-saved.result) (same_bytes_then a b looks so) (then (still a b looks so)) in
     subst (λ (s : Option Slot). found ≡ readable_in a.content second s) (sym c.in-Some.is)
     (or_else updated (if_readable a.content (place_in_slot second slot Updated)) (if_readable a.content (place_in_slot second slot Saved)) found
-    (c.in_ok-first.ensures.readable so ∙ ap (λ (p : Place). if_readable a.content p) c.place_of-updated.ensures)
+    (c.in_ok-first.ensures.readable so ∙ ap (λ (p : Place). if_readable a.content p) c.place_in_slot-updated.ensures)
     (sym c.is_some.ensures ∙ c.if-is_some.false)
-    (now ∙ ap (λ (p : Place). if_readable a.content p) c.place_of-saved.ensures)))
+    (now ∙ ap (λ (p : Place). if_readable a.content p) c.place_in_slot-saved.ensures)))
     c.if_readable-2.ensures.readable

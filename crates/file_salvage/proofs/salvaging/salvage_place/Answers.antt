@@ -23,10 +23,10 @@ returns-clause-ok g c = λ so.
     let two = contents c.take_entries.new.writer in
     let three = contents c.send_map_note.new.writer in
     let to = contents c.dump_entries.new.writer in
-    written c.args.all a.content p bytes es c.map_of-map_block.result c.map_kept-kept.result (contents c.args.writer.now) one two three to
+    written c.args.all a.content p bytes es c.map_block_of-map_block.result c.map_kept-kept.result (contents c.args.writer.now) one two three to
     (c.as_slice-bytes.ensures.value ∙ c.in_ok-directory.ensures.bytes so)
     (c.as_slice-entries.ensures.value ∙ subst (λ (file : List ℕ). c.in_ok-found.found.items ≡ taken_entries c.args.all bytes (damages file p.version bytes)) (same_bytes_then a b first so) (c.in_ok-found.ensures.entries (still a b first so)))
-    c.map_of-map_block.ensures c.map_kept-kept.ensures c.in_ok-send_head_note.ensures.ok
+    c.map_block_of-map_block.ensures c.map_kept-kept.ensures c.in_ok-send_head_note.ensures.ok
     (subst (λ (file : List ℕ). Appends one two (all_notes c.args.all bytes (damages file p.version bytes))) (same_bytes_then a b first so) (c.in_ok-found.ensures.told (still a b first so)))
     c.in_ok-send_map_note.ensures.ok
     (λ x listed. c.in_ok-dump_entries.ensures.ok (still a d second so) x (subst (λ (file : List ℕ). IsListedAs file c.map_kept-kept.result es x) (sym (same_bytes_then a d second so)) listed))

@@ -4,7 +4,7 @@ use Rattle.file_format.specs.declared.file.Entry.{Entry}
 use Rattle.file_salvage.specs.Entries.{free_at, free_below}
 use Rattle.file_salvage.specs.declared.flaw.Flaw.{Flaw}
 use Rattle.file_salvage.proofs.EntryLemmas.{places_more}
-use Rattle.file_salvage.proofs.entries.frees.Goals as goal
+use Rattle.file_salvage.proofs.entries.free_numbers.Goals as goal
 
 pub loop-i-preserved : goal.loop-i-preserved
 loop-i-preserved c =

@@ -1,7 +1,7 @@
 use Rattle.std.proofs.Common.{◌≡◌, ◌<◌, All, ℕ, List, length, ap, subst, sym, ◌∙◌, arith}
 use Rattle.file_salvage.proofs.EntryLemmas.{frees_beside_count, frees_count}
 use Rattle.file_salvage.proofs.RowLemmas.{row_below}
-use Rattle.file_salvage.proofs.entries.taken.Goals as goal
+use Rattle.file_salvage.proofs.entries.taken_row.Goals as goal
 
 pub returns-then-not-all-clause-within : goal.returns-then-not-all-clause-within
 returns-then-not-all-clause-within c = λ k d below.
