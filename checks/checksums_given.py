@@ -15,7 +15,7 @@ import sys
 import tempfile
 
 from dumped_documents import run, slots_of, word
-from salvaged import salvage, script_of
+from salvaged import salvage, script_of, tells_gate
 from summed_documents import PAGE, Tries, dump, is_summed, little, with_wrong_sums
 
 # Slot 0 of a first file with checksums, and its directory: docs/FORMAT.md has these bytes.
@@ -73,6 +73,16 @@ class Given(Tries):
         told = subprocess.run([self.geosvm, self.path("shut")], input=b"list\n", capture_output=True)
         return told.returncode != 0 and b"NotDocument" in told.stderr
 
+    def is_told_shut(self, path):
+        """Where the mark of the slot is gone that is open, the one that was shut is salvaged, and it is told that it is closed."""
+        data = bytearray(read(path))
+        at = 0 if data[4] == 1 else 512
+        data[at] ^= 1
+        write(self.path("shut"), data)
+        status, script, told = salvage(self.geosdoc, self.path("shut"))
+        notes = [line for line in script.splitlines() if line.startswith("#")]
+        return (status, told) == (0, "") and notes[0].endswith(f" of slot {0 if at else 1}") and tells_gate(data, notes)
+
     def new_file(self):
         path, plain = self.path("new"), self.path("plain")
         run([self.geosvm, "--new", "--checksums", path], "")
@@ -104,6 +114,7 @@ class Given(Tries):
                 self.told(f"{what}, {commit}: all sums are right", is_summed(read(summed)) and version_of(read(plain)) == 2)
                 self.told(f"{what}, {commit}: the commit before is shut, one behind it isn't", self.is_alone(summed) == (not more))
                 self.told(f"{what}, {commit}: so is its dump", (dump(self.geosdoc, summed, "--other") is None) == (not more))
+                self.told(f"{what}, {commit}: a salvage of it tells so", bool(more) or self.is_told_shut(summed))
         run([self.geosvm, summed], "newraw 5 5\nupdate\n")
         self.told(f"{what}: it stays so", is_summed(read(summed)))
 
@@ -144,6 +155,9 @@ class Given(Tries):
         write(damaged, data)
         status, script, told = salvage(self.geosdoc, damaged)
         self.told(f"{what}: a file with wrong sums is salvaged", (status, told, script.count("# block ")) == (0, "", len(handles)))
+        checked = subprocess.run([self.geosdoc, "check", damaged], capture_output=True, text=True)
+        steps = [line for line in checked.stdout.splitlines() if line.startswith("next: ")]
+        self.told(f"{what}: what can be done gives it checksums again", bool(steps) and all("restore --checksums" in step for step in steps))
         plain, summed = self.restore("plain", script), self.restore("summed", script, "--checksums")
         self.told(f"{what}, salvaged: the same documents", self.both_dumped(plain, summed))
         self.told(f"{what}, salvaged: checksums just where they are asked for", is_summed(read(summed)) and version_of(read(plain)) == 2)

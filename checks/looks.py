@@ -21,7 +21,8 @@ with; no line is refused. A line that begins with `#` is a note. At the left mar
     opens, opens no Damaged              geosdoc check tells that, and geosvm opens it just so; where nothing of the slot that counts
                                          is found it opens, and where something is it doesn't
     finds TEXT                           the check has that line
-    next dump --other, salvage           its last lines name these commands as what can be done, or say this; nothing behind `next`: none does
+    next dump --other, salvage           its last lines name these commands as what can be done, or say this; nothing behind `next`: none does;
+                                         with `--checksums` behind a command the restore of what it writes is to have that
     overlap: TEXT                        and this one; it has no other ones of overlaps than those that stand here
     dump                                 geosdoc dump writes the lines below that begin with `| `, the file stays as it is, and the dump
                                          makes both documents again, and that of the saved one alone makes this
@@ -231,7 +232,8 @@ class Case:
 
     def do_next(self, rest, lines):
         steps = [line.removeprefix("next: geosdoc ").removeprefix("next: ") for line in self.found if line.startswith("next: ")]
-        expect(rest, ", ".join(step.split(" FILE | geosdoc restore FILE2 makes ")[0] for step in steps), "what can be done")
+        named = [re.sub(r" FILE \| geosdoc restore( --checksums)? FILE2 makes .*", r"\1", step) for step in steps]
+        expect(rest, ", ".join(named), "what can be done")
 
     def do_overlap(self, rest, lines):
         expect("overlap: " + rest, self.overlaps.pop(0) if self.overlaps else None)

@@ -11,18 +11,18 @@ use Rattle.file_report.specs.declared.checking.SlotReport.{SlotReport}
 use Rattle.document_tools.specs.Checks.{ChecksStore, IsCheckText, SendsReport, PrintsReport}
 use Rattle.document_tools.specs.Endings.{EndsUnread, IsRefusedFor}
 use Rattle.document_tools.specs.Pages.{ReportsCounting}
-use Rattle.document_tools.specs.Reports.{next_line, report_text}
+use Rattle.document_tools.specs.Reports.{next_lines, report_text}
 use Rattle.document_tools.specs.declared.ending.Ending.{Ending}
 use Rattle.document_tools.specs.declared.ending.Ending.TheVariants as endings
 use Rattle.document_tools.specs.declared.obstacle.Obstacle.TheVariants.{Unread}
 
 -- the lines of a report and those of the pages are its text
 pub text_told : (r : Report) (counting : Option SlotReport) (pages told text : List ℕ) → counting ≡ counting_between r.first r.second
-    → ReportsCounting r.file_length counting pages → told ≡ pages → text ≡ report_text r ++ told ++ next_line r → IsCheckText r text
+    → ReportsCounting r.file_length counting pages → told ≡ pages → text ≡ report_text r ++ told ++ next_lines r → IsCheckText r text
 text_told r counting pages told text counts tells same is = record {
   pages = pages;
   counting = subst (λ (o : Option SlotReport). ReportsCounting r.file_length o pages) counts tells;
-  is = subst (λ (l : List ℕ). text ≡ report_text r ++ l ++ next_line r) same is;
+  is = subst (λ (l : List ℕ). text ≡ report_text r ++ l ++ next_lines r) same is;
 }
 
 -- the status of a report that was written is that of its verdict

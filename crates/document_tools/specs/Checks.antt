@@ -9,7 +9,7 @@ use Rattle.file_report.specs.declared.checking.Report.{Report}
 use Rattle.document_tools.specs.Endings.{IsRefusedFor}
 use Rattle.document_tools.specs.Obstacles.{refusal_line}
 use Rattle.document_tools.specs.Pages.{ReportsCounting}
-use Rattle.document_tools.specs.Reports.{next_line, report_text}
+use Rattle.document_tools.specs.Reports.{next_lines, report_text}
 use Rattle.document_tools.specs.Views.{LooksAt, Views}
 use Rattle.document_tools.specs.declared.ending.Ending.{Ending}
 use Rattle.document_tools.specs.declared.ending.Ending.TheVariants as endings
@@ -19,7 +19,7 @@ use Rattle.document_tools.specs.declared.obstacle.Obstacle.TheVariants.{Unread, 
 pub record IsCheckText (r : Report) (text : List ℕ) : Type 0 where
   pub pages : List ℕ
   pub counting : ReportsCounting r.file_length (counting_between r.first r.second) pages
-  pub is : text ≡ report_text r ++ pages ++ next_line r
+  pub is : text ≡ report_text r ++ pages ++ next_lines r
 
 -- all of that was written in one write, which had this result
 pub record SendsReport {W : Type 0} (writes : WriteCalls W) (r : Report) (old : W)

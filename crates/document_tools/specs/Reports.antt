@@ -72,24 +72,45 @@ abbrev pub is_standing : SlotState → Bool
 is_standing (Open r) = is_ok r.verdict
 is_standing state = false
 
+-- it has sums, and so is of version 3
+abbrev pub has_sums : SlotState → Bool
+has_sums Short = false
+has_sums NoMark = false
+has_sums (Closed s) = is_some s.sums
+has_sums (Open r) = is_some r.slot.sums
+
+-- The file has checksums: one of its slots has them, whether or not it counts.
+abbrev pub is_summed : Report → Bool
+is_summed r = has_sums r.first || has_sums r.second
+
 -- One counts and one stands. Where the file doesn't open that isn't the same.
 abbrev pub has_other : Report → Bool
 has_other r = is_some (counting_number r.first r.second) && (is_standing r.first || is_standing r.second)
 
-abbrev pub other_step : List ℕ
-other_step = codes "next: geosdoc dump --other FILE | geosdoc restore FILE2 makes the documents of the commit before\n"
+-- the script goes to a restore, with checksums or without
+abbrev pub restore_words : Bool → List ℕ
+restore_words summed =
+    if summed then codes " FILE | geosdoc restore --checksums FILE2 makes "
+    else codes " FILE | geosdoc restore FILE2 makes "
 
-abbrev pub salvage_step : List ℕ
-salvage_step =
-    codes "next: geosdoc salvage FILE | geosdoc restore FILE2 makes a document of the blocks that can be read\n"
+-- a command that writes a script of FILE, and what the script makes in FILE2
+abbrev pub step_line : List ℕ → Bool → List ℕ → List ℕ
+step_line command summed made = codes "next: geosdoc " ++ command ++ restore_words summed ++ made ++ codes "\n"
 
--- a salvage wherever there is a slot, and before it, where they stand, the documents of the commit before
-abbrev pub step_text : Report → List ℕ
-step_text r =
-    if has_other r then other_step ++ salvage_step
-    else if is_marked r.first || is_marked r.second then salvage_step
+abbrev pub other_step : Bool → List ℕ
+other_step summed = step_line (codes "dump --other") summed (codes "the documents of the commit before")
+
+abbrev pub salvage_step : Bool → List ℕ
+salvage_step summed = step_line (codes "salvage") summed (codes "a document of the blocks that can be read")
+
+-- A salvage wherever there is a slot, and before it, where they stand, the documents of the commit before. What is made
+-- has checksums where the file has them.
+abbrev pub step_lines : Report → List ℕ
+step_lines r =
+    if has_other r then other_step (is_summed r) ++ salvage_step (is_summed r)
+    else if is_marked r.first || is_marked r.second then salvage_step (is_summed r)
     else codes "next: see whether this is the right file; nothing of a document is where its slots would be\n"
 
 -- nothing where it opens
-abbrev pub next_line : Report → List ℕ
-next_line r = if is_ok r.verdict then [] else step_text r
+abbrev pub next_lines : Report → List ℕ
+next_lines r = if is_ok r.verdict then [] else step_lines r

@@ -3,11 +3,11 @@ ghost use Rattle.std.specs.Prelude.{◌≡◌, ◌++◌, IfOk, MatchResult};
 ghost use Rattle.document_file.specs.Opened.{OnlyReadsStore};
 ghost use Rattle.file_report.specs.Checked.{counting_number};
 ghost use Rattle.document_tools.specs.Checks.{ChecksFile, ChecksStore, IsCheckText, PrintsReport};
-ghost use Rattle.document_tools.specs.Reports.{next_line, report_text};
+ghost use Rattle.document_tools.specs.Reports.{next_lines, report_text};
 ghost use Rattle.document_tools.specs.declared.ending.Ending.TheVariants as endings;
 
 use crate::ending::{Ending, refused, unread};
-use crate::next_step::next_line;
+use crate::next_step::push_next_lines;
 use crate::obstacle::Obstacle;
 use crate::pages_text::counting_text;
 use crate::report_text::push_report;
@@ -26,12 +26,12 @@ fn report_lines(
     pages: &[u8],
 ) -> Result<Vec<u8>, AllocError>
     requires { counts ≡ counting_number report.now.first report.now.second }
-    ensures { IfOk result (λ text. text.items ≡ report_text report.now ++ pages.now ++ next_line report.now) }
+    ensures { IfOk result (λ text. text.items ≡ report_text report.now ++ pages.now ++ next_lines report.now) }
 {
     let mut text = Vec::new(alloc);
     push_report(&mut text, report, counts)?;
     text.extend_from_slice(pages)?;
-    text.extend_from_slice(next_line(report))?;
+    push_next_lines(&mut text, report)?;
     Ok(text)
 }
 
