@@ -6,6 +6,7 @@ pub mod CopyLemmas
 pub mod Planned
 pub mod Loading
 pub mod StepLemmas
+pub mod Following
 pub mod PairedWalks
 pub mod Refusals
 pub mod Carrying

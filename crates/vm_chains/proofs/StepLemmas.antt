@@ -11,7 +11,7 @@ use Rattle.geos_model.specs.declared.handle.VmHandle.{VmHandle}
 use Rattle.vm_blocks.specs.Keeping.{KeepsBlocks, IsHonest, IsEnvironmentFault}
 use Rattle.vm_blocks.proofs.KeepingLaws.{keeps-refl, keeps-same, keeps-steady, keeps-trans, lacks-later}
 use Rattle.vm_chains.specs.Numbers.{numbers}
-use Rattle.vm_chains.specs.Stepping.{AreMet, HasMet, HasMetAll, IsAlong, IsAtRoot, IsBroken, IsOver, IsWalkStep}
+use Rattle.vm_chains.specs.Stepping.{AreMet, HasMet, HasMetAll, HasPassed, IsAlong, IsAtRoot, IsBroken, IsOver, IsWalkStep}
 use Rattle.vm_chains.specs.Walking.{IsChainWalk, Stops}
 use Rattle.vm_chains.specs.declared.stepping.Walk.{Walk}
 use Rattle.vm_chains.proofs.Loading.{still_live}
@@ -64,6 +64,12 @@ step_has_met d root h old new has step = record {
   root_first = inr (root_met root h old.met old.pending step.rest new.met has.root_first step.next step.met);
 }
 
+pub passed_has_met : (d : Document) (root h : ℕ) (old new : Walk) → HasMet d root old → HasPassed d h old new → HasMet d root new
+passed_has_met d root h old new has passed = record {
+  blocks = one_met d old.left new.left h old.met new.met has.blocks passed.left passed.live passed.first_time passed.met;
+  root_first = inr (root_met root h old.met old.pending passed.rest new.met has.root_first passed.next passed.met);
+}
+
 pub over_has_met : (d : Document) (root : ℕ) (walk : Walk) (hs : List VmHandle) → ((h : ℕ) → is_live d h ≡ true → is_vm_handle h ≡ true) → HasMet d root walk → walk.pending ≡ [] → numbers hs ≡ walk.met → HasMetAll d root hs
 over_has_met d root walk hs can has none same = record {
   blocks = met_blocks d walk.left hs can (subst (AreMet d walk.left) (sym same) has.blocks);
@@ -97,6 +103,14 @@ module _ {S : Type 0} (facts : S → StoreFacts) where
       keeps = keeps-trans facts a b c goes.keeps keeps;
       along = λ root steady along. step_along c.document root h old new (still_along root steady along) step;
       met = λ root has. step_has_met c.document root h old new (still_has_met root has) step;
+    }
+
+    -- the same where bodies are known over an honest store alone
+    pub goes-passed : (h : ℕ) (new : Walk) → HasPassed c.document h old new → (IsHonest facts b.disk.store → IsWalkStep c.document h old new) → GoesAlong a c from new
+    goes-passed h new passed step = record {
+      keeps = keeps-trans facts a b c goes.keeps keeps;
+      along = λ root steady along. step_along c.document root h old new (still_along root steady along) (step (keeps-steady facts a b goes.keeps steady));
+      met = λ root has. passed_has_met c.document root h old new (still_has_met root has) passed;
     }
 
     -- it has come to its end
@@ -147,3 +161,7 @@ refused_then facts a b c fault keeps (inr bad) = inr bad
 pub stops_so : {S : Type 0} (facts : S → StoreFacts) (a b c : CacheState S) (fault : Fault) (cause : Type 0) → KeepsBlocks facts a b → Stops (IsEnvironmentFault facts b.disk.store c.disk.store) cause fault → IsEnvironmentFault facts a.disk.store c.disk.store fault ⊎ (fault ≡ BadChain)
 stops_so facts a b c fault cause keeps (inl lacks) = inl (lacks-later facts a b c.disk.store fault keeps lacks)
 stops_so facts a b c fault cause keeps (inr bad) = inr bad.0
+
+pub stops_later : {S : Type 0} (facts : S → StoreFacts) (a b c : CacheState S) (fault : Fault) (cause : Type 0) → KeepsBlocks facts a b → Stops (IsEnvironmentFault facts b.disk.store c.disk.store) cause fault → Stops (IsEnvironmentFault facts a.disk.store c.disk.store) cause fault
+stops_later facts a b c fault cause keeps (inl lacks) = inl (lacks-later facts a b c.disk.store fault keeps lacks)
+stops_later facts a b c fault cause keeps (inr bad) = inr bad

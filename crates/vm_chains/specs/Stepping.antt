@@ -29,6 +29,14 @@ pub record IsWalkStep (d : Document) (h : ℕ) (old new : Walk) : Type 0 where
   pub met : new.met ≡ old.met ++ h ∷ []
   pub left : old.left ≡ new.left + 1
 
+-- The next block that is pending was taken, for the first time, and may still be met.
+pub record IsTaken (h : ℕ) (old new : Walk) : Type 0 where
+  pub next : old.pending ≡ h ∷ new.pending
+  pub first_time : list_any (λ x. x == h) old.met ≡ false
+  pub room : 1 ≤ old.left
+  pub met : new.met ≡ old.met
+  pub left : new.left ≡ old.left
+
 -- nothing is pending any more
 pub record IsOver (old new : Walk) : Type 0 where
   pub none : old.pending ≡ []
@@ -39,6 +47,15 @@ abbrev pub IsBroken : Document → Walk → Type 0
 IsBroken d walk = (root : ℕ) → IsAlong d root walk → chain d root ≡ None
 
 -- What is known of a walk over any store.
+
+-- The next block that was pending is live and is met for the first time.
+pub record HasPassed (d : Document) (h : ℕ) (old new : Walk) : Type 0 where
+  pub rest : List ℕ
+  pub next : old.pending ≡ h ∷ rest
+  pub first_time : list_any (λ x. x == h) old.met ≡ false
+  pub live : is_live d h ≡ true
+  pub met : new.met ≡ old.met ++ h ∷ []
+  pub left : old.left ≡ new.left + 1
 
 -- live blocks, each once, where at most so many may still be met
 pub record AreMet (d : Document) (n : ℕ) (met : List ℕ) : Type 0 where

@@ -1,5 +1,5 @@
 //! The links in the body of a block of a chain.
-ghost use Rattle.std.specs.Prelude.{◌≡◌, ◌≤◌, ◌+◌, ◌*◌, ◌<◌, ◌==◌, true, false, MatchOption, IfOk, ◌++◌, length};
+ghost use Rattle.std.specs.Prelude.{◌≡◌, ◌≤◌, ◌+◌, ◌*◌, ◌<◌, ◌==◌, true, false, not, cond, MatchOption, IfOk, ◌∷◌, ◌++◌, length};
 ghost use Rattle.std.specs.List.{list_all, range_with_len};
 ghost use Rattle.geos_model.specs.Words.{word_at};
 ghost use Rattle.geos_model.specs.Chain.{is_tree, is_linked, links};
@@ -11,7 +11,7 @@ use raw_region::RawBody;
 use std::alloc::AllocError;
 
 /// The first word of a tree block, which is no handle.
-const TREE_MARK: u16 = 0xFFFF;
+pub(crate) const TREE_MARK: u16 = 0xFFFF;
 
 /// Where the links of a body stand, four bytes apart.
 #[derive(Clone, Copy)]
@@ -81,10 +81,18 @@ pub(crate) fn push_links(
 {
     // The first link is pushed last, so that it is met first.
     for i in (0..found.count).rev() {
-        let handle = VmHandle(body.word(usize::from(found.first) + 4 * usize::from(i)));
-        if handle.0 != 0 {
-            pending.push(handle)?;
-        }
+        let link = body.word(usize::from(found.first) + 4 * usize::from(i));
+        push_link(link, pending)?;
+    }
+    Ok(())
+}
+
+/// Puts the block to which a link leads before all that is pending; 0 leads to none.
+pub(crate) fn push_link(link: u16, pending: &mut Pending) -> Result<(), AllocError>
+    ensures { IfOk result (λ _. pending.new ≡ cond (not (link == 0)) (link ∷ pending.old) pending.old) }
+{
+    if link != 0 {
+        pending.push(VmHandle(link))?;
     }
     Ok(())
 }

@@ -1,7 +1,7 @@
 //! What is read of a block that a walk has met.
 ghost use Rattle.std.specs.Prelude.{◌≡◌, ◌≤◌, ◌⊎◌, true, false, IfOk, MatchResult, length};
 ghost use Rattle.geos_model.specs.Chain.{is_member, relinked};
-ghost use Rattle.geos_model.specs.Document.{is_heap, is_live, is_raw, raw_bytes_of};
+ghost use Rattle.geos_model.specs.Document.{is_heap, is_live, raw_bytes_of};
 ghost use Rattle.geos_model.specs.Heap.{capacity};
 ghost use Rattle.geos_model.specs.declared.fault.Fault.TheVariants.{Damaged, Memory};
 ghost use Rattle.vm_blocks.specs.Keeping.{KeepsBlocks, IsHonest, IsEnvironmentFault, is_full, is_loaded};
@@ -16,24 +16,6 @@ use vm_store::Store;
 
 // A block that was met before is loaded again, since others may have taken its place. Only a store that isn't honest
 // gives another body then: where no chain can have that, it is Damaged.
-
-/// How many bytes it has.
-pub(crate) fn len_at<S: Store>(blocks: &mut FileBlocks<S>, handle: VmHandle) -> Result<usize, Fault>
-    requires room { is_full blocks.old ≡ false }
-    requires live { is_live blocks.old.document handle.0 ≡ true }
-    requires raw { IsHonest S.facts blocks.old.disk.store → is_raw blocks.old.document handle.0 ≡ true }
-    ensures keeps { KeepsBlocks S.facts blocks.old blocks.new }
-    ensures value { MatchResult result
-        (λ n. n ≡ length (raw_bytes_of blocks.new.document handle.0))
-        (IsEnvironmentFault S.facts blocks.old.disk.store blocks.new.disk.store) }
-    ensures small { IfOk result (λ n. n ≤ capacity) }
-{
-    blocks.load(handle)?;
-    match blocks.body(handle) {
-        BlockBody::Raw(body) => Ok(body.bytes().len()),
-        BlockBody::Heap(_) => Err(Fault::Damaged),
-    }
-}
 
 /// Its bytes, with each of its links renamed.
 pub(crate) fn relinked_at<S: Store>(

@@ -1,13 +1,14 @@
 //! Steps of a walk along a chain.
-ghost use Rattle.std.specs.Prelude.{◌≡◌, ◌⊎◌, ℕ, None, Some, true, false, IfOk, IfErr, IfSome, OnOk, MatchOption, MatchResult};
+ghost use Rattle.std.specs.Prelude.{◌≡◌, ◌≤◌, ◌+◌, ◌⊎◌, ◌∷◌, ◌++◌, [], ℕ, None, Some, true, false, IfOk, IfErr, IfSome, OnOk, MatchOption, MatchResult};
 ghost use Rattle.geos_model.specs.Chain.{chain, is_member};
+ghost use Rattle.geos_model.specs.Document.{Document, is_live, is_vm_handle};
 ghost use Rattle.geos_model.specs.declared.fault.Fault.TheVariants.{BadChain};
 ghost use Rattle.vm_blocks.specs.Keeping.{KeepsBlocks, IsHonest, IsEnvironmentFault, is_full, is_loaded};
 ghost use Rattle.vm_chains.specs.Numbers.{numbers};
-ghost use Rattle.vm_chains.specs.Stepping.{IsAtRoot, IsAlong, IsBroken, IsOver, IsWalkStep, HasMet, HasMetAll};
+ghost use Rattle.vm_chains.specs.Stepping.{IsAtRoot, IsAlong, IsBroken, IsOver, IsTaken, IsWalkStep, HasMet, HasMetAll, HasPassed};
 ghost use Rattle.vm_chains.specs.Walking.{GoesOn, Stops};
 
-use crate::links::{links_of, push_links};
+use crate::links::{TREE_MARK, links_of, push_link, push_links};
 use crate::met::Met;
 use crate::pending::Pending;
 use geos_model::{Fault, VmHandle};
@@ -54,22 +55,72 @@ impl Walk {
             (IsBroken blocks.new.document self.old)) }
         ensures loaded { IfOk result (λ next. IfSome next (λ h. is_loaded blocks.new h.0 ≡ true)) }
     {
+        let Some(handle) = self.take_next()? else {
+            return Ok(None);
+        };
+        blocks.reveal_invariant();
+        follow(blocks, handle, &mut self.pending)?;
+        self.meet(handle)?;
+        Ok(Some(handle))
+    }
+
+    /// The next block; none at the end. Refused as a step is. A block that links to one next block stays where it is.
+    fn pass<S: Store>(&mut self, blocks: &mut FileBlocks<S>) -> Result<Option<VmHandle>, Fault>
+        // Asked of the caller.
+        requires room { is_full blocks.old ≡ false }
+        // What stays.
+        ensures keeps { KeepsBlocks S.facts blocks.old blocks.new }
+        // What is answered.
+        ensures value { IsHonest S.facts blocks.old.disk.store → MatchResult result
+            (λ next. MatchOption next (IsOver self.old self.new)
+            (λ h. IsWalkStep blocks.new.document h.0 self.old self.new))
+            (Stops (IsEnvironmentFault S.facts blocks.old.disk.store blocks.new.disk.store)
+            (IsBroken blocks.new.document self.old)) }
+        ensures passed { MatchResult result
+            (λ next. MatchOption next (IsOver self.old self.new)
+            (λ h. HasPassed blocks.new.document h.0 self.old self.new))
+            (λ fault. IsEnvironmentFault S.facts blocks.old.disk.store blocks.new.disk.store fault
+            ⊎ (fault ≡ BadChain)) }
+    {
+        let Some(handle) = self.take_next()? else {
+            return Ok(None);
+        };
+        blocks.reveal_invariant();
+        follow_link(blocks, handle, &mut self.pending)?;
+        self.meet(handle)?;
+        Ok(Some(handle))
+    }
+
+    /// Takes the next block that is pending; none at the end. BadChain where it was met before, or where more are
+    /// pending than may still be met.
+    fn take_next(&mut self) -> Result<Option<VmHandle>, Fault>
+        ensures { MatchResult result
+            (λ next. MatchOption next (IsOver self.old self.new) (λ h. IsTaken h.0 self.old self.new))
+            (λ fault. (fault ≡ BadChain) × ((d : Document) → IsBroken d self.old)) }
+    {
         // Each that is pending would be one more block.
         if self.pending.len() > self.left {
             return Err(Fault::BadChain);
         }
-        let handle = match self.pending.pop() {
-            Some(handle) => handle,
-            None => return Ok(None),
+        let Some(handle) = self.pending.pop() else {
+            return Ok(None);
         };
         if self.met.contains(handle) {
             return Err(Fault::BadChain);
         }
-        blocks.reveal_invariant();
-        follow(blocks, handle, &mut self.pending)?;
+        Ok(Some(handle))
+    }
+
+    /// The block that was taken is met.
+    fn meet(&mut self, handle: VmHandle) -> Result<(), AllocError>
+        requires handle { is_vm_handle handle.0 ≡ true }
+        requires left { 1 ≤ self.old.left }
+        ensures { OnOk result ((self.new.met ≡ self.old.met ++ handle.0 ∷ [])
+            × (self.new.pending ≡ self.old.pending) × (self.new.left + 1 ≡ self.old.left)) }
+    {
         self.met.add(handle)?;
         self.left -= 1;
-        Ok(Some(handle))
+        Ok(())
     }
 
     /// Takes all steps that are left, and gives the blocks of the chain.
@@ -95,7 +146,7 @@ impl Walk {
             ⊎ (fault ≡ BadChain)) }
     {
         blocks.reveal_invariant();
-        while let Some(_next) = self.step(blocks)? {}
+        while let Some(_next) = self.pass(blocks)? {}
         Ok(self.met.into_handles())
     }
 }
@@ -125,5 +176,35 @@ fn follow<S: Store>(
             Some(found) => Ok(push_links(body, &found, pending)?),
             None => Err(Fault::BadChain),
         },
+    }
+}
+
+/// Puts what a block links to before all that is pending. A block that links to one next block is not brought into
+/// memory for that, where no sum says what its whole image is. BadChain where the block is none of a chain.
+fn follow_link<S: Store>(
+    blocks: &mut FileBlocks<S>,
+    handle: VmHandle,
+    pending: &mut Pending,
+) -> Result<(), Fault>
+    // Asked of the caller.
+    requires room { is_full blocks.old ≡ false }
+    // What stays.
+    ensures keeps { KeepsBlocks S.facts blocks.old blocks.new }
+    // What is answered.
+    ensures value { IsHonest S.facts blocks.old.disk.store → MatchResult result
+        (λ _. GoesOn blocks.new.document handle.0 pending.old pending.new)
+        (Stops (IsEnvironmentFault S.facts blocks.old.disk.store blocks.new.disk.store)
+        (is_member blocks.new.document handle.0 ≡ false)) }
+    ensures live { OnOk result (is_live blocks.new.document handle.0 ≡ true) }
+    // Refusals.
+    ensures refusals { IfErr result
+        (λ fault. IsEnvironmentFault S.facts blocks.old.disk.store blocks.new.disk.store fault ⊎ (fault ≡ BadChain)) }
+{
+    if !blocks.is_live(handle) || blocks.is_heap(handle) {
+        return Err(Fault::BadChain);
+    }
+    match blocks.first_word(handle)? {
+        Some(link) if link != TREE_MARK => Ok(push_link(link, pending)?),
+        _ => follow(blocks, handle, pending),
     }
 }

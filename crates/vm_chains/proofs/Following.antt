@@ -1,0 +1,25 @@
+-- A block that links to one next block, by its first word.
+use Rattle.std.proofs.Common.{◌≡◌, ◌≢◌, ◌≤◌, ℕ, Bool, true, false, not, cond, ◌==◌, ◌||◌, nat_lt, List, ◌∷◌, Some, None, length, sym, ◌∙◌, inl, inr}
+use Rattle.std.proofs.lemmas.Bool.{and_from, cases_Bool, cond-true, cond-false, ltb-false, ne_eqb, or_parts}
+use Rattle.geos_model.specs.Chain.{is_linked, tree_mark}
+use Rattle.geos_model.specs.Document.{Document, is_raw, raw_bytes_of}
+use Rattle.geos_model.specs.Words.{word_at}
+use Rattle.document_file.specs.Fronts.{first_word}
+use Rattle.vm_chains.specs.Walking.{GoesOn}
+use Rattle.vm_chains.proofs.LinkLemmas.{one_linked, one_pushed}
+
+word_of : (summed : Bool) (bytes : List ℕ) (w : ℕ) → first_word summed bytes ≡ Some w → (2 ≤ length bytes) × (w ≡ word_at bytes 0)
+word_of summed bytes w is = elim (cases_Bool (summed || nat_lt (length bytes) 2)) as (λ _. (2 ≤ length bytes) × (w ≡ word_at bytes 0)) [
+  | inl none ↦ (let e : None ≡ Some w = sym (cond-true _ _ _ none) ∙ is in absurd (cc e))
+  | inr some ↦
+      (let e : Some (word_at bytes 0) ≡ Some w = sym (cond-false _ _ _ some) ∙ is in
+      let same : word_at bytes 0 ≡ w = cc e in
+      (ltb-false (length bytes) 2 (or_parts summed (nat_lt (length bytes) 2) some).1, sym same))
+]
+
+pub goes_on_by_word : (d : Document) (h : ℕ) (summed : Bool) (w : ℕ) (old new : List ℕ) → is_raw d h ≡ true → Some w ≡ first_word summed (raw_bytes_of d h) → w ≢ tree_mark → new ≡ cond (not (w == 0)) (w ∷ old) old → GoesOn d h old new
+goes_on_by_word d h summed w old new raw is other pushed =
+    let bytes : List ℕ = raw_bytes_of d h in
+    let word = word_of summed bytes w (sym is) in
+    let plain : (w == tree_mark) ≡ false = ne_eqb w tree_mark other in
+    record { member = and_from (is_raw d h) (is_linked bytes) raw (one_linked bytes w word.1 plain word.0); pending = pushed ∙ one_pushed bytes w word.1 plain old }
