@@ -9,10 +9,10 @@ use Rattle.geos_model.specs.Words.{word}
 use Rattle.geos_model.specs.Array.{places_from}
 use Rattle.geos_model.specs.Heap.{capacity}
 use Rattle.geos_model.proofs.Arrays.{joined, table_of, table-any, table-even, array_bytes-spelled}
-use Rattle.large_arrays.specs.Pieces.{BranchPiece, weight, branch_room}
+use Rattle.large_arrays.specs.Pieces.{BranchPiece, piece_weight, branch_room}
 use Rattle.large_arrays.specs.Layout.{branch_bytes}
 use Rattle.large_arrays.specs.ElementLengths.{kept_lengths, places_by}
-use Rattle.large_arrays.specs.PieceKeeping.{AreKept}
+use Rattle.large_arrays.specs.PieceKeeping.{AreHeldElements}
 use Rattle.large_arrays.proofs.BranchBytes.{FitsBranch, array_of_piece, branch-few, length-branch_bytes}
 use Rattle.large_arrays.proofs.PieceLemmas.{weight-kept}
 
@@ -71,7 +71,7 @@ unfolding branch_bytes
 branch-spelled size xs = ap (λ (row : List ℕ). word 0 ++ row) (array_bytes-spelled (array_of_piece size xs))
 
 -- The bytes of a branch are what is written of a piece.
-pub body-is : (size count : ℕ) (lengths bytes : List ℕ) (xs : BranchPiece) → AreKept size count lengths bytes xs
+pub body-is : (size count : ℕ) (lengths bytes : List ℕ) (xs : BranchPiece) → AreHeldElements size count lengths bytes xs
     → (word 0 ++ word count ++ word size ++ word 0 ++ word 8) ++ flat_map word (places_by (8 + 2 * length lengths) lengths) ++ bytes ≡ branch_bytes size xs
 body-is size count lengths bytes xs kept =
     let head : ℕ → List ℕ = λ n. word 0 ++ word n ++ word size ++ word 0 ++ word 8 in
@@ -94,10 +94,10 @@ sum-kept size xs = elim (cases_Bool (size == 0)) [
   | inr one ↦ (let is : sum (kept_lengths size xs) ≡ 0 = ap sum (cond-false (size == 0) (map length xs) [] one) in omega arith)
 ]
 
-pub room-kept : (size count : ℕ) (lengths bytes : List ℕ) (xs : BranchPiece) → AreKept size count lengths bytes xs → HasRoom size count lengths bytes xs
+pub room-kept : (size count : ℕ) (lengths bytes : List ℕ) (xs : BranchPiece) → AreHeldElements size count lengths bytes xs → HasRoom size count lengths bytes xs
 room-kept size count lengths bytes xs kept =
     let fits : FitsBranch size xs = record { small = kept.holds.small; room = kept.holds.room; sized = kept.holds.sized } in
-    let most = leb-true (weight size xs) branch_room kept.holds.room in
+    let most = leb-true (piece_weight size xs) branch_room kept.holds.room in
     let is = weight-kept size xs in
     let few = branch-few size xs fits in
     let counted = kept.counted in

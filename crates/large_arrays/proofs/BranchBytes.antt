@@ -9,7 +9,7 @@ use Rattle.geos_model.specs.Words.{word, word_at}
 use Rattle.geos_model.specs.Array.{Array, array_bytes, array_of, is_even}
 use Rattle.geos_model.specs.Chain.{is_linked, links}
 use Rattle.geos_model.proofs.Arrays.{joined, table_of, same_bytes-is, same_bytes-refl, array_again, array_bytes-of, array_bytes-spelled, length-array_bytes, length-elements, length-joined, length_table-any, table-even, size-read, size_lt}
-use Rattle.large_arrays.specs.Pieces.{BranchPiece, weight, fits_branch, branch_room}
+use Rattle.large_arrays.specs.Pieces.{BranchPiece, piece_weight, fits_branch, branch_room}
 use Rattle.large_arrays.specs.Layout.{branch_bytes, branch_of}
 
 -- each element has the size, where it is one
@@ -37,7 +37,7 @@ weight-none (x ∷ xs) =
     omega arith
 
 -- What elements weigh is what they take behind the header.
-pub weight-is : (size : ℕ) (piece : BranchPiece) → length (table_of (array_of_piece size piece)) + length (joined piece) ≡ weight size piece
+pub weight-is : (size : ℕ) (piece : BranchPiece) → length (table_of (array_of_piece size piece)) + length (joined piece) ≡ piece_weight size piece
 weight-is size piece =
     let a : Array = array_of_piece size piece in
     let weigh : ℕ → ℕ = λ e. sum_by (λ x. length x + e) piece in
@@ -45,17 +45,17 @@ weight-is size piece =
       | inl any ↦
           (let table = length_table-any a any in
           let two = weight-two piece in
-          let is : weight size piece ≡ weigh 2 = ap weigh (cond-true (size == 0) 2 0 any) in
+          let is : piece_weight size piece ≡ weigh 2 = ap weigh (cond-true (size == 0) 2 0 any) in
           omega arith)
       | inr one ↦
           (let table : length (table_of a) ≡ 0 = ap length (table-even a one) in
           let none = weight-none piece in
-          let is : weight size piece ≡ weigh 0 = ap weigh (cond-false (size == 0) 2 0 one) in
+          let is : piece_weight size piece ≡ weigh 0 = ap weigh (cond-false (size == 0) 2 0 one) in
           omega arith)
     ]
 
 -- where they have one size it is that of all
-pub weight-even : (size : ℕ) (piece : BranchPiece) → (size == 0) ≡ false → is_sized size piece ≡ true → weight size piece ≡ length piece * size
+pub weight-even : (size : ℕ) (piece : BranchPiece) → (size == 0) ≡ false → is_sized size piece ≡ true → piece_weight size piece ≡ length piece * size
 weight-even size piece one sized =
     let all : list_all (λ x. length x == size) piece ≡ true = ap (λ (b : Bool). b || list_all (λ x. length x == size) piece) (sym one) ∙ sized in
     let is = weight-is size piece in
@@ -63,7 +63,7 @@ weight-even size piece one sized =
     let bytes = length-joined size piece all in
     omega arith
 
-pub length-branch_bytes : (size : ℕ) (piece : BranchPiece) → length (branch_bytes size piece) ≡ 10 + weight size piece
+pub length-branch_bytes : (size : ℕ) (piece : BranchPiece) → length (branch_bytes size piece) ≡ 10 + piece_weight size piece
 unfolding branch_bytes
 length-branch_bytes size piece =
     let whole = length-array_bytes (array_of_piece size piece) in
@@ -84,7 +84,7 @@ pub branch-few : (size : ℕ) (piece : BranchPiece) → FitsBranch size piece �
 branch-few size piece fit =
     let count = length-elements (array_of_piece size piece) (even size piece fit) in
     let is = weight-is size piece in
-    let most = leb-true (weight size piece) branch_room fit.room in
+    let most = leb-true (piece_weight size piece) branch_room fit.room in
     omega arith
 
 -- they stand behind a zero word
@@ -99,7 +99,7 @@ branch-again size piece fit =
     let bytes : List ℕ = branch_bytes size piece in
     let whole = length-array_bytes a in
     let is = weight-is size piece in
-    let most = leb-true (weight size piece) branch_room fit.room in
+    let most = leb-true (piece_weight size piece) branch_room fit.room in
     let test : Array → Option BranchPiece = λ b. if length b.elements == length piece && same_bytes (branch_bytes size b.elements) bytes then Some b.elements else None in
     let read : array_of (drop 2 bytes) ≡ Some a = ap array_of (behind size piece) ∙ array_again a (even size piece fit) (omega arith) in
     ap (option_and_then test) read

@@ -1,15 +1,17 @@
 -- What differs between two bodies leads from one to the other.
-use Rattle.std.proofs.Common.{◌≡◌, ◌≢◌, ◌≤◌, ◌<◌, ◌+◌, ◌-◌, ◌++◌, ◌∷◌, ◌∙◌, ℕ, nat_le, List, [], length, take, drop, get_or, refl, sym, ap, ap₂, subst, inl, inr, append_assoc, append-nil, length-append, leb-true, leb-false, arith}
+use Rattle.std.proofs.Common.{◌≡◌, ◌≢◌, ◌≤◌, ◌<◌, ◌+◌, ◌-◌, ◌++◌, ◌∷◌, ◌∙◌, ℕ, nat_le, List, [], length, take, drop, get_or, sum_by, refl, sym, ap, ap₂, subst, inl, inr, append_assoc, append-nil, length-append, leb-true, leb-false, arith}
 use Rattle.std.proofs.lemmas.Bool.{cases_Bool, cases_lt, cond-true, cond-false}
 use Rattle.std.proofs.lemmas.List.{take-append-drop, take_at, drop_at, drop-drop, length-drop, length-take-le, get_or-take, get_or-drop, nil_from_length}
+use Rattle.std.proofs.lemmas.List.Sums.{sum_by-append}
 use Rattle.std.proofs.lemmas.List.Elements.{All-nil, All-cons, All-append}
 use Rattle.std.specs.List.{All, splice}
 use Rattle.geos_model.specs.Bytes.{same_bytes}
 use Rattle.geos_model.specs.Heap.{capacity}
 use Rattle.geos_model.proofs.Arrays.{same_bytes-is}
-use Rattle.chunk_edits.specs.Splicing.{Splice, OccursAt, forwards}
+use Rattle.chunk_edits.specs.Splicing.{Splice, OccursAt, Leads, forwards}
 use Rattle.large_arrays.specs.declared.cut_body.CutBody.{CutBody}
-use Rattle.large_arrays.specs.Differences.{LeadInTurn, IsTight, IsDifference, AreDifference, Appends, shorter, if_other, header_of, table_of, rest_of, differing_regions, IsCommonFront, IsCommonBack}
+use Rattle.large_arrays.specs.Differences.{LeadInTurn, IsTight, IsLeast, spliced_bytes, IsDifference, AreDifference, Appends, shorter, if_other, header_of, table_of, rest_of, differing_regions, IsCommonFront, IsCommonBack}
+use Rattle.large_arrays.proofs.LeastSplices.{region_least}
 
 -- ---- what one splice holds
 
@@ -154,23 +156,58 @@ one_at_most at x y [] same = omega arith
 one_at_most at x y (s ∷ []) d = omega arith
 one_at_most at x y (s ∷ t ∷ ss) none = absurd none
 
-none_of_same : (at : ℕ) (x y : List ℕ) (m : List Splice) → x ≡ y → AreDifference at x y m → length m ≡ 0
+none_of_same : (at : ℕ) (x y : List ℕ) (m : List Splice) → x ≡ y → AreDifference at x y m → m ≡ []
 none_of_same at x y [] same are = refl
 none_of_same at x y (s ∷ []) same d = absurd (d.other same)
 none_of_same at x y (s ∷ t ∷ ss) same none = absurd none
 
--- a region has one splice at most, where it differs
-one_or_none : (at at' : ℕ) (x y : List ℕ) (m m' : List Splice) → AreDifference at x (shorter x y) m → AreDifference at' (shorter x y) y m' → length m + length m' ≤ if_other x y
-one_or_none at at' x y m m' first next = elim (cases_Bool (nat_le (length y) (length x))) as (λ _. length m + length m' ≤ if_other x y) [
-  | inl less ↦ (let is : shorter x y ≡ y = cond-true (nat_le (length y) (length x)) y x less in by_one x y m m' at' at (subst (λ (z : List ℕ). AreDifference at x z m) is first) (none_of_same at' (shorter x y) y m' is next))
-  | inr more ↦ (let is : shorter x y ≡ x = cond-false (nat_le (length y) (length x)) y x more in omega (arith, by_one x y m' m at at' (subst (λ (z : List ℕ). AreDifference at' z y m') is next) (none_of_same at x (shorter x y) m (sym is) first)))
+-- Of a region there are splices only to the shorter one or only from it.
+record OneOf (x y : List ℕ) (m m' : List Splice) : Type 0 where
+  splices : List Splice
+  at : ℕ
+  are : AreDifference at x y splices
+  count : length m + length m' ≡ length splices
+  held : sum_by spliced_bytes m + sum_by spliced_bytes m' ≡ sum_by spliced_bytes splices
+
+one_of : (at at' : ℕ) (x y : List ℕ) (m m' : List Splice) → AreDifference at x (shorter x y) m → AreDifference at' (shorter x y) y m' → OneOf x y m m'
+one_of at at' x y m m' first next = elim (cases_Bool (nat_le (length y) (length x))) as (λ _. OneOf x y m m') [
+  | inl less ↦ (
+      let is : shorter x y ≡ y = cond-true (nat_le (length y) (length x)) y x less in
+      let none : m' ≡ [] = none_of_same at' (shorter x y) y m' is next in
+      record {
+        splices = m;
+        at = at;
+        are = subst (λ (z : List ℕ). AreDifference at x z m) is first;
+        count = omega (arith, ap (λ (ss : List Splice). length ss) none);
+        held = omega (arith, ap (λ (ss : List Splice). sum_by spliced_bytes ss) none);
+      }
+      )
+  | inr more ↦ (
+      let is : shorter x y ≡ x = cond-false (nat_le (length y) (length x)) y x more in
+      let none : m ≡ [] = none_of_same at x (shorter x y) m (sym is) first in
+      record {
+        splices = m';
+        at = at';
+        are = subst (λ (z : List ℕ). AreDifference at' z y m') is next;
+        count = omega (arith, ap (λ (ss : List Splice). length ss) none);
+        held = omega (arith, ap (λ (ss : List Splice). sum_by spliced_bytes ss) none);
+      }
+      )
 ]
-  where
-    by_one : (x y : List ℕ) (m m' : List Splice) (at' at : ℕ) → AreDifference at x y m → length m' ≡ 0 → length m + length m' ≤ if_other x y
-    by_one x y m m' at' at are none = elim (cases_Bool (same_bytes x y)) as (λ _. length m + length m' ≤ if_other x y) [
-      | inl same ↦ omega (arith, none, none_of_same at x y m (same_bytes-is x y same) are)
-      | inr apart ↦ omega (arith, none, one_at_most at x y m are, cond-false {A = ℕ} (same_bytes x y) 0 1 apart)
-    ]
+
+-- one at most, where it differs
+one_or_none : (x y : List ℕ) (m m' : List Splice) → OneOf x y m m' → length m + length m' ≤ if_other x y
+one_or_none x y m m' o = elim (cases_Bool (same_bytes x y)) as (λ _. length m + length m' ≤ if_other x y) [
+  | inl same ↦ omega (arith, o.count, ap (λ (ss : List Splice). length ss) (none_of_same o.at x y o.splices (same_bytes-is x y same) o.are))
+  | inr apart ↦ omega (arith, o.count, one_at_most o.at x y o.splices o.are, cond-false {A = ℕ} (same_bytes x y) 0 1 apart)
+]
+
+-- they hold no more than any other
+one_least : (x y : List ℕ) (m m' : List Splice) → OneOf x y m m' → (t : Splice) (n : ℕ) → Leads t x y n → sum_by spliced_bytes m + sum_by spliced_bytes m' ≤ n
+one_least x y m m' o t n leads = omega (arith, o.held, region_least x y t n leads o.at o.splices o.are)
+
+more_held : (s s' : List Splice) (at : ℕ) (x y : List ℕ) (a : Appends s s' at x y) → sum_by spliced_bytes s' ≡ sum_by spliced_bytes s + sum_by spliced_bytes a.more
+more_held s s' at x y a = ap (λ (ss : List Splice). sum_by spliced_bytes ss) a.joined ∙ sum_by-append spliced_bytes s a.more
 
 module _ (h t r h' t' r' : List ℕ) (long : length (h ++ t ++ r) ≤ capacity) (long' : length (h' ++ t' ++ r') ≤ capacity) where
   abbrev sh : List ℕ
@@ -220,6 +257,15 @@ module _ (h t r h' t' r' : List ℕ) (long : length (h ++ t ++ r) ≤ capacity) 
         tight_further s₅ s₆ a₆ sr r' six (tight_further s₄ s₅ a₅ st t' five (tight_further s₃ s₄ 0 sh h' four
         (tight_further s₂ s₃ 0 h sh three (tight_further s₁ s₂ a₂ t st two (tight_further [] s₁ a₁ r sr one (All-nil IsTight))))))
 
+    of_header : OneOf h h' three.more four.more
+    of_header = one_of 0 0 h h' three.more four.more three.are four.are
+
+    of_table : OneOf t t' two.more five.more
+    of_table = one_of a₂ a₅ t t' two.more five.more two.are five.are
+
+    of_rest : OneOf r r' one.more six.more
+    of_rest = one_of a₁ a₆ r r' one.more six.more one.are six.are
+
     few : length s₆ ≤ if_other h h' + if_other t t' + if_other r r'
     few =
         omega (
@@ -230,13 +276,29 @@ module _ (h t r h' t' r' : List ℕ) (long : length (h ++ t ++ r) ≤ capacity) 
           more_long s₃ s₄ 0 sh h' four,
           more_long s₄ s₅ a₅ st t' five,
           more_long s₅ s₆ a₆ sr r' six,
-          one_or_none 0 0 h h' three.more four.more three.are four.are,
-          one_or_none a₂ a₅ t t' two.more five.more two.are five.are,
-          one_or_none a₁ a₆ r r' one.more six.more one.are six.are,
+          one_or_none h h' three.more four.more of_header,
+          one_or_none t t' two.more five.more of_table,
+          one_or_none r r' one.more six.more of_rest,
+        )
+
+    least : (i j k : Splice) (a b c : ℕ) → Leads i h h' a → Leads j t t' b → Leads k r r' c → sum_by spliced_bytes s₆ ≤ a + b + c
+    least i j k a b c header table rest =
+        omega (
+          arith,
+          more_held [] s₁ a₁ r sr one,
+          more_held s₁ s₂ a₂ t st two,
+          more_held s₂ s₃ 0 h sh three,
+          more_held s₃ s₄ 0 sh h' four,
+          more_held s₄ s₅ a₅ st t' five,
+          more_held s₅ s₆ a₆ sr r' six,
+          one_least h h' three.more four.more of_header i a header,
+          one_least t t' two.more five.more of_table j b table,
+          one_least r r' one.more six.more of_rest k c rest,
         )
 
     regions_led : LeadInTurn s₆ (h ++ t ++ r) (h' ++ t' ++ r') × All IsTight s₆ × (length s₆ ≤ if_other h h' + if_other t t' + if_other r r')
-    regions_led = (led, tight-all, few)
+        × ((i j k : Splice) (a b c : ℕ) → Leads i h h' a → Leads j t t' b → Leads k r r' c → sum_by spliced_bytes s₆ ≤ a + b + c)
+    regions_led = (led, tight-all, few, least)
 
 -- ---- the regions of two bodies
 
@@ -273,6 +335,7 @@ pub record LeadsBetween (old new : CutBody) (ss : List Splice) : Type 0 where
   pub led : LeadInTurn ss old.bytes.now new.bytes.now
   pub tight : All IsTight ss
   pub few : length ss ≤ differing_regions old new
+  pub least : IsLeast old new (sum_by spliced_bytes ss)
 
 module _ (old new : CutBody) (s₀ s₁ s₂ s₃ s₄ s₅ s₆ : List Splice) (none : s₀ ≡ []) (one : Appends s₀ s₁ old.rest (rest_of old) (shorter (rest_of old) (rest_of new)))
     (two : Appends s₁ s₂ old.table (table_of old) (shorter (table_of old) (table_of new))) (three : Appends s₂ s₃ 0 (header_of old) (shorter (header_of old) (header_of new)))
@@ -291,4 +354,5 @@ module _ (old new : CutBody) (s₀ s₁ s₂ s₃ s₄ s₅ s₆ : List Splice) 
             (subst (λ (x : List ℕ). LeadInTurn s₆ (header_of old ++ table_of old ++ rest_of old) x) (joined new) all.0);
         tight = all.1;
         few = all.2;
+        least = all.3;
       }

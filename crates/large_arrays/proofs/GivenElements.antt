@@ -6,7 +6,7 @@ use Rattle.std.proofs.Math.Nat.{div-mul-le_self, div-add-mod, div-eq_of_lt, add-
 use Rattle.std.specs.List.{list_all}
 use Rattle.geos_model.specs.Array.{cut_evenly}
 use Rattle.geos_model.proofs.Validity.{not_false}
-use Rattle.large_arrays.specs.Pieces.{BranchPiece, weight, branch_room, fits_branch, each_fits}
+use Rattle.large_arrays.specs.Pieces.{BranchPiece, piece_weight, branch_room, fits_branch, each_fits}
 use Rattle.large_arrays.specs.Layout.{greatest_element_size}
 use Rattle.large_arrays.specs.Edits.{cut_elements, ends_within_element, element_count, is_too_long}
 use Rattle.large_arrays.proofs.BranchBytes.{is_sized}
@@ -15,8 +15,8 @@ use Rattle.large_arrays.proofs.BranchBytes.{is_sized}
 varying-fits : (size : ℕ) (bytes : List ℕ) → (size == 0) ≡ true → is_too_long size bytes ≡ false → each_fits size (bytes ∷ []) ≡ true
 varying-fits size bytes any short =
     let few = ltb-false branch_room (length bytes + 2) (sym (ap (λ (b : Bool). b && nat_lt branch_room (length bytes + 2)) any) ∙ short) in
-    let two : weight size (bytes ∷ []) ≡ length bytes + 2 = ap (λ (e : ℕ). 0 + (length bytes + e)) (cond-true (size == 0) 2 0 any) ∙ (let none : 0 + (length bytes + 2) ≡ length bytes + 2 = omega arith in none) in
-    and_from (fits_branch size (bytes ∷ [])) true (le-leb (weight size (bytes ∷ [])) branch_room (omega arith)) refl
+    let two : piece_weight size (bytes ∷ []) ≡ length bytes + 2 = ap (λ (e : ℕ). 0 + (length bytes + e)) (cond-true (size == 0) 2 0 any) ∙ (let none : 0 + (length bytes + 2) ≡ length bytes + 2 = omega arith in none) in
+    and_from (fits_branch size (bytes ∷ [])) true (le-leb (piece_weight size (bytes ∷ [])) branch_room (omega arith)) refl
 
 -- what is cut at one size has no element that is longer
 pub even-fits : (size count : ℕ) (bytes : List ℕ) → (size == 0) ≡ false → size ≤ greatest_element_size → each_fits size (cut_evenly count size bytes) ≡ true
@@ -24,8 +24,8 @@ even-fits size zero bytes one small = refl
 even-fits size (suc count) bytes one small =
     let x : List ℕ = take size bytes in
     let long = length-take size bytes in
-    let none : weight size (x ∷ []) ≡ length x + 0 = ap (λ (e : ℕ). 0 + (length x + e)) (cond-false (size == 0) 2 0 one) ∙ (let same : 0 + (length x + 0) ≡ length x + 0 = omega arith in same) in
-    and_from (fits_branch size (x ∷ [])) (each_fits size (cut_evenly count size (drop size bytes))) (le-leb (weight size (x ∷ [])) branch_room (omega arith))
+    let none : piece_weight size (x ∷ []) ≡ length x + 0 = ap (λ (e : ℕ). 0 + (length x + e)) (cond-false (size == 0) 2 0 one) ∙ (let same : 0 + (length x + 0) ≡ length x + 0 = omega arith in same) in
+    and_from (fits_branch size (x ∷ [])) (each_fits size (cut_evenly count size (drop size bytes))) (le-leb (piece_weight size (x ∷ [])) branch_room (omega arith))
     (even-fits size count (drop size bytes) one small)
 
 -- and none that is shorter, if there are so many bytes

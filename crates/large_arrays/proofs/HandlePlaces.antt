@@ -12,7 +12,8 @@ use Rattle.geos_model.specs.declared.handle.VmHandle.{VmHandle}
 use Rattle.geos_model.proofs.Chains.{contains_first, contains_later}
 use Rattle.geos_model.proofs.BlockLists.{none_passes}
 use Rattle.large_arrays.specs.Window.{greatest, window_handles}
-use Rattle.large_arrays.specs.HandleLists.{numbers, old_handles, old_pairs, handles_outside, AreFreed, AreKept}
+use Rattle.vm_chains.specs.Numbers.{numbers}
+use Rattle.large_arrays.specs.HandleLists.{old_handles, old_pairs, handles_outside, AreFreed, AreKeptPlaces}
 use Rattle.large_arrays.specs.declared.handles.OldBranch.{OldBranch}
 use Rattle.large_arrays.specs.declared.handles.KeptPlaces.{KeptPlaces}
 use Rattle.large_arrays.proofs.DistinctHandles.{distinct-parts}
@@ -76,7 +77,7 @@ none_new new none = nil_from_length new (omega arith)
 -- where there were several, and there are several
 kept_several : (olds : List (ℕ × ℕ)) (head : Bool) (pieces end : ℕ) → 1 < length olds → 1 < pieces → end ≤ length olds - 1 → end ≤ pieces - 1
     → (end ≡ length olds - 1) ⊎ (end ≡ pieces - 1)
-    → AreKept olds head pieces (record { start = 0; end = end; last = length olds - 1 })
+    → AreKeptPlaces olds head pieces (record { start = 0; end = end; last = length olds - 1 })
 kept_several olds head pieces end many several low few is =
     record { first = omega arith; second = omega arith; third = omega arith; is = λ new _. by_case olds pieces end many several low few is new }
   where
@@ -130,7 +131,7 @@ same_there (x ∷ y ∷ xs) head (suc (suc n)) new h there absent =
     (list_any-append is front new ∙ ap (λ (b : Bool). list_any is front || b) absent ∙ sym (list_any-append is front []))
     ∙ sym (list_any-append is (front ++ []) back))
 
-filter_same : (p q : ℕ → Bool) (hs : List ℕ) → ((h : ℕ) → Contains hs h → p h ≡ q h) → filter p hs ≡ filter q hs
+pub filter_same : (p q : ℕ → Bool) (hs : List ℕ) → ((h : ℕ) → Contains hs h → p h ≡ q h) → filter p hs ≡ filter q hs
 filter_same p q [] same = refl
 filter_same p q (h ∷ hs) same =
     ap₂ (λ (b : Bool) (xs : List ℕ). cond b (h ∷ xs) xs) (same h (contains_first h hs)) (filter_same p q hs (λ x there. same x (contains_later h hs x there)))
@@ -189,7 +190,7 @@ in_parts xs s e l first second =
     ∙ ap (λ (ys : List (ℕ × ℕ)). take (e - s) (drop s xs) ++ ys) (sym (drop-drop (e - s) s xs)) ∙ take-append-drop (e - s) (drop s xs) in
     ap (λ (ys : List (ℕ × ℕ)). take s xs ++ (take (e - s) (drop s xs) ++ ys)) last ∙ ap (λ (ys : List (ℕ × ℕ)). take s xs ++ ys) middle ∙ take-append-drop s xs
 
-freed_are : (olds : List (ℕ × ℕ)) (pieces : ℕ) (places : KeptPlaces) → AreKept olds true pieces places → all_distinct (handles olds) ≡ true
+freed_are : (olds : List (ℕ × ℕ)) (pieces : ℕ) (places : KeptPlaces) → AreKeptPlaces olds true pieces places → all_distinct (handles olds) ≡ true
     → AreFreed olds pieces (handles (take places.start olds) ++ handles (take (places.last - places.end) (drop places.end olds)))
 freed_are olds pieces places kept once head new apart =
     let s = places.start in
@@ -214,17 +215,17 @@ freed_are olds pieces places kept once head new apart =
 -- The branches as the code has them.
 
 pub several_kept : (olds : List OldBranch) (head : Bool) (pieces least : ℕ) → 1 < length olds → 1 < pieces → least ≡ min (length olds) pieces
-    → AreKept (old_pairs olds) head pieces (record { start = 0; end = least - 1; last = length olds - 1 })
+    → AreKeptPlaces (old_pairs olds) head pieces (record { start = 0; end = least - 1; last = length olds - 1 })
 several_kept olds head pieces least more several is =
     let many = pairs_many olds in
-    subst (λ (n : ℕ). AreKept (old_pairs olds) head pieces (record { start = 0; end = least - 1; last = n - 1 })) many
+    subst (λ (n : ℕ). AreKeptPlaces (old_pairs olds) head pieces (record { start = 0; end = least - 1; last = n - 1 })) many
     (kept_several (old_pairs olds) head pieces (least - 1) (omega arith) several (omega arith) (omega arith) (elim (cases_Bool (nat_le (length olds) pieces)) [
       | inl few ↦ (let low = leb-true (length olds) pieces few in inl (omega arith))
       | inr lots ↦ (let high = leb-false (length olds) pieces lots in inr (omega arith))
     ]))
 
 -- what is added handle by handle
-pub freed_pushed : (olds : List OldBranch) (pieces : ℕ) (places : KeptPlaces) (freed : List ℕ) → AreKept (old_pairs olds) true pieces places
+pub freed_pushed : (olds : List OldBranch) (pieces : ℕ) (places : KeptPlaces) (freed : List ℕ) → AreKeptPlaces (old_pairs olds) true pieces places
     → all_distinct (old_handles olds) ≡ true
     → freed ≡ old_handles (take places.start olds) ++ old_handles (take (places.last - places.end) (drop places.end olds))
     → AreFreed (old_pairs olds) pieces freed
@@ -234,7 +235,7 @@ freed_pushed olds pieces places freed kept once is head new apart =
     ∙ sym is
 
 pub window_pushed : (olds : List OldBranch) (head : Bool) (pieces : ℕ) (new : List VmHandle) (places : KeptPlaces) (found : List ℕ)
-    → AreKept (old_pairs olds) head pieces places → length new ≤ pieces - length olds
+    → AreKeptPlaces (old_pairs olds) head pieces places → length new ≤ pieces - length olds
     → found ≡ (old_handles (take (places.end - places.start) (drop places.start olds)) ++ numbers new)
     ++ old_handles (take (length olds - places.last) (drop places.last olds))
     → found ≡ window_handles (old_pairs olds) head pieces (numbers new)

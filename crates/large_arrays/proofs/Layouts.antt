@@ -14,7 +14,7 @@ use Rattle.geos_model.specs.ChainLaws.{IsForest, nothing, block, AreMembers}
 use Rattle.geos_model.proofs.Arrays.{are_words}
 use Rattle.geos_model.proofs.Validity.{raw_bytes-few}
 use Rattle.geos_model.proofs.Chains.{contains_cases, contains_first, contains_later, raw_block, member-handle, walk-chain, chain-members}
-use Rattle.large_arrays.specs.Pieces.{BranchPiece, weight, branch_room, fits_branch, all_fit, elements_in_pieces}
+use Rattle.large_arrays.specs.Pieces.{BranchPiece, piece_weight, branch_room, fits_branch, all_fit, elements_in_pieces}
 use Rattle.large_arrays.specs.Layout.{Root, greatest_element_size, root_bytes, is_root, root_of, branch_bytes, branch_of}
 use Rattle.large_arrays.specs.Blocks.{root_at, branch_at, pieces_at, IsLargeArray}
 use Rattle.large_arrays.proofs.RootBytes.{FitsRoot, root-again, root_linked, root_links, root_of-is}
@@ -272,7 +272,7 @@ module _ (d : Document) (b : ℕ) (found : is_some (root_of (raw_bytes_of d b)) 
   pub pieces-many : length pieces ≡ length r.branches
   pieces-many = length-map-range_with_len read 0 (length r.branches)
 
-  read-here : (k : ℕ) → k < length pieces → get_or pieces k [] ≡ read k
+  pub read-here : (k : ℕ) → k < length pieces → get_or pieces k [] ≡ read k
   read-here k low =
       let all = pieces-many in
       get_or-map-range_with_len read 0 (length r.branches) k k [] (omega arith) (zero-add k)
@@ -297,11 +297,11 @@ module _ (d : Document) (b : ℕ) (found : is_some (root_of (raw_bytes_of d b)) 
   branch-fits valid k low there =
       let piece : BranchPiece = get_or pieces k [] in
       let few = raw_bytes-few d (get_or r.branches k 0) valid in
-      let long : length (raw_bytes_of d (get_or r.branches k 0)) ≡ 10 + weight r.size piece = ap length ((branch-read k low there).has).1 ∙ length-branch_bytes r.size piece in
-      le-leb (weight r.size piece) branch_room (omega arith)
+      let long : length (raw_bytes_of d (get_or r.branches k 0)) ≡ 10 + piece_weight r.size piece = ap length ((branch-read k low there).has).1 ∙ length-branch_bytes r.size piece in
+      le-leb (piece_weight r.size piece) branch_room (omega arith)
 
   -- each piece, also one that wasn't read, has as many elements as the root says, of its size
-  piece_is : (k : ℕ) → k < length pieces → (length (get_or pieces k []) ≡ get_or r.counts k 0) × (is_sized r.size (get_or pieces k []) ≡ true)
+  pub piece_is : (k : ℕ) → k < length pieces → (length (get_or pieces k []) ≡ get_or r.counts k 0) × (is_sized r.size (get_or pieces k []) ≡ true)
   piece_is k low = by_branch (branch_at d r k) refl
     where
       by_branch : (o : Option BranchPiece) → branch_at d r k ≡ o → (length (get_or pieces k []) ≡ get_or r.counts k 0) × (is_sized r.size (get_or pieces k []) ≡ true)

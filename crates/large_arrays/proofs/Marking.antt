@@ -8,7 +8,7 @@ use Rattle.std.specs.List.{Contains, list_any}
 use Rattle.geos_model.specs.ElementArray.{all_distinct}
 use Rattle.geos_model.proofs.Chains.{contains_first, contains_cases}
 use Rattle.geos_model.proofs.BlockLists.{none_passes}
-use Rattle.large_arrays.specs.Spots.{handles_of}
+use Rattle.large_arrays.specs.Spots.{link_handles}
 use Rattle.large_arrays.specs.declared.spot.BranchLink.{BranchLink}
 use Rattle.large_arrays.proofs.DistinctHandles.{distinct-append, distinct-parts}
 
@@ -56,36 +56,36 @@ met_too k h hs =
 abbrev pub no_link : BranchLink
 no_link = record { handle = record { 0 = 0 }; count = 0 }
 
-pub handle_at : (links : List BranchLink) (i : ℕ) (d : BranchLink) → i < length links → get_or (handles_of links) i 0 ≡ (get_or links i d).handle.0
+pub handle_at : (links : List BranchLink) (i : ℕ) (d : BranchLink) → i < length links → get_or (link_handles links) i 0 ≡ (get_or links i d).handle.0
 handle_at links i d within = get_or-map (λ (l : BranchLink). l.handle.0) links i d 0 within
 
-pub handles-rest : (links : List BranchLink) (i : ℕ) (d : BranchLink) → i < length links → drop i (handles_of links) ≡ (get_or links i d).handle.0 ∷ drop (i + 1) (handles_of links)
+pub handles-rest : (links : List BranchLink) (i : ℕ) (d : BranchLink) → i < length links → drop i (link_handles links) ≡ (get_or links i d).handle.0 ∷ drop (i + 1) (link_handles links)
 handles-rest links i d within =
     let long = length-map links (λ l. l.handle.0) in
-    drop_more (handles_of links) i 0 (omega arith) ∙ ap (λ (h : ℕ). h ∷ drop (i + 1) (handles_of links)) (handle_at links i d within)
+    drop_more (link_handles links) i 0 (omega arith) ∙ ap (λ (h : ℕ). h ∷ drop (i + 1) (link_handles links)) (handle_at links i d within)
 
-pub handles-next : (links : List BranchLink) (i : ℕ) (d : BranchLink) → i < length links → take (i + 1) (handles_of links) ≡ take i (handles_of links) ++ (get_or links i d).handle.0 ∷ []
+pub handles-next : (links : List BranchLink) (i : ℕ) (d : BranchLink) → i < length links → take (i + 1) (link_handles links) ≡ take i (link_handles links) ++ (get_or links i d).handle.0 ∷ []
 handles-next links i d within =
     let long = length-map links (λ l. l.handle.0) in
-    take_more (handles_of links) i 0 (omega arith) ∙ ap (λ (h : ℕ). take i (handles_of links) ++ h ∷ []) (handle_at links i d within)
+    take_more (link_handles links) i 0 (omega arith) ∙ ap (λ (h : ℕ). take i (link_handles links) ++ h ∷ []) (handle_at links i d within)
 
-pub handles-done : (links : List BranchLink) (i : ℕ) → length links ≤ i → take i (handles_of links) ≡ handles_of links
-handles-done links i all = let long = length-map links (λ l. l.handle.0) in take_all i (handles_of links) (omega arith)
+pub handles-done : (links : List BranchLink) (i : ℕ) → length links ≤ i → take i (link_handles links) ≡ link_handles links
+handles-done links i all = let long = length-map links (λ l. l.handle.0) in take_all i (link_handles links) (omega arith)
 
 -- one of the branches that are left is compared with those behind it
 pub few-step : (links : List BranchLink) (i : ℕ) (d : BranchLink) (found : Bool) → i < length links
-    → found ≡ is_met (get_or links i d).handle.0 (handles_of (take (length links - (i + 1)) (drop (i + 1) links)))
-    → all_distinct (drop i (handles_of links)) ≡ (not found && all_distinct (drop (i + 1) (handles_of links)))
+    → found ≡ is_met (get_or links i d).handle.0 (link_handles (take (length links - (i + 1)) (drop (i + 1) links)))
+    → all_distinct (drop i (link_handles links)) ≡ (not found && all_distinct (drop (i + 1) (link_handles links)))
 few-step links i d found within is =
-    let rest : List ℕ = drop (i + 1) (handles_of links) in
-    let behind : rest ≡ handles_of (take (length links - (i + 1)) (drop (i + 1) links)) =
-    drop-map (λ (l : BranchLink). l.handle.0) (i + 1) links ∙ ap handles_of (sym (take_rest links (i + 1))) in
+    let rest : List ℕ = drop (i + 1) (link_handles links) in
+    let behind : rest ≡ link_handles (take (length links - (i + 1)) (drop (i + 1) links)) =
+    drop-map (λ (l : BranchLink). l.handle.0) (i + 1) links ∙ ap link_handles (sym (take_rest links (i + 1))) in
     ap all_distinct (handles-rest links i d within)
     ∙ ap (λ (hs : List ℕ). not (is_met (get_or links i d).handle.0 hs) && all_distinct rest) behind
     ∙ ap (λ (b : Bool). not b && all_distinct rest) (sym is)
 
-pub few-done : (links : List BranchLink) (i : ℕ) → length links ≤ i → all_distinct (drop i (handles_of links)) ≡ true
-few-done links i all = let long = length-map links (λ l. l.handle.0) in ap all_distinct (drop_all i (handles_of links) (omega arith))
+pub few-done : (links : List BranchLink) (i : ℕ) → length links ≤ i → all_distinct (drop i (link_handles links)) ≡ true
+few-done links i all = let long = length-map links (λ l. l.handle.0) in ap all_distinct (drop_all i (link_handles links) (omega arith))
 
 -- Many, of which the root and the first ones were met.
 module _ (root : ℕ) (links : List BranchLink) (i : ℕ) (d : BranchLink) (within : i < length links) where
@@ -93,23 +93,23 @@ module _ (root : ℕ) (links : List BranchLink) (i : ℕ) (d : BranchLink) (with
   h = (get_or links i d).handle.0
 
   abbrev seen : List ℕ
-  seen = root ∷ take i (handles_of links)
+  seen = root ∷ take i (link_handles links)
 
-  next : root ∷ take (i + 1) (handles_of links) ≡ seen ++ h ∷ []
+  next : root ∷ take (i + 1) (link_handles links) ≡ seen ++ h ∷ []
   next = ap (λ (hs : List ℕ). root ∷ hs) (handles-next links i d within)
 
-  all : seen ++ h ∷ drop (i + 1) (handles_of links) ≡ root ∷ handles_of links
+  all : seen ++ h ∷ drop (i + 1) (link_handles links) ≡ root ∷ link_handles links
   all =
       ap (λ (hs : List ℕ). seen ++ hs) (sym (handles-rest links i d within))
-      ∙ ap (λ (hs : List ℕ). root ∷ hs) (take-append-drop i (handles_of links))
+      ∙ ap (λ (hs : List ℕ). root ∷ hs) (take-append-drop i (link_handles links))
 
   -- the next one was met
-  pub many-twice : is_met h seen ≡ true → all_distinct (root ∷ handles_of links) ≡ false
-  many-twice met = ap all_distinct (sym all) ∙ met_twice seen h (drop (i + 1) (handles_of links)) met
+  pub many-twice : is_met h seen ≡ true → all_distinct (root ∷ link_handles links) ≡ false
+  many-twice met = ap all_distinct (sym all) ∙ met_twice seen h (drop (i + 1) (link_handles links)) met
 
   -- it wasn't
-  pub many-once : all_distinct seen ≡ true → is_met h seen ≡ false → all_distinct (root ∷ take (i + 1) (handles_of links)) ≡ true
+  pub many-once : all_distinct seen ≡ true → is_met h seen ≡ false → all_distinct (root ∷ take (i + 1) (link_handles links)) ≡ true
   many-once once none = ap all_distinct next ∙ met_once seen h once none
 
-  pub many-met : (k : ℕ) → ((k == h) || is_met k seen) ≡ is_met k (root ∷ take (i + 1) (handles_of links))
+  pub many-met : (k : ℕ) → ((k == h) || is_met k seen) ≡ is_met k (root ∷ take (i + 1) (link_handles links))
   many-met k = met_too k h seen ∙ ap (is_met k) (sym next)

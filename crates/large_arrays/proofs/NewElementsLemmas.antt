@@ -8,7 +8,7 @@ use Rattle.std.specs.List.{list_all}
 use Rattle.geos_model.specs.Array.{cut_evenly}
 use Rattle.geos_model.proofs.Arrays.{joined, cut_evenly-joined, length-joined}
 use Rattle.chunk_arrays.proofs.CutLemmas.{joined-cut_evenly, length-cut_evenly}
-use Rattle.large_arrays.specs.Pieces.{BranchPiece, weight, branch_room, fits_branch, each_fits}
+use Rattle.large_arrays.specs.Pieces.{BranchPiece, piece_weight, branch_room, fits_branch, each_fits}
 use Rattle.large_arrays.specs.Layout.{greatest_element_size}
 use Rattle.large_arrays.specs.SizedElements.{SizedElements, have_size}
 use Rattle.large_arrays.specs.ElementLengths.{kept_lengths}
@@ -100,7 +100,7 @@ pub length-first : (size k : ℕ) (xs : BranchPiece) → (size == 0) ≡ false �
 length-first size k xs one sized few =
     length-joined size (take k xs) (sized-one size (take k xs) one (parts-sized size k xs sized).0) ∙ ap (λ (n : ℕ). n * size) (length-take-le k xs few)
 
-pub weight-first : (size k : ℕ) (xs : BranchPiece) → (size == 0) ≡ false → have_size size xs ≡ true → k ≤ length xs → weight size (take k xs) ≡ k * size
+pub weight-first : (size k : ℕ) (xs : BranchPiece) → (size == 0) ≡ false → have_size size xs ≡ true → k ≤ length xs → piece_weight size (take k xs) ≡ k * size
 weight-first size k xs one sized few =
     weight-even size (take k xs) one (parts-sized size k xs sized).0 ∙ ap (λ (n : ℕ). n * size) (length-take-le k xs few)
 
@@ -113,8 +113,8 @@ first-within k xs =
 
 -- How many of one size fit into a room.
 pub even-fitting : (size room : ℕ) (xs : BranchPiece) → (size == 0) ≡ false → have_size size xs ≡ true
-    → (weight size (take (min (length xs) (room / size)) xs) ≤ room)
-    × (min (length xs) (room / size) < length xs → room < weight size (take (min (length xs) (room / size) + 1) xs))
+    → (piece_weight size (take (min (length xs) (room / size)) xs) ≤ room)
+    × (min (length xs) (room / size) < length xs → room < piece_weight size (take (min (length xs) (room / size) + 1) xs))
 even-fitting size room xs one sized =
     let q : ℕ = room / size in
     let n : ℕ = min (length xs) q in
@@ -159,7 +159,7 @@ single-length size (x ∷ []) any few some fit =
     let zero_size : (size == 0) ≡ true = eq-eqb size 0 any in
     let row : joined (x ∷ []) ≡ x = append-nil x in
     let one : fits_branch size (x ∷ []) ≡ true = (and_parts (fits_branch size (x ∷ [])) true fit).0 in
-    let most = leb-true (weight size (x ∷ [])) branch_room one in
+    let most = leb-true (piece_weight size (x ∷ [])) branch_room one in
     let is = weight-kept size (x ∷ []) in (
       cond-true (size == 0) (length x ∷ []) [] zero_size ∙ ap (λ (ns : List ℕ). length ns ∷ []) (sym row),
       omega arith,

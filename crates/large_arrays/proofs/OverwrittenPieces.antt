@@ -11,7 +11,7 @@ use Rattle.large_arrays.proofs.SpreadElements.{take_past, drop_past}
 abbrev pub sum : List ℕ → ℕ
 sum cs = sum_by (λ c. c) cs
 
-sum-cons : (c : ℕ) (cs : List ℕ) → sum (c ∷ cs) ≡ c + sum cs
+pub sum-cons : (c : ℕ) (cs : List ℕ) → sum (c ∷ cs) ≡ c + sum cs
 sum-cons c cs = (let step = sum_by-append (λ (x : ℕ). x) (c ∷ []) cs in omega arith)
 
 -- how many elements pieces have
@@ -40,7 +40,7 @@ cut_by-lengths (c ∷ cs) xs all =
     let rest = length-drop c xs in
     ap₂ (λ (n : ℕ) (ns : List ℕ). n ∷ ns) (length-take-le c xs (omega arith)) (cut_by-lengths cs (drop c xs) (omega arith))
 
-cut_by-same : (ps : List BranchPiece) → cut_by (map length ps) (elements_in_pieces ps) ≡ ps
+pub cut_by-same : (ps : List BranchPiece) → cut_by (map length ps) (elements_in_pieces ps) ≡ ps
 cut_by-same [] = refl
 cut_by-same (p ∷ ps) =
     ap₂ (λ (x : BranchPiece) (xs : BranchPiece). x ∷ cut_by (map length ps) xs) (take_at p (elements_in_pieces ps) (length p) refl) (drop_at p (elements_in_pieces ps) (length p) refl)
@@ -81,7 +81,7 @@ module _ (p rest : BranchPiece) (i j : ℕ) (new : BranchPiece) (run : j ≡ i +
   taken = length-take-le i (p ++ rest) (omega arith)
 
   -- behind the piece stands the rest of the run
-  splice-behind : n ≤ j → drop n (splice (p ++ rest) i j new) ≡ splice rest (i - n) (j - n) (drop (n - i) new)
+  pub splice-behind : n ≤ j → drop n (splice (p ++ rest) i j new) ≡ splice rest (i - n) (j - n) (drop (n - i) new)
   splice-behind low =
       let front : List (List ℕ) = take i (p ++ rest) in
       let long = taken in
@@ -94,14 +94,14 @@ module _ (p rest : BranchPiece) (i j : ℕ) (new : BranchPiece) (run : j ≡ i +
       ∙ ap (λ (xs : BranchPiece). drop (n - i) new ++ xs) (sym (drop-drop (j - n) n (p ++ rest)) ∙ ap (drop (j - n)) (drop_at p rest n refl)))
 
   -- before the run stands the piece
-  splice-before : n ≤ i → take n (splice (p ++ rest) i j new) ≡ p
+  pub splice-before : n ≤ i → take n (splice (p ++ rest) i j new) ≡ p
   splice-before low =
       let long = taken in
       take-append-le n (take i (p ++ rest)) (new ++ drop j (p ++ rest)) (omega arith)
       ∙ ap (take n) (take_past p rest i low) ∙ take_at p (take (i - n) rest) n refl
 
   -- and behind the run, where it ends in the piece
-  splice-after : j ≤ n → drop n (splice (p ++ rest) i j new) ≡ rest
+  pub splice-after : j ≤ n → drop n (splice (p ++ rest) i j new) ≡ rest
   splice-after most =
       let long = length-append (take i (p ++ rest)) new in
       let front = taken in

@@ -2,11 +2,11 @@
 use Rattle.std.proofs.Common.{◌≡◌, ℕ, ◌+◌, ◌<◌, ◌≤◌, Bool, true, false, not, nat_le, List, [], ◌∷◌, ◌++◌, length, take, drop, get_or, refl, sym, ap, ap₂, ◌∙◌, arith, append_assoc, length-append, length-drop, append-nil}
 use Rattle.std.proofs.lemmas.Bool.{and_parts, cond-true, cond-false, le-leb, lt-leb}
 use Rattle.std.proofs.lemmas.List.{get_or-drop, take-append-drop, take_more}
-use Rattle.large_arrays.specs.Pieces.{BranchPiece, weight, branch_room, fits_branch, each_fits}
+use Rattle.large_arrays.specs.Pieces.{BranchPiece, piece_weight, branch_room, fits_branch, each_fits}
 use Rattle.large_arrays.specs.Spread.{packed_from, with_last}
 use Rattle.large_arrays.specs.SizedElements.{SizedElements, SizedPieces, IsPiece, with_behind}
-use Rattle.large_arrays.specs.Filling.{has_no_room, Fills}
-use Rattle.large_arrays.specs.PiecesKeeping.{with_piece}
+use Rattle.large_arrays.specs.Filling.{lacks_piece_room, FillsPiece}
+use Rattle.large_arrays.specs.PiecesKeeping.{with_piece_behind}
 use Rattle.large_arrays.proofs.SpreadFits.{weight-append, part-fits}
 
 -- pieces with their size
@@ -32,7 +32,7 @@ abbrev Begun : BranchPiece → Type 0
 Begun y = y ≡ [] → ⊥
 
 -- Where the next element has no room the piece is done.
-pub packed-next : (size : ℕ) (y : BranchPiece) (x : List ℕ) (xs : BranchPiece) → Begun y → has_no_room size y (x ∷ xs) ≡ true
+pub packed-next : (size : ℕ) (y : BranchPiece) (x : List ℕ) (xs : BranchPiece) → Begun y → lacks_piece_room size y (x ∷ xs) ≡ true
     → packed_from size y (x ∷ xs) ≡ y ∷ packed_from size [] (x ∷ xs)
 packed-next size [] x xs begun full = absurd (begun refl)
 packed-next size (y ∷ ys) x xs begun full = cond-false (fits_branch size ((y ∷ ys) ++ x ∷ [])) _ _ (turned (fits_branch size ((y ∷ ys) ++ x ∷ [])) full)
@@ -46,7 +46,7 @@ packed-last size [] begun = absurd (begun refl)
 packed-last size (y ∷ ys) begun = refl
 
 -- An empty piece has room for the first element, where each fits.
-pub has_room : (size : ℕ) (y : BranchPiece) (x : List ℕ) (xs : BranchPiece) → each_fits size (x ∷ xs) ≡ true → has_no_room size y (x ∷ xs) ≡ true → Begun y
+pub has_room : (size : ℕ) (y : BranchPiece) (x : List ℕ) (xs : BranchPiece) → each_fits size (x ∷ xs) ≡ true → lacks_piece_room size y (x ∷ xs) ≡ true → Begun y
 has_room size [] x xs fit full none =
     let one : fits_branch size (x ∷ []) ≡ true = (and_parts (fits_branch size (x ∷ [])) (each_fits size xs) fit).0 in
     let never : false ≡ true = ap not (sym one) ∙ full in
@@ -59,11 +59,11 @@ pub record IsPacking (size : ℕ) (done : SizedPieces) (piece left : SizedElemen
   pub done_size : done.size ≡ size
   pub piece_size : piece.size ≡ size
   pub left_size : left.size ≡ size
-  pub full : has_no_room size piece.elements left.elements ≡ true
+  pub full : lacks_piece_room size piece.elements left.elements ≡ true
   pub packs : done.pieces ++ packed_from size piece.elements left.elements ≡ packed_from size [] elements
 
 -- what is filled packs the same
-filled-packs : (before after new left : SizedElements) → Fills before after new left → packed_from new.size before.elements new.elements ≡ packed_from new.size after.elements left.elements
+filled-packs : (before after new left : SizedElements) → FillsPiece before after new left → packed_from new.size before.elements new.elements ≡ packed_from new.size after.elements left.elements
 filled-packs before after new left fills =
     let piece : after.elements ≡ before.elements ++ fills.some = ap (λ (u : SizedElements). u.elements) fills.piece in
     ap (packed_from new.size before.elements) fills.all
@@ -71,7 +71,7 @@ filled-packs before after new left fills =
     ∙ ap (λ (z : BranchPiece). packed_from new.size z left.elements) (sym piece)
 
 -- at the beginning
-pub packing-begun : (head new piece left : SizedElements) → new.size ≡ head.size → Fills head piece new left
+pub packing-begun : (head new piece left : SizedElements) → new.size ≡ head.size → FillsPiece head piece new left
     → IsPacking head.size (record { size = head.size; pieces = [] }) piece left (head.elements ++ new.elements)
 packing-begun head new piece left same fills =
     let after : piece.elements ≡ head.elements ++ fills.some = ap (λ (u : SizedElements). u.elements) fills.piece in
@@ -83,17 +83,17 @@ packing-begun head new piece left same fills =
       done_size = refl;
       piece_size = ap (λ (u : SizedElements). u.size) fills.piece;
       left_size = fills.same ∙ same;
-      full = ap (λ (n : ℕ). has_no_room n piece.elements left.elements) (sym same) ∙ fills.full;
+      full = ap (λ (n : ℕ). lacks_piece_room n piece.elements left.elements) (sym same) ∙ fills.full;
       packs = ap (λ (n : ℕ). packed_from n piece.elements left.elements) (sym same) ∙ sym (begun ∙ filled-packs head piece new left fills) ∙ ap (λ (n : ℕ). packed_from n [] (head.elements ++ new.elements)) same;
     }
 
 -- and at each further piece, which takes an element at least
 pub packing-next : (size : ℕ) (done next_done : SizedPieces) (piece left next next_left : SizedElements) (elements : BranchPiece) → IsPacking size done piece left elements
-    → (length left.elements ≡ 0 → ⊥) → each_fits left.size left.elements ≡ true → next_done ≡ with_piece done piece.elements → Fills (record { size = size; elements = [] }) next left next_left
+    → (length left.elements ≡ 0 → ⊥) → each_fits left.size left.elements ≡ true → next_done ≡ with_piece_behind done piece.elements → FillsPiece (record { size = size; elements = [] }) next left next_left
     → IsPacking size next_done next next_left elements × (length next_left.elements < length left.elements)
 packing-next size done next_done piece left next next_left elements is some fit is_done fills = by_elements left.elements refl
   where
-    full : has_no_room size piece.elements left.elements ≡ true
+    full : lacks_piece_room size piece.elements left.elements ≡ true
     full = is.full
 
     nothing : (xs : BranchPiece) → xs ≡ [] → length xs ≡ 0
@@ -107,7 +107,7 @@ packing-next size done next_done piece left next next_left elements is some fit 
         done_size = ap (λ (u : SizedPieces). u.size) is_done ∙ is.done_size;
         piece_size = ap (λ (u : SizedElements). u.size) fills.piece;
         left_size = fills.same ∙ is.left_size;
-        full = ap (λ (n : ℕ). has_no_room n next.elements next_left.elements) (sym is.left_size) ∙ fills.full;
+        full = ap (λ (n : ℕ). lacks_piece_room n next.elements next_left.elements) (sym is.left_size) ∙ fills.full;
         packs =
             ap (λ (u : SizedPieces). u.pieces ++ packed_from size next.elements next_left.elements) is_done
             ∙ append_assoc done.pieces (piece.elements ∷ []) (packed_from size next.elements next_left.elements)
@@ -121,12 +121,12 @@ packing-next size done next_done piece left next next_left elements is some fit 
         sized = ap₂ each_fits (sym is.left_size) (sym same) ∙ fit
 
         begun : Begun piece.elements
-        begun = has_room size piece.elements x xs sized (ap (has_no_room size piece.elements) (sym same) ∙ full)
+        begun = has_room size piece.elements x xs sized (ap (lacks_piece_room size piece.elements) (sym same) ∙ full)
 
         parted : packed_from size piece.elements left.elements ≡ piece.elements ∷ packed_from size [] left.elements
         parted =
             ap (packed_from size piece.elements) same
-            ∙ packed-next size piece.elements x xs begun (ap (has_no_room size piece.elements) (sym same) ∙ full)
+            ∙ packed-next size piece.elements x xs begun (ap (lacks_piece_room size piece.elements) (sym same) ∙ full)
             ∙ ap (λ (zs : BranchPiece). piece.elements ∷ packed_from size [] zs) (sym same)
 
         onwards : packed_from size [] left.elements ≡ packed_from size next.elements next_left.elements
@@ -146,13 +146,13 @@ packing-next size done next_done piece left next next_left elements is some fit 
             by_some [] is_none =
                 let all : next_left.elements ≡ x ∷ xs = sym (fills.all ∙ ap (λ (ys : BranchPiece). ys ++ next_left.elements) is_none) ∙ same in
                 let piece_is : next.elements ≡ [] = ap (λ (u : SizedElements). u.elements) fills.piece ∙ is_none in
-                let full_next : has_no_room size [] (x ∷ xs) ≡ true =
-                ap₂ (has_no_room size) (sym piece_is) (sym all) ∙ ap (λ (n : ℕ). has_no_room n next.elements next_left.elements) (sym is.left_size) ∙ fills.full in
+                let full_next : lacks_piece_room size [] (x ∷ xs) ≡ true =
+                ap₂ (lacks_piece_room size) (sym piece_is) (sym all) ∙ ap (λ (n : ℕ). lacks_piece_room n next.elements next_left.elements) (sym is.left_size) ∙ fills.full in
                 absurd (has_room size [] x xs sized full_next refl)
 
 -- and at the end, with the last piece or without it
 pub packing-done : (size : ℕ) (done : SizedPieces) (piece left : SizedElements) (elements : BranchPiece) → IsPacking size done piece left elements → length left.elements ≡ 0
-    → ((length piece.elements ≡ 0 → ⊥) → with_piece done piece.elements ≡ record { size = size; pieces = packed_from size [] elements })
+    → ((length piece.elements ≡ 0 → ⊥) → with_piece_behind done piece.elements ≡ record { size = size; pieces = packed_from size [] elements })
     × (length piece.elements ≡ 0 → done ≡ record { size = size; pieces = packed_from size [] elements })
 packing-done size done piece left elements is none =
     let left_is : left.elements ≡ [] = no_elements left.elements none in
@@ -170,10 +170,10 @@ first_of k xs y ys is =
 
 -- As many as there is room for fill a piece.
 pub filled : (before after new left : SizedElements) (k room : ℕ) → new.size ≡ before.size → after ≡ with_behind before (take k new.elements) → left ≡ record { size = new.size; elements = drop k new.elements }
-    → IsPiece before → room + weight before.size before.elements ≡ branch_room → k ≤ length new.elements → weight new.size (take k new.elements) ≤ room
-    → (k < length new.elements → room < weight new.size (take (k + 1) new.elements)) → Fills before after new left
+    → IsPiece before → room + piece_weight before.size before.elements ≡ branch_room → k ≤ length new.elements → piece_weight new.size (take k new.elements) ≤ room
+    → (k < length new.elements → room < piece_weight new.size (take (k + 1) new.elements)) → FillsPiece before after new left
 filled before after new left k room same piece rest holds sum within fits most =
-    let old : weight new.size before.elements ≡ weight before.size before.elements = ap (λ (n : ℕ). weight n before.elements) same in
+    let old : piece_weight new.size before.elements ≡ piece_weight before.size before.elements = ap (λ (n : ℕ). piece_weight n before.elements) same in
     let after_is : after.elements ≡ before.elements ++ take k new.elements = ap (λ (u : SizedElements). u.elements) piece in
     let left_is : left.elements ≡ drop k new.elements = ap (λ (u : SizedElements). u.elements) rest in
     let whole = weight-append new.size before.elements (take k new.elements) in
@@ -184,11 +184,11 @@ filled before after new left k room same piece rest holds sum within fits most =
       all = sym (take-append-drop k new.elements) ∙ ap (λ (ys : BranchPiece). take k new.elements ++ ys) (sym left_is);
       same = ap (λ (u : SizedElements). u.size) rest;
       small = omega arith;
-      fits = ap (fits_branch new.size) after_is ∙ le-leb (weight new.size (before.elements ++ take k new.elements)) branch_room (omega arith);
-      full = ap₂ (has_no_room new.size) after_is left_is ∙ by_left (drop k new.elements) refl;
+      fits = ap (fits_branch new.size) after_is ∙ le-leb (piece_weight new.size (before.elements ++ take k new.elements)) branch_room (omega arith);
+      full = ap₂ (lacks_piece_room new.size) after_is left_is ∙ by_left (drop k new.elements) refl;
     }
   where
-    by_left : (ys : BranchPiece) → drop k new.elements ≡ ys → has_no_room new.size (before.elements ++ take k new.elements) ys ≡ true
+    by_left : (ys : BranchPiece) → drop k new.elements ≡ ys → lacks_piece_room new.size (before.elements ++ take k new.elements) ys ≡ true
     by_left [] none = refl
     by_left (y ∷ ys) some =
         let long = length-drop k new.elements in
@@ -197,49 +197,49 @@ filled before after new left k room same piece rest holds sum within fits most =
         let next : take (k + 1) new.elements ≡ take k new.elements ++ y ∷ [] =
         take_more new.elements k [] (omega arith) ∙ ap (λ (x : List ℕ). take k new.elements ++ x ∷ []) (first_of k new.elements y ys some) in
         let sums = weight-append new.size before.elements (take k new.elements ++ y ∷ []) in
-        let old : weight new.size before.elements ≡ weight before.size before.elements = ap (λ (n : ℕ). weight n before.elements) same in
-        let grown = ap (weight new.size) next in
-        let assoc = ap (weight new.size) (append_assoc before.elements (take k new.elements) (y ∷ [])) in
-        ap not (lt-leb (weight new.size ((before.elements ++ take k new.elements) ++ y ∷ [])) branch_room (omega arith))
+        let old : piece_weight new.size before.elements ≡ piece_weight before.size before.elements = ap (λ (n : ℕ). piece_weight n before.elements) same in
+        let grown = ap (piece_weight new.size) next in
+        let assoc = ap (piece_weight new.size) (append_assoc before.elements (take k new.elements) (y ∷ [])) in
+        ap not (lt-leb (piece_weight new.size ((before.elements ++ take k new.elements) ++ y ∷ [])) branch_room (omega arith))
 
 -- A piece behind the others, in the last one or not.
 
-pub with_last-joined : (size room : ℕ) (ps : List BranchPiece) (x y : BranchPiece) → Begun y → weight size x + weight size y ≤ room
+pub with_last-joined : (size room : ℕ) (ps : List BranchPiece) (x y : BranchPiece) → Begun y → piece_weight size x + piece_weight size y ≤ room
     → with_last size room (ps ++ x ∷ []) y ≡ ps ++ (x ++ y) ∷ []
 with_last-joined size room ps x [] begun within = absurd (begun refl)
 with_last-joined size room [] x (y ∷ ys) begun within =
-    cond-true (nat_le (weight size x + weight size (y ∷ ys)) room) _ _ (le-leb (weight size x + weight size (y ∷ ys)) room within)
+    cond-true (nat_le (piece_weight size x + piece_weight size (y ∷ ys)) room) _ _ (le-leb (piece_weight size x + piece_weight size (y ∷ ys)) room within)
 with_last-joined size room (p ∷ []) x (y ∷ ys) begun within = ap (λ (qs : List BranchPiece). p ∷ qs) (with_last-joined size room [] x (y ∷ ys) begun within)
 with_last-joined size room (p ∷ q ∷ ps) x (y ∷ ys) begun within = ap (λ (qs : List BranchPiece). p ∷ qs) (with_last-joined size room (q ∷ ps) x (y ∷ ys) begun within)
 
-pub with_last-apart : (size room : ℕ) (ps : List BranchPiece) (x y : BranchPiece) → Begun y → room < weight size x + weight size y
+pub with_last-apart : (size room : ℕ) (ps : List BranchPiece) (x y : BranchPiece) → Begun y → room < piece_weight size x + piece_weight size y
     → with_last size room (ps ++ x ∷ []) y ≡ (ps ++ x ∷ []) ++ y ∷ []
 with_last-apart size room ps x [] begun past = absurd (begun refl)
 with_last-apart size room [] x (y ∷ ys) begun past =
-    cond-false (nat_le (weight size x + weight size (y ∷ ys)) room) _ _ (lt-leb (weight size x + weight size (y ∷ ys)) room past)
+    cond-false (nat_le (piece_weight size x + piece_weight size (y ∷ ys)) room) _ _ (lt-leb (piece_weight size x + piece_weight size (y ∷ ys)) room past)
 with_last-apart size room (p ∷ []) x (y ∷ ys) begun past = ap (λ (qs : List BranchPiece). p ∷ qs) (with_last-apart size room [] x (y ∷ ys) begun past)
 with_last-apart size room (p ∷ q ∷ ps) x (y ∷ ys) begun past = ap (λ (qs : List BranchPiece). p ∷ qs) (with_last-apart size room (q ∷ ps) x (y ∷ ys) begun past)
 
 -- as a piece takes the last one's place
 pub tail-joined : (held rest new : SizedPieces) (last grown tail : SizedElements) (room : ℕ) → rest.size ≡ held.size → last.size ≡ held.size → held.pieces ≡ rest.pieces ++ last.elements ∷ []
-    → tail.size ≡ held.size → (length tail.elements ≡ 0 → ⊥) → weight last.size last.elements + weight tail.size tail.elements ≤ room
-    → grown ≡ with_behind last tail.elements → new ≡ with_piece rest grown.elements → new ≡ record { size = held.size; pieces = with_last held.size room held.pieces tail.elements }
+    → tail.size ≡ held.size → (length tail.elements ≡ 0 → ⊥) → piece_weight last.size last.elements + piece_weight tail.size tail.elements ≤ room
+    → grown ≡ with_behind last tail.elements → new ≡ with_piece_behind rest grown.elements → new ≡ record { size = held.size; pieces = with_last held.size room held.pieces tail.elements }
 tail-joined held rest new last grown tail room rest_size last_size parts tail_size some within joined is =
-    let left : weight last.size last.elements ≡ weight held.size last.elements = ap (λ (n : ℕ). weight n last.elements) last_size in
-    let right : weight tail.size tail.elements ≡ weight held.size tail.elements = ap (λ (n : ℕ). weight n tail.elements) tail_size in
+    let left : piece_weight last.size last.elements ≡ piece_weight held.size last.elements = ap (λ (n : ℕ). piece_weight n last.elements) last_size in
+    let right : piece_weight tail.size tail.elements ≡ piece_weight held.size tail.elements = ap (λ (n : ℕ). piece_weight n tail.elements) tail_size in
     let whole : with_last held.size room held.pieces tail.elements ≡ rest.pieces ++ (last.elements ++ tail.elements) ∷ [] =
     ap (λ (ps : List BranchPiece). with_last held.size room ps tail.elements) parts
     ∙ with_last-joined held.size room rest.pieces last.elements tail.elements (λ empty. some (ap length empty)) (omega arith) in
-    is ∙ ap (λ (u : SizedElements). with_piece rest u.elements) joined ∙ ap₂ sized_pieces rest_size (sym whole)
+    is ∙ ap (λ (u : SizedElements). with_piece_behind rest u.elements) joined ∙ ap₂ sized_pieces rest_size (sym whole)
 
 -- or comes behind it
 pub tail-apart : (held rest back new : SizedPieces) (last tail : SizedElements) (room : ℕ) → rest.size ≡ held.size → last.size ≡ held.size → held.pieces ≡ rest.pieces ++ last.elements ∷ []
-    → tail.size ≡ held.size → (length tail.elements ≡ 0 → ⊥) → room < weight last.size last.elements + weight tail.size tail.elements
-    → back ≡ with_piece rest last.elements → new ≡ with_piece back tail.elements → new ≡ record { size = held.size; pieces = with_last held.size room held.pieces tail.elements }
+    → tail.size ≡ held.size → (length tail.elements ≡ 0 → ⊥) → room < piece_weight last.size last.elements + piece_weight tail.size tail.elements
+    → back ≡ with_piece_behind rest last.elements → new ≡ with_piece_behind back tail.elements → new ≡ record { size = held.size; pieces = with_last held.size room held.pieces tail.elements }
 tail-apart held rest back new last tail room rest_size last_size parts tail_size some past again is =
-    let left : weight last.size last.elements ≡ weight held.size last.elements = ap (λ (n : ℕ). weight n last.elements) last_size in
-    let right : weight tail.size tail.elements ≡ weight held.size tail.elements = ap (λ (n : ℕ). weight n tail.elements) tail_size in
+    let left : piece_weight last.size last.elements ≡ piece_weight held.size last.elements = ap (λ (n : ℕ). piece_weight n last.elements) last_size in
+    let right : piece_weight tail.size tail.elements ≡ piece_weight held.size tail.elements = ap (λ (n : ℕ). piece_weight n tail.elements) tail_size in
     let whole : with_last held.size room held.pieces tail.elements ≡ (rest.pieces ++ last.elements ∷ []) ++ tail.elements ∷ [] =
     ap (λ (ps : List BranchPiece). with_last held.size room ps tail.elements) parts
     ∙ with_last-apart held.size room rest.pieces last.elements tail.elements (λ empty. some (ap length empty)) (omega arith) in
-    is ∙ ap (λ (u : SizedPieces). with_piece u tail.elements) again ∙ ap₂ sized_pieces rest_size (sym whole)
+    is ∙ ap (λ (u : SizedPieces). with_piece_behind u tail.elements) again ∙ ap₂ sized_pieces rest_size (sym whole)

@@ -7,10 +7,10 @@ use Rattle.std.proofs.lemmas.List.Folds.{list_all-append}
 use Rattle.std.specs.List.{list_all}
 use Rattle.geos_model.specs.Array.{Array, is_even}
 use Rattle.geos_model.proofs.Arrays.{joined, table_of, table-even, length_table-any}
-use Rattle.large_arrays.specs.Pieces.{BranchPiece, weight, branch_room}
+use Rattle.large_arrays.specs.Pieces.{BranchPiece, piece_weight, branch_room}
 use Rattle.large_arrays.specs.SizedElements.{SizedElements, have_size, with_behind}
 use Rattle.large_arrays.specs.ElementLengths.{cut_lengths, all_lengths, kept_lengths}
-use Rattle.large_arrays.specs.PieceKeeping.{AreKept, held_elements, KeepsElements}
+use Rattle.large_arrays.specs.PieceKeeping.{AreHeldElements, held_elements, KeepsElements}
 use Rattle.large_arrays.specs.declared.piece.Piece.TheInside.{Inside}
 use Rattle.large_arrays.proofs.BranchBytes.{FitsBranch, array_of_piece, weight-is, branch-few}
 use Rattle.large_arrays.proofs.SpreadFits.{weight-append}
@@ -80,7 +80,7 @@ kept-append size xs ys = elim (cases_Bool (size == 0)) [
 ]
 
 -- what elements weigh, by what is kept of them
-pub weight-kept : (size : ℕ) (xs : BranchPiece) → weight size xs ≡ length (joined xs) + 2 * length (kept_lengths size xs)
+pub weight-kept : (size : ℕ) (xs : BranchPiece) → piece_weight size xs ≡ length (joined xs) + 2 * length (kept_lengths size xs)
 weight-kept size xs =
     let is = weight-is size xs in
     elim (cases_Bool (size == 0)) [
@@ -95,7 +95,7 @@ weight-kept size xs =
     ]
 
 -- The elements that a piece keeps.
-pub kept-are : (size count : ℕ) (lengths bytes : List ℕ) (xs : BranchPiece) → AreKept size count lengths bytes xs
+pub kept-are : (size count : ℕ) (lengths bytes : List ℕ) (xs : BranchPiece) → AreHeldElements size count lengths bytes xs
     → cut_lengths (all_lengths size count lengths) bytes ≡ xs
 kept-are size count lengths bytes xs kept =
     let all : all_lengths size count lengths ≡ map length xs =
@@ -103,15 +103,15 @@ kept-are size count lengths bytes xs kept =
     ap₂ (λ (ns row : List ℕ). cut_lengths ns row) all kept.joined ∙ cut_lengths-joined xs
 
 -- as its invariant says it
-pub kept-again : (size count : ℕ) (lengths bytes : List ℕ) (xs : BranchPiece) → AreKept size count lengths bytes xs
-    → AreKept size count lengths bytes (cut_lengths (all_lengths size count lengths) bytes)
+pub kept-again : (size count : ℕ) (lengths bytes : List ℕ) (xs : BranchPiece) → AreHeldElements size count lengths bytes xs
+    → AreHeldElements size count lengths bytes (cut_lengths (all_lengths size count lengths) bytes)
 kept-again size count lengths bytes xs kept =
-    let P : BranchPiece → Type 0 = λ ys. AreKept size count lengths bytes ys in subst P (sym (kept-are size count lengths bytes xs kept)) kept
+    let P : BranchPiece → Type 0 = λ ys. AreHeldElements size count lengths bytes ys in subst P (sym (kept-are size count lengths bytes xs kept)) kept
 
 -- With others behind them.
-pub kept-behind : (size count : ℕ) (lengths bytes : List ℕ) (xs ys : BranchPiece) → AreKept size count lengths bytes xs → have_size size ys ≡ true
-    → weight size xs + weight size ys ≤ branch_room
-    → AreKept size (count + length ys) (lengths ++ kept_lengths size ys) (bytes ++ joined ys) (xs ++ ys)
+pub kept-behind : (size count : ℕ) (lengths bytes : List ℕ) (xs ys : BranchPiece) → AreHeldElements size count lengths bytes xs → have_size size ys ≡ true
+    → piece_weight size xs + piece_weight size ys ≤ branch_room
+    → AreHeldElements size (count + length ys) (lengths ++ kept_lengths size ys) (bytes ++ joined ys) (xs ++ ys)
 kept-behind size count lengths bytes xs ys kept sized room =
     let sum = weight-append size xs ys in
     let counted = kept.counted in
@@ -122,32 +122,32 @@ kept-behind size count lengths bytes xs ys kept sized room =
       counted = omega arith;
       holds = record {
         small = kept.holds.small;
-        room = le-leb (weight size (xs ++ ys)) branch_room (omega (arith, sum, room));
+        room = le-leb (piece_weight size (xs ++ ys)) branch_room (omega (arith, sum, room));
         sized = sized-append size xs ys kept.holds.sized sized;
       };
     }
 
 -- What callers see of a piece.
-pub held-are : (p : Inside) (w : SizedElements) → held_elements p ≡ w → KeepsElements p → AreKept w.size p.count p.lengths.items p.bytes.items w.elements
-held-are p w is kept = let P : SizedElements → Type 0 = λ u. AreKept u.size p.count p.lengths.items p.bytes.items u.elements in subst P is kept
+pub held-are : (p : Inside) (w : SizedElements) → held_elements p ≡ w → KeepsElements p → AreHeldElements w.size p.count p.lengths.items p.bytes.items w.elements
+held-are p w is kept = let P : SizedElements → Type 0 = λ u. AreHeldElements u.size p.count p.lengths.items p.bytes.items u.elements in subst P is kept
 
 -- A piece with other elements behind, as its fields are then.
 pub record Grown (size count : ℕ) (lengths bytes : List ℕ) (w : SizedElements) (ys : BranchPiece) : Type 0 where
-  pub keeps : AreKept size count lengths bytes (cut_lengths (all_lengths size count lengths) bytes)
+  pub keeps : AreHeldElements size count lengths bytes (cut_lengths (all_lengths size count lengths) bytes)
   pub is : sized_elements size (cut_lengths (all_lengths size count lengths) bytes) ≡ with_behind w ys
   pub few : count ≤ branch_room
 
 pub grown : (p : Inside) (w : SizedElements) (count : ℕ) (lengths bytes : List ℕ) (ys : BranchPiece) → held_elements p ≡ w → KeepsElements p → have_size w.size ys ≡ true
-    → weight w.size w.elements + weight w.size ys ≤ branch_room → count ≡ p.count + length ys → lengths ≡ p.lengths.items ++ kept_lengths w.size ys → bytes ≡ p.bytes.items ++ joined ys
+    → piece_weight w.size w.elements + piece_weight w.size ys ≤ branch_room → count ≡ p.count + length ys → lengths ≡ p.lengths.items ++ kept_lengths w.size ys → bytes ≡ p.bytes.items ++ joined ys
     → Grown p.size count lengths bytes w ys
 grown p w count lengths bytes ys is keeps sized room counted longer row =
     let size : p.size ≡ w.size = ap (λ (u : SizedElements). u.size) is in
     let old = held-are p w is keeps in
     let more = kept-behind w.size p.count p.lengths.items p.bytes.items w.elements ys old sized room in
-    let P : ℕ → Type 0 = λ n. AreKept w.size n (p.lengths.items ++ kept_lengths w.size ys) (p.bytes.items ++ joined ys) (w.elements ++ ys) in
-    let Q : List ℕ → Type 0 = λ ns. AreKept w.size count ns (p.bytes.items ++ joined ys) (w.elements ++ ys) in
-    let R : List ℕ → Type 0 = λ all. AreKept w.size count lengths all (w.elements ++ ys) in
-    let new : AreKept w.size count lengths bytes (w.elements ++ ys) = subst R (sym row) (subst Q (sym longer) (subst P (sym counted) more)) in
+    let P : ℕ → Type 0 = λ n. AreHeldElements w.size n (p.lengths.items ++ kept_lengths w.size ys) (p.bytes.items ++ joined ys) (w.elements ++ ys) in
+    let Q : List ℕ → Type 0 = λ ns. AreHeldElements w.size count ns (p.bytes.items ++ joined ys) (w.elements ++ ys) in
+    let R : List ℕ → Type 0 = λ all. AreHeldElements w.size count lengths all (w.elements ++ ys) in
+    let new : AreHeldElements w.size count lengths bytes (w.elements ++ ys) = subst R (sym row) (subst Q (sym longer) (subst P (sym counted) more)) in
     let S : ℕ → Type 0 = λ s. Grown s count lengths bytes w ys in
     let fits : FitsBranch w.size (w.elements ++ ys) = record { small = new.holds.small; room = new.holds.room; sized = new.holds.sized } in
     let few = branch-few w.size (w.elements ++ ys) fits in
@@ -162,7 +162,7 @@ grown p w count lengths bytes ys is keeps sized room counted longer row =
 
 -- an element of a run weighs no more than all of it
 pub element-weighs : (size from n i : ℕ) (xs : BranchPiece) → from ≤ i → i < from + n → i < length xs
-    → length (get_or xs i []) ≤ weight size (take n (drop from xs))
+    → length (get_or xs i []) ≤ piece_weight size (take n (drop from xs))
 element-weighs size from n i xs up low within =
     let ys : BranchPiece = drop from xs in
     let k : ℕ = i - from in
@@ -175,7 +175,7 @@ element-weighs size from n i xs up low within =
     let same = ap length (first ∙ here) in
     omega arith
   where
-    weighs-one : (size : ℕ) (ys : BranchPiece) (k : ℕ) → k < length ys → length (get_or ys k []) ≤ weight size ys
+    weighs-one : (size : ℕ) (ys : BranchPiece) (k : ℕ) → k < length ys → length (get_or ys k []) ≤ piece_weight size ys
     weighs-one size [] k low = absurd (omega arith)
     weighs-one size (y ∷ ys) zero low = (let sum = weight-append size (y ∷ []) ys in let one = weight-kept size (y ∷ []) in let row = length-append y (joined []) in omega arith)
     weighs-one size (y ∷ ys) (suc k) low =

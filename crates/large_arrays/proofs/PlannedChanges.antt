@@ -1,7 +1,8 @@
 -- Changes that are planned one block after another make what they are planned to.
-use Rattle.std.proofs.Common.{◌≡◌, ◌≤◌, ◌++◌, ◌∷◌, ◌∙◌, ℕ, Bool, true, false, not, reverse, List, [], length, map, Option, Some, None, is_some, nat_cmp, refl, sym, ap, subst, inl, inr}
+use Rattle.std.proofs.Common.{◌≡◌, ◌≤◌, ◌++◌, ◌∷◌, ◌∙◌, ℕ, Bool, true, false, not, reverse, sum_by, ◌+◌, List, [], length, map, Option, Some, None, is_some, nat_cmp, refl, sym, ap, subst, inl, inr}
 use Rattle.std.proofs.lemmas.Bool.{cases_eq}
 use Rattle.std.proofs.lemmas.List.{map-append, reverse-reverse}
+use Rattle.std.proofs.lemmas.List.Sums.{sum_by-append}
 use Rattle.std.proofs.lemmas.List.Elements.{All-nil, All-cons}
 use Rattle.std.specs.List.{Contains, zip}
 use Rattle.std.specs.Option.{option_map_or}
@@ -17,7 +18,7 @@ use Rattle.geos_model.proofs.BlockLists.{put_elsewhere, put_map_block, taken_els
 use Rattle.geos_model.proofs.HeapEdits.{get-put_same, get-put_other, get-taken_same, get-taken_other}
 use Rattle.document_file.specs.Members.{imaged_blocks}
 use Rattle.chunk_edits.specs.Splicing.{Splice, OccursAt, forwards}
-use Rattle.vm_blocks.specs.Changes.{directed, directed_all, after_change, after_part, AreFree, IsFreeHandle, FitsRaw}
+use Rattle.vm_blocks.specs.Changes.{weight as change_weight, directed, directed_all, after_change, after_part, AreFree, IsFreeHandle, FitsRaw}
 use Rattle.vm_blocks.specs.Preparing.{after_changes, CanApplyAll, CanApplyAllByHandle, CanRemoveByHandle}
 use Rattle.vm_blocks.proofs.Preparing.{all_listed_on, applies_listed}
 use Rattle.vm_blocks.proofs.ChangingAll.{made_all_on}
@@ -28,7 +29,7 @@ use Rattle.vm_blocks.specs.declared.change.Change.TheVariants as changes
 use Rattle.vm_blocks.specs.declared.change.PartChange.TheVariants as parts
 use Rattle.vm_blocks.specs.declared.member.Members.{Members}
 use Rattle.vm_blocks.proofs.InMemory.{AreAlike}
-use Rattle.large_arrays.specs.Differences.{LeadInTurn}
+use Rattle.large_arrays.specs.Differences.{LeadInTurn, spliced_bytes}
 use Rattle.large_arrays.specs.Pieces.{BranchPiece}
 use Rattle.large_arrays.specs.Layout.{root_bytes, branch_bytes}
 use Rattle.large_arrays.specs.Blocks.{root_at}
@@ -96,7 +97,7 @@ raw_there d h raw = by_block (get d.blocks h) refl raw
     by_block (Some b) is raw = rw is (by_body b b.body refl raw)
 
 -- a handle that none has
-none_there : (d : Document) (h : ℕ) → is_live d h ≡ false → get d.blocks h ≡ None
+pub none_there : (d : Document) (h : ℕ) → is_live d h ≡ false → get d.blocks h ≡ None
 none_there d h dead = by_block (get d.blocks h) dead
   where
     by_block : (o : Option Block) → is_some o ≡ false → o ≡ None
@@ -108,6 +109,13 @@ none_there d h dead = by_block (get d.blocks h) dead
 -- the change of each splice
 abbrev pub raw_changes : VmHandle → List Splice → List Change
 raw_changes h ss = map (λ s. changes.Part h (parts.Raw s)) ss
+
+-- it holds what the splice holds
+pub raw_changes-weight : (h : VmHandle) (ss : List Splice) → sum_by change_weight (raw_changes h ss) ≡ sum_by spliced_bytes ss
+raw_changes-weight h [] = refl
+raw_changes-weight h (s ∷ ss) =
+    sum_by-append change_weight (changes.Part h (parts.Raw s) ∷ []) (raw_changes h ss) ∙ ap (λ (n : ℕ). sum_by spliced_bytes (s ∷ []) + n) (raw_changes-weight h ss)
+    ∙ sym (sum_by-append spliced_bytes (s ∷ []) ss)
 
 module _ (h : VmHandle) (u : Attributes) where
   abbrev block : List ℕ → Block

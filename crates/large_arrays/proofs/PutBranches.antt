@@ -12,7 +12,7 @@ use Rattle.geos_model.specs.Document.{Block, Document, IsValid, IsValidBlock, mo
 use Rattle.geos_model.proofs.Validity.{attributes-fit, raw-typed}
 use Rattle.geos_model.proofs.Chains.{contains_cases, contains_first, contains_later}
 use Rattle.geos_model.proofs.BlockLists.{put_elsewhere, put_stands, put_map_block, put_valid, taken_elsewhere, taken_gone, taken_map_block, taken_valid}
-use Rattle.large_arrays.specs.Pieces.{BranchPiece, weight, branch_room, fits_branch, all_fit}
+use Rattle.large_arrays.specs.Pieces.{BranchPiece, piece_weight, branch_room, fits_branch, all_fit}
 use Rattle.large_arrays.specs.Layout.{Root, root_bytes, branch_bytes}
 use Rattle.large_arrays.specs.Window.{raw_block}
 use Rattle.large_arrays.proofs.BranchBytes.{length-branch_bytes}
@@ -63,7 +63,7 @@ branch_blocks-valid d size [] placed valid can fit = All-nil (λ p. IsValidBlock
 branch_blocks-valid d size (h ∷ hs) [] valid can fit = All-nil (λ p. IsValidBlock p.0 p.1)
 branch_blocks-valid d size (h ∷ hs) (p ∷ ps) valid can fit =
     let parts = and_parts (fits_branch size p) (all_fit size ps) fit in
-    let most = leb-true (weight size p) branch_room parts.0 in
+    let most = leb-true (piece_weight size p) branch_room parts.0 in
     let long = length-branch_bytes size p in
     All-cons (λ q. IsValidBlock q.0 q.1) (raw_block d h (branch_bytes size p)) (branch_blocks d size hs ps)
     (can_put d h (branch_bytes size p) valid (can h (contains_first h hs)) (omega arith))

@@ -10,7 +10,7 @@ use Rattle.geos_model.specs.Words.{word}
 use Rattle.geos_model.specs.Heap.{capacity}
 use Rattle.geos_model.proofs.Arrays.{are_words, length-words}
 use Rattle.large_arrays.specs.Layout.{Root, root_bytes, root_read, total_count}
-use Rattle.large_arrays.specs.RootEdits.{with_branches, head_bytes, count_bytes, link_bytes, run_of}
+use Rattle.large_arrays.specs.RootEdits.{with_branches, head_bytes, count_bytes, link_bytes, run_between}
 use Rattle.large_arrays.specs.RootParts.{branches_in}
 use Rattle.large_arrays.specs.RootViewing.{IsRootView}
 use Rattle.large_arrays.specs.declared.root.RootView.TheInside.{Inside}
@@ -29,7 +29,7 @@ module _ (f : ℕ → List ℕ) (width : ℕ) (long : (xs : List ℕ) → length
       ∙ append_assoc (flat_map f (take k xs)) (flat_map f (drop k xs)) rest
 
   run_spelled : (xs rest : List ℕ) (from to : ℕ) → from ≤ to → to ≤ length xs
-      → take (width * (to - from)) (drop (width * from) (flat_map f xs ++ rest)) ≡ flat_map f (run_of xs from to)
+      → take (width * (to - from)) (drop (width * from) (flat_map f xs ++ rest)) ≡ flat_map f (run_between xs from to)
   run_spelled xs rest from to order within =
       let behind : List ℕ = drop from xs in
       let left = length-drop from xs in
@@ -69,7 +69,7 @@ module _ (v : Inside) (is : IsRootView v) (r : Root) (seen : root_read v.bytes.n
   }
 
   pub counts_part : (from to : ℕ) → from ≤ to → to ≤ length r.counts
-      → take (16 + 2 * to - (16 + 2 * from)) (drop (16 + 2 * from) bytes) ≡ count_bytes (run_of r.counts from to)
+      → take (16 + 2 * to - (16 + 2 * from)) (drop (16 + 2 * from) bytes) ≡ count_bytes (run_between r.counts from to)
   counts_part from to order within =
       let many : 16 + 2 * to - (16 + 2 * from) ≡ 2 * (to - from) = omega arith in
       let behind : drop 16 bytes ≡ count_bytes r.counts ++ link_bytes r.branches =
@@ -79,7 +79,7 @@ module _ (v : Inside) (is : IsRootView v) (r : Root) (seen : root_read v.bytes.n
       ∙ run_spelled word 2 length-words r.counts (link_bytes r.branches) from to order within
 
   pub links_part : (from to : ℕ) → from ≤ to → to ≤ length r.branches
-      → take (16 + 2 * v.branches + 4 * to - (16 + 2 * v.branches + 4 * from)) (drop (16 + 2 * v.branches + 4 * from) bytes) ≡ link_bytes (run_of r.branches from to)
+      → take (16 + 2 * v.branches + 4 * to - (16 + 2 * v.branches + 4 * from)) (drop (16 + 2 * v.branches + 4 * from) bytes) ≡ link_bytes (run_between r.branches from to)
   links_part from to order within =
       let start : ℕ = 16 + 2 * v.branches in
       let many : start + 4 * to - (start + 4 * from) ≡ 4 * (to - from) = omega arith in
@@ -123,7 +123,7 @@ length_spliced xs new first behind order within =
     omega arith
 
 spliced_spelled : (f : ℕ → List ℕ) (xs new : List ℕ) (first behind : ℕ) (end : ℕ) → end ≡ length xs
-    → flat_map f (splice xs first behind new) ≡ (flat_map f (run_of xs 0 first) ++ flat_map f new) ++ flat_map f (run_of xs behind end)
+    → flat_map f (splice xs first behind new) ≡ (flat_map f (run_between xs 0 first) ++ flat_map f new) ++ flat_map f (run_between xs behind end)
 spliced_spelled f xs new first behind end is =
     let left = length-drop behind xs in
     let from : first ≡ first - 0 = omega arith in
@@ -139,19 +139,19 @@ added all front others behind more is same_front same_behind = is ∙ ap₂ (λ 
 pub root_pushed : (r : Root) (first behind : ℕ) (counts branches found : List ℕ) (total end : ℕ) → first ≤ behind → behind ≤ length r.branches
     → end ≡ length r.counts → end ≡ length r.branches → length counts ≡ length branches
     → total ≡ sum_by (λ c. c) (take first r.counts) + sum_by (λ c. c) (drop behind r.counts) + sum_by (λ c. c) counts
-    → found ≡ (((((head_bytes (end - (behind - first) + length branches) r.size total ++ count_bytes (run_of r.counts 0 first)) ++ count_bytes counts)
-    ++ count_bytes (run_of r.counts behind end)) ++ link_bytes (run_of r.branches 0 first)) ++ link_bytes branches) ++ link_bytes (run_of r.branches behind end)
+    → found ≡ (((((head_bytes (end - (behind - first) + length branches) r.size total ++ count_bytes (run_between r.counts 0 first)) ++ count_bytes counts)
+    ++ count_bytes (run_between r.counts behind end)) ++ link_bytes (run_between r.branches 0 first)) ++ link_bytes branches) ++ link_bytes (run_between r.branches behind end)
     → found ≡ root_bytes (with_branches r first behind counts branches)
 root_pushed r first behind counts branches found total end order within many_counts many_branches same sum is =
     let new : Root = with_branches r first behind counts branches in
     let number : ℕ = end - (behind - first) + length branches in
     let head : List ℕ = head_bytes number r.size total in
-    let a : List ℕ = count_bytes (run_of r.counts 0 first) in
+    let a : List ℕ = count_bytes (run_between r.counts 0 first) in
     let b : List ℕ = count_bytes counts in
-    let c : List ℕ = count_bytes (run_of r.counts behind end) in
-    let x : List ℕ = link_bytes (run_of r.branches 0 first) in
+    let c : List ℕ = count_bytes (run_between r.counts behind end) in
+    let x : List ℕ = link_bytes (run_between r.branches 0 first) in
     let y : List ℕ = link_bytes branches in
-    let z : List ℕ = link_bytes (run_of r.branches behind end) in
+    let z : List ℕ = link_bytes (run_between r.branches behind end) in
     let count : number ≡ length new.counts = (let long = length_spliced r.counts counts first behind order (omega arith) in omega arith) in
     let total_is : total ≡ total_count new = sum ∙ sym (total_spliced r.counts counts first behind) in
     let link : ℕ → List ℕ = λ h. word 0 ++ word h in

@@ -3,14 +3,14 @@ use Rattle.std.proofs.Common.{◌≡◌, ℕ, ◌+◌, ◌*◌, Bool, true, fals
 use Rattle.std.proofs.lemmas.Bool.{and_parts}
 use Rattle.std.proofs.lemmas.List.{length-map}
 use Rattle.std.specs.List.{list_all}
-use Rattle.large_arrays.specs.Pieces.{BranchPiece, weight, branch_room, join_room, fits_branch, all_fit, are_apart, are_spread}
+use Rattle.large_arrays.specs.Pieces.{BranchPiece, piece_weight, branch_room, join_room, fits_branch, all_fit, are_apart, are_spread}
 use Rattle.large_arrays.proofs.BranchBytes.{is_sized, weight-even}
 use Rattle.large_arrays.proofs.Layouts.{all_sized}
 use Rattle.large_arrays.proofs.SpreadSides.{is_full}
 use Rattle.large_arrays.proofs.PieceLists.{counts_full}
 
 abbrev weights : ℕ → List BranchPiece → List ℕ
-weights size ps = map (λ p. weight size p) ps
+weights size ps = map (λ p. piece_weight size p) ps
 
 same-weights : (size : ℕ) (ps : List BranchPiece) → (size == 0) ≡ false → all_sized size ps ≡ true → weights size ps ≡ map (λ n. n * size) (map length ps)
 same-weights size [] one sized = refl
@@ -30,10 +30,10 @@ apart_weights (m ∷ n ∷ ns) = not (nat_le (m + n) join_room) && apart_weights
 apart-weights : (size : ℕ) (ps : List BranchPiece) → are_apart size ps ≡ apart_weights (weights size ps)
 apart-weights size [] = refl
 apart-weights size (p ∷ []) = refl
-apart-weights size (p ∷ q ∷ ps) = ap (λ (b : Bool). not (nat_le (weight size p + weight size q) join_room) && b) (apart-weights size (q ∷ ps))
+apart-weights size (p ∷ q ∷ ps) = ap (λ (b : Bool). not (nat_le (piece_weight size p + piece_weight size q) join_room) && b) (apart-weights size (q ∷ ps))
 
 -- none is empty by how many elements each has
-full-lengths : (ps : List BranchPiece) → is_full ps ≡ (length (map length ps) == 1 || list_all (λ c. nat_lt 0 c) (map length ps))
+pub full-lengths : (ps : List BranchPiece) → is_full ps ≡ (length (map length ps) == 1 || list_all (λ c. nat_lt 0 c) (map length ps))
 full-lengths ps = ap₂ (λ (n : ℕ) (b : Bool). n == 1 || b) (sym (length-map ps (λ (p : BranchPiece). length p))) (sym (counts_full ps))
 
 module _ (size : ℕ) (ps qs : List BranchPiece) (one : (size == 0) ≡ false) (sized : all_sized size ps ≡ true) (also : all_sized size qs ≡ true) (same : map length qs ≡ map length ps) where

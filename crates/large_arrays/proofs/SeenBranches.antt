@@ -7,7 +7,7 @@ use Rattle.geos_model.specs.ElementArray.{all_distinct}
 use Rattle.geos_model.specs.Document.{Document, is_raw}
 use Rattle.geos_model.proofs.Chains.{contains_cases}
 use Rattle.geos_model.proofs.BlockLists.{distinct-first, distinct-rest}
-use Rattle.large_arrays.specs.Pieces.{BranchPiece, weight, join_room, are_joined}
+use Rattle.large_arrays.specs.Pieces.{BranchPiece, piece_weight, join_room, are_joined}
 use Rattle.large_arrays.specs.Layout.{Root}
 use Rattle.large_arrays.specs.Spread.{first_place, end_place, middle, piece_before, left_piece, right_piece, with_first, with_left}
 use Rattle.large_arrays.specs.Blocks.{root_at, branch_at, pieces_at}
@@ -23,24 +23,24 @@ use Rattle.large_arrays.proofs.Layouts.{branch-raw}
 
 -- behind a piece that is put first the last one weighs no less
 last_grows : (size : ℕ) (l : BranchPiece) (mid : List BranchPiece) → 0 < length mid
-    → weight size (get_or mid (length mid - 1) []) ≤ weight size (get_or (with_first size l mid) (length (with_first size l mid) - 1) [])
+    → piece_weight size (get_or mid (length mid - 1) []) ≤ piece_weight size (get_or (with_first size l mid) (length (with_first size l mid) - 1) [])
 last_grows size l [] some = absurd (omega arith)
 last_grows size [] (m ∷ ms) some = omega arith
 last_grows size (y ∷ ys) (m ∷ ms) some =
     let l : BranchPiece = y ∷ ys in
     let b = are_joined size l m in
-    let grown : List BranchPiece → Type 0 = λ ps. weight size (get_or (m ∷ ms) (length (m ∷ ms) - 1) []) ≤ weight size (get_or ps (length ps - 1) []) in
+    let grown : List BranchPiece → Type 0 = λ ps. piece_weight size (get_or (m ∷ ms) (length (m ∷ ms) - 1) []) ≤ piece_weight size (get_or ps (length ps - 1) []) in
     elim (cases_Bool b) [
       | inl joined ↦ subst grown (sym (cond-true b _ _ joined)) (behind ms)
-      | inr apart ↦ subst grown (sym (cond-false b _ _ apart)) (let same = ap (weight size) (last-next l m ms) in omega arith)
+      | inr apart ↦ subst grown (sym (cond-false b _ _ apart)) (let same = ap (piece_weight size) (last-next l m ms) in omega arith)
     ]
   where
-    behind : (rest : List BranchPiece) → weight size (get_or (m ∷ rest) (length (m ∷ rest) - 1) [])
-        ≤ weight size (get_or (((y ∷ ys) ++ m) ∷ rest) (length (((y ∷ ys) ++ m) ∷ rest) - 1) [])
+    behind : (rest : List BranchPiece) → piece_weight size (get_or (m ∷ rest) (length (m ∷ rest) - 1) [])
+        ≤ piece_weight size (get_or (((y ∷ ys) ++ m) ∷ rest) (length (((y ∷ ys) ++ m) ∷ rest) - 1) [])
     behind [] = (let sum = weight-append size (y ∷ ys) m in omega arith)
     behind (n ∷ rest) =
-        let old = ap (weight size) (last-next m n rest) in
-        let new = ap (weight size) (last-next ((y ∷ ys) ++ m) n rest) in
+        let old = ap (piece_weight size) (last-next m n rest) in
+        let new = ap (piece_weight size) (last-next ((y ∷ ys) ++ m) n rest) in
         omega arith
 
 module _ (size : ℕ) (ps : List BranchPiece) (i j : ℕ) (new : BranchPiece) where
@@ -60,7 +60,7 @@ module _ (size : ℕ) (ps : List BranchPiece) (i j : ℕ) (new : BranchPiece) wh
   record JoinsRight : Type 0 where
     there : nat_lt (t + 1) (length ps) ≡ true
     some : 0 < length before
-    light : weight size (get_or before (length before - 1) []) + weight size (right_piece ps j) ≤ join_room
+    light : piece_weight size (get_or before (length before - 1) []) + piece_weight size (right_piece ps j) ≤ join_room
 
   joins_right : right_joins size ps i j new ≡ true → JoinsRight
   joins_right is =
@@ -69,9 +69,9 @@ module _ (size : ℕ) (ps : List BranchPiece) (i j : ℕ) (new : BranchPiece) wh
       let parts = and_parts (nat_lt (t + 1) (length ps)) (nat_lt 0 (length before)) both.0 in
       record { there = parts.0; some = ltb-true 0 (length before) parts.1; light = leb-true _ join_room both.1 }
 
-  left-looked : left_joins size ps i j new ≡ true → looks_left size ps i j new ≡ true
+  pub left-looked : left_joins size ps i j new ≡ true → looks_left size ps i j new ≡ true
   left-looked is =
-      let any : Bool = if length mid == 0 then nat_lt (t + 1) (length ps) else nat_le (weight size (get_or mid 0 [])) join_room in
+      let any : Bool = if length mid == 0 then nat_lt (t + 1) (length ps) else nat_le (piece_weight size (get_or mid 0 [])) join_room in
       let joins : Bool = if length mid == 0 then right_joins size ps i j new else are_joined size (left_piece ps i j) (get_or mid 0 []) in
       let parts = and_parts (nat_lt 0 f) joins is in
       elim (cases_Bool (size == 0)) [
@@ -82,8 +82,8 @@ module _ (size : ℕ) (ps : List BranchPiece) (i j : ℕ) (new : BranchPiece) wh
               | inl none ↦ cond-true (length mid == 0) _ _ none ∙ (joins_right (sym (cond-true (length mid == 0) _ _ none) ∙ parts.1)).there
               | inr some ↦
                   (let both : are_joined size (left_piece ps i j) (get_or mid 0 []) ≡ true = sym (cond-false (length mid == 0) _ _ some) ∙ parts.1 in
-                  let light = leb-true (weight size (left_piece ps i j) + weight size (get_or mid 0 [])) join_room both in
-                  cond-false (length mid == 0) _ _ some ∙ le-leb (weight size (get_or mid 0 [])) join_room (omega arith))
+                  let light = leb-true (piece_weight size (left_piece ps i j) + piece_weight size (get_or mid 0 [])) join_room both in
+                  cond-false (length mid == 0) _ _ some ∙ le-leb (piece_weight size (get_or mid 0 [])) join_room (omega arith))
             ])
       ]
 
@@ -100,9 +100,9 @@ module _ (size : ℕ) (ps : List BranchPiece) (i j : ℕ) (new : BranchPiece) wh
   something_left [] some = absurd (true≢false some)
   something_left (q ∷ qs) some = omega arith
 
-  right-looked : right_joins size ps i j new ≡ true → looks_right size ps i j new ≡ true
+  pub right-looked : right_joins size ps i j new ≡ true → looks_right size ps i j new ≡ true
   right-looked is =
-      let any : Bool = if length mid == 0 then nat_lt 0 f else nat_le (weight size (get_or mid (length mid - 1) [])) join_room in
+      let any : Bool = if length mid == 0 then nat_lt 0 f else nat_le (piece_weight size (get_or mid (length mid - 1) [])) join_room in
       let joins = joins_right is in
       elim (cases_Bool (size == 0)) [
         | inr one ↦ cond-false (size == 0) _ _ one ∙ is
@@ -113,7 +113,7 @@ module _ (size : ℕ) (ps : List BranchPiece) (i j : ℕ) (new : BranchPiece) wh
               | inr some ↦
                   (let grown = last_grows size (left_piece ps i j) mid (something_left mid some) in
                   let light = joins.light in
-                  cond-false (length mid == 0) _ _ some ∙ le-leb (weight size (get_or mid (length mid - 1) [])) join_room (omega arith))
+                  cond-false (length mid == 0) _ _ some ∙ le-leb (piece_weight size (get_or mid (length mid - 1) [])) join_room (omega arith))
             ])
       ]
 

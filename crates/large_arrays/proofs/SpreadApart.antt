@@ -1,7 +1,7 @@
 -- After an edit no two neighbours are so small that they are joined.
 use Rattle.std.proofs.Common.{◌≡◌, ℕ, Bool, true, not, ◌+◌, ◌<◌, ◌≤◌, nat_le, List, [], ◌∷◌, ◌++◌, refl, sym, ap, subst, ◌∙◌, inl, inr, leb-true, leb-false, arith}
 use Rattle.std.proofs.lemmas.Bool.{cases_Bool, cond-true, cond-false, and_parts, and_from, not-true}
-use Rattle.large_arrays.specs.Pieces.{BranchPiece, branch_room, join_room, weight, are_joined, are_apart}
+use Rattle.large_arrays.specs.Pieces.{BranchPiece, branch_room, join_room, piece_weight, are_joined, are_apart}
 use Rattle.large_arrays.specs.Spread.{packed_from, with_last, with_first}
 use Rattle.large_arrays.proofs.SpreadFits.{weight-append}
 
@@ -18,35 +18,35 @@ not_within sum room more = elim (cases_Bool (nat_le sum room)) [
 -- There is a first piece, and it weighs so much at least.
 abbrev pub HasHead : ℕ → ℕ → List BranchPiece → Type 0
 HasHead size n [] = ⊥
-HasHead size n (x ∷ ps) = n ≤ weight size x
+HasHead size n (x ∷ ps) = n ≤ piece_weight size x
 
 -- A piece stands before others, and with the least that the first of them weighs it is too large to be joined.
 pub cons-apart : (size : ℕ) (x : BranchPiece) (n : ℕ) (ps : List BranchPiece) → are_apart size ps ≡ true → HasHead size n ps
-    → join_room < weight size x + n → are_apart size (x ∷ ps) ≡ true
+    → join_room < piece_weight size x + n → are_apart size (x ∷ ps) ≡ true
 cons-apart size x n [] apart head more = refl
 cons-apart size x n (y ∷ ps) apart head more =
-    and_from (not (are_joined size x y)) (are_apart size (y ∷ ps)) (not_within (weight size x + weight size y) join_room (omega arith)) apart
+    and_from (not (are_joined size x y)) (are_apart size (y ∷ ps)) (not_within (piece_weight size x + piece_weight size y) join_room (omega arith)) apart
 
 -- the first piece may be heavier
-pub head-apart : (size : ℕ) (y z : BranchPiece) (ps : List BranchPiece) → are_apart size (y ∷ ps) ≡ true → weight size y ≤ weight size z
+pub head-apart : (size : ℕ) (y z : BranchPiece) (ps : List BranchPiece) → are_apart size (y ∷ ps) ≡ true → piece_weight size y ≤ piece_weight size z
     → are_apart size (z ∷ ps) ≡ true
 head-apart size y z [] apart more = refl
 head-apart size y z (x ∷ ps) apart more =
     let parts = and_parts (not (are_joined size y x)) (are_apart size (x ∷ ps)) apart in
-    let least = more_than (weight size y + weight size x) join_room parts.0 in
-    and_from (not (are_joined size z x)) (are_apart size (x ∷ ps)) (not_within (weight size z + weight size x) join_room (omega arith)) parts.1
+    let least = more_than (piece_weight size y + piece_weight size x) join_room parts.0 in
+    and_from (not (are_joined size z x)) (are_apart size (x ∷ ps)) (not_within (piece_weight size z + piece_weight size x) join_room (omega arith)) parts.1
 
 -- Packing: the first piece has what was begun.
-pub packed-heavy : (size : ℕ) (y : List ℕ) (ys xs : BranchPiece) → HasHead size (weight size (y ∷ ys)) (packed_from size (y ∷ ys) xs)
+pub packed-heavy : (size : ℕ) (y : List ℕ) (ys xs : BranchPiece) → HasHead size (piece_weight size (y ∷ ys)) (packed_from size (y ∷ ys) xs)
 packed-heavy size y ys [] = omega arith
 packed-heavy size y ys (x ∷ xs) =
     let whole : BranchPiece = (y ∷ ys) ++ x ∷ [] in
-    let b = nat_le (weight size whole) branch_room in
-    let n = weight size (y ∷ ys) in
+    let b = nat_le (piece_weight size whole) branch_room in
+    let n = piece_weight size (y ∷ ys) in
     elim (cases_Bool b) [
       | inl fits ↦
           (let sum = weight-append size (y ∷ ys) (x ∷ []) in
-          subst (HasHead size n) (sym (cond-true b _ _ fits)) (heavier size n (weight size whole) (packed_from size whole xs) (omega arith) (packed-heavy size y (ys ++ x ∷ []) xs)))
+          subst (HasHead size n) (sym (cond-true b _ _ fits)) (heavier size n (piece_weight size whole) (packed_from size whole xs) (omega arith) (packed-heavy size y (ys ++ x ∷ []) xs)))
       | inr past ↦ subst (HasHead size n) (sym (cond-false b _ _ past)) (let least : n ≤ n = omega arith in least)
     ]
   where
@@ -59,29 +59,29 @@ packed-apart size [] [] = refl
 packed-apart size (y ∷ ys) [] = refl
 packed-apart size [] (x ∷ xs) = packed-apart size (x ∷ []) xs
 packed-apart size (y ∷ ys) (x ∷ xs) =
-    let b = nat_le (weight size ((y ∷ ys) ++ x ∷ [])) branch_room in
+    let b = nat_le (piece_weight size ((y ∷ ys) ++ x ∷ [])) branch_room in
     elim (cases_Bool b) [
       | inl fits ↦ ap (are_apart size) (cond-true b _ _ fits) ∙ packed-apart size ((y ∷ ys) ++ x ∷ []) xs
       | inr past ↦
           (let sum = weight-append size (y ∷ ys) (x ∷ []) in
-          let more = leb-false (weight size ((y ∷ ys) ++ x ∷ [])) branch_room past in
+          let more = leb-false (piece_weight size ((y ∷ ys) ++ x ∷ [])) branch_room past in
           ap (are_apart size) (cond-false b _ _ past)
-          ∙ cons-apart size (y ∷ ys) (weight size (x ∷ [])) (packed_from size (x ∷ []) xs) (packed-apart size (x ∷ []) xs) (packed-heavy size x [] xs) (omega arith))
+          ∙ cons-apart size (y ∷ ys) (piece_weight size (x ∷ [])) (packed_from size (x ∷ []) xs) (packed-apart size (x ∷ []) xs) (packed-heavy size x [] xs) (omega arith))
     ]
 
 -- A piece behind others, and what stands behind it.
 pub with_last-heavy : (size room : ℕ) (x : BranchPiece) (ps : List BranchPiece) (y : BranchPiece) (cs : List BranchPiece)
-    → HasHead size (weight size x) (with_last size room (x ∷ ps) y ++ cs)
+    → HasHead size (piece_weight size x) (with_last size room (x ∷ ps) y ++ cs)
 with_last-heavy size room x ps [] cs = omega arith
 with_last-heavy size room x (p ∷ ps) (y ∷ ys) cs = omega arith
 with_last-heavy size room x [] (y ∷ ys) cs =
-    let b = nat_le (weight size x + weight size (y ∷ ys)) room in
-    let head : List BranchPiece → Type 0 = λ ps. HasHead size (weight size x) (ps ++ cs) in
+    let b = nat_le (piece_weight size x + piece_weight size (y ∷ ys)) room in
+    let head : List BranchPiece → Type 0 = λ ps. HasHead size (piece_weight size x) (ps ++ cs) in
     elim (cases_Bool b) [
       | inl fits ↦
-          (let sum = weight-append size x (y ∷ ys) in let least : weight size x ≤ weight size (x ++ y ∷ ys) = omega arith in
+          (let sum = weight-append size x (y ∷ ys) in let least : piece_weight size x ≤ piece_weight size (x ++ y ∷ ys) = omega arith in
           subst head (sym (cond-true b _ _ fits)) least)
-      | inr past ↦ (let least : weight size x ≤ weight size x = omega arith in subst head (sym (cond-false b _ _ past)) least)
+      | inr past ↦ (let least : piece_weight size x ≤ piece_weight size x = omega arith in subst head (sym (cond-false b _ _ past)) least)
     ]
 
 pub with_last-apart : (size room : ℕ) (ps : List BranchPiece) (y : List ℕ) (ys : BranchPiece) (cs : List BranchPiece) → join_room ≤ room
@@ -89,32 +89,32 @@ pub with_last-apart : (size room : ℕ) (ps : List BranchPiece) (y : List ℕ) (
     → are_apart size (with_last size room ps (y ∷ ys) ++ cs) ≡ true
 with_last-apart size room [] y ys cs most apart last = last
 with_last-apart size room (x ∷ []) y ys cs most apart last =
-    let b = nat_le (weight size x + weight size (y ∷ ys)) room in
+    let b = nat_le (piece_weight size x + piece_weight size (y ∷ ys)) room in
     let test : List BranchPiece → Bool = λ ps. are_apart size (ps ++ cs) in
     elim (cases_Bool b) [
       | inl fits ↦
           (let sum = weight-append size x (y ∷ ys) in
           ap test (cond-true b _ _ fits) ∙ head-apart size (y ∷ ys) (x ++ y ∷ ys) cs last (omega arith))
       | inr past ↦
-          (let more = leb-false (weight size x + weight size (y ∷ ys)) room past in
+          (let more = leb-false (piece_weight size x + piece_weight size (y ∷ ys)) room past in
           ap test (cond-false b _ _ past)
-          ∙ and_from (not (are_joined size x (y ∷ ys))) (are_apart size ((y ∷ ys) ∷ cs)) (not_within (weight size x + weight size (y ∷ ys)) join_room (omega arith)) last)
+          ∙ and_from (not (are_joined size x (y ∷ ys))) (are_apart size ((y ∷ ys) ∷ cs)) (not_within (piece_weight size x + piece_weight size (y ∷ ys)) join_room (omega arith)) last)
     ]
 with_last-apart size room (x ∷ next ∷ ps) y ys cs most apart last =
     let parts = and_parts (not (are_joined size x next)) (are_apart size (next ∷ ps)) apart in
     let behind = with_last size room (next ∷ ps) (y ∷ ys) ++ cs in
-    cons-apart size x (weight size next) behind (with_last-apart size room (next ∷ ps) y ys cs most parts.1 last)
-    (with_last-heavy size room next ps (y ∷ ys) cs) (more_than (weight size x + weight size next) join_room parts.0)
+    cons-apart size x (piece_weight size next) behind (with_last-apart size room (next ∷ ps) y ys cs most parts.1 last)
+    (with_last-heavy size room next ps (y ∷ ys) cs) (more_than (piece_weight size x + piece_weight size next) join_room parts.0)
 
 -- A piece before others.
-pub with_first-heavy : (size : ℕ) (y : List ℕ) (ys : BranchPiece) (ps : List BranchPiece) → HasHead size (weight size (y ∷ ys)) (with_first size (y ∷ ys) ps)
+pub with_first-heavy : (size : ℕ) (y : List ℕ) (ys : BranchPiece) (ps : List BranchPiece) → HasHead size (piece_weight size (y ∷ ys)) (with_first size (y ∷ ys) ps)
 with_first-heavy size y ys [] = omega arith
 with_first-heavy size y ys (x ∷ ps) =
     let b = are_joined size (y ∷ ys) x in
-    let n = weight size (y ∷ ys) in
+    let n = piece_weight size (y ∷ ys) in
     elim (cases_Bool b) [
       | inl joined ↦
-          (let sum = weight-append size (y ∷ ys) x in let least : n ≤ weight size ((y ∷ ys) ++ x) = omega arith in
+          (let sum = weight-append size (y ∷ ys) x in let least : n ≤ piece_weight size ((y ∷ ys) ++ x) = omega arith in
           subst (HasHead size n) (sym (cond-true b _ _ joined)) least)
       | inr apart ↦ (let least : n ≤ n = omega arith in subst (HasHead size n) (sym (cond-false b _ _ apart)) least)
     ]
@@ -135,11 +135,11 @@ with_first-apart size (y ∷ ys) (x ∷ ps) apart =
 
 -- Pieces before others, of which the first is as heavy as the piece that stood there.
 pub append-apart : (size : ℕ) (fore : List BranchPiece) (l : BranchPiece) (ps : List BranchPiece) → are_apart size (fore ++ l ∷ []) ≡ true
-    → are_apart size ps ≡ true → HasHead size (weight size l) ps → are_apart size (fore ++ ps) ≡ true
+    → are_apart size ps ≡ true → HasHead size (piece_weight size l) ps → are_apart size (fore ++ ps) ≡ true
 append-apart size [] l ps before apart head = apart
 append-apart size (a ∷ []) l ps before apart head =
     let parts = and_parts (not (are_joined size a l)) true before in
-    cons-apart size a (weight size l) ps apart head (more_than (weight size a + weight size l) join_room parts.0)
+    cons-apart size a (piece_weight size l) ps apart head (more_than (piece_weight size a + piece_weight size l) join_room parts.0)
 append-apart size (a ∷ b ∷ fore) l ps before apart head =
     let parts = and_parts (not (are_joined size a b)) (are_apart size (b ∷ fore ++ l ∷ [])) before in
     and_from (not (are_joined size a b)) (are_apart size (b ∷ fore ++ ps)) parts.0 (append-apart size (b ∷ fore) l ps parts.1 apart head)

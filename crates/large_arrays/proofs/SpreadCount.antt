@@ -2,7 +2,7 @@
 use Rattle.std.proofs.Common.{◌≡◌, ℕ, true, zero, suc, ◌+◌, ◌-◌, ◌<◌, ◌≤◌, ◌==◌, nat_le, nat_lt, List, [], ◌∷◌, ◌++◌, length, take, drop, map, get_or, refl, sym, ap, subst, ◌∙◌, inl, inr, append_assoc, length-append, length-drop, length-take, ltb-true, ltb-false, ◌⊎◌, arith, leb-true, if◌then◌else◌, le-leb}
 use Rattle.std.proofs.lemmas.Bool.{cases_Bool, cond-true, cond-false, cases_eq, eq-eqb}
 use Rattle.std.proofs.lemmas.List.{length-take-le, get_or_past, append-nil, length-map, take-append-drop, drop-drop}
-use Rattle.large_arrays.specs.Pieces.{BranchPiece, branch_room, join_room, weight, are_joined, fits_branch, are_spread, all_fit}
+use Rattle.large_arrays.specs.Pieces.{BranchPiece, branch_room, join_room, piece_weight, are_joined, fits_branch, are_spread, all_fit}
 use Rattle.large_arrays.specs.Spread.{end_place, first_place, packed_from, with_last, with_first, middle, piece_before, right_piece, with_left, respread, if_none}
 use Rattle.large_arrays.proofs.SpreadFits.{part-fits, taken-fits, got-fits, room_of, weight-append}
 use Rattle.large_arrays.proofs.SpreadPlaces.{end-low, first-end, first-end_same}
@@ -15,7 +15,7 @@ packed-begun size y ys [] zs all = ap (λ (ps : BranchPiece). packed_from size p
 packed-begun size y ys (x ∷ xs) zs all =
     let same : (y ∷ ys) ++ x ∷ xs ≡ ((y ∷ ys) ++ x ∷ []) ++ xs = sym (append_assoc (y ∷ ys) (x ∷ []) xs) in
     let whole : fits_branch size (((y ∷ ys) ++ x ∷ []) ++ xs) ≡ true = ap (fits_branch size) (sym same) ∙ all in
-    let b = nat_le (weight size ((y ∷ ys) ++ x ∷ [])) branch_room in
+    let b = nat_le (piece_weight size ((y ∷ ys) ++ x ∷ [])) branch_room in
     cond-true b _ _ (part-fits size ((y ∷ ys) ++ x ∷ []) xs whole).0
     ∙ packed-begun size y (ys ++ x ∷ []) xs zs whole
     ∙ ap (λ (ps : BranchPiece). packed_from size ps zs) (sym same)
@@ -26,7 +26,7 @@ packed-few size [] [] = omega arith
 packed-few size (y ∷ ys) [] = omega arith
 packed-few size [] (x ∷ xs) = (let rest = packed-few size (x ∷ []) xs in omega arith)
 packed-few size (y ∷ ys) (x ∷ xs) =
-    let b = nat_le (weight size ((y ∷ ys) ++ x ∷ [])) branch_room in
+    let b = nat_le (piece_weight size ((y ∷ ys) ++ x ∷ [])) branch_room in
     let few : List BranchPiece → Type 0 = λ ps. length ps ≤ suc (length (x ∷ xs)) in
     elim (cases_Bool b) [
       | inl within ↦
@@ -50,7 +50,7 @@ with_last-few : (size room : ℕ) (ps : List BranchPiece) (y : BranchPiece) → 
 with_last-few size room ps [] = omega arith
 with_last-few size room [] (y ∷ ys) = omega arith
 with_last-few size room (x ∷ []) (y ∷ ys) =
-    let b = nat_le (weight size x + weight size (y ∷ ys)) room in
+    let b = nat_le (piece_weight size x + piece_weight size (y ∷ ys)) room in
     let few : List BranchPiece → Type 0 = λ ps. length ps ≤ 2 in
     elim (cases_Bool b) [
       | inl within ↦ subst few (sym (cond-true b _ _ within)) (let one : 1 ≤ 2 = omega arith in one)
@@ -146,31 +146,31 @@ respread-few size ps i j new order spread =
 -- A deletion makes no piece more.
 
 -- what stays of a piece is one piece at most
-kept-one : (size : ℕ) (head tail : BranchPiece) → weight size head + weight size tail ≤ branch_room
+kept-one : (size : ℕ) (head tail : BranchPiece) → piece_weight size head + piece_weight size tail ≤ branch_room
     → length (with_last size branch_room (packed_from size [] (head ++ [])) tail) ≤ 1
 kept-one size [] [] few = omega arith
 kept-one size [] (y ∷ ys) few = omega arith
 kept-one size (x ∷ xs) tail few =
     let one : packed_from size [] ((x ∷ xs) ++ []) ≡ (x ∷ xs) ∷ [] =
-    packed-begun size x [] xs [] (le-leb (weight size (x ∷ xs)) branch_room (omega arith)) in
+    packed-begun size x [] xs [] (le-leb (piece_weight size (x ∷ xs)) branch_room (omega arith)) in
     subst (λ (ps : List BranchPiece). length (with_last size branch_room ps tail) ≤ 1) (sym one) (by_tail tail few)
   where
-    by_tail : (tail : BranchPiece) → weight size (x ∷ xs) + weight size tail ≤ branch_room → length (with_last size branch_room ((x ∷ xs) ∷ []) tail) ≤ 1
+    by_tail : (tail : BranchPiece) → piece_weight size (x ∷ xs) + piece_weight size tail ≤ branch_room → length (with_last size branch_room ((x ∷ xs) ∷ []) tail) ≤ 1
     by_tail [] few = omega arith
     by_tail (y ∷ ys) few =
-        let b = nat_le (weight size (x ∷ xs) + weight size (y ∷ ys)) branch_room in
-        subst (λ (ps : List BranchPiece). length ps ≤ 1) (sym (cond-true b _ _ (le-leb (weight size (x ∷ xs) + weight size (y ∷ ys)) branch_room few)))
+        let b = nat_le (piece_weight size (x ∷ xs) + piece_weight size (y ∷ ys)) branch_room in
+        subst (λ (ps : List BranchPiece). length ps ≤ 1) (sym (cond-true b _ _ (le-leb (piece_weight size (x ∷ xs) + piece_weight size (y ∷ ys)) branch_room few)))
         (let one : 1 ≤ 1 = omega arith in one)
 
 -- two parts of a piece that don't overlap weigh no more than it
-parts-weigh : (size a e : ℕ) (p : BranchPiece) → a ≤ e → weight size (take a p) + weight size (drop e p) ≤ weight size p
+parts-weigh : (size a e : ℕ) (p : BranchPiece) → a ≤ e → piece_weight size (take a p) + piece_weight size (drop e p) ≤ piece_weight size p
 parts-weigh size a e p order =
     let all = weight-append size (take a p) (drop a p) in
-    let whole = ap (weight size) (take-append-drop a p) in
+    let whole = ap (piece_weight size) (take-append-drop a p) in
     let rest = weight-append size (take (e - a) (drop a p)) (drop (e - a) (drop a p)) in
-    let rest_whole = ap (weight size) (take-append-drop (e - a) (drop a p)) in
+    let rest_whole = ap (piece_weight size) (take-append-drop (e - a) (drop a p)) in
     let sum : a + (e - a) ≡ e = omega arith in
-    let behind : weight size (drop (e - a) (drop a p)) ≡ weight size (drop e p) = ap (weight size) (drop-drop (e - a) a p ∙ ap (λ (n : ℕ). drop n p) sum) in
+    let behind : piece_weight size (drop (e - a) (drop a p)) ≡ piece_weight size (drop e p) = ap (piece_weight size) (drop-drop (e - a) a p ∙ ap (λ (n : ℕ). drop n p) sum) in
     omega arith
 
 middle-one : (size : ℕ) (ps : List BranchPiece) (i j : ℕ) → i ≤ j → all_fit size ps ≡ true → (first_place (map length ps) i j).0 ≡ (end_place (map length ps) j).0
@@ -181,7 +181,7 @@ middle-one size ps i j order all same =
     let p : BranchPiece = get_or ps from.0 [] in
     let kept : List BranchPiece = packed_from size [] (take from.1 p ++ []) in
     let room : (if from.0 == to.0 then branch_room else join_room) ≡ branch_room = cond-true (from.0 == to.0) branch_room join_room (eq-eqb from.0 to.0 same) in
-    let fit = leb-true (weight size p) branch_room (got-fits size ps from.0 all) in
+    let fit = leb-true (piece_weight size p) branch_room (got-fits size ps from.0 all) in
     let parts = parts-weigh size from.1 to.1 p (first-end_same (map length ps) i j order same) in
     subst (λ (m : ℕ). length (with_last size m kept (drop to.1 (get_or ps to.0 []))) ≤ 1) (sym room)
     (subst (λ (k : ℕ). length (with_last size branch_room kept (drop to.1 (get_or ps k []))) ≤ 1) same (kept-one size (take from.1 p) (drop to.1 p) (omega arith)))

@@ -6,7 +6,7 @@ use Rattle.std.proofs.lemmas.Grind.{flat_map-append}
 use Rattle.std.proofs.Math.Seq.{take-append-add, drop-append-add}
 use Rattle.std.proofs.Math.Nat.{add-sub_of_le}
 use Rattle.std.specs.List.{splice}
-use Rattle.large_arrays.specs.Pieces.{BranchPiece, branch_room, join_room, weight, are_joined, elements_in_pieces}
+use Rattle.large_arrays.specs.Pieces.{BranchPiece, branch_room, join_room, piece_weight, are_joined, elements_in_pieces}
 use Rattle.large_arrays.specs.Spread.{start_place, end_place, first_place, middle, piece_before, left_piece, right_piece, around, respread, packed_from, with_last, with_first, if_none}
 
 -- Packing keeps elements.
@@ -15,7 +15,7 @@ packed-elements size [] [] = refl
 packed-elements size (y ∷ ys) [] = refl
 packed-elements size [] (x ∷ xs) = packed-elements size (x ∷ []) xs
 packed-elements size (y ∷ ys) (x ∷ xs) =
-    let b = nat_le (weight size ((y ∷ ys) ++ x ∷ [])) branch_room in
+    let b = nat_le (piece_weight size ((y ∷ ys) ++ x ∷ [])) branch_room in
     elim (cases_Bool b) [
       | inl fits ↦ ap elements_in_pieces (cond-true b _ _ fits) ∙ packed-elements size ((y ∷ ys) ++ x ∷ []) xs ∙ append_assoc (y ∷ ys) (x ∷ []) xs
       | inr not_fits ↦ ap elements_in_pieces (cond-false b _ _ not_fits) ∙ ap (λ (zs : BranchPiece). (y ∷ ys) ++ zs) (packed-elements size (x ∷ []) xs)
@@ -25,7 +25,7 @@ with_last-elements : (size room : ℕ) (ps : List BranchPiece) (y : BranchPiece)
 with_last-elements size room ps [] = sym (append-nil (elements_in_pieces ps))
 with_last-elements size room [] (y ∷ ys) = append-nil (y ∷ ys)
 with_last-elements size room (x ∷ []) (y ∷ ys) =
-    let b = nat_le (weight size x + weight size (y ∷ ys)) room in
+    let b = nat_le (piece_weight size x + piece_weight size (y ∷ ys)) room in
     elim (cases_Bool b) [
       | inl fits ↦ ap elements_in_pieces (cond-true b _ _ fits) ∙ append-nil (x ++ y ∷ ys) ∙ ap (λ (zs : BranchPiece). zs ++ y ∷ ys) (sym (append-nil x))
       | inr not_fits ↦ ap elements_in_pieces (cond-false b _ _ not_fits) ∙ ap (λ (zs : BranchPiece). x ++ zs) (append-nil (y ∷ ys)) ∙ ap (λ (zs : BranchPiece). zs ++ y ∷ ys) (sym (append-nil x))

@@ -4,18 +4,18 @@ use Rattle.std.proofs.lemmas.Bool.{cases_Bool, cond-true, cond-false, and_parts,
 use Rattle.std.proofs.lemmas.List.{take-append-drop}
 use Rattle.std.proofs.lemmas.List.Folds.{list_all-append}
 use Rattle.std.proofs.lemmas.List.Sums.{sum_by-append}
-use Rattle.large_arrays.specs.Pieces.{BranchPiece, branch_room, join_room, weight, are_joined, fits_branch, all_fit, each_fits}
+use Rattle.large_arrays.specs.Pieces.{BranchPiece, branch_room, join_room, piece_weight, are_joined, fits_branch, all_fit, each_fits}
 use Rattle.large_arrays.specs.Spread.{end_place, first_place, middle, piece_before, left_piece, right_piece, around, respread, packed_from, with_last, with_first, if_none}
 
-pub weight-append : (size : ℕ) (xs ys : BranchPiece) → weight size (xs ++ ys) ≡ weight size xs + weight size ys
+pub weight-append : (size : ℕ) (xs ys : BranchPiece) → piece_weight size (xs ++ ys) ≡ piece_weight size xs + piece_weight size ys
 weight-append size xs ys = sum_by-append (λ (x : List ℕ). length x + (if size == 0 then 2 else 0)) xs ys
 
 -- a part of what fits fits
 pub part-fits : (size : ℕ) (xs ys : BranchPiece) → fits_branch size (xs ++ ys) ≡ true → (fits_branch size xs ≡ true) × (fits_branch size ys ≡ true)
 part-fits size xs ys all =
-    let most : weight size (xs ++ ys) ≤ branch_room = leb-true (weight size (xs ++ ys)) branch_room all in
+    let most : piece_weight size (xs ++ ys) ≤ branch_room = leb-true (piece_weight size (xs ++ ys)) branch_room all in
     let sum = weight-append size xs ys in
-    (le-leb (weight size xs) branch_room (omega (arith, most, sum)), le-leb (weight size ys) branch_room (omega (arith, most, sum)))
+    (le-leb (piece_weight size xs) branch_room (omega (arith, most, sum)), le-leb (piece_weight size ys) branch_room (omega (arith, most, sum)))
 
 each-of : (size : ℕ) (xs : BranchPiece) → fits_branch size xs ≡ true → each_fits size xs ≡ true
 each-of size [] all = refl
@@ -27,8 +27,8 @@ each-of size (x ∷ xs) all =
 pub joined-fits : (size : ℕ) (xs ys : BranchPiece) → are_joined size xs ys ≡ true → fits_branch size (xs ++ ys) ≡ true
 joined-fits size xs ys joined =
     let sum = weight-append size xs ys in
-    let most = leb-true (weight size xs + weight size ys) join_room joined in
-    le-leb (weight size (xs ++ ys)) branch_room (omega (arith, sum, most))
+    let most = leb-true (piece_weight size xs + piece_weight size ys) join_room joined in
+    le-leb (piece_weight size (xs ++ ys)) branch_room (omega (arith, sum, most))
 
 pub packed-fits : (size : ℕ) (y xs : BranchPiece) → fits_branch size y ≡ true → each_fits size xs ≡ true → all_fit size (packed_from size y xs) ≡ true
 packed-fits size [] [] first each = refl
@@ -37,7 +37,7 @@ packed-fits size [] (x ∷ xs) first each =
     let parts = and_parts (fits_branch size (x ∷ [])) (each_fits size xs) each in packed-fits size (x ∷ []) xs parts.0 parts.1
 packed-fits size (y ∷ ys) (x ∷ xs) first each =
     let parts = and_parts (fits_branch size (x ∷ [])) (each_fits size xs) each in
-    let b = nat_le (weight size ((y ∷ ys) ++ x ∷ [])) branch_room in
+    let b = nat_le (piece_weight size ((y ∷ ys) ++ x ∷ [])) branch_room in
     elim (cases_Bool b) [
       | inl within ↦ ap (all_fit size) (cond-true b _ _ within) ∙ packed-fits size ((y ∷ ys) ++ x ∷ []) xs within parts.1
       | inr past ↦ ap (all_fit size) (cond-false b _ _ past) ∙ and_from (fits_branch size (y ∷ ys)) (all_fit size (packed_from size (x ∷ []) xs)) first (packed-fits size (x ∷ []) xs parts.0 parts.1)
@@ -48,10 +48,10 @@ with_last-fits size room ps [] few all last = all
 with_last-fits size room [] (y ∷ ys) few all last = and_from (fits_branch size (y ∷ ys)) true last refl
 with_last-fits size room (x ∷ []) (y ∷ ys) few all last =
     let first = (and_parts (fits_branch size x) true all).0 in
-    let b = nat_le (weight size x + weight size (y ∷ ys)) room in
+    let b = nat_le (piece_weight size x + piece_weight size (y ∷ ys)) room in
     elim (cases_Bool b) [
-      | inl within ↦ (let sum = weight-append size x (y ∷ ys) in let most = leb-true (weight size x + weight size (y ∷ ys)) room within in
-          ap (all_fit size) (cond-true b _ _ within) ∙ and_from (fits_branch size (x ++ y ∷ ys)) true (le-leb (weight size (x ++ y ∷ ys)) branch_room (omega (arith, few, sum, most))) refl)
+      | inl within ↦ (let sum = weight-append size x (y ∷ ys) in let most = leb-true (piece_weight size x + piece_weight size (y ∷ ys)) room within in
+          ap (all_fit size) (cond-true b _ _ within) ∙ and_from (fits_branch size (x ++ y ∷ ys)) true (le-leb (piece_weight size (x ++ y ∷ ys)) branch_room (omega (arith, few, sum, most))) refl)
       | inr past ↦ ap (all_fit size) (cond-false b _ _ past) ∙ and_from (fits_branch size x) (fits_branch size (y ∷ ys) && true) first (and_from (fits_branch size (y ∷ ys)) true last refl)
     ]
 with_last-fits size room (x ∷ next ∷ ps) (y ∷ ys) few all last =

@@ -4,7 +4,7 @@ use Rattle.std.proofs.lemmas.Bool.{cases_Bool, cond-true, cond-false, eqb-true, 
 use Rattle.large_arrays.specs.Spread.{start_place, end_place, first_place}
 
 -- They are pieces that there are.
-start-low : (c : ℕ) (counts : List ℕ) (i : ℕ) → (start_place (c ∷ counts) i).0 ≤ length counts
+pub start-low : (c : ℕ) (counts : List ℕ) (i : ℕ) → (start_place (c ∷ counts) i).0 ≤ length counts
 start-low c [] i = omega arith
 start-low c (next ∷ counts) i =
     let b = nat_lt i c in
@@ -75,7 +75,7 @@ first-end counts i j most =
 pub first-end_none : (counts : List ℕ) (i : ℕ) → (first_place counts i i).0 ≡ (end_place counts i).0
 first-end_none counts i = ap (λ (at : ℕ × ℕ). at.0) (cond-true (i == i) (end_place counts i) (start_place counts i) (eq-eqb i i refl))
 
-start-end_one : (counts : List ℕ) (i : ℕ) → (start_place counts i).0 ≡ (end_place counts (i + 1)).0
+pub start-end_one : (counts : List ℕ) (i : ℕ) → (start_place counts i).0 ≡ (end_place counts (i + 1)).0
 start-end_one [] i = refl
 start-end_one (c ∷ []) i = refl
 start-end_one (c ∷ next ∷ counts) i =

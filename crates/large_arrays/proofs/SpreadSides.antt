@@ -3,7 +3,7 @@ use Rattle.std.proofs.Common.{◌≡◌, ℕ, Bool, true, false, not, ◌&&◌, 
 use Rattle.std.proofs.lemmas.Bool.{cases_Bool, cond-true, cond-false, and_parts, and_from, lt-ltb, eqb-true}
 use Rattle.std.proofs.lemmas.List.{append-nil, drop_all}
 use Rattle.std.proofs.lemmas.List.Folds.{list_all-append}
-use Rattle.large_arrays.specs.Pieces.{BranchPiece, branch_room, join_room, weight, are_joined, are_apart, none_empty}
+use Rattle.large_arrays.specs.Pieces.{BranchPiece, branch_room, join_room, piece_weight, are_joined, are_apart, none_empty}
 use Rattle.large_arrays.specs.Spread.{piece_before, packed_from, with_last, with_first, if_none}
 use Rattle.large_arrays.proofs.SpreadApart.{HasHead, with_last-heavy, with_last-apart, with_first-heavy, with_first-apart, append-apart}
 
@@ -27,7 +27,7 @@ packed-full size [] [] = refl
 packed-full size (y ∷ ys) [] = and_from (has_element (y ∷ ys)) true (begun y ys) refl
 packed-full size [] (x ∷ xs) = packed-full size (x ∷ []) xs
 packed-full size (y ∷ ys) (x ∷ xs) =
-    let b = nat_le (weight size ((y ∷ ys) ++ x ∷ [])) branch_room in
+    let b = nat_le (piece_weight size ((y ∷ ys) ++ x ∷ [])) branch_room in
     elim (cases_Bool b) [
       | inl within ↦ ap none_empty (cond-true b _ _ within) ∙ packed-full size ((y ∷ ys) ++ x ∷ []) xs
       | inr past ↦
@@ -39,7 +39,7 @@ pub with_last-full : (size room : ℕ) (ps : List BranchPiece) (y : BranchPiece)
 with_last-full size room ps [] full = full
 with_last-full size room [] (y ∷ ys) full = and_from (has_element (y ∷ ys)) true (begun y ys) refl
 with_last-full size room (x ∷ []) (y ∷ ys) full =
-    let b = nat_le (weight size x + weight size (y ∷ ys)) room in
+    let b = nat_le (piece_weight size x + piece_weight size (y ∷ ys)) room in
     elim (cases_Bool b) [
       | inl within ↦ ap none_empty (cond-true b _ _ within) ∙ and_from (has_element (x ++ y ∷ ys)) true (append-begun x y ys) refl
       | inr past ↦
@@ -93,7 +93,7 @@ if_none-same size n (p ∷ ps) head = refl
 -- with another piece behind there is a first one
 with_last-begun : (size room : ℕ) (ps : List BranchPiece) (y : List ℕ) (ys : BranchPiece) → HasHead size 0 (with_last size room ps (y ∷ ys))
 with_last-begun size room [] y ys = omega arith
-with_last-begun size room (x ∷ ps) y ys = any_head size (weight size x) (with_last size room (x ∷ ps) (y ∷ ys)) (subst (HasHead size (weight size x)) (append-nil (with_last size room (x ∷ ps) (y ∷ ys))) (with_last-heavy size room x ps (y ∷ ys) []))
+with_last-begun size room (x ∷ ps) y ys = any_head size (piece_weight size x) (with_last size room (x ∷ ps) (y ∷ ys)) (subst (HasHead size (piece_weight size x)) (append-nil (with_last size room (x ∷ ps) (y ∷ ys))) (with_last-heavy size room x ps (y ∷ ys) []))
   where
     any_head : (size n : ℕ) (ps : List BranchPiece) → HasHead size n ps → HasHead size 0 ps
     any_head size n [] head = head
@@ -116,11 +116,11 @@ abbrev pub whole : ℕ → BranchPiece → List BranchPiece → BranchPiece → 
 whole size l mid r = with_last size join_room (with_first size l mid) r
 
 whole-heavy : (size : ℕ) (y : List ℕ) (ys : BranchPiece) (mid : List BranchPiece) (r : BranchPiece) (behind : List BranchPiece)
-    → HasHead size (weight size (y ∷ ys)) (whole size (y ∷ ys) mid r ++ behind)
+    → HasHead size (piece_weight size (y ∷ ys)) (whole size (y ∷ ys) mid r ++ behind)
 whole-heavy size y ys mid r behind = led (with_first size (y ∷ ys) mid) (with_first-heavy size y ys mid)
   where
     n : ℕ
-    n = weight size (y ∷ ys)
+    n = piece_weight size (y ∷ ys)
 
     heavier : (m : ℕ) (ps : List BranchPiece) → n ≤ m → HasHead size m ps → HasHead size n ps
     heavier m [] less head = head
@@ -128,12 +128,12 @@ whole-heavy size y ys mid r behind = led (with_first size (y ∷ ys) mid) (with_
 
     led : (ps : List BranchPiece) → HasHead size n ps → HasHead size n (with_last size join_room ps r ++ behind)
     led [] head = absurd head
-    led (p ∷ ps) head = heavier (weight size p) (with_last size join_room (p ∷ ps) r ++ behind) head (with_last-heavy size join_room p ps r behind)
+    led (p ∷ ps) head = heavier (piece_weight size p) (with_last size join_room (p ∷ ps) r ++ behind) head (with_last-heavy size join_room p ps r behind)
 
 -- there is a piece
-whole-begun : (size : ℕ) (y : List ℕ) (ys : BranchPiece) (mid : List BranchPiece) (r : BranchPiece) → HasHead size (weight size (y ∷ ys)) (whole size (y ∷ ys) mid r)
+whole-begun : (size : ℕ) (y : List ℕ) (ys : BranchPiece) (mid : List BranchPiece) (r : BranchPiece) → HasHead size (piece_weight size (y ∷ ys)) (whole size (y ∷ ys) mid r)
 whole-begun size y ys mid r =
-    subst (HasHead size (weight size (y ∷ ys))) (append-nil (whole size (y ∷ ys) mid r)) (whole-heavy size y ys mid r [])
+    subst (HasHead size (piece_weight size (y ∷ ys))) (append-nil (whole size (y ∷ ys) mid r)) (whole-heavy size y ys mid r [])
 
 -- Right of it no two are to be joined.
 whole-apart : (size : ℕ) (before : List BranchPiece) (l : BranchPiece) (mid : List BranchPiece) (r : BranchPiece) (behind : List BranchPiece) → AreSides before l r behind → AreApartSides size before l r behind
@@ -158,7 +158,7 @@ around-apart size before [] mid r behind sides apart_sides apart =
 around-apart size before (y ∷ ys) mid r behind sides apart_sides apart =
     append-apart size before (y ∷ ys) (if_none (whole size (y ∷ ys) mid r) ++ behind) apart_sides.left
     (whole-apart size before (y ∷ ys) mid r behind sides apart_sides apart)
-    (subst (λ (ps : List BranchPiece). HasHead size (weight size (y ∷ ys)) (ps ++ behind)) (sym (if_none-same size (weight size (y ∷ ys)) (whole size (y ∷ ys) mid r) (whole-begun size y ys mid r)))
+    (subst (λ (ps : List BranchPiece). HasHead size (piece_weight size (y ∷ ys)) (ps ++ behind)) (sym (if_none-same size (piece_weight size (y ∷ ys)) (whole size (y ∷ ys) mid r) (whole-begun size y ys mid r)))
     (whole-heavy size y ys mid r behind))
 
 -- And none is empty, but a single one.
@@ -171,7 +171,7 @@ begun-full size n before ps behind head left here right =
 pub around-full : (size : ℕ) (before : List BranchPiece) (l : BranchPiece) (mid : List BranchPiece) (r : BranchPiece) (behind : List BranchPiece) → AreSides before l r behind
     → none_empty mid ≡ true → is_full (before ++ (if_none (whole size l mid r) ++ behind)) ≡ true
 around-full size before (y ∷ ys) mid r behind sides full =
-    begun-full size (weight size (y ∷ ys)) before (whole size (y ∷ ys) mid r) behind (whole-begun size y ys mid r) sides.left_full
+    begun-full size (piece_weight size (y ∷ ys)) before (whole size (y ∷ ys) mid r) behind (whole-begun size y ys mid r) sides.left_full
     (with_last-full size join_room (with_first size (y ∷ ys) mid) r (with_first-full size (y ∷ ys) mid full)) sides.right_full
 around-full size before [] mid (z ∷ zs) behind sides full =
     begun-full size 0 before (whole size [] mid (z ∷ zs)) behind (with_last-begun size join_room mid z zs) sides.left_full

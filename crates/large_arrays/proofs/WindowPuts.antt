@@ -13,7 +13,7 @@ use Rattle.geos_model.specs.ChainLaws.{AreNew}
 use Rattle.geos_model.proofs.Chains.{contains_first, contains_later, contains_cases}
 use Rattle.geos_model.proofs.BlockLists.{none_passes, distinct-first, distinct-rest}
 use Rattle.geos_model.proofs.ChainCopies.{new-new}
-use Rattle.large_arrays.specs.Pieces.{BranchPiece, weight, all_fit, fits_branch, each_fits}
+use Rattle.large_arrays.specs.Pieces.{BranchPiece, piece_weight, all_fit, fits_branch, each_fits}
 use Rattle.large_arrays.specs.Layout.{Root, most_branches, root_bytes, is_root, root_of}
 use Rattle.large_arrays.specs.Spread.{first_place, end_place}
 use Rattle.large_arrays.specs.Blocks.{root_at, pieces_at}
@@ -136,7 +136,7 @@ module _ (d : Document) (b i j : ℕ) (new : BranchPiece) (root : HasRoot d b) (
     window-named =
         let start = first_place r.counts i j in
         let end = end_place r.counts j in
-        let head : Bool = nat_le (weight r.size (drop end.1 (get_or pieces end.0 []))) (weight r.size (take start.1 (get_or pieces start.0 []))) in
+        let head : Bool = nat_le (piece_weight r.size (drop end.1 (get_or pieces end.0 []))) (piece_weight r.size (take start.1 (get_or pieces start.0 []))) in
         let n : ℕ = length placed in
         let news : List ℕ = window_handles old_pairs head n fresh_ones in
         let many = olds-many in

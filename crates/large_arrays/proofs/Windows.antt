@@ -1,10 +1,11 @@
 -- The pieces that an edit replaces, and those that come in their place: all others stay.
-use Rattle.std.proofs.Common.{◌≡◌, ℕ, Bool, true, false, ◌&&◌, zero, suc, ◌+◌, ◌-◌, ◌<◌, ◌≤◌, ◌==◌, nat_lt, if◌then◌else◌, List, [], ◌∷◌, ◌++◌, length, take, drop, map, get_or, refl, sym, ap, ap₂, ◌∙◌, inl, inr, append_assoc, length-append, length-drop, ltb-true, ltb-false, take_at, drop_at, arith}
-use Rattle.std.proofs.lemmas.Bool.{cases_Bool, cond-true, cond-false, and_parts, and_from, lt-ltb, eqb-true}
+use Rattle.std.proofs.Common.{◌≡◌, ℕ, Bool, true, false, not, ◌&&◌, zero, suc, ◌+◌, ◌-◌, ◌<◌, ◌≤◌, ◌==◌, nat_lt, if◌then◌else◌, List, [], ◌∷◌, ◌++◌, length, take, drop, map, get_or, refl, sym, ap, ap₂, ◌∙◌, inl, inr, append_assoc, length-append, length-drop, ltb-true, ltb-false, take_at, drop_at, arith}
+use Rattle.std.proofs.lemmas.Bool.{cases_Bool, cond-true, cond-false, and_parts, and_from, lt-ltb, eqb-true, eq-eqb, ne_eqb}
 use Rattle.std.proofs.lemmas.List.{append-nil, length-take-le, drop_all, get_or_past}
 use Rattle.std.specs.List.{splice}
 use Rattle.large_arrays.specs.Pieces.{BranchPiece, join_room, are_joined, fits_branch, all_fit}
 use Rattle.large_arrays.specs.Spread.{end_place, first_place, middle, piece_before, left_piece, right_piece, with_first, with_last, around, respread, if_none}
+use Rattle.large_arrays.specs.JoinedPieces.{window_of}
 use Rattle.large_arrays.specs.Window.{left_joins, right_joins, window_first, window_end, window_pieces}
 use Rattle.large_arrays.proofs.SpreadFits.{joined-fits}
 use Rattle.large_arrays.proofs.SpreadSides.{is_full, whole, got-full, many-full, sides}
@@ -13,7 +14,7 @@ use Rattle.large_arrays.proofs.SpreadStays.{begins}
 use Rattle.large_arrays.proofs.SpreadCount.{ends}
 
 -- there is such a piece
-abbrev there : BranchPiece → Bool
+abbrev pub there : BranchPiece → Bool
 there [] = false
 there (y ∷ ys) = true
 
@@ -23,16 +24,20 @@ unjoined joins [] = []
 unjoined true (y ∷ ys) = []
 unjoined false (y ∷ ys) = (y ∷ ys) ∷ []
 
-abbrev last : List BranchPiece → BranchPiece
+abbrev pub last : List BranchPiece → BranchPiece
 last ps = get_or ps (length ps - 1) []
 
-abbrev joins_right : ℕ → BranchPiece → List BranchPiece → BranchPiece → Bool
+abbrev pub joins_right : ℕ → BranchPiece → List BranchPiece → BranchPiece → Bool
 joins_right size l mid r =
     there r && nat_lt 0 (length (with_first size l mid)) && are_joined size (last (with_first size l mid)) r
 
-abbrev joins_left : ℕ → BranchPiece → List BranchPiece → BranchPiece → Bool
+abbrev pub joins_left : ℕ → BranchPiece → List BranchPiece → BranchPiece → Bool
 joins_left size l mid r =
     there l && (if length mid == 0 then joins_right size l mid r else are_joined size l (get_or mid 0 []))
+
+-- pieces with one behind them where it is joined
+abbrev with_right_piece : ℕ → Bool → List BranchPiece → BranchPiece → List BranchPiece
+with_right_piece size joins ps r = if joins then with_last size join_room ps r else ps
 
 -- The last piece, and the one behind it, where they aren't joined.
 record CutRight (size : ℕ) (y : BranchPiece) (ys : List BranchPiece) (r : BranchPiece) : Type 0 where
@@ -40,6 +45,7 @@ record CutRight (size : ℕ) (y : BranchPiece) (ys : List BranchPiece) (r : Bran
   is : with_last size join_room (y ∷ ys) r ≡ rest ++ unjoined (there r && are_joined size (last (y ∷ ys)) r) r
   few : length rest ≤ suc (length ys)
   fit : all_fit size (y ∷ ys) ≡ true → all_fit size rest ≡ true
+  made : rest ≡ with_right_piece size (there r && are_joined size (last (y ∷ ys)) r) (y ∷ ys) r
 
 pub last-next : (y next : BranchPiece) (ys : List BranchPiece) → last (y ∷ next ∷ ys) ≡ last (next ∷ ys)
 last-next y next ys =
@@ -47,7 +53,7 @@ last-next y next ys =
     ap (λ (k : ℕ). get_or (y ∷ next ∷ ys) k []) less
 
 cut_right : (size : ℕ) (y : BranchPiece) (ys : List BranchPiece) (r : BranchPiece) → CutRight size y ys r
-cut_right size y ys [] = record { rest = y ∷ ys; is = sym (append-nil (y ∷ ys)); few = omega arith; fit = λ all. all }
+cut_right size y ys [] = record { rest = y ∷ ys; is = sym (append-nil (y ∷ ys)); few = omega arith; fit = λ all. all; made = refl }
 cut_right size y [] (x ∷ xs) =
     let b = are_joined size y (x ∷ xs) in
     elim (cases_Bool b) [
@@ -56,12 +62,14 @@ cut_right size y [] (x ∷ xs) =
         is = cond-true b _ _ joined ∙ ap (λ (c : Bool). (y ++ x ∷ xs) ∷ unjoined c (x ∷ xs)) (sym joined);
         few = omega arith;
         fit = λ all. and_from (fits_branch size (y ++ x ∷ xs)) true (joined-fits size y (x ∷ xs) joined) refl;
+        made = sym (cond-true b (with_last size join_room (y ∷ []) (x ∷ xs)) (y ∷ []) joined ∙ cond-true b _ _ joined);
       }
       | inr apart ↦ record {
         rest = y ∷ [];
         is = cond-false b _ _ apart ∙ ap (λ (c : Bool). y ∷ unjoined c (x ∷ xs)) (sym apart);
         few = omega arith;
         fit = λ all. all;
+        made = sym (cond-false b (with_last size join_room (y ∷ []) (x ∷ xs)) (y ∷ []) apart);
       }
     ]
 cut_right size y (next ∷ ys) (x ∷ xs) =
@@ -74,7 +82,16 @@ cut_right size y (next ∷ ys) (x ∷ xs) =
       fit = λ all.
           let parts = and_parts (fits_branch size y) (all_fit size (next ∷ ys)) all in
           and_from (fits_branch size y) (all_fit size more.rest) parts.0 (more.fit parts.1);
+      made =
+          ap (λ (ps : List BranchPiece). y ∷ ps) more.made
+          ∙ onwards size y next ys x xs (are_joined size (last (next ∷ ys)) (x ∷ xs))
+          ∙ ap (λ (p : BranchPiece). with_right_piece size (are_joined size p (x ∷ xs)) (y ∷ next ∷ ys) (x ∷ xs)) (sym (last-next y next ys));
     }
+  where
+    onwards : (size : ℕ) (y next : BranchPiece) (ys : List BranchPiece) (x : List ℕ) (xs : BranchPiece) (joins : Bool)
+        → y ∷ with_right_piece size joins (next ∷ ys) (x ∷ xs) ≡ with_right_piece size joins (y ∷ next ∷ ys) (x ∷ xs)
+    onwards size y next ys x xs true = refl
+    onwards size y next ys x xs false = refl
 
 -- Both neighbours, where they aren't joined.
 record Cut (size : ℕ) (l : BranchPiece) (mid : List BranchPiece) (r : BranchPiece) : Type 0 where
@@ -82,9 +99,10 @@ record Cut (size : ℕ) (l : BranchPiece) (mid : List BranchPiece) (r : BranchPi
   pub is : if_none (whole size l mid r) ≡ unjoined (joins_left size l mid r) l ++ (rest ++ unjoined (joins_right size l mid r) r)
   pub few : length rest ≤ suc (length mid)
   pub fit : all_fit size mid ≡ true → all_fit size rest ≡ true
+  pub made : rest ≡ window_of size (joins_left size l mid r) l mid (joins_right size l mid r) r (not (there l) && not (there r))
 
 -- what is joined to the right, where there is a piece
-joins_right-some : (size : ℕ) (l : BranchPiece) (mid : List BranchPiece) (r y : BranchPiece) (ys : List BranchPiece) → with_first size l mid ≡ y ∷ ys
+pub joins_right-some : (size : ℕ) (l : BranchPiece) (mid : List BranchPiece) (r y : BranchPiece) (ys : List BranchPiece) → with_first size l mid ≡ y ∷ ys
     → joins_right size l mid r ≡ (there r && are_joined size (last (y ∷ ys)) r)
 joins_right-some size l mid r y ys is =
     ap (λ (ps : List BranchPiece). there r && nat_lt 0 (length ps) && are_joined size (last ps) r) is
@@ -95,7 +113,7 @@ joins_right-some size l mid r y ys is =
     short false b c is = refl
 
 -- and to the left, where there is one
-joins_left-some : (size : ℕ) (z : List ℕ) (zs m : BranchPiece) (ms : List BranchPiece) (r : BranchPiece)
+pub joins_left-some : (size : ℕ) (z : List ℕ) (zs m : BranchPiece) (ms : List BranchPiece) (r : BranchPiece)
     → joins_left size (z ∷ zs) (m ∷ ms) r ≡ are_joined size (z ∷ zs) m
 joins_left-some size z zs m ms r = elim (cases_Bool (length (m ∷ ms) == 0)) [
   | inl none ↦ (let is = eqb-true (length (m ∷ ms)) 0 none in absurd (omega arith))
@@ -116,6 +134,7 @@ if_none-begun size y [] (x ∷ xs) =
 cut_begun : (size : ℕ) (l : BranchPiece) (mid : List BranchPiece) (r y : BranchPiece) (ys : List BranchPiece) → with_first size l mid ≡ y ∷ ys
     → (rest : List BranchPiece) × (if_none (whole size l mid r) ≡ rest ++ unjoined (joins_right size l mid r) r) × (length rest ≤ suc (length ys))
     × (all_fit size (y ∷ ys) ≡ true → all_fit size rest ≡ true)
+    × (rest ≡ with_right_piece size (joins_right size l mid r) (with_first size l mid) r)
 cut_begun size l mid r y ys is =
     let right = cut_right size y ys r in (
       right.rest,
@@ -123,13 +142,27 @@ cut_begun size l mid r y ys is =
           ∙ ap (λ (b : Bool). right.rest ++ unjoined b r) (sym (joins_right-some size l mid r y ys is)),
       right.few,
       right.fit,
+      right.made ∙ ap₂ (λ (b : Bool) (ps : List BranchPiece). with_right_piece size b ps r) (sym (joins_right-some size l mid r y ys is)) (sym is),
     )
 
+-- where there is a piece no other comes
+still : (size : ℕ) (m : BranchPiece) (ms : List BranchPiece) (r : BranchPiece) (alone joins : Bool)
+    → (if alone then if_none (with_right_piece size joins (m ∷ ms) r) else with_right_piece size joins (m ∷ ms) r) ≡ with_right_piece size joins (m ∷ ms) r
+still size m ms r false joins = refl
+still size m ms r true true = if_none-begun size m ms r
+still size m ms r true false = refl
+
 cut : (size : ℕ) (l : BranchPiece) (mid : List BranchPiece) (r : BranchPiece) → Cut size l mid r
-cut size [] [] [] = record { rest = [] ∷ []; is = refl; few = omega arith; fit = λ all. refl }
-cut size [] [] (x ∷ xs) = record { rest = []; is = refl; few = omega arith; fit = λ all. refl }
-cut size [] (m ∷ ms) r = (let right = cut_begun size [] (m ∷ ms) r m ms refl in let most = right.2 in record { rest = right.0; is = right.1; few = omega arith; fit = right.3 })
-cut size (z ∷ zs) [] [] = record { rest = []; is = refl; few = omega arith; fit = λ all. refl }
+cut size [] [] [] = record { rest = [] ∷ []; is = refl; few = omega arith; fit = λ all. refl; made = refl }
+cut size [] [] (x ∷ xs) = record { rest = []; is = refl; few = omega arith; fit = λ all. refl; made = refl }
+cut size [] (m ∷ ms) r = (let right = cut_begun size [] (m ∷ ms) r m ms refl in let most = right.2 in record {
+  rest = right.0;
+  is = right.1;
+  few = omega arith;
+  fit = right.3;
+  made = right.4 ∙ sym (still size m ms r (not (there r)) (joins_right size [] (m ∷ ms) r));
+})
+cut size (z ∷ zs) [] [] = record { rest = []; is = refl; few = omega arith; fit = λ all. refl; made = refl }
 cut size (z ∷ zs) [] (x ∷ xs) =
     let b = are_joined size (z ∷ zs) (x ∷ xs) in
     elim (cases_Bool b) [
@@ -138,12 +171,14 @@ cut size (z ∷ zs) [] (x ∷ xs) =
         is = ap if_none (cond-true b _ _ joined) ∙ ap (λ (c : Bool). unjoined c (z ∷ zs) ++ (((z ∷ zs) ++ x ∷ xs) ∷ unjoined c (x ∷ xs))) (sym joined);
         few = omega arith;
         fit = λ all. and_from (fits_branch size ((z ∷ zs) ++ x ∷ xs)) true (joined-fits size (z ∷ zs) (x ∷ xs) joined) refl;
+        made = sym (cond-true b _ _ joined) ∙ ap (λ (c : Bool). window_of size c (z ∷ zs) [] c (x ∷ xs) false) (sym joined);
       }
       | inr apart ↦ record {
         rest = [];
         is = ap if_none (cond-false b _ _ apart) ∙ ap (λ (c : Bool). unjoined c (z ∷ zs) ++ unjoined c (x ∷ xs)) (sym apart);
         few = omega arith;
         fit = λ all. refl;
+        made = ap (λ (c : Bool). window_of size c (z ∷ zs) [] c (x ∷ xs) false) (sym apart);
       }
     ]
 cut size (z ∷ zs) (m ∷ ms) r =
@@ -158,6 +193,7 @@ cut size (z ∷ zs) (m ∷ ms) r =
             few = (let most = right.2 in omega arith);
             fit = λ all.
                 right.3 (and_from (fits_branch size (l ++ m)) (all_fit size ms) (joined-fits size l m joined) (and_parts (fits_branch size m) (all_fit size ms) all).1);
+            made = right.4 ∙ ap (λ (c : Bool). window_of size c l (m ∷ ms) (joins_right size l (m ∷ ms) r) r false) (sym (left ∙ joined));
           })
       | inr apart ↦
           (let begun : with_first size l (m ∷ ms) ≡ l ∷ m ∷ ms = cond-false b _ _ apart in
@@ -172,6 +208,7 @@ cut size (z ∷ zs) (m ∷ ms) r =
                 ∙ ap₂ (λ (c e : Bool). unjoined c l ++ (right.rest ++ unjoined e r)) (sym (left ∙ apart)) (sym test);
             few = (let most = right.few in omega arith);
             fit = right.fit;
+            made = right.made ∙ ap₂ (λ (c e : Bool). window_of size c l (m ∷ ms) e r false) (sym (left ∙ apart)) (sym test);
           })
     ]
   where
@@ -245,13 +282,13 @@ piece_there k ps full several low = by_piece (get_or ps k []) (got-full k ps (ma
     by_piece [] some = absurd (some refl)
     by_piece (y ∷ ys) some = refl
 
-there-right : (t : ℕ) (ps : List BranchPiece) → is_full ps ≡ true → nat_lt (t + 1) (length ps) ≡ there (get_or ps (suc t) [])
+pub there-right : (t : ℕ) (ps : List BranchPiece) → is_full ps ≡ true → nat_lt (t + 1) (length ps) ≡ there (get_or ps (suc t) [])
 there-right t ps full = elim (cases_Bool (nat_lt (t + 1) (length ps))) [
   | inl within ↦ (let low = ltb-true (t + 1) (length ps) within in within ∙ sym (piece_there (suc t) ps full (omega arith) (omega arith)))
   | inr past ↦ (let most = ltb-false (t + 1) (length ps) past in past ∙ sym (ap there (get_or_past ps (suc t) [] (omega arith))))
 ]
 
-there-left : (k : ℕ) (ps : List BranchPiece) → is_full ps ≡ true → k < length ps → nat_lt 0 k ≡ there (piece_before ps k)
+pub there-left : (k : ℕ) (ps : List BranchPiece) → is_full ps ≡ true → k < length ps → nat_lt 0 k ≡ there (piece_before ps k)
 there-left zero ps full low = refl
 there-left (suc k) ps full low = lt-ltb 0 (suc k) (omega arith) ∙ sym (piece_there k ps full (omega arith) (omega arith))
 
@@ -262,6 +299,9 @@ pub record IsWindow (size : ℕ) (ps : List BranchPiece) (i j : ℕ) (new : Bran
   pub is : respread size ps i j new ≡ splice ps (window_first size ps i j new) (window_end size ps i j new) (window_pieces size ps i j new)
   pub few : length (window_pieces size ps i j new) ≤ suc (length (middle size ps i j new))
   pub fit : all_fit size (middle size ps i j new) ≡ true → all_fit size (window_pieces size ps i j new) ≡ true
+  pub made : window_pieces size ps i j new
+      ≡ window_of size (left_joins size ps i j new) (left_piece ps i j) (middle size ps i j new) (right_joins size ps i j new) (right_piece ps j)
+      (((first_place (map length ps) i j).0 == 0) && ((end_place (map length ps) j).0 + 1 == length ps))
 
 module _ (size : ℕ) (ps : List BranchPiece) (i j : ℕ) (new : BranchPiece) (some : 0 < length ps) (full : is_full ps ≡ true) (order : i ≤ j) where
   abbrev f : ℕ
@@ -279,10 +319,10 @@ module _ (size : ℕ) (ps : List BranchPiece) (i j : ℕ) (new : BranchPiece) (s
   abbrev mid : List BranchPiece
   mid = middle size ps i j new
 
-  right_is : right_joins size ps i j new ≡ joins_right size l mid r
+  pub right_is : right_joins size ps i j new ≡ joins_right size l mid r
   right_is = ap (λ (b : Bool). b && nat_lt 0 (length (with_first size l mid)) && are_joined size (last (with_first size l mid)) r) (there-right t ps full)
 
-  left_is : left_joins size ps i j new ≡ joins_left size l mid r
+  pub left_is : left_joins size ps i j new ≡ joins_left size l mid r
   left_is =
       ap₂ (λ (b c : Bool). b && (if length mid == 0 then c else are_joined size l (get_or mid 0 []))) (there-left f ps full (begins ps i j some)) right_is
 
@@ -332,6 +372,19 @@ module _ (size : ℕ) (ps : List BranchPiece) (i j : ℕ) (new : BranchPiece) (s
       ∙ sym (append_assoc before (unjoined lj l) (parts.rest ++ (unjoined rj r ++ behind)))
       ∙ ap₂ (λ (xs zs : List BranchPiece). xs ++ (parts.rest ++ zs)) fore_is aft_is
 
+  alone_is : (not (there l) && not (there r)) ≡ ((f == 0) && (t + 1 == length ps))
+  alone_is = ap₂ (λ (a b : Bool). a && b) (ap not (sym (there-left f ps full (begins ps i j some))) ∙ none f) (ap not (sym (there-right t ps full)) ∙ past)
+    where
+      none : (n : ℕ) → not (nat_lt 0 n) ≡ (n == 0)
+      none zero = refl
+      none (suc n) = ap not (lt-ltb 0 (suc n) (omega arith)) ∙ sym (ne_eqb (suc n) 0 (λ same. omega arith))
+
+      past : not (nat_lt (t + 1) (length ps)) ≡ (t + 1 == length ps)
+      past = elim (cases_Bool (nat_lt (t + 1) (length ps))) [
+        | inl less ↦ (let within = ltb-true (t + 1) (length ps) less in ap not less ∙ sym (ne_eqb (t + 1) (length ps) (λ same. omega arith)))
+        | inr more ↦ (let most = ltb-false (t + 1) (length ps) more in let within = low in ap not more ∙ sym (eq-eqb (t + 1) (length ps) (omega arith)))
+      ]
+
   one_at_most : (b : Bool) → one_or_none b ≤ 1
   one_at_most true = omega arith
   one_at_most false = omega arith
@@ -370,4 +423,8 @@ module _ (size : ℕ) (ps : List BranchPiece) (i j : ℕ) (new : BranchPiece) (s
         is = respread_is ∙ ap (λ (qs : List BranchPiece). fore ++ (qs ++ aft)) (sym placed);
         few = (let most = parts.few in let same = ap length placed in omega arith);
         fit = λ all. ap (all_fit size) placed ∙ parts.fit all;
+        made =
+            placed ∙ parts.made
+            ∙ ap₂ (λ (b c : Bool). window_of size b l mid c r (not (there l) && not (there r))) (sym left_is) (sym right_is)
+            ∙ ap (λ (alone : Bool). window_of size lj l mid rj r alone) alone_is;
       }

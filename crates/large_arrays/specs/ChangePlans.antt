@@ -1,12 +1,15 @@
 -- Changes that are planned one block after another, and what they make of a document together.
-use Rattle.std.specs.Prelude.{◌≡◌, ◌∷◌, ℕ, List, map}
+use Rattle.std.specs.Prelude.{◌≡◌, ◌∷◌, ◌++◌, ℕ, List, map, sum_by}
 use Rattle.std.specs.List.{Contains, zip}
 use Rattle.geos_model.specs.Document.{Document, is_live, with_blocks, without_blocks}
+use Rattle.vm_blocks.specs.Changes.{weight as change_weight}
 use Rattle.vm_blocks.specs.Preparing.{after_changes, CanApplyAll, CanApplyAllByHandle}
 use Rattle.vm_blocks.specs.declared.change.Change.{Change}
 use Rattle.large_arrays.specs.Pieces.{BranchPiece}
 use Rattle.large_arrays.specs.Layout.{root_bytes, branch_bytes}
 use Rattle.large_arrays.specs.Blocks.{root_at}
+use Rattle.large_arrays.specs.declared.cut_body.CutBody.{CutBody}
+use Rattle.large_arrays.specs.Differences.{IsLeast}
 use Rattle.large_arrays.specs.Window.{Window, raw_block, replaced_root}
 
 -- the document without these blocks, and with raw blocks of these bytes; one that was there keeps its attributes
@@ -30,6 +33,12 @@ pub record ArePlannedByHandle (changes : List Change) (d : Document) (freed : Li
 pub record IsUntouched (freed : List ℕ) (bodies : List (ℕ × List ℕ)) (h : ℕ) : Type 0 where
   pub stays : Contains freed h → ⊥
   pub other : Contains (map (λ p. p.0) bodies) h → ⊥
+
+-- Changes behind others that hold as few bytes as can lead from one body to another by its regions.
+pub record AddsLeast (before after : List Change) (old new : CutBody) : Type 0 where
+  pub more : List Change
+  pub joined : after ≡ before ++ more
+  pub least : IsLeast old new (sum_by change_weight more)
 
 -- the bodies of an edit of a large array
 

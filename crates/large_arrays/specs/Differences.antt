@@ -2,7 +2,7 @@
 use Rattle.std.specs.Prelude.{◌≡◌, ◌≢◌, ◌<◌, ◌≤◌, ◌+◌, ◌-◌, ◌++◌, ◌∷◌, ℕ, List, [], length, take, drop, get_or, nat_le, if◌then◌else◌}
 use Rattle.geos_model.specs.Bytes.{same_bytes}
 use Rattle.geos_model.specs.Heap.{capacity}
-use Rattle.chunk_edits.specs.Splicing.{Splice, OccursAt, forwards}
+use Rattle.chunk_edits.specs.Splicing.{Splice, OccursAt, Leads, forwards}
 use Rattle.large_arrays.specs.declared.cut_body.CutBody.{CutBody}
 
 -- Splices lead from bytes to others, one after another: each old part stands at its turn, and no body on the way is too
@@ -18,6 +18,10 @@ pub record IsTight (s : Splice) : Type 0 where
   pub begins : 0 < length s.old → 0 < length s.new → get_or s.old 0 0 ≢ get_or s.new 0 0
   pub ends : 0 < length s.old → 0 < length s.new
       → get_or s.old (length s.old - 1) 0 ≢ get_or s.new (length s.new - 1) 0
+
+-- how many bytes a splice holds
+abbrev pub spliced_bytes : Splice → ℕ
+spliced_bytes s = length s.old + length s.new
 
 -- The splice from one region, which begins at a place of a body, to another in its stead: what both begin and end with
 -- stays.
@@ -65,6 +69,12 @@ abbrev pub differing_regions : CutBody → CutBody → ℕ
 differing_regions old new =
     if_other (header_of old) (header_of new) + if_other (table_of old) (table_of new)
     + if_other (rest_of old) (rest_of new)
+
+-- splices from each region to the one in its stead, whichever these are, hold so many bytes or more
+abbrev pub IsLeast : CutBody → CutBody → ℕ → Type 0
+IsLeast old new held =
+    (header table rest : Splice) (a b c : ℕ) → Leads header (header_of old) (header_of new) a
+    → Leads table (table_of old) (table_of new) b → Leads rest (rest_of old) (rest_of new) c → held ≤ a + b + c
 
 -- How many bytes two lists begin or end with together, no more of them.
 

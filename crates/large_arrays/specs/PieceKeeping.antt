@@ -7,7 +7,7 @@ use Rattle.large_arrays.specs.ElementLengths.{cut_lengths, all_lengths, kept_len
 use Rattle.large_arrays.specs.declared.piece.Piece.TheInside.{Inside}
 
 -- These bytes and lengths are those of elements that a branch can have.
-pub record AreKept (size count : ℕ) (lengths bytes : List ℕ) (elements : BranchPiece) : Type 0 where
+pub record AreHeldElements (size count : ℕ) (lengths bytes : List ℕ) (elements : BranchPiece) : Type 0 where
   pub joined : bytes ≡ flat_map (λ x. x) elements
   pub kept : lengths ≡ kept_lengths size elements
   pub counted : count ≡ length elements
@@ -20,4 +20,4 @@ held_elements p = record {
 }
 
 abbrev pub KeepsElements : Inside → Type 0
-KeepsElements p = AreKept p.size p.count p.lengths.items p.bytes.items (held_elements p).elements
+KeepsElements p = AreHeldElements p.size p.count p.lengths.items p.bytes.items (held_elements p).elements

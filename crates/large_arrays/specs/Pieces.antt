@@ -7,8 +7,8 @@ abbrev pub BranchPiece : Type 0
 BranchPiece = List (List ℕ)
 
 -- How many bytes they take there: where sizes vary each has a place too.
-abbrev pub weight : ℕ → BranchPiece → ℕ
-weight size piece = sum_by (λ x. length x + (if size == 0 then 2 else 0)) piece
+abbrev pub piece_weight : ℕ → BranchPiece → ℕ
+piece_weight size piece = sum_by (λ x. length x + (if size == 0 then 2 else 0)) piece
 
 -- how many there is room for: a raw body, without a zero word and the header of a chunk array
 abbrev pub branch_room : ℕ
@@ -20,7 +20,7 @@ abbrev pub join_room : ℕ
 join_room = 49132
 
 abbrev pub are_joined : ℕ → BranchPiece → BranchPiece → Bool
-are_joined size x y = nat_le (weight size x + weight size y) join_room
+are_joined size x y = nat_le (piece_weight size x + piece_weight size y) join_room
 
 abbrev pub elements_in_pieces : List BranchPiece → BranchPiece
 elements_in_pieces pieces = flat_map (λ p. p) pieces
@@ -33,7 +33,7 @@ are_apart size (x ∷ y ∷ pieces) = not (are_joined size x y) && are_apart siz
 
 -- each has room in a branch
 abbrev pub fits_branch : ℕ → BranchPiece → Bool
-fits_branch size piece = nat_le (weight size piece) branch_room
+fits_branch size piece = nat_le (piece_weight size piece) branch_room
 
 abbrev pub all_fit : ℕ → List BranchPiece → Bool
 all_fit size pieces = list_all (λ x. fits_branch size x) pieces

@@ -20,5 +20,5 @@ abbrev pub KeepsPieces : Inside → Type 0
 KeepsPieces p = HavePieceSize p.size p.pieces.items
 
 -- with a piece behind them
-abbrev pub with_piece : SizedPieces → BranchPiece → SizedPieces
-with_piece p new = record p { pieces = p.pieces ++ new ∷ [] }
+abbrev pub with_piece_behind : SizedPieces → BranchPiece → SizedPieces
+with_piece_behind p new = record p { pieces = p.pieces ++ new ∷ [] }

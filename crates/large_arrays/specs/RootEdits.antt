@@ -25,5 +25,5 @@ abbrev pub link_bytes : List ℕ → List ℕ
 link_bytes branches = flat_map (λ h. word 0 ++ word h) branches
 
 -- of a list what stands from one place up to another
-abbrev pub run_of : List ℕ → ℕ → ℕ → List ℕ
-run_of xs from to = take (to - from) (drop from xs)
+abbrev pub run_between : List ℕ → ℕ → ℕ → List ℕ
+run_between xs from to = take (to - from) (drop from xs)

@@ -1,5 +1,5 @@
 -- Elements with their size, as they come and as they are put together.
-use Rattle.std.specs.Prelude.{◌≡◌, ◌<◌, ◌++◌, ◌∷◌, ℕ, List, [], Bool, true, ◌==◌, ◌||◌, length}
+use Rattle.std.specs.Prelude.{◌≡◌, ◌<◌, ◌++◌, ◌∷◌, ℕ, List, [], Bool, true, ◌==◌, ◌||◌, length, Option, Some, None}
 use Rattle.std.specs.List.{list_all}
 use Rattle.geos_model.specs.Refusal.{Conditions}
 use Rattle.geos_model.specs.declared.fault.Fault.TheVariants.{Range, TooBig}
@@ -28,6 +28,11 @@ pub record IsPiece (p : SizedElements) : Type 0 where
 -- with others behind them
 abbrev pub with_behind : SizedElements → BranchPiece → SizedElements
 with_behind p new = record p { elements = p.elements ++ new }
+
+-- those there are
+abbrev pub elements_of_size : Option SizedElements → BranchPiece
+elements_of_size None = []
+elements_of_size (Some p) = p.elements
 
 -- refusals of bytes that are to be new elements
 abbrev pub new_conditions : ℕ → List ℕ → Conditions

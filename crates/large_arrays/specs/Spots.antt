@@ -9,13 +9,13 @@ use Rattle.large_arrays.specs.declared.spot.Spot.{Spot}
 abbrev pub counts_of : List BranchLink → List ℕ
 counts_of links = map (λ l. l.count) links
 
-abbrev pub handles_of : List BranchLink → List ℕ
-handles_of links = map (λ l. l.handle.0) links
+abbrev pub link_handles : List BranchLink → List ℕ
+link_handles links = map (λ l. l.handle.0) links
 
 -- They are the branches of the root from one on, up to another.
-pub record AreLinks (r : Root) (first behind : ℕ) (links : List BranchLink) : Type 0 where
+pub record AreBranchLinks (r : Root) (first behind : ℕ) (links : List BranchLink) : Type 0 where
   pub counts : counts_of links ≡ take (behind - first) (drop first r.counts)
-  pub handles : handles_of links ≡ take (behind - first) (drop first r.branches)
+  pub handles : link_handles links ≡ take (behind - first) (drop first r.branches)
 
 -- The root's numbers, where the elements from one to another are, and the branches that have them, with the neighbours
 -- of these.
@@ -26,4 +26,4 @@ pub record IsSpot (r : Root) (i j : ℕ) (s : Spot) : Type 0 where
   pub start : s.start ≡ first_place r.counts i j
   pub end : s.end ≡ end_place r.counts j
   pub first : s.first ≡ s.start.0 - 1
-  pub links : AreLinks r s.first (s.end.0 + 2) s.links.items
+  pub links : AreBranchLinks r s.first (s.end.0 + 2) s.links.items

@@ -1,7 +1,7 @@
 -- By which rule an edit spreads elements over pieces.
 use Rattle.std.specs.Prelude.{◌+◌, ◌-◌, ◌++◌, ◌∷◌, ℕ, zero, suc, List, [], ◌==◌, nat_le, nat_lt, length, map, take, drop, get_or, if◌then◌else◌}
 use Rattle.std.specs.List.{splice}
-use Rattle.large_arrays.specs.Pieces.{BranchPiece, weight, branch_room, join_room, are_joined, elements_in_pieces}
+use Rattle.large_arrays.specs.Pieces.{BranchPiece, piece_weight, branch_room, join_room, are_joined, elements_in_pieces}
 
 -- in which piece an element lies, or where a run begins, and how many of that piece's stand before it
 abbrev pub start_place : List ℕ → ℕ → ℕ × ℕ
@@ -27,7 +27,7 @@ packed_from size [] [] = []
 packed_from size (y ∷ ys) [] = (y ∷ ys) ∷ []
 packed_from size [] (x ∷ xs) = packed_from size (x ∷ []) xs
 packed_from size (y ∷ ys) (x ∷ xs) =
-    if nat_le (weight size ((y ∷ ys) ++ x ∷ [])) branch_room
+    if nat_le (piece_weight size ((y ∷ ys) ++ x ∷ [])) branch_room
     then packed_from size ((y ∷ ys) ++ x ∷ []) xs
     else (y ∷ ys) ∷ packed_from size (x ∷ []) xs
 
@@ -36,7 +36,7 @@ abbrev pub with_last : ℕ → ℕ → List BranchPiece → BranchPiece → List
 with_last size room pieces [] = pieces
 with_last size room [] (y ∷ ys) = (y ∷ ys) ∷ []
 with_last size room (x ∷ []) (y ∷ ys) =
-    if nat_le (weight size x + weight size (y ∷ ys)) room then (x ++ y ∷ ys) ∷ [] else x ∷ (y ∷ ys) ∷ []
+    if nat_le (piece_weight size x + piece_weight size (y ∷ ys)) room then (x ++ y ∷ ys) ∷ [] else x ∷ (y ∷ ys) ∷ []
 with_last size room (x ∷ next ∷ pieces) (y ∷ ys) = x ∷ with_last size room (next ∷ pieces) (y ∷ ys)
 
 -- with a piece before them, in the first one if the two are joined

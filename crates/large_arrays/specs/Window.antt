@@ -5,7 +5,7 @@ use Rattle.geos_model.specs.ElementArray.{all_distinct}
 use Rattle.geos_model.specs.Document.{Block, Document, attributes_of, with_blocks, without_blocks}
 use Rattle.geos_model.specs.Chain.{new_handles}
 use Rattle.geos_model.specs.declared.command.Body.TheVariants.{Raw}
-use Rattle.large_arrays.specs.Pieces.{BranchPiece, weight, join_room, are_joined}
+use Rattle.large_arrays.specs.Pieces.{BranchPiece, piece_weight, join_room, are_joined}
 use Rattle.large_arrays.specs.Layout.{Root, root_bytes, branch_bytes}
 use Rattle.large_arrays.specs.Spread.{start_place, end_place, first_place, middle, left_piece, right_piece, with_left, respread, overwritten}
 use Rattle.large_arrays.specs.Blocks.{root_at, branch_at, pieces_at}
@@ -33,7 +33,7 @@ looks_left size pieces i j new =
     let mid = middle size pieces i j new in
     if size == 0 then nat_lt 0 (first_place (map length pieces) i j).0
     && (if length mid == 0 then nat_lt ((end_place (map length pieces) j).0 + 1) (length pieces)
-    else nat_le (weight size (get_or mid 0 [])) join_room)
+    else nat_le (piece_weight size (get_or mid 0 [])) join_room)
     else left_joins size pieces i j new
 
 abbrev pub looks_right : ℕ → List BranchPiece → ℕ → ℕ → BranchPiece → Bool
@@ -41,7 +41,7 @@ looks_right size pieces i j new =
     let mid = middle size pieces i j new in
     if size == 0 then nat_lt ((end_place (map length pieces) j).0 + 1) (length pieces)
     && (if length mid == 0 then nat_lt 0 (first_place (map length pieces) i j).0
-    else nat_le (weight size (get_or mid (length mid - 1) [])) join_room)
+    else nat_le (piece_weight size (get_or mid (length mid - 1) [])) join_room)
     else right_joins size pieces i j new
 
 abbrev pub looked_at : ℕ → List BranchPiece → ℕ → ℕ → BranchPiece → List ℕ
@@ -77,9 +77,9 @@ staying size pieces i j k =
     let from = first_place (map length pieces) i j in
     let to = end_place (map length pieces) j in
     let piece = get_or pieces k [] in
-    if nat_lt k from.0 || nat_lt to.0 k then weight size piece
-    else (if k == from.0 then weight size (take from.1 piece) else 0)
-    + (if k == to.0 then weight size (drop to.1 piece) else 0)
+    if nat_lt k from.0 || nat_lt to.0 k then piece_weight size piece
+    else (if k == from.0 then piece_weight size (take from.1 piece) else 0)
+    + (if k == to.0 then piece_weight size (drop to.1 piece) else 0)
 
 -- the handle with the greatest number beside it, the first of these
 abbrev pub greatest : ℕ × ℕ → List (ℕ × ℕ) → ℕ
@@ -117,8 +117,8 @@ window d b i j new =
     let olds = map (λ k. (get_or r.branches k 0, staying r.size pieces i j k)) places in
     let from = first_place r.counts i j in
     let to = end_place r.counts j in
-    let head = nat_le (weight r.size (drop to.1 (get_or pieces to.0 [])))
-    (weight r.size (take from.1 (get_or pieces from.0 []))) in
+    let head = nat_le (piece_weight r.size (drop to.1 (get_or pieces to.0 [])))
+    (piece_weight r.size (take from.1 (get_or pieces from.0 []))) in
     record {
       first = first;
       behind = behind;

@@ -4,15 +4,15 @@ ghost use Rattle.std.specs.Prelude.{◌≡◌, ◌≤◌, ◌++◌, ◌∷◌, �
 ghost use Rattle.geos_model.specs.Document.{Document, handles_of, is_live, is_raw, raw_bytes_of};
 ghost use Rattle.geos_model.specs.Heap.{capacity};
 ghost use Rattle.document_file.specs.Members.{imaged_blocks};
-ghost use Rattle.vm_blocks.specs.Changes.{CanRemoveAll, IsFreeHandle};
+ghost use Rattle.vm_blocks.specs.Changes.{CanRemoveAll, IsFreeHandle, directed_all};
 ghost use Rattle.vm_blocks.specs.Preparing.{CanRemoveByHandle};
-ghost use Rattle.large_arrays.specs.ChangePlans.{ArePlanned, ArePlannedByHandle, IsUntouched};
+ghost use Rattle.large_arrays.specs.ChangePlans.{ArePlanned, ArePlannedByHandle, IsUntouched, AddsLeast};
 
 use crate::cut_body::CutBody;
 use crate::differences::body_differences;
 use geos_model::{Attributes, VmHandle};
 use std::alloc::{AllocError, Global};
-use vm_blocks::{BlockImage, Change, Members, PartChange};
+use vm_blocks::{BlockImage, Change, Direction, Members, PartChange};
 
 /// The change by which blocks go, if there are any, to begin with.
 pub fn plan_freeing(alloc: Global, freed: Members) -> Result<Vec<Change>, AllocError>
@@ -46,6 +46,7 @@ pub fn plan_body(
         → ArePlannedByHandle changes.old.items d freed bodies → IsUntouched freed bodies handle.0
         → is_live d handle.0 ≡ true
         → ArePlannedByHandle changes.new.items d freed (bodies ++ (handle.0, new.now.bytes.now) ∷ [])) }
+    ensures least { OnOk result (AddsLeast changes.old.items changes.new.items old.now new.now) }
 {
     for splice in body_differences(alloc, old, new)? {
         changes.push(Change::Part(handle, PartChange::Raw(splice)))?;
@@ -76,4 +77,13 @@ pub fn plan_block(
     let block = BlockImage::raw(none, bytes)?;
     changes.push(Change::BlocksIn(Members::one(alloc, handle, block)?))?;
     Ok(())
+}
+
+/// The same changes as a stack, on which the one that is carried out first lies uppermost, as `change_all` takes them.
+pub fn stacked(changes: Vec<Change>) -> Vec<Change>
+    ensures { directed_all Direction.Forwards result.items ≡ changes.items }
+{
+    let mut stack = changes;
+    stack.reverse();
+    stack
 }

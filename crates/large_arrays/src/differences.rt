@@ -1,8 +1,8 @@
 //! What differs between two bodies, as splices.
-ghost use Rattle.std.specs.Prelude.{◌≡◌, ◌≢◌, ◌<◌, ◌≤◌, ◌-◌, IfOk, OnOk, MatchOption, length, get_or};
+ghost use Rattle.std.specs.Prelude.{◌≡◌, ◌≢◌, ◌<◌, ◌≤◌, ◌-◌, IfOk, OnOk, length, get_or, sum_by};
 ghost use Rattle.std.specs.List.{All};
 ghost use Rattle.geos_model.specs.Heap.{capacity};
-ghost use Rattle.large_arrays.specs.Differences.{LeadInTurn, IsTight, IsDifference, Appends, shorter, differing_regions, IsCommonFront, IsCommonBack};
+ghost use Rattle.large_arrays.specs.Differences.{LeadInTurn, IsTight, IsLeast, spliced_bytes, IsDifference, Appends, shorter, differing_regions, IsCommonFront, IsCommonBack};
 
 use crate::cut_body::CutBody;
 use chunk_edits::Splice;
@@ -22,6 +22,7 @@ pub fn body_differences(
     ensures led { IfOk result (λ splices. LeadInTurn splices.items old.now.bytes.now new.now.bytes.now) }
     ensures tight { IfOk result (λ splices. All IsTight splices.items) }
     ensures few { IfOk result (λ splices. length splices.items ≤ differing_regions old.now new.now) }
+    ensures least { IfOk result (λ splices. IsLeast old.now new.now (sum_by spliced_bytes splices.items)) }
 {
     let mut splices = Vec::new(alloc);
     append_shorter(

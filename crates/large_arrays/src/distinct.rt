@@ -2,7 +2,7 @@
 ghost use Rattle.std.specs.Prelude.{◌≡◌, ◌∷◌, ◌==◌, ◌||◌, ℕ, false, IfOk, get_or};
 ghost use Rattle.std.specs.List.{list_any};
 ghost use Rattle.geos_model.specs.ElementArray.{all_distinct};
-ghost use Rattle.large_arrays.specs.Spots.{handles_of};
+ghost use Rattle.large_arrays.specs.Spots.{link_handles};
 
 use crate::spot::BranchLink;
 use geos_model::VmHandle;
@@ -17,7 +17,7 @@ const HANDLES: usize = 65_536;
 
 /// Whether none of these branches is there twice, and none is the root. It takes time in proportion to their number.
 pub fn are_distinct(alloc: Global, root: VmHandle, links: &[BranchLink]) -> Result<bool, AllocError>
-    ensures { IfOk result (λ distinct. distinct ≡ all_distinct (root.0 ∷ handles_of links.now)) }
+    ensures { IfOk result (λ distinct. distinct ≡ all_distinct (root.0 ∷ link_handles links.now)) }
 {
     if links.len() <= FEW {
         Ok(!has_handle(links, root) && are_few_distinct(links))
@@ -28,7 +28,7 @@ pub fn are_distinct(alloc: Global, root: VmHandle, links: &[BranchLink]) -> Resu
 
 /// Whether one of these branches has a handle.
 fn has_handle(links: &[BranchLink], handle: VmHandle) -> bool
-    ensures { result ≡ list_any (λ h. handle.0 == h) (handles_of links.now) }
+    ensures { result ≡ list_any (λ h. handle.0 == h) (link_handles links.now) }
 {
     for link in links {
         if handle == link.handle {
@@ -40,7 +40,7 @@ fn has_handle(links: &[BranchLink], handle: VmHandle) -> bool
 
 /// Whether none of these branches is there twice.
 fn are_few_distinct(links: &[BranchLink]) -> bool
-    ensures { result ≡ all_distinct (handles_of links.now) }
+    ensures { result ≡ all_distinct (link_handles links.now) }
 {
     for i in 0..links.len() {
         if has_handle(&links[i + 1..], links[i].handle) {
@@ -56,7 +56,7 @@ fn are_many_distinct(
     root: VmHandle,
     links: &[BranchLink],
 ) -> Result<bool, AllocError>
-    ensures { IfOk result (λ distinct. distinct ≡ all_distinct (root.0 ∷ handles_of links.now)) }
+    ensures { IfOk result (λ distinct. distinct ≡ all_distinct (root.0 ∷ link_handles links.now)) }
 {
     let mut met = Met::new(alloc)?;
     met.add(root);

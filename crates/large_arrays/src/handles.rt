@@ -1,7 +1,8 @@
 //! Which blocks the pieces have that come in the place of some branches.
 ghost use Rattle.std.specs.Prelude.{◌≡◌, ◌<◌, ◌≤◌, ◌-◌, ◌++◌, true, IfOk, length};
 ghost use Rattle.geos_model.specs.ElementArray.{all_distinct};
-ghost use Rattle.large_arrays.specs.HandleLists.{AreFreed, AreKept, IsMost, numbers, old_handles, old_pairs};
+ghost use Rattle.vm_chains.specs.Numbers.{numbers};
+ghost use Rattle.large_arrays.specs.HandleLists.{AreFreed, AreKeptPlaces, IsMost, old_handles, old_pairs};
 ghost use Rattle.large_arrays.specs.Window.{window_handles};
 
 use geos_model::VmHandle;
@@ -71,7 +72,7 @@ pub fn freed_handles(
 
 /// Which of the old blocks stay.
 fn kept_places(olds: &[OldBranch], head: bool, pieces: usize) -> KeptPlaces
-    ensures { AreKept (old_pairs olds.now) head pieces result }
+    ensures { AreKeptPlaces (old_pairs olds.now) head pieces result }
 {
     let count = olds.len();
     if pieces == 0 || count == 0 {

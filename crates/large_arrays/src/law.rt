@@ -3,6 +3,7 @@ ghost use Rattle.large_arrays.specs.ChangeLaws.{FewChangeLaw};
 ghost use Rattle.large_arrays.specs.DocumentLaws.{LargeStaysLaw, LargeValidityLaw};
 ghost use Rattle.large_arrays.specs.EditLaws.{LargeEditsLaw};
 ghost use Rattle.large_arrays.specs.LargePlaces.{LargePlacesLaw};
+ghost use Rattle.large_arrays.specs.LocalLaws.{LocalLaw};
 ghost use Rattle.large_arrays.specs.SpreadLaws.{SpreadLaw};
 
 /// An edit of the pieces is the edit of the list, and leaves the pieces spread.
@@ -36,4 +37,10 @@ pub fn large_stays_law()
 /// An edit that nothing refuses changes the document at the places that are told of it, each once, and nowhere else.
 pub fn large_places_law()
     ensures { LargePlacesLaw }
+{}
+
+/// Branches that an edit doesn't look at play no part: in documents that are alike in what it looks at, the same refuses
+/// it, and it replaces the same branches by the same.
+pub fn local_law()
+    ensures { LocalLaw }
 {}

@@ -1,35 +1,51 @@
 //! Large arrays: elements spread over the branches of a tree block, for values larger than a block.
 #![tactic(auto)]
 
+mod bodies;
 mod branch;
 mod changes;
+mod create;
 mod cut_body;
 mod differences;
 mod distinct;
+mod gathered;
 mod handles;
 mod law;
 mod loading;
+mod look_ups;
+mod middle;
+mod neighbours;
 mod new_elements;
 mod packing;
 mod piece;
+mod piece_plans;
 mod root;
 mod root_edits;
+mod runs;
 mod spot;
+mod staying;
 
+pub use bodies::copy_bodies;
 pub use branch::read_branch;
-pub use changes::{plan_block, plan_body, plan_freeing};
+pub use changes::{plan_block, plan_body, plan_freeing, stacked};
+pub use create::plan_create;
 pub use cut_body::CutBody;
 pub use differences::body_differences;
 pub use distinct::are_distinct;
 pub use handles::{OldBranch, blocks_needed, freed_handles, window_handles};
 pub use law::{
     few_change_law, large_edits_law, large_places_law, large_stays_law, large_validity_law,
-    spread_law,
+    local_law, spread_law,
 };
 pub use loading::{load_branch, load_root, loaded_branch, loaded_root};
+pub use look_ups::{ElementPlace, count, element, prepare_element};
+pub use middle::{Middle, middle_of};
+pub use neighbours::{MiddleEnds, Sides, joined_sides, looked_at_sides};
 pub use new_elements::NewElements;
 pub use packing::Pieces;
 pub use piece::{BRANCH_ROOM, JOIN_ROOM, Piece};
 pub use root::{RootView, read_root};
 pub use root_edits::new_root;
+pub use runs::read_run;
 pub use spot::{BranchLink, Spot, links_from};
+pub use staying::{StayingBytes, old_branches};

@@ -1,6 +1,7 @@
 //! Roots and branches of large arrays that are brought into memory, and read there.
-ghost use Rattle.std.specs.Prelude.{◌≡◌, ◌^◌, ◌<◌, ◌≤◌, None, Some, true, false, IfOk, IfErr, MatchResult, length};
+ghost use Rattle.std.specs.Prelude.{◌≡◌, ◌^◌, ◌+◌, ◌<◌, ◌≤◌, None, Some, true, false, IfOk, IfErr, MatchResult, length};
 ghost use Rattle.geos_model.specs.Document.{is_raw, raw_bytes_of};
+ghost use Rattle.geos_model.specs.Array.{array_bytes};
 ghost use Rattle.geos_model.specs.Heap.{capacity};
 ghost use Rattle.vm_blocks.specs.Keeping.{KeepsBlocks, IsEnvironmentFault, is_full};
 ghost use Rattle.vm_chains.specs.Answers.{AnswersChain};
@@ -74,12 +75,13 @@ pub fn loaded_branch<S: Store>(
         (λ view. branch_under blocks.now.document handle.0 size count ≡ Some view.array.elements)
         (λ fault. (fault ≡ Fault.BadChain) × (branch_under blocks.now.document handle.0 size count ≡ None)) }
     ensures plain { IfOk result (λ view. IsPlain view.array size count) }
+    ensures short { IfOk result (λ view. 2 + length (array_bytes view.array) ≤ capacity) }
 {
     read_branch(raw_bytes(blocks, handle), size, count)
 }
 
 /// The bytes of a raw block in memory.
-fn raw_bytes<S: Store>(blocks: &FileBlocks<S>, handle: VmHandle) -> &[u8]
+pub(crate) fn raw_bytes<S: Store>(blocks: &FileBlocks<S>, handle: VmHandle) -> &[u8]
     requires { IsRawLoaded blocks.now handle.0 }
     ensures value { result.now ≡ raw_bytes_of blocks.now.document handle.0 }
     ensures short { length result.now ≤ capacity }

@@ -2,7 +2,7 @@
 ghost use Rattle.std.specs.Prelude.{◌≡◌, ◌<◌, ◌≤◌, ◌+◌, [], None, Some, true, MatchResult, length, take, drop};
 ghost use Rattle.std.specs.List.{flat_map};
 ghost use Rattle.geos_model.specs.Refusal.{first_refusal};
-ghost use Rattle.large_arrays.specs.Pieces.{weight, each_fits};
+ghost use Rattle.large_arrays.specs.Pieces.{piece_weight, each_fits};
 ghost use Rattle.large_arrays.specs.Layout.{greatest_element_size};
 ghost use Rattle.large_arrays.specs.Edits.{cut_elements};
 ghost use Rattle.large_arrays.specs.SizedElements.{have_size, new_conditions};
@@ -102,9 +102,9 @@ impl<'a> NewElements<'a> {
     /// How many of them, from the first on, weigh so much or less together.
     pub(crate) fn fitting(&self, room: usize) -> usize
         ensures within { result ≤ length self.now.elements }
-        ensures fits { weight self.now.size (take result self.now.elements) ≤ room }
+        ensures fits { piece_weight self.now.size (take result self.now.elements) ≤ room }
         ensures most { result < length self.now.elements →
-            room < weight self.now.size (take (result + 1) self.now.elements) }
+            room < piece_weight self.now.size (take (result + 1) self.now.elements) }
     {
         if self.size != 0 {
             return self.count.min(room / self.size);

@@ -1,8 +1,10 @@
 //! Pieces into which elements are packed, and the pieces beside these.
-ghost use Rattle.std.specs.Prelude.{◌≡◌, ◌^◌, ◌<◌, ◌≤◌, ◌+◌, ◌++◌, ◌∷◌, ◌&&◌, [], true, IfOk, MatchResult, MatchOption, length, drop, get_or, nat_lt};
+ghost use Rattle.std.specs.Prelude.{◌≡◌, ◌^◌, ◌<◌, ◌≤◌, ◌+◌, ◌++◌, ◌∷◌, ◌&&◌, [], true, IfOk, IfSome, MatchResult, MatchOption, is_some, length, drop, get_or, nat_lt};
 ghost use Rattle.large_arrays.specs.Pieces.{branch_room, join_room, are_joined, all_fit};
 ghost use Rattle.large_arrays.specs.Spread.{packed_from, with_last, with_first, if_none};
-ghost use Rattle.large_arrays.specs.Filling.{Fills};
+ghost use Rattle.large_arrays.specs.SizedElements.{elements_of_size};
+ghost use Rattle.large_arrays.specs.Filling.{FillsPiece};
+ghost use Rattle.large_arrays.specs.JoinedPieces.{window_of};
 
 use crate::new_elements::NewElements;
 use crate::piece::{BRANCH_ROOM, JOIN_ROOM, Piece};
@@ -31,7 +33,7 @@ impl Model for Pieces {
 }
 
 impl Pieces {
-    ghost use Rattle.large_arrays.specs.PiecesKeeping.{with_piece};
+    ghost use Rattle.large_arrays.specs.PiecesKeeping.{with_piece_behind};
 
     /// The elements of a piece, and new ones behind them, in pieces that are each as full as they get. Of one size as
     /// many as fit go into a piece at a time.
@@ -123,6 +125,37 @@ impl Pieces {
         Ok(pieces)
     }
 
+    /// What comes in the place of a window: the same with each neighbour that is joined beside them, and an empty piece
+    /// where that is nothing and there is no neighbour.
+    pub fn window(
+        self,
+        alloc: Global,
+        left: Option<Piece>,
+        right: Option<Piece>,
+        is_alone: bool,
+    ) -> Result<Pieces, AllocError>
+        requires left { IfSome left (λ p. p.size ≡ self.size) }
+        requires right { IfSome right (λ p. p.size ≡ self.size) }
+        requires small { self.size < 2 ^ 16 }
+        ensures { IfOk result (λ p. p ≡ record {
+          size = self.size;
+          pieces = window_of self.size (is_some left) (elements_of_size left) self.pieces
+              (is_some right) (elements_of_size right) is_alone;
+        }) }
+    {
+        let mut pieces = self;
+        if let Some(left) = left {
+            pieces = pieces.with_left(left)?;
+        }
+        if let Some(right) = right {
+            pieces = pieces.with_tail(right, JOIN_ROOM)?;
+        }
+        if is_alone {
+            pieces = pieces.or_empty(alloc)?;
+        }
+        Ok(pieces)
+    }
+
     /// An empty piece where there is none.
     pub fn or_empty(self, alloc: Global) -> Result<Pieces, AllocError>
         requires { self.size < 2 ^ 16 }
@@ -166,9 +199,9 @@ impl Pieces {
     /// Adds a piece behind the others.
     fn push(&mut self, piece: Piece) -> Result<(), AllocError>
         requires { piece.size ≡ self.old.size }
-        ensures { IfOk result (λ _. self.new ≡ with_piece self.old piece.elements) }
+        ensures { IfOk result (λ _. self.new ≡ with_piece_behind self.old piece.elements) }
     {
-        let _ = piece.weight();
+        piece.reveal_invariant();
         self.pieces.push(piece)?;
         Ok(())
     }
@@ -197,7 +230,7 @@ impl Pieces {
         requires some { 0 < length self.old.pieces }
         ensures { self.new ≡ record self.old { pieces = piece.elements ∷ drop 1 self.old.pieces } }
     {
-        let _ = piece.weight();
+        piece.reveal_invariant();
         self.pieces[0] = piece;
     }
 
@@ -206,7 +239,7 @@ impl Pieces {
         requires { piece.size ≡ self.old.size }
         ensures { IfOk result (λ _. self.new ≡ record self.old { pieces = piece.elements ∷ self.old.pieces }) }
     {
-        let _ = piece.weight();
+        piece.reveal_invariant();
         self.pieces.insert(0, piece)?;
         Ok(())
     }
@@ -215,7 +248,7 @@ impl Pieces {
 /// Puts as many new elements behind those of a piece as there is room for, and answers the others.
 fn fill<'a>(piece: &mut Piece, new: &NewElements<'a>) -> Result<NewElements<'a>, AllocError>
     requires { new.now.size ≡ piece.old.size }
-    ensures { IfOk result (λ left. Fills piece.old piece.new new.now left) }
+    ensures { IfOk result (λ left. FillsPiece piece.old piece.new new.now left) }
 {
     let fitting = new.fitting(BRANCH_ROOM - piece.weight());
     let (some, left) = new.split_at(fitting);

@@ -3,7 +3,7 @@ ghost use Rattle.std.specs.Prelude.{◌≡◌, ◌^◌, ◌<◌, ◌≤◌, ◌+
 ghost use Rattle.std.specs.List.{flat_map};
 ghost use Rattle.geos_model.specs.Words.{word};
 ghost use Rattle.geos_model.specs.Heap.{capacity};
-ghost use Rattle.large_arrays.specs.Pieces.{weight, branch_room};
+ghost use Rattle.large_arrays.specs.Pieces.{piece_weight, branch_room};
 ghost use Rattle.large_arrays.specs.Layout.{branch_bytes};
 ghost use Rattle.large_arrays.specs.SizedElements.{IsPiece, with_behind};
 ghost use Rattle.large_arrays.specs.ElementLengths.{kept_lengths, places_by};
@@ -75,11 +75,19 @@ impl Piece {
 
     /// How many bytes the elements take in a branch, with their places where sizes vary.
     pub fn weight(&self) -> usize
-        ensures value { result ≡ weight self.now.size self.now.elements }
+        ensures value { result ≡ piece_weight self.now.size self.now.elements }
         ensures fits { result ≤ branch_room }
         ensures holds { IsPiece self.now }
     {
         self.bytes.len() + 2 * self.lengths.len()
+    }
+
+    /// It does nothing: its caller learns that the elements can be those of a branch.
+    pub fn reveal_invariant(&self)
+        ensures { IsPiece self.now }
+    {
+        // What is always so of the fields is known where one is named.
+        let _ = &self.size;
     }
 
     /// Puts the elements from one up to another of a branch that was read behind the others. Those of one size are one
@@ -88,8 +96,8 @@ impl Piece {
         requires size { view.now.array.size ≡ self.old.size }
         requires order { from ≤ to }
         requires within { to ≤ length view.now.array.elements }
-        requires room { weight self.old.size self.old.elements +
-            weight self.old.size (take (to - from) (drop from view.now.array.elements)) ≤ branch_room }
+        requires room { piece_weight self.old.size self.old.elements +
+            piece_weight self.old.size (take (to - from) (drop from view.now.array.elements)) ≤ branch_room }
         ensures { MatchResult result
             (λ _. self.new ≡ with_behind self.old (take (to - from) (drop from view.now.array.elements)))
             (λ _. self.new ≡ self.old) }
@@ -105,7 +113,7 @@ impl Piece {
     /// Puts new elements behind the others.
     pub fn push_new(&mut self, new: &NewElements<'_>) -> Result<(), AllocError>
         requires size { new.now.size ≡ self.old.size }
-        requires room { weight self.old.size self.old.elements + weight self.old.size new.now.elements ≤ branch_room }
+        requires room { piece_weight self.old.size self.old.elements + piece_weight self.old.size new.now.elements ≤ branch_room }
         ensures { MatchResult result (λ _. self.new ≡ with_behind self.old new.now.elements) (λ _. self.new ≡ self.old) }
     {
         let bytes = new.bytes();
@@ -119,7 +127,7 @@ impl Piece {
     /// Puts the elements of another piece behind the others.
     pub fn append(&mut self, other: &Piece) -> Result<(), AllocError>
         requires size { other.now.size ≡ self.old.size }
-        requires room { weight self.old.size self.old.elements + weight self.old.size other.now.elements ≤ branch_room }
+        requires room { piece_weight self.old.size self.old.elements + piece_weight self.old.size other.now.elements ≤ branch_room }
         ensures { MatchResult result (λ _. self.new ≡ with_behind self.old other.now.elements) (λ _. self.new ≡ self.old) }
     {
         self.bytes.reserve(other.bytes.len())?;
@@ -151,7 +159,7 @@ fn push_lengths(
 ) -> Result<(), AllocError>
     requires order { from ≤ to }
     requires within { to ≤ length view.now.array.elements }
-    requires room { weight view.now.array.size (take (to - from) (drop from view.now.array.elements)) ≤ branch_room }
+    requires room { piece_weight view.now.array.size (take (to - from) (drop from view.now.array.elements)) ≤ branch_room }
     ensures { lengths.new.items ≡ (if is_ok result
         then lengths.old.items ++ kept_lengths view.now.array.size (take (to - from) (drop from view.now.array.elements))
         else lengths.old.items) }

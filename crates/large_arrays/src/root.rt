@@ -5,7 +5,7 @@ ghost use Rattle.geos_model.specs.Words.{word_at, double_word_at};
 ghost use Rattle.geos_model.specs.Heap.{capacity};
 ghost use Rattle.large_arrays.specs.Layout.{root_of, total_count};
 ghost use Rattle.large_arrays.specs.Spread.{start_place, end_place};
-ghost use Rattle.large_arrays.specs.RootEdits.{count_bytes, link_bytes, run_of};
+ghost use Rattle.large_arrays.specs.RootEdits.{count_bytes, link_bytes, run_between};
 ghost use Rattle.large_arrays.specs.RootParts.{HasMarks, HasLength, HasHead, HasCounts, HasZeros, branches_in};
 
 use byteorder::{ByteOrder, LittleEndian};
@@ -176,7 +176,8 @@ fn has_zeros(bytes: &[u8], branches: usize) -> bool
 impl<'a> RootView<'a> {
     /// How many bytes each element has, 0 where sizes vary.
     pub fn element_size(&self) -> usize
-        ensures { result ≡ self.now.size }
+        ensures value { result ≡ self.now.size }
+        ensures small { result < 2 ^ 16 }
     {
         self.size
     }
@@ -240,7 +241,7 @@ impl<'a> RootView<'a> {
     pub(crate) fn count_bytes(&self, from: usize, to: usize) -> &'a [u8]
         requires order { from ≤ to }
         requires within { to ≤ length self.now.counts }
-        ensures { result.now ≡ count_bytes (run_of self.now.counts from to) }
+        ensures { result.now ≡ count_bytes (run_between self.now.counts from to) }
     {
         &self.bytes[16 + 2 * from..16 + 2 * to]
     }
@@ -249,7 +250,7 @@ impl<'a> RootView<'a> {
     pub(crate) fn link_bytes(&self, from: usize, to: usize) -> &'a [u8]
         requires order { from ≤ to }
         requires within { to ≤ length self.now.branches }
-        ensures { result.now ≡ link_bytes (run_of self.now.branches from to) }
+        ensures { result.now ≡ link_bytes (run_between self.now.branches from to) }
     {
         let start = 16 + 2 * self.branches;
         &self.bytes[start + 4 * from..start + 4 * to]
@@ -259,6 +260,8 @@ impl<'a> RootView<'a> {
     pub fn start_place(&self, i: u32) -> (usize, u32)
         ensures value { result ≡ start_place self.now.counts i }
         ensures within { result.0 < length self.now.counts }
+        ensures branch { result.0 < length self.now.branches }
+        ensures few { result.0 < 2 ^ 16 }
     {
         let last = self.branches - 1;
         let mut left = i;
@@ -276,6 +279,8 @@ impl<'a> RootView<'a> {
     pub fn end_place(&self, i: u32) -> (usize, u32)
         ensures value { result ≡ end_place self.now.counts i }
         ensures within { result.0 < length self.now.counts }
+        ensures branch { result.0 < length self.now.branches }
+        ensures few { result.0 < 2 ^ 16 }
     {
         let last = self.branches - 1;
         let mut left = i;

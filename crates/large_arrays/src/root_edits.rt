@@ -1,7 +1,7 @@
 //! The bytes of the root of a large array after an edit.
 ghost use Rattle.std.specs.Prelude.{◌≡◌, ◌<◌, ◌≤◌, ◌+◌, ◌-◌, ◌*◌, ◌^◌, ◌++◌, IfOk, length, sum_by};
 ghost use Rattle.geos_model.specs.Words.{word};
-ghost use Rattle.large_arrays.specs.HandleLists.{numbers};
+ghost use Rattle.vm_chains.specs.Numbers.{numbers};
 ghost use Rattle.large_arrays.specs.Layout.{root_bytes};
 ghost use Rattle.large_arrays.specs.RootEdits.{count_bytes, head_bytes, link_bytes, with_branches};
 

@@ -1,7 +1,7 @@
 //! What an edit or a look-up takes from a root before it looks at branches: with one frame the root leaves memory when
 //! a branch comes.
 ghost use Rattle.std.specs.Prelude.{◌≡◌, IfOk};
-ghost use Rattle.large_arrays.specs.Spots.{AreLinks, IsSpot};
+ghost use Rattle.large_arrays.specs.Spots.{AreBranchLinks, IsSpot};
 
 use crate::root::RootView;
 use geos_model::VmHandle;
@@ -66,7 +66,7 @@ pub fn links_from(
     first: usize,
     behind: usize,
 ) -> Result<Vec<BranchLink>, AllocError>
-    ensures { IfOk result (λ links. AreLinks root.now first behind links.items) }
+    ensures { IfOk result (λ links. AreBranchLinks root.now first behind links.items) }
 {
     let mut links = Vec::new(alloc);
     for k in first..root.branches().min(behind) {

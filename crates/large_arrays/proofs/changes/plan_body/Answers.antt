@@ -7,7 +7,8 @@ use Rattle.vm_blocks.specs.declared.change.Change.{Change}
 use Rattle.vm_blocks.specs.declared.change.Change.TheVariants as changes
 use Rattle.vm_blocks.specs.declared.change.PartChange.TheVariants as parts
 use Rattle.large_arrays.specs.ChangePlans.{ArePlanned, ArePlannedByHandle}
-use Rattle.large_arrays.proofs.PlannedChanges.{raw_changes, body_planned, body_listed}
+use Rattle.large_arrays.specs.Differences.{IsLeast}
+use Rattle.large_arrays.proofs.PlannedChanges.{raw_changes, raw_changes-weight, body_planned, body_listed}
 use Rattle.large_arrays.proofs.changes.plan_body.Goals as goal
 
 pub loop-splice-preserved : goal.loop-splice-preserved
@@ -34,4 +35,9 @@ returns c =
       listed = λ d freed bodies planned untouched live.
           subst (λ (cs : List Change). ArePlannedByHandle cs d freed (bodies ++ (h.0, c.args.new.now.bytes.now) ∷ [])) (sym is)
           (body_listed d freed bodies h.0 untouched before h all c.args.new.now.bytes.now refl planned live);
+      least = record {
+        more = raw_changes h all;
+        joined = is;
+        least = subst (IsLeast c.args.old.now c.args.new.now) (sym (raw_changes-weight h all)) c.in_ok-splice-items.ensures.least;
+      };
     }

@@ -17,4 +17,4 @@ returns c =
     (longer_as s₃ s₄ 0 c.header_bytes-3.result.now (header_of old) c.header_bytes-4.result.now (header_of new) c.header_bytes-3.ensures c.header_bytes-4.ensures c.in_ok-append_longer.ensures)
     (longer_as s₄ s₅ new.table c.table_bytes-3.result.now (table_of old) c.table_bytes-4.result.now (table_of new) c.table_bytes-3.ensures c.table_bytes-4.ensures c.in_ok-append_longer-2.ensures)
     (longer_as s₅ s₆ new.rest c.rest_bytes-3.result.now (rest_of old) c.rest_bytes-4.result.now (rest_of new) c.rest_bytes-3.ensures c.rest_bytes-4.ensures c.in_ok-append_longer-3.ensures) in
-    record { led = all.led; tight = all.tight; few = all.few }
+    record { led = all.led; tight = all.tight; few = all.few; least = all.least }

@@ -1,5 +1,6 @@
 use Rattle.std.proofs.Common.{◌∙◌, ◌++◌, ◌-◌, List, ℕ, take, drop, ap}
-use Rattle.large_arrays.specs.HandleLists.{old_handles, numbers}
+use Rattle.vm_chains.specs.Numbers.{numbers}
+use Rattle.large_arrays.specs.HandleLists.{old_handles}
 use Rattle.large_arrays.proofs.HandlePlaces.{freed_pushed}
 use Rattle.large_arrays.proofs.handles.freed_handles.Goals as goal
 

@@ -1,5 +1,6 @@
 use Rattle.std.proofs.Common.{◌≡◌, ◌++◌, take}
-use Rattle.large_arrays.specs.HandleLists.{numbers, old_handles}
+use Rattle.vm_chains.specs.Numbers.{numbers}
+use Rattle.large_arrays.specs.HandleLists.{old_handles}
 use Rattle.large_arrays.proofs.handles.push_handles.Given as goal
 
 abbrev pub invariant-loop-old : goal.invariant-loop-old

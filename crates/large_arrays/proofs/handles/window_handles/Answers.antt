@@ -1,7 +1,8 @@
 use Rattle.std.proofs.Common.{◌∙◌, ◌++◌, ◌-◌, List, ℕ, length, take, drop, ap}
 use Rattle.std.proofs.lemmas.List.{map-append}
 use Rattle.geos_model.specs.declared.handle.VmHandle.{VmHandle}
-use Rattle.large_arrays.specs.HandleLists.{old_handles, numbers}
+use Rattle.vm_chains.specs.Numbers.{numbers}
+use Rattle.large_arrays.specs.HandleLists.{old_handles}
 use Rattle.large_arrays.proofs.HandlePlaces.{window_pushed}
 use Rattle.large_arrays.proofs.handles.window_handles.Goals as goal
 

@@ -1,6 +1,6 @@
 use Rattle.std.proofs.Common.{◌≡◌, ◌∙◌, ◌+◌, ◌-◌, ◌++◌, ℕ, List, [], length, refl, sym, ap, ap₂}
-use Rattle.large_arrays.specs.HandleLists.{numbers}
-use Rattle.large_arrays.specs.RootEdits.{head_bytes, count_bytes, link_bytes, run_of}
+use Rattle.vm_chains.specs.Numbers.{numbers}
+use Rattle.large_arrays.specs.RootEdits.{head_bytes, count_bytes, link_bytes, run_between}
 use Rattle.large_arrays.specs.Layout.{Root}
 use Rattle.std.proofs.lemmas.List.{length-map}
 use Rattle.geos_model.specs.declared.handle.VmHandle.{VmHandle}
@@ -18,10 +18,10 @@ returns c =
     let total : ℕ = c.total_without.result + c.sum_of.result in
     let many = length-map c.args.branches.now (λ (h : VmHandle). h.0) in
     let head : List ℕ = head_bytes (end - (behind - first) + length names) r.size total in
-    let a : List ℕ = head ++ count_bytes (run_of r.counts 0 first) in
+    let a : List ℕ = head ++ count_bytes (run_between r.counts 0 first) in
     let b : List ℕ = a ++ count_bytes counts in
-    let d : List ℕ = b ++ count_bytes (run_of r.counts behind end) in
-    let e : List ℕ = d ++ link_bytes (run_of r.branches 0 first) in
+    let d : List ℕ = b ++ count_bytes (run_between r.counts behind end) in
+    let e : List ℕ = d ++ link_bytes (run_between r.branches 0 first) in
     let f : List ℕ = e ++ link_bytes names in
     let start : c.push_head.new.out.items ≡ head =
     added _ _ [] _ head c.in_ok-push_head.ensures c.in_ok-bytes.ensures.items

@@ -1,5 +1,5 @@
 use Rattle.std.proofs.Common.{◌≡◌, ◌++◌, take}
-use Rattle.large_arrays.specs.HandleLists.{numbers}
+use Rattle.vm_chains.specs.Numbers.{numbers}
 use Rattle.large_arrays.specs.RootEdits.{link_bytes}
 use Rattle.large_arrays.proofs.root_edits.push_links.Given as goal
 

@@ -1,6 +1,6 @@
 use Rattle.std.proofs.Common.{◌≡◌, ◌∙◌, ◌-◌, ℕ, List, [], ◌∷◌, ◌++◌, take, drop, min, sym, ap, arith}
 use Rattle.std.proofs.lemmas.List.{map-append}
-use Rattle.large_arrays.specs.Spots.{counts_of, handles_of}
+use Rattle.large_arrays.specs.Spots.{counts_of, link_handles}
 use Rattle.large_arrays.specs.declared.spot.BranchLink.{BranchLink}
 use Rattle.large_arrays.proofs.LinkRuns.{run_more, run_end}
 use Rattle.large_arrays.proofs.spot.links_from.Goals as goal
@@ -12,7 +12,7 @@ pub loop-k-init : goal.loop-k-init
 loop-k-init c = record {
   links = record {
     counts = ap counts_of c.new-links.ensures.items ∙ none_taken c.args.root.now.counts c.args.first;
-    handles = ap handles_of c.new-links.ensures.items ∙ none_taken c.args.root.now.branches c.args.first;
+    handles = ap link_handles c.new-links.ensures.items ∙ none_taken c.args.root.now.branches c.args.first;
   };
   none = λ over. omega arith;
 }
@@ -29,7 +29,7 @@ loop-k-preserved c =
             ∙ ap (λ (xs : List ℕ). xs ++ c.count.result ∷ []) c.loop-k.invariant.links.counts
             ∙ ap (λ (x : ℕ). take (k - a) (drop a r.counts) ++ x ∷ []) c.count.ensures
             ∙ run_more r.counts a k c.loop-k.auto.k (omega (arith, low, few, counts));
-        handles = ap handles_of pushed ∙ map-append (λ (l : BranchLink). l.handle.0) c.loop-k.links.items (link ∷ [])
+        handles = ap link_handles pushed ∙ map-append (λ (l : BranchLink). l.handle.0) c.loop-k.links.items (link ∷ [])
             ∙ ap (λ (xs : List ℕ). xs ++ c.branch-root.result ∷ []) c.loop-k.invariant.links.handles
             ∙ ap (λ (x : ℕ). take (k - a) (drop a r.branches) ++ x ∷ []) c.branch-root.ensures
             ∙ run_more r.branches a k c.loop-k.auto.k (omega (arith, low, few, branches));

@@ -1,6 +1,6 @@
 use Rattle.std.proofs.Common.{◌≡◌, ◌≤◌, ◌<◌, ◌+◌, ◌/◌, ℕ, ◌==◌, false, min, length, take, sym, ap, ap₂, subst, ◌∙◌}
 use Rattle.std.proofs.lemmas.Bool.{ne_eqb}
-use Rattle.large_arrays.specs.Pieces.{weight}
+use Rattle.large_arrays.specs.Pieces.{piece_weight}
 use Rattle.large_arrays.specs.SizedElements.{SizedElements}
 use Rattle.large_arrays.specs.NewElementsViewing.{seen_elements, HasNewElements}
 use Rattle.large_arrays.specs.declared.new_elements.NewElements.TheInside.{Inside}
@@ -10,7 +10,7 @@ use Rattle.large_arrays.proofs.new_elements.NewElements.fitting.Goals as goal
 -- so many fit
 abbrev Fitting : SizedElements → ℕ → ℕ → Type 0
 Fitting w room n =
-    (weight w.size (take n w.elements) ≤ room) × (n < length w.elements → room < weight w.size (take (n + 1) w.elements))
+    (piece_weight w.size (take n w.elements) ≤ room) × (n < length w.elements → room < piece_weight w.size (take (n + 1) w.elements))
 
 fits : (v : Inside) (w : SizedElements) (room n : ℕ) → seen_elements v ≡ w → HasNewElements v → (v.size ≡ 0 → ⊥) → n ≡ min v.count (room / v.size) → Fitting w room n
 fits v w room n is has some least =

@@ -1,12 +1,12 @@
 use Rattle.std.proofs.Common.{◌≡◌, ◌<◌, ◌++◌, ℕ, true, [], length, sym, subst, ◌∙◌}
 use Rattle.large_arrays.specs.Pieces.{BranchPiece, each_fits}
 use Rattle.large_arrays.specs.SizedElements.{SizedElements, SizedPieces}
-use Rattle.large_arrays.specs.Filling.{Fills}
-use Rattle.large_arrays.specs.PiecesKeeping.{with_piece}
+use Rattle.large_arrays.specs.Filling.{FillsPiece}
+use Rattle.large_arrays.specs.PiecesKeeping.{with_piece_behind}
 use Rattle.large_arrays.proofs.PackingLemmas.{IsPacking, packing-begun, packing-next}
 use Rattle.large_arrays.proofs.packing.Pieces.packed.Goals as goal
 
-begun : (head new piece left : SizedElements) (size : ℕ) (done : SizedPieces) → new.size ≡ head.size → Fills head piece new left → size ≡ head.size → done ≡ record { size = size; pieces = [] }
+begun : (head new piece left : SizedElements) (size : ℕ) (done : SizedPieces) → new.size ≡ head.size → FillsPiece head piece new left → size ≡ head.size → done ≡ record { size = size; pieces = [] }
     → IsPacking size done piece left (head.elements ++ new.elements)
 begun head new piece left size done same fills size_is done_is =
     let P : SizedPieces → Type 0 = λ u. IsPacking size u piece left (head.elements ++ new.elements) in
@@ -18,10 +18,10 @@ loop-left-init c = begun c.args.head c.args.new.now c.fill.new.piece c.in_ok-lef
 
 -- with a piece that is done, and one that is begun
 next : (size count : ℕ) (done next_done : SizedPieces) (piece left empty next_piece next_left : SizedElements) (elements : BranchPiece) → IsPacking size done piece left elements
-    → count ≡ length left.elements → (count ≡ 0 → ⊥) → each_fits left.size left.elements ≡ true → next_done ≡ with_piece done piece.elements → empty ≡ record { size = size; elements = [] }
-    → Fills empty next_piece left next_left → IsPacking size next_done next_piece next_left elements × (length next_left.elements < length left.elements)
+    → count ≡ length left.elements → (count ≡ 0 → ⊥) → each_fits left.size left.elements ≡ true → next_done ≡ with_piece_behind done piece.elements → empty ≡ record { size = size; elements = [] }
+    → FillsPiece empty next_piece left next_left → IsPacking size next_done next_piece next_left elements × (length next_left.elements < length left.elements)
 next size count done next_done piece left empty next_piece next_left elements is counted some fit done_is empty_is fills =
-    let P : SizedElements → Type 0 = λ u. Fills u next_piece left next_left in
+    let P : SizedElements → Type 0 = λ u. FillsPiece u next_piece left next_left in
     packing-next size done next_done piece left next_piece next_left elements is (λ none. some (counted ∙ none)) fit done_is (subst P empty_is fills)
 
 pub loop-left-preserved : goal.loop-left-preserved

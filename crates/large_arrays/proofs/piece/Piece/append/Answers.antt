@@ -1,5 +1,5 @@
 use Rattle.std.proofs.Common.{◌≡◌, ◌≤◌, ◌+◌, ◌++◌, ℕ, List, sym, ap, ap₂, ◌∙◌, arith}
-use Rattle.large_arrays.specs.Pieces.{weight, branch_room}
+use Rattle.large_arrays.specs.Pieces.{piece_weight, branch_room}
 use Rattle.large_arrays.specs.SizedElements.{SizedElements, have_size}
 use Rattle.large_arrays.specs.ElementLengths.{kept_lengths}
 use Rattle.large_arrays.specs.PieceKeeping.{held_elements, KeepsElements}
@@ -8,7 +8,7 @@ use Rattle.large_arrays.proofs.PieceLemmas.{Grown, grown, held-are}
 use Rattle.large_arrays.proofs.piece.Piece.append.Goals as goal
 
 larger : (p q : Inside) (v w : SizedElements) (lengths bytes : List ℕ) → held_elements p ≡ v → KeepsElements p → held_elements q ≡ w → KeepsElements q → w.size ≡ v.size
-    → weight v.size v.elements + weight v.size w.elements ≤ branch_room → lengths ≡ p.lengths.items ++ q.lengths.items → bytes ≡ p.bytes.items ++ q.bytes.items
+    → piece_weight v.size v.elements + piece_weight v.size w.elements ≤ branch_room → lengths ≡ p.lengths.items ++ q.lengths.items → bytes ≡ p.bytes.items ++ q.bytes.items
     → Grown p.size (p.count + q.count) lengths bytes v w.elements
 larger p q v w lengths bytes is keeps other_is other_keeps same room longer row =
     let other = held-are q w other_is other_keeps in

@@ -1,6 +1,6 @@
 use Rattle.std.proofs.Common.{◌≡◌, ◌≤◌, ◌+◌, ◌++◌, ℕ, true, List, length, sym, ap, ap₂, ◌∙◌, arith}
 use Rattle.geos_model.proofs.Arrays.{joined}
-use Rattle.large_arrays.specs.Pieces.{weight, branch_room}
+use Rattle.large_arrays.specs.Pieces.{piece_weight, branch_room}
 use Rattle.large_arrays.specs.SizedElements.{SizedElements, have_size}
 use Rattle.large_arrays.specs.ElementLengths.{kept_lengths}
 use Rattle.large_arrays.specs.PieceKeeping.{held_elements, KeepsElements}
@@ -9,7 +9,7 @@ use Rattle.large_arrays.proofs.PieceLemmas.{Grown, grown}
 use Rattle.large_arrays.proofs.piece.Piece.push_new.Goals as goal
 
 larger : (p : Inside) (v w : SizedElements) (count : ℕ) (lengths bytes : List ℕ) → held_elements p ≡ v → KeepsElements p → w.size ≡ v.size
-    → weight v.size v.elements + weight v.size w.elements ≤ branch_room → have_size w.size w.elements ≡ true → count ≡ length w.elements
+    → piece_weight v.size v.elements + piece_weight v.size w.elements ≤ branch_room → have_size w.size w.elements ≡ true → count ≡ length w.elements
     → lengths ≡ p.lengths.items ++ kept_lengths w.size w.elements → bytes ≡ p.bytes.items ++ joined w.elements
     → Grown p.size (p.count + count) lengths bytes v w.elements
 larger p v w count lengths bytes is keeps same room sized counted longer row =

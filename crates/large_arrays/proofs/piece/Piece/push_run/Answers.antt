@@ -2,7 +2,7 @@ use Rattle.std.proofs.Common.{◌≡◌, ◌≤◌, ◌+◌, ◌-◌, ◌++◌, 
 use Rattle.std.proofs.lemmas.List.{length-take-le}
 use Rattle.geos_model.specs.Array.{Array, is_even}
 use Rattle.geos_model.proofs.Arrays.{joined}
-use Rattle.large_arrays.specs.Pieces.{BranchPiece, weight, branch_room}
+use Rattle.large_arrays.specs.Pieces.{BranchPiece, piece_weight, branch_room}
 use Rattle.large_arrays.specs.SizedElements.{SizedElements, have_size}
 use Rattle.large_arrays.specs.ElementLengths.{kept_lengths}
 use Rattle.large_arrays.specs.PieceKeeping.{held_elements, KeepsElements}
@@ -14,7 +14,7 @@ abbrev run_of : Array → ℕ → ℕ → BranchPiece
 run_of a from to = take (to - from) (drop from a.elements)
 
 larger : (p : Inside) (v : SizedElements) (a : Array) (from to : ℕ) (lengths bytes : List ℕ) → held_elements p ≡ v → KeepsElements p → is_even a ≡ true → a.size ≡ v.size
-    → from ≤ to → to ≤ length a.elements → weight v.size v.elements + weight v.size (run_of a from to) ≤ branch_room
+    → from ≤ to → to ≤ length a.elements → piece_weight v.size v.elements + piece_weight v.size (run_of a from to) ≤ branch_room
     → lengths ≡ p.lengths.items ++ kept_lengths a.size (run_of a from to) → bytes ≡ p.bytes.items ++ joined (run_of a from to)
     → Grown p.size (p.count + (to - from)) lengths bytes v (run_of a from to)
 larger p v a from to lengths bytes is keeps even same order within room longer row =

@@ -1,19 +1,19 @@
 use Rattle.std.proofs.Common.{◌≡◌, ◌≤◌, ◌+◌, ◌*◌, length, ap, arith, leb-true}
-use Rattle.large_arrays.specs.Pieces.{weight, branch_room}
-use Rattle.large_arrays.specs.PieceKeeping.{AreKept}
+use Rattle.large_arrays.specs.Pieces.{piece_weight, branch_room}
+use Rattle.large_arrays.specs.PieceKeeping.{AreHeldElements}
 use Rattle.large_arrays.specs.SizedElements.{SizedElements}
 use Rattle.large_arrays.specs.declared.piece.Piece.TheInside.{Inside}
 use Rattle.large_arrays.proofs.PieceLemmas.{weight-kept, held-are}
 use Rattle.large_arrays.proofs.piece.Piece.weight.Goals as goal
 
 -- what is kept weighs so much
-weighed : (p : Inside) (w : SizedElements) → AreKept w.size p.count p.lengths.items p.bytes.items w.elements
-    → (length p.bytes.items + 2 * length p.lengths.items ≡ weight w.size w.elements) × (length p.bytes.items + 2 * length p.lengths.items ≤ branch_room)
+weighed : (p : Inside) (w : SizedElements) → AreHeldElements w.size p.count p.lengths.items p.bytes.items w.elements
+    → (length p.bytes.items + 2 * length p.lengths.items ≡ piece_weight w.size w.elements) × (length p.bytes.items + 2 * length p.lengths.items ≤ branch_room)
 weighed p w kept =
     let is = weight-kept w.size w.elements in
     let bytes = ap length kept.joined in
     let lengths = ap length kept.kept in
-    let most = leb-true (weight w.size w.elements) branch_room kept.holds.room in
+    let most = leb-true (piece_weight w.size w.elements) branch_room kept.holds.room in
     (omega arith, omega arith)
 
 pub overflow_add-result : goal.overflow_add-result

@@ -1,8 +1,9 @@
 use Rattle.std.proofs.Common.{◌≡◌, ◌∙◌, ◌+◌, ◌-◌, ℕ, List, sym, ap, length, get_or, drop, arith}
+use Rattle.chunk_arrays.proofs.CutLemmas.{word_at-lt}
 use Rattle.large_arrays.specs.Layout.{Root}
 use Rattle.large_arrays.specs.RootParts.{branches_in}
 use Rattle.large_arrays.specs.Spread.{start_place}
-use Rattle.large_arrays.proofs.RootLemmas.{length-counts_read}
+use Rattle.large_arrays.proofs.RootLemmas.{length-counts_read, length-branches_read}
 use Rattle.large_arrays.proofs.PlaceSteps.{shifted, start-next, start-last}
 use Rattle.large_arrays.proofs.root.RootView.start_place.Goals as goal
 
@@ -58,3 +59,32 @@ returns-clause-within c =
     let all = c.self.invariant.branches in
     let some = c.self.invariant.parts.head.length.some in
     omega (arith, many, all, some)
+
+pub returns-then-left-count-clause-branch : goal.returns-then-left-count-clause-branch
+returns-then-left-count-clause-branch c =
+    let bytes : List ℕ = c.self.inside.bytes.now in
+    let many : length c.args.self.now.branches ≡ branches_in bytes = ap (λ (r : Root). length r.branches) (sym c.self.view_is) ∙ length-branches_read bytes in
+    let all = c.self.invariant.branches in
+    let low = c.loop-k-test.true in
+    omega (arith, many, all, low)
+
+pub returns-clause-branch : goal.returns-clause-branch
+returns-clause-branch c =
+    let bytes : List ℕ = c.self.inside.bytes.now in
+    let many : length c.args.self.now.branches ≡ branches_in bytes = ap (λ (r : Root). length r.branches) (sym c.self.view_is) ∙ length-branches_read bytes in
+    let all = c.self.invariant.branches in
+    let some = c.self.invariant.parts.head.length.some in
+    omega (arith, many, all, some)
+
+pub returns-then-left-count-clause-few : goal.returns-then-left-count-clause-few
+returns-then-left-count-clause-few c =
+    let most = word_at-lt c.self.inside.bytes.now c.self.invariant.are_bytes 4 in
+    let all = c.self.invariant.branches in
+    let low = c.loop-k-test.true in
+    omega (arith, most, all, low)
+
+pub returns-clause-few : goal.returns-clause-few
+returns-clause-few c =
+    let most = word_at-lt c.self.inside.bytes.now c.self.invariant.are_bytes 4 in
+    let all = c.self.invariant.branches in
+    omega (arith, most, all)

@@ -1,0 +1,51 @@
+-- What a plan of an edit comes to that puts elements in the place of others.
+use Rattle.std.specs.Prelude.{◌≡◌, ◌⊎◌, ◌-◌, ◌≤◌, ◌==◌, ℕ, List, Bool, true, false, nat_lt, length, map, ◌||◌}
+use Rattle.std.specs.List.{AllZip, Contains, list_any, zip}
+use Rattle.geos_model.specs.Document.{Document, is_live}
+use Rattle.geos_model.specs.ElementArray.{all_distinct}
+use Rattle.geos_model.specs.Chain.{free_handles}
+use Rattle.geos_model.specs.declared.fault.Fault.{Fault}
+use Rattle.geos_model.specs.declared.fault.Fault.TheVariants.{IsMap, NoHandles}
+use Rattle.vm_blocks.specs.Changes.{IsFreeHandle}
+use Rattle.vm_blocks.specs.declared.change.Change.{Change}
+use Rattle.large_arrays.specs.Layout.{most_branches}
+use Rattle.large_arrays.specs.Blocks.{root_at}
+use Rattle.large_arrays.specs.Window.{Window, freed_handles, replaced_root}
+use Rattle.large_arrays.specs.HandleLists.{ShareNoHandle, old_handles}
+use Rattle.large_arrays.specs.ChangePlans.{ArePlanned, ArePlannedByHandle, window_bodies}
+use Rattle.large_arrays.specs.Gathering.{HasOldBody}
+use Rattle.large_arrays.specs.declared.gathered.Gathered.{Gathered}
+
+-- the map block would go
+abbrev pub frees_map : Document → Window → Bool
+frees_map d w = list_any (λ h. h == d.map_block) (freed_handles w)
+
+-- there are too few free handles
+abbrev pub lacks_handles : Document → Window → Bool
+lacks_handles d w = nat_lt (length (free_handles d)) (length w.pieces - length w.olds)
+
+-- or the root would have too many branches
+abbrev pub has_too_many : Document → ℕ → Window → Bool
+has_too_many d b w = nat_lt most_branches (length (replaced_root (root_at d b) w).branches)
+
+-- Nothing refuses it, and the changes make it of the document.
+pub record IsWindowPlanned (d : Document) (b : ℕ) (w : Window) (changes : List Change) : Type 0 where
+  pub no_map : frees_map d w ≡ false
+  pub handles : lacks_handles d w ≡ false
+  pub room : has_too_many d b w ≡ false
+  pub planned : ArePlanned changes d (freed_handles w) (window_bodies d b w)
+
+-- what refuses it
+abbrev pub RefusesWindow : Document → ℕ → Window → Fault → Type 0
+RefusesWindow d b w fault =
+    ((fault ≡ IsMap) × (frees_map d w ≡ true))
+    ⊎ ((fault ≡ NoHandles) × (frees_map d w ≡ false) × ((lacks_handles d w || has_too_many d b w) ≡ true))
+
+-- a block that is one of these, or free
+abbrev pub IsHome : Document → List ℕ → ℕ → Type 0
+IsHome d olds h = Contains olds h ⊎ IsFreeHandle d h
+
+-- so of each, no two of them the same
+pub record AreHomes (d : Document) (olds hs : List ℕ) : Type 0 where
+  pub each : (h : ℕ) → Contains hs h → IsHome d olds h
+  pub once : all_distinct hs ≡ true
