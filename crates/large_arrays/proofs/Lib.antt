@@ -62,6 +62,14 @@ pub mod PieceHomes
 pub mod SpotRuns
 pub mod RunReads
 pub mod MiddleRuns
+pub mod SpotLinks
+pub mod SpotPieces
+pub mod LookedSides
+pub mod JoinedWindow
+pub mod WindowGathered
+pub mod RunSpots
+pub mod GatherSteps
+pub mod CopiedNeighbours
 pub mod WindowParts
 pub mod SeenPieces
 pub mod WrittenLemmas

@@ -1,11 +1,10 @@
 -- What is read of a run's bodies is what the document has there.
-use Rattle.std.proofs.Common.{◌≡◌, ◌⊎◌, ℕ, suc, ◌+◌, ◌-◌, ◌<◌, ◌≤◌, ◌==◌, Bool, true, false, if◌then◌else◌, List, [], ◌++◌, length, take, drop, map, get_or, Option, None, Some, is_some, unwrap_or, replicate, refl, sym, ap, subst, ◌∙◌, inl, inr, arith, zero-add}
+use Rattle.std.proofs.Common.{◌≡◌, ℕ, ◌+◌, ◌-◌, ◌<◌, ◌==◌, true, false, if◌then◌else◌, List, [], ◌++◌, length, take, drop, map, get_or, Option, None, Some, is_some, unwrap_or, replicate, refl, sym, ap, subst, ◌∙◌, inl, inr, arith, zero-add}
 use Rattle.std.proofs.lemmas.Bool.{cases_Bool, cond-true}
 use Rattle.std.proofs.lemmas.List.{get_or-map, length-map}
 use Rattle.std.proofs.lemmas.List.FromFn.{get_or-map-range_with_len, get_or-range_with_len, length-range_with_len}
 use Rattle.std.proofs.lemmas.List.Folds.{list_all_at}
 use Rattle.std.proofs.lemmas.List.Sums.{AllPass-from_list_all}
-use Rattle.std.specs.List.{list_all, range_with_len}
 use Rattle.geos_model.specs.Document.{Document, is_raw, raw_bytes_of}
 use Rattle.large_arrays.specs.Blocks.{branch_at, pieces_at, root_at}
 use Rattle.large_arrays.specs.Bodies.{AreBodies}
@@ -13,8 +12,8 @@ use Rattle.large_arrays.specs.Layout.{Root, branch_of, root_of}
 use Rattle.large_arrays.specs.Middle.{IsMiddle, are_there, run_branches, run_length, run_links}
 use Rattle.large_arrays.specs.Pieces.{BranchPiece, branch_room, join_room, piece_weight}
 use Rattle.large_arrays.specs.RunReading.{IsHead, IsTail, OneUnread, run_count, run_read, tail_room}
-use Rattle.large_arrays.specs.SizedElements.{SizedElements, SizedPieces}
-use Rattle.large_arrays.specs.Spots.{IsSpot, counts_of, link_handles}
+use Rattle.large_arrays.specs.SizedElements.{SizedElements}
+use Rattle.large_arrays.specs.Spots.{IsSpot, link_handles}
 use Rattle.large_arrays.specs.Spread.{end_place, first_place, middle, packed_from, with_last}
 use Rattle.large_arrays.specs.declared.middle.Middle.{Middle}
 use Rattle.large_arrays.specs.declared.spot.Spot.{Spot}

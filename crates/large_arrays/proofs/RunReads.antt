@@ -1,5 +1,5 @@
 -- Branches of a run that are read from their bodies.
-use Rattle.std.proofs.Common.{◌≡◌, ℕ, suc, ◌+◌, ◌-◌, ◌<◌, ◌≤◌, List, [], length, take, drop, get_or, sum_by, map, Vec, Global, Result, Ok, Err, IfOk, MatchResult, Option, None, Some, is_some, if◌then◌else◌, ◌==◌, refl, sym, ap, subst, ◌∙◌, inl, inr, arith, true, nat_lt, ltb-true, ltb-false, length-drop}
+use Rattle.std.proofs.Common.{◌≡◌, ℕ, suc, ◌+◌, ◌-◌, ◌<◌, ◌≤◌, List, [], length, take, drop, get_or, Vec, Global, Result, Ok, Err, IfOk, MatchResult, None, Some, is_some, if◌then◌else◌, ◌==◌, sym, ap, subst, ◌∙◌, inl, inr, arith, true, nat_lt, ltb-true, ltb-false, length-drop}
 use Rattle.std.proofs.lemmas.Bool.{cases_Bool}
 use Rattle.std.proofs.lemmas.List.{get_or-map, length-map, take_all}
 use Rattle.std.proofs.lemmas.List.Sums.{sum_by-take-drop}
@@ -11,7 +11,7 @@ use Rattle.large_arrays.specs.Bodies.{bytes_of_bodies}
 use Rattle.large_arrays.specs.BranchReading.{IsPlain}
 use Rattle.large_arrays.specs.Pieces.{BranchPiece, branch_room, piece_weight}
 use Rattle.large_arrays.specs.Layout.{branch_of}
-use Rattle.large_arrays.specs.Middle.{run_links, run_length}
+use Rattle.large_arrays.specs.Middle.{run_links}
 use Rattle.large_arrays.specs.RunReading.{IsHead, IsRunBranch, IsTail, run_count, run_read}
 use Rattle.large_arrays.specs.SizedElements.{SizedElements}
 use Rattle.large_arrays.specs.declared.spot.Spot.{Spot}

@@ -1,6 +1,6 @@
 -- The branches of a spot that have the elements.
-use Rattle.std.proofs.Common.{◌≡◌, ℕ, suc, true, ◌&&◌, ◌||◌, ◌+◌, ◌-◌, ◌<◌, ◌≤◌, ◌==◌, nat_le, nat_lt, min, List, [], ◌∷◌, length, take, drop, map, get_or, sum_by, is_some, refl, sym, ap, subst, ◌∙◌, inl, inr, arith, ltb-true, ltb-false, leb-true, leb-false, length-drop}
-use Rattle.std.proofs.lemmas.Bool.{cases_Bool, and_parts, cond-true, cond-false, eqb-true}
+use Rattle.std.proofs.Common.{◌≡◌, ℕ, suc, true, ◌&&◌, ◌||◌, ◌+◌, ◌-◌, ◌<◌, ◌≤◌, ◌==◌, nat_le, nat_lt, min, List, [], ◌∷◌, length, take, drop, map, get_or, sum_by, is_some, sym, ap, subst, ◌∙◌, inl, inr, arith, ltb-true, leb-true, length-drop}
+use Rattle.std.proofs.lemmas.Bool.{cases_Bool, and_parts, cond-true, cond-false}
 use Rattle.std.proofs.lemmas.List.{get_or-drop, get_or-map, get_or-take, length-map, length-take}
 use Rattle.std.proofs.lemmas.List.Sums.{sum_by-cons}
 use Rattle.std.specs.List.{list_all}

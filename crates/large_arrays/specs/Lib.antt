@@ -10,6 +10,7 @@ pub mod EditLaws
 pub mod Edits
 pub mod ElementLengths
 pub mod Filling
+pub mod Gathering
 pub mod HandleLists
 pub mod JoinedPieces
 pub mod LargeCost
@@ -23,6 +24,7 @@ pub mod Neighbours
 pub mod NewElementsViewing
 pub mod PieceKeeping
 pub mod Middle
+pub mod LookedBranches
 pub mod Pieces
 pub mod PiecesKeeping
 pub mod RootEdits
@@ -34,7 +36,6 @@ pub mod Spots
 pub mod Spread
 pub mod SpreadLaws
 pub mod Window
-pub mod Gathering
 pub mod WindowPlans
 pub mod WindowParts
 pub mod WrittenPieces

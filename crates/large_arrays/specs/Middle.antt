@@ -1,5 +1,5 @@
 -- What an edit makes of the branches that have its elements.
-use Rattle.std.specs.Prelude.{◌≡◌, ◌≤◌, ◌-◌, ℕ, suc, List, [], Bool, true, length, take, drop, get_or, is_some}
+use Rattle.std.specs.Prelude.{◌≡◌, ◌≤◌, ◌-◌, ℕ, suc, List, [], Bool, true, take, drop, get_or, is_some}
 use Rattle.std.specs.List.{list_all, range_with_len}
 use Rattle.geos_model.specs.Document.{Document}
 use Rattle.large_arrays.specs.Pieces.{BranchPiece, piece_weight}

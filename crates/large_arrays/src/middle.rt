@@ -104,7 +104,7 @@ fn tail_of(alloc: Global, spot: &Spot, bodies: &[Vec<u8>], first: &View<'_>) -> 
     Ok(part_of(alloc, &view, from, view.count())?)
 }
 
-/// Tests the branches between the first one and the last one.
+/// Tests the branches between the first one and the last one, as `run_branch` does.
 fn test_between(spot: &Spot, bodies: &[Vec<u8>]) -> Result<(), Fault>
     requires run { IsRunSpot spot.now }
     requires many { length bodies.now ≡ length (run_links spot.now) }
@@ -119,7 +119,8 @@ fn test_between(spot: &Spot, bodies: &[Vec<u8>]) -> Result<(), Fault>
     Ok(())
 }
 
-/// One of the branches that have the elements, by its place among these.
+/// One of the branches that have the elements, by its place among these. BadChain where its body isn't the branch that
+/// the root says.
 fn run_branch<'a>(spot: &Spot, bodies: &'a [Vec<u8>], n: usize) -> Result<View<'a>, Fault>
     requires run { IsRunSpot spot.now }
     requires many { length bodies.now ≡ length (run_links spot.now) }

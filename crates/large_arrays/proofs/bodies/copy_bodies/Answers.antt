@@ -1,4 +1,4 @@
-use Rattle.std.proofs.Common.{◌≡◌, false, [], ℕ, List, Vec, Global, length, take, sym, ap, subst, subst₂, inl, arith}
+use Rattle.std.proofs.Common.{◌≡◌, false, [], ℕ, List, Vec, Global, take, sym, subst, subst₂, inl, arith}
 use Rattle.std.proofs.lemmas.List.{length-map}
 use Rattle.geos_model.specs.Document.{is_raw}
 use Rattle.geos_model.specs.declared.fault.Fault.TheVariants.{Memory}
@@ -7,7 +7,6 @@ use Rattle.vm_blocks.proofs.KeepingLaws.{keeps-trans, lacks-memory}
 use Rattle.vm_chains.proofs.Loading.{carried, carried_so, still_room}
 use Rattle.vm_chains.proofs.StepLemmas.{refused_then}
 use Rattle.vm_chains.specs.Walking.{Stops}
-use Rattle.large_arrays.specs.Bodies.{are_raw}
 use Rattle.large_arrays.specs.Spots.{link_handles}
 use Rattle.large_arrays.proofs.CopiedBodies.{Copied, copied-none, copied-more, raw-missing, stops_any, uncopied}
 use Rattle.large_arrays.proofs.Marking.{handle_at, handles-next, no_link}

@@ -1,4 +1,4 @@
-use Rattle.std.proofs.Common.{◌≡◌, ◌<◌, ◌≤◌, ℕ, length, inr, arith}
+use Rattle.std.proofs.Common.{◌<◌, length, inr, arith}
 use Rattle.vm_chains.proofs.Loading.{carried}
 use Rattle.large_arrays.specs.Bodies.{bytes_of_bodies}
 use Rattle.large_arrays.proofs.SpotRuns.{run-is}

@@ -1,5 +1,4 @@
-use Rattle.std.proofs.Common.{◌≡◌, ◌⊎◌, ◌∙◌, ◌<◌, ◌++◌, ℕ, List, [], false, length, sym, ap, inl, inr, arith}
-use Rattle.std.proofs.lemmas.List.{length-map}
+use Rattle.std.proofs.Common.{◌≡◌, ◌∙◌, ◌++◌, ℕ, List, [], false, inl, inr}
 use Rattle.vm_chains.proofs.Loading.{carried}
 use Rattle.vm_chains.specs.Walking.{Stops}
 use Rattle.geos_model.specs.declared.fault.Fault.{Fault}
@@ -9,7 +8,7 @@ use Rattle.large_arrays.specs.Bodies.{bytes_of_bodies}
 use Rattle.large_arrays.specs.Middle.{are_there, run_branches}
 use Rattle.large_arrays.specs.Pieces.{BranchPiece}
 use Rattle.large_arrays.specs.RunReading.{tail_room}
-use Rattle.large_arrays.specs.SizedElements.{SizedElements, SizedPieces}
+use Rattle.large_arrays.specs.SizedElements.{SizedElements}
 use Rattle.large_arrays.specs.Spread.{packed_from, with_last}
 use Rattle.large_arrays.proofs.SpotRuns.{run-is}
 use Rattle.large_arrays.proofs.MiddleRuns.{all-there, is-middle, one-missing}

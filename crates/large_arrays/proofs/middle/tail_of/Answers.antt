@@ -1,7 +1,6 @@
-use Rattle.std.proofs.Common.{◌≡◌, ◌∙◌, ◌≤◌, ◌-◌, ◌+◌, ◌<◌, ℕ, length, sym, ap, subst, inl, inr, refl, arith}
+use Rattle.std.proofs.Common.{◌-◌, ◌<◌, length, inr, arith}
 use Rattle.vm_chains.proofs.Loading.{carried}
 use Rattle.large_arrays.specs.Bodies.{bytes_of_bodies}
-use Rattle.large_arrays.specs.RunReading.{IsRunBranch}
 use Rattle.large_arrays.proofs.SpotRuns.{run-is}
 use Rattle.large_arrays.proofs.RunReads.{bodies-many, bytes-many, tail-in, tail-is}
 use Rattle.large_arrays.proofs.middle.tail_of.Goals as goal
