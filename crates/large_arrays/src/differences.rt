@@ -24,49 +24,19 @@ pub fn body_differences(
     ensures few { IfOk result (λ splices. length splices.items ≤ differing_regions old.now new.now) }
     ensures least { IfOk result (λ splices. IsLeast old.now new.now (sum_by spliced_bytes splices.items)) }
 {
+    let old_rest = old.rest_bytes();
+    let new_rest = new.rest_bytes();
+    let old_table = old.table_bytes();
+    let new_table = new.table_bytes();
+    let old_header = old.header_bytes();
+    let new_header = new.header_bytes();
     let mut splices = Vec::new(alloc);
-    append_shorter(
-        alloc,
-        &mut splices,
-        old.rest,
-        old.rest_bytes(),
-        new.rest_bytes(),
-    )?;
-    append_shorter(
-        alloc,
-        &mut splices,
-        old.table,
-        old.table_bytes(),
-        new.table_bytes(),
-    )?;
-    append_shorter(
-        alloc,
-        &mut splices,
-        0,
-        old.header_bytes(),
-        new.header_bytes(),
-    )?;
-    append_longer(
-        alloc,
-        &mut splices,
-        0,
-        old.header_bytes(),
-        new.header_bytes(),
-    )?;
-    append_longer(
-        alloc,
-        &mut splices,
-        new.table,
-        old.table_bytes(),
-        new.table_bytes(),
-    )?;
-    append_longer(
-        alloc,
-        &mut splices,
-        new.rest,
-        old.rest_bytes(),
-        new.rest_bytes(),
-    )?;
+    append_shorter(alloc, &mut splices, old.rest, old_rest, new_rest)?;
+    append_shorter(alloc, &mut splices, old.table, old_table, new_table)?;
+    append_shorter(alloc, &mut splices, 0, old_header, new_header)?;
+    append_longer(alloc, &mut splices, 0, old_header, new_header)?;
+    append_longer(alloc, &mut splices, new.table, old_table, new_table)?;
+    append_longer(alloc, &mut splices, new.rest, old_rest, new_rest)?;
     Ok(splices)
 }
 

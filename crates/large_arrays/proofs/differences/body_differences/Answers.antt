@@ -11,10 +11,10 @@ returns c =
     let s₀ : List Splice = c.new-splices.result.items in let s₁ : List Splice = c.append_shorter.new.splices.items in let s₂ : List Splice = c.append_shorter-2.new.splices.items in let s₃ : List Splice = c.append_shorter-3.new.splices.items in
     let s₄ : List Splice = c.append_longer.new.splices.items in let s₅ : List Splice = c.append_longer-2.new.splices.items in let s₆ : List Splice = c.append_longer-3.new.splices.items in
     let all = bodies_led old new s₀ s₁ s₂ s₃ s₄ s₅ s₆ c.new-splices.ensures.items
-    (shorter_as s₀ s₁ old.rest c.rest_bytes.result.now (rest_of old) c.rest_bytes-2.result.now (rest_of new) c.rest_bytes.ensures c.rest_bytes-2.ensures c.in_ok-append_shorter.ensures)
-    (shorter_as s₁ s₂ old.table c.table_bytes.result.now (table_of old) c.table_bytes-2.result.now (table_of new) c.table_bytes.ensures c.table_bytes-2.ensures c.in_ok-append_shorter-2.ensures)
-    (shorter_as s₂ s₃ 0 c.header_bytes.result.now (header_of old) c.header_bytes-2.result.now (header_of new) c.header_bytes.ensures c.header_bytes-2.ensures c.in_ok-append_shorter-3.ensures)
-    (longer_as s₃ s₄ 0 c.header_bytes-3.result.now (header_of old) c.header_bytes-4.result.now (header_of new) c.header_bytes-3.ensures c.header_bytes-4.ensures c.in_ok-append_longer.ensures)
-    (longer_as s₄ s₅ new.table c.table_bytes-3.result.now (table_of old) c.table_bytes-4.result.now (table_of new) c.table_bytes-3.ensures c.table_bytes-4.ensures c.in_ok-append_longer-2.ensures)
-    (longer_as s₅ s₆ new.rest c.rest_bytes-3.result.now (rest_of old) c.rest_bytes-4.result.now (rest_of new) c.rest_bytes-3.ensures c.rest_bytes-4.ensures c.in_ok-append_longer-3.ensures) in
+    (shorter_as s₀ s₁ old.rest c.rest_bytes-old_rest.result.now (rest_of old) c.rest_bytes-new_rest.result.now (rest_of new) c.rest_bytes-old_rest.ensures c.rest_bytes-new_rest.ensures c.in_ok-append_shorter.ensures)
+    (shorter_as s₁ s₂ old.table c.table_bytes-old_table.result.now (table_of old) c.table_bytes-new_table.result.now (table_of new) c.table_bytes-old_table.ensures c.table_bytes-new_table.ensures c.in_ok-append_shorter-2.ensures)
+    (shorter_as s₂ s₃ 0 c.header_bytes-old_header.result.now (header_of old) c.header_bytes-new_header.result.now (header_of new) c.header_bytes-old_header.ensures c.header_bytes-new_header.ensures c.in_ok-append_shorter-3.ensures)
+    (longer_as s₃ s₄ 0 c.header_bytes-old_header.result.now (header_of old) c.header_bytes-new_header.result.now (header_of new) c.header_bytes-old_header.ensures c.header_bytes-new_header.ensures c.in_ok-append_longer.ensures)
+    (longer_as s₄ s₅ new.table c.table_bytes-old_table.result.now (table_of old) c.table_bytes-new_table.result.now (table_of new) c.table_bytes-old_table.ensures c.table_bytes-new_table.ensures c.in_ok-append_longer-2.ensures)
+    (longer_as s₅ s₆ new.rest c.rest_bytes-old_rest.result.now (rest_of old) c.rest_bytes-new_rest.result.now (rest_of new) c.rest_bytes-old_rest.ensures c.rest_bytes-new_rest.ensures c.in_ok-append_longer-3.ensures) in
     record { led = all.led; tight = all.tight; few = all.few; least = all.least }
