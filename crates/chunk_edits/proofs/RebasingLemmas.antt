@@ -68,3 +68,9 @@ module _ (bytes part : List ℕ) (at end : ℕ) (order : at ≤ end) (within : e
       put_is bytes whole 0 (omega arith)
       ∙ (ap (λ (l : List ℕ). whole ++ l) (drop_all (0 + length whole) bytes (omega arith)) ∙ (append-nil whole
       ∙ ap (λ (l : List ℕ). take at bytes ++ (part ++ l)) past))
+
+  -- so of a raw body
+  pub put_lent : put bytes at (take (end - at) part) ≡ splice bytes at end part
+  put_lent =
+      ap (put bytes at) (take_all (end - at) part (omega (arith, size)))
+      ∙ (put_is bytes part at (omega (arith, size)) ∙ ap (λ (k : ℕ). take at bytes ++ (part ++ drop k bytes)) (omega (arith, size, order)))

@@ -1,4 +1,4 @@
-//! A patch: all bytes of a chunk in pieces, of which some stay and others change.
+//! A patch: all bytes of a chunk or a raw body in pieces, of which some stay and others change.
 ghost use Rattle.std.specs.Prelude.{◌≡◌, ◌≤◌, ◌+◌, ◌-◌, ◌*◌, ◌/◌, ◌%◌, ◌^◌, ◌<◌, ◌++◌, ◌↔◌, [], ◌∷◌, IsTrue, OnOk, OnErr, IfOk, length, min, take, drop, replicate};
 ghost use Rattle.std.specs.List.{splice};
 ghost use Rattle.std.specs.FinMap.{insert, contains_key};
@@ -8,9 +8,11 @@ ghost use Rattle.chunk_edits.specs.Spans.{own, piece_of, pieces_of, total_own};
 
 use crate::chunk::{chunk_of, put};
 use crate::direction::Direction;
+use crate::raw::put as put_raw;
 use byteorder::{ByteOrder, LittleEndian};
 use geos_model::ChunkHandle;
 use lmem_heap::Heap;
+use raw_region::RawBody;
 use smallvec::SmallVec;
 use std::alloc::{AllocError, Global};
 use std::marker::Model;
@@ -96,7 +98,7 @@ struct Pieces {
     content: SmallVec<u8, FEW_BYTES>,
 }
 
-/// All bytes of a chunk in pieces, of which some stay and others change. Contracts see it as the pieces, the first one
+/// All bytes of a chunk or a raw body in pieces, of which some stay and others change. Contracts see it as the pieces, the first one
 /// first.
 #[derive(Drop)]
 pub struct Patch {
@@ -185,7 +187,7 @@ impl Patch {
         self.pieces.content.len() as u64
     }
 
-    /// How many bytes a chunk has before the patch is carried out in a direction; 2^64 - 1 where these are more.
+    /// How many bytes a chunk or a raw body has before the patch is carried out in a direction; 2^64 - 1 where these are more.
     pub fn size_before(&self, direction: Direction) -> usize
         ensures { result ≡ min (total_taken (directed_pieces direction self.now)) (2 ^ 64 - 1) }
     {
@@ -352,6 +354,96 @@ fn rebase_chunk(heap: &mut Heap, h: ChunkHandle, at: usize, end: usize, from: u1
 {
     let chunk = heap.chunk_mut(h);
     rebase(&mut chunk[at..end], from, to);
+}
+
+/// Makes of a raw body what a patch makes of it in a direction.
+pub fn apply_raw_patch(body: &mut RawBody, patch: &Patch, direction: Direction)
+    requires size { total_taken (directed_pieces direction patch.now) ≡ length body.old }
+    requires room { peak patch.now ≤ capacity }
+    ensures { body.new ≡ patched (directed_pieces direction patch.now) body.old }
+{
+    let pieces = &*patch.pieces;
+    let content = pieces.content.as_slice();
+    apply_raw_spans(body, pieces.spans.as_slice(), content, direction);
+}
+
+/// The same by the patch's spans, and the bytes that their pieces hold in a row.
+fn apply_raw_spans(body: &mut RawBody, spans: &[Span], content: &[u8], direction: Direction)
+    requires whole { total_own spans.now ≡ length content.now }
+    requires size { total_taken (directed_pieces direction (pieces_of spans.now content.now)) ≡ length body.old }
+    requires room { peak (pieces_of spans.now content.now) ≤ capacity }
+    ensures { body.new ≡ patched (directed_pieces direction (pieces_of spans.now content.now)) body.old }
+{
+    let mut at = 0;
+    let mut row = content;
+    for span in spans {
+        at = apply_raw_span(body, at, *span, row, direction);
+        row = &row[span.own()..];
+    }
+}
+
+/// Makes of the bytes at a place of a raw body what a span's piece makes of them in a direction. The bytes that it holds
+/// are the first of the row. Gives the place behind them.
+fn apply_raw_span(
+    body: &mut RawBody,
+    at: usize,
+    span: Span,
+    row: &[u8],
+    direction: Direction,
+) -> usize
+    // The piece.
+    requires whole { own span ≤ length row.now }
+    // What it is made of, and what it makes, within a raw body's room.
+    requires within { at + taken (directed_piece direction (piece_of span row.now)) ≤ length body.old }
+    requires before { at + taken (directed_piece direction (piece_of span row.now)) ≤ capacity }
+    requires after { at + given (directed_piece direction (piece_of span row.now)) ≤ capacity }
+    requires room { length (with_piece (directed_piece direction (piece_of span row.now)) at body.old) ≤ capacity }
+    // What is done.
+    ensures bytes { body.new ≡ with_piece (directed_piece direction (piece_of span row.now)) at body.old }
+    ensures place { result ≡ at + given (directed_piece direction (piece_of span row.now)) }
+{
+    match span {
+        Span::Keep(n) => at + n as usize,
+        Span::Put { old, new } => {
+            let (old, behind) = row.split_at(old as usize);
+            let new = &behind[..new as usize];
+            match direction {
+                Direction::Forwards => put_raw_piece(body, at, old, new),
+                Direction::Backwards => put_raw_piece(body, at, new, old),
+            }
+        }
+        Span::Rebase { words, from, to } => {
+            let end = at + 2 * words as usize;
+            match direction {
+                Direction::Forwards => rebase_raw(body, at, end, from, to),
+                Direction::Backwards => rebase_raw(body, at, end, to, from),
+            }
+            end
+        }
+    }
+}
+
+/// Puts bytes in the place of as many at a place of a raw body as others are. Gives the place behind them.
+fn put_raw_piece(body: &mut RawBody, at: usize, old: &[u8], new: &[u8]) -> usize
+    requires within { at + length old.now ≤ length body.old }
+    requires after { at + length new.now ≤ capacity }
+    requires room { length (splice body.old at (at + length old.now) new.now) ≤ capacity }
+    ensures bytes { body.new ≡ splice body.old at (at + length old.now) new.now }
+    ensures place { result ≡ at + length new.now }
+{
+    put_raw(body, at, old.len(), new);
+    at + new.len()
+}
+
+/// Rebases the words of a raw body from one place to another.
+fn rebase_raw(body: &mut RawBody, at: usize, end: usize, from: u16, to: u16)
+    requires order { at ≤ end }
+    requires within { end ≤ length body.old }
+    requires even { (end - at) % 2 ≡ 0 }
+    ensures { body.new ≡ splice body.old at end
+        (rebased ((end - at) / 2) from to (take (end - at) (drop at body.old))) }
+{
+    rebase(body.slice_mut(at, end - at), from, to);
 }
 
 /// Rebases words where they lie, so that each is as far behind `to`, modulo 2^16, as it was behind `from`.

@@ -33,7 +33,7 @@ pub fn apply_raw_back(body: &mut RawBody, splice: &Splice)
 }
 
 /// Puts bytes in the place of the `k` bytes at `at`. As many are written over without a move of others.
-fn put(body: &mut RawBody, at: usize, k: usize, bytes: &[u8])
+pub(crate) fn put(body: &mut RawBody, at: usize, k: usize, bytes: &[u8])
     requires within { at + k ≤ length body.old }
     requires room { length (splice body.old at (at + k) bytes.now) ≤ capacity }
     ensures { body.new ≡ splice body.old at (at + k) bytes.now }

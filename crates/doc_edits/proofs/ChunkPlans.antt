@@ -50,6 +50,7 @@ module _ (d : Document) (b c : ℕ) where
       let room = room_between (chunks_of d b) c (patched ps (chunk_at d b c)) (peak ps) valid live leads.peak fits in
       subst (λ (k : ℕ). FitsPatch d b k ps) (sym here) (record { heap = heap; live = live; stands = leads.stands; fits = room })
   part_applies heap live valid (parts.Raw s) here stands fits = absurd here
+  part_applies heap live valid (parts.RawPatch ps) here stands fits = absurd here
   part_applies heap live valid (parts.ChunkIn h content) here stands fits = absurd here
   part_applies heap live valid (parts.ChunkOut h content) here stands fits = absurd here
 
@@ -57,6 +58,7 @@ module _ (d : Document) (b c : ℕ) where
   part_makes (parts.Chunk h s) here = ap (λ (k : ℕ). with_chunk d b k (forwards s (chunk_at d b k))) here
   part_makes (parts.Patch h ps runs) here = ap (λ (k : ℕ). with_chunk d b k (patched ps (chunk_at d b k))) here
   part_makes (parts.Raw s) here = absurd here
+  part_makes (parts.RawPatch ps) here = absurd here
   part_makes (parts.ChunkIn h content) here = absurd here
   part_makes (parts.ChunkOut h content) here = absurd here
 

@@ -18,10 +18,10 @@ use Rattle.geos_model.specs.declared.handle.ChunkHandle.{ChunkHandle}
 use Rattle.chunk_edits.specs.Patching.{PatchLeads, patched}
 use Rattle.chunk_edits.specs.Splicing.{OccursAt, Splice, forwards}
 use Rattle.chunk_edits.specs.declared.runs.ArrayPatch.{ArrayPatch}
+use Rattle.vm_blocks.specs.ChangeCosts.{part_cost}
 use Rattle.vm_blocks.specs.ChangePlaces.{part_places}
 use Rattle.vm_blocks.specs.declared.change.PartChange.{PartChange}
 use Rattle.vm_blocks.specs.declared.change.PartChange.TheVariants as parts
-use Rattle.doc_edits.specs.Planning.{part_cost}
 
 -- what a change of a part makes of the bytes of its chunk
 abbrev pub chunk_after : PartChange → List ℕ → List ℕ

@@ -3,7 +3,7 @@ use Rattle.std.specs.Prelude.{◌≡◌, ◌⊎◌, ◌+◌, ℕ, Bool, true, fa
 use Rattle.geos_model.specs.Refusal.{first_refusal}
 use Rattle.geos_model.specs.Document.{Document, handles_of, is_raw}
 use Rattle.geos_model.specs.Meaning.{conditions, effect}
-use Rattle.geos_model.specs.Cost.{cost, images_length}
+use Rattle.geos_model.specs.Cost.{cost}
 use Rattle.geos_model.specs.Machine.{edit_needs, kind_of}
 use Rattle.geos_model.specs.Places.{places_of}
 use Rattle.geos_model.specs.Scope.{Scope, Chain, scope_of}
@@ -15,16 +15,14 @@ use Rattle.geos_model.specs.declared.command.Edit.TheVariants as edits
 use Rattle.geos_model.specs.declared.handle.VmHandle.{VmHandle}
 use Rattle.geos_model.specs.declared.command.Kind.{Kind}
 use Rattle.geos_model.specs.declared.command.Kind.TheVariants.{Plain, In, Made, Freed}
-use Rattle.chunk_edits.specs.Patching.{total_given, total_taken}
 use Rattle.vm_store.specs.Facts.{StoreFacts}
 use Rattle.vm_blocks.specs.State.{CacheState}
 use Rattle.document_file.specs.Members.{imaged_blocks}
+use Rattle.vm_blocks.specs.ChangeCosts.{change_cost}
 use Rattle.vm_blocks.specs.ChangePlaces.{change_places}
-use Rattle.vm_blocks.specs.Changes.{after_change, content_bytes, CanApply}
+use Rattle.vm_blocks.specs.Changes.{after_change, CanApply}
 use Rattle.vm_blocks.specs.declared.change.Change.{Change}
 use Rattle.vm_blocks.specs.declared.change.Change.TheVariants as changes
-use Rattle.vm_blocks.specs.declared.change.PartChange.{PartChange}
-use Rattle.vm_blocks.specs.declared.change.PartChange.TheVariants as parts
 use Rattle.vm_blocks.specs.Keeping.{KeepsBlocks, IsEnvironmentFault, IsHonest, is_full}
 use Rattle.vm_blocks.specs.Kinds.{IsWrongBlock}
 use Rattle.vm_blocks.specs.Preparing.{CanCarryOut}
@@ -46,23 +44,6 @@ freed_by (changes.BlocksOut ms) = handles_of (imaged_blocks ms.list.items)
 freed_by (changes.Part b part) = []
 freed_by (changes.Attributes b old new) = []
 freed_by (changes.Map old new) = []
-
--- How many bytes a step is charged for: those that its change holds, the zeros that it need not hold, and of a patch
--- also those that stay, before and after it.
-
-abbrev pub part_cost : PartChange → ℕ
-part_cost (parts.Raw s) = length s.old + length s.new
-part_cost (parts.Chunk c s) = length s.old + length s.new
-part_cost (parts.Patch c ps runs) = total_taken ps + total_given ps
-part_cost (parts.ChunkIn c content) = length (content_bytes content)
-part_cost (parts.ChunkOut c content) = length (content_bytes content)
-
-abbrev pub change_cost : Change → ℕ
-change_cost (changes.BlocksIn ms) = images_length (imaged_blocks ms.list.items)
-change_cost (changes.BlocksOut ms) = images_length (imaged_blocks ms.list.items)
-change_cost (changes.Part b part) = part_cost part
-change_cost (changes.Attributes b old new) = 0
-change_cost (changes.Map old new) = 0
 
 -- Nothing refuses the edit; the change can be made in the document, means the edit, and changes it at the places of the
 -- edit.

@@ -17,13 +17,14 @@ use Rattle.vm_blocks.specs.Changes.{after_change, reversed}
 use Rattle.vm_blocks.specs.declared.change.Change.{Change}
 use Rattle.chunk_edits.specs.declared.direction.Direction.{Direction}
 use Rattle.chunk_edits.specs.declared.direction.Direction.TheVariants.{Forwards, Backwards}
-use Rattle.doc_edits.specs.Planning.{change_cost, Plans}
+use Rattle.doc_edits.specs.Planning.{Plans}
 use Rattle.undo_log.specs.Logging.{AreExclusive, Log, abandoned_log, places_of_step, after_all, after_entry, all_changes, changes_cost, changes_in, closed_with, entry_cost, joined_entries, kind_of_entry, entry_step, entry_steps, reversed_entry, with_change, without_redo}
 use Rattle.undo_log.specs.Sessions.{opposite, AreSteps}
 use Rattle.undo_log.specs.Entries.{LogEntry}
 use Rattle.undo_log.specs.Entries as entries
 use Rattle.undo_log.specs.Turning.{step_command}
 use Rattle.geos_model.specs.declared.place.Place.{Place}
+use Rattle.vm_blocks.specs.ChangeCosts.{change_cost}
 use Rattle.vm_blocks.specs.ChangePlaces.{change_places}
 use Rattle.undo_log.specs.Telling.{all_places, made_places}
 use Rattle.undo_log.proofs.Telling.{back-all, joined-made, places-one_more, told_of_step, turn-tells, turned-made}

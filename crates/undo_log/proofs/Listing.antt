@@ -86,6 +86,7 @@ taken_all_alike a b (h ∷ hs) same = taken_all_alike (without_block a h) (witho
 
 part_alike : (a b : Document) (h : ℕ) (p : PartChange) → Alike a b → Alike (after_part h p a) (after_part h p b)
 part_alike a b h (parts.Raw s) same = put_alike a b h _ _ same
+part_alike a b h (parts.RawPatch ps) same = put_alike a b h _ _ same
 part_alike a b h (parts.Chunk c s) same = put_alike a b h _ _ same
 part_alike a b h (parts.Patch c ps runs) same = put_alike a b h _ _ same
 part_alike a b h (parts.ChunkIn c content) same = put_alike a b h _ _ same
@@ -94,6 +95,7 @@ part_alike a b h (parts.ChunkOut c content) same = put_alike a b h _ _ same
 -- a body or attributes change, and no handle
 part_keeps : (d : Document) (h : ℕ) (p : PartChange) → is_live d h ≡ true → Alike d (after_part h p d)
 part_keeps d h (parts.Raw s) live = put_there d h _ live
+part_keeps d h (parts.RawPatch ps) live = put_there d h _ live
 part_keeps d h (parts.Chunk c s) live = put_there d h _ live
 part_keeps d h (parts.Patch c ps runs) live = put_there d h _ live
 part_keeps d h (parts.ChunkIn c content) live = put_there d h _ live

@@ -16,7 +16,7 @@ use Rattle.vm_blocks.specs.declared.change.PartChange.TheVariants as parts
 use Rattle.chunk_edits.proofs.PatchingLemmas.{held_le}
 use Rattle.chunk_edits.specs.declared.direction.Direction.{Direction}
 use Rattle.chunk_edits.specs.declared.direction.Direction.TheVariants.{Forwards, Backwards}
-use Rattle.doc_edits.specs.Planning.{part_cost, change_cost}
+use Rattle.vm_blocks.specs.ChangeCosts.{part_cost, change_cost}
 use Rattle.vm_blocks.specs.Changes.{after_directed}
 use Rattle.undo_log.specs.Logging.{Log, after_all, all_changes, before, changes_cost, entry_step, entry_steps, entry_weight, group_of, open_changes, to_redo, to_undo, total_weight}
 use Rattle.undo_log.specs.Sessions.{total_cost}
@@ -30,6 +30,7 @@ content_weight-le (contents.Zeros n) = omega arith
 part_weight-le : (part : PartChange) → part_weight part ≤ part_cost part
 part_weight-le (parts.Raw s) = omega arith
 part_weight-le (parts.Chunk c s) = omega arith
+part_weight-le (parts.RawPatch ps) = held_le ps
 part_weight-le (parts.Patch c ps runs) = held_le ps
 part_weight-le (parts.ChunkIn c content) = content_weight-le content
 part_weight-le (parts.ChunkOut c content) = content_weight-le content

@@ -12,9 +12,10 @@ use Rattle.vm_blocks.specs.Preparing.{after_changes}
 use Rattle.vm_blocks.specs.declared.change.Change.{Change}
 use Rattle.chunk_edits.specs.declared.direction.Direction.{Direction}
 use Rattle.chunk_edits.specs.declared.direction.Direction.TheVariants.{Backwards, Forwards}
-use Rattle.doc_edits.specs.Planning.{kind_of_change, change_cost}
+use Rattle.doc_edits.specs.Planning.{kind_of_change}
 use Rattle.geos_model.specs.declared.place.Place.{Place}
 use Rattle.geos_model.specs.declared.place.Place.TheVariants as place
+use Rattle.vm_blocks.specs.ChangeCosts.{change_cost}
 use Rattle.vm_blocks.specs.ChangePlaces.{change_places}
 pub use Rattle.undo_log.specs.Telling.{changes_in}
 use Rattle.undo_log.specs.Telling.{all_places, made_places, next_places, newest_changes, next_changes, told}

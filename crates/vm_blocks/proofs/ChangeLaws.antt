@@ -29,10 +29,10 @@ use Rattle.vm_blocks.specs.declared.change.Content.{Content}
 use Rattle.vm_blocks.specs.declared.change.PartChange.{PartChange}
 use Rattle.vm_blocks.specs.declared.change.PartChange.TheVariants as parts
 use Rattle.vm_blocks.proofs.MapLemmas.{put_back, put_taken, taken_put}
-use Rattle.vm_blocks.proofs.PartLemmas.{patched_fits}
+use Rattle.vm_blocks.proofs.PartLemmas.{patched_few, patched_fits}
 use Rattle.vm_blocks.proofs.RoomLemmas.{put_again}
 use Rattle.vm_blocks.proofs.ManyBlocks.{All-from_map, taken_gone, taken_valid, in_and_out, out_and_in, out_handles}
-use Rattle.vm_blocks.specs.Changes.{content_bytes, attributes_for_kind, after_part, after_change, reversed_splice, reversed_part, reversed, IsFreeHandle, AreFree, CanRemoveAll, FitsRaw, FitsChunk, FitsPatch, FitsNewChunk, HasChunk, HasAttributes, HasMap, CanApplyPart, CanApply, ChangeLaw, ReverseLaw}
+use Rattle.vm_blocks.specs.Changes.{content_bytes, attributes_for_kind, after_part, after_change, reversed_splice, reversed_part, reversed, IsFreeHandle, AreFree, CanRemoveAll, FitsRaw, FitsRawPatch, FitsChunk, FitsPatch, FitsNewChunk, HasChunk, HasAttributes, HasMap, CanApplyPart, CanApply, ChangeLaw, ReverseLaw}
 use Rattle.vm_blocks.proofs.KindLemmas.{attributes_for_kind-same}
 
 -- A change of a document leads back.
@@ -120,6 +120,15 @@ module _ (d : Document) (b : ℕ) (u : Attributes) (bytes : List ℕ) (there : g
   raw_few : (s : Splice) → FitsRaw d b s → length (forwards s bytes) ≤ capacity
   raw_few s fits = rw there at fits.fits
 
+  raw_patched : (ps : List PatchPiece) → after_part b (parts.RawPatch ps) d ≡ with_block d b (raw_block u (patched ps bytes))
+  raw_patched ps = rw there refl
+
+  raw_patch_fits : (ps : List PatchPiece) → ArePiecesOf ps bytes → peak ps ≤ capacity → FitsRawPatch d b ps
+  raw_patch_fits ps stands room = record { raw = rw there refl; stands = rw there stands; fits = room }
+
+  raw_patch_stands : (ps : List PatchPiece) → FitsRawPatch d b ps → ArePiecesOf ps bytes
+  raw_patch_stands ps fits = rw there at fits.stands
+
 -- bytes that are spliced, and back
 pub spliced_back : (s : Splice) (bytes : List ℕ) → OccursAt bytes s.at s.old → OccursAt (forwards s bytes) s.at s.new × (backwards s (forwards s bytes) ≡ bytes)
 spliced_back s bytes stands = leads_back s bytes (forwards s bytes) (length s.old + length s.new) (record { stands = stands; gives = refl; holds = refl })
@@ -139,6 +148,25 @@ raw_undone d b s valid fits =
     (new_valid d b old new there valid (valid.blocks b old there).attributes (valid.blocks b old there).typed (le-leb _ _ (raw_few d b u bytes there s fits)))
     (raw_fits (with_block d b new) b u (forwards s bytes) now (reversed_splice s) back.0 (omega (arith, few, ap length back.1)))
     (raw_made (with_block d b new) b u (forwards s bytes) now (reversed_splice s) ∙ ap (λ (x : List ℕ). with_block (with_block d b new) b (raw_block u x)) back.1 ∙ old_back d b old new there)
+
+raw_patch_undone : (d : Document) (b : ℕ) (ps : List PatchPiece) → IsValid d → FitsRawPatch d b ps → PartUndone b (parts.RawPatch ps) d
+raw_patch_undone d b ps valid fits =
+    let found = raw_at d b fits.raw in
+    let u : Attributes = found.0 in
+    let bytes : List ℕ = found.1 in
+    let made : List ℕ = patched ps bytes in
+    let old : Block = raw_block u bytes in
+    let new : Block = raw_block u made in
+    let there : get d.blocks b ≡ Some old = found.2 in
+    let now : get (with_block d b new).blocks b ≡ Some new = new_there d b old new there in
+    let stands : ArePiecesOf ps bytes = raw_patch_stands d b u bytes there ps fits in
+    let back = patch_leads_back ps bytes stands in
+    let few : length made ≤ capacity = patched_few ps bytes (sym (pieces_length ps bytes stands)) fits.fits in
+    let room : peak (reversed_pieces ps) ≤ capacity = omega (arith, reversed_peak ps, fits.fits) in
+    part_undone b (parts.RawPatch ps) d (with_block d b new) (raw_patched d b u bytes there ps)
+    (new_valid d b old new there valid (valid.blocks b old there).attributes (valid.blocks b old there).typed (le-leb _ _ few))
+    (raw_patch_fits (with_block d b new) b u made now (reversed_pieces ps) back.0 room)
+    (raw_patched (with_block d b new) b u made now (reversed_pieces ps) ∙ ap (λ (x : List ℕ). with_block (with_block d b new) b (raw_block u x)) back.1 ∙ old_back d b old new there)
 
 -- Of a heap.
 abbrev heap_block : Attributes → ChunkMap → Block
@@ -291,6 +319,7 @@ chunk_out_undone d b c content valid has =
 
 part_back : (b : ℕ) (p : PartChange) (d : Document) → IsValid d → CanApplyPart b p d → PartUndone b p d
 part_back b (parts.Raw s) d valid applies = raw_undone d b s valid applies
+part_back b (parts.RawPatch ps) d valid applies = raw_patch_undone d b ps valid applies
 part_back b (parts.Chunk c s) d valid applies = chunk_undone d b c s valid applies
 part_back b (parts.Patch c ps runs) d valid applies = patch_undone d b c ps runs valid applies
 part_back b (parts.ChunkIn c content) d valid applies = chunk_in_undone d b c content valid applies
@@ -346,6 +375,7 @@ change_back (changes.Map old new) d valid applies = map_undone d old.0 new.0 val
 
 pub part_twice : (p : PartChange) → reversed_part (reversed_part p) ≡ p
 part_twice (parts.Raw s) = refl
+part_twice (parts.RawPatch ps) = ap parts.RawPatch (reversed_twice ps)
 part_twice (parts.Chunk c s) = refl
 part_twice (parts.Patch c ps runs) = ap (λ (qs : List PatchPiece). parts.Patch c qs runs) (reversed_twice ps)
 part_twice (parts.ChunkIn c content) = refl

@@ -37,6 +37,7 @@ part_as_body h p d body there = by (get d.blocks h) refl there
   where
     at : (p : PartChange) (block : Block) → get d.blocks h ≡ Some block → after_part h p d ≡ with_body d h (body_after_part p block.body)
     at (parts.Raw s) block is = rw is refl
+    at (parts.RawPatch ps) block is = rw is refl
     at (parts.Chunk c s) block is = rw is refl
     at (parts.Patch c ps runs) block is = rw is refl
     at (parts.ChunkIn c content) block is = rw is refl

@@ -27,6 +27,8 @@ holds_by b p d block is applies = by p block.body (is ∙ refl) applies
     by : (p : PartChange) (body : Body) → get d.blocks b ≡ Some (record { attributes = block.attributes; body = body }) → CanApplyPart b p d → HoldsPart p body
     by (parts.Raw s) (Raw bytes) is fits = rw is at fits.stands
     by (parts.Raw s) (Heap m) is fits = let no : false ≡ true = rw is at fits.raw in cc
+    by (parts.RawPatch ps) (Raw bytes) is fits = rw is at fits.stands
+    by (parts.RawPatch ps) (Heap m) is fits = let no : false ≡ true = rw is at fits.raw in cc
     by (parts.Chunk c s) (Raw bytes) is fits = let no : false ≡ true = rw is at fits.heap in cc
     by (parts.Chunk c s) (Heap m) is fits = rw is at fits.stands
     by (parts.Patch c ps runs) (Raw bytes) is fits = let no : false ≡ true = rw is at fits.heap in cc
@@ -51,6 +53,11 @@ raw_back : (s : Splice) (bytes : List ℕ) → length bytes ≤ capacity → Occ
 raw_back s bytes few stands =
     let back = spliced_back s bytes stands in
     (record { within = back.0.within; room = omega (arith, few, ap length back.1) }, ap Raw back.1)
+
+raw_patch_back : (ps : List PatchPiece) (bytes : List ℕ) → peak ps ≤ capacity → ArePiecesOf ps bytes → LeadsBack (parts.RawPatch ps) (Raw bytes)
+raw_patch_back ps bytes room stands =
+    let back = patch_leads_back ps bytes stands in
+    (record { size = sym (pieces_length (reversed_pieces ps) _ back.0); room = omega (arith, room, reversed_peak ps) }, ap Raw back.1)
 
 module _ (m : ChunkMap) (heap : is_heap_map m ≡ true) (c : ℕ) where
   chunk_back : (s : Splice) → contains_key m c ≡ true → OccursAt (chunk_bytes m c) s.at s.old
@@ -85,6 +92,8 @@ module _ (m : ChunkMap) (heap : is_heap_map m ≡ true) (c : ℕ) where
 pub part_leads_back : (p : PartChange) (body : Body) → is_valid_body body ≡ true → IsExactPart p body → LeadsBack p body
 part_leads_back (parts.Raw s) (Raw bytes) valid exact = raw_back s bytes (leb-true (length bytes) capacity valid) exact.holds
 part_leads_back (parts.Raw s) (Heap m) valid exact = absurd exact.holds
+part_leads_back (parts.RawPatch ps) (Raw bytes) valid exact = raw_patch_back ps bytes exact.takes.room exact.holds
+part_leads_back (parts.RawPatch ps) (Heap m) valid exact = absurd exact.holds
 part_leads_back (parts.Chunk c s) (Raw bytes) valid exact = absurd exact.holds
 part_leads_back (parts.Chunk c s) (Heap m) valid exact =
     let back = chunk_back m valid c.0 s exact.takes.live exact.holds in

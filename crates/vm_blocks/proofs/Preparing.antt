@@ -131,6 +131,7 @@ taken_all_alike a b (h ∷ hs) unless_corrupt = taken_all_alike (without_block a
 -- whatever bodies they have, and whatever the change makes of them
 part_alike : (a b : Document) (h : ℕ) (p : PartChange) → Alike a b → Alike (after_part h p a) (after_part h p b)
 part_alike a b h (parts.Raw s) unless_corrupt = put_alike a b h _ _ (unless_corrupt.attributes h) refl unless_corrupt
+part_alike a b h (parts.RawPatch ps) unless_corrupt = put_alike a b h _ _ (unless_corrupt.attributes h) refl unless_corrupt
 part_alike a b h (parts.Chunk c s) unless_corrupt = put_alike a b h _ _ (unless_corrupt.attributes h) refl unless_corrupt
 part_alike a b h (parts.Patch c ps runs) unless_corrupt = put_alike a b h _ _ (unless_corrupt.attributes h) refl unless_corrupt
 part_alike a b h (parts.ChunkIn c content) unless_corrupt = put_alike a b h _ _ (unless_corrupt.attributes h) refl unless_corrupt
@@ -202,6 +203,7 @@ takes_body d h p body is takes = subst (AllowsPart p) (body_of_option (get d.blo
 -- a block that was put is there
 part_live_made : (h : ℕ) (p : PartChange) (d : Document) → is_live (after_part h p d) h ≡ true
 part_live_made h (parts.Raw s) d = ap is_some (get-put_same d.blocks h _ h refl)
+part_live_made h (parts.RawPatch ps) d = ap is_some (get-put_same d.blocks h _ h refl)
 part_live_made h (parts.Chunk c s) d = ap is_some (get-put_same d.blocks h _ h refl)
 part_live_made h (parts.Patch c ps runs) d = ap is_some (get-put_same d.blocks h _ h refl)
 part_live_made h (parts.ChunkIn c content) d = ap is_some (get-put_same d.blocks h _ h refl)
@@ -216,6 +218,7 @@ put_live d h block k live = elim (cases_eq k h) as (λ _. is_live (with_block d 
 
 pub part_live_on : (h : ℕ) (p : PartChange) (d : Document) (k : ℕ) → is_live d k ≡ true → is_live (after_part h p d) k ≡ true
 part_live_on h (parts.Raw s) d k live = put_live d h _ k live
+part_live_on h (parts.RawPatch ps) d k live = put_live d h _ k live
 part_live_on h (parts.Chunk c s) d k live = put_live d h _ k live
 part_live_on h (parts.Patch c ps runs) d k live = put_live d h _ k live
 part_live_on h (parts.ChunkIn c content) d k live = put_live d h _ k live

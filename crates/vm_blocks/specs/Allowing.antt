@@ -10,7 +10,12 @@ pub record AllowsRaw (bytes : List ℕ) (s : Splice) : Type 0 where
   pub within : s.at + length s.old ≤ length bytes
   pub room : length (forwards s bytes) ≤ capacity
 
--- so has a chunk in its heap
+-- a raw body is of as many bytes as the pieces, and has room for as many as there are on the way
+pub record AllowsRawPatch (bytes : List ℕ) (ps : List PatchPiece) : Type 0 where
+  pub size : total_taken ps ≡ length bytes
+  pub room : peak ps ≤ capacity
+
+-- a chunk in its heap has the part that is replaced, and room for what comes
 pub record AllowsChunk (m : ChunkMap) (c : ℕ) (s : Splice) : Type 0 where
   pub live : IsTrue (contains_key m c)
   pub within : s.at + length s.old ≤ length (chunk_bytes m c)

@@ -25,6 +25,7 @@ run_of b c s = place.Run b c s.at (length s.old) (length s.new)
 
 abbrev pub part_places : VmHandle → PartChange → List Place
 part_places b (parts.Raw s) = raw_run b s.at (length s.old) (length s.new)
+part_places b (parts.RawPatch ps) = place.Block b ∷ []
 part_places b (parts.Chunk c s) = run_of b c s ∷ []
 part_places b (parts.Patch c ps runs) = runs_places b c runs
 part_places b (parts.ChunkIn c content) = place.Chunk b c ∷ []

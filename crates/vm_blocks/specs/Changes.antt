@@ -35,6 +35,7 @@ attributes_for_kind false a = record a { heap_type = 0 }
 
 abbrev pub after_part : ℕ → PartChange → Document → Document
 after_part b (parts.Raw s) d = with_body d b (Raw (forwards s (raw_bytes_of d b)))
+after_part b (parts.RawPatch ps) d = with_body d b (Raw (patched ps (raw_bytes_of d b)))
 after_part b (parts.Chunk c s) d = with_chunk d b c.0 (forwards s (chunk_at d b c.0))
 after_part b (parts.Patch c ps runs) d = with_chunk d b c.0 (patched ps (chunk_at d b c.0))
 after_part b (parts.ChunkIn c content) d = with_chunk d b c.0 (content_bytes content)
@@ -54,6 +55,7 @@ reversed_splice s = record { at = s.at; old = s.new; new = s.old }
 
 abbrev pub reversed_part : PartChange → PartChange
 reversed_part (parts.Raw s) = parts.Raw (reversed_splice s)
+reversed_part (parts.RawPatch ps) = parts.RawPatch (reversed_pieces ps)
 reversed_part (parts.Chunk c s) = parts.Chunk c (reversed_splice s)
 reversed_part (parts.Patch c ps runs) = parts.Patch c (reversed_pieces ps) runs
 reversed_part (parts.ChunkIn c content) = parts.ChunkOut c content
@@ -112,6 +114,12 @@ pub record FitsRaw (d : Document) (b : ℕ) (s : Splice) : Type 0 where
   pub stands : OccursAt (raw_bytes_of d b) s.at s.old
   pub fits : length (forwards s (raw_bytes_of d b)) ≤ capacity
 
+-- the bytes of a raw body are those of the pieces, and as many as there are on the way fit
+pub record FitsRawPatch (d : Document) (b : ℕ) (ps : List PatchPiece) : Type 0 where
+  pub raw : is_raw d b ≡ true
+  pub stands : ArePiecesOf ps (raw_bytes_of d b)
+  pub fits : peak ps ≤ capacity
+
 -- the part stands in a chunk, and the result fits
 pub record FitsChunk (d : Document) (b c : ℕ) (s : Splice) : Type 0 where
   pub heap : is_heap d b ≡ true
@@ -152,6 +160,7 @@ pub record HasMap (d : Document) (old new : ℕ) : Type 0 where
 
 abbrev pub CanApplyPart : ℕ → PartChange → Document → Type 0
 CanApplyPart b (parts.Raw s) d = FitsRaw d b s
+CanApplyPart b (parts.RawPatch ps) d = FitsRawPatch d b ps
 CanApplyPart b (parts.Chunk c s) d = FitsChunk d b c.0 s
 CanApplyPart b (parts.Patch c ps runs) d = FitsPatch d b c.0 ps
 CanApplyPart b (parts.ChunkIn c content) d = FitsNewChunk d b c.0 (content_bytes content)
@@ -191,6 +200,7 @@ content_weight (contents.Zeros n) = 0
 
 abbrev pub part_weight : PartChange → ℕ
 part_weight (parts.Raw s) = length s.old + length s.new
+part_weight (parts.RawPatch ps) = total_held ps
 part_weight (parts.Chunk c s) = length s.old + length s.new
 part_weight (parts.Patch c ps runs) = total_held ps
 part_weight (parts.ChunkIn c content) = content_weight content

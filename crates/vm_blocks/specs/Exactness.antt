@@ -13,6 +13,7 @@ use Rattle.vm_blocks.specs.declared.change.PartChange.TheVariants as parts
 
 abbrev pub RawHolds : PartChange → List ℕ → Type 0
 RawHolds (parts.Raw s) bytes = OccursAt bytes s.at s.old
+RawHolds (parts.RawPatch ps) bytes = ArePiecesOf ps bytes
 RawHolds (parts.Chunk c s) bytes = ⊥
 RawHolds (parts.Patch c ps runs) bytes = ⊥
 RawHolds (parts.ChunkIn c content) bytes = ⊥
@@ -20,6 +21,7 @@ RawHolds (parts.ChunkOut c content) bytes = ⊥
 
 abbrev pub HeapHolds : PartChange → ChunkMap → Type 0
 HeapHolds (parts.Raw s) m = ⊥
+HeapHolds (parts.RawPatch ps) m = ⊥
 HeapHolds (parts.Chunk c s) m = OccursAt (chunk_bytes m c.0) s.at s.old
 HeapHolds (parts.Patch c ps runs) m = ArePiecesOf ps (chunk_bytes m c.0)
 HeapHolds (parts.ChunkIn c content) m = Unit {0}

@@ -15,3 +15,4 @@ pub mod Preparing
 pub mod SavingAs
 pub mod Sound
 pub mod State
+pub mod ChangeCosts

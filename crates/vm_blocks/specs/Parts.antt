@@ -7,13 +7,14 @@ use Rattle.geos_model.specs.declared.command.Body.{Body}
 use Rattle.geos_model.specs.declared.command.Body.TheVariants.{Raw, Heap}
 use Rattle.chunk_edits.specs.Patching.{patched}
 use Rattle.chunk_edits.specs.Splicing.{forwards}
-use Rattle.vm_blocks.specs.Allowing.{AllowsRaw, AllowsChunk, AllowsPatch, AllowsNewChunk}
+use Rattle.vm_blocks.specs.Allowing.{AllowsRaw, AllowsRawPatch, AllowsChunk, AllowsPatch, AllowsNewChunk}
 use Rattle.vm_blocks.specs.Changes.{content_bytes}
 use Rattle.vm_blocks.specs.declared.change.PartChange.{PartChange}
 use Rattle.vm_blocks.specs.declared.change.PartChange.TheVariants as parts
 
 abbrev pub RawAllowsPart : PartChange → List ℕ → Type 0
 RawAllowsPart (parts.Raw s) bytes = AllowsRaw bytes s
+RawAllowsPart (parts.RawPatch ps) bytes = AllowsRawPatch bytes ps
 RawAllowsPart (parts.Chunk c s) bytes = ⊥
 RawAllowsPart (parts.Patch c ps runs) bytes = ⊥
 RawAllowsPart (parts.ChunkIn c content) bytes = ⊥
@@ -21,6 +22,7 @@ RawAllowsPart (parts.ChunkOut c content) bytes = ⊥
 
 abbrev pub HeapAllowsPart : PartChange → ChunkMap → Type 0
 HeapAllowsPart (parts.Raw s) m = ⊥
+HeapAllowsPart (parts.RawPatch ps) m = ⊥
 HeapAllowsPart (parts.Chunk c s) m = AllowsChunk m c.0 s
 HeapAllowsPart (parts.Patch c ps runs) m = AllowsPatch m c.0 ps
 HeapAllowsPart (parts.ChunkIn c content) m = AllowsNewChunk m c.0 (content_bytes content)
@@ -32,6 +34,7 @@ AllowsPart part (Heap m) = HeapAllowsPart part m
 
 abbrev pub body_after_part : PartChange → Body → Body
 body_after_part (parts.Raw s) body = Raw (forwards s (bytes_of_body body))
+body_after_part (parts.RawPatch ps) body = Raw (patched ps (bytes_of_body body))
 body_after_part (parts.Chunk c s) body =
     Heap (insert (chunks_of_body body) c.0 (forwards s (chunk_bytes (chunks_of_body body) c.0)))
 body_after_part (parts.Patch c ps runs) body =

@@ -33,6 +33,8 @@ pub enum Change {
 pub enum PartChange {
     /// A part of a raw body is replaced.
     Raw(Splice),
+    /// Pieces of a raw body change, and the others stay.
+    RawPatch(Patch),
     /// A part of a chunk is replaced.
     Chunk(ChunkHandle, Splice),
     /// Pieces of a chunk change, and the others stay; and where the edit that made them changed the chunk.
@@ -72,7 +74,7 @@ impl PartChange {
     {
         match self {
             PartChange::Raw(splice) | PartChange::Chunk(_, splice) => splice.byte_count() as u64,
-            PartChange::Patch(_, patch, _) => patch.byte_count(),
+            PartChange::RawPatch(patch) | PartChange::Patch(_, patch, _) => patch.byte_count(),
             PartChange::ChunkIn(_, content) | PartChange::ChunkOut(_, content) => content.weight(),
         }
     }

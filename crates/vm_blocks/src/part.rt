@@ -7,13 +7,15 @@ ghost use Rattle.geos_model.specs.declared.command.Body.TheVariants as bodies;
 ghost use Rattle.chunk_edits.specs.Patching.{directed_pieces};
 ghost use Rattle.chunk_edits.specs.Splicing.{OccursAt};
 ghost use Rattle.vm_blocks.specs.Bodies.{body_value};
-ghost use Rattle.vm_blocks.specs.Allowing.{AllowsRaw, AllowsChunk, AllowsPatch, AllowsNewChunk};
+ghost use Rattle.vm_blocks.specs.Allowing.{AllowsRaw, AllowsRawPatch, AllowsChunk, AllowsPatch, AllowsNewChunk};
 ghost use Rattle.vm_blocks.specs.Changes.{content_bytes, directed_part};
 ghost use Rattle.vm_blocks.specs.Exactness.{HeapHolds, HoldsPart, IsExactPart, RawHolds};
 ghost use Rattle.vm_blocks.specs.Parts.{AllowsPart, RawAllowsPart, HeapAllowsPart, body_after_part};
 
 use crate::{BlockBody, Content, Direction, PartChange};
-use chunk_edits::{Patch, apply, apply_back, apply_patch, apply_raw, apply_raw_back};
+use chunk_edits::{
+    Patch, apply, apply_back, apply_patch, apply_raw, apply_raw_back, apply_raw_patch,
+};
 use geos_model::ChunkHandle;
 use lmem_heap::Heap;
 use raw_region::{RawBody, SIZE};
@@ -40,6 +42,7 @@ fn raw_can_take(body: &RawBody, change: &PartChange, direction: Direction) -> bo
                 Direction::Backwards => raw_allows(body, splice.at(), new, old),
             }
         }
+        PartChange::RawPatch(patch) => raw_patch_allows(body, patch, direction),
         PartChange::Chunk(_, _)
         | PartChange::Patch(_, _, _)
         | PartChange::ChunkIn(_, _)
@@ -68,7 +71,7 @@ fn heap_can_take(heap: &Heap, change: &PartChange, direction: Direction) -> bool
             Direction::Forwards => heap.chunk(*chunk).is_some(),
             Direction::Backwards => allows_new(heap, *chunk, content),
         },
-        PartChange::Raw(_) => false,
+        PartChange::Raw(_) | PartChange::RawPatch(_) => false,
     }
 }
 
@@ -112,6 +115,7 @@ fn raw_holds(body: &RawBody, change: &PartChange, direction: Direction) -> bool
             Direction::Forwards => occurs_at(body.bytes(), splice.at(), splice.old()),
             Direction::Backwards => occurs_at(body.bytes(), splice.at(), splice.new()),
         },
+        PartChange::RawPatch(patch) => patch.is_of(body.bytes(), direction),
         PartChange::Chunk(_, _)
         | PartChange::Patch(_, _, _)
         | PartChange::ChunkIn(_, _)
@@ -137,7 +141,7 @@ fn heap_holds(heap: &Heap, change: &PartChange, direction: Direction) -> bool
             Direction::Forwards => has_content(heap, *chunk, content),
             Direction::Backwards => true,
         },
-        PartChange::Raw(_) => false,
+        PartChange::Raw(_) | PartChange::RawPatch(_) => false,
     }
 }
 
@@ -200,6 +204,13 @@ fn raw_allows(body: &RawBody, at: u32, old: &[u8], new: &[u8]) -> bool
 {
     let size = body.bytes().len();
     is_within(size, at as usize, old.len()) && new.len() <= SIZE - (size - old.len())
+}
+
+/// Whether a raw body is of as many bytes as the pieces of a patch, and as many as there are on the way fit.
+fn raw_patch_allows(body: &RawBody, patch: &Patch, direction: Direction) -> bool
+    ensures { IsTrue result ↔ AllowsRawPatch body.now (directed_pieces direction patch.now) }
+{
+    patch.size_before(direction) == body.bytes().len() && patch.peak() <= SIZE
 }
 
 /// So of a chunk in its heap.
@@ -288,6 +299,7 @@ pub(crate) fn carry_out_raw(body: &mut RawBody, change: &PartChange, direction: 
             Direction::Forwards => apply_raw(body, splice),
             Direction::Backwards => apply_raw_back(body, splice),
         },
+        PartChange::RawPatch(patch) => apply_raw_patch(body, patch, direction),
         PartChange::Chunk(_, _)
         | PartChange::Patch(_, _, _)
         | PartChange::ChunkIn(_, _)
@@ -315,7 +327,7 @@ pub(crate) fn carry_out_heap(heap: &mut Heap, change: &PartChange, direction: Di
             Direction::Forwards => heap.free(*chunk),
             Direction::Backwards => bring_in(heap, *chunk, content),
         },
-        PartChange::Raw(_) => unreachable!(),
+        PartChange::Raw(_) | PartChange::RawPatch(_) => unreachable!(),
     }
 }
 

@@ -64,6 +64,7 @@ impl PartChange {
     {
         match self {
             PartChange::Raw(splice) => Ok(places.push(splice_run(block, ChunkHandle(0), splice))?),
+            PartChange::RawPatch(_) => Ok(places.push(Place::Block(block))?),
             PartChange::Chunk(chunk, splice) => Ok(places.push(splice_run(block, *chunk, splice))?),
             PartChange::Patch(chunk, _, runs) => append_runs(block, *chunk, *runs, places),
             PartChange::ChunkIn(chunk, _) | PartChange::ChunkOut(chunk, _) => {
