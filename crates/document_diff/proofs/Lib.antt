@@ -1,6 +1,8 @@
 mod Files
 mod Fronts
 mod Images
+mod Live
+mod Merged
 mod Ranges
 mod Same
 mod Texts

@@ -1,5 +1,5 @@
 -- Texts of differences, one after another.
-use Rattle.std.proofs.Common.{◌≡◌, ℕ, suc, zero, ◌+◌, List, [], ◌∷◌, ◌++◌, refl, sym, ap, ◌∙◌, arith, append_assoc, append-nil, add-one, flat_map, map}
+use Rattle.std.proofs.Common.{◌≡◌, ℕ, suc, zero, ◌+◌, List, [], ◌∷◌, ◌++◌, refl, sym, ap, ◌∙◌, arith, append_assoc, append-nil, flat_map, map}
 use Rattle.std.proofs.lemmas.List.Concat.{flat_map-append}
 use Rattle.std.specs.List.{range_with_len}
 use Rattle.geos_model.specs.Heap.{chunk_handles, handle_of, most_chunks}
@@ -16,14 +16,6 @@ flat_more f a (suc n) =
     let at : a + 1 + n ≡ a + suc n = omega arith in
     ap (λ (r : List Difference). f a ++ r) (flat_more f (a + 1) n ∙ ap (λ (k : ℕ). flat_map f (range_with_len (a + 1) n) ++ f k) at)
     ∙ sym (append_assoc (f a) (flat_map f (range_with_len (a + 1) n)) (f (a + suc n)))
-
-pub text_more : (f : ℕ → List Difference) (a n j : ℕ) (start now new : List ℕ) → a + n ≡ j → now ≡ start ++ diff_lines (flat_map f (range_with_len a n)) → new ≡ now ++ diff_lines (f j)
-    → new ≡ start ++ diff_lines (flat_map f (range_with_len a (n + 1)))
-text_more f a n j start now new at so_far step =
-    let before = flat_map f (range_with_len a n) in
-    let more : flat_map f (range_with_len a (n + 1)) ≡ before ++ f j = rw add-one (flat_more f a n ∙ ap (λ (k : ℕ). before ++ f k) at) in
-    step ∙ ap (λ (l : List ℕ). l ++ diff_lines (f j)) so_far ∙ append_assoc start (diff_lines before) (diff_lines (f j))
-    ∙ ap (λ (l : List ℕ). start ++ l) (sym (text_append before (f j))) ∙ ap (λ (ds : List Difference). start ++ diff_lines ds) (sym more)
 
 -- by their places in a table
 flat_mapped : (f : ℕ → List Difference) (g : ℕ → ℕ) (xs : List ℕ) → flat_map f (map g xs) ≡ flat_map (λ x. f (g x)) xs

@@ -3,3 +3,4 @@ pub mod Differences
 pub mod Diffs
 pub mod Faults
 pub mod Lines
+pub mod Merging

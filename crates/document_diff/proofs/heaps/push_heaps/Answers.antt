@@ -1,22 +1,22 @@
-use Rattle.std.proofs.Common.{◌≡◌, ◌++◌, ℕ, List, flat_map, sym, ap, ◌∙◌, arith, zero-add}
-use Rattle.std.specs.List.{range_with_len}
-use Rattle.std.specs.FinMap.{get}
-use Rattle.geos_model.specs.Heap.{handle_of, most_chunks}
-use Rattle.document_diff.specs.Lines.{diff_lines}
-use Rattle.document_diff.specs.Differences.{chunk_compared, chunk_named, heap_compared}
-use Rattle.document_diff.specs.declared.difference.Difference.{Difference}
-use Rattle.document_diff.proofs.Texts.{by_chunks, text_more}
+use Rattle.std.proofs.Common.{◌∙◌, ap, sym}
+use Rattle.document_diff.specs.Merging.{handle_numbers}
+use Rattle.document_diff.proofs.Merged.{fewer_left, merging_all, merging_more, merging_none}
 use Rattle.document_diff.proofs.heaps.push_heaps.Goals as goal
 
-pub loop-i-preserved : goal.loop-i-preserved
-loop-i-preserved c =
-    let f : ℕ → List Difference = λ i. chunk_compared c.args.block (chunk_named (handle_of i)) (get c.args.old.now.chunks (handle_of i)) (get c.args.new.now.chunks (handle_of i)) in
-    text_more f 0 c.loop-i.i c.loop-i.i c.args.out.now.items c.loop-i.out.items _ (zero-add c.loop-i.i) c.loop-i.invariant c.in_ok-push_entry.ensures
+pub loop-chunk-init : goal.loop-chunk-init
+loop-chunk-init c =
+    merging_none c.args.block c.args.old.now.chunks c.args.new.now.chunks c.args.out.now.items _ _ (ap handle_numbers c.as_slice-before.ensures.value ∙ c.in_ok-old_handles.ensures)
+    (ap handle_numbers c.as_slice-after.ensures.value ∙ c.in_ok-new_handles.ensures)
+
+pub loop-chunk-preserved : goal.loop-chunk-preserved
+loop-chunk-preserved c =
+    merging_more c.args.block c.args.old.now.chunks c.args.new.now.chunks c.args.out.now.items c.loop-chunk.out.items c.push_entry.new.out.items c.loop-chunk.before.now c.loop-chunk.after.now
+    c.behind-before.result.now c.behind-after.result.now c.in-Some.chunk c.loop-chunk.invariant (sym c.in-Some.ensures) c.in_ok-push_entry.ensures c.behind-before.ensures c.behind-after.ensures
+
+pub loop-chunk-smaller : goal.loop-chunk-smaller
+loop-chunk-smaller c =
+    fewer_left c.loop-chunk.before.now c.loop-chunk.after.now c.behind-before.result.now c.behind-after.result.now c.in-Some.chunk.0 (sym c.in-Some.ensures) c.behind-before.ensures c.behind-after.ensures
 
 pub returns : goal.returns
-unfolding heap_compared
 returns c =
-    let f : ℕ → List Difference = λ h. chunk_compared c.args.block (chunk_named h) (get c.args.old.now.chunks h) (get c.args.new.now.chunks h) in
-    let end : c.loop-i.i ≡ most_chunks = omega arith in
-    c.loop-i.invariant ∙ ap (λ (k : ℕ). c.args.out.now.items ++ diff_lines (flat_map (λ i. f (handle_of i)) (range_with_len 0 k))) end
-    ∙ ap (λ (ds : List Difference). c.args.out.now.items ++ diff_lines ds) (sym (by_chunks f))
+    merging_all c.args.block c.args.old.now.chunks c.args.new.now.chunks c.args.out.now.items c.loop-chunk.out.items c.loop-chunk.before.now c.loop-chunk.after.now c.loop-chunk.invariant (sym c.in_default.ensures)
