@@ -73,15 +73,15 @@ is_standing (Open r) = is_ok r.verdict
 is_standing state = false
 
 -- it has sums, and so is of version 3
-abbrev pub has_sums : SlotState → Bool
-has_sums Short = false
-has_sums NoMark = false
-has_sums (Closed s) = is_some s.sums
-has_sums (Open r) = is_some r.slot.sums
+abbrev pub slot_has_sums : SlotState → Bool
+slot_has_sums Short = false
+slot_has_sums NoMark = false
+slot_has_sums (Closed s) = is_some s.sums
+slot_has_sums (Open r) = is_some r.slot.sums
 
 -- The file has checksums: one of its slots has them, whether or not it counts.
 abbrev pub is_summed : Report → Bool
-is_summed r = has_sums r.first || has_sums r.second
+is_summed r = slot_has_sums r.first || slot_has_sums r.second
 
 -- One counts and one stands. Where the file doesn't open that isn't the same.
 abbrev pub has_other : Report → Bool

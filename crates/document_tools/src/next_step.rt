@@ -1,6 +1,6 @@
 //! What can be done of a file that doesn't open.
 ghost use Rattle.std.specs.Prelude.{◌≡◌, ◌++◌, OnOk};
-ghost use Rattle.document_tools.specs.Reports.{has_other, has_sums, is_marked, is_standing, is_summed, next_lines, other_step, restore_words, salvage_step, step_line, step_lines};
+ghost use Rattle.document_tools.specs.Reports.{has_other, slot_has_sums, is_marked, is_standing, is_summed, next_lines, other_step, restore_words, salvage_step, step_line, step_lines};
 
 use file_report::{Report, SlotState};
 use std::alloc::AllocError;
@@ -16,8 +16,8 @@ fn is_marked(state: &SlotState) -> bool
 }
 
 // Whether it has sums, and so is of version 3.
-fn has_sums(state: &SlotState) -> bool
-    ensures { result ≡ has_sums state.now }
+fn slot_has_sums(state: &SlotState) -> bool
+    ensures { result ≡ slot_has_sums state.now }
 {
     match state {
         SlotState::Short | SlotState::NoMark => false,
@@ -48,7 +48,7 @@ fn has_other(report: &Report) -> bool
 fn is_summed(report: &Report) -> bool
     ensures { result ≡ is_summed report.now }
 {
-    has_sums(&report.first) || has_sums(&report.second)
+    slot_has_sums(&report.first) || slot_has_sums(&report.second)
 }
 
 fn restore_words(summed: bool) -> &'static [u8]
