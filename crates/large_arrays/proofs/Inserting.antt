@@ -11,7 +11,7 @@ use Rattle.large_arrays.specs.Window.{elements_replaced, elements_overwritten}
 use Rattle.large_arrays.specs.Edits.{cut_elements, element_count, large_inserted, large_set, large_deleted, insert_large_conditions, set_large_conditions, delete_large_conditions}
 use Rattle.large_arrays.specs.EditLaws.{IsEdited}
 use Rattle.large_arrays.proofs.GivenElements.{given-one}
-use Rattle.large_arrays.proofs.Overwriting.{elements-overwritten}
+use Rattle.large_arrays.proofs.OverwrittenElements.{elements-overwritten}
 use Rattle.large_arrays.proofs.WindowEdits.{elements-replaced, replaced-few}
 use Rattle.large_arrays.proofs.AcceptedEdits.{insert-accepted, delete-accepted, set-accepted, set-count, run-accepted}
 use Rattle.large_arrays.specs.ChangeLaws.{FewChange}

@@ -1,9 +1,8 @@
--- A splice that leaves out what two regions begin and end with holds no more bytes than any other.
-use Rattle.std.proofs.Common.{◌≡◌, ◌≤◌, ◌<◌, ◌+◌, ◌-◌, ◌++◌, ◌∷◌, ◌∙◌, ℕ, List, [], length, take, drop, get_or, sum_by, sym, ap, inl, inr, append_assoc, length-append, length-drop, arith}
+-- Parts that begin and end with other bytes, between as many bytes in both, are no more bytes than any splice holds.
+use Rattle.std.proofs.Common.{◌≡◌, ◌≢◌, ◌≤◌, ◌<◌, ◌+◌, ◌-◌, ◌++◌, ◌∙◌, ℕ, List, length, take, drop, get_or, sym, ap, inl, inr, append_assoc, length-append, length-drop, arith}
 use Rattle.std.proofs.lemmas.Bool.{cases_lt}
 use Rattle.std.proofs.lemmas.List.{get_or_append_left, get_or-append-add, get_or-take, get_or-drop, length-take-le}
 use Rattle.chunk_edits.specs.Splicing.{Splice, Leads}
-use Rattle.large_arrays.specs.Differences.{spliced_bytes, IsDifference, AreDifference}
 
 -- parts one after another
 module _ (a b z : List ℕ) where
@@ -63,45 +62,41 @@ module _ (x y : List ℕ) (t : Splice) (n : ℕ) (leads : Leads t x y n) where
       sym (ap (λ (i : ℕ). get_or y i 0) place ∙ ap (λ (z : List ℕ). get_or z (length head + (q - k - 1)) 0) y_is
       ∙ get_or-append-add head (drop behind x) (q - k - 1) 0 ∙ get_or-drop behind x (q - k - 1) 0 ∙ ap (λ (i : ℕ). get_or x i 0) here)
 
-  module _ (at : ℕ) (s : Splice) (d : IsDifference at x y s) where
-    x_long : length x ≡ length d.front + length s.old + length d.back
-    x_long = ap (λ (z : List ℕ). length z) d.was ∙ whole d.front s.old d.back
+  module _ (front front′ gone come back back′ : List ℕ) (was : x ≡ front ++ gone ++ back) (becomes : y ≡ front′ ++ come ++ back′) (level : length front ≡ length front′) (even : length back ≡ length back′)
+      (begins : 0 < length gone → 0 < length come → get_or gone 0 0 ≢ get_or come 0 0) (ends : 0 < length gone → 0 < length come → get_or gone (length gone - 1) 0 ≢ get_or come (length come - 1) 0) where
+    x_long : length x ≡ length front + length gone + length back
+    x_long = ap (λ (z : List ℕ). length z) was ∙ whole front gone back
 
-    y_whole : length y ≡ length d.front + length s.new + length d.back
-    y_whole = ap (λ (z : List ℕ). length z) d.becomes ∙ whole d.front s.new d.back
+    y_whole : length y ≡ length front + length come + length back
+    y_whole = omega (arith, level, even, ap (λ (z : List ℕ). length z) becomes, whole front′ come back′)
 
-    not_before : 0 < length s.old → 0 < length s.new → length d.front < p → ⊥
+    not_before : 0 < length gone → 0 < length come → length front < p → ⊥
     not_before old new low =
-        d.tight.begins old new
-        (sym (ap (λ (z : List ℕ). get_or z (length d.front) 0) d.was ∙ at_first d.front s.old d.back old)
-        ∙ same_before (length d.front) low ∙ ap (λ (z : List ℕ). get_or z (length d.front) 0) d.becomes ∙ at_first d.front s.new d.back new)
+        begins old new
+        (sym (ap (λ (z : List ℕ). get_or z (length front) 0) was ∙ at_first front gone back old)
+        ∙ same_before (length front) low ∙ ap (λ (i : ℕ). get_or y i 0) level ∙ ap (λ (z : List ℕ). get_or z (length front′) 0) becomes ∙ at_first front′ come back′ new)
 
-    not_behind : 0 < length s.old → 0 < length s.new → length d.back < q → ⊥
+    not_behind : 0 < length gone → 0 < length come → length back < q → ⊥
     not_behind old new low =
-        let i : ℕ = length x - length d.back - 1 in
-        let j : ℕ = length y - length d.back - 1 in
-        d.tight.ends old new
-        (sym (ap (λ (z : List ℕ). get_or z i 0) d.was ∙ at_last d.front s.old d.back i old (ap (λ (z : List ℕ). length z - length d.back - 1) d.was))
-        ∙ same_behind (length d.back) low
-        ∙ (ap (λ (z : List ℕ). get_or z j 0) d.becomes ∙ at_last d.front s.new d.back j new (ap (λ (z : List ℕ). length z - length d.back - 1) d.becomes)))
+        let i : ℕ = length x - length back - 1 in
+        let j : ℕ = length y - length back - 1 in
+        ends old new
+        (sym (ap (λ (z : List ℕ). get_or z i 0) was ∙ at_last front gone back i old (ap (λ (z : List ℕ). length z - length back - 1) was))
+        ∙ same_behind (length back) low
+        ∙ (ap (λ (z : List ℕ). get_or z j 0) becomes ∙ at_last front′ come back′ j new (omega (arith, even, ap (λ (z : List ℕ). length z) becomes))))
 
-    both : 0 < length s.old → 0 < length s.new → spliced_bytes s ≤ n
+    both : 0 < length gone → 0 < length come → length gone + length come ≤ n
     both old new =
-        let before : p ≤ length d.front = elim (cases_lt (length d.front) p) as (λ _. p ≤ length d.front) [ inl low ↦ absurd (not_before old new low) | inr high ↦ high ] in
-        let after : q ≤ length d.back = elim (cases_lt (length d.back) q) as (λ _. q ≤ length d.back) [ inl low ↦ absurd (not_behind old new low) | inr high ↦ high ] in
+        let before : p ≤ length front = elim (cases_lt (length front) p) as (λ _. p ≤ length front) [ inl low ↦ absurd (not_before old new low) | inr high ↦ high ] in
+        let after : q ≤ length back = elim (cases_lt (length back) q) as (λ _. q ≤ length back) [ inl low ↦ absurd (not_behind old new low) | inr high ↦ high ] in
         omega (arith, before, after, x_long, y_whole, y_long, within, leads.holds)
 
-    -- so no more stays by the other splice
-    least_one : spliced_bytes s ≤ n
-    least_one = elim (cases_lt 0 (length s.old)) as (λ _. spliced_bytes s ≤ n) [
-      | inl old ↦ elim (cases_lt 0 (length s.new)) as (λ _. spliced_bytes s ≤ n) [
+    -- so no more stays by the splice
+    pub least_between : length gone + length come ≤ n
+    least_between = elim (cases_lt 0 (length gone)) as (λ _. length gone + length come ≤ n) [
+      | inl old ↦ elim (cases_lt 0 (length come)) as (λ _. length gone + length come ≤ n) [
         | inl new ↦ both old new
         | inr none ↦ omega (arith, none, x_long, y_whole, y_long, within, leads.holds)
       ]
       | inr none ↦ omega (arith, none, x_long, y_whole, y_long, within, leads.holds)
     ]
-
-  pub region_least : (at : ℕ) (m : List Splice) → AreDifference at x y m → sum_by spliced_bytes m ≤ n
-  region_least at [] same = omega arith
-  region_least at (s ∷ []) d = omega (arith, least_one at s d)
-  region_least at (s ∷ u ∷ ss) none = absurd none

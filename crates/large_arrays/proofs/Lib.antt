@@ -25,7 +25,7 @@ pub mod WindowEdits
 pub mod GivenElements
 pub mod OverwrittenPieces
 pub mod SameWeights
-pub mod Overwriting
+pub mod OverwrittenElements
 pub mod Inserting
 pub mod Creating
 pub mod ValidEdits
@@ -39,7 +39,6 @@ pub mod PieceLemmas
 pub mod NewElementsLemmas
 pub mod BodyLemmas
 pub mod CommonParts
-pub mod Differing
 pub mod PackingLemmas
 pub mod WindowPieces
 pub mod RootRuns
@@ -75,3 +74,17 @@ pub mod SeenPieces
 pub mod WrittenLemmas
 pub mod LocalEdits
 pub mod PlannedWindows
+pub mod PlannedEdits
+pub mod PatchPieces
+pub mod ShiftedWords
+pub mod PatchedRegions
+pub mod EditRefusals
+pub mod EditAnswers
+pub mod GatheredWindows
+pub mod PieceBlocks
+pub mod GoneBlocks
+pub mod PlannedRoots
+pub mod PlannedBlocks
+pub mod WrittenBranches
+pub mod OverwritingSteps
+pub mod OverwritingAnswers

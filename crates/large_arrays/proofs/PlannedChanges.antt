@@ -1,24 +1,31 @@
 -- Changes that are planned one block after another make what they are planned to.
-use Rattle.std.proofs.Common.{◌≡◌, ◌≤◌, ◌++◌, ◌∷◌, ◌∙◌, ℕ, Bool, true, false, not, reverse, sum_by, ◌+◌, List, [], length, map, Option, Some, None, is_some, nat_cmp, refl, sym, ap, subst, inl, inr}
+use Rattle.std.proofs.Common.{◌≡◌, ◌≤◌, ◌++◌, ◌∷◌, ◌∙◌, ◌+◌, ℕ, Bool, true, false, not, reverse, sum_by, List, [], length, map, if◌then◌else◌, Option, Some, None, is_some, refl, sym, ap, ap₂, subst, inl, inr, arith}
 use Rattle.std.proofs.lemmas.Bool.{cases_eq}
-use Rattle.std.proofs.lemmas.List.{map-append, reverse-reverse}
+use Rattle.std.proofs.lemmas.List.{append-nil, append_assoc, map-append, reverse-reverse}
+use Rattle.std.proofs.lemmas.List.Concat.{flat_map-append}
 use Rattle.std.proofs.lemmas.List.Sums.{sum_by-append}
-use Rattle.std.proofs.lemmas.List.Elements.{All-nil, All-cons}
-use Rattle.std.specs.List.{Contains, zip}
+use Rattle.std.proofs.lemmas.List.Elements.{All-nil, All-cons, All-head, All-tail}
+use Rattle.std.specs.List.{All, Contains, flat_map, zip}
 use Rattle.std.specs.Option.{option_map_or}
-use Rattle.std.specs.FinMap.{FinMap, get, insert, same_map, nat_cmp-IsAntisymmetric}
-use Rattle.std.specs.Cmp.{nat_cmp_total}
+use Rattle.std.specs.FinMap.{get}
+use Rattle.geos_model.specs.Cost.{image_length, images_length}
 use Rattle.geos_model.specs.Heap.{capacity}
 use Rattle.geos_model.specs.Document.{Block, Document, is_live, is_raw, is_heap_body, bytes_of_body, raw_bytes_of, attributes_of, no_attributes, handles_of, with_block, with_blocks, without_block, without_blocks}
+use Rattle.geos_model.specs.Image.{image}
+use Rattle.geos_model.specs.Places.{block_place}
 use Rattle.geos_model.specs.declared.block.Attributes.{Attributes}
 use Rattle.geos_model.specs.declared.command.Body.{Body}
 use Rattle.geos_model.specs.declared.command.Body.TheVariants.{Raw, Heap}
 use Rattle.geos_model.specs.declared.handle.VmHandle.{VmHandle}
+use Rattle.geos_model.specs.declared.place.Place.{Place}
 use Rattle.geos_model.proofs.BlockLists.{put_elsewhere, put_map_block, taken_elsewhere, taken_map_block}
 use Rattle.geos_model.proofs.HeapEdits.{get-put_same, get-put_other, get-taken_same, get-taken_other}
 use Rattle.document_file.specs.Members.{imaged_blocks}
-use Rattle.chunk_edits.specs.Splicing.{Splice, OccursAt, forwards}
-use Rattle.vm_blocks.specs.Changes.{weight as change_weight, directed, directed_all, after_change, after_part, AreFree, IsFreeHandle, FitsRaw}
+use Rattle.chunk_edits.specs.Patching.{PatchPiece, ArePiecesOf, patched, peak, total_given, total_taken}
+use Rattle.chunk_edits.proofs.PatchingLemmas.{pieces_length, patched_length}
+use Rattle.vm_blocks.specs.ChangeCosts.{change_cost}
+use Rattle.vm_blocks.specs.ChangePlaces.{change_places}
+use Rattle.vm_blocks.specs.Changes.{directed, directed_all, after_change, after_part, AreFree, IsFreeHandle, CanRemove, CanRemoveAll}
 use Rattle.vm_blocks.specs.Preparing.{after_changes, CanApplyAll, CanApplyAllByHandle, CanRemoveByHandle}
 use Rattle.vm_blocks.proofs.Preparing.{all_listed_on, applies_listed}
 use Rattle.vm_blocks.proofs.ChangingAll.{made_all_on}
@@ -29,12 +36,12 @@ use Rattle.vm_blocks.specs.declared.change.Change.TheVariants as changes
 use Rattle.vm_blocks.specs.declared.change.PartChange.TheVariants as parts
 use Rattle.vm_blocks.specs.declared.member.Members.{Members}
 use Rattle.vm_blocks.proofs.InMemory.{AreAlike}
-use Rattle.large_arrays.specs.Differences.{LeadInTurn, spliced_bytes}
 use Rattle.large_arrays.specs.Pieces.{BranchPiece}
 use Rattle.large_arrays.specs.Layout.{root_bytes, branch_bytes}
 use Rattle.large_arrays.specs.Blocks.{root_at}
 use Rattle.large_arrays.specs.Window.{Window, raw_block, freed_handles, replaced_root, with_window}
-use Rattle.large_arrays.specs.ChangePlans.{piece_bodies, window_bodies, with_bodies, ArePlanned, ArePlannedByHandle, IsUntouched}
+use Rattle.large_arrays.specs.ChangePlans.{piece_bodies, window_bodies, with_bodies, body_cost, planned_places, planned_cost, ArePlanned, ArePlannedByHandle, IsUntouched}
+use Rattle.large_arrays.proofs.Layouts.{raw-live}
 
 -- ---- changes behind others
 
@@ -52,23 +59,9 @@ listed-append (c ∷ cs) ds d first next = (first.0, listed-append cs ds (after_
 
 -- ---- one block
 
-map_put_twice : (m : FinMap nat_cmp Block) (h : ℕ) (x y : Block) → insert (insert m h x) h y ≡ insert m h y
-map_put_twice m h x y = same_map nat_cmp_total nat_cmp-IsAntisymmetric _ _ (λ q. elim (cases_eq q h) [
-  | inl e ↦ get-put_same (insert m h x) h y q e ∙ sym (get-put_same m h y q e)
-  | inr other ↦ get-put_other (insert m h x) h y q other ∙ (get-put_other m h x q other ∙ sym (get-put_other m h y q other))
-])
-
-put_twice : (d : Document) (h : ℕ) (x y : Block) → with_block (with_block d h x) h y ≡ with_block d h y
-put_twice d h x y = ap (λ (m : FinMap nat_cmp Block). record d { blocks = m }) (map_put_twice d.blocks h x y)
-
-map_put_same : (m : FinMap nat_cmp Block) (h : ℕ) (x : Block) → get m h ≡ Some x → insert m h x ≡ m
-map_put_same m h x is = same_map nat_cmp_total nat_cmp-IsAntisymmetric _ _ (λ q. elim (cases_eq q h) [
-  | inl e ↦ get-put_same m h x q e ∙ (sym is ∙ ap (get m) (sym e))
-  | inr other ↦ get-put_other m h x q other
-])
-
-put_same : (d : Document) (h : ℕ) (x : Block) → get d.blocks h ≡ Some x → with_block d h x ≡ d
-put_same d h x is = ap (λ (m : FinMap nat_cmp Block). record d { blocks = m }) (map_put_same d.blocks h x is)
+images_one : (ms : Members) (h : ℕ) (bytes : List ℕ) → imaged_blocks ms.list.items ≡ (h, record { attributes = no_attributes; body = Raw bytes }) ∷ []
+    → images_length (imaged_blocks ms.list.items) ≡ length (image (Raw bytes))
+images_one ms h bytes one = ap images_length one ∙ omega arith
 
 alike_put : (a b : Document) (h : ℕ) (x y : Block) → AreAlike a b → AreAlike (with_block a h x) (with_block b h y)
 alike_put a b h x y alike k = elim (cases_eq k h) as (λ _. is_live (with_block a h x) k ≡ is_live (with_block b h y) k) [
@@ -104,52 +97,6 @@ none_there d h dead = by_block (get d.blocks h) dead
     by_block None dead = refl
     by_block (Some b) dead = absurd (cc dead)
 
--- ---- a raw body that is spliced
-
--- the change of each splice
-abbrev pub raw_changes : VmHandle → List Splice → List Change
-raw_changes h ss = map (λ s. changes.Part h (parts.Raw s)) ss
-
--- it holds what the splice holds
-pub raw_changes-weight : (h : VmHandle) (ss : List Splice) → sum_by change_weight (raw_changes h ss) ≡ sum_by spliced_bytes ss
-raw_changes-weight h [] = refl
-raw_changes-weight h (s ∷ ss) =
-    sum_by-append change_weight (changes.Part h (parts.Raw s) ∷ []) (raw_changes h ss) ∙ ap (λ (n : ℕ). sum_by spliced_bytes (s ∷ []) + n) (raw_changes-weight h ss)
-    ∙ sym (sum_by-append spliced_bytes (s ∷ []) ss)
-
-module _ (h : VmHandle) (u : Attributes) where
-  abbrev block : List ℕ → Block
-  block bytes = record { attributes = u; body = Raw bytes }
-
-  module _ (d : Document) (from : List ℕ) (there : get d.blocks h.0 ≡ Some (block from)) where
-    splice_made : (s : Splice) → after_part h.0 (parts.Raw s) d ≡ with_block d h.0 (block (forwards s from))
-    splice_made s = rw there refl
-
-    splice_fits : (s : Splice) → OccursAt from s.at s.old → length (forwards s from) ≤ capacity → FitsRaw d h.0 s
-    splice_fits s stands fits = record { raw = rw there refl; stands = rw there stands; fits = rw there fits }
-
-  spliced : (ss : List Splice) (d : Document) (from to : List ℕ) → get d.blocks h.0 ≡ Some (block from) → LeadInTurn ss from to
-      → CanApplyAll (raw_changes h ss) d × (after_changes (raw_changes h ss) d ≡ with_block d h.0 (block to))
-  spliced [] d from to there led = (tt, sym (put_same d h.0 (block to) (there ∙ ap (λ (x : List ℕ). Some (block x)) led)))
-  spliced (s ∷ ss) d from to there led =
-      let next : Document = after_part h.0 (parts.Raw s) d in
-      let is : next ≡ with_block d h.0 (block (forwards s from)) = splice_made d from there s in
-      let now : get next.blocks h.0 ≡ Some (block (forwards s from)) = ap (λ (x : Document). get x.blocks h.0) is ∙ get-put_same d.blocks h.0 (block (forwards s from)) h.0 refl in
-      let rest = spliced ss next (forwards s from) to now led.2 in (
-        (splice_fits d from there s led.0 led.1, rest.0),
-        rest.1 ∙ ap (λ (x : Document). with_block x h.0 (block to)) is ∙ put_twice d h.0 (block (forwards s from)) (block to),
-      )
-
--- the same by handles alone, whatever stands there
-spliced_by_handle : (h : VmHandle) (ss : List Splice) (d : Document) → is_live d h.0 ≡ true
-    → CanApplyAllByHandle (raw_changes h ss) d × AreAlike (after_changes (raw_changes h ss) d) d × ((after_changes (raw_changes h ss) d).map_block ≡ d.map_block)
-spliced_by_handle h [] d live = (tt, λ k. refl, refl)
-spliced_by_handle h (s ∷ ss) d live =
-    let next : Document = after_part h.0 (parts.Raw s) d in
-    let alike : AreAlike next d = live_put d h.0 _ live in
-    let rest = spliced_by_handle h ss next (alike h.0 ∙ live) in
-    ((live, rest.0), λ k. rest.1 k ∙ alike k, rest.2)
-
 -- ---- what is planned so far
 
 blocks-append : (ps qs : List (ℕ × Block)) (d : Document) → with_blocks d (ps ++ qs) ≡ with_blocks (with_blocks d ps) qs
@@ -172,6 +119,31 @@ module _ (d : Document) (freed : List ℕ) where
   bodies-map : (bodies : List (ℕ × List ℕ)) → (with_bodies d freed bodies).map_block ≡ d.map_block
   bodies-map bodies = put_map_block (without_blocks d freed) (blocks_of bodies) ∙ taken_map_block d freed
 
+  -- one body more is one place more
+  places-more : (cs : List Change) (bodies : List (ℕ × List ℕ)) (c : Change) (h : ℕ) (new : List ℕ) → flat_map change_places (c ∷ []) ≡ block_place h ∷ []
+      → flat_map change_places cs ≡ planned_places freed bodies → flat_map change_places (cs ++ c ∷ []) ≡ planned_places freed (bodies ++ (h, new) ∷ [])
+  places-more cs bodies c h new one before =
+      flat_map-append change_places cs (c ∷ []) ∙ ap₂ (λ (xs ys : List Place). xs ++ ys) before one
+      ∙ sym (ap (λ (hs : List ℕ). map block_place (freed ++ hs)) (map-append (λ (p : ℕ × List ℕ). p.0) bodies ((h, new) ∷ []))
+      ∙ ap (map block_place) (sym (append_assoc freed (map (λ (p : ℕ × List ℕ). p.0) bodies) (h ∷ [])))
+      ∙ map-append block_place (freed ++ map (λ (p : ℕ × List ℕ). p.0) bodies) (h ∷ []))
+
+  -- and costs what it does
+  cost-more : (cs : List Change) (bodies : List (ℕ × List ℕ)) (c : Change) (h : ℕ) (new : List ℕ) → change_cost c ≡ body_cost d (h, new)
+      → sum_by change_cost cs ≡ planned_cost d freed bodies → sum_by change_cost (cs ++ c ∷ []) ≡ planned_cost d freed (bodies ++ (h, new) ∷ [])
+  cost-more cs bodies c h new one before =
+      let first = sum_by-append change_cost cs (c ∷ []) in
+      let next = sum_by-append (body_cost d) bodies ((h, new) ∷ []) in
+      let end : sum_by change_cost (c ∷ []) ≡ change_cost c = omega arith in
+      let last : sum_by (body_cost d) ((h, new) ∷ []) ≡ body_cost d (h, new) = omega arith in
+      omega arith
+
+  body_cost-live : (h : ℕ) (new : List ℕ) → is_live d h ≡ true → body_cost d (h, new) ≡ length (raw_bytes_of d h) + length new
+  body_cost-live h new live = ap (λ (b : Bool). if b then length (raw_bytes_of d h) + length new else length (image (Raw new))) live
+
+  body_cost-new : (h : ℕ) (new : List ℕ) → is_live d h ≡ false → body_cost d (h, new) ≡ length (image (Raw new))
+  body_cost-new h new dead = ap (λ (b : Bool). if b then length (raw_bytes_of d h) + length new else length (image (Raw new))) dead
+
   module _ (bodies : List (ℕ × List ℕ)) (h : ℕ) (untouched : IsUntouched freed bodies h) where
     as_before : get (with_bodies d freed bodies).blocks h ≡ get d.blocks h
     as_before =
@@ -179,34 +151,47 @@ module _ (d : Document) (freed : List ℕ) where
         ∙ taken_elsewhere d freed h untouched.stays
 
     module _ (cs : List Change) where
-      pub body_planned : (b : VmHandle) (ss : List Splice) (from to : List ℕ) → b.0 ≡ h → ArePlanned cs d freed bodies → is_raw d h ≡ true → raw_bytes_of d h ≡ from
-          → LeadInTurn ss from to → ArePlanned (cs ++ raw_changes b ss) d freed (bodies ++ (h, to) ∷ [])
-      body_planned b ss from to same planned raw reads led =
-          let e : Document = with_bodies d freed bodies in
-          let there : get (after_changes cs d).blocks b.0 ≡ Some (block b (attributes_of d h) from) =
-          ap (λ (x : Document). get x.blocks b.0) planned.makes ∙ ap (get e.blocks) same ∙ as_before ∙ raw_there d h raw
-          ∙ ap (λ (x : List ℕ). Some (raw_block d h x).1) reads in
-          let made = spliced b (attributes_of d h) ss (after_changes cs d) from to there led in
-          record {
-            applies = can-append cs (raw_changes b ss) d planned.applies made.0;
-            makes =
-                after-append cs (raw_changes b ss) d ∙ made.1 ∙ (λ i. with_block (planned.makes i) (same i) (block b (attributes_of d h) to))
-                ∙ sym (bodies-more bodies h to);
-          }
+      -- a patch of its body
+      module _ (b : VmHandle) (ps : List PatchPiece) (same : b.0 ≡ h) where
+        abbrev change : Change
+        change = changes.Part b (parts.RawPatch ps)
 
-      pub body_listed : (b : VmHandle) (ss : List Splice) (to : List ℕ) → b.0 ≡ h → ArePlannedByHandle cs d freed bodies → is_live d h ≡ true
-          → ArePlannedByHandle (cs ++ raw_changes b ss) d freed (bodies ++ (h, to) ∷ [])
-      body_listed b ss to same planned live =
-          let e : Document = with_bodies d freed bodies in
-          let here : is_live e h ≡ true = ap is_some as_before ∙ live in
-          let made = spliced_by_handle b ss (after_changes cs d) (ap (is_live (after_changes cs d)) same ∙ planned.live h ∙ here) in
-          record {
-            applies = listed-append cs (raw_changes b ss) d planned.applies made.0;
-            live = λ k.
-                ap (λ (x : Document). is_live x k) (after-append cs (raw_changes b ss) d) ∙ made.1 k ∙ planned.live k
-                ∙ sym (ap (λ (x : Document). is_live x k) (bodies-more bodies h to) ∙ live_put e h (raw_block d h to).1 here k);
-            map_block = ap (λ (x : Document). x.map_block) (after-append cs (raw_changes b ss) d) ∙ made.2 ∙ planned.map_block;
-          }
+        pub patch_planned : (from : List ℕ) → ArePlanned cs d freed bodies → is_raw d h ≡ true → raw_bytes_of d h ≡ from → ArePiecesOf ps from → peak ps ≤ capacity
+            → ArePlanned (cs ++ change ∷ []) d freed (bodies ++ (h, patched ps from) ∷ [])
+        patch_planned from planned raw reads stands fits =
+            let e : Document = with_bodies d freed bodies in
+            let u : Attributes = attributes_of d h in
+            let there : get (after_changes cs d).blocks b.0 ≡ Some (record { attributes = u; body = Raw from }) =
+            ap (λ (x : Document). get x.blocks b.0) planned.makes ∙ ap (get e.blocks) same ∙ as_before ∙ raw_there d h raw
+            ∙ ap (λ (x : List ℕ). Some (raw_block d h x).1) reads in
+            let made : after_part b.0 (parts.RawPatch ps) (after_changes cs d) ≡ with_block (after_changes cs d) b.0 (record { attributes = u; body = Raw (patched ps from) }) =
+            rw there refl in
+            let long : total_taken ps + total_given ps ≡ length from + length (patched ps from) =
+            (let taken = pieces_length ps from stands in let given = patched_length ps from stands in omega arith) in
+            record {
+              applies = can-append cs (change ∷ []) d planned.applies (record { raw = rw there refl; stands = rw there stands; fits = fits }, tt);
+              makes =
+                  after-append cs (change ∷ []) d ∙ made
+                  ∙ (λ i. with_block (planned.makes i) (same i) (record { attributes = u; body = Raw (patched ps from) }))
+                  ∙ sym (bodies-more bodies h (patched ps from));
+              places = places-more cs bodies change h (patched ps from) (ap (λ (k : ℕ). block_place k ∷ []) same) planned.places;
+              cost = cost-more cs bodies change h (patched ps from)
+                  (long ∙ sym (body_cost-live h (patched ps from) (raw-live d h raw) ∙ ap (λ (x : List ℕ). length x + length (patched ps from)) reads)) planned.cost;
+            }
+
+        pub patch_listed : (to : List ℕ) → ArePlannedByHandle cs d freed bodies → is_live d h ≡ true → ArePlannedByHandle (cs ++ change ∷ []) d freed (bodies ++ (h, to) ∷ [])
+        patch_listed to planned live =
+            let e : Document = with_bodies d freed bodies in
+            let x : Document = after_changes cs d in
+            let here : is_live e h ≡ true = ap is_some as_before ∙ live in
+            let now : is_live x b.0 ≡ true = ap (is_live x) same ∙ planned.live h ∙ here in
+            record {
+              applies = listed-append cs (change ∷ []) d planned.applies (now, tt);
+              live = λ k.
+                  ap (λ (y : Document). is_live y k) (after-append cs (change ∷ []) d) ∙ live_put x b.0 _ now k ∙ planned.live k
+                  ∙ sym (ap (λ (y : Document). is_live y k) (bodies-more bodies h to) ∙ live_put e h (raw_block d h to).1 here k);
+              map_block = ap (λ (y : Document). y.map_block) (after-append cs (change ∷ []) d) ∙ planned.map_block;
+            }
 
       module _ (ms : Members) (bytes : List ℕ) (one : imaged_blocks ms.list.items ≡ (h, record { attributes = no_attributes; body = Raw bytes }) ∷ []) (free : IsFreeHandle d h) where
         came : (x : Document) → with_blocks x (imaged_blocks ms.list.items) ≡ with_block x h (raw_block d h bytes).1
@@ -228,6 +213,9 @@ module _ (d : Document) (freed : List ℕ) where
               makes =
                   after-append cs (changes.BlocksIn ms ∷ []) d ∙ came (after_changes cs d) ∙ ap (λ (x : Document). with_block x h (raw_block d h bytes).1) planned.makes
                   ∙ sym (bodies-more bodies h bytes);
+              places = places-more cs bodies (changes.BlocksIn ms) h bytes (ap (λ (ps : List (ℕ × Block)). map block_place (handles_of ps) ++ []) one) planned.places;
+              cost = cost-more cs bodies (changes.BlocksIn ms) h bytes
+                  (images_one ms h bytes one ∙ sym (body_cost-new h bytes (ap is_some free.free))) planned.cost;
             }
 
         pub block_listed : ArePlannedByHandle cs d freed bodies → ArePlannedByHandle (cs ++ changes.BlocksIn ms ∷ []) d freed (bodies ++ (h, bytes) ∷ [])
@@ -244,6 +232,34 @@ module _ (d : Document) (freed : List ℕ) where
             }
 
 -- ---- blocks that go
+
+-- the images of blocks that stand there are as long as theirs
+images_there : (d : Document) (ps : List (ℕ × Block)) → All (λ p. CanRemove d p.0 p.1) ps → images_length ps ≡ sum_by (image_length d) (handles_of ps)
+images_there d [] go = refl
+images_there d (p ∷ ps) go =
+    let here : image_length d p.0 ≡ length (image p.1.body) =
+    ap (λ (o : Option Block). option_map_or (λ (b : Block). length (image b.body)) o 0) (All-head (λ q. CanRemove d q.0 q.1) p ps go).stands in
+    let rest = images_there d ps (All-tail (λ q. CanRemove d q.0 q.1) p ps go) in
+    let first = sum_by-append (λ (q : ℕ × Block). length (image q.1.body)) (p ∷ []) ps in
+    let next = sum_by-append (image_length d) (p.0 ∷ []) (handles_of ps) in
+    let one : sum_by (λ (q : ℕ × Block). length (image q.1.body)) (p ∷ []) ≡ length (image p.1.body) = omega arith in
+    let other : sum_by (image_length d) (p.0 ∷ []) ≡ image_length d p.0 = omega arith in
+    omega arith
+
+pub freeing_planned : (ms : Members) (d : Document) → CanRemoveAll d (imaged_blocks ms.list.items)
+    → ArePlanned (changes.BlocksOut ms ∷ []) d (handles_of (imaged_blocks ms.list.items)) []
+freeing_planned ms d can =
+    let hs : List ℕ = handles_of (imaged_blocks ms.list.items) in
+    record {
+      applies = (can, tt);
+      makes = refl;
+      places = append-nil (map block_place hs) ∙ ap (map block_place) (sym (append-nil hs));
+      cost = (let there = images_there d (imaged_blocks ms.list.items) can.go in omega arith);
+    }
+
+-- none
+pub none_planned : (d : Document) → ArePlanned [] d [] []
+none_planned d = record { applies = tt; makes = refl; places = refl; cost = refl }
 
 pub freeing_listed : (ms : Members) (d : Document) → CanRemoveByHandle d (handles_of (imaged_blocks ms.list.items))
     → ArePlannedByHandle (changes.BlocksOut ms ∷ []) d (handles_of (imaged_blocks ms.list.items)) []

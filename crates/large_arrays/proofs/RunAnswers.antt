@@ -63,7 +63,7 @@ module _ (d : Document) (b : ℕ) (is : root_of (raw_bytes_of d b) ≡ Some (roo
 
   -- Branches from one on, up to another that there is.
   module _ (a behind : ℕ) (links : List BranchLink) (are : AreBranchLinks r a behind links) (there : behind ≤ length r.counts) where
-    length-links : length links ≡ behind - a
+    pub length-links : length links ≡ behind - a
     length-links =
         let long = length-map links (λ l. l.count) in
         let same = ap length are.counts in
@@ -84,7 +84,7 @@ module _ (d : Document) (b : ℕ) (is : root_of (raw_bytes_of d b) ≡ Some (roo
         ∙ get_or-take (behind - a) (drop a r.counts) k 0 (omega arith) ∙ get_or-drop a r.counts k 0
 
     -- tested, they are the branches at these places
-    links-tested : are_branches_under d r.size links ≡ list_all (λ k. is_some (branch_at d r k)) (range_with_len a (behind - a))
+    pub links-tested : are_branches_under d r.size links ≡ list_all (λ k. is_some (branch_at d r k)) (range_with_len a (behind - a))
     links-tested =
         let long = length-links in
         let at_link : BranchLink → Bool = λ l. is_some (branch_under d l.handle.0 r.size l.count) in
@@ -100,7 +100,7 @@ module _ (d : Document) (b : ℕ) (is : root_of (raw_bytes_of d b) ≡ Some (roo
         sym (list_all-map (λ (t : Bool). t) at_link links) ∙ ap (list_all (λ (t : Bool). t)) same ∙ list_all-map (λ (t : Bool). t) at_place (range_with_len a (behind - a))
 
     -- and their pieces those there
-    links-pieces : pieces_under d r.size links ≡ take (behind - a) (drop a ps)
+    pub links-pieces : pieces_under d r.size links ≡ take (behind - a) (drop a ps)
     links-pieces =
         let piece : BranchLink → BranchPiece = λ l. piece_under d l.handle.0 r.size l.count in
         let long = length-links in

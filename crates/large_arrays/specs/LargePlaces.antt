@@ -20,6 +20,10 @@ replaced_blocks d b i j new =
     let w = window d b i j new in
     if (i == j) && (length new == 0) then [] else freed_handles w ++ b ∷ w.news
 
+-- Elements of one size written over: the branches that have them.
+abbrev pub overwritten_blocks : Document → ℕ → ℕ → BranchPiece → List ℕ
+overwritten_blocks d b i new = handles_at (root_at d b) (run_places (root_at d b) i (length new))
+
 -- an array that is made: its root, and its branch
 abbrev pub created_blocks : Document → List ℕ
 created_blocks d = new_handles d 2

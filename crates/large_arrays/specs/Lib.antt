@@ -39,3 +39,7 @@ pub mod Window
 pub mod WindowPlans
 pub mod WindowParts
 pub mod WrittenPieces
+pub mod EditPlans
+pub mod Patches
+pub mod Replacements
+pub mod OverwritingPlans

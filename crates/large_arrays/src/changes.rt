@@ -3,13 +3,15 @@
 ghost use Rattle.std.specs.Prelude.{◌≡◌, ◌≤◌, ◌++◌, ◌∷◌, ℕ, List, [], true, IfOk, OnOk, length};
 ghost use Rattle.geos_model.specs.Document.{Document, handles_of, is_live, is_raw, raw_bytes_of};
 ghost use Rattle.geos_model.specs.Heap.{capacity};
+ghost use Rattle.chunk_edits.specs.Patching.{ArePiecesOf, patched, peak, total_held};
 ghost use Rattle.document_file.specs.Members.{imaged_blocks};
 ghost use Rattle.vm_blocks.specs.Changes.{CanRemoveAll, IsFreeHandle, directed_all};
 ghost use Rattle.vm_blocks.specs.Preparing.{CanRemoveByHandle};
-ghost use Rattle.large_arrays.specs.ChangePlans.{ArePlanned, ArePlannedByHandle, IsUntouched, AddsLeast};
+ghost use Rattle.large_arrays.specs.ChangePlans.{ArePlanned, ArePlannedByHandle, IsUntouched, AddsHeld, AddsLeast};
 
 use crate::cut_body::CutBody;
-use crate::differences::body_differences;
+use crate::patches::body_patch;
+use chunk_edits::Patch;
 use geos_model::{Attributes, VmHandle};
 use std::alloc::{AllocError, Global};
 use vm_blocks::{BlockImage, Change, Direction, Members, PartChange};
@@ -30,7 +32,7 @@ pub fn plan_freeing(alloc: Global, freed: Members) -> Result<Vec<Change>, AllocE
     Ok(changes)
 }
 
-/// Behind the others the changes by which a raw body becomes another: they hold what differs.
+/// Behind the others the change by which a raw body becomes another: it holds what differs.
 pub fn plan_body(
     alloc: Global,
     changes: &mut Vec<Change>,
@@ -48,9 +50,27 @@ pub fn plan_body(
         → ArePlannedByHandle changes.new.items d freed (bodies ++ (handle.0, new.now.bytes.now) ∷ [])) }
     ensures least { OnOk result (AddsLeast changes.old.items changes.new.items old.now new.now) }
 {
-    for splice in body_differences(alloc, old, new)? {
-        changes.push(Change::Part(handle, PartChange::Raw(splice)))?;
-    }
+    let patch = body_patch(alloc, old, new)?;
+    plan_patch(changes, handle, patch)
+}
+
+/// Behind the others the change that a patch makes of a raw body.
+pub(crate) fn plan_patch(
+    changes: &mut Vec<Change>,
+    handle: VmHandle,
+    patch: Patch,
+) -> Result<(), AllocError>
+    ensures planned { OnOk result ((d : Document) (freed : List ℕ) (bodies : List (ℕ × List ℕ))
+        → ArePlanned changes.old.items d freed bodies → IsUntouched freed bodies handle.0
+        → is_raw d handle.0 ≡ true → ArePiecesOf patch (raw_bytes_of d handle.0) → peak patch ≤ capacity
+        → ArePlanned changes.new.items d freed
+        (bodies ++ (handle.0, patched patch (raw_bytes_of d handle.0)) ∷ [])) }
+    ensures listed { OnOk result ((d : Document) (freed : List ℕ) (bodies : List (ℕ × List ℕ)) (body : List ℕ)
+        → ArePlannedByHandle changes.old.items d freed bodies → IsUntouched freed bodies handle.0
+        → is_live d handle.0 ≡ true → ArePlannedByHandle changes.new.items d freed (bodies ++ (handle.0, body) ∷ [])) }
+    ensures holds { OnOk result (AddsHeld changes.old.items changes.new.items (total_held patch)) }
+{
+    changes.push(Change::Part(handle, PartChange::RawPatch(patch)))?;
     Ok(())
 }
 

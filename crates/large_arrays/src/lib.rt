@@ -8,6 +8,7 @@ mod create;
 mod cut_body;
 mod differences;
 mod distinct;
+mod edit_plans;
 mod gathered;
 mod gathering;
 mod handles;
@@ -18,22 +19,26 @@ mod look_ups;
 mod middle;
 mod neighbours;
 mod new_elements;
+mod overwriting;
 mod packing;
+mod patches;
 mod piece;
 mod piece_plans;
 mod root;
 mod root_edits;
+mod root_plan;
 mod runs;
 mod spot;
 mod staying;
+mod window_plan;
 
 pub use bodies::copy_bodies;
 pub use branch::read_branch;
 pub use changes::{plan_block, plan_body, plan_freeing, stacked};
 pub use create::plan_create;
 pub use cut_body::CutBody;
-pub use differences::body_differences;
 pub use distinct::are_distinct;
+pub use edit_plans::{plan_deletion, plan_insertion, plan_setting};
 pub use handles::{OldBranch, blocks_needed, freed_handles, window_handles};
 pub use law::{
     few_change_law, large_edits_law, large_places_law, large_stays_law, large_validity_law,

@@ -89,7 +89,7 @@ fn plan_piece(
 }
 
 /// The place of a block among the old ones.
-fn place_of(gathered: &Gathered, handle: VmHandle) -> Option<usize>
+pub(crate) fn place_of(gathered: &Gathered, handle: VmHandle) -> Option<usize>
     ensures { MatchOption result
         (Contains (old_handles gathered.now.olds.items) handle.0 → ⊥)
         (λ i. (i < length gathered.now.olds.items)

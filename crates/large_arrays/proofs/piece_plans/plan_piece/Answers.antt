@@ -51,6 +51,16 @@ returns-in-Some-clause-listed c =
     (planned d freed others before untouched (live_at d olds c.in-Some.i h all c.in-Some.ensures.0 c.in-Some.ensures.1)))
     c.plan_body.ensures.listed
 
+pub returns-in-None-clause-planned : goal.returns-in-None-clause-planned
+returns-in-None-clause-planned c =
+    on_ok_more c.plan_block.result
+    (λ planned d freed others before all home untouched. elim home [
+      | inl old ↦ absurd (c.in-None.ensures old)
+      | inr free ↦ subst (λ (bytes : List ℕ). ArePlanned c.plan_block.new.changes.items d freed (others ++ (c.args.handle.0, bytes) ∷ []))
+          c.in_ok-body.ensures.value (planned d freed others before untouched free)
+    ])
+    c.plan_block.ensures.planned
+
 pub returns-in-None-clause-listed : goal.returns-in-None-clause-listed
 returns-in-None-clause-listed c =
     on_ok_more c.plan_block.result

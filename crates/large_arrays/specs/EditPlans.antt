@@ -1,0 +1,36 @@
+-- What a plan of an edit of a large array comes to.
+use Rattle.std.specs.Prelude.{◌≡◌, ◌⊎◌, ℕ, List, true, length, sum_by}
+use Rattle.std.specs.List.{flat_map}
+use Rattle.geos_model.specs.Document.{Document}
+use Rattle.geos_model.specs.declared.fault.Fault.{Fault}
+use Rattle.geos_model.specs.declared.fault.Fault.TheVariants.{IsMap, Range, TooBig, NoHandles}
+use Rattle.vm_blocks.specs.ChangeCosts.{change_cost}
+use Rattle.vm_blocks.specs.ChangePlaces.{change_places}
+use Rattle.vm_blocks.specs.Preparing.{after_changes, CanApplyAll}
+use Rattle.vm_blocks.specs.declared.change.Change.{Change}
+use Rattle.large_arrays.specs.Pieces.{BranchPiece}
+use Rattle.large_arrays.specs.Blocks.{root_at}
+use Rattle.large_arrays.specs.Edits.{run_places}
+use Rattle.large_arrays.specs.LargeCost.{large_cost}
+use Rattle.large_arrays.specs.LargeLookUps.{IsElementRefusal}
+use Rattle.large_arrays.specs.LargePlaces.{large_places, overwritten_blocks}
+use Rattle.large_arrays.specs.Window.{are_branches, elements_overwritten}
+
+-- The changes can be made of the document, one after another, and make this of it. They change these blocks, and cost
+-- what that costs.
+pub record PlansLargeEdit (d after : Document) (changed : List ℕ) (changes : List Change) : Type 0 where
+  pub applies : CanApplyAll changes d
+  pub makes : after_changes changes d ≡ after
+  pub places : flat_map change_places changes ≡ large_places changed
+  pub cost : sum_by change_cost changes ≡ large_cost d after changed
+
+-- Elements of one size are written over from one on: the branches that have them are there.
+pub record IsOverwritingPlanned (d : Document) (b i : ℕ) (new : BranchPiece) (changes : List Change) : Type 0 where
+  pub there : are_branches d b (root_at d b) (run_places (root_at d b) i (length new)) ≡ true
+  pub plans : PlansLargeEdit d (elements_overwritten d b i new) (overwritten_blocks d b i new) changes
+
+-- what an edit is refused for, over any store
+abbrev pub IsLargeEditRefusal : (Fault → Type 0) → Document → ℕ → Fault → Type 0
+IsLargeEditRefusal lacks d b fault =
+    IsElementRefusal lacks d b fault
+    ⊎ ((fault ≡ IsMap) ⊎ ((fault ≡ Range) ⊎ ((fault ≡ TooBig) ⊎ (fault ≡ NoHandles))))
