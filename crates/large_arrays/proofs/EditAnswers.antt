@@ -21,7 +21,7 @@ use Rattle.large_arrays.specs.LargeCost.{large_cost}
 use Rattle.large_arrays.specs.LargePlaces.{large_places, replaced_blocks, overwritten_blocks, inserted_blocks, set_blocks, deleted_blocks}
 use Rattle.large_arrays.specs.WindowPlans.{IsWindowPlanned, RefusesWindow}
 use Rattle.large_arrays.specs.Edits.{cut_elements, element_count, run_places, large_inserted, large_set, large_deleted, on_window, on_run, insert_large_conditions, set_large_conditions, delete_large_conditions}
-use Rattle.large_arrays.specs.EditPlans.{PlansLargeEdit, IsOverwritingPlanned, IsLargeEditRefusal}
+use Rattle.large_arrays.specs.EditPlans.{PlansLargeEdit, IsOverwritingPlanned, IsGivenFault, IsSettingFault, IsLargeEditRefusal}
 use Rattle.large_arrays.specs.Replacements.{CanReplace, IsInsertion, IsSetting, IsDeletion, insertion_conditions, setting_conditions, replacement}
 use Rattle.large_arrays.specs.declared.edit_plans.Replacement.{Replacement}
 use Rattle.large_arrays.proofs.EditRefusals.{are_looked_at, given_fault, given_past-fault, insertion-window, insertion-within, deletion-window, setting-window, setting-run, setting-within, window-nothing, window-chain, window-map, window-handles, window-none, run-tested}
@@ -130,32 +130,25 @@ handles-later first lacks (Err fault) turn (inr other) = inr (inr other)
 
 -- Refusals of edits.
 
-pub refused-root : (lacks : Fault → Type 0) (d : Document) (b : ℕ) (fault : Fault) → (fault ≡ NoElement) ⊎ ((fault ≡ Range) ⊎ (fault ≡ TooBig)) → IsLargeEditRefusal lacks d b fault
-refused-root lacks d b fault (inl none) = inl (inr (inl none))
-refused-root lacks d b fault (inr (inl range)) = inr (inr (inl range))
-refused-root lacks d b fault (inr (inr long)) = inr (inr (inr (inl long)))
-
 pub insertion-fault : (lacks : Fault → Type 0) (d : Document) (b : ℕ) (r : Root) (i : ℕ) (bytes : List ℕ) (fault : Fault) → first_refusal (insertion_conditions r i bytes) ≡ Some fault
-    → IsLargeEditRefusal lacks d b fault
-insertion-fault lacks d b r i bytes fault refused = refused-root lacks d b fault (inr (given_fault _ _ fault refused))
+    → IsLargeEditRefusal IsGivenFault lacks d b fault
+insertion-fault lacks d b r i bytes fault refused = inl (inr (given_fault _ _ fault refused))
 
 pub setting-fault : (lacks : Fault → Type 0) (d : Document) (b : ℕ) (r : Root) (i : ℕ) (bytes : List ℕ) (fault : Fault) → first_refusal (setting_conditions r i bytes) ≡ Some fault
-    → IsLargeEditRefusal lacks d b fault
-setting-fault lacks d b r i bytes fault refused = refused-root lacks d b fault (given_past-fault _ _ _ fault refused)
+    → IsLargeEditRefusal IsSettingFault lacks d b fault
+setting-fault lacks d b r i bytes fault refused = inl (inr (given_past-fault _ _ _ fault refused))
 
-pub window-refusal : {A : Type 0} (first lacks : Fault → Type 0) (d : Document) (b : ℕ) (r : Result A Fault) → ((fault : Fault) → first fault → lacks fault)
-    → IfErr r (λ fault. first fault ⊎ ((fault ≡ BadChain) ⊎ ((fault ≡ IsMap) ⊎ (fault ≡ NoHandles)))) → IfErr r (IsLargeEditRefusal lacks d b)
-window-refusal first lacks d b (Ok x) turn is = tt
-window-refusal first lacks d b (Err fault) turn (inl lack) = inl (inl (inl (turn fault lack)))
-window-refusal first lacks d b (Err fault) turn (inr (inl bad)) = inl (inr (inr bad))
-window-refusal first lacks d b (Err fault) turn (inr (inr (inl map))) = inr (inl map)
-window-refusal first lacks d b (Err fault) turn (inr (inr (inr handles))) = inr (inr (inr (inr handles)))
+pub window-refusal : {A : Type 0} (own first lacks : Fault → Type 0) (d : Document) (b : ℕ) (r : Result A Fault) → ((fault : Fault) → first fault → lacks fault)
+    → IfErr r (λ fault. first fault ⊎ ((fault ≡ BadChain) ⊎ ((fault ≡ IsMap) ⊎ (fault ≡ NoHandles)))) → IfErr r (IsLargeEditRefusal own lacks d b)
+window-refusal own first lacks d b (Ok x) turn is = tt
+window-refusal own first lacks d b (Err fault) turn (inl lack) = inl (inl (inl (turn fault lack)))
+window-refusal own first lacks d b (Err fault) turn (inr branches) = inr branches
 
-pub run-refusal : {A : Type 0} (first lacks : Fault → Type 0) (d : Document) (b : ℕ) (r : Result A Fault) → ((fault : Fault) → first fault → lacks fault)
-    → IfErr r (λ fault. first fault ⊎ (fault ≡ BadChain)) → IfErr r (IsLargeEditRefusal lacks d b)
-run-refusal first lacks d b (Ok x) turn is = tt
-run-refusal first lacks d b (Err fault) turn (inl lack) = inl (inl (inl (turn fault lack)))
-run-refusal first lacks d b (Err fault) turn (inr bad) = inl (inr (inr bad))
+pub run-refusal : {A : Type 0} (own first lacks : Fault → Type 0) (d : Document) (b : ℕ) (r : Result A Fault) → ((fault : Fault) → first fault → lacks fault)
+    → IfErr r (λ fault. first fault ⊎ (fault ≡ BadChain)) → IfErr r (IsLargeEditRefusal own lacks d b)
+run-refusal own first lacks d b (Ok x) turn is = tt
+run-refusal own first lacks d b (Err fault) turn (inl lack) = inl (inl (inl (turn fault lack)))
+run-refusal own first lacks d b (Err fault) turn (inr bad) = inr (inl bad)
 
 -- Elements in the place of others.
 

@@ -3,7 +3,7 @@ use Rattle.std.specs.Prelude.{◌≡◌, ◌⊎◌, ℕ, List, true, length, sum
 use Rattle.std.specs.List.{flat_map}
 use Rattle.geos_model.specs.Document.{Document}
 use Rattle.geos_model.specs.declared.fault.Fault.{Fault}
-use Rattle.geos_model.specs.declared.fault.Fault.TheVariants.{IsMap, Range, TooBig, NoHandles}
+use Rattle.geos_model.specs.declared.fault.Fault.TheVariants.{NoElement, BadChain, IsMap, Range, TooBig, NoHandles}
 use Rattle.vm_blocks.specs.ChangeCosts.{change_cost}
 use Rattle.vm_blocks.specs.ChangePlaces.{change_places}
 use Rattle.vm_blocks.specs.Preparing.{after_changes, CanApplyAll}
@@ -12,8 +12,8 @@ use Rattle.large_arrays.specs.Pieces.{BranchPiece}
 use Rattle.large_arrays.specs.Blocks.{root_at}
 use Rattle.large_arrays.specs.Edits.{run_places}
 use Rattle.large_arrays.specs.LargeCost.{large_cost}
-use Rattle.large_arrays.specs.LargeLookUps.{IsElementRefusal}
 use Rattle.large_arrays.specs.LargePlaces.{large_places, overwritten_blocks}
+use Rattle.large_arrays.specs.Loading.{IsRootRefusal}
 use Rattle.large_arrays.specs.Window.{are_branches, elements_overwritten}
 
 -- The changes can be made of the document, one after another, and make this of it. They change these blocks, and cost
@@ -29,8 +29,18 @@ pub record IsOverwritingPlanned (d : Document) (b i : ℕ) (new : BranchPiece) (
   pub there : are_branches d b (root_at d b) (run_places (root_at d b) i (length new)) ≡ true
   pub plans : PlansLargeEdit d (elements_overwritten d b i new) (overwritten_blocks d b i new) changes
 
--- what an edit is refused for, over any store
-abbrev pub IsLargeEditRefusal : (Fault → Type 0) → Document → ℕ → Fault → Type 0
-IsLargeEditRefusal lacks d b fault =
-    IsElementRefusal lacks d b fault
-    ⊎ ((fault ≡ IsMap) ⊎ ((fault ≡ Range) ⊎ ((fault ≡ TooBig) ⊎ (fault ≡ NoHandles))))
+-- What an edit is refused for by what is given: bytes; a run of elements that there aren't; and either.
+
+abbrev pub IsGivenFault : Fault → Type 0
+IsGivenFault fault = (fault ≡ Range) ⊎ (fault ≡ TooBig)
+
+abbrev pub IsPastFault : Fault → Type 0
+IsPastFault fault = fault ≡ NoElement
+
+abbrev pub IsSettingFault : Fault → Type 0
+IsSettingFault fault = IsPastFault fault ⊎ IsGivenFault fault
+
+-- what it is refused for over any store: its root, these of its own, its branches
+abbrev pub IsLargeEditRefusal : (Fault → Type 0) → (Fault → Type 0) → Document → ℕ → Fault → Type 0
+IsLargeEditRefusal own lacks d b fault =
+    (IsRootRefusal lacks d b fault ⊎ own fault) ⊎ ((fault ≡ BadChain) ⊎ ((fault ≡ IsMap) ⊎ (fault ≡ NoHandles)))

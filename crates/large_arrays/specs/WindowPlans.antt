@@ -1,7 +1,7 @@
 -- What a plan of an edit comes to that puts elements in the place of others.
 use Rattle.std.specs.Prelude.{◌≡◌, ◌⊎◌, ◌+◌, ◌-◌, ◌≤◌, ◌==◌, ℕ, List, Bool, true, false, nat_lt, length, map, ◌||◌, is_some}
-use Rattle.std.specs.List.{AllZip, Contains, list_any, zip}
-use Rattle.geos_model.specs.Document.{Document, is_live, is_raw, raw_bytes_of}
+use Rattle.std.specs.List.{Contains, list_any}
+use Rattle.geos_model.specs.Document.{Document, is_raw, raw_bytes_of}
 use Rattle.geos_model.specs.ElementArray.{all_distinct}
 use Rattle.geos_model.specs.Chain.{free_handles, new_handles}
 use Rattle.geos_model.specs.declared.fault.Fault.{Fault}
@@ -12,10 +12,9 @@ use Rattle.vm_blocks.specs.declared.change.Change.{Change}
 use Rattle.large_arrays.specs.Layout.{Root, most_branches, root_of}
 use Rattle.large_arrays.specs.Blocks.{root_at}
 use Rattle.large_arrays.specs.Window.{Window, freed_handles, replaced_root, window_handles}
-use Rattle.large_arrays.specs.HandleLists.{ShareNoHandle, old_handles, old_pairs}
+use Rattle.large_arrays.specs.HandleLists.{old_handles, old_pairs}
 use Rattle.large_arrays.specs.RootEdits.{with_branches}
-use Rattle.large_arrays.specs.ChangePlans.{ArePlanned, ArePlannedByHandle, window_bodies}
-use Rattle.large_arrays.specs.Gathering.{HasOldBody}
+use Rattle.large_arrays.specs.ChangePlans.{ArePlanned, window_bodies}
 use Rattle.large_arrays.specs.declared.gathered.Gathered.{Gathered}
 
 -- the map block would go

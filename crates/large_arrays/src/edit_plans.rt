@@ -7,7 +7,7 @@ ghost use Rattle.vm_blocks.specs.Preparing.{CanApplyAllByHandle};
 ghost use Rattle.vm_chains.specs.Answers.{AnswersChain};
 ghost use Rattle.large_arrays.specs.Blocks.{root_at};
 ghost use Rattle.large_arrays.specs.Edits.{element_count, large_inserted, large_set, large_deleted, insert_large_conditions, set_large_conditions, delete_large_conditions, on_window, on_run};
-ghost use Rattle.large_arrays.specs.EditPlans.{PlansLargeEdit, IsLargeEditRefusal};
+ghost use Rattle.large_arrays.specs.EditPlans.{PlansLargeEdit, IsGivenFault, IsPastFault, IsSettingFault, IsLargeEditRefusal};
 ghost use Rattle.large_arrays.specs.LargePlaces.{replaced_blocks, overwritten_blocks, inserted_blocks, set_blocks, deleted_blocks};
 ghost use Rattle.large_arrays.specs.Layout.{greatest_element_size, total_count};
 ghost use Rattle.large_arrays.specs.Loading.{IsRootLoaded};
@@ -27,8 +27,9 @@ use vm_blocks::{Change, FileBlocks};
 use vm_store::Store;
 
 /// Of the edit that puts elements in before the one at `i`, or behind the last one: as many as the bytes are, of an
-/// array whose elements vary in size one. NoBlock, WrongKind, NotArray, BadChain, IsMap, Range, TooBig, NoHandles;
-/// Memory, File, Damaged.
+/// array whose elements vary in size one. NoBlock, WrongKind, NotArray; Range past the last one, or where the bytes are
+/// no whole number of elements; TooBig where no branch has room for the one that they are. Only then branches are looked
+/// at: BadChain, IsMap, NoHandles. Memory, File, Damaged.
 pub fn plan_insertion<S: Store>(
     alloc: Global,
     blocks: &mut FileBlocks<S>,
@@ -48,7 +49,7 @@ pub fn plan_insertion<S: Store>(
     // Over any store.
     ensures listed { IfOk result (λ changes. CanApplyAllByHandle changes.items blocks.new.document) }
     ensures refusals { IfErr result
-        (IsLargeEditRefusal (IsEnvironmentFault S.facts blocks.old.disk.store blocks.new.disk.store)
+        (IsLargeEditRefusal IsGivenFault (IsEnvironmentFault S.facts blocks.old.disk.store blocks.new.disk.store)
         blocks.old.document root.0) }
 {
     load_root(blocks, root)?;
@@ -57,8 +58,8 @@ pub fn plan_insertion<S: Store>(
 }
 
 /// Of the edit that puts bytes in the place of elements from the one at `i` on: of an array whose elements vary in size
-/// they are one element, else as many as they are. Refused as an insertion, but not for handles where elements have one
-/// size; NoElement where there are too few.
+/// they are one element, else as many as they are. Refused as an insertion, but NoElement where there are too few, and
+/// where elements have one size neither IsMap nor NoHandles.
 pub fn plan_setting<S: Store>(
     alloc: Global,
     blocks: &mut FileBlocks<S>,
@@ -78,7 +79,7 @@ pub fn plan_setting<S: Store>(
     // Over any store.
     ensures listed { IfOk result (λ changes. CanApplyAllByHandle changes.items blocks.new.document) }
     ensures refusals { IfErr result
-        (IsLargeEditRefusal (IsEnvironmentFault S.facts blocks.old.disk.store blocks.new.disk.store)
+        (IsLargeEditRefusal IsSettingFault (IsEnvironmentFault S.facts blocks.old.disk.store blocks.new.disk.store)
         blocks.old.document root.0) }
 {
     load_root(blocks, root)?;
@@ -89,8 +90,8 @@ pub fn plan_setting<S: Store>(
     plan_replacement(alloc, blocks, root, &edit)
 }
 
-/// Of the edit that takes `n` elements out from the one at `i` on. Refused as an insertion, but for what comes; NoElement
-/// where there are too few.
+/// Of the edit that takes `n` elements out from the one at `i` on. NoBlock, WrongKind, NotArray; NoElement where there
+/// are too few; BadChain, IsMap, NoHandles. Memory, File, Damaged.
 pub fn plan_deletion<S: Store>(
     alloc: Global,
     blocks: &mut FileBlocks<S>,
@@ -111,7 +112,7 @@ pub fn plan_deletion<S: Store>(
     // Over any store.
     ensures listed { IfOk result (λ changes. CanApplyAllByHandle changes.items blocks.new.document) }
     ensures refusals { IfErr result
-        (IsLargeEditRefusal (IsEnvironmentFault S.facts blocks.old.disk.store blocks.new.disk.store)
+        (IsLargeEditRefusal IsPastFault (IsEnvironmentFault S.facts blocks.old.disk.store blocks.new.disk.store)
         blocks.old.document root.0) }
 {
     load_root(blocks, root)?;
@@ -235,8 +236,8 @@ fn plan_replacement<S: Store>(
     plan_window(alloc, blocks, root, spot.branches, &gathered)
 }
 
-/// The changes by which elements of one size are written over as many of the root, which is in memory. BadChain; Memory,
-/// File, Damaged.
+/// The changes by which elements of one size are written over as many of the root, which is in memory. BadChain;
+/// Memory, File, Damaged.
 fn plan_writing<S: Store>(
     alloc: Global,
     blocks: &mut FileBlocks<S>,

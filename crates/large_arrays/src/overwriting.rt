@@ -34,8 +34,8 @@ use std::alloc::{AllocError, Global};
 use vm_blocks::{Change, FileBlocks};
 use vm_store::Store;
 
-/// The changes that write new elements, of which there are some, over as many that a spot is of. BadChain where a branch
-/// that has some of these isn't what the root says, is there twice, or is the root; Memory, File, Damaged.
+/// The changes that write new elements, of which there are some, over as many that a spot is of. BadChain where a
+/// branch that has some of these isn't what the root says, is there twice, or is the root; Memory, File, Damaged.
 pub(crate) fn plan_overwriting<S: Store>(
     alloc: Global,
     blocks: &mut FileBlocks<S>,

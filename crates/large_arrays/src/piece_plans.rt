@@ -22,8 +22,8 @@ use vm_blocks::Change;
 /// How many bytes of a branch stand before its elements' places: a zero word, and the header of a chunk array.
 const HEADER: usize = 10;
 
-/// Behind the others the changes by which each piece gets its block: one of the old ones, whose body becomes another, or
-/// one that comes in.
+/// Behind the others the changes by which each piece gets its block: one of the old ones, whose body becomes another,
+/// or one that comes in.
 pub(crate) fn plan_pieces(
     alloc: Global,
     gathered: &Gathered,

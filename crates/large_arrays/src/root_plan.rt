@@ -50,10 +50,18 @@ pub(crate) fn plan_root<S: Store>(
     ensures raw { OnOk result (is_raw blocks.new.document root.0 ≡ true) }
     ensures planned { OnOk result ((freed : List ℕ) → ArePlanned changes.old.items blocks.new.document freed []
         → IsUntouched freed [] root.0 → ArePlanned changes.new.items blocks.new.document freed
-        ((root.0, root_bytes (gathered_root (root_at blocks.new.document root.0) gathered.now (numbers handles.now))) ∷ [])) }
+        ((
+          root.0,
+          root_bytes
+              (gathered_root (root_at blocks.new.document root.0) gathered.now (numbers handles.now)),
+        ) ∷ [])) }
     ensures listed { OnOk result ((freed : List ℕ) → ArePlannedByHandle changes.old.items blocks.new.document freed []
         → IsUntouched freed [] root.0 → ArePlannedByHandle changes.new.items blocks.new.document freed
-        ((root.0, root_bytes (gathered_root (root_at blocks.new.document root.0) gathered.now (numbers handles.now))) ∷ [])) }
+        ((
+          root.0,
+          root_bytes
+              (gathered_root (root_at blocks.new.document root.0) gathered.now (numbers handles.now)),
+        ) ∷ [])) }
     // Refusals.
     ensures refusals { IfErr result (IsEnvironmentFault S.facts blocks.old.disk.store blocks.new.disk.store) }
 {
@@ -75,7 +83,8 @@ pub(crate) fn plan_root<S: Store>(
 fn load_again<S: Store>(blocks: &mut FileBlocks<S>, root: VmHandle) -> Result<(), Fault>
     requires room { is_full blocks.old ≡ false }
     requires root { IsHonest S.facts blocks.old.disk.store
-        → (is_raw blocks.old.document root.0 ≡ true) × (is_some (root_of (raw_bytes_of blocks.old.document root.0)) ≡ true) }
+        → (is_raw blocks.old.document root.0 ≡ true)
+        × (is_some (root_of (raw_bytes_of blocks.old.document root.0)) ≡ true) }
     ensures keeps { KeepsBlocks S.facts blocks.old blocks.new }
     ensures value { MatchResult result
         (λ _. IsRootLoaded blocks.new root.0)

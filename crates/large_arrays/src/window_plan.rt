@@ -1,5 +1,5 @@
 //! The changes by which pieces come in the place of branches: blocks that go, the root, and the blocks of the pieces.
-ghost use Rattle.std.specs.Prelude.{◌≡◌, ◌⊎◌, ◌≤◌, ◌+◌, ◌==◌, [], ℕ, true, false, IfOk, IfErr, MatchResult, length, is_some};
+ghost use Rattle.std.specs.Prelude.{◌≡◌, ◌⊎◌, ◌≤◌, ◌==◌, [], ℕ, true, false, IfOk, IfErr, MatchResult, length};
 ghost use Rattle.std.specs.List.{All, AllZip, Contains, list_any};
 ghost use Rattle.std.specs.FinMap.{get};
 ghost use Rattle.geos_model.specs.Document.{Document, is_live};
@@ -30,8 +30,8 @@ use vm_store::Store;
 /// How many branches a root has at most: all blocks of a document but the root itself.
 const MOST_BRANCHES: usize = 8_191;
 
-/// The changes that put what was gathered in the place of branches of a root that has so many. IsMap where the map block
-/// would go; NoHandles where too few are free, or the root would have too many branches; Memory, File, Damaged.
+/// The changes that put what was gathered in the place of branches of a root that has so many. IsMap where the map
+/// block would go; NoHandles where too few are free, or the root would have too many branches; Memory, File, Damaged.
 pub(crate) fn plan_window<S: Store>(
     alloc: Global,
     blocks: &mut FileBlocks<S>,
@@ -119,7 +119,8 @@ fn plan_gone<S: Store>(
     requires bodies { length gathered.now.bodies.items ≡ length gathered.now.olds.items }
     requires short { All (λ body. length body.items ≤ capacity) gathered.now.bodies.items }
     ensures planned { IfOk result (λ changes.
-        AllZip (λ old body. HasOldBody blocks.now.document old.handle.0 body.items) gathered.now.olds.items gathered.now.bodies.items
+        AllZip (λ old body. HasOldBody blocks.now.document old.handle.0 body.items)
+        gathered.now.olds.items gathered.now.bodies.items
         → ArePlanned changes.items blocks.now.document (numbers freed.now) []) }
     ensures listed { IfOk result (λ changes. (d : Document) → CanRemoveByHandle d (numbers freed.now)
         → ArePlannedByHandle changes.items d (numbers freed.now) []) }
@@ -145,7 +146,8 @@ fn gone_block<S: Store>(
     requires short { All (λ body. length body.items ≤ capacity) gathered.now.bodies.items }
     ensures handle { IfOk result (λ member. member.handle ≡ handle) }
     ensures stands { IfOk result (λ member.
-        AllZip (λ old body. HasOldBody blocks.now.document old.handle.0 body.items) gathered.now.olds.items gathered.now.bodies.items
+        AllZip (λ old body. HasOldBody blocks.now.document old.handle.0 body.items)
+        gathered.now.olds.items gathered.now.bodies.items
         → get blocks.now.document.blocks handle.0 ≡ Some (imaged_block member.block)) }
 {
     let Some(i) = place_of(gathered, handle) else {

@@ -9,6 +9,7 @@ use Rattle.large_arrays.specs.Blocks.{root_at}
 use Rattle.large_arrays.specs.Replacements.{IsDeletion}
 use Rattle.large_arrays.proofs.ElementAnswers.{at-end}
 use Rattle.large_arrays.proofs.EditRefusals.{deletion-before, deletion-refused}
+use Rattle.large_arrays.specs.EditPlans.{IsPastFault}
 use Rattle.large_arrays.proofs.EditAnswers.{IsFoundEdit, deletes-so, deletion-can, window-refusal}
 use Rattle.large_arrays.proofs.edit_plans.plan_deletion.Goals as goal
 
@@ -35,7 +36,7 @@ pub returns-in_err-edit-clause-refusals : goal.returns-in_err-edit-clause-refusa
 returns-in_err-edit-clause-refusals g c =
     let a = c.args.blocks.now in let m = c.load_root.new.blocks in let fault = c.in_err-edit.field-0.0 in
     carried_so c.from_residual-in_err-edit.result fault _ c.from_residual-in_err-edit.ensures.1
-    (inl (inr (inl c.in_err-edit.ensures.0)))
+    (inl (inr c.in_err-edit.ensures.0))
 
 pub plan_replacement-requires : goal.plan_replacement-requires
 plan_replacement-requires g c =
@@ -66,5 +67,5 @@ returns-clause-value g c = λ steady.
 pub returns-clause-refusals : goal.returns-clause-refusals
 returns-clause-refusals g c =
     let f = g.S.Store.facts in let a = c.args.blocks.now in let m = c.load_root.new.blocks in let e = c.plan_replacement.new.blocks in
-    window-refusal (IsEnvironmentFault f m.disk.store e.disk.store) (IsEnvironmentFault f a.disk.store e.disk.store) a.document c.args.root.0 c.plan_replacement.result
+    window-refusal IsPastFault (IsEnvironmentFault f m.disk.store e.disk.store) (IsEnvironmentFault f a.disk.store e.disk.store) a.document c.args.root.0 c.plan_replacement.result
     (λ fault lack. lacks-later f a m e.disk.store fault c.load_root.ensures.keeps lack) c.plan_replacement.ensures.refusals

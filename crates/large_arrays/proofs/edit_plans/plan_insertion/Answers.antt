@@ -9,6 +9,7 @@ use Rattle.large_arrays.specs.Blocks.{root_at}
 use Rattle.large_arrays.specs.Replacements.{IsInsertion, insertion_conditions}
 use Rattle.large_arrays.proofs.ElementAnswers.{at-end}
 use Rattle.large_arrays.proofs.EditRefusals.{insertion-before, insertion-refused}
+use Rattle.large_arrays.specs.EditPlans.{IsGivenFault}
 use Rattle.large_arrays.proofs.EditAnswers.{IsFoundEdit, insertion-can, insertion-fault, inserts-so, root-least, window-refusal}
 use Rattle.large_arrays.proofs.edit_plans.plan_insertion.Goals as goal
 
@@ -71,5 +72,5 @@ returns-clause-value g c = λ steady.
 pub returns-clause-refusals : goal.returns-clause-refusals
 returns-clause-refusals g c =
     let f = g.S.Store.facts in let a = c.args.blocks.now in let m = c.load_root.new.blocks in let e = c.plan_replacement.new.blocks in
-    window-refusal (IsEnvironmentFault f m.disk.store e.disk.store) (IsEnvironmentFault f a.disk.store e.disk.store) a.document c.args.root.0 c.plan_replacement.result
+    window-refusal IsGivenFault (IsEnvironmentFault f m.disk.store e.disk.store) (IsEnvironmentFault f a.disk.store e.disk.store) a.document c.args.root.0 c.plan_replacement.result
     (λ fault lack. lacks-later f a m e.disk.store fault c.load_root.ensures.keeps lack) c.plan_replacement.ensures.refusals

@@ -9,6 +9,7 @@ use Rattle.large_arrays.specs.Blocks.{root_at}
 use Rattle.large_arrays.specs.Replacements.{IsSetting, setting_conditions}
 use Rattle.large_arrays.proofs.ElementAnswers.{at-end}
 use Rattle.large_arrays.proofs.EditRefusals.{setting-before, setting-refused}
+use Rattle.large_arrays.specs.EditPlans.{IsSettingFault}
 use Rattle.large_arrays.proofs.EditAnswers.{IsFoundEdit, root-least, run-refusal, sets-so, setting-can, setting-fault, setting-many, window-refusal, writes-so}
 use Rattle.large_arrays.proofs.edit_plans.plan_setting.Goals as goal
 
@@ -74,7 +75,7 @@ returns-then-element_size-ne0-clause-value g c = λ steady.
 pub returns-then-element_size-ne0-clause-refusals : goal.returns-then-element_size-ne0-clause-refusals
 returns-then-element_size-ne0-clause-refusals g c =
     let f = g.S.Store.facts in let a = c.args.blocks.now in let m = c.load_root.new.blocks in let e = c.plan_writing.new.blocks in
-    run-refusal (IsEnvironmentFault f m.disk.store e.disk.store) (IsEnvironmentFault f a.disk.store e.disk.store) a.document c.args.root.0 c.plan_writing.result
+    run-refusal IsSettingFault (IsEnvironmentFault f m.disk.store e.disk.store) (IsEnvironmentFault f a.disk.store e.disk.store) a.document c.args.root.0 c.plan_writing.result
     (λ fault lack. lacks-later f a m e.disk.store fault c.load_root.ensures.keeps lack) c.plan_writing.ensures.refusals
 
 pub plan_replacement-requires : goal.plan_replacement-requires
@@ -107,5 +108,5 @@ returns-clause-value g c = λ steady.
 pub returns-clause-refusals : goal.returns-clause-refusals
 returns-clause-refusals g c =
     let f = g.S.Store.facts in let a = c.args.blocks.now in let m = c.load_root.new.blocks in let e = c.plan_replacement.new.blocks in
-    window-refusal (IsEnvironmentFault f m.disk.store e.disk.store) (IsEnvironmentFault f a.disk.store e.disk.store) a.document c.args.root.0 c.plan_replacement.result
+    window-refusal IsSettingFault (IsEnvironmentFault f m.disk.store e.disk.store) (IsEnvironmentFault f a.disk.store e.disk.store) a.document c.args.root.0 c.plan_replacement.result
     (λ fault lack. lacks-later f a m e.disk.store fault c.load_root.ensures.keeps lack) c.plan_replacement.ensures.refusals
