@@ -29,20 +29,13 @@ use Rattle.geos_model.proofs.Places.{at_map, at_put, at_taken, at_attributes}
 use Rattle.geos_model.proofs.Reaching.{Reaches}
 use Rattle.geos_model.proofs.PlacesOfEdits.{chunk_put, chunk_taken, chunk_run, chunk_holds, body_run, on_a_heap, on_a_chunk, on_a_raw, all_replaced, inserted-is, resized-is}
 use Rattle.geos_model.proofs.ArrayPlaces.{array_reaches}
+use Rattle.geos_model.proofs.LargeReaching.{blocks-put, blocks-taken, created-reaches, inserted-reaches, set-reaches, deleted-reaches}
 use Rattle.geos_model.proofs.SlotPlaces.{Replaces, replaces-element, replaces-none, replaces-unreferenced, replaces-added, replaces-added_name, element_reaches, name_reaches}
 
 -- Blocks.
 
 put_one : (d : Document) (h : ℕ) (block : Block) → Reaches (block_place h ∷ []) d (with_block d h block)
 put_one d h block = (with_block d h block, at_put d h block, tt, refl)
-
-put_reaches : (d : Document) (ps : List (ℕ × Block)) → Reaches (map block_place (handles_of ps)) d (with_blocks d ps)
-put_reaches d [] = refl
-put_reaches d (p ∷ ps) = (with_block d p.0 p.1, at_put d p.0 p.1, tt, put_reaches (with_block d p.0 p.1) ps)
-
-taken_reaches : (d : Document) (hs : List ℕ) → Reaches (map block_place hs) d (without_blocks d hs)
-taken_reaches d [] = refl
-taken_reaches d (h ∷ hs) = (without_block d h, at_taken d h, tt, taken_reaches (without_block d h) hs)
 
 -- a chunk that is new
 new_chunk : (d : Document) (b : VmHandle) (bytes : List ℕ) → is_heap d b.0 ≡ true → Reaches (at_new_chunk d b) d (with_chunk d b.0 (new_chunk_handle d b.0) bytes)
@@ -251,5 +244,9 @@ edit-reaches (edits.RemoveName b c t) d none =
 edit-reaches (edits.CopyChain b) d none =
     let hs : List ℕ = chain_blocks d b.0 in
     let enough = ltb-false (length (free_handles d)) (length hs) (or_none (none_applies (copy_conditions d b.0) none NoHandles refl)).0 in
-    subst (λ (l : List ℕ). Reaches (map block_place l) d (with_blocks d (copies_of d hs))) (copies_of-handles d hs enough) (put_reaches d (copies_of d hs))
-edit-reaches (edits.FreeChain b) d none = taken_reaches d (chain_blocks d b.0)
+    subst (λ (l : List ℕ). Reaches (map block_place l) d (with_blocks d (copies_of d hs))) (copies_of-handles d hs enough) (blocks-put d (copies_of d hs))
+edit-reaches (edits.FreeChain b) d none = blocks-taken d (chain_blocks d b.0)
+edit-reaches (edits.CreateLarge uid size) d none = created-reaches d uid size none
+edit-reaches (edits.InsertLarge b i bytes) d none = inserted-reaches d b.0 i.0 bytes none
+edit-reaches (edits.SetLarge b i bytes) d none = set-reaches d b.0 i.0 bytes none
+edit-reaches (edits.DeleteLarge b i n) d none = deleted-reaches d b.0 i.0 n.0 none

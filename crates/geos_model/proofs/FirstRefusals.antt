@@ -1,15 +1,18 @@
 -- The first refusal where a condition stands in front of others: that a block is locked, or that there is no room in memory.
-use Rattle.std.proofs.Common.{◌≡◌, ℕ, Bool, true, false, not, ◌==◌, ◌&&◌, ◌||◌, List, [], ◌∷◌, ◌++◌, Some, None, find, refl, sym, ap, ◌∙◌, inl, inr, eqb-true}
+use Rattle.std.proofs.Common.{◌≡◌, ℕ, ◌+◌, nat_lt, if◌then◌else◌, Bool, true, false, not, ◌==◌, ◌&&◌, ◌||◌, List, [], ◌∷◌, ◌++◌, Some, None, find, refl, sym, ap, ◌∙◌, inl, inr, eqb-true}
 use Rattle.std.proofs.lemmas.Bool.{cases_Bool, true≢false, and_parts, and_from, or_left, or_right, eq-eqb, not-true}
 use Rattle.std.specs.List.{list_any, list_all}
 use Rattle.geos_model.specs.Refusal.{Conditions, number_of_fault, one_order, applies, first_refusal}
 use Rattle.geos_model.specs.Document.{Document, is_live, is_raw, is_heap}
 use Rattle.geos_model.specs.Meaning.{conditions, on_block, on_raw, on_heap}
 use Rattle.geos_model.specs.Chain.{on_chain, on_chains}
+use Rattle.geos_model.specs.LargeLayout.{total_count}
+use Rattle.geos_model.specs.LargeBlocks.{root_at}
+use Rattle.geos_model.specs.LargeEdits.{element_count, ends_within_element, is_too_long, on_root, on_window, on_run}
 use Rattle.geos_model.specs.Reply.{look_up_conditions}
 use Rattle.geos_model.specs.Machine.{Machine, edit_needs, has_no_room, is_barred, command_conditions}
 use Rattle.geos_model.specs.declared.fault.Fault.{Fault}
-use Rattle.geos_model.specs.declared.fault.Fault.TheVariants.{BadCommand, Locked, NothingToUndo, NothingToRedo, NoTarget, NoBlock, WrongKind, NotLocked, LockLimit, CacheFull, GroupOpen, NoGroup}
+use Rattle.geos_model.specs.declared.fault.Fault.TheVariants.{BadCommand, Locked, NothingToUndo, NothingToRedo, NoTarget, NoBlock, WrongKind, NoElement, Range, TooBig, NotLocked, LockLimit, CacheFull, GroupOpen, NoGroup}
 use Rattle.geos_model.specs.declared.command.Edit.{Edit}
 use Rattle.geos_model.specs.declared.command.Edit.TheVariants as edits
 use Rattle.geos_model.specs.declared.command.Command.{Command}
@@ -243,8 +246,19 @@ module _ (fs : List Fault) (rest : Conditions) (are : AreAmong fs rest) (later :
 
 -- What the document refuses of an edit or of a look-up is of a block or of its kind, or later than lack of room in memory.
 
+-- so are those of an edit that sets elements of a large array, whether they vary in size or not
+set-early : (d : Document) (b i : ℕ) (bytes : List ℕ) (vary : Bool)
+    → let size = (root_at d b).size in
+    let past = nat_lt (total_count (root_at d b)) (i + element_count size bytes) in
+    none_apply before_room (on_root d b ++ (NoElement, past) ∷ (Range, ends_within_element size bytes) ∷ (TooBig, is_too_long size bytes)
+    ∷ (if vary then on_window (not (past || is_too_long size bytes)) d b i (i + 1) (bytes ∷ [])
+    else on_run (not (past || ends_within_element size bytes)) d b i (element_count size bytes))) ≡ true
+set-early d b i bytes true = refl
+set-early d b i bytes false = refl
+
 pub edit-early : (e : Edit) (d : Document) → none_apply before_room (conditions e d) ≡ true
 edit-early (edits.NewRaw uid size) d = refl
+edit-early (edits.SetLarge b i bytes) d = set-early d b.0 i.0 bytes ((root_at d b.0).size == 0)
 edit-early _ d = refl
 
 pub look_up-early : (c : Command) (d : Document) → none_apply before_room (look_up_conditions c d) ≡ true

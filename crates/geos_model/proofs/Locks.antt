@@ -1,12 +1,13 @@
 -- Locks stay valid: a locked block stays live, and locks are counted within their limits.
-use Rattle.std.proofs.Common.{◌≡◌, ℕ, ◌+◌, ◌-◌, ◌≤◌, Bool, true, false, not, ◌&&◌, Option, Some, None, is_some, nat_cmp, nat_le, unwrap_or, refl, sym, ap, subst, ◌∙◌, inl, inr, arith, ltb-false}
+use Rattle.std.proofs.Common.{◌≡◌, ℕ, ◌+◌, ◌-◌, ◌≤◌, Bool, true, false, not, ◌&&◌, List, [], ◌∷◌, Option, Some, None, is_some, nat_cmp, nat_le, unwrap_or, refl, sym, ap, subst, ◌∙◌, inl, inr, arith, ltb-false}
 use Rattle.std.proofs.lemmas.Bool.{cases_Bool, cases_eq, cond-true, cond-false, eqb-false, leb-false, true≢false}
 use Rattle.std.specs.Option.{option_map_or}
 use Rattle.std.specs.Cmp.{nat_cmp_total}
 use Rattle.std.specs.FinMap.{FinMap, get, empty, get-empty, insert, remove, contains_key, len, len-empty, len-insert, len-remove, empty_of_len}
 use Rattle.geos_model.specs.declared.block.Attributes.{Attributes}
 use Rattle.geos_model.specs.Refusal.{Conditions, first_refusal}
-use Rattle.geos_model.specs.Document.{Block, Document, is_live, attributes_of, with_block, with_attributes}
+use Rattle.geos_model.specs.Document.{Block, Document, is_live, attributes_of, with_block, with_blocks, with_attributes}
+use Rattle.geos_model.specs.LargeEdits.{new_array_blocks, large_created}
 use Rattle.geos_model.specs.Meaning.{effect}
 use Rattle.geos_model.specs.Machine.{Machine, AreValidLocks, most_locks, lock_count, is_locked, has_locks, all_locked, is_shut_out, after_lock, after_unlock, is_barred, command_conditions}
 use Rattle.geos_model.specs.declared.fault.Fault.TheVariants.{NoBlock, NotLocked, LockLimit, CacheFull}
@@ -66,6 +67,10 @@ put-live d h b q live = elim (cases_eq q h) [
   | inr other ↦ ap is_some (get-put_other d.blocks h b q other) ∙ live
 ]
 
+blocks-live : (d : Document) (ps : List (ℕ × Block)) (q : ℕ) → is_live d q ≡ true → is_live (with_blocks d ps) q ≡ true
+blocks-live d [] q live = live
+blocks-live d (p ∷ ps) q live = blocks-live (with_block d p.0 p.1) ps q (put-live d p.0 p.1 q live)
+
 attributes-live : (d : Document) (h : ℕ) (a : Attributes) (q : ℕ) → is_live d q ≡ true → is_live (with_attributes d h a) q ≡ true
 attributes-live d h a q live = by_block (get d.blocks h)
   where
@@ -78,6 +83,7 @@ locked_none : (m : Machine) (q : ℕ) → is_locked m q ≡ true → has_locks m
 locked_none m q locked none = true≢false (sym locked ∙ none_locked m none q)
 
 pub locked-live : (e : Edit) (m : Machine) → is_barred e m ≡ false → (q : ℕ) → is_locked m q ≡ true → is_live m.document q ≡ true → is_live (effect e m.document).0 q ≡ true
+unfolding large_created
 locked-live (edits.FreeBlock b) m free q locked live =
     ap is_some (get-taken_other m.document.blocks b.0 q (λ is. true≢false (sym locked ∙ ap (is_locked m) is ∙ free))) ∙ live
 locked-live (edits.SetType b heap_type) m free q locked live = attributes-live m.document b.0 (record (attributes_of m.document b.0) { heap_type = heap_type }) q live
@@ -85,6 +91,10 @@ locked-live (edits.SetUserId b uid) m free q locked live = attributes-live m.doc
 locked-live (edits.SetMap b) m free q locked live = live
 locked-live (edits.CopyChain b) m free q locked live = absurd (locked_none m q locked free)
 locked-live (edits.FreeChain b) m free q locked live = absurd (locked_none m q locked free)
+locked-live (edits.CreateLarge uid size) m free q locked live = blocks-live m.document (new_array_blocks m.document uid size) q live
+locked-live (edits.InsertLarge b i bytes) m free q locked live = absurd (locked_none m q locked free)
+locked-live (edits.SetLarge b i bytes) m free q locked live = absurd (locked_none m q locked free)
+locked-live (edits.DeleteLarge b i n) m free q locked live = absurd (locked_none m q locked free)
 locked-live _ m free q locked live = put-live m.document _ _ q live
 
 -- Locks that are counted.

@@ -56,6 +56,15 @@ spliced : command (codes "splice 0003 001c 2 10 0aFF") ≡ Some (commands.Edit (
 unfolding command decode_pairs
 spliced = refl
 
+-- nine digits, and no more
+inserted : command (codes "hinsert 0001 536592409 6869") ≡ Some (commands.Edit (edits.InsertLarge (record { 0 = 1 }) (record { 0 = 536592409 }) (0x68 ∷ 0x69 ∷ [])))
+unfolding command decode_pairs
+inserted = refl
+
+too_long : command (codes "hget 0001 1000000000") ≡ None
+unfolding command decode_pairs
+too_long = refl
+
 same-text : reply_text (AreEqual true) ≡ codes "same"
 unfolding reply_text
 same-text = refl

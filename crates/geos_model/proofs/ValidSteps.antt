@@ -34,6 +34,7 @@ use Rattle.geos_model.proofs.Refusals.{none_applies, or_none}
 use Rattle.geos_model.proofs.FirstRefusals.{edit-accepted}
 use Rattle.geos_model.proofs.Locks.{no_locks-valid, kept_locks-valid, empty_locks-valid, locked-live, lock-valid, unlock-valid}
 use Rattle.geos_model.proofs.ChainEdits.{chain-copy, chain-free}
+use Rattle.geos_model.proofs.ValidEdits.{created-valid, inserted-valid, set-valid, deleted-valid}
 use Rattle.geos_model.proofs.Undoing.{OnDone, IsAt, on_done, done_by-stays, same_machine, not_in_group}
 use Rattle.geos_model.proofs.Validity.{not_false, attributes-fit, attributes-typed, raw-typed, without_block-valid, with_body-valid, with_attributes-valid, with_map-valid, block_there, makes_block-valid, raw_bytes-few, length-written, length-deleted, new_chunk-valid, new_bytes-valid, fewer_bytes-valid, without_chunk-valid, empty-heap, empty_document-valid}
 
@@ -137,6 +138,10 @@ effect-valid (edits.RemoveName b c t) d low valid none =
     let old : List ℕ = chunk_at d b.0 c.0 in new_bytes-valid d valid b.0 c.0 (on_name_token old t.0) (name_reference_removed old t.0) none
 effect-valid (edits.CopyChain b) d low valid none = (chain-copy d b.0 valid none).copied.valid
 effect-valid (edits.FreeChain b) d low valid none = (chain-free d b.0 valid none).freed.valid
+effect-valid (edits.CreateLarge uid size) d low valid none = created-valid d uid size valid low none
+effect-valid (edits.InsertLarge b i bytes) d low valid none = inserted-valid d b.0 i.0 bytes valid none
+effect-valid (edits.SetLarge b i bytes) d low valid none = set-valid d b.0 i.0 bytes valid none
+effect-valid (edits.DeleteLarge b i n) d low valid none = deleted-valid d b.0 i.0 n.0 valid none
 
 -- The machine.
 

@@ -1,5 +1,5 @@
 -- How many bytes an undo record of an edit may hold.
-use Rattle.std.specs.Prelude.{ℕ, ◌+◌, ◌*◌, ◌-◌, List, length, replicate, sum_by}
+use Rattle.std.specs.Prelude.{ℕ, ◌+◌, ◌*◌, ◌-◌, ◌&&◌, if◌then◌else◌, List, length, replicate, sum_by}
 use Rattle.std.specs.Option.{option_map_or}
 use Rattle.std.specs.FinMap.{empty, get}
 use Rattle.geos_model.specs.Array.{array_bytes}
@@ -10,7 +10,9 @@ use Rattle.geos_model.specs.NameArray.{name_bytes}
 use Rattle.geos_model.specs.NameEdits.{no_names}
 use Rattle.geos_model.specs.Image.{image}
 use Rattle.geos_model.specs.Meaning.{chunk_at}
-use Rattle.geos_model.specs.Document.{Block, Document, raw_bytes_of}
+use Rattle.geos_model.specs.Document.{Block, Document, is_live, raw_bytes_of}
+use Rattle.geos_model.specs.LargeEdits.{new_array_blocks}
+use Rattle.geos_model.specs.ChangedBlocks.{inserted_blocks, set_blocks, deleted_blocks}
 use Rattle.geos_model.specs.Chain.{chain_blocks, chain_blocks_of, copies_of}
 use Rattle.geos_model.specs.declared.command.Body.TheVariants.{Raw, Heap}
 use Rattle.geos_model.specs.declared.command.Edit.{Edit}
@@ -32,10 +34,21 @@ images_length blocks = sum_by (λ p. length (image p.1.body)) blocks
 abbrev pub both_lengths : Document → Document → ℕ → ℕ → ℕ
 both_lengths before after b c = length (chunk_at before b c) + length (chunk_at after b c)
 
+-- Of a block of a large array that changes, the bytes of its body before and after; of one that comes or goes, the
+-- length of its image.
+abbrev pub block_cost : Document → Document → ℕ → ℕ
+block_cost before after h =
+    if is_live before h && is_live after h then length (raw_bytes_of before h) + length (raw_bytes_of after h)
+    else image_length before h + image_length after h
+
+-- so of all of these
+abbrev pub large_cost : Document → Document → List ℕ → ℕ
+large_cost before after changed = sum_by (λ h. block_cost before after h) changed
+
 -- For a user ID, a type or the map block nothing. For blocks made or freed the lengths of their images, for a chunk
 -- made or freed its bytes. For a write twice the bytes written, for other changes within a chunk or a raw body the
 -- bytes that it gains and loses; for a raw body replaced the old and the new one; for an edit of an array all bytes of
--- its chunk before and after.
+-- its chunk before and after, and for one of a large array those of the blocks that change.
 abbrev pub cost : Edit → Document → Document → ℕ
 cost (edits.NewRaw uid size) before after = length (image (Raw (replicate size 0)))
 cost (edits.NewHeap uid) before after = length (image (Heap empty))
@@ -73,3 +86,7 @@ cost (edits.SetNamePart b c t part) before after = both_lengths before after b.0
 cost (edits.RemoveName b c t) before after = both_lengths before after b.0 c.0
 cost (edits.CopyChain b) before after = images_length (copies_of before (chain_blocks before b.0))
 cost (edits.FreeChain b) before after = images_length (chain_blocks_of before (chain_blocks before b.0))
+cost (edits.CreateLarge uid size) before after = images_length (new_array_blocks before uid size)
+cost (edits.InsertLarge b i bytes) before after = large_cost before after (inserted_blocks before b.0 i.0 bytes)
+cost (edits.SetLarge b i bytes) before after = large_cost before after (set_blocks before b.0 i.0 bytes)
+cost (edits.DeleteLarge b i n) before after = large_cost before after (deleted_blocks before b.0 i.0 n.0)

@@ -48,6 +48,9 @@ form_asked (commands.NamePart b c t) = Bytes
 form_asked (commands.Walk b) = Names
 form_asked (commands.ChainSize b) = Number
 form_asked (commands.ChainEqual b other) = Equal
+form_asked (commands.LargeCount b) = Number
+form_asked (commands.LargeElement b i) = Bytes
+form_asked (commands.LargeRun b i n) = Bytes
 form_asked command = Nothing
 
 -- a reply of this form, or a refusal

@@ -10,6 +10,13 @@ pub mod NameEdits
 pub mod Heap
 pub mod Document
 pub mod Chain
+pub mod Pieces
+pub mod Spread
+pub mod LargeLayout
+pub mod LargeBlocks
+pub mod LargeWindow
+pub mod LargeEdits
+pub mod ChangedBlocks
 pub mod Meaning
 pub mod Image
 pub mod Cost
@@ -24,6 +31,11 @@ pub mod Machine
 pub mod Laws
 pub mod EditLaws
 pub mod ChainLaws
+pub mod JoinedPieces
+pub mod LargeEditLaws
+pub mod LargeChangeLaws
+pub mod LargeDocumentLaws
+pub mod LargePlaces
 pub mod Undoing
 pub mod Depth
 pub mod Steps

@@ -17,6 +17,8 @@ use Rattle.geos_model.specs.declared.look_up.ChunkLookUp.{ChunkLookUp}
 use Rattle.geos_model.specs.declared.look_up.ChunkLookUp.TheVariants as chunk_look_ups
 use Rattle.geos_model.specs.declared.look_up.ElementArrayLookUp.{ElementArrayLookUp}
 use Rattle.geos_model.specs.declared.look_up.ElementArrayLookUp.TheVariants as element_array_look_ups
+use Rattle.geos_model.specs.declared.look_up.LargeLookUp.{LargeLookUp}
+use Rattle.geos_model.specs.declared.look_up.LargeLookUp.TheVariants as large_look_ups
 use Rattle.geos_model.specs.declared.look_up.LookUp.{LookUp}
 use Rattle.geos_model.specs.declared.look_up.LookUp.TheVariants as look_ups
 use Rattle.geos_model.specs.declared.look_up.NameArrayLookUp.{NameArrayLookUp}
@@ -57,6 +59,9 @@ is_look_up (commands.Locks b) = true
 is_look_up (commands.Walk b) = true
 is_look_up (commands.ChainSize b) = true
 is_look_up (commands.ChainEqual b other) = true
+is_look_up (commands.LargeCount b) = true
+is_look_up (commands.LargeElement b i) = true
+is_look_up (commands.LargeRun b i n) = true
 is_look_up commands.Undos = true
 is_look_up commands.Redos = true
 is_look_up commands.Modified = true
@@ -124,6 +129,11 @@ chain_look_up (chain_look_ups.Walk b) = commands.Walk b
 chain_look_up (chain_look_ups.Size b) = commands.ChainSize b
 chain_look_up (chain_look_ups.Equal b other) = commands.ChainEqual b other
 
+abbrev pub large_look_up : VmHandle → LargeLookUp → Command
+large_look_up b large_look_ups.Count = commands.LargeCount b
+large_look_up b (large_look_ups.Element i) = commands.LargeElement b i
+large_look_up b (large_look_ups.Run i n) = commands.LargeRun b i n
+
 abbrev pub command_of : LookUp → Command
 command_of look_ups.List = commands.List
 command_of (look_ups.Plain asked) = plain_look_up asked
@@ -131,3 +141,4 @@ command_of (look_ups.StepName asked) = step_name_look_up asked
 command_of (look_ups.Places asked) = places_look_up asked
 command_of (look_ups.InBlock b asked) = block_look_up b asked
 command_of (look_ups.AlongChain asked) = chain_look_up asked
+command_of (look_ups.InLarge b asked) = large_look_up b asked

@@ -118,7 +118,8 @@ pub record IsValidMachine (m : Machine) : Type 0 where
 abbrev pub Request : Type 0
 Request = Option Command
 
--- what kind of step an edit makes, by its part of the document: a copy makes blocks
+-- what kind of step an edit makes, by its part of the document: a copy makes blocks, and of a large array several
+-- blocks change
 abbrev pub kind_of_scope : Scope → Kind
 kind_of_scope scopes.Plain = Plain
 kind_of_scope scopes.New = Made
@@ -127,6 +128,7 @@ kind_of_scope (scopes.Raw b) = In b
 kind_of_scope (scopes.Heap b) = In b
 kind_of_scope (scopes.Chunk b c) = In b
 kind_of_scope (scopes.Chain b) = Made
+kind_of_scope (scopes.Large b) = Group
 
 -- but for those that free blocks
 abbrev pub kind_of : Edit → Kind
@@ -135,7 +137,7 @@ kind_of (edits.FreeChain b) = Freed
 kind_of e = kind_of_scope (scope_of e)
 
 -- Which bodies a command looks into, so that their blocks have to be in memory: none, that of one block, or those of a
--- chain.
+-- chain or a large array.
 pub data Needs : Type 0 where
   NoBody : Needs
   OneBody : (block : ℕ) → Needs
@@ -150,6 +152,7 @@ needs_of_scope (scopes.Raw b) = OneBody b.0
 needs_of_scope (scopes.Heap b) = OneBody b.0
 needs_of_scope (scopes.Chunk b c) = OneBody b.0
 needs_of_scope (scopes.Chain b) = ManyBodies
+needs_of_scope (scopes.Large b) = ManyBodies
 
 abbrev pub edit_needs : Edit → Needs
 edit_needs e = needs_of_scope (scope_of e)
@@ -174,6 +177,9 @@ look_up_needs (commands.NamePart b c t) = OneBody b.0
 look_up_needs (commands.Walk b) = ManyBodies
 look_up_needs (commands.ChainSize b) = ManyBodies
 look_up_needs (commands.ChainEqual b other) = ManyBodies
+look_up_needs (commands.LargeCount b) = OneBody b.0
+look_up_needs (commands.LargeElement b i) = ManyBodies
+look_up_needs (commands.LargeRun b i n) = ManyBodies
 look_up_needs command = NoBody
 
 -- Whether there is no room in memory for what is needed, where there is none for these blocks, and for those of a chain
@@ -224,11 +230,14 @@ locked_raw m b = if is_locked m b && is_raw m.document b then Some (raw_bytes_of
 abbrev pub locked_chunk : Machine → ℕ → ℕ → Option (List ℕ)
 locked_chunk m b c = if is_locked m b then get (chunks_of m.document b) c else None
 
--- whether an edit frees a locked block, or copies or frees a chain while any is locked
+-- whether an edit frees a locked block, or copies or frees a chain or edits a large array while any is locked
 abbrev pub is_barred : Edit → Machine → Bool
 is_barred (edits.FreeBlock b) m = is_locked m b.0
 is_barred (edits.CopyChain b) m = has_locks m
 is_barred (edits.FreeChain b) m = has_locks m
+is_barred (edits.InsertLarge b i bytes) m = has_locks m
+is_barred (edits.SetLarge b i bytes) m = has_locks m
+is_barred (edits.DeleteLarge b i n) m = has_locks m
 is_barred e m = false
 
 -- Groups.
@@ -585,6 +594,9 @@ takes_memory (commands.NamePart b c t) m = true
 takes_memory (commands.Walk b) m = true
 takes_memory (commands.ChainSize b) m = true
 takes_memory (commands.ChainEqual b other) m = true
+takes_memory (commands.LargeCount b) m = true
+takes_memory (commands.LargeElement b i) m = true
+takes_memory (commands.LargeRun b i n) m = true
 takes_memory commands.Undos m = false
 takes_memory commands.Redos m = false
 takes_memory commands.Modified m = false

@@ -13,6 +13,7 @@ use Rattle.geos_model.specs.NameEdits.{no_names, name_added, name_token_added, n
 use Rattle.geos_model.specs.Heap.{ChunkMap, capacity, next_chunk, chunk_bytes, fits_with, fits_new}
 use Rattle.geos_model.specs.Document.{Block, Document, block_at, with_block, without_block, with_blocks, without_blocks, with_body, with_user_id, with_heap_type, is_live, is_heap, is_raw, chunks_of, raw_bytes_of, next_handle}
 use Rattle.geos_model.specs.Chain.{chain_blocks, new_handles, copies_of, copy_conditions, free_conditions}
+use Rattle.geos_model.specs.LargeEdits.{large_created, large_inserted, large_set, large_deleted, create_large_conditions, insert_large_conditions, set_large_conditions, delete_large_conditions}
 use Rattle.geos_model.specs.declared.fault.Fault.TheVariants.{NoBlock, NoChunk, WrongKind, Full, TooBig, NoHandles, Range, IsMap}
 use Rattle.geos_model.specs.declared.command.Body.TheVariants.{Raw, Heap}
 use Rattle.geos_model.specs.declared.command.Done.{Done}
@@ -136,6 +137,10 @@ conditions (edits.RemoveName b c t) d =
     let old = chunk_at d b.0 c.0 in on_new_bytes d b.0 c.0 (on_name_token old t.0) (name_reference_removed old t.0)
 conditions (edits.CopyChain b) d = copy_conditions d b.0
 conditions (edits.FreeChain b) d = free_conditions d b.0
+conditions (edits.CreateLarge uid size) d = create_large_conditions d size
+conditions (edits.InsertLarge b i bytes) d = insert_large_conditions d b.0 i.0 bytes
+conditions (edits.SetLarge b i bytes) d = set_large_conditions d b.0 i.0 bytes
+conditions (edits.DeleteLarge b i n) d = delete_large_conditions d b.0 i.0 n.0
 
 -- an edit that makes a block, or a chunk, and answers its handle
 abbrev pub makes_block : Document → Block → Document × Done
@@ -204,3 +209,8 @@ effect (edits.RemoveName b c t) d =
     (with_chunk d b.0 c.0 (name_reference_removed (chunk_at d b.0 c.0) t.0), done.Nothing)
 effect (edits.CopyChain b) d = copies_blocks d (chain_blocks d b.0)
 effect (edits.FreeChain b) d = (without_blocks d (chain_blocks d b.0), done.Nothing)
+effect (edits.CreateLarge uid size) d =
+    (large_created d uid size, done.Block (record { 0 = get_or (new_handles d 2) 0 0 }))
+effect (edits.InsertLarge b i bytes) d = (large_inserted d b.0 i.0 bytes, done.Nothing)
+effect (edits.SetLarge b i bytes) d = (large_set d b.0 i.0 bytes, done.Nothing)
+effect (edits.DeleteLarge b i n) d = (large_deleted d b.0 i.0 n.0, done.Nothing)

@@ -10,6 +10,7 @@ use Rattle.geos_model.specs.ElementEdits.{token_added}
 use Rattle.geos_model.specs.NameEdits.{name_token_added}
 use Rattle.geos_model.specs.Document.{Document, next_handle, raw_bytes_of}
 use Rattle.geos_model.specs.Chain.{chain_blocks, new_handles}
+use Rattle.geos_model.specs.ChangedBlocks.{created_blocks, inserted_blocks, set_blocks, deleted_blocks}
 use Rattle.geos_model.specs.Meaning.{effect, chunk_at, new_chunk_handle}
 use Rattle.geos_model.specs.declared.block.Attributes.{Attributes}
 use Rattle.geos_model.specs.declared.command.Body.{Body}
@@ -95,6 +96,10 @@ ChangesAt ps old new = Stands (with_holes ps (without_holes old)) new
 abbrev pub block_place : ℕ → Place
 block_place b = place.Block (record { 0 = b })
 
+-- those of these blocks, as of a large array
+abbrev pub large_places : List ℕ → List Place
+large_places changed = map block_place changed
+
 -- those of a new block, and of a new chunk
 abbrev pub at_new_block : Document → List Place
 at_new_block d = block_place (unwrap_or (next_handle d) 0) ∷ []
@@ -176,6 +181,10 @@ places_of (edits.SetNamePart b c t part) d = at_elements (edits.SetNamePart b c 
 places_of (edits.RemoveName b c t) d = at_elements (edits.RemoveName b c t) d b c t.0 (t.0 + 1) 1
 places_of (edits.CopyChain b) d = map block_place (new_handles d (length (chain_blocks d b.0)))
 places_of (edits.FreeChain b) d = map block_place (chain_blocks d b.0)
+places_of (edits.CreateLarge uid size) d = large_places (created_blocks d)
+places_of (edits.InsertLarge b i bytes) d = large_places (inserted_blocks d b.0 i.0 bytes)
+places_of (edits.SetLarge b i bytes) d = large_places (set_blocks d b.0 i.0 bytes)
+places_of (edits.DeleteLarge b i n) d = large_places (deleted_blocks d b.0 i.0 n.0)
 
 -- The places of taking a step back: in the other order, and with the lengths exchanged.
 abbrev pub inverse : Place → Place

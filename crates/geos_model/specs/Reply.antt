@@ -7,6 +7,7 @@ use Rattle.geos_model.specs.ArrayEdits.{array_in, on_array, on_element}
 use Rattle.geos_model.specs.ElementEdits.{elements_in, count_at, bytes_at, used_in, used_from, used_below, on_elements, on_token, on_used}
 use Rattle.geos_model.specs.NameEdits.{names_in, token_of_text, text_at, part_at, on_name_token, find_conditions}
 use Rattle.geos_model.specs.Chain.{chain_blocks, chain_bytes, same_shape, on_chain, on_chains}
+use Rattle.geos_model.specs.LargeEdits.{on_root, get_large_conditions, read_large_conditions, large_count, large_element, large_run}
 use Rattle.geos_model.specs.Heap.{need}
 use Rattle.geos_model.specs.Document.{Document, chunks_of, raw_bytes_of, heap_type_of}
 use Rattle.geos_model.specs.Meaning.{on_block, on_raw, on_heap, on_chunk, chunk_at}
@@ -66,6 +67,9 @@ look_up_conditions (commands.NamePart b c t) d = on_chunk d b.0 c.0 ++ on_name_t
 look_up_conditions (commands.Walk b) d = on_chain d b.0
 look_up_conditions (commands.ChainSize b) d = on_chain d b.0
 look_up_conditions (commands.ChainEqual b other) d = on_chains d b.0 other.0
+look_up_conditions (commands.LargeCount b) d = on_root d b.0
+look_up_conditions (commands.LargeElement b i) d = get_large_conditions d b.0 i.0
+look_up_conditions (commands.LargeRun b i n) d = read_large_conditions d b.0 i.0 n.0
 look_up_conditions (commands.HeapType b) d = on_heap d b.0
 look_up_conditions commands.List d = []
 look_up_conditions (commands.Find uid start) d = []
@@ -134,6 +138,9 @@ look_up (commands.NamePart b c t) d = Some (BytesAre (part_at (names_in (chunk_a
 look_up (commands.Walk b) d = Some (BlocksAre (chain_blocks d b.0))
 look_up (commands.ChainSize b) d = Some (NumberIs (chain_bytes d (chain_blocks d b.0)))
 look_up (commands.ChainEqual b other) d = Some (AreEqual (same_shape d (chain_blocks d b.0) (chain_blocks d other.0)))
+look_up (commands.LargeCount b) d = Some (NumberIs (large_count d b.0))
+look_up (commands.LargeElement b i) d = Some (BytesAre (large_element d b.0 i.0))
+look_up (commands.LargeRun b i n) d = Some (BytesAre (large_run d b.0 i.0 n.0))
 look_up commands.Undos d = None
 look_up commands.Redos d = None
 look_up commands.Modified d = None

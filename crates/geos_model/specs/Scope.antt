@@ -5,7 +5,8 @@ use Rattle.geos_model.specs.declared.handle.ChunkHandle.{ChunkHandle}
 use Rattle.geos_model.specs.declared.handle.VmHandle.{VmHandle}
 
 -- No body: a user ID, a type or the map block. A new block. A block as a whole, of either kind. The bytes of a raw
--- block. A heap, in which a chunk is made. A chunk of a heap. The blocks of a chain, by its root.
+-- block. A heap, in which a chunk is made. A chunk of a heap. The blocks of a chain, and those of a large array, by
+-- their root.
 pub data Scope : Type 0 where
   Plain : Scope
   New : Scope
@@ -14,6 +15,7 @@ pub data Scope : Type 0 where
   Heap : (block : VmHandle) → Scope
   Chunk : (block : VmHandle) (chunk : ChunkHandle) → Scope
   Chain : (root : VmHandle) → Scope
+  Large : (root : VmHandle) → Scope
 
 abbrev pub scope_of : Edit → Scope
 scope_of (edits.SetUserId b uid) = Plain
@@ -52,3 +54,7 @@ scope_of (edits.SetNamePart b c t part) = Chunk b c
 scope_of (edits.RemoveName b c t) = Chunk b c
 scope_of (edits.CopyChain b) = Chain b
 scope_of (edits.FreeChain b) = Chain b
+scope_of (edits.CreateLarge uid size) = New
+scope_of (edits.InsertLarge b i bytes) = Large b
+scope_of (edits.SetLarge b i bytes) = Large b
+scope_of (edits.DeleteLarge b i n) = Large b

@@ -8,6 +8,7 @@ use Rattle.hex.specs.declared.error.FromHexError.{FromHexError}
 use Rattle.geos_model.specs.declared.handle.VmHandle.{VmHandle}
 use Rattle.geos_model.specs.declared.handle.ChunkHandle.{ChunkHandle}
 use Rattle.geos_model.specs.declared.handle.Token.{Token}
+use Rattle.geos_model.specs.declared.element_count.ElementCount.{ElementCount}
 use Rattle.geos_model.specs.declared.place.Place.{Place}
 use Rattle.geos_model.specs.declared.place.Place.TheVariants as place
 pub use Rattle.geos_model.specs.Bytes.{same_bytes}
@@ -55,11 +56,19 @@ is_digit x = nat_le 48 x && nat_le x 57
 abbrev pub with_digit : ℕ → ℕ → ℕ
 with_digit n x = 10 * n + (x - 48)
 
--- 1 to 7 decimal digits
-abbrev pub number : List ℕ → Option ℕ
-number word =
-    if nat_le 1 (length word) && nat_le (length word) 7 && list_all is_digit word then Some (fold with_digit 0 word)
+-- 1 to so many decimal digits
+abbrev pub number_within : ℕ → List ℕ → Option ℕ
+number_within most word =
+    if nat_le 1 (length word) && nat_le (length word) most && list_all is_digit word then Some (fold with_digit 0 word)
     else None
+
+-- a number has 7 at most
+abbrev pub number : List ℕ → Option ℕ
+number word = number_within 7 word
+
+-- and one of elements of a large array 9
+abbrev pub element_number : List ℕ → Option ElementCount
+element_number word = option_map (λ n. record { 0 = n }) (number_within 9 word)
 
 -- such digits for a number of two bytes
 abbrev pub user_id : List ℕ → Option ℕ
@@ -177,6 +186,10 @@ commands_by_name =
     ∷ (codes "nunref", with_3 block chunk token (λ b c t. commands.Edit (edits.RemoveName b c t)))
     ∷ (codes "chcopy", with_1 block (λ b. commands.Edit (edits.CopyChain b)))
     ∷ (codes "chfree", with_1 block (λ b. commands.Edit (edits.FreeChain b)))
+    ∷ (codes "hcreate", with_2 user_id number (λ u e. commands.Edit (edits.CreateLarge u e)))
+    ∷ (codes "hinsert", with_3 block element_number bytes (λ b i bs. commands.Edit (edits.InsertLarge b i bs)))
+    ∷ (codes "hset", with_3 block element_number bytes (λ b i bs. commands.Edit (edits.SetLarge b i bs)))
+    ∷ (codes "hdelete", with_3 block element_number element_number (λ b i n. commands.Edit (edits.DeleteLarge b i n)))
     ∷ (codes "undo", with_none commands.Undo)
     ∷ (codes "redo", with_none commands.Redo)
     ∷ (codes "begin", with_none commands.Begin)
@@ -211,6 +224,9 @@ commands_by_name =
     ∷ (codes "walk", with_1 block (λ b. commands.Walk b))
     ∷ (codes "chsize", with_1 block (λ b. commands.ChainSize b))
     ∷ (codes "chequal", with_2 block block (λ b other. commands.ChainEqual b other))
+    ∷ (codes "hcount", with_1 block (λ b. commands.LargeCount b))
+    ∷ (codes "hget", with_2 block element_number (λ b i. commands.LargeElement b i))
+    ∷ (codes "hread", with_3 block element_number element_number (λ b i n. commands.LargeRun b i n))
     ∷ (codes "lock", with_1 block (λ b. commands.Lock b))
     ∷ (codes "unlock", with_1 block (λ b. commands.Unlock b))
     ∷ (codes "dirty", with_1 block (λ b. commands.Dirty b))

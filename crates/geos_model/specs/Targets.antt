@@ -1,4 +1,4 @@
--- The edit that is seen as a target. It is all that is said of the view: what is said of an edit, each layer says of
+-- The edit that is seen as a target, of one change or of a large array. It is all that is said of the view: what is said of an edit, each layer says of
 -- the edit, and its match is over the view.
 use Rattle.geos_model.specs.declared.command.Edit.{Edit}
 use Rattle.geos_model.specs.declared.command.Edit.TheVariants as edits
@@ -18,6 +18,10 @@ use Rattle.geos_model.specs.declared.target.ChunkEdit.{ChunkEdit}
 use Rattle.geos_model.specs.declared.target.ChunkEdit.TheVariants as chunk_edits
 use Rattle.geos_model.specs.declared.target.ElementArrayEdit.{ElementArrayEdit}
 use Rattle.geos_model.specs.declared.target.ElementArrayEdit.TheVariants as element_array_edits
+use Rattle.geos_model.specs.declared.target.EditTarget.{EditTarget}
+use Rattle.geos_model.specs.declared.target.EditTarget.TheVariants as seen
+use Rattle.geos_model.specs.declared.target.LargeEdit.{LargeEdit}
+use Rattle.geos_model.specs.declared.target.LargeEdit.TheVariants as large_edits
 use Rattle.geos_model.specs.declared.target.NameArrayEdit.{NameArrayEdit}
 use Rattle.geos_model.specs.declared.target.NameArrayEdit.TheVariants as name_array_edits
 use Rattle.geos_model.specs.declared.target.NewBlock.{NewBlock}
@@ -104,3 +108,13 @@ edit_of (targets.Raw b edit) = raw_edit b edit
 edit_of (targets.NewChunk b new) = new_chunk b new
 edit_of (targets.Chunk b c edit) = chunk_edit b c edit
 edit_of (targets.Chain b edit) = chain_edit b edit
+edit_of (targets.NewLarge uid size) = edits.CreateLarge uid size
+
+abbrev pub large_edit : VmHandle → LargeEdit → Edit
+large_edit b (large_edits.Insert i bytes) = edits.InsertLarge b i bytes.now
+large_edit b (large_edits.Set i bytes) = edits.SetLarge b i bytes.now
+large_edit b (large_edits.Delete i n) = edits.DeleteLarge b i n
+
+abbrev pub edit_seen : EditTarget → Edit
+edit_seen (seen.One target) = edit_of target
+edit_seen (seen.Large b edit) = large_edit b edit

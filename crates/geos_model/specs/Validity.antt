@@ -13,6 +13,7 @@ use Rattle.geos_model.specs.declared.command.Command.TheVariants as commands
 abbrev pub word_given : Edit → ℕ
 word_given (edits.NewRaw uid size) = uid
 word_given (edits.NewHeap uid) = uid
+word_given (edits.CreateLarge uid size) = uid
 word_given (edits.SetUserId b uid) = uid
 word_given (edits.SetType b heap_type) = heap_type
 word_given e = 0

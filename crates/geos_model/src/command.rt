@@ -1,5 +1,5 @@
 //! The commands of a script, the edits among them, and what an accepted edit answers.
-use crate::{Bytes, ChunkHandle, Chunks, Token, VmHandle};
+use crate::{Bytes, ChunkHandle, Chunks, ElementCount, Token, VmHandle};
 
 /// What a block holds.
 #[derive(Drop)]
@@ -84,6 +84,14 @@ pub enum Edit {
     CopyChain(VmHandle),
     /// All blocks of the chain are freed.
     FreeChain(VmHandle),
+    /// A new large array of no elements: the user ID of its root, and the size of each element, 0 where sizes vary.
+    CreateLarge(u16, u32),
+    /// Before an element of the large array, these bytes are put in: one element, or as many of its size as they are.
+    InsertLarge(VmHandle, ElementCount, Bytes),
+    /// From an element on, these bytes stand in place of as many elements.
+    SetLarge(VmHandle, ElementCount, Bytes),
+    /// From an element on, so many are deleted.
+    DeleteLarge(VmHandle, ElementCount, ElementCount),
 }
 
 /// What an accepted edit answers.
@@ -106,7 +114,7 @@ pub enum Kind {
     Made,
     /// Blocks were freed.
     Freed,
-    /// The edits of a group together.
+    /// Of several blocks: the edits of a group together, or an edit of a large array.
     Group,
 }
 
@@ -184,6 +192,12 @@ pub enum Command {
     ChainSize(VmHandle),
     /// Whether two chains are equal, but for handles and user IDs.
     ChainEqual(VmHandle, VmHandle),
+    /// How many elements a large array has.
+    LargeCount(VmHandle),
+    /// The bytes of an element of a large array.
+    LargeElement(VmHandle, ElementCount),
+    /// The bytes of so many elements of one size, from one on.
+    LargeRun(VmHandle, ElementCount, ElementCount),
     /// How many steps can be undone.
     Undos,
     /// How many steps can be redone.

@@ -4,6 +4,7 @@
 mod block;
 mod bytes;
 mod command;
+mod element_count;
 mod fault;
 mod handle;
 mod law;
@@ -16,6 +17,7 @@ mod target;
 pub use block::Attributes;
 pub use bytes::{Bytes, Chunks};
 pub use command::{Body, Command, Done, Edit, Info, Kind};
+pub use element_count::ElementCount;
 pub use fault::Fault;
 pub use handle::{ChunkHandle, Token, VmHandle};
 pub use law::{
@@ -30,11 +32,11 @@ pub use limit::{
 };
 pub use look_up::{
     ArrayLookUp, BlockLookUp, ChainLookUp, ChunkArrayLookUp, ChunkLookUp, ElementArrayLookUp,
-    LookUp, NameArrayLookUp, PlacesLookUp, PlainLookUp, StepNameLookUp,
+    LargeLookUp, LookUp, NameArrayLookUp, PlacesLookUp, PlainLookUp, StepNameLookUp,
 };
 pub use place::Place;
 pub use reply::Reply;
 pub use target::{
-    ArrayEdit, BlockEdit, ByteEdit, ChainEdit, ChunkArrayEdit, ChunkEdit, ElementArrayEdit,
-    NameArrayEdit, NewBlock, NewChunk, RawEdit, Setting, Target,
+    ArrayEdit, BlockEdit, ByteEdit, ChainEdit, ChunkArrayEdit, ChunkEdit, EditTarget,
+    ElementArrayEdit, LargeEdit, NameArrayEdit, NewBlock, NewChunk, RawEdit, Setting, Target,
 };

@@ -2,7 +2,7 @@
 ghost use Rattle.std.specs.Prelude.{◌≡◌, false, MatchOption};
 ghost use Rattle.geos_model.specs.LookUps.{array_look_up, chunk_array_look_up, command_of, element_array_look_up, is_look_up, name_array_look_up};
 
-use crate::{ChunkHandle, Command, Token, VmHandle};
+use crate::{ChunkHandle, Command, ElementCount, Token, VmHandle};
 
 /// What is asked of no block's body, but for the list of blocks.
 #[derive(Clone, Copy)]
@@ -90,6 +90,14 @@ pub enum ChainLookUp {
     Equal(VmHandle, VmHandle),
 }
 
+/// What is asked of a large array, by the numbers of its elements.
+#[derive(Clone, Copy)]
+pub enum LargeLookUp {
+    Count,
+    Element(ElementCount),
+    Run(ElementCount, ElementCount),
+}
+
 /// What is asked, by the bodies that are looked into: none, that of one block, or those of chains.
 #[derive(Clone, Copy)]
 pub enum LookUp<'a> {
@@ -99,6 +107,7 @@ pub enum LookUp<'a> {
     Places(PlacesLookUp),
     InBlock(VmHandle, BlockLookUp<'a>),
     AlongChain(ChainLookUp),
+    InLarge(VmHandle, LargeLookUp),
 }
 
 // One row for each.
@@ -149,6 +158,9 @@ impl Command {
             Command::Walk(root) => LookUp::AlongChain(ChainLookUp::Walk(*root)),
             Command::ChainSize(root) => LookUp::AlongChain(ChainLookUp::Size(*root)),
             Command::ChainEqual(first, second) => LookUp::AlongChain(ChainLookUp::Equal(*first, *second)),
+            Command::LargeCount(root) => LookUp::InLarge(*root, LargeLookUp::Count),
+            Command::LargeElement(root, i) => LookUp::InLarge(*root, LargeLookUp::Element(*i)),
+            Command::LargeRun(root, i, n) => LookUp::InLarge(*root, LargeLookUp::Run(*i, *n)),
         }
     }
 }

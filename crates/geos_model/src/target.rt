@@ -1,8 +1,8 @@
 //! What an edit touches, with its operands: all that forks on an edit matches this view.
 ghost use Rattle.std.specs.Prelude.{◌≡◌};
-ghost use Rattle.geos_model.specs.Targets.{byte_edit, chunk_array_edit, edit_of, element_array_edit, name_array_edit};
+ghost use Rattle.geos_model.specs.Targets.{byte_edit, chunk_array_edit, edit_of, edit_seen, element_array_edit, name_array_edit};
 
-use crate::{ChunkHandle, Edit, Token, VmHandle};
+use crate::{ChunkHandle, Edit, ElementCount, Token, VmHandle};
 
 /// What is set without a body.
 #[derive(Clone, Copy)]
@@ -105,7 +105,15 @@ pub enum ChainEdit {
     Free,
 }
 
-/// What an edit touches, and how.
+/// An edit of a large array, by the numbers of its elements.
+#[derive(Clone, Copy)]
+pub enum LargeEdit<'a> {
+    Insert(ElementCount, &'a [u8]),
+    Set(ElementCount, &'a [u8]),
+    Delete(ElementCount, ElementCount),
+}
+
+/// What an edit touches that one change makes, and how.
 #[derive(Clone, Copy)]
 pub enum Target<'a> {
     Setting(Setting),
@@ -115,21 +123,31 @@ pub enum Target<'a> {
     NewChunk(VmHandle, NewChunk),
     Chunk(VmHandle, ChunkHandle, ChunkEdit<'a>),
     Chain(VmHandle, ChainEdit),
+    /// A large array that is made: the user ID of its root, and the size of each element.
+    NewLarge(u16, u32),
 }
 
-// One row for each edit.
+/// What an edit touches: by one change, or a large array, which has a root, by several.
+#[derive(Clone, Copy)]
+pub enum EditTarget<'a> {
+    One(Target<'a>),
+    Large(VmHandle, LargeEdit<'a>),
+}
+
+// One row for each edit: those that one change makes, and those of large arrays.
 macro_rules! targets {
-    ($edit:expr; $($name:ident($($operand:ident),*) => $target:expr,)*) => {
+    ($edit:expr; $($name:ident($($operand:ident),*) => $target:expr,)*; $($large:ident($($given:ident),*) => $edited:expr,)*) => {
         match $edit {
-            $(Edit::$name($($operand),*) => $target,)*
+            $(Edit::$name($($operand),*) => EditTarget::One($target),)*
+            $(Edit::$large($($given),*) => $edited,)*
         }
     };
 }
 
 impl Edit {
     /// What the edit touches, with its operands. Nothing is copied.
-    pub fn target(&self) -> Target<'_>
-        ensures { edit_of result ≡ self.now }
+    pub fn target(&self) -> EditTarget<'_>
+        ensures { edit_seen result ≡ self.now }
     {
         targets! { self;
             SetUserId(block, user_id) => Target::Setting(Setting::UserId(*block, *user_id)),
@@ -169,6 +187,11 @@ impl Edit {
             RemoveName(block, chunk, token) => names(block, chunk, NameArrayEdit::Remove(*token)),
             CopyChain(root) => Target::Chain(*root, ChainEdit::Copy),
             FreeChain(root) => Target::Chain(*root, ChainEdit::Free),
+            CreateLarge(user_id, size) => Target::NewLarge(*user_id, *size),
+            ;
+            InsertLarge(root, i, new) => EditTarget::Large(*root, LargeEdit::Insert(*i, new.as_slice())),
+            SetLarge(root, i, new) => EditTarget::Large(*root, LargeEdit::Set(*i, new.as_slice())),
+            DeleteLarge(root, i, n) => EditTarget::Large(*root, LargeEdit::Delete(*i, *n)),
         }
     }
 }

@@ -9,11 +9,11 @@ use Rattle.geos_model.specs.Words.{word}
 use Rattle.geos_model.specs.Array.{places_from}
 use Rattle.geos_model.specs.Heap.{capacity}
 use Rattle.geos_model.proofs.Arrays.{joined, table_of, table-any, table-even, array_bytes-spelled}
-use Rattle.large_arrays.specs.Pieces.{BranchPiece, piece_weight, branch_room}
-use Rattle.large_arrays.specs.Layout.{branch_bytes}
+use Rattle.geos_model.specs.Pieces.{BranchPiece, piece_weight, branch_room}
+use Rattle.geos_model.specs.LargeLayout.{branch_bytes}
 use Rattle.large_arrays.specs.ElementLengths.{kept_lengths, places_by}
 use Rattle.large_arrays.specs.PieceKeeping.{AreHeldElements}
-use Rattle.large_arrays.proofs.BranchBytes.{FitsBranch, array_of_piece, branch-few, length-branch_bytes}
+use Rattle.geos_model.proofs.BranchBytes.{FitsBranch, array_of_piece, branch-few, length-branch_bytes}
 use Rattle.large_arrays.proofs.PieceLemmas.{weight-kept}
 
 -- Places of elements by how many bytes they have.

@@ -9,10 +9,10 @@ use Rattle.geos_model.proofs.Images.{word-reads_back}
 use Rattle.geos_model.proofs.Arrays.{table_of, same_bytes-is, same_bytes-refl, array_bytes-of, length-array_bytes, length_table-any, table-even, size_lt}
 use Rattle.chunk_arrays.specs.Parts.{AreByteValues}
 use Rattle.chunk_arrays.proofs.CutLemmas.{word_rejoin}
-use Rattle.large_arrays.specs.Pieces.{BranchPiece}
-use Rattle.large_arrays.specs.Layout.{branch_bytes, branch_of}
+use Rattle.geos_model.specs.Pieces.{BranchPiece}
+use Rattle.geos_model.specs.LargeLayout.{branch_bytes, branch_of}
 use Rattle.large_arrays.specs.BranchReading.{BeginsWithZero, IsPlain}
-use Rattle.large_arrays.proofs.BranchBytes.{array_of_piece, behind, same_size, branch_of-is, length-branch_bytes}
+use Rattle.geos_model.proofs.BranchBytes.{array_of_piece, behind, same_size, branch_of-is, length-branch_bytes}
 
 spelled : (size : ℕ) (piece : BranchPiece) → branch_bytes size piece ≡ word 0 ++ array_bytes (array_of_piece size piece)
 unfolding branch_bytes

@@ -1,7 +1,7 @@
 -- The bytes of some blocks, as the definitions read them.
 use Rattle.std.specs.Prelude.{◌≡◌, ℕ, List, [], ◌∷◌, Some, None, refl}
 use Rattle.geos_model.specs.Array.{array_bytes, array_of}
-use Rattle.large_arrays.specs.Layout.{root_bytes, root_of, branch_bytes, branch_of}
+use Rattle.geos_model.specs.LargeLayout.{root_bytes, root_of, branch_bytes, branch_of}
 
 -- the text `hello` in the block 2
 hello_root : List ℕ

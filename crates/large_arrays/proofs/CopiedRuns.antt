@@ -6,17 +6,17 @@ use Rattle.std.proofs.lemmas.List.{drop_more, drop_all, take_all, take-append-le
 use Rattle.std.proofs.lemmas.List.Folds.{list_all_more, list_all_at}
 use Rattle.std.proofs.lemmas.List.Sums.{sum_by-cons}
 use Rattle.geos_model.specs.Document.{Document, raw_bytes_of}
-use Rattle.large_arrays.specs.Pieces.{BranchPiece, elements_in_pieces}
+use Rattle.geos_model.specs.Pieces.{BranchPiece, elements_in_pieces}
 use Rattle.large_arrays.specs.Loading.{branch_under}
 use Rattle.large_arrays.specs.Spots.{counts_of}
 use Rattle.large_arrays.specs.LargeRuns.{AppendsRun, are_branches_under, pieces_under}
 use Rattle.large_arrays.specs.declared.spot.BranchLink.{BranchLink}
-use Rattle.large_arrays.proofs.BranchBytes.{branch_of-is}
+use Rattle.geos_model.proofs.BranchBytes.{branch_of-is}
 use Rattle.large_arrays.proofs.LoadedBranches.{under-raw}
 use Rattle.large_arrays.proofs.Marking.{no_link}
-use Rattle.large_arrays.proofs.OverwrittenPieces.{sum}
+use Rattle.geos_model.proofs.OverwrittenPieces.{sum}
 use Rattle.large_arrays.proofs.RootFacts.{piece_under}
-use Rattle.large_arrays.proofs.SpreadElements.{take_past}
+use Rattle.geos_model.proofs.SpreadElements.{take_past}
 
 abbrev pub joined_bytes : BranchPiece → List ℕ
 joined_bytes xs = flat_map (λ x. x) xs

@@ -20,11 +20,11 @@ use Rattle.vm_blocks.specs.Changes.{AreFree, IsFreeHandle}
 use Rattle.vm_blocks.specs.declared.change.Change.TheVariants as changes
 use Rattle.vm_blocks.specs.declared.member.Members.{Members}
 use Rattle.vm_chains.specs.Numbers.{numbers}
-use Rattle.large_arrays.specs.Layout.{greatest_element_size, root_bytes, branch_bytes}
-use Rattle.large_arrays.specs.Window.{raw_block}
-use Rattle.large_arrays.specs.Edits.{large_created, create_large_conditions}
+use Rattle.geos_model.specs.LargeLayout.{greatest_element_size, root_bytes, branch_bytes}
+use Rattle.geos_model.specs.LargeWindow.{raw_block}
+use Rattle.geos_model.specs.LargeEdits.{large_created, create_large_conditions}
 use Rattle.large_arrays.specs.Creation.{empty_root, PlansCreation}
-use Rattle.large_arrays.proofs.Creating.{two_of}
+use Rattle.geos_model.proofs.Creating.{two_of}
 use Rattle.large_arrays.proofs.PlannedChanges.{none_there}
 
 at_least : (n k : ℕ) → k ≤ n → nat_lt n k ≡ false

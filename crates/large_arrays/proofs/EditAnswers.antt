@@ -11,24 +11,25 @@ use Rattle.geos_model.specs.declared.fault.Fault.TheVariants.{NoElement, BadChai
 use Rattle.vm_blocks.specs.declared.change.Change.{Change}
 use Rattle.vm_chains.specs.Answers.{AnswersChain}
 use Rattle.vm_chains.specs.Walking.{Stops}
-use Rattle.large_arrays.specs.Pieces.{BranchPiece}
-use Rattle.large_arrays.specs.Layout.{Root, greatest_element_size, root_of, root_bytes, branch_bytes, total_count}
-use Rattle.large_arrays.specs.Blocks.{root_at}
-use Rattle.large_arrays.specs.Window.{Window, window, freed_handles, raw_block, replaced_root, with_window, are_branches, elements_replaced, elements_overwritten}
+use Rattle.geos_model.specs.Pieces.{BranchPiece}
+use Rattle.geos_model.specs.LargeLayout.{Root, greatest_element_size, root_of, root_bytes, branch_bytes, total_count}
+use Rattle.geos_model.specs.LargeBlocks.{root_at}
+use Rattle.geos_model.specs.LargeWindow.{Window, window, freed_handles, raw_block, replaced_root, with_window, are_branches, elements_replaced, elements_overwritten}
 use Rattle.large_arrays.specs.ChangePlans.{with_bodies, window_bodies, ArePlanned}
-use Rattle.large_arrays.specs.DocumentLaws.{handles_at}
-use Rattle.large_arrays.specs.LargeCost.{large_cost}
-use Rattle.large_arrays.specs.LargePlaces.{large_places, replaced_blocks, overwritten_blocks, inserted_blocks, set_blocks, deleted_blocks}
+use Rattle.geos_model.specs.LargeBlocks.{handles_at}
+use Rattle.geos_model.specs.Cost.{large_cost}
+use Rattle.geos_model.specs.LargePlaces.{large_places}
+use Rattle.geos_model.specs.ChangedBlocks.{replaced_blocks, overwritten_blocks, inserted_blocks, set_blocks, deleted_blocks}
 use Rattle.large_arrays.specs.WindowPlans.{IsWindowPlanned, RefusesWindow}
-use Rattle.large_arrays.specs.Edits.{cut_elements, element_count, run_places, large_inserted, large_set, large_deleted, on_window, on_run, insert_large_conditions, set_large_conditions, delete_large_conditions}
+use Rattle.geos_model.specs.LargeEdits.{cut_elements, element_count, run_places, large_inserted, large_set, large_deleted, on_window, on_run, insert_large_conditions, set_large_conditions, delete_large_conditions}
 use Rattle.large_arrays.specs.EditPlans.{PlansLargeEdit, IsOverwritingPlanned, IsGivenFault, IsSettingFault, IsLargeEditRefusal}
 use Rattle.large_arrays.specs.Replacements.{CanReplace, IsInsertion, IsSetting, IsDeletion, insertion_conditions, setting_conditions, replacement}
 use Rattle.large_arrays.specs.declared.edit_plans.Replacement.{Replacement}
 use Rattle.large_arrays.proofs.EditRefusals.{are_looked_at, given_fault, given_past-fault, insertion-window, insertion-within, deletion-window, setting-window, setting-run, setting-within, window-nothing, window-chain, window-map, window-handles, window-none, run-tested}
-use Rattle.large_arrays.proofs.GivenElements.{given-one, given-count}
-use Rattle.large_arrays.proofs.Layouts.{root-facts}
+use Rattle.geos_model.proofs.GivenElements.{given-one, given-count}
+use Rattle.geos_model.proofs.Layouts.{root-facts}
 use Rattle.large_arrays.proofs.PlannedEdits.{planned-edit}
-use Rattle.large_arrays.proofs.WindowPuts.{HasRoot, MayReplace, window-named, window-once}
+use Rattle.geos_model.proofs.WindowPuts.{HasRoot, MayReplace, window-named, window-once}
 
 -- The document with a window is that with its bodies.
 

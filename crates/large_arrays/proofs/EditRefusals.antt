@@ -6,12 +6,12 @@ use Rattle.geos_model.specs.Document.{Document, is_live, is_raw, raw_bytes_of}
 use Rattle.geos_model.specs.declared.fault.Fault.{Fault}
 use Rattle.geos_model.specs.declared.fault.Fault.TheVariants.{NoBlock, WrongKind, NotArray, NoElement, BadChain, IsMap, Range, TooBig, NoHandles}
 use Rattle.vm_chains.proofs.WalkLemmas.{raw_live}
-use Rattle.large_arrays.specs.Pieces.{BranchPiece, branch_room}
-use Rattle.large_arrays.specs.Layout.{Root, root_of, total_count}
-use Rattle.large_arrays.specs.Blocks.{root_at, pieces_at}
-use Rattle.large_arrays.specs.Window.{window, looked_at, are_branches}
+use Rattle.geos_model.specs.Pieces.{BranchPiece, branch_room}
+use Rattle.geos_model.specs.LargeLayout.{Root, root_of, total_count}
+use Rattle.geos_model.specs.LargeBlocks.{root_at, pieces_at}
+use Rattle.geos_model.specs.LargeWindow.{window, looked_at, are_branches}
 use Rattle.large_arrays.specs.WindowPlans.{frees_map, lacks_handles, has_too_many}
-use Rattle.large_arrays.specs.Edits.{cut_elements, ends_within_element, element_count, is_too_long, run_places, on_root, on_window, on_run, insert_large_conditions, set_large_conditions, delete_large_conditions}
+use Rattle.geos_model.specs.LargeEdits.{cut_elements, ends_within_element, element_count, is_too_long, run_places, on_root, on_window, on_run, insert_large_conditions, set_large_conditions, delete_large_conditions}
 use Rattle.large_arrays.specs.Replacements.{insertion_conditions, setting_conditions}
 use Rattle.large_arrays.proofs.FirstRefusal.{after_root, from_root, of_insertion, of_deletion, of_setting, of_overwriting}
 

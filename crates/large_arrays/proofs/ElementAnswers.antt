@@ -13,22 +13,22 @@ use Rattle.vm_blocks.proofs.KeepingLaws.{keeps-same, keeps-steady, lacks-later}
 use Rattle.vm_chains.specs.Answers.{AnswersChain, RefusesChain}
 use Rattle.vm_chains.specs.Walking.{Stops}
 use Rattle.vm_chains.proofs.WalkLemmas.{raw_live}
-use Rattle.large_arrays.specs.Pieces.{BranchPiece, elements_in_pieces}
-use Rattle.large_arrays.specs.Layout.{Root, root_of, total_count}
-use Rattle.large_arrays.specs.Spread.{start_place, end_place}
-use Rattle.large_arrays.specs.Blocks.{root_at, branch_at, pieces_at}
-use Rattle.large_arrays.specs.Window.{are_branches}
-use Rattle.large_arrays.specs.Edits.{get_large_conditions, large_element, on_root, run_places}
+use Rattle.geos_model.specs.Pieces.{BranchPiece, elements_in_pieces}
+use Rattle.geos_model.specs.LargeLayout.{Root, root_of, total_count}
+use Rattle.geos_model.specs.Spread.{start_place, end_place}
+use Rattle.geos_model.specs.LargeBlocks.{root_at, branch_at, pieces_at}
+use Rattle.geos_model.specs.LargeWindow.{are_branches}
+use Rattle.geos_model.specs.LargeEdits.{get_large_conditions, large_element, on_root, run_places}
 use Rattle.large_arrays.specs.Loading.{branch_under}
 use Rattle.large_arrays.specs.LargeLookUps.{IsElementRefusal, IsElementSpot, IsElementPlaced, placed_bytes}
 use Rattle.large_arrays.specs.declared.look_ups.ElementPlace.{ElementPlace}
 use Rattle.large_arrays.specs.declared.look_ups.ElementSpot.{ElementSpot}
 use Rattle.large_arrays.proofs.LoadedBranches.{under-none}
-use Rattle.large_arrays.proofs.OverwrittenPieces.{sum}
+use Rattle.geos_model.proofs.OverwrittenPieces.{sum}
 use Rattle.large_arrays.proofs.PlaceSums.{start-element, start-within}
 use Rattle.large_arrays.proofs.RefusalOrder.{of_get, root_first}
 use Rattle.large_arrays.proofs.RootFacts.{counts-at, piece-at, root-as_many, total-at}
-use Rattle.large_arrays.proofs.SpreadPlaces.{start-low, start-end_one}
+use Rattle.geos_model.proofs.SpreadPlaces.{start-low, start-end_one}
 
 -- the test of one branch
 one_branch : (found same : Bool) → ((found && true) && (not (same || false) && (not false && true))) ≡ (found && not same)

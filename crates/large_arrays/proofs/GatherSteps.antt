@@ -9,12 +9,12 @@ use Rattle.geos_model.specs.Heap.{capacity}
 use Rattle.geos_model.specs.declared.fault.Fault.{Fault}
 use Rattle.geos_model.specs.declared.fault.Fault.TheVariants.{Memory}
 use Rattle.vm_chains.specs.Walking.{Stops}
-use Rattle.large_arrays.specs.Pieces.{BranchPiece}
-use Rattle.large_arrays.specs.Layout.{Root}
-use Rattle.large_arrays.specs.Spread.{middle}
+use Rattle.geos_model.specs.Pieces.{BranchPiece}
+use Rattle.geos_model.specs.LargeLayout.{Root}
+use Rattle.geos_model.specs.Spread.{middle}
 use Rattle.large_arrays.specs.SizedElements.{SizedPieces}
-use Rattle.large_arrays.specs.Blocks.{root_at, pieces_at}
-use Rattle.large_arrays.specs.Window.{looks_left, looks_right, looked_at, are_branches}
+use Rattle.geos_model.specs.LargeBlocks.{root_at, pieces_at}
+use Rattle.geos_model.specs.LargeWindow.{looks_left, looks_right, looked_at, are_branches}
 use Rattle.large_arrays.specs.Bodies.{AreBodies, are_raw, bytes_of_bodies}
 use Rattle.large_arrays.specs.LookedBranches.{HasLinks, IsPieceSpot, AreThere, AreLooked, first_with, behind_with, links_between, left_links, right_links, handle_at}
 use Rattle.large_arrays.specs.Middle.{IsMiddle, are_there, run_branches}

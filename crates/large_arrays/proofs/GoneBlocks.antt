@@ -15,8 +15,8 @@ use Rattle.vm_blocks.specs.Preparing.{CanRemoveByHandle}
 use Rattle.large_arrays.specs.Gathering.{HasOldBody}
 use Rattle.large_arrays.specs.HandleLists.{old_handles}
 use Rattle.large_arrays.specs.declared.handles.OldBranch.{OldBranch}
-use Rattle.large_arrays.proofs.DistinctHandles.{distinct-cons, distinct-few}
-use Rattle.large_arrays.proofs.Pairs.{pairs-at}
+use Rattle.geos_model.proofs.DistinctHandles.{distinct-cons, distinct-few}
+use Rattle.geos_model.proofs.Pairs.{pairs-at}
 use Rattle.geos_model.proofs.Chains.{contains_cases}
 
 -- the block under a handle, by what was copied of it

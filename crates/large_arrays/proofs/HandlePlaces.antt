@@ -11,14 +11,14 @@ use Rattle.geos_model.specs.ElementArray.{all_distinct}
 use Rattle.geos_model.specs.declared.handle.VmHandle.{VmHandle}
 use Rattle.geos_model.proofs.Chains.{contains_first, contains_later}
 use Rattle.geos_model.proofs.BlockLists.{none_passes}
-use Rattle.large_arrays.specs.Window.{greatest, window_handles}
+use Rattle.geos_model.specs.LargeWindow.{greatest, window_handles}
 use Rattle.vm_chains.specs.Numbers.{numbers}
 use Rattle.large_arrays.specs.HandleLists.{old_handles, old_pairs, handles_outside, AreFreed, AreKeptPlaces}
 use Rattle.large_arrays.specs.declared.handles.OldBranch.{OldBranch}
 use Rattle.large_arrays.specs.declared.handles.KeptPlaces.{KeptPlaces}
-use Rattle.large_arrays.proofs.DistinctHandles.{distinct-parts}
-use Rattle.large_arrays.proofs.WindowHandles.{handles}
-use Rattle.large_arrays.proofs.PieceLists.{absent_any}
+use Rattle.geos_model.proofs.DistinctHandles.{distinct-parts}
+use Rattle.geos_model.proofs.WindowHandles.{handles}
+use Rattle.geos_model.proofs.PieceLists.{absent_any}
 
 -- Branches that are replaced, as pairs.
 

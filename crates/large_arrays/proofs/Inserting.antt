@@ -4,18 +4,18 @@ use Rattle.std.proofs.lemmas.Bool.{cases_Bool, cond-true, cond-false, eq-eqb}
 use Rattle.std.specs.List.{splice}
 use Rattle.geos_model.specs.Refusal.{first_refusal}
 use Rattle.geos_model.specs.Document.{Document, IsValid}
-use Rattle.large_arrays.specs.Pieces.{BranchPiece}
-use Rattle.large_arrays.specs.Layout.{Root}
-use Rattle.large_arrays.specs.Blocks.{root_at, pieces_at, IsLargeArray}
-use Rattle.large_arrays.specs.Window.{elements_replaced, elements_overwritten}
-use Rattle.large_arrays.specs.Edits.{cut_elements, element_count, large_inserted, large_set, large_deleted, insert_large_conditions, set_large_conditions, delete_large_conditions}
-use Rattle.large_arrays.specs.EditLaws.{IsEdited}
-use Rattle.large_arrays.proofs.GivenElements.{given-one}
+use Rattle.geos_model.specs.Pieces.{BranchPiece}
+use Rattle.geos_model.specs.LargeLayout.{Root}
+use Rattle.geos_model.specs.LargeBlocks.{root_at, pieces_at, IsLargeArray}
+use Rattle.geos_model.specs.LargeWindow.{elements_replaced, elements_overwritten}
+use Rattle.geos_model.specs.LargeEdits.{cut_elements, element_count, large_inserted, large_set, large_deleted, insert_large_conditions, set_large_conditions, delete_large_conditions}
+use Rattle.geos_model.specs.LargeEditLaws.{IsEdited}
+use Rattle.geos_model.proofs.GivenElements.{given-one}
 use Rattle.large_arrays.proofs.OverwrittenElements.{elements-overwritten}
 use Rattle.large_arrays.proofs.WindowEdits.{elements-replaced, replaced-few}
-use Rattle.large_arrays.proofs.AcceptedEdits.{insert-accepted, delete-accepted, set-accepted, set-count, run-accepted}
-use Rattle.large_arrays.specs.ChangeLaws.{FewChange}
-use Rattle.large_arrays.proofs.SpreadPlaces.{first-end_none, first-end_one}
+use Rattle.geos_model.proofs.AcceptedEdits.{insert-accepted, delete-accepted, set-accepted, set-count, run-accepted}
+use Rattle.geos_model.specs.LargeChangeLaws.{FewChange}
+use Rattle.geos_model.proofs.SpreadPlaces.{first-end_none, first-end_one}
 
 pub array-inserted : (d : Document) (b size : ℕ) (elements : BranchPiece) (i : ℕ) (bytes : List ℕ) → IsValid d → IsLargeArray d b size elements
     → first_refusal (insert_large_conditions d b i bytes) ≡ None

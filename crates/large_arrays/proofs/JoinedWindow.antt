@@ -5,11 +5,11 @@ use Rattle.std.proofs.lemmas.List.FromFn.{length-map-range_with_len, get_or-map-
 use Rattle.std.specs.List.{list_all, range_with_len}
 use Rattle.geos_model.specs.ElementArray.{all_distinct}
 use Rattle.geos_model.specs.Document.{Document, is_raw, raw_bytes_of}
-use Rattle.large_arrays.specs.Pieces.{BranchPiece}
-use Rattle.large_arrays.specs.Layout.{Root, branch_of}
-use Rattle.large_arrays.specs.Spread.{first_place, end_place}
-use Rattle.large_arrays.specs.Blocks.{root_at, branch_at, pieces_at}
-use Rattle.large_arrays.specs.Window.{looks_left, looks_right, looked_at, are_branches}
+use Rattle.geos_model.specs.Pieces.{BranchPiece}
+use Rattle.geos_model.specs.LargeLayout.{Root, branch_of}
+use Rattle.geos_model.specs.Spread.{first_place, end_place}
+use Rattle.geos_model.specs.LargeBlocks.{root_at, branch_at, pieces_at}
+use Rattle.geos_model.specs.LargeWindow.{looks_left, looks_right, looked_at, are_branches}
 use Rattle.large_arrays.specs.Bodies.{AreBodies, are_raw, bytes_of_bodies}
 use Rattle.large_arrays.specs.LookedBranches.{HasLinks, IsPieceSpot, AreThere, AreNeighbours, ReadsNeighbours, MissesNeighbour, first_with, behind_with, links_between, left_links, right_links, count_at, handle_at, left_read, right_read}
 use Rattle.large_arrays.specs.Spots.{IsSpot, link_handles}

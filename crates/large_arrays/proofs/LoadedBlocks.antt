@@ -13,7 +13,7 @@ use Rattle.vm_blocks.specs.Kinds.{IsWrongBlock}
 use Rattle.vm_blocks.proofs.KeepingLaws.{keeps-unless_corrupt, open-shut}
 use Rattle.vm_chains.specs.Answers.{RefusesChain}
 use Rattle.vm_chains.specs.Walking.{Stops}
-use Rattle.large_arrays.specs.Edits.{on_root}
+use Rattle.geos_model.specs.LargeEdits.{on_root}
 use Rattle.large_arrays.specs.Loading.{IsRawLoaded, IsRootRefusal}
 use Rattle.large_arrays.proofs.RefusalOrder.{root_wrong}
 

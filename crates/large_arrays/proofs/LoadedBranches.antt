@@ -9,11 +9,11 @@ use Rattle.geos_model.specs.declared.fault.Fault.{Fault}
 use Rattle.chunk_arrays.specs.Reading.{element_place}
 use Rattle.chunk_arrays.specs.Viewed.{Viewed}
 use Rattle.chunk_arrays.proofs.PlaceLemmas.{run-is, one-is, place-within}
-use Rattle.large_arrays.specs.Pieces.{BranchPiece}
-use Rattle.large_arrays.specs.Layout.{branch_bytes, branch_of}
+use Rattle.geos_model.specs.Pieces.{BranchPiece}
+use Rattle.geos_model.specs.LargeLayout.{branch_bytes, branch_of}
 use Rattle.large_arrays.specs.BranchReading.{IsPlain}
 use Rattle.large_arrays.specs.Loading.{branch_under}
-use Rattle.large_arrays.proofs.BranchBytes.{array_of_piece, behind, branch_of-is, length-branch_bytes}
+use Rattle.geos_model.proofs.BranchBytes.{array_of_piece, behind, branch_of-is, length-branch_bytes}
 
 -- an array that is a branch stands behind a zero word
 pub branch-array : (size count : ℕ) (bytes : List ℕ) (a : Array) → size < 65536 → branch_of size count bytes ≡ Some a.elements → IsPlain a size count

@@ -10,24 +10,24 @@ use Rattle.geos_model.specs.Document.{Document, vm_handles, is_live, is_raw, raw
 use Rattle.geos_model.specs.Chain.{free_handles, new_handles}
 use Rattle.geos_model.specs.declared.fault.Fault.TheVariants.{NoBlock, WrongKind, NotArray, NoElement, BadChain, IsMap, Range, TooBig, NoHandles}
 use Rattle.geos_model.proofs.Chains.{contains_cases, contains_first, contains_later}
-use Rattle.large_arrays.specs.Pieces.{BranchPiece, piece_weight}
-use Rattle.large_arrays.specs.Layout.{Root, most_branches, total_count, root_of, root_in, branch_of}
-use Rattle.large_arrays.specs.Blocks.{root_at, branch_at, pieces_at}
-use Rattle.large_arrays.specs.Window.{Window, window, looked_at, are_branches, freed_handles, replaced_root}
-use Rattle.large_arrays.specs.Edits.{cut_elements, ends_within_element, element_count, is_too_long, on_root, on_window, on_run, run_places, insert_large_conditions, set_large_conditions, delete_large_conditions}
-use Rattle.large_arrays.specs.DocumentLaws.{replacing_looks, set_looks}
+use Rattle.geos_model.specs.Pieces.{BranchPiece, piece_weight}
+use Rattle.geos_model.specs.LargeLayout.{Root, most_branches, total_count, root_of, root_in, branch_of}
+use Rattle.geos_model.specs.LargeBlocks.{root_at, branch_at, pieces_at}
+use Rattle.geos_model.specs.LargeWindow.{Window, window, looked_at, are_branches, freed_handles, replaced_root}
+use Rattle.geos_model.specs.LargeEdits.{cut_elements, ends_within_element, element_count, is_too_long, on_root, on_window, on_run, run_places, insert_large_conditions, set_large_conditions, delete_large_conditions}
+use Rattle.geos_model.specs.LargeDocumentLaws.{replacing_looks, set_looks}
 use Rattle.large_arrays.specs.LocalLaws.{AreAlike}
-use Rattle.large_arrays.specs.Spread.{start_place, end_place, overwritten}
+use Rattle.geos_model.specs.Spread.{start_place, end_place, overwritten}
 use Rattle.large_arrays.specs.WrittenPieces.{written_piece, written_pieces}
 use Rattle.large_arrays.proofs.HandlePlaces.{filter_same}
-use Rattle.large_arrays.proofs.Layouts.{root-facts, pieces-many, root-counts}
-use Rattle.large_arrays.proofs.PieceLists.{root_full}
+use Rattle.geos_model.proofs.Layouts.{root-facts, pieces-many, root-counts}
+use Rattle.geos_model.proofs.PieceLists.{root_full}
 use Rattle.large_arrays.proofs.RootPieces.{found-weight}
-use Rattle.large_arrays.proofs.SeenBranches.{seen_first, seen_end, LooksAround, looks-around}
+use Rattle.geos_model.proofs.SeenBranches.{seen_first, seen_end, LooksAround, looks-around}
 use Rattle.large_arrays.proofs.SeenPieces.{map_same, looked_at-same, window_in-same}
-use Rattle.large_arrays.proofs.SpreadPlaces.{start-end}
-use Rattle.large_arrays.proofs.SpreadCount.{ends}
-use Rattle.large_arrays.proofs.OverwrittenPieces.{sum, sum-lengths}
+use Rattle.geos_model.proofs.SpreadPlaces.{start-end}
+use Rattle.geos_model.proofs.SpreadCount.{ends}
+use Rattle.geos_model.proofs.OverwrittenPieces.{sum, sum-lengths}
 use Rattle.large_arrays.proofs.WrittenLemmas.{written-piece, length-overwritten, run-pieces}
 use Rattle.large_arrays.proofs.WindowParts.{window_in, window-in}
 

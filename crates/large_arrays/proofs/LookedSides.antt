@@ -1,9 +1,9 @@
 -- Which neighbours an edit looks at and joins, by what a spot tells.
 use Rattle.std.proofs.Common.{◌≡◌, ℕ, zero, suc, ◌+◌, ◌-◌, ◌*◌, ◌<◌, ◌≤◌, ◌==◌, nat_le, nat_lt, if◌then◌else◌, Bool, true, false, List, [], length, map, get_or, min, Option, Some, None, refl, sym, ap, ap₂, ◌∙◌, arith, ltb-true}
 use Rattle.std.proofs.lemmas.Bool.{and_parts, true≢false}
-use Rattle.large_arrays.specs.Pieces.{BranchPiece, piece_weight, join_room}
-use Rattle.large_arrays.specs.Spread.{first_place, end_place, middle, piece_before, left_piece, right_piece}
-use Rattle.large_arrays.specs.Window.{left_joins, right_joins, looks_left, looks_right}
+use Rattle.geos_model.specs.Pieces.{BranchPiece, piece_weight, join_room}
+use Rattle.geos_model.specs.Spread.{first_place, end_place, middle, piece_before, left_piece, right_piece}
+use Rattle.geos_model.specs.LargeWindow.{left_joins, right_joins, looks_left, looks_right}
 use Rattle.large_arrays.specs.Neighbours.{ends_of, if_known, are_joined_by, looks_left_by, looks_right_by, left_joins_by, right_joins_by, last_weight}
 use Rattle.large_arrays.specs.LookedBranches.{HasLinks, IsPieceSpot, AreThere, AreAmong, AreNeighbours, count_at, first_with, behind_with}
 use Rattle.large_arrays.specs.declared.joining.Neighbours.{Neighbours}

@@ -10,7 +10,7 @@ use Rattle.geos_model.proofs.Chains.{contains_first, contains_cases}
 use Rattle.geos_model.proofs.BlockLists.{none_passes}
 use Rattle.large_arrays.specs.Spots.{link_handles}
 use Rattle.large_arrays.specs.declared.spot.BranchLink.{BranchLink}
-use Rattle.large_arrays.proofs.DistinctHandles.{distinct-append, distinct-parts}
+use Rattle.geos_model.proofs.DistinctHandles.{distinct-append, distinct-parts}
 
 -- the handle is among these
 abbrev pub is_met : ℕ → List ℕ → Bool

@@ -6,18 +6,18 @@ use Rattle.std.proofs.lemmas.List.FromFn.{get_or-map-range_with_len, get_or-rang
 use Rattle.std.proofs.lemmas.List.Folds.{list_all_at}
 use Rattle.std.proofs.lemmas.List.Sums.{AllPass-from_list_all}
 use Rattle.geos_model.specs.Document.{Document, is_raw, raw_bytes_of}
-use Rattle.large_arrays.specs.Blocks.{branch_at, pieces_at, root_at}
+use Rattle.geos_model.specs.LargeBlocks.{branch_at, pieces_at, root_at}
 use Rattle.large_arrays.specs.Bodies.{AreBodies}
-use Rattle.large_arrays.specs.Layout.{Root, branch_of, root_of}
+use Rattle.geos_model.specs.LargeLayout.{Root, branch_of, root_of}
 use Rattle.large_arrays.specs.Middle.{IsMiddle, are_there, run_branches, run_length, run_links}
-use Rattle.large_arrays.specs.Pieces.{BranchPiece, branch_room, join_room, piece_weight}
+use Rattle.geos_model.specs.Pieces.{BranchPiece, branch_room, join_room, piece_weight}
 use Rattle.large_arrays.specs.RunReading.{IsHead, IsTail, OneUnread, run_count, run_read, tail_room}
 use Rattle.large_arrays.specs.SizedElements.{SizedElements}
 use Rattle.large_arrays.specs.Spots.{IsSpot, link_handles}
-use Rattle.large_arrays.specs.Spread.{end_place, first_place, middle, packed_from, with_last}
+use Rattle.geos_model.specs.Spread.{end_place, first_place, middle, packed_from, with_last}
 use Rattle.large_arrays.specs.declared.middle.Middle.{Middle}
 use Rattle.large_arrays.specs.declared.spot.Spot.{Spot}
-use Rattle.large_arrays.proofs.Layouts.{list_all-from_at, root-counts, root-facts}
+use Rattle.geos_model.proofs.Layouts.{list_all-from_at, root-counts, root-facts}
 use Rattle.large_arrays.proofs.SpotRuns.{HasRun, links-many, run-count, run-handle}
 
 none_is : {X : Type 0} (o : Option X) (x : X) → is_some o ≡ false → unwrap_or o x ≡ x

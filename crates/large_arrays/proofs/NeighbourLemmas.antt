@@ -1,15 +1,15 @@
 -- Which neighbours are joined, by what pieces weigh.
 use Rattle.std.proofs.Common.{◌≡◌, ℕ, ◌+◌, ◌<◌, ◌≤◌, Bool, true, false, ◌&&◌, ◌==◌, nat_le, nat_lt, if◌then◌else◌, List, [], ◌∷◌, ◌++◌, length, map, Option, Some, None, unwrap_or, refl, sym, ap, ap₂, ◌∙◌, inl, inr, arith, leb-true, leb-false}
 use Rattle.std.proofs.lemmas.Bool.{cases_Bool, true≢false, cond-true, cond-false, ne_eqb}
-use Rattle.large_arrays.specs.Pieces.{BranchPiece, piece_weight, join_room, are_joined}
-use Rattle.large_arrays.specs.Spread.{first_place, end_place, middle, left_piece, right_piece, with_first}
-use Rattle.large_arrays.specs.Window.{left_joins, right_joins, looks_left, looks_right}
+use Rattle.geos_model.specs.Pieces.{BranchPiece, piece_weight, join_room, are_joined}
+use Rattle.geos_model.specs.Spread.{first_place, end_place, middle, left_piece, right_piece, with_first}
+use Rattle.geos_model.specs.LargeWindow.{left_joins, right_joins, looks_left, looks_right}
 use Rattle.large_arrays.specs.Neighbours.{ends_of, if_known, looks_left_by, looks_right_by, are_joined_by, left_joins_by, last_weight, right_joins_by}
 use Rattle.large_arrays.specs.declared.neighbours.MiddleEnds.{MiddleEnds}
-use Rattle.large_arrays.proofs.SpreadFits.{weight-append}
-use Rattle.large_arrays.proofs.SpreadSides.{is_full}
-use Rattle.large_arrays.proofs.SpreadStays.{begins}
-use Rattle.large_arrays.proofs.Windows.{there, last, joins_left, joins_right, joins_right-some, joins_left-some, last-next, there-left, there-right, left_is, right_is}
+use Rattle.geos_model.proofs.SpreadFits.{weight-append}
+use Rattle.geos_model.proofs.SpreadSides.{is_full}
+use Rattle.geos_model.proofs.SpreadStays.{begins}
+use Rattle.geos_model.proofs.Windows.{there, last, joins_left, joins_right, joins_right-some, joins_left-some, last-next, there-left, there-right, left_is, right_is}
 
 -- what a neighbour weighs, if there is one
 abbrev weighs : ℕ → BranchPiece → Option ℕ

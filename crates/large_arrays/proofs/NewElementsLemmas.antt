@@ -8,14 +8,14 @@ use Rattle.std.specs.List.{list_all}
 use Rattle.geos_model.specs.Array.{cut_evenly}
 use Rattle.geos_model.proofs.Arrays.{joined, cut_evenly-joined, length-joined}
 use Rattle.chunk_arrays.proofs.CutLemmas.{joined-cut_evenly, length-cut_evenly}
-use Rattle.large_arrays.specs.Pieces.{BranchPiece, piece_weight, branch_room, fits_branch, each_fits}
-use Rattle.large_arrays.specs.Layout.{greatest_element_size}
+use Rattle.geos_model.specs.Pieces.{BranchPiece, piece_weight, branch_room, fits_branch, each_fits}
+use Rattle.geos_model.specs.LargeLayout.{greatest_element_size}
 use Rattle.large_arrays.specs.SizedElements.{SizedElements, have_size}
 use Rattle.large_arrays.specs.ElementLengths.{kept_lengths}
 use Rattle.large_arrays.specs.NewElementsViewing.{cut_new, AreNewElements, seen_elements, HasNewElements}
 use Rattle.large_arrays.specs.declared.new_elements.NewElements.TheInside.{Inside}
-use Rattle.large_arrays.proofs.BranchBytes.{weight-even}
-use Rattle.large_arrays.proofs.GivenElements.{even-fits, even-sized}
+use Rattle.geos_model.proofs.BranchBytes.{weight-even}
+use Rattle.geos_model.proofs.GivenElements.{even-fits, even-sized}
 use Rattle.large_arrays.proofs.PieceLemmas.{joined-append, sized-one, sized-parts, weight-kept}
 
 -- what callers see of new elements

@@ -10,27 +10,27 @@ use Rattle.geos_model.specs.declared.fault.Fault.{Fault}
 use Rattle.vm_blocks.specs.declared.change.Change.{Change}
 use Rattle.vm_chains.specs.Walking.{Stops}
 use Rattle.vm_chains.proofs.WalkLemmas.{and_false}
-use Rattle.large_arrays.specs.Pieces.{BranchPiece, elements_in_pieces}
-use Rattle.large_arrays.specs.Layout.{Root, branch_bytes, root_of}
-use Rattle.large_arrays.specs.Spread.{start_place, end_place, overwritten}
-use Rattle.large_arrays.specs.Blocks.{root_at, pieces_at}
+use Rattle.geos_model.specs.Pieces.{BranchPiece, elements_in_pieces}
+use Rattle.geos_model.specs.LargeLayout.{Root, branch_bytes, root_of}
+use Rattle.geos_model.specs.Spread.{start_place, end_place, overwritten}
+use Rattle.geos_model.specs.LargeBlocks.{root_at, pieces_at}
 use Rattle.large_arrays.specs.ChangePlans.{piece_bodies, with_bodies}
-use Rattle.large_arrays.specs.DocumentLaws.{handles_at}
+use Rattle.geos_model.specs.LargeBlocks.{handles_at}
 use Rattle.large_arrays.specs.EditPlans.{IsOverwritingPlanned, PlansLargeEdit}
-use Rattle.large_arrays.specs.Edits.{run_places}
-use Rattle.large_arrays.specs.LargePlaces.{overwritten_blocks}
+use Rattle.geos_model.specs.LargeEdits.{run_places}
+use Rattle.geos_model.specs.ChangedBlocks.{overwritten_blocks}
 use Rattle.large_arrays.specs.LargeRuns.{are_branches_under, pieces_under}
 use Rattle.large_arrays.specs.LookedBranches.{HasLinks}
 use Rattle.large_arrays.specs.Middle.{IsRunSpot, run_links}
 use Rattle.large_arrays.specs.OverwritingPlans.{AreBranchesWritten}
 use Rattle.large_arrays.specs.SizedElements.{SizedElements}
 use Rattle.large_arrays.specs.Spots.{AreBranchLinks, IsSpot, counts_of, link_handles}
-use Rattle.large_arrays.specs.Window.{are_branches, elements_overwritten, raw_block}
+use Rattle.geos_model.specs.LargeWindow.{are_branches, elements_overwritten, raw_block}
 use Rattle.large_arrays.specs.WrittenPieces.{written_piece}
 use Rattle.large_arrays.specs.declared.spot.BranchLink.{BranchLink}
 use Rattle.large_arrays.specs.declared.spot.Spot.{Spot}
 use Rattle.large_arrays.proofs.OverwritingSteps.{lengths-under, bodies-first, run_bodies}
-use Rattle.large_arrays.proofs.OverwrittenPieces.{sum, sum-lengths}
+use Rattle.geos_model.proofs.OverwrittenPieces.{sum, sum-lengths}
 use Rattle.large_arrays.proofs.PlannedEdits.{planned-edit}
 use Rattle.large_arrays.proofs.PlaceSums.{start-sum, end-sum}
 use Rattle.geos_model.proofs.BlockLists.{distinct-rest}
@@ -39,7 +39,7 @@ use Rattle.large_arrays.proofs.RunAnswers.{links-tested, links-pieces}
 use Rattle.large_arrays.proofs.RunSpots.{has-links}
 use Rattle.large_arrays.proofs.SpotPieces.{spot-root}
 use Rattle.large_arrays.proofs.SpotRuns.{HasRun, run-is, run-count, run-handle}
-use Rattle.large_arrays.proofs.WindowHandles.{handles-places}
+use Rattle.geos_model.proofs.WindowHandles.{handles-places}
 use Rattle.large_arrays.proofs.WrittenBranches.{written-shift}
 use Rattle.large_arrays.proofs.WrittenLemmas.{written-piece, length-overwritten}
 

@@ -20,9 +20,9 @@ use Rattle.vm_chains.specs.Walking.{Stops}
 use Rattle.vm_chains.proofs.Loading.{still_live}
 use Rattle.vm_blocks.specs.declared.change.Change.{Change}
 use Rattle.vm_chains.proofs.WalkLemmas.{raw_live}
-use Rattle.large_arrays.specs.Pieces.{BranchPiece, elements_in_pieces}
-use Rattle.large_arrays.specs.Layout.{branch_bytes}
-use Rattle.large_arrays.specs.Spread.{overwritten}
+use Rattle.geos_model.specs.Pieces.{BranchPiece, elements_in_pieces}
+use Rattle.geos_model.specs.LargeLayout.{branch_bytes}
+use Rattle.geos_model.specs.Spread.{overwritten}
 use Rattle.large_arrays.specs.ChangePlans.{piece_bodies, ArePlanned, ArePlannedByHandle, IsUntouched}
 use Rattle.large_arrays.specs.LargeRuns.{are_branches_under, pieces_under}
 use Rattle.large_arrays.specs.Loading.{branch_under}
@@ -31,12 +31,12 @@ use Rattle.large_arrays.specs.SizedElements.{SizedElements}
 use Rattle.large_arrays.specs.Spots.{counts_of, link_handles}
 use Rattle.large_arrays.specs.WrittenPieces.{written_piece}
 use Rattle.large_arrays.specs.declared.spot.BranchLink.{BranchLink}
-use Rattle.large_arrays.proofs.BranchBytes.{branch_of-is}
+use Rattle.geos_model.proofs.BranchBytes.{branch_of-is}
 use Rattle.large_arrays.proofs.CopiedRuns.{tested-step, tested-none, tested-done}
-use Rattle.large_arrays.proofs.DistinctHandles.{distinct-parts}
+use Rattle.geos_model.proofs.DistinctHandles.{distinct-parts}
 use Rattle.large_arrays.proofs.LoadedBranches.{under-raw}
 use Rattle.large_arrays.proofs.Marking.{no_link, handle_at}
-use Rattle.large_arrays.proofs.OverwrittenPieces.{sum, sum-lengths}
+use Rattle.geos_model.proofs.OverwrittenPieces.{sum, sum-lengths}
 use Rattle.large_arrays.proofs.PlannedChanges.{none_planned}
 use Rattle.large_arrays.proofs.RootFacts.{piece_under, length-piece}
 use Rattle.large_arrays.proofs.WrittenBranches.{written-part}

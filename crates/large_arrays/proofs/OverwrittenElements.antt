@@ -4,16 +4,16 @@ use Rattle.std.proofs.lemmas.Bool.{cases_Bool, cond-false, eqb-true}
 use Rattle.std.proofs.lemmas.List.{take-append-drop}
 use Rattle.std.specs.List.{splice}
 use Rattle.geos_model.specs.Document.{Document, IsValid, with_blocks}
-use Rattle.large_arrays.specs.Pieces.{BranchPiece, all_fit, elements_in_pieces, are_spread}
-use Rattle.large_arrays.specs.Layout.{Root, is_root}
-use Rattle.large_arrays.specs.Spread.{overwritten}
-use Rattle.large_arrays.specs.Blocks.{root_at, pieces_at, IsLargeArray}
-use Rattle.large_arrays.specs.Window.{elements_overwritten}
-use Rattle.large_arrays.specs.EditLaws.{IsEdited}
-use Rattle.large_arrays.proofs.Layouts.{HasLayout, all_sized, array-layout}
-use Rattle.large_arrays.proofs.SameWeights.{same-fit, same-spread}
-use Rattle.large_arrays.proofs.Replacing.{AreGood, replaced-edited}
-use Rattle.large_arrays.proofs.RunPuts.{IsRunAccepted, first, behind, handles, placed, run_blocks, over-elements, over-lengths, over-sized, over_is, run-named, root_is, run-put}
+use Rattle.geos_model.specs.Pieces.{BranchPiece, all_fit, elements_in_pieces, are_spread}
+use Rattle.geos_model.specs.LargeLayout.{Root, is_root}
+use Rattle.geos_model.specs.Spread.{overwritten}
+use Rattle.geos_model.specs.LargeBlocks.{root_at, pieces_at, IsLargeArray}
+use Rattle.geos_model.specs.LargeWindow.{elements_overwritten}
+use Rattle.geos_model.specs.LargeEditLaws.{IsEdited}
+use Rattle.geos_model.proofs.Layouts.{HasLayout, all_sized, array-layout}
+use Rattle.geos_model.proofs.SameWeights.{same-fit, same-spread}
+use Rattle.geos_model.proofs.Replacing.{AreGood, replaced-edited}
+use Rattle.geos_model.proofs.RunPuts.{IsRunAccepted, first, behind, handles, placed, run_blocks, over-elements, over-lengths, over-sized, over_is, run-named, root_is, run-put}
 use Rattle.large_arrays.proofs.WindowEdits.{unchanged}
 
 module _ (d : Document) (b size : ℕ) (elements : BranchPiece) (i : ℕ) (new : BranchPiece) (valid : IsValid d) (array : IsLargeArray d b size elements)

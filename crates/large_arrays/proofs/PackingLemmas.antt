@@ -2,12 +2,12 @@
 use Rattle.std.proofs.Common.{◌≡◌, ℕ, ◌+◌, ◌<◌, ◌≤◌, Bool, true, false, not, nat_le, List, [], ◌∷◌, ◌++◌, length, take, drop, get_or, refl, sym, ap, ap₂, ◌∙◌, arith, append_assoc, length-append, length-drop, append-nil}
 use Rattle.std.proofs.lemmas.Bool.{and_parts, cond-true, cond-false, le-leb, lt-leb}
 use Rattle.std.proofs.lemmas.List.{get_or-drop, take-append-drop, take_more}
-use Rattle.large_arrays.specs.Pieces.{BranchPiece, piece_weight, branch_room, fits_branch, each_fits}
-use Rattle.large_arrays.specs.Spread.{packed_from, with_last}
+use Rattle.geos_model.specs.Pieces.{BranchPiece, piece_weight, branch_room, fits_branch, each_fits}
+use Rattle.geos_model.specs.Spread.{packed_from, with_last}
 use Rattle.large_arrays.specs.SizedElements.{SizedElements, SizedPieces, IsPiece, with_behind}
 use Rattle.large_arrays.specs.Filling.{lacks_piece_room, FillsPiece}
 use Rattle.large_arrays.specs.PiecesKeeping.{with_piece_behind}
-use Rattle.large_arrays.proofs.SpreadFits.{weight-append, part-fits}
+use Rattle.geos_model.proofs.SpreadFits.{weight-append, part-fits}
 
 -- pieces with their size
 abbrev sized_pieces : ℕ → List BranchPiece → SizedPieces

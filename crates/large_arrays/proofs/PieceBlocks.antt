@@ -13,18 +13,18 @@ use Rattle.geos_model.proofs.BlockLists.{distinct-first, distinct-rest, none_pas
 use Rattle.geos_model.proofs.ChainCopies.{new-new}
 use Rattle.document_file.specs.Disk.{SameUnlessCorrupt}
 use Rattle.vm_blocks.specs.Preparing.{CanRemoveByHandle}
-use Rattle.large_arrays.specs.Layout.{most_branches}
+use Rattle.geos_model.specs.LargeLayout.{most_branches}
 use Rattle.large_arrays.specs.HandleLists.{ShareNoHandle, AreFreed, handles_outside, old_handles, old_pairs}
 use Rattle.large_arrays.specs.ChangePlans.{IsUntouched}
 use Rattle.large_arrays.specs.Gathering.{AreGathered}
 use Rattle.large_arrays.specs.WindowPlans.{AreGone, AreHomes, ArePieceHandles, IsHome}
 use Rattle.large_arrays.specs.declared.gathered.Gathered.{Gathered}
 use Rattle.large_arrays.specs.declared.handles.OldBranch.{OldBranch}
-use Rattle.large_arrays.proofs.DistinctHandles.{distinct-filter}
+use Rattle.geos_model.proofs.DistinctHandles.{distinct-filter}
 use Rattle.large_arrays.proofs.HandlePlaces.{pairs_handles, pairs_many}
-use Rattle.large_arrays.proofs.PieceLists.{freed-old, freed-not}
+use Rattle.geos_model.proofs.PieceLists.{freed-old, freed-not}
 use Rattle.large_arrays.proofs.PlannedChanges.{none_there}
-use Rattle.large_arrays.proofs.WindowHandles.{window_handles-many, window_handles-from, window_handles-once}
+use Rattle.geos_model.proofs.WindowHandles.{window_handles-many, window_handles-from, window_handles-once}
 
 abbrev no_branch : OldBranch
 no_branch = record { handle = record { 0 = 0 }; staying = 0 }

@@ -7,11 +7,11 @@ use Rattle.std.proofs.lemmas.Slice.Zip.{get_or-zip}
 use Rattle.std.proofs.Math.Seq.{take-suc}
 use Rattle.std.specs.List.{Contains, zip}
 use Rattle.geos_model.specs.ElementArray.{all_distinct}
-use Rattle.large_arrays.specs.Pieces.{BranchPiece}
-use Rattle.large_arrays.specs.Layout.{branch_bytes}
+use Rattle.geos_model.specs.Pieces.{BranchPiece}
+use Rattle.geos_model.specs.LargeLayout.{branch_bytes}
 use Rattle.large_arrays.specs.HandleLists.{ShareNoHandle}
 use Rattle.large_arrays.specs.ChangePlans.{IsUntouched, piece_bodies}
-use Rattle.large_arrays.proofs.DistinctHandles.{distinct-parts}
+use Rattle.geos_model.proofs.DistinctHandles.{distinct-parts}
 
 pub zip-firsts : (hs : List ℕ) (ps : List BranchPiece) → length hs ≡ length ps → map (λ (p : ℕ × BranchPiece). p.0) (zip hs ps) ≡ hs
 zip-firsts [] ps many = refl

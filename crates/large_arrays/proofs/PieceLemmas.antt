@@ -7,13 +7,13 @@ use Rattle.std.proofs.lemmas.List.Folds.{list_all-append}
 use Rattle.std.specs.List.{list_all}
 use Rattle.geos_model.specs.Array.{Array, is_even}
 use Rattle.geos_model.proofs.Arrays.{joined, table_of, table-even, length_table-any}
-use Rattle.large_arrays.specs.Pieces.{BranchPiece, piece_weight, branch_room}
+use Rattle.geos_model.specs.Pieces.{BranchPiece, piece_weight, branch_room}
 use Rattle.large_arrays.specs.SizedElements.{SizedElements, have_size, with_behind}
 use Rattle.large_arrays.specs.ElementLengths.{cut_lengths, all_lengths, kept_lengths}
 use Rattle.large_arrays.specs.PieceKeeping.{AreHeldElements, held_elements, KeepsElements}
 use Rattle.large_arrays.specs.declared.piece.Piece.TheInside.{Inside}
-use Rattle.large_arrays.proofs.BranchBytes.{FitsBranch, array_of_piece, weight-is, branch-few}
-use Rattle.large_arrays.proofs.SpreadFits.{weight-append}
+use Rattle.geos_model.proofs.BranchBytes.{FitsBranch, array_of_piece, weight-is, branch-few}
+use Rattle.geos_model.proofs.SpreadFits.{weight-append}
 
 -- elements with their size
 abbrev pub sized_elements : ℕ → BranchPiece → SizedElements

@@ -2,7 +2,7 @@
 use Rattle.std.proofs.Common.{◌≡◌, ℕ, suc, ◌+◌, ◌-◌, ◌<◌, ◌≤◌, nat_le, nat_lt, List, [], ◌∷◌, length, drop, get_or, false, inl, inr, sym, ap, ◌∙◌, arith, lt-ltb, le-leb, ltb-true, leb-true}
 use Rattle.std.proofs.lemmas.Bool.{cases_Bool, cond-true, cond-false}
 use Rattle.std.proofs.lemmas.List.{drop_more, drop_all}
-use Rattle.large_arrays.specs.Spread.{start_place, end_place}
+use Rattle.geos_model.specs.Spread.{start_place, end_place}
 
 -- the place in the branches from one on, as a place in all
 abbrev pub shifted : ℕ → ℕ × ℕ → ℕ × ℕ

@@ -3,10 +3,10 @@ use Rattle.std.proofs.Common.{◌≡◌, ℕ, suc, ◌+◌, ◌-◌, ◌<◌, �
 use Rattle.std.proofs.lemmas.Bool.{cases_Bool, cond-true, cond-false}
 use Rattle.std.proofs.lemmas.List.{get_or_append_left, get_or-append_right}
 use Rattle.std.proofs.lemmas.List.Sums.{sum_by-cons}
-use Rattle.large_arrays.specs.Pieces.{BranchPiece, elements_in_pieces}
-use Rattle.large_arrays.specs.Spread.{start_place, end_place}
-use Rattle.large_arrays.proofs.OverwrittenPieces.{sum}
-use Rattle.large_arrays.proofs.SpreadElements.{drop_past}
+use Rattle.geos_model.specs.Pieces.{BranchPiece, elements_in_pieces}
+use Rattle.geos_model.specs.Spread.{start_place, end_place}
+use Rattle.geos_model.proofs.OverwrittenPieces.{sum}
+use Rattle.geos_model.proofs.SpreadElements.{drop_past}
 
 pub start-sum : (cs : List ℕ) (i : ℕ) → sum (take (start_place cs i).0 cs) + (start_place cs i).1 ≡ i
 start-sum [] i = omega arith

@@ -7,10 +7,10 @@ use Rattle.geos_model.specs.declared.fault.Fault.TheVariants.{IsMap, NoHandles}
 use Rattle.geos_model.specs.declared.handle.VmHandle.{VmHandle}
 use Rattle.vm_blocks.specs.declared.change.Change.{Change}
 use Rattle.vm_chains.specs.Numbers.{numbers}
-use Rattle.large_arrays.specs.Pieces.{BranchPiece}
-use Rattle.large_arrays.specs.Layout.{root_bytes, root_of}
-use Rattle.large_arrays.specs.Blocks.{root_at}
-use Rattle.large_arrays.specs.Window.{Window, window}
+use Rattle.geos_model.specs.Pieces.{BranchPiece}
+use Rattle.geos_model.specs.LargeLayout.{root_bytes, root_of}
+use Rattle.geos_model.specs.LargeBlocks.{root_at}
+use Rattle.geos_model.specs.LargeWindow.{Window, window}
 use Rattle.large_arrays.specs.HandleLists.{AreFreed, old_handles, old_pairs}
 use Rattle.large_arrays.specs.ChangePlans.{ArePlanned, piece_bodies, window_bodies}
 use Rattle.large_arrays.specs.Gathering.{AreGathered, IsGatheredWindow}

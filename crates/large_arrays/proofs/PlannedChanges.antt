@@ -36,12 +36,12 @@ use Rattle.vm_blocks.specs.declared.change.Change.TheVariants as changes
 use Rattle.vm_blocks.specs.declared.change.PartChange.TheVariants as parts
 use Rattle.vm_blocks.specs.declared.member.Members.{Members}
 use Rattle.vm_blocks.proofs.InMemory.{AreAlike}
-use Rattle.large_arrays.specs.Pieces.{BranchPiece}
-use Rattle.large_arrays.specs.Layout.{root_bytes, branch_bytes}
-use Rattle.large_arrays.specs.Blocks.{root_at}
-use Rattle.large_arrays.specs.Window.{Window, raw_block, freed_handles, replaced_root, with_window}
+use Rattle.geos_model.specs.Pieces.{BranchPiece}
+use Rattle.geos_model.specs.LargeLayout.{root_bytes, branch_bytes}
+use Rattle.geos_model.specs.LargeBlocks.{root_at}
+use Rattle.geos_model.specs.LargeWindow.{Window, raw_block, freed_handles, replaced_root, with_window}
 use Rattle.large_arrays.specs.ChangePlans.{piece_bodies, window_bodies, with_bodies, body_cost, planned_places, planned_cost, ArePlanned, ArePlannedByHandle, IsUntouched}
-use Rattle.large_arrays.proofs.Layouts.{raw-live}
+use Rattle.geos_model.proofs.Layouts.{raw-live}
 
 -- ---- changes behind others
 

@@ -15,9 +15,9 @@ use Rattle.geos_model.proofs.Chains.{contains_first, contains_later}
 use Rattle.vm_blocks.specs.declared.change.Change.{Change}
 use Rattle.large_arrays.specs.ChangePlans.{with_bodies, body_cost, planned_cost, ArePlanned}
 use Rattle.large_arrays.specs.EditPlans.{PlansLargeEdit}
-use Rattle.large_arrays.specs.LargeCost.{block_cost, large_cost}
-use Rattle.large_arrays.specs.Window.{raw_block}
-use Rattle.large_arrays.proofs.DistinctHandles.{distinct-parts}
+use Rattle.geos_model.specs.Cost.{block_cost, large_cost}
+use Rattle.geos_model.specs.LargeWindow.{raw_block}
+use Rattle.geos_model.proofs.DistinctHandles.{distinct-parts}
 
 and-false : (b : Bool) → (b && false) ≡ false
 and-false true = refl

@@ -11,17 +11,17 @@ use Rattle.vm_blocks.specs.Keeping.{KeepsBlocks, IsHonest, IsEnvironmentFault}
 use Rattle.vm_blocks.proofs.KeepingLaws.{lacks-cases, lacks-damaged, lacks-memory, steady-honest}
 use Rattle.vm_chains.specs.Answers.{RefusesChain}
 use Rattle.vm_chains.proofs.Loading.{still}
-use Rattle.large_arrays.specs.Layout.{Root, most_branches, root_bytes, root_of}
-use Rattle.large_arrays.specs.Blocks.{root_at}
-use Rattle.large_arrays.specs.Edits.{on_root}
+use Rattle.geos_model.specs.LargeLayout.{Root, most_branches, root_bytes, root_of}
+use Rattle.geos_model.specs.LargeBlocks.{root_at}
+use Rattle.geos_model.specs.LargeEdits.{on_root}
 use Rattle.large_arrays.specs.RootEdits.{with_branches}
 use Rattle.large_arrays.specs.WindowPlans.{HasGatheredRoot}
 use Rattle.large_arrays.specs.declared.gathered.Gathered.{Gathered}
 use Rattle.large_arrays.specs.SizedElements.{SizedElements, IsPiece}
-use Rattle.large_arrays.proofs.BranchBytes.{branch-few}
-use Rattle.large_arrays.proofs.Layouts.{raw-live}
+use Rattle.geos_model.proofs.BranchBytes.{branch-few}
+use Rattle.geos_model.proofs.Layouts.{raw-live}
 use Rattle.large_arrays.proofs.RefusalOrder.{of_root}
-use Rattle.large_arrays.proofs.RootBytes.{length-root_bytes}
+use Rattle.geos_model.proofs.RootBytes.{length-root_bytes}
 use Rattle.large_arrays.proofs.RootRuns.{length_spliced}
 
 -- how many elements a piece has is a word

@@ -7,25 +7,25 @@ use Rattle.std.specs.List.{Contains}
 use Rattle.geos_model.specs.ElementArray.{all_distinct}
 use Rattle.geos_model.specs.Document.{Document, vm_handles, is_live, raw_bytes_of}
 use Rattle.geos_model.specs.Chain.{free_handles, new_handles}
-use Rattle.large_arrays.specs.Pieces.{BranchPiece}
-use Rattle.large_arrays.specs.Layout.{Root, root_of}
-use Rattle.large_arrays.specs.Spread.{first_place, end_place}
-use Rattle.large_arrays.specs.Blocks.{root_at, pieces_at}
-use Rattle.large_arrays.specs.Window.{Window, window, window_first, window_end, window_pieces, window_handles, left_joins, right_joins, are_branches, freed_handles, replaced_root}
-use Rattle.large_arrays.specs.DocumentLaws.{replacing_looks}
+use Rattle.geos_model.specs.Pieces.{BranchPiece}
+use Rattle.geos_model.specs.LargeLayout.{Root, root_of}
+use Rattle.geos_model.specs.Spread.{first_place, end_place}
+use Rattle.geos_model.specs.LargeBlocks.{root_at, pieces_at}
+use Rattle.geos_model.specs.LargeWindow.{Window, window, window_first, window_end, window_pieces, window_handles, left_joins, right_joins, are_branches, freed_handles, replaced_root}
+use Rattle.geos_model.specs.LargeDocumentLaws.{replacing_looks}
 use Rattle.large_arrays.specs.HandleLists.{old_handles, old_pairs, handles_outside, ShareNoHandle, AreFreed}
 use Rattle.large_arrays.specs.RootEdits.{with_branches, run_between}
 use Rattle.large_arrays.specs.WindowParts.{staying_pairs, window_from}
 use Rattle.large_arrays.specs.declared.handles.OldBranch.{OldBranch}
 use Rattle.large_arrays.specs.declared.staying.StayingBytes.{StayingBytes}
-use Rattle.large_arrays.proofs.DistinctHandles.{there_before}
+use Rattle.geos_model.proofs.DistinctHandles.{there_before}
 use Rattle.large_arrays.proofs.HandlePlaces.{pairs_handles}
-use Rattle.large_arrays.proofs.Layouts.{root-facts, pieces-many, root-counts, raw-live}
-use Rattle.large_arrays.proofs.PieceLists.{root_full}
-use Rattle.large_arrays.proofs.SpreadPlaces.{first-end}
-use Rattle.large_arrays.proofs.SpreadSides.{is_full}
-use Rattle.large_arrays.proofs.Windows.{IsWindow, window-is}
-use Rattle.large_arrays.proofs.SeenBranches.{AreSeen, LooksAround, looks-around, window-seen, seen-part, seen-raw}
+use Rattle.geos_model.proofs.Layouts.{root-facts, pieces-many, root-counts, raw-live}
+use Rattle.geos_model.proofs.PieceLists.{root_full}
+use Rattle.geos_model.proofs.SpreadPlaces.{first-end}
+use Rattle.geos_model.proofs.SpreadSides.{is_full}
+use Rattle.geos_model.proofs.Windows.{IsWindow, window-is}
+use Rattle.geos_model.proofs.SeenBranches.{AreSeen, LooksAround, looks-around, window-seen, seen-part, seen-raw}
 use Rattle.large_arrays.proofs.WindowParts.{Stays, window-from}
 
 staying_handles : (hs : List ℕ) (k start end : ℕ) (s : StayingBytes) → map (λ p. p.0) (staying_pairs hs k start end s) ≡ hs

@@ -5,8 +5,8 @@ use Rattle.geos_model.specs.Refusal.{first_refusal}
 use Rattle.geos_model.specs.declared.fault.Fault.{Fault}
 use Rattle.geos_model.specs.declared.fault.Fault.TheVariants.{NoBlock, WrongKind, NotArray, NoElement, Range, BadChain}
 use Rattle.vm_blocks.specs.Kinds.{IsWrongBlock}
-use Rattle.large_arrays.specs.Layout.{root_of}
-use Rattle.large_arrays.specs.Edits.{on_root}
+use Rattle.geos_model.specs.LargeLayout.{root_of}
+use Rattle.geos_model.specs.LargeEdits.{on_root}
 
 -- Of a root: it is live, it is raw, its bytes are one.
 pub of_root : (live raw none : Bool) → first_refusal ((NoBlock, not live) ∷ (WrongKind, not raw) ∷ (NotArray, none) ∷ [])

@@ -3,16 +3,16 @@ use Rattle.std.proofs.Common.{◌≡◌, ℕ, ◌<◌, [], length, map, get_or, 
 use Rattle.std.proofs.lemmas.List.{length-map, length-replicate, get_or-map, ext_get_or}
 use Rattle.std.proofs.lemmas.List.FromFn.{length-map-range_with_len, get_or-map-range_with_len}
 use Rattle.geos_model.specs.Document.{Document, raw_bytes_of}
-use Rattle.large_arrays.specs.Pieces.{BranchPiece, elements_in_pieces}
-use Rattle.large_arrays.specs.Layout.{Root, root_of, root_read, total_count}
-use Rattle.large_arrays.specs.Blocks.{root_at, pieces_at}
+use Rattle.geos_model.specs.Pieces.{BranchPiece, elements_in_pieces}
+use Rattle.geos_model.specs.LargeLayout.{Root, root_of, root_read, total_count}
+use Rattle.geos_model.specs.LargeBlocks.{root_at, pieces_at}
 use Rattle.large_arrays.specs.Loading.{branch_under}
-use Rattle.large_arrays.proofs.RootBytes.{root_of-read}
+use Rattle.geos_model.proofs.RootBytes.{root_of-read}
 use Rattle.large_arrays.proofs.RootLemmas.{length-counts_read, length-branches_read}
-use Rattle.large_arrays.proofs.BranchBytes.{branch_of-is}
-use Rattle.large_arrays.proofs.Layouts.{root-small}
+use Rattle.geos_model.proofs.BranchBytes.{branch_of-is}
+use Rattle.geos_model.proofs.Layouts.{root-small}
 use Rattle.large_arrays.proofs.LoadedBranches.{under-raw}
-use Rattle.large_arrays.proofs.OverwrittenPieces.{sum, sum-lengths}
+use Rattle.geos_model.proofs.OverwrittenPieces.{sum, sum-lengths}
 
 -- what a branch has, or is taken to have where its block is none
 abbrev pub piece_under : Document → ℕ → ℕ → ℕ → BranchPiece

@@ -15,9 +15,9 @@ use Rattle.geos_model.proofs.Images.{word-reads_back}
 use Rattle.geos_model.proofs.Arrays.{are_words, same_bytes-refl}
 use Rattle.chunk_arrays.specs.Parts.{AreByteValues}
 use Rattle.chunk_arrays.proofs.CutLemmas.{word_at-lt, rejoin, word_rejoin, words_rejoin}
-use Rattle.large_arrays.specs.Layout.{Root, greatest_element_size, large_mark, root_bytes, is_root, root_read, root_of, total_count}
+use Rattle.geos_model.specs.LargeLayout.{Root, greatest_element_size, large_mark, root_bytes, is_root, root_read, root_of, total_count}
 use Rattle.large_arrays.specs.RootParts.{branches_in, count_in, HasCounts, HasZeros, HasRoot}
-use Rattle.large_arrays.proofs.RootBytes.{FitsRoot, link_of, links_read, root_head, root_spelled, root_bytes-spelled, length-root_bytes, place-read, behind_counts, root_of-read}
+use Rattle.geos_model.proofs.RootBytes.{FitsRoot, link_of, links_read, root_head, root_spelled, root_bytes-spelled, length-root_bytes, place-read, behind_counts, root_of-read}
 
 -- Numbers in four bytes.
 

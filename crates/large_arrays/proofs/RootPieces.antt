@@ -3,11 +3,11 @@ use Rattle.std.proofs.Common.{◌≡◌, ℕ, ◌*◌, ◌<◌, false, ◌==◌,
 use Rattle.std.proofs.lemmas.Bool.{cases_Bool}
 use Rattle.std.proofs.lemmas.List.{get_or_past}
 use Rattle.geos_model.specs.Document.{Document, raw_bytes_of}
-use Rattle.large_arrays.specs.Pieces.{BranchPiece, piece_weight}
-use Rattle.large_arrays.specs.Layout.{Root, root_of}
-use Rattle.large_arrays.specs.Blocks.{root_at, branch_at, pieces_at}
-use Rattle.large_arrays.proofs.BranchBytes.{weight-even}
-use Rattle.large_arrays.proofs.Layouts.{root-facts, pieces-many, read-here, piece_is}
+use Rattle.geos_model.specs.Pieces.{BranchPiece, piece_weight}
+use Rattle.geos_model.specs.LargeLayout.{Root, root_of}
+use Rattle.geos_model.specs.LargeBlocks.{root_at, branch_at, pieces_at}
+use Rattle.geos_model.proofs.BranchBytes.{weight-even}
+use Rattle.geos_model.proofs.Layouts.{root-facts, pieces-many, read-here, piece_is}
 
 module _ (d : Document) (b : ℕ) (found : is_some (root_of (raw_bytes_of d b)) ≡ true) where
   abbrev r : Root

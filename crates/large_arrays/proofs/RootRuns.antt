@@ -9,12 +9,12 @@ use Rattle.std.specs.List.{splice}
 use Rattle.geos_model.specs.Words.{word}
 use Rattle.geos_model.specs.Heap.{capacity}
 use Rattle.geos_model.proofs.Arrays.{are_words, length-words}
-use Rattle.large_arrays.specs.Layout.{Root, root_bytes, root_read, total_count}
+use Rattle.geos_model.specs.LargeLayout.{Root, root_bytes, root_read, total_count}
 use Rattle.large_arrays.specs.RootEdits.{with_branches, head_bytes, count_bytes, link_bytes, run_between}
 use Rattle.large_arrays.specs.RootParts.{branches_in}
 use Rattle.large_arrays.specs.RootViewing.{IsRootView}
 use Rattle.large_arrays.specs.declared.root.RootView.TheInside.{Inside}
-use Rattle.large_arrays.proofs.RootBytes.{length-links, root_bytes-spelled}
+use Rattle.geos_model.proofs.RootBytes.{length-links, root_bytes-spelled}
 use Rattle.large_arrays.proofs.RootLemmas.{length-counts_read, length-branches_read, behind_are, links_are, sum-few, words-read}
 
 -- Numbers that are spelled one after another, each in as many bytes.

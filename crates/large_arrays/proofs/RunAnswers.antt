@@ -16,12 +16,12 @@ use Rattle.geos_model.specs.declared.fault.Fault.TheVariants.{NoBlock, WrongKind
 use Rattle.vm_chains.specs.Answers.{AnswersChain}
 use Rattle.vm_chains.specs.Walking.{Stops}
 use Rattle.vm_chains.proofs.WalkLemmas.{raw_live, and_false}
-use Rattle.large_arrays.specs.Pieces.{BranchPiece, elements_in_pieces}
-use Rattle.large_arrays.specs.Layout.{Root, root_of, total_count}
-use Rattle.large_arrays.specs.Spread.{start_place, end_place}
-use Rattle.large_arrays.specs.Blocks.{root_at, branch_at, pieces_at}
-use Rattle.large_arrays.specs.Window.{are_branches}
-use Rattle.large_arrays.specs.Edits.{read_large_conditions, large_run, on_root, run_places}
+use Rattle.geos_model.specs.Pieces.{BranchPiece, elements_in_pieces}
+use Rattle.geos_model.specs.LargeLayout.{Root, root_of, total_count}
+use Rattle.geos_model.specs.Spread.{start_place, end_place}
+use Rattle.geos_model.specs.LargeBlocks.{root_at, branch_at, pieces_at}
+use Rattle.geos_model.specs.LargeWindow.{are_branches}
+use Rattle.geos_model.specs.LargeEdits.{read_large_conditions, large_run, on_root, run_places}
 use Rattle.large_arrays.specs.Loading.{branch_under}
 use Rattle.large_arrays.specs.Spots.{AreBranchLinks, counts_of, link_handles}
 use Rattle.large_arrays.specs.LargeRuns.{IsReadable, IsRunRefused, IsReadSpot, IsWithin, IsRunRefusal, are_branches_under, pieces_under, run_under}
@@ -29,12 +29,12 @@ use Rattle.large_arrays.specs.declared.runs.RunSpot.{RunSpot}
 use Rattle.large_arrays.specs.declared.spot.BranchLink.{BranchLink}
 use Rattle.large_arrays.proofs.CopiedRuns.{joined_bytes}
 use Rattle.large_arrays.proofs.Marking.{no_link, handle_at}
-use Rattle.large_arrays.proofs.OverwrittenPieces.{sum, sum-lengths}
+use Rattle.geos_model.proofs.OverwrittenPieces.{sum, sum-lengths}
 use Rattle.large_arrays.proofs.PlaceSums.{start-sum, end-sum, start-within, end-within, start-drop}
 use Rattle.large_arrays.proofs.RefusalOrder.{of_read, root_first-read}
 use Rattle.large_arrays.proofs.RootFacts.{piece_under, counts-at, piece-at, length-pieces, root-as_many, root-size}
-use Rattle.large_arrays.proofs.SpreadPlaces.{start-end, end-low}
-use Rattle.large_arrays.proofs.WindowHandles.{handles-places}
+use Rattle.geos_model.proofs.SpreadPlaces.{start-end, end-low}
+use Rattle.geos_model.proofs.WindowHandles.{handles-places}
 
 -- what refuses a root refuses each look-up
 pub root-before-run : (d : Document) (b i n : ℕ) (fault : Fault) → first_refusal (on_root d b) ≡ Some fault → first_refusal (read_large_conditions d b i n) ≡ Some fault

@@ -3,17 +3,17 @@ use Rattle.std.proofs.Common.{◌≡◌, ℕ, suc, ◌+◌, ◌-◌, ◌*◌, �
 use Rattle.std.proofs.lemmas.Bool.{cases_Bool, and_parts}
 use Rattle.std.proofs.lemmas.List.{length-map, length-take}
 use Rattle.std.specs.List.{list_all}
-use Rattle.large_arrays.specs.Pieces.{BranchPiece}
-use Rattle.large_arrays.specs.Layout.{Root, greatest_element_size}
-use Rattle.large_arrays.specs.Spread.{first_place, end_place}
-use Rattle.large_arrays.specs.Window.{looks_left, looks_right}
+use Rattle.geos_model.specs.Pieces.{BranchPiece}
+use Rattle.geos_model.specs.LargeLayout.{Root, greatest_element_size}
+use Rattle.geos_model.specs.Spread.{first_place, end_place}
+use Rattle.geos_model.specs.LargeWindow.{looks_left, looks_right}
 use Rattle.large_arrays.specs.LookedBranches.{HasLinks, IsPieceSpot, AreThere, count_at, links_between}
 use Rattle.large_arrays.specs.Middle.{IsRunSpot, run_links}
 use Rattle.large_arrays.specs.declared.neighbours.Sides.{Sides}
 use Rattle.large_arrays.specs.declared.spot.BranchLink.{BranchLink}
 use Rattle.large_arrays.specs.declared.spot.Spot.{Spot}
-use Rattle.large_arrays.proofs.Layouts.{root-small}
-use Rattle.large_arrays.proofs.SpreadPlaces.{end-low, first-end}
+use Rattle.geos_model.proofs.Layouts.{root-small}
+use Rattle.geos_model.proofs.SpreadPlaces.{end-low, first-end}
 use Rattle.large_arrays.proofs.LookedSides.{looks-there, joined-there, left-varies, right-varies, left-even, right-even, ends}
 
 end_in : (counts : List ℕ) (j : ℕ) → 0 < length counts → (end_place counts j).0 < length counts

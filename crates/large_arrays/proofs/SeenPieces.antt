@@ -3,17 +3,17 @@ use Rattle.std.proofs.Common.{◌≡◌, ℕ, zero, suc, ◌+◌, ◌-◌, ◌<�
 use Rattle.std.proofs.lemmas.Bool.{cases_Bool, true≢false}
 use Rattle.std.proofs.lemmas.List.{length-map}
 use Rattle.std.specs.List.{list_all, range_with_len}
-use Rattle.large_arrays.specs.Pieces.{BranchPiece, piece_weight, branch_room, join_room}
-use Rattle.large_arrays.specs.Layout.{Root}
-use Rattle.large_arrays.specs.Spread.{first_place, end_place, packed_from, with_last, middle, piece_before, left_piece, right_piece}
-use Rattle.large_arrays.specs.Window.{Window, window_first, window_end, window_pieces, window_handles, staying, left_joins, right_joins, looks_left, looks_right, looked_at}
+use Rattle.geos_model.specs.Pieces.{BranchPiece, piece_weight, branch_room, join_room}
+use Rattle.geos_model.specs.LargeLayout.{Root}
+use Rattle.geos_model.specs.Spread.{first_place, end_place, packed_from, with_last, middle, piece_before, left_piece, right_piece}
+use Rattle.geos_model.specs.LargeWindow.{Window, window_first, window_end, window_pieces, window_handles, staying, left_joins, right_joins, looks_left, looks_right, looked_at}
 use Rattle.large_arrays.specs.Neighbours.{ends_of, if_known, looks_left_by, looks_right_by, left_joins_by, right_joins_by}
-use Rattle.large_arrays.specs.JoinedPieces.{window_of}
+use Rattle.geos_model.specs.JoinedPieces.{window_of}
 use Rattle.large_arrays.specs.declared.neighbours.MiddleEnds.{MiddleEnds}
-use Rattle.large_arrays.proofs.SpreadSides.{is_full}
-use Rattle.large_arrays.proofs.SpreadPlaces.{first-end}
-use Rattle.large_arrays.proofs.SameWeights.{full-lengths}
-use Rattle.large_arrays.proofs.SeenBranches.{seen_first, seen_end, LooksAround, looks-around, left-looked, right-looked}
+use Rattle.geos_model.proofs.SpreadSides.{is_full}
+use Rattle.geos_model.proofs.SpreadPlaces.{first-end}
+use Rattle.geos_model.proofs.SameWeights.{full-lengths}
+use Rattle.geos_model.proofs.SeenBranches.{seen_first, seen_end, LooksAround, looks-around, left-looked, right-looked}
 use Rattle.large_arrays.proofs.NeighbourLemmas.{left_joins-by, right_joins-by, left_joins-seen, right_joins-seen, looks_left-by, looks_right-by, looks_left-one, looks_right-one}
 use Rattle.large_arrays.proofs.WindowPieces.{window-pieces-are}
 use Rattle.large_arrays.proofs.WindowParts.{window_in}

@@ -16,7 +16,7 @@ use Rattle.large_arrays.specs.Spots.{link_handles}
 use Rattle.large_arrays.specs.declared.handles.OldBranch.{OldBranch}
 use Rattle.large_arrays.specs.declared.spot.BranchLink.{BranchLink}
 use Rattle.large_arrays.specs.declared.spot.Spot.{Spot}
-use Rattle.large_arrays.proofs.DistinctHandles.{distinct-cons, distinct-parts, there_before, there_behind}
+use Rattle.geos_model.proofs.DistinctHandles.{distinct-cons, distinct-parts, there_before, there_behind}
 
 -- Numbers from one up to another.
 

@@ -2,15 +2,15 @@
 use Rattle.std.proofs.Common.{◌≡◌, ℕ, ◌+◌, ◌-◌, ◌*◌, ◌<◌, ◌≤◌, ◌==◌, ◌||◌, true, false, List, [], length, map, take, drop, get_or, Option, Some, None, is_some, unwrap_or, refl, sym, ap, subst, ◌∙◌, arith}
 use Rattle.std.proofs.Math.ListN.{get_or-map}
 use Rattle.geos_model.specs.Document.{Document, raw_bytes_of}
-use Rattle.large_arrays.specs.Pieces.{BranchPiece, piece_weight, none_empty}
-use Rattle.large_arrays.specs.Layout.{Root, root_of}
-use Rattle.large_arrays.specs.Spread.{first_place, end_place}
-use Rattle.large_arrays.specs.Blocks.{root_at, pieces_at}
+use Rattle.geos_model.specs.Pieces.{BranchPiece, piece_weight, none_empty}
+use Rattle.geos_model.specs.LargeLayout.{Root, root_of}
+use Rattle.geos_model.specs.Spread.{first_place, end_place}
+use Rattle.geos_model.specs.LargeBlocks.{root_at, pieces_at}
 use Rattle.large_arrays.specs.LookedBranches.{HasLinks, IsPieceSpot, count_at, handle_at}
 use Rattle.large_arrays.specs.Spots.{IsSpot}
 use Rattle.large_arrays.specs.declared.spot.Spot.{Spot}
-use Rattle.large_arrays.proofs.Layouts.{root-facts, root-counts, pieces-many}
-use Rattle.large_arrays.proofs.PieceLists.{root_full}
+use Rattle.geos_model.proofs.Layouts.{root-facts, root-counts, pieces-many}
+use Rattle.geos_model.proofs.PieceLists.{root_full}
 use Rattle.large_arrays.proofs.RootPieces.{found-weight}
 use Rattle.large_arrays.proofs.SpotLinks.{part-at}
 

@@ -5,17 +5,17 @@ use Rattle.std.proofs.lemmas.List.{get_or-drop, get_or-map, get_or-take, length-
 use Rattle.std.proofs.lemmas.List.Sums.{sum_by-cons}
 use Rattle.std.specs.List.{list_all}
 use Rattle.geos_model.specs.Document.{Document, raw_bytes_of}
-use Rattle.large_arrays.specs.Blocks.{root_at}
-use Rattle.large_arrays.specs.Layout.{Root, greatest_element_size, is_root, root_of, total_count}
+use Rattle.geos_model.specs.LargeBlocks.{root_at}
+use Rattle.geos_model.specs.LargeLayout.{Root, greatest_element_size, is_root, root_of, total_count}
 use Rattle.large_arrays.specs.Middle.{IsRunSpot, run_length, run_links}
 use Rattle.large_arrays.specs.RunReading.{run_count}
 use Rattle.large_arrays.specs.Spots.{IsSpot, counts_of, link_handles}
-use Rattle.large_arrays.specs.Spread.{start_place, end_place, first_place}
+use Rattle.geos_model.specs.Spread.{start_place, end_place, first_place}
 use Rattle.large_arrays.specs.declared.spot.BranchLink.{BranchLink}
 use Rattle.large_arrays.specs.declared.spot.Spot.{Spot}
-use Rattle.large_arrays.proofs.Layouts.{root-facts, root-small}
+use Rattle.geos_model.proofs.Layouts.{root-facts, root-small}
 use Rattle.large_arrays.proofs.Marking.{no_link}
-use Rattle.large_arrays.proofs.SpreadPlaces.{end-low, first-end}
+use Rattle.geos_model.proofs.SpreadPlaces.{end-low, first-end}
 
 -- A place is within its piece, and that is one that there is.
 

@@ -6,24 +6,24 @@ use Rattle.std.specs.List.{Contains, splice}
 use Rattle.geos_model.specs.ElementArray.{all_distinct}
 use Rattle.geos_model.specs.Document.{Document, IsValid}
 use Rattle.geos_model.proofs.Chains.{contains_first}
-use Rattle.large_arrays.specs.Pieces.{BranchPiece, all_fit, elements_in_pieces, are_spread}
-use Rattle.large_arrays.specs.Layout.{Root}
-use Rattle.large_arrays.specs.Spread.{first_place, end_place, respread}
-use Rattle.large_arrays.specs.Blocks.{root_at, pieces_at, IsLargeArray}
-use Rattle.large_arrays.specs.Window.{Window, window, window_first, window_end, window_pieces, freed_handles, with_window, elements_replaced, left_joins, right_joins}
-use Rattle.large_arrays.specs.EditLaws.{IsEdited}
-use Rattle.large_arrays.proofs.SpreadElements.{respread-elements}
-use Rattle.large_arrays.proofs.SpreadFits.{respread-fits}
-use Rattle.large_arrays.proofs.SpreadSides.{is_full}
-use Rattle.large_arrays.proofs.SpreadStays.{respread-full, respread-spread}
-use Rattle.large_arrays.proofs.Layouts.{HasLayout, all_sized, array-layout}
-use Rattle.large_arrays.proofs.Windows.{IsWindow}
-use Rattle.large_arrays.proofs.Replacing.{new_root, AreNamed, AreReplaced, AreGood, counts-spliced, replaced-edited, changed-few}
-use Rattle.large_arrays.proofs.WindowPuts.{MayReplace, window-whole, window-win, window-named, window-put}
-use Rattle.large_arrays.proofs.AcceptedEdits.{IsAccepted}
-use Rattle.large_arrays.proofs.PieceLists.{respread-sized, root_from, root_small}
-use Rattle.large_arrays.specs.ChangeLaws.{HasOtherBytes, FewChange}
-use Rattle.large_arrays.proofs.SpreadCount.{middle-few}
+use Rattle.geos_model.specs.Pieces.{BranchPiece, all_fit, elements_in_pieces, are_spread}
+use Rattle.geos_model.specs.LargeLayout.{Root}
+use Rattle.geos_model.specs.Spread.{first_place, end_place, respread}
+use Rattle.geos_model.specs.LargeBlocks.{root_at, pieces_at, IsLargeArray}
+use Rattle.geos_model.specs.LargeWindow.{Window, window, window_first, window_end, window_pieces, freed_handles, with_window, elements_replaced, left_joins, right_joins}
+use Rattle.geos_model.specs.LargeEditLaws.{IsEdited}
+use Rattle.geos_model.proofs.SpreadElements.{respread-elements}
+use Rattle.geos_model.proofs.SpreadFits.{respread-fits}
+use Rattle.geos_model.proofs.SpreadSides.{is_full}
+use Rattle.geos_model.proofs.SpreadStays.{respread-full, respread-spread}
+use Rattle.geos_model.proofs.Layouts.{HasLayout, all_sized, array-layout}
+use Rattle.geos_model.proofs.Windows.{IsWindow}
+use Rattle.geos_model.proofs.Replacing.{new_root, AreNamed, AreReplaced, AreGood, counts-spliced, replaced-edited, changed-few}
+use Rattle.geos_model.proofs.WindowPuts.{MayReplace, window-whole, window-win, window-named, window-put}
+use Rattle.geos_model.proofs.AcceptedEdits.{IsAccepted}
+use Rattle.geos_model.proofs.PieceLists.{respread-sized, root_from, root_small}
+use Rattle.geos_model.specs.LargeChangeLaws.{HasOtherBytes, FewChange}
+use Rattle.geos_model.proofs.SpreadCount.{middle-few}
 
 module _ (d : Document) (b size : ℕ) (elements : BranchPiece) (i j : ℕ) (new : BranchPiece) (valid : IsValid d) (array : IsLargeArray d b size elements)
     (order : i ≤ j) (accepted : IsAccepted d b i j new) where

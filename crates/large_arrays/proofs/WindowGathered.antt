@@ -9,16 +9,16 @@ use Rattle.geos_model.specs.ElementArray.{all_distinct}
 use Rattle.geos_model.specs.Document.{Document, is_raw}
 use Rattle.geos_model.specs.Heap.{capacity}
 use Rattle.vm_chains.proofs.WalkLemmas.{raw_live}
-use Rattle.large_arrays.specs.Pieces.{BranchPiece, piece_weight}
-use Rattle.large_arrays.specs.Layout.{Root}
-use Rattle.large_arrays.specs.Spread.{first_place, end_place, middle, left_piece, right_piece}
+use Rattle.geos_model.specs.Pieces.{BranchPiece, piece_weight}
+use Rattle.geos_model.specs.LargeLayout.{Root}
+use Rattle.geos_model.specs.Spread.{first_place, end_place, middle, left_piece, right_piece}
 use Rattle.large_arrays.specs.SizedElements.{SizedPieces}
-use Rattle.large_arrays.specs.Blocks.{root_at, pieces_at}
-use Rattle.large_arrays.specs.Window.{left_joins, right_joins, window_first, window_end, window_pieces, staying}
+use Rattle.geos_model.specs.LargeBlocks.{root_at, pieces_at}
+use Rattle.geos_model.specs.LargeWindow.{left_joins, right_joins, window_first, window_end, window_pieces, staying}
 use Rattle.large_arrays.specs.Bodies.{AreBodies, are_raw, bytes_of_bodies}
 use Rattle.large_arrays.specs.Gathering.{IsGatheredWindow, AreGathered, window_olds}
 use Rattle.large_arrays.specs.HandleLists.{old_handles, old_pairs}
-use Rattle.large_arrays.specs.JoinedPieces.{window_of}
+use Rattle.geos_model.specs.JoinedPieces.{window_of}
 use Rattle.large_arrays.specs.LookedBranches.{HasLinks, IsPieceSpot, AreThere, AreAmong, AreLooked, AreNeighbours, ReadsNeighbours, HaveAllBodies, first_with, behind_with, links_between, handle_at}
 use Rattle.large_arrays.specs.Spots.{link_handles}
 use Rattle.large_arrays.specs.declared.gathered.Gathered.{Gathered}

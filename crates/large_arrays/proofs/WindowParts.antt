@@ -5,20 +5,20 @@ use Rattle.std.proofs.lemmas.List.{drop_more}
 use Rattle.std.specs.List.{range_with_len, splice}
 use Rattle.geos_model.specs.Document.{Document, raw_bytes_of}
 use Rattle.geos_model.specs.Chain.{new_handles}
-use Rattle.large_arrays.specs.Pieces.{BranchPiece, piece_weight}
-use Rattle.large_arrays.specs.Layout.{Root, is_root, root_of}
-use Rattle.large_arrays.specs.Spread.{first_place, end_place, piece_before, left_piece, right_piece}
-use Rattle.large_arrays.specs.Blocks.{root_at, pieces_at}
-use Rattle.large_arrays.specs.Window.{Window, window, window_first, window_end, window_pieces, window_handles, staying, left_joins, right_joins, replaced_root}
+use Rattle.geos_model.specs.Pieces.{BranchPiece, piece_weight}
+use Rattle.geos_model.specs.LargeLayout.{Root, is_root, root_of}
+use Rattle.geos_model.specs.Spread.{first_place, end_place, piece_before, left_piece, right_piece}
+use Rattle.geos_model.specs.LargeBlocks.{root_at, pieces_at}
+use Rattle.geos_model.specs.LargeWindow.{Window, window, window_first, window_end, window_pieces, window_handles, staying, left_joins, right_joins, replaced_root}
 use Rattle.large_arrays.specs.RootEdits.{run_between}
 use Rattle.large_arrays.specs.WindowParts.{staying_at, staying_pairs, window_from}
 use Rattle.large_arrays.specs.declared.staying.StayingBytes.{StayingBytes}
-use Rattle.large_arrays.proofs.Layouts.{root-facts, pieces-many, root-counts}
-use Rattle.large_arrays.proofs.PieceLists.{root_full, root_from, root_small}
-use Rattle.large_arrays.proofs.SpreadSides.{is_full}
-use Rattle.large_arrays.proofs.SpreadStays.{respread-full}
-use Rattle.large_arrays.proofs.Windows.{IsWindow, window-is}
-use Rattle.large_arrays.proofs.Replacing.{counts-spliced}
+use Rattle.geos_model.proofs.Layouts.{root-facts, pieces-many, root-counts}
+use Rattle.geos_model.proofs.PieceLists.{root_full, root_from, root_small}
+use Rattle.geos_model.proofs.SpreadSides.{is_full}
+use Rattle.geos_model.proofs.SpreadStays.{respread-full}
+use Rattle.geos_model.proofs.Windows.{IsWindow, window-is}
+use Rattle.geos_model.proofs.Replacing.{counts-spliced}
 
 -- What stays of the pieces of a window: of a neighbour where it is joined.
 pub record Stays (size : ℕ) (ps : List BranchPiece) (i j : ℕ) (new : BranchPiece) (s : StayingBytes) : Type 0 where

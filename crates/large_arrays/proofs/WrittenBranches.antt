@@ -12,12 +12,12 @@ use Rattle.chunk_edits.specs.Patching.{PatchPiece, Keep, Put, taken, given, peak
 use Rattle.chunk_arrays.specs.Reading.{element_place}
 use Rattle.chunk_arrays.proofs.PlaceLemmas.{front_of, length-front, bytes-front}
 use Rattle.large_arrays.specs.BranchReading.{IsPlain}
-use Rattle.large_arrays.specs.Pieces.{BranchPiece}
-use Rattle.large_arrays.specs.Layout.{branch_bytes}
+use Rattle.geos_model.specs.Pieces.{BranchPiece}
+use Rattle.geos_model.specs.LargeLayout.{branch_bytes}
 use Rattle.large_arrays.specs.SizedElements.{have_size}
 use Rattle.large_arrays.specs.WrittenPieces.{written_piece}
-use Rattle.large_arrays.proofs.BranchBytes.{array_of_piece, is_sized, length-branch_bytes, weight-even}
-use Rattle.large_arrays.proofs.PieceLists.{sized-append, sized_part}
+use Rattle.geos_model.proofs.BranchBytes.{array_of_piece, is_sized, length-branch_bytes, weight-even}
+use Rattle.geos_model.proofs.PieceLists.{sized-append, sized_part}
 
 -- ---- a patch of three pieces
 

@@ -4,10 +4,10 @@ use Rattle.std.proofs.Math.Seq.{take-append-add}
 use Rattle.std.proofs.lemmas.Bool.{cases_Bool}
 use Rattle.std.proofs.lemmas.List.{length-take-le, take_all, take-append-le, drop-append-le, drop_all, drop_more, drop-take}
 use Rattle.std.specs.List.{splice, range_with_len}
-use Rattle.large_arrays.specs.Pieces.{BranchPiece, elements_in_pieces}
-use Rattle.large_arrays.specs.Spread.{cut_by, overwritten}
+use Rattle.geos_model.specs.Pieces.{BranchPiece, elements_in_pieces}
+use Rattle.geos_model.specs.Spread.{cut_by, overwritten}
 use Rattle.large_arrays.specs.WrittenPieces.{written_piece}
-use Rattle.large_arrays.proofs.OverwrittenPieces.{sum, sum-cons, cut_by-same, splice-behind, splice-before, splice-after}
+use Rattle.geos_model.proofs.OverwrittenPieces.{sum, sum-cons, cut_by-same, splice-behind, splice-before, splice-after}
 
 -- The first piece.
 module _ (p rest : BranchPiece) (i : ℕ) (new : BranchPiece) (within : i + length new ≤ length (p ++ rest)) where

@@ -12,12 +12,12 @@ use Rattle.vm_blocks.specs.ChangePlaces.{change_places}
 use Rattle.vm_blocks.specs.Changes.{weight as change_weight}
 use Rattle.vm_blocks.specs.Preparing.{after_changes, CanApplyAll, CanApplyAllByHandle}
 use Rattle.vm_blocks.specs.declared.change.Change.{Change}
-use Rattle.large_arrays.specs.Pieces.{BranchPiece}
-use Rattle.large_arrays.specs.Layout.{root_bytes, branch_bytes}
-use Rattle.large_arrays.specs.Blocks.{root_at}
+use Rattle.geos_model.specs.Pieces.{BranchPiece}
+use Rattle.geos_model.specs.LargeLayout.{root_bytes, branch_bytes}
+use Rattle.geos_model.specs.LargeBlocks.{root_at}
 use Rattle.large_arrays.specs.declared.cut_body.CutBody.{CutBody}
 use Rattle.large_arrays.specs.Patches.{HoldsLeast}
-use Rattle.large_arrays.specs.Window.{Window, raw_block, replaced_root}
+use Rattle.geos_model.specs.LargeWindow.{Window, raw_block, replaced_root}
 
 -- the document without these blocks, and with raw blocks of these bytes; one that was there keeps its attributes
 abbrev pub with_bodies : Document → List ℕ → List (ℕ × List ℕ) → Document

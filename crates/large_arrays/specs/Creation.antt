@@ -8,8 +8,8 @@ use Rattle.geos_model.specs.declared.fault.Fault.TheVariants.{Memory}
 use Rattle.geos_model.specs.declared.handle.VmHandle.{VmHandle}
 use Rattle.vm_blocks.specs.Changes.{after_change, CanApply}
 use Rattle.vm_blocks.specs.declared.change.Change.{Change}
-use Rattle.large_arrays.specs.Layout.{Root}
-use Rattle.large_arrays.specs.Edits.{large_created, create_large_conditions}
+use Rattle.geos_model.specs.LargeLayout.{Root}
+use Rattle.geos_model.specs.LargeEdits.{large_created, create_large_conditions}
 
 -- the root of an array without elements
 abbrev pub empty_root : ℕ → ℕ → Root

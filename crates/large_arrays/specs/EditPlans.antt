@@ -8,13 +8,14 @@ use Rattle.vm_blocks.specs.ChangeCosts.{change_cost}
 use Rattle.vm_blocks.specs.ChangePlaces.{change_places}
 use Rattle.vm_blocks.specs.Preparing.{after_changes, CanApplyAll}
 use Rattle.vm_blocks.specs.declared.change.Change.{Change}
-use Rattle.large_arrays.specs.Pieces.{BranchPiece}
-use Rattle.large_arrays.specs.Blocks.{root_at}
-use Rattle.large_arrays.specs.Edits.{run_places}
-use Rattle.large_arrays.specs.LargeCost.{large_cost}
-use Rattle.large_arrays.specs.LargePlaces.{large_places, overwritten_blocks}
+use Rattle.geos_model.specs.Pieces.{BranchPiece}
+use Rattle.geos_model.specs.LargeBlocks.{root_at}
+use Rattle.geos_model.specs.LargeEdits.{run_places}
+use Rattle.geos_model.specs.Cost.{large_cost}
+use Rattle.geos_model.specs.LargePlaces.{large_places}
+use Rattle.geos_model.specs.ChangedBlocks.{overwritten_blocks}
 use Rattle.large_arrays.specs.Loading.{IsRootRefusal}
-use Rattle.large_arrays.specs.Window.{are_branches, elements_overwritten}
+use Rattle.geos_model.specs.LargeWindow.{are_branches, elements_overwritten}
 
 -- The changes can be made of the document, one after another, and make this of it. They change these blocks, and cost
 -- what that costs.

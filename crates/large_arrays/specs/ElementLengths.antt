@@ -1,6 +1,6 @@
 -- How many bytes elements have that lie one after another.
 use Rattle.std.specs.Prelude.{◌+◌, ◌==◌, ◌∷◌, ℕ, List, [], length, map, take, drop, replicate, if◌then◌else◌}
-use Rattle.large_arrays.specs.Pieces.{BranchPiece}
+use Rattle.geos_model.specs.Pieces.{BranchPiece}
 
 -- bytes cut into elements that have so many each
 abbrev pub cut_lengths : List ℕ → List ℕ → BranchPiece

@@ -1,6 +1,6 @@
 -- How far elements go into a piece.
 use Rattle.std.specs.Prelude.{◌≡◌, ◌<◌, ◌++◌, ◌∷◌, ℕ, [], Bool, true, not}
-use Rattle.large_arrays.specs.Pieces.{BranchPiece, fits_branch}
+use Rattle.geos_model.specs.Pieces.{BranchPiece, fits_branch}
 use Rattle.large_arrays.specs.SizedElements.{SizedElements, with_behind}
 
 -- the first of the elements that are left has no room behind these

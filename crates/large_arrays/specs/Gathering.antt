@@ -4,10 +4,10 @@ use Rattle.std.specs.List.{All, AllZip, range_with_len}
 use Rattle.geos_model.specs.Heap.{capacity}
 use Rattle.geos_model.specs.ElementArray.{all_distinct}
 use Rattle.geos_model.specs.Document.{Document, is_live, is_raw, raw_bytes_of}
-use Rattle.large_arrays.specs.Pieces.{BranchPiece, piece_weight}
-use Rattle.large_arrays.specs.Spread.{first_place, end_place}
-use Rattle.large_arrays.specs.Blocks.{root_at, pieces_at}
-use Rattle.large_arrays.specs.Window.{looked_at, are_branches, window_first, window_end, window_pieces, staying}
+use Rattle.geos_model.specs.Pieces.{BranchPiece, piece_weight}
+use Rattle.geos_model.specs.Spread.{first_place, end_place}
+use Rattle.geos_model.specs.LargeBlocks.{root_at, pieces_at}
+use Rattle.geos_model.specs.LargeWindow.{looked_at, are_branches, window_first, window_end, window_pieces, staying}
 use Rattle.large_arrays.specs.HandleLists.{old_handles, old_pairs}
 use Rattle.large_arrays.specs.declared.gathered.Gathered.{Gathered}
 

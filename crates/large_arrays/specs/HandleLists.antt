@@ -1,7 +1,7 @@
 -- The handles of blocks that branches of a large array have before and after an edit.
 use Rattle.std.specs.Prelude.{◌≡◌, ◌<◌, ◌≤◌, ◌-◌, ◌++◌, ◌==◌, ℕ, List, Bool, not, length, map, take, drop, filter, get_or}
 use Rattle.std.specs.List.{Contains, list_any}
-use Rattle.large_arrays.specs.Window.{greatest, window_handles}
+use Rattle.geos_model.specs.LargeWindow.{greatest, window_handles}
 use Rattle.large_arrays.specs.declared.handles.OldBranch.{OldBranch}
 use Rattle.large_arrays.specs.declared.handles.KeptPlaces.{KeptPlaces}
 

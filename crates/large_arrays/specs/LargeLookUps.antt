@@ -4,9 +4,9 @@ use Rattle.geos_model.specs.Document.{Document, raw_bytes_of}
 use Rattle.geos_model.specs.declared.fault.Fault.{Fault}
 use Rattle.geos_model.specs.declared.fault.Fault.TheVariants.{NoElement, BadChain}
 use Rattle.vm_blocks.specs.State.{CacheState}
-use Rattle.large_arrays.specs.Pieces.{BranchPiece}
-use Rattle.large_arrays.specs.Layout.{Root, total_count}
-use Rattle.large_arrays.specs.Spread.{start_place}
+use Rattle.geos_model.specs.Pieces.{BranchPiece}
+use Rattle.geos_model.specs.LargeLayout.{Root, total_count}
+use Rattle.geos_model.specs.Spread.{start_place}
 use Rattle.large_arrays.specs.Loading.{IsRawLoaded, IsRootRefusal, branch_under}
 use Rattle.large_arrays.specs.declared.look_ups.ElementPlace.{ElementPlace}
 use Rattle.large_arrays.specs.declared.look_ups.ElementSpot.{ElementSpot}

@@ -5,9 +5,9 @@ use Rattle.geos_model.specs.Heap.{capacity}
 use Rattle.geos_model.specs.Document.{Document}
 use Rattle.geos_model.specs.declared.fault.Fault.{Fault}
 use Rattle.geos_model.specs.declared.fault.Fault.TheVariants.{NoElement, Range}
-use Rattle.large_arrays.specs.Pieces.{BranchPiece, elements_in_pieces}
-use Rattle.large_arrays.specs.Layout.{Root, total_count}
-use Rattle.large_arrays.specs.Spread.{start_place, end_place}
+use Rattle.geos_model.specs.Pieces.{BranchPiece, elements_in_pieces}
+use Rattle.geos_model.specs.LargeLayout.{Root, total_count}
+use Rattle.geos_model.specs.Spread.{start_place, end_place}
 use Rattle.large_arrays.specs.Loading.{branch_under}
 use Rattle.large_arrays.specs.Spots.{AreBranchLinks, counts_of}
 use Rattle.large_arrays.specs.LargeLookUps.{IsElementRefusal}

@@ -6,9 +6,9 @@ use Rattle.geos_model.specs.declared.fault.Fault.TheVariants.{NotArray}
 use Rattle.vm_blocks.specs.State.{CacheState}
 use Rattle.vm_blocks.specs.Keeping.{is_loaded}
 use Rattle.vm_blocks.specs.Kinds.{IsWrongBlock}
-use Rattle.large_arrays.specs.Pieces.{BranchPiece}
-use Rattle.large_arrays.specs.Layout.{root_of, branch_of}
-use Rattle.large_arrays.specs.Blocks.{root_at}
+use Rattle.geos_model.specs.Pieces.{BranchPiece}
+use Rattle.geos_model.specs.LargeLayout.{root_of, branch_of}
+use Rattle.geos_model.specs.LargeBlocks.{root_at}
 
 -- A raw block is in memory.
 pub record IsRawLoaded {S : Type 0} (s : CacheState S) (h : ℕ) : Type 0 where

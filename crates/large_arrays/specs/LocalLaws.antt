@@ -2,12 +2,13 @@
 use Rattle.std.specs.Prelude.{◌≡◌, ◌<◌, ◌≤◌, ◌+◌, ℕ, List, [], length}
 use Rattle.std.specs.List.{Contains}
 use Rattle.geos_model.specs.Document.{Document, is_live, is_raw, raw_bytes_of}
-use Rattle.large_arrays.specs.Pieces.{BranchPiece}
-use Rattle.large_arrays.specs.Layout.{total_count}
-use Rattle.large_arrays.specs.Blocks.{root_at}
-use Rattle.large_arrays.specs.Window.{window}
-use Rattle.large_arrays.specs.Edits.{cut_elements, run_places, insert_large_conditions, set_large_conditions, delete_large_conditions}
-use Rattle.large_arrays.specs.DocumentLaws.{handles_at, replacing_looks, set_looks}
+use Rattle.geos_model.specs.Pieces.{BranchPiece}
+use Rattle.geos_model.specs.LargeLayout.{total_count}
+use Rattle.geos_model.specs.LargeBlocks.{root_at}
+use Rattle.geos_model.specs.LargeWindow.{window}
+use Rattle.geos_model.specs.LargeEdits.{cut_elements, run_places, insert_large_conditions, set_large_conditions, delete_large_conditions}
+use Rattle.geos_model.specs.LargeBlocks.{handles_at}
+use Rattle.geos_model.specs.LargeDocumentLaws.{replacing_looks, set_looks}
 use Rattle.large_arrays.specs.WrittenPieces.{written_pieces}
 
 -- In two documents the same handles are live, the map block is the same, and the same root is under a handle; and the

@@ -4,11 +4,11 @@ use Rattle.std.specs.Global.{Global}
 use Rattle.std.specs.List.{All}
 use Rattle.geos_model.specs.Document.{Document}
 use Rattle.geos_model.specs.Heap.{capacity}
-use Rattle.large_arrays.specs.Pieces.{BranchPiece, piece_weight, none_empty}
-use Rattle.large_arrays.specs.Layout.{branch_of}
-use Rattle.large_arrays.specs.Spread.{first_place, end_place, left_piece, right_piece}
-use Rattle.large_arrays.specs.Blocks.{root_at, pieces_at}
-use Rattle.large_arrays.specs.Window.{looks_left, looks_right}
+use Rattle.geos_model.specs.Pieces.{BranchPiece, piece_weight, none_empty}
+use Rattle.geos_model.specs.LargeLayout.{branch_of}
+use Rattle.geos_model.specs.Spread.{first_place, end_place, left_piece, right_piece}
+use Rattle.geos_model.specs.LargeBlocks.{root_at, pieces_at}
+use Rattle.geos_model.specs.LargeWindow.{looks_left, looks_right}
 use Rattle.large_arrays.specs.Bodies.{AreBodies, bytes_of_bodies}
 use Rattle.large_arrays.specs.Middle.{IsMiddle, are_there, run_branches}
 use Rattle.large_arrays.specs.Spots.{IsSpot, counts_of, link_handles}

@@ -2,10 +2,10 @@
 use Rattle.std.specs.Prelude.{◌≡◌, ◌≤◌, ◌-◌, ℕ, suc, List, [], Bool, true, take, drop, get_or, is_some}
 use Rattle.std.specs.List.{list_all, range_with_len}
 use Rattle.geos_model.specs.Document.{Document}
-use Rattle.large_arrays.specs.Pieces.{BranchPiece, piece_weight}
-use Rattle.large_arrays.specs.Layout.{Root, is_root, total_count}
-use Rattle.large_arrays.specs.Spread.{first_place, end_place, middle}
-use Rattle.large_arrays.specs.Blocks.{branch_at, pieces_at}
+use Rattle.geos_model.specs.Pieces.{BranchPiece, piece_weight}
+use Rattle.geos_model.specs.LargeLayout.{Root, is_root, total_count}
+use Rattle.geos_model.specs.Spread.{first_place, end_place, middle}
+use Rattle.geos_model.specs.LargeBlocks.{branch_at, pieces_at}
 use Rattle.large_arrays.specs.Spots.{IsSpot}
 use Rattle.large_arrays.specs.declared.middle.Middle.{Middle}
 use Rattle.large_arrays.specs.declared.spot.BranchLink.{BranchLink}

@@ -1,6 +1,6 @@
 -- Which neighbours of a run an edit looks at and joins, by what pieces weigh.
 use Rattle.std.specs.Prelude.{◌+◌, ◌-◌, ℕ, List, [], Bool, false, ◌==◌, ◌&&◌, nat_le, length, get_or, if◌then◌else◌, Option, Some, None, unwrap_or}
-use Rattle.large_arrays.specs.Pieces.{BranchPiece, piece_weight, join_room}
+use Rattle.geos_model.specs.Pieces.{BranchPiece, piece_weight, join_room}
 use Rattle.large_arrays.specs.declared.neighbours.MiddleEnds.{MiddleEnds}
 
 -- how many pieces come in a run's place, and what the first of them and the last weigh

@@ -2,7 +2,7 @@
 use Rattle.std.specs.Prelude.{◌≡◌, ◌≤◌, ◌==◌, ◌∷◌, ℕ, List, [], true, length, if◌then◌else◌}
 use Rattle.std.specs.List.{flat_map}
 use Rattle.geos_model.specs.Array.{cut_evenly}
-use Rattle.large_arrays.specs.Pieces.{BranchPiece, each_fits}
+use Rattle.geos_model.specs.Pieces.{BranchPiece, each_fits}
 use Rattle.large_arrays.specs.SizedElements.{SizedElements, have_size}
 use Rattle.large_arrays.specs.declared.new_elements.NewElements.TheInside.{Inside}
 

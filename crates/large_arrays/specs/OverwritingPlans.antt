@@ -3,9 +3,9 @@ use Rattle.std.specs.Prelude.{◌≡◌, ◌+◌, ◌++◌, ◌∷◌, ℕ, List
 use Rattle.std.specs.List.{splice, zip}
 use Rattle.geos_model.specs.Document.{Document, is_live}
 use Rattle.vm_blocks.specs.declared.change.Change.{Change}
-use Rattle.large_arrays.specs.Pieces.{BranchPiece}
-use Rattle.large_arrays.specs.Layout.{branch_bytes}
-use Rattle.large_arrays.specs.Spread.{overwritten}
+use Rattle.geos_model.specs.Pieces.{BranchPiece}
+use Rattle.geos_model.specs.LargeLayout.{branch_bytes}
+use Rattle.geos_model.specs.Spread.{overwritten}
 use Rattle.large_arrays.specs.ChangePlans.{piece_bodies, ArePlanned, ArePlannedByHandle, IsUntouched}
 use Rattle.large_arrays.specs.LargeRuns.{are_branches_under, pieces_under}
 use Rattle.large_arrays.specs.Loading.{branch_under}

@@ -1,7 +1,7 @@
 -- How a piece keeps its elements: their bytes one after another, and how many each has where sizes vary.
 use Rattle.std.specs.Prelude.{◌≡◌, ℕ, List, length}
 use Rattle.std.specs.List.{flat_map}
-use Rattle.large_arrays.specs.Pieces.{BranchPiece}
+use Rattle.geos_model.specs.Pieces.{BranchPiece}
 use Rattle.large_arrays.specs.SizedElements.{SizedElements, IsPiece}
 use Rattle.large_arrays.specs.ElementLengths.{cut_lengths, all_lengths, kept_lengths}
 use Rattle.large_arrays.specs.declared.piece.Piece.TheInside.{Inside}

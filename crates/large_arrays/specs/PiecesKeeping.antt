@@ -1,7 +1,7 @@
 -- Pieces of one size, as they are kept.
 use Rattle.std.specs.Prelude.{◌≡◌, ◌++◌, ◌∷◌, ℕ, List, [], true, ◌==◌, map}
 use Rattle.std.specs.List.{list_all}
-use Rattle.large_arrays.specs.Pieces.{BranchPiece, all_fit}
+use Rattle.geos_model.specs.Pieces.{BranchPiece, all_fit}
 use Rattle.large_arrays.specs.SizedElements.{SizedElements, SizedPieces}
 use Rattle.large_arrays.specs.declared.packing.Pieces.TheInside.{Inside}
 

@@ -2,9 +2,9 @@
 use Rattle.std.specs.Prelude.{◌≡◌, ◌≤◌, ◌+◌, ◌∷◌, ◌||◌, ℕ, List, [], nat_lt, None}
 use Rattle.geos_model.specs.Refusal.{Conditions, first_refusal}
 use Rattle.geos_model.specs.declared.fault.Fault.TheVariants.{NoElement, Range, TooBig}
-use Rattle.large_arrays.specs.Pieces.{BranchPiece}
-use Rattle.large_arrays.specs.Layout.{Root, total_count}
-use Rattle.large_arrays.specs.Edits.{cut_elements, ends_within_element, element_count, is_too_long}
+use Rattle.geos_model.specs.Pieces.{BranchPiece}
+use Rattle.geos_model.specs.LargeLayout.{Root, total_count}
+use Rattle.geos_model.specs.LargeEdits.{cut_elements, ends_within_element, element_count, is_too_long}
 use Rattle.large_arrays.specs.declared.edit_plans.Replacement.{Replacement}
 
 -- that of the elements from one up to another of a root

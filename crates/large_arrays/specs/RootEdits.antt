@@ -3,7 +3,7 @@ use Rattle.std.specs.Prelude.{◌+◌, ◌*◌, ◌-◌, ◌++◌, ℕ, List, ta
 use Rattle.std.specs.List.{flat_map, splice}
 use Rattle.geos_model.specs.Words.{word, double_word}
 use Rattle.geos_model.specs.Chain.{tree_mark}
-use Rattle.large_arrays.specs.Layout.{Root, large_mark}
+use Rattle.geos_model.specs.LargeLayout.{Root, large_mark}
 
 -- with branches of so many elements in the place of those from one up to another
 abbrev pub with_branches : Root → ℕ → ℕ → List ℕ → List ℕ → Root

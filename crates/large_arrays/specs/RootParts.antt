@@ -2,7 +2,7 @@
 use Rattle.std.specs.Prelude.{◌≡◌, ◌≢◌, ◌<◌, ◌≤◌, ◌+◌, ◌*◌, ℕ, List, length, take, drop}
 use Rattle.geos_model.specs.Words.{word_at, double_word_at}
 use Rattle.geos_model.specs.Chain.{tree_mark}
-use Rattle.large_arrays.specs.Layout.{greatest_element_size, large_mark, root_read, total_count}
+use Rattle.geos_model.specs.LargeLayout.{greatest_element_size, large_mark, root_read, total_count}
 
 -- how many branches a root says that it has
 abbrev pub branches_in : List ℕ → ℕ

@@ -3,7 +3,7 @@ use Rattle.std.specs.Prelude.{◌≡◌, ◌≤◌, length}
 use Rattle.geos_model.specs.Words.{word_at}
 use Rattle.geos_model.specs.Heap.{capacity}
 use Rattle.chunk_arrays.specs.Parts.{AreByteValues}
-use Rattle.large_arrays.specs.Layout.{root_read, total_count}
+use Rattle.geos_model.specs.LargeLayout.{root_read, total_count}
 use Rattle.large_arrays.specs.RootParts.{HasRoot, branches_in}
 use Rattle.large_arrays.specs.declared.root.RootView.TheInside.{Inside}
 

@@ -2,8 +2,8 @@
 use Rattle.std.specs.Prelude.{◌≡◌, ◌<◌, ◌≤◌, ◌-◌, ◌==◌, ℕ, List, [], true, length, take, drop, get_or, if◌then◌else◌, Option, None, Some, is_some}
 use Rattle.geos_model.specs.Array.{Array}
 use Rattle.large_arrays.specs.BranchReading.{IsPlain}
-use Rattle.large_arrays.specs.Pieces.{BranchPiece, branch_room, join_room, piece_weight}
-use Rattle.large_arrays.specs.Layout.{branch_of}
+use Rattle.geos_model.specs.Pieces.{BranchPiece, branch_room, join_room, piece_weight}
+use Rattle.geos_model.specs.LargeLayout.{branch_of}
 use Rattle.large_arrays.specs.Middle.{run_links}
 use Rattle.large_arrays.specs.SizedElements.{SizedElements}
 use Rattle.large_arrays.specs.Spots.{counts_of}

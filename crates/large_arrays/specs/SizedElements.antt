@@ -3,8 +3,8 @@ use Rattle.std.specs.Prelude.{◌≡◌, ◌<◌, ◌++◌, ◌∷◌, ℕ, List
 use Rattle.std.specs.List.{list_all}
 use Rattle.geos_model.specs.Refusal.{Conditions}
 use Rattle.geos_model.specs.declared.fault.Fault.TheVariants.{Range, TooBig}
-use Rattle.large_arrays.specs.Pieces.{BranchPiece, fits_branch}
-use Rattle.large_arrays.specs.Edits.{ends_within_element, is_too_long}
+use Rattle.geos_model.specs.Pieces.{BranchPiece, fits_branch}
+use Rattle.geos_model.specs.LargeEdits.{ends_within_element, is_too_long}
 
 pub record SizedElements : Type 0 where
   pub size : ℕ  -- of each in bytes, 0 where they vary

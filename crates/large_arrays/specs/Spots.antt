@@ -1,7 +1,7 @@
 -- What is copied out of a root.
 use Rattle.std.specs.Prelude.{◌≡◌, ◌+◌, ◌-◌, ℕ, List, length, map, take, drop}
-use Rattle.large_arrays.specs.Layout.{Root, total_count}
-use Rattle.large_arrays.specs.Spread.{first_place, end_place}
+use Rattle.geos_model.specs.LargeLayout.{Root, total_count}
+use Rattle.geos_model.specs.Spread.{first_place, end_place}
 use Rattle.large_arrays.specs.declared.spot.BranchLink.{BranchLink}
 use Rattle.large_arrays.specs.declared.spot.Spot.{Spot}
 

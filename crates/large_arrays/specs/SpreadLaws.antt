@@ -1,8 +1,8 @@
 -- Laws of the spread.
 use Rattle.std.specs.Prelude.{◌≡◌, ◌≤◌, ◌+◌, ℕ, List, true, length, []}
 use Rattle.std.specs.List.{splice}
-use Rattle.large_arrays.specs.Pieces.{BranchPiece, elements_in_pieces, each_fits, are_spread}
-use Rattle.large_arrays.specs.Spread.{respread}
+use Rattle.geos_model.specs.Pieces.{BranchPiece, elements_in_pieces, each_fits, are_spread}
+use Rattle.geos_model.specs.Spread.{respread}
 
 pub record SpreadLaw : Type 0 where
   -- The elements are those of the list's edit.

@@ -1,8 +1,8 @@
 -- A window put together of what is known of it.
 use Rattle.std.specs.Prelude.{◌+◌, ◌-◌, ◌==◌, ◌∷◌, ℕ, suc, List, [], Bool, nat_le, nat_lt, length, map, if◌then◌else◌}
-use Rattle.large_arrays.specs.Pieces.{BranchPiece}
-use Rattle.large_arrays.specs.Layout.{Root}
-use Rattle.large_arrays.specs.Window.{Window, window_handles}
+use Rattle.geos_model.specs.Pieces.{BranchPiece}
+use Rattle.geos_model.specs.LargeLayout.{Root}
+use Rattle.geos_model.specs.LargeWindow.{Window, window_handles}
 use Rattle.large_arrays.specs.RootEdits.{run_between}
 use Rattle.large_arrays.specs.declared.staying.StayingBytes.{StayingBytes}
 

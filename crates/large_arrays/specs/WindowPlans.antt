@@ -9,9 +9,9 @@ use Rattle.geos_model.specs.declared.fault.Fault.TheVariants.{IsMap, NoHandles}
 use Rattle.vm_blocks.specs.Changes.{IsFreeHandle}
 use Rattle.vm_blocks.specs.Preparing.{CanRemoveByHandle}
 use Rattle.vm_blocks.specs.declared.change.Change.{Change}
-use Rattle.large_arrays.specs.Layout.{Root, most_branches, root_of}
-use Rattle.large_arrays.specs.Blocks.{root_at}
-use Rattle.large_arrays.specs.Window.{Window, freed_handles, replaced_root, window_handles}
+use Rattle.geos_model.specs.LargeLayout.{Root, most_branches, root_of}
+use Rattle.geos_model.specs.LargeBlocks.{root_at}
+use Rattle.geos_model.specs.LargeWindow.{Window, freed_handles, replaced_root, window_handles}
 use Rattle.large_arrays.specs.HandleLists.{old_handles, old_pairs}
 use Rattle.large_arrays.specs.RootEdits.{with_branches}
 use Rattle.large_arrays.specs.ChangePlans.{ArePlanned, window_bodies}

@@ -1,9 +1,9 @@
 -- Pieces with elements written over, one by one.
 use Rattle.std.specs.Prelude.{◌+◌, ◌-◌, ◌++◌, ℕ, suc, List, length, take, drop}
 use Rattle.geos_model.specs.Document.{Document}
-use Rattle.large_arrays.specs.Pieces.{BranchPiece}
-use Rattle.large_arrays.specs.Spread.{start_place, end_place, overwritten}
-use Rattle.large_arrays.specs.Blocks.{root_at, pieces_at}
+use Rattle.geos_model.specs.Pieces.{BranchPiece}
+use Rattle.geos_model.specs.Spread.{start_place, end_place, overwritten}
+use Rattle.geos_model.specs.LargeBlocks.{root_at, pieces_at}
 
 -- A piece with the elements from the i-th of all on written over, where so many stand before the piece: what stands
 -- before these, those of them that fall into the piece, and what stands behind.

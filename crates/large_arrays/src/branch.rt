@@ -1,6 +1,6 @@
 //! A branch of a large array, read where it lies.
 ghost use Rattle.std.specs.Prelude.{◌≡◌, ◌^◌, ◌<◌, ◌↔◌, Some, None, IsTrue, IfOk, MatchResult};
-ghost use Rattle.large_arrays.specs.Layout.{branch_of};
+ghost use Rattle.geos_model.specs.LargeLayout.{branch_of};
 ghost use Rattle.large_arrays.specs.BranchReading.{BeginsWithZero, IsPlain};
 
 use byteorder::{ByteOrder, LittleEndian};

@@ -3,7 +3,7 @@ ghost use Rattle.std.specs.Prelude.{◌≡◌, ◌≤◌, ◌∷◌, [], IfOk, M
 ghost use Rattle.geos_model.specs.Document.{no_attributes};
 ghost use Rattle.geos_model.specs.declared.command.Body.TheVariants as bodies;
 ghost use Rattle.document_file.specs.Members.{imaged_blocks};
-ghost use Rattle.large_arrays.specs.Layout.{greatest_element_size, root_bytes, branch_bytes};
+ghost use Rattle.geos_model.specs.LargeLayout.{greatest_element_size, root_bytes, branch_bytes};
 ghost use Rattle.large_arrays.specs.Creation.{empty_root, PlansCreation, RefusesCreation};
 
 use geos_model::{Attributes, Fault, VmHandle};

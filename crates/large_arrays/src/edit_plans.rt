@@ -5,14 +5,14 @@ ghost use Rattle.geos_model.specs.declared.fault.Fault.TheVariants.{NoElement, B
 ghost use Rattle.vm_blocks.specs.Keeping.{KeepsBlocks, IsHonest, IsEnvironmentFault, is_full};
 ghost use Rattle.vm_blocks.specs.Preparing.{CanApplyAllByHandle};
 ghost use Rattle.vm_chains.specs.Answers.{AnswersChain};
-ghost use Rattle.large_arrays.specs.Blocks.{root_at};
-ghost use Rattle.large_arrays.specs.Edits.{element_count, large_inserted, large_set, large_deleted, insert_large_conditions, set_large_conditions, delete_large_conditions, on_window, on_run};
+ghost use Rattle.geos_model.specs.LargeBlocks.{root_at};
+ghost use Rattle.geos_model.specs.LargeEdits.{element_count, large_inserted, large_set, large_deleted, insert_large_conditions, set_large_conditions, delete_large_conditions, on_window, on_run};
 ghost use Rattle.large_arrays.specs.EditPlans.{PlansLargeEdit, IsGivenFault, IsPastFault, IsSettingFault, IsLargeEditRefusal};
-ghost use Rattle.large_arrays.specs.LargePlaces.{replaced_blocks, overwritten_blocks, inserted_blocks, set_blocks, deleted_blocks};
-ghost use Rattle.large_arrays.specs.Layout.{greatest_element_size, total_count};
+ghost use Rattle.geos_model.specs.ChangedBlocks.{replaced_blocks, overwritten_blocks, inserted_blocks, set_blocks, deleted_blocks};
+ghost use Rattle.geos_model.specs.LargeLayout.{greatest_element_size, total_count};
 ghost use Rattle.large_arrays.specs.Loading.{IsRootLoaded};
 ghost use Rattle.large_arrays.specs.Replacements.{CanReplace, IsDeletion, IsInsertion, IsSetting, insertion_conditions, setting_conditions};
-ghost use Rattle.large_arrays.specs.Window.{elements_replaced, elements_overwritten};
+ghost use Rattle.geos_model.specs.LargeWindow.{elements_replaced, elements_overwritten};
 
 use crate::gathering::gather;
 use crate::loading::{load_root, loaded_root};

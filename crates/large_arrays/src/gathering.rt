@@ -3,8 +3,8 @@ ghost use Rattle.std.specs.Prelude.{◌≡◌, ◌⊎◌, ◌<◌, ◌≤◌, �
 ghost use Rattle.geos_model.specs.declared.fault.Fault.TheVariants.{BadChain};
 ghost use Rattle.vm_blocks.specs.Keeping.{KeepsBlocks, IsHonest, IsEnvironmentFault, is_full};
 ghost use Rattle.vm_chains.specs.Walking.{Stops};
-ghost use Rattle.large_arrays.specs.Blocks.{root_at, pieces_at};
-ghost use Rattle.large_arrays.specs.Window.{looked_at, are_branches};
+ghost use Rattle.geos_model.specs.LargeBlocks.{root_at, pieces_at};
+ghost use Rattle.geos_model.specs.LargeWindow.{looked_at, are_branches};
 ghost use Rattle.large_arrays.specs.Bodies.{AreBodies, are_raw, bytes_of_bodies};
 ghost use Rattle.large_arrays.specs.Gathering.{IsGatheredWindow, AreGathered};
 ghost use Rattle.large_arrays.specs.LookedBranches.{AreThere, HasLinks, HaveBodies, left_links, right_links};

@@ -3,7 +3,7 @@ ghost use Rattle.std.specs.Prelude.{◌≡◌, ◌<◌, ◌≤◌, ◌-◌, ◌+
 ghost use Rattle.geos_model.specs.ElementArray.{all_distinct};
 ghost use Rattle.vm_chains.specs.Numbers.{numbers};
 ghost use Rattle.large_arrays.specs.HandleLists.{AreFreed, AreKeptPlaces, IsMost, old_handles, old_pairs};
-ghost use Rattle.large_arrays.specs.Window.{window_handles};
+ghost use Rattle.geos_model.specs.LargeWindow.{window_handles};
 
 use geos_model::VmHandle;
 use std::alloc::{AllocError, Global};

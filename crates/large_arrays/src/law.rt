@@ -1,8 +1,8 @@
 //! The laws of large arrays: each is the contract of a function that does nothing.
-ghost use Rattle.large_arrays.specs.ChangeLaws.{FewChangeLaw};
-ghost use Rattle.large_arrays.specs.DocumentLaws.{LargeStaysLaw, LargeValidityLaw};
-ghost use Rattle.large_arrays.specs.EditLaws.{LargeEditsLaw};
-ghost use Rattle.large_arrays.specs.LargePlaces.{LargePlacesLaw};
+ghost use Rattle.geos_model.specs.LargeChangeLaws.{FewChangeLaw};
+ghost use Rattle.geos_model.specs.LargeDocumentLaws.{LargeStaysLaw, LargeValidityLaw};
+ghost use Rattle.geos_model.specs.LargeEditLaws.{LargeEditsLaw};
+ghost use Rattle.geos_model.specs.LargePlaces.{LargePlacesLaw};
 ghost use Rattle.large_arrays.specs.LocalLaws.{LocalLaw};
 ghost use Rattle.large_arrays.specs.SpreadLaws.{SpreadLaw};
 

@@ -6,9 +6,9 @@ ghost use Rattle.geos_model.specs.Heap.{capacity};
 ghost use Rattle.vm_blocks.specs.Keeping.{KeepsBlocks, IsEnvironmentFault, is_full};
 ghost use Rattle.vm_chains.specs.Answers.{AnswersChain};
 ghost use Rattle.vm_chains.specs.Walking.{Stops};
-ghost use Rattle.large_arrays.specs.Blocks.{root_at};
+ghost use Rattle.geos_model.specs.LargeBlocks.{root_at};
 ghost use Rattle.large_arrays.specs.BranchReading.{IsPlain};
-ghost use Rattle.large_arrays.specs.Edits.{on_root};
+ghost use Rattle.geos_model.specs.LargeEdits.{on_root};
 ghost use Rattle.large_arrays.specs.Loading.{IsRawLoaded, IsRootLoaded, IsRootRefusal, branch_under};
 
 use crate::branch::read_branch;

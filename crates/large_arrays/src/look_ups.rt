@@ -3,9 +3,9 @@ ghost use Rattle.std.specs.Prelude.{◌≡◌, ◌^◌, ◌<◌, ◌≤◌, ◌�
 ghost use Rattle.geos_model.specs.declared.fault.Fault.TheVariants.{BadChain, NoElement};
 ghost use Rattle.vm_blocks.specs.Keeping.{KeepsBlocks, IsEnvironmentFault, IsHonest, is_full};
 ghost use Rattle.vm_chains.specs.Answers.{AnswersChain};
-ghost use Rattle.large_arrays.specs.Edits.{get_large_conditions, large_count, large_element, on_root};
+ghost use Rattle.geos_model.specs.LargeEdits.{get_large_conditions, large_count, large_element, on_root};
 ghost use Rattle.large_arrays.specs.LargeLookUps.{IsElementLoaded, IsElementRefusal, IsElementSpot, IsElementPlaced, placed_bytes};
-ghost use Rattle.large_arrays.specs.Layout.{total_count};
+ghost use Rattle.geos_model.specs.LargeLayout.{total_count};
 ghost use Rattle.large_arrays.specs.Loading.{IsRawLoaded, IsRootRefusal, branch_under};
 
 use crate::loading::{load_branch, load_root, loaded_branch, loaded_root, raw_bytes};

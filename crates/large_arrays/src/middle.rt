@@ -5,10 +5,10 @@ ghost use Rattle.geos_model.specs.Document.{Document};
 ghost use Rattle.geos_model.specs.Heap.{capacity};
 ghost use Rattle.geos_model.specs.declared.fault.Fault.TheVariants.{BadChain, Memory};
 ghost use Rattle.vm_chains.specs.Walking.{Stops};
-ghost use Rattle.large_arrays.specs.Blocks.{root_at};
+ghost use Rattle.geos_model.specs.LargeBlocks.{root_at};
 ghost use Rattle.large_arrays.specs.Bodies.{AreBodies, bytes_of_bodies};
 ghost use Rattle.large_arrays.specs.Middle.{IsMiddle, IsRunSpot, are_there, run_branches, run_links};
-ghost use Rattle.large_arrays.specs.Pieces.{branch_room, piece_weight};
+ghost use Rattle.geos_model.specs.Pieces.{branch_room, piece_weight};
 ghost use Rattle.large_arrays.specs.RunReading.{AreEnds, IsRunBranch, IsTail, OneUnread, run_read, tail_room};
 ghost use Rattle.large_arrays.specs.Spots.{IsSpot, link_handles};
 

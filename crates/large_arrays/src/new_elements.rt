@@ -2,9 +2,9 @@
 ghost use Rattle.std.specs.Prelude.{◌≡◌, ◌<◌, ◌≤◌, ◌+◌, [], None, Some, true, MatchResult, length, take, drop};
 ghost use Rattle.std.specs.List.{flat_map};
 ghost use Rattle.geos_model.specs.Refusal.{first_refusal};
-ghost use Rattle.large_arrays.specs.Pieces.{piece_weight, each_fits};
-ghost use Rattle.large_arrays.specs.Layout.{greatest_element_size};
-ghost use Rattle.large_arrays.specs.Edits.{cut_elements};
+ghost use Rattle.geos_model.specs.Pieces.{piece_weight, each_fits};
+ghost use Rattle.geos_model.specs.LargeLayout.{greatest_element_size};
+ghost use Rattle.geos_model.specs.LargeEdits.{cut_elements};
 ghost use Rattle.large_arrays.specs.SizedElements.{have_size, new_conditions};
 
 use crate::piece::BRANCH_ROOM;

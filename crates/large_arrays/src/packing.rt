@@ -1,10 +1,10 @@
 //! Pieces into which elements are packed, and the pieces beside these.
 ghost use Rattle.std.specs.Prelude.{◌≡◌, ◌^◌, ◌<◌, ◌≤◌, ◌+◌, ◌++◌, ◌∷◌, ◌&&◌, [], true, IfOk, IfSome, MatchResult, MatchOption, is_some, length, drop, get_or, nat_lt};
-ghost use Rattle.large_arrays.specs.Pieces.{branch_room, join_room, are_joined, all_fit};
-ghost use Rattle.large_arrays.specs.Spread.{packed_from, with_last, with_first, if_none};
+ghost use Rattle.geos_model.specs.Pieces.{branch_room, join_room, are_joined, all_fit};
+ghost use Rattle.geos_model.specs.Spread.{packed_from, with_last, with_first, if_none};
 ghost use Rattle.large_arrays.specs.SizedElements.{elements_of_size};
 ghost use Rattle.large_arrays.specs.Filling.{FillsPiece};
-ghost use Rattle.large_arrays.specs.JoinedPieces.{window_of};
+ghost use Rattle.geos_model.specs.JoinedPieces.{window_of};
 
 use crate::new_elements::NewElements;
 use crate::piece::{BRANCH_ROOM, JOIN_ROOM, Piece};

@@ -3,8 +3,8 @@ ghost use Rattle.std.specs.Prelude.{◌≡◌, ◌^◌, ◌<◌, ◌≤◌, ◌+
 ghost use Rattle.std.specs.List.{flat_map};
 ghost use Rattle.geos_model.specs.Words.{word};
 ghost use Rattle.geos_model.specs.Heap.{capacity};
-ghost use Rattle.large_arrays.specs.Pieces.{piece_weight, branch_room};
-ghost use Rattle.large_arrays.specs.Layout.{branch_bytes};
+ghost use Rattle.geos_model.specs.Pieces.{piece_weight, branch_room};
+ghost use Rattle.geos_model.specs.LargeLayout.{branch_bytes};
 ghost use Rattle.large_arrays.specs.SizedElements.{IsPiece, with_behind};
 ghost use Rattle.large_arrays.specs.ElementLengths.{kept_lengths, places_by};
 

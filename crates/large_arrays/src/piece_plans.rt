@@ -3,7 +3,7 @@ ghost use Rattle.std.specs.Prelude.{◌≡◌, ◌≤◌, ◌<◌, ◌++◌, ◌
 ghost use Rattle.std.specs.List.{All, AllZip, Contains, zip};
 ghost use Rattle.geos_model.specs.Document.{Document, is_live};
 ghost use Rattle.geos_model.specs.Heap.{capacity};
-ghost use Rattle.large_arrays.specs.Layout.{branch_bytes};
+ghost use Rattle.geos_model.specs.LargeLayout.{branch_bytes};
 ghost use Rattle.large_arrays.specs.ChangePlans.{ArePlanned, ArePlannedByHandle, IsUntouched, piece_bodies};
 ghost use Rattle.large_arrays.specs.Gathering.{HasOldBody};
 ghost use Rattle.vm_chains.specs.Numbers.{numbers};

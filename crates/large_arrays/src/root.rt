@@ -3,8 +3,8 @@ ghost use Rattle.std.specs.Prelude.{◌≡◌, ◌^◌, ◌<◌, ◌≤◌, ◌+
 ghost use Rattle.std.specs.List.{range_with_len};
 ghost use Rattle.geos_model.specs.Words.{word_at, double_word_at};
 ghost use Rattle.geos_model.specs.Heap.{capacity};
-ghost use Rattle.large_arrays.specs.Layout.{root_of, total_count};
-ghost use Rattle.large_arrays.specs.Spread.{start_place, end_place};
+ghost use Rattle.geos_model.specs.LargeLayout.{root_of, total_count};
+ghost use Rattle.geos_model.specs.Spread.{start_place, end_place};
 ghost use Rattle.large_arrays.specs.RootEdits.{count_bytes, link_bytes, run_between};
 ghost use Rattle.large_arrays.specs.RootParts.{HasMarks, HasLength, HasHead, HasCounts, HasZeros, branches_in};
 
@@ -34,7 +34,7 @@ pub struct RootView<'a> {
 }
 
 impl<'a> Model for RootView<'a> {
-    ghost use Rattle.large_arrays.specs.Layout.{Root, root_read};
+    ghost use Rattle.geos_model.specs.LargeLayout.{Root, root_read};
 
     ghost Value = { Root };
 

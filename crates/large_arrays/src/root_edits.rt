@@ -2,7 +2,7 @@
 ghost use Rattle.std.specs.Prelude.{◌≡◌, ◌<◌, ◌≤◌, ◌+◌, ◌-◌, ◌*◌, ◌^◌, ◌++◌, IfOk, length, sum_by};
 ghost use Rattle.geos_model.specs.Words.{word};
 ghost use Rattle.vm_chains.specs.Numbers.{numbers};
-ghost use Rattle.large_arrays.specs.Layout.{root_bytes};
+ghost use Rattle.geos_model.specs.LargeLayout.{root_bytes};
 ghost use Rattle.large_arrays.specs.RootEdits.{count_bytes, head_bytes, link_bytes, with_branches};
 
 use crate::root::{MARK, RootView, TREE_MARK};

@@ -4,7 +4,7 @@ ghost use Rattle.geos_model.specs.declared.fault.Fault.TheVariants.{BadChain};
 ghost use Rattle.vm_blocks.specs.Keeping.{KeepsBlocks, IsEnvironmentFault, IsHonest, is_full};
 ghost use Rattle.vm_chains.specs.Answers.{AnswersChain};
 ghost use Rattle.vm_chains.specs.Walking.{Stops};
-ghost use Rattle.large_arrays.specs.Edits.{large_run, read_large_conditions};
+ghost use Rattle.geos_model.specs.LargeEdits.{large_run, read_large_conditions};
 ghost use Rattle.large_arrays.specs.LargeRuns.{AppendsRun, IsReadable, IsRunRefusal, IsRunRefused, IsReadSpot, IsWithin, are_branches_under, run_under};
 ghost use Rattle.large_arrays.specs.Loading.{branch_under};
 

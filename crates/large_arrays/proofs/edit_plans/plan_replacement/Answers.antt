@@ -5,9 +5,9 @@ use Rattle.geos_model.specs.declared.fault.Fault.TheVariants.{Memory}
 use Rattle.vm_blocks.specs.Keeping.{IsEnvironmentFault}
 use Rattle.vm_blocks.proofs.KeepingLaws.{keeps-refl, keeps-same, keeps-steady, keeps-trans, keeps-was_steady, lacks-later, lacks-memory}
 use Rattle.vm_chains.proofs.Loading.{carried, carried_so, still_room}
-use Rattle.large_arrays.specs.Blocks.{root_at}
+use Rattle.geos_model.specs.LargeBlocks.{root_at}
 use Rattle.large_arrays.specs.Gathering.{IsGatheredWindow}
-use Rattle.large_arrays.specs.Layout.{Root, root_of}
+use Rattle.geos_model.specs.LargeLayout.{Root, root_of}
 use Rattle.large_arrays.specs.Spots.{IsSpot}
 use Rattle.large_arrays.specs.WindowPlans.{HasGatheredRoot}
 use Rattle.large_arrays.proofs.EditAnswers.{chain-later, handles-later, planned-nothing, planned-window, stopped-window}

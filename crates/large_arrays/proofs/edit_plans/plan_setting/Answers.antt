@@ -4,8 +4,8 @@ use Rattle.geos_model.specs.Refusal.{first_refusal}
 use Rattle.vm_blocks.specs.Keeping.{IsEnvironmentFault}
 use Rattle.vm_blocks.proofs.KeepingLaws.{keeps-trans, keeps-steady, lacks-later}
 use Rattle.vm_chains.proofs.Loading.{carried, carried_so, still_room}
-use Rattle.large_arrays.specs.Layout.{Root, greatest_element_size}
-use Rattle.large_arrays.specs.Blocks.{root_at}
+use Rattle.geos_model.specs.LargeLayout.{Root, greatest_element_size}
+use Rattle.geos_model.specs.LargeBlocks.{root_at}
 use Rattle.large_arrays.specs.Replacements.{IsSetting, setting_conditions}
 use Rattle.large_arrays.proofs.ElementAnswers.{at-end}
 use Rattle.large_arrays.proofs.EditRefusals.{setting-before, setting-refused}

@@ -4,8 +4,8 @@ use Rattle.geos_model.specs.declared.fault.Fault.TheVariants.{Memory}
 use Rattle.vm_blocks.specs.Keeping.{IsEnvironmentFault}
 use Rattle.vm_blocks.proofs.KeepingLaws.{keeps-refl, keeps-same, lacks-memory}
 use Rattle.vm_chains.proofs.Loading.{carried, carried_so}
-use Rattle.large_arrays.specs.Blocks.{root_at}
-use Rattle.large_arrays.specs.Layout.{Root}
+use Rattle.geos_model.specs.LargeBlocks.{root_at}
+use Rattle.geos_model.specs.LargeLayout.{Root}
 use Rattle.large_arrays.specs.Spots.{IsSpot}
 use Rattle.large_arrays.proofs.EditAnswers.{planned-none, planned-run}
 use Rattle.large_arrays.proofs.SpotRuns.{read-run}

@@ -8,8 +8,8 @@ use Rattle.vm_blocks.specs.Keeping.{IsEnvironmentFault}
 use Rattle.vm_blocks.proofs.KeepingLaws.{keeps-trans, keeps-steady, lacks-memory}
 use Rattle.vm_chains.proofs.Loading.{carried, carried_so, still_room}
 use Rattle.vm_chains.specs.Walking.{Stops}
-use Rattle.large_arrays.specs.Blocks.{root_at, pieces_at}
-use Rattle.large_arrays.specs.Window.{looked_at, are_branches}
+use Rattle.geos_model.specs.LargeBlocks.{root_at, pieces_at}
+use Rattle.geos_model.specs.LargeWindow.{looked_at, are_branches}
 use Rattle.large_arrays.specs.Bodies.{AreBodies, are_raw, bytes_of_bodies}
 use Rattle.large_arrays.specs.Gathering.{IsGatheredWindow}
 use Rattle.large_arrays.specs.LookedBranches.{HaveBodies, links_between, left_links, right_links}

@@ -1,5 +1,5 @@
 use Rattle.std.proofs.Common.{◌∙◌, ◌+◌, ℕ, List, get_or, drop, sym, ap, arith}
-use Rattle.large_arrays.specs.Window.{greatest}
+use Rattle.geos_model.specs.LargeWindow.{greatest}
 use Rattle.large_arrays.specs.HandleLists.{old_pairs}
 use Rattle.large_arrays.proofs.HandlePlaces.{pair_at, pairs_many, greatest_more, greatest_less, greatest_end}
 use Rattle.large_arrays.proofs.handles.place_of_most.Goals as goal

@@ -1,6 +1,6 @@
 use Rattle.std.proofs.Common.{◌≡◌, ◌<◌, get_or, drop, length}
 use Rattle.large_arrays.specs.HandleLists.{old_pairs}
-use Rattle.large_arrays.specs.Window.{greatest}
+use Rattle.geos_model.specs.LargeWindow.{greatest}
 use Rattle.large_arrays.proofs.handles.place_of_most.Given as goal
 
 -- what is sought among the blocks that are left, from the best so far on

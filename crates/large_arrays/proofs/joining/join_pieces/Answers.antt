@@ -1,7 +1,7 @@
 use Rattle.std.proofs.Common.{◌≡◌, ◌∙◌, ◌+◌, ◌&&◌, ◌==◌, ℕ, Bool, true, false, List, [], Result, Ok, Err, IfOk, if◌then◌else◌, is_some, refl, sym, ap, ap₂, arith}
-use Rattle.large_arrays.specs.Pieces.{BranchPiece}
+use Rattle.geos_model.specs.Pieces.{BranchPiece}
 use Rattle.large_arrays.specs.SizedElements.{SizedPieces, elements_of_size}
-use Rattle.large_arrays.specs.JoinedPieces.{window_of}
+use Rattle.geos_model.specs.JoinedPieces.{window_of}
 use Rattle.large_arrays.proofs.joining.join_pieces.Goals as goal
 
 ok_so : {A E : Type 0} (P Q : A → Type 0) (r : Result A E) → ((x : A) → P x → Q x) → IfOk r P → IfOk r Q

@@ -5,10 +5,10 @@ use Rattle.geos_model.specs.declared.fault.Fault.{Fault}
 use Rattle.geos_model.specs.declared.fault.Fault.TheVariants.{Memory}
 use Rattle.vm_chains.specs.Walking.{Stops}
 use Rattle.vm_chains.proofs.Loading.{carried}
-use Rattle.large_arrays.specs.Pieces.{piece_weight}
-use Rattle.large_arrays.specs.Spread.{middle}
+use Rattle.geos_model.specs.Pieces.{piece_weight}
+use Rattle.geos_model.specs.Spread.{middle}
 use Rattle.large_arrays.specs.SizedElements.{SizedPieces}
-use Rattle.large_arrays.specs.Blocks.{root_at, pieces_at}
+use Rattle.geos_model.specs.LargeBlocks.{root_at, pieces_at}
 use Rattle.large_arrays.specs.LookedBranches.{first_with, behind_with, links_between}
 use Rattle.large_arrays.specs.Neighbours.{ends_of}
 use Rattle.large_arrays.specs.Spots.{link_handles}

@@ -1,10 +1,10 @@
 use Rattle.std.proofs.Common.{◌≡◌, ◌∙◌, ◌+◌, ◌-◌, ◌<◌, ◌≤◌, ℕ, List, [], length, take, Some, sym, ap, arith}
 use Rattle.std.proofs.lemmas.List.{take_all}
 use Rattle.geos_model.specs.Heap.{capacity}
-use Rattle.large_arrays.specs.Pieces.{BranchPiece, piece_weight, branch_room}
-use Rattle.large_arrays.specs.Layout.{branch_of}
+use Rattle.geos_model.specs.Pieces.{BranchPiece, piece_weight, branch_room}
+use Rattle.geos_model.specs.LargeLayout.{branch_of}
 use Rattle.large_arrays.specs.SizedElements.{SizedElements}
-use Rattle.large_arrays.proofs.BranchBytes.{branch_of-is, length-branch_bytes}
+use Rattle.geos_model.proofs.BranchBytes.{branch_of-is, length-branch_bytes}
 use Rattle.large_arrays.proofs.joining.read_piece.Goals as goal
 
 -- a body has no more than there is room for

@@ -1,4 +1,4 @@
-use Rattle.large_arrays.proofs.Creating.{array-created}
+use Rattle.geos_model.proofs.Creating.{array-created}
 use Rattle.large_arrays.proofs.Inserting.{array-inserted, array-set, array-deleted}
 use Rattle.large_arrays.proofs.law.large_edits_law.Goals as goal
 

@@ -1,4 +1,4 @@
-use Rattle.large_arrays.proofs.LargeReaching.{created-at, inserted-at, set-at, deleted-at}
+use Rattle.geos_model.proofs.LargeReaching.{created-at, inserted-at, set-at, deleted-at}
 use Rattle.large_arrays.proofs.law.large_places_law.Goals as goal
 
 pub returns : goal.returns

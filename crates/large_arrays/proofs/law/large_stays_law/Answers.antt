@@ -1,4 +1,4 @@
-use Rattle.large_arrays.proofs.ValidEdits.{created-stays, inserted-stays, set-stays, deleted-stays}
+use Rattle.geos_model.proofs.ValidEdits.{created-stays, inserted-stays, set-stays, deleted-stays}
 use Rattle.large_arrays.proofs.law.large_stays_law.Goals as goal
 
 pub returns : goal.returns

@@ -1,4 +1,4 @@
-use Rattle.large_arrays.proofs.ValidEdits.{created-valid, inserted-valid, set-valid, deleted-valid}
+use Rattle.geos_model.proofs.ValidEdits.{created-valid, inserted-valid, set-valid, deleted-valid}
 use Rattle.large_arrays.proofs.law.large_validity_law.Goals as goal
 
 pub returns : goal.returns

@@ -1,6 +1,6 @@
-use Rattle.large_arrays.proofs.SpreadElements.{respread-elements}
-use Rattle.large_arrays.proofs.SpreadCount.{respread-few, respread-fewer}
-use Rattle.large_arrays.proofs.SpreadStays.{respread-spread}
+use Rattle.geos_model.proofs.SpreadElements.{respread-elements}
+use Rattle.geos_model.proofs.SpreadCount.{respread-few, respread-fewer}
+use Rattle.geos_model.proofs.SpreadStays.{respread-spread}
 use Rattle.large_arrays.proofs.law.spread_law.Goals as goal
 
 pub returns : goal.returns

@@ -1,6 +1,6 @@
 use Rattle.std.proofs.Common.{◌≡◌, None}
 use Rattle.geos_model.specs.declared.fault.Fault.TheVariants.{BadChain}
-use Rattle.large_arrays.specs.Layout.{branch_of}
+use Rattle.geos_model.specs.LargeLayout.{branch_of}
 use Rattle.large_arrays.proofs.LoadedBranches.{branch-short}
 use Rattle.large_arrays.proofs.loading.loaded_branch.Goals as goal
 

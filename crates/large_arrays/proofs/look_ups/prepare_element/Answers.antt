@@ -5,7 +5,7 @@ use Rattle.geos_model.specs.declared.fault.Fault.{Fault}
 use Rattle.vm_blocks.specs.Keeping.{IsEnvironmentFault}
 use Rattle.vm_blocks.proofs.KeepingLaws.{keeps-trans}
 use Rattle.vm_chains.proofs.Loading.{carried, carried_so, still_room}
-use Rattle.large_arrays.specs.Layout.{Root, total_count}
+use Rattle.geos_model.specs.LargeLayout.{Root, total_count}
 use Rattle.large_arrays.specs.LargeLookUps.{IsElementSpot}
 use Rattle.large_arrays.proofs.ElementAnswers.{root-before, get-past, get-same, IsFoundSpot, spot-before, answered, placed-refusals, branch-missed, at-end, stops-end, stops-refusal}
 use Rattle.large_arrays.proofs.look_ups.prepare_element.Goals as goal

@@ -3,13 +3,13 @@ use Rattle.vm_chains.proofs.Loading.{carried}
 use Rattle.vm_chains.specs.Walking.{Stops}
 use Rattle.geos_model.specs.declared.fault.Fault.{Fault}
 use Rattle.geos_model.specs.declared.fault.Fault.TheVariants.{Memory}
-use Rattle.large_arrays.specs.Blocks.{root_at}
+use Rattle.geos_model.specs.LargeBlocks.{root_at}
 use Rattle.large_arrays.specs.Bodies.{bytes_of_bodies}
 use Rattle.large_arrays.specs.Middle.{are_there, run_branches}
-use Rattle.large_arrays.specs.Pieces.{BranchPiece}
+use Rattle.geos_model.specs.Pieces.{BranchPiece}
 use Rattle.large_arrays.specs.RunReading.{tail_room}
 use Rattle.large_arrays.specs.SizedElements.{SizedElements}
-use Rattle.large_arrays.specs.Spread.{packed_from, with_last}
+use Rattle.geos_model.specs.Spread.{packed_from, with_last}
 use Rattle.large_arrays.proofs.SpotRuns.{run-is}
 use Rattle.large_arrays.proofs.MiddleRuns.{all-there, is-middle, one-missing}
 use Rattle.large_arrays.proofs.middle.middle_of.Goals as goal

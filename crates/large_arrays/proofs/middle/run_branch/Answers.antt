@@ -1,6 +1,6 @@
 use Rattle.std.proofs.Common.{◌≡◌, ◌∙◌, ◌<◌, ℕ, List, None, Some, length, sym, ap, subst, arith}
 use Rattle.std.proofs.lemmas.Result.{MatchResult-weaker}
-use Rattle.large_arrays.specs.Layout.{branch_of}
+use Rattle.geos_model.specs.LargeLayout.{branch_of}
 use Rattle.large_arrays.specs.Middle.{run_links}
 use Rattle.large_arrays.specs.RunReading.{run_count}
 use Rattle.large_arrays.specs.declared.spot.BranchLink.{BranchLink}

@@ -13,7 +13,7 @@ use Rattle.large_arrays.specs.OverwritingPlans.{AreBranchesWritten}
 use Rattle.large_arrays.specs.Spots.{counts_of, link_handles}
 use Rattle.large_arrays.specs.declared.spot.BranchLink.{BranchLink}
 use Rattle.large_arrays.proofs.OverwritingAnswers.{run-answered, run-enough, run-twice}
-use Rattle.large_arrays.proofs.OverwrittenPieces.{sum}
+use Rattle.geos_model.proofs.OverwrittenPieces.{sum}
 use Rattle.large_arrays.proofs.RunSpots.{has-links, run-same}
 use Rattle.large_arrays.proofs.SpotRuns.{run-is}
 use Rattle.large_arrays.proofs.overwriting.plan_overwriting.Goals as goal

@@ -2,7 +2,7 @@ use Rattle.std.proofs.Common.{◌≡◌, ◌∙◌, ◌+◌, ◌-◌, ◌++◌, 
 use Rattle.std.specs.List.{splice}
 use Rattle.chunk_edits.specs.Patching.{PatchPiece, Keep, Put, PatchLeads}
 use Rattle.chunk_arrays.proofs.PlaceLemmas.{place-within, place-step}
-use Rattle.large_arrays.specs.Layout.{branch_bytes}
+use Rattle.geos_model.specs.LargeLayout.{branch_bytes}
 use Rattle.large_arrays.proofs.WrittenBranches.{array-patch, branch-long, new-short, written-long}
 use Rattle.large_arrays.proofs.overwriting.run_patch.Goals as goal
 

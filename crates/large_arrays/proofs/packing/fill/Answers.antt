@@ -1,5 +1,5 @@
 use Rattle.std.proofs.Common.{◌-◌, ℕ, ap, ◌∙◌, arith}
-use Rattle.large_arrays.specs.Pieces.{branch_room}
+use Rattle.geos_model.specs.Pieces.{branch_room}
 use Rattle.large_arrays.specs.SizedElements.{SizedElements, with_behind}
 use Rattle.large_arrays.proofs.PackingLemmas.{filled}
 use Rattle.large_arrays.proofs.packing.fill.Goals as goal

@@ -1,6 +1,6 @@
 use Rattle.std.proofs.Common.{◌≡◌, ◌≤◌, ◌++◌, ◌∷◌, [], ℕ, true, List, length, sym, ap, ◌∙◌, arith}
 use Rattle.geos_model.proofs.Arrays.{joined}
-use Rattle.large_arrays.specs.Pieces.{branch_room, each_fits}
+use Rattle.geos_model.specs.Pieces.{branch_room, each_fits}
 use Rattle.large_arrays.specs.SizedElements.{SizedElements}
 use Rattle.large_arrays.specs.ElementLengths.{kept_lengths}
 use Rattle.large_arrays.proofs.NewElementsLemmas.{single-length}

@@ -4,12 +4,12 @@ use Rattle.std.proofs.lemmas.List.{get_or-map, get_or_default, length-map}
 use Rattle.std.specs.List.{All, AllZip, Contains}
 use Rattle.geos_model.specs.Document.{Document, is_live, is_raw, raw_bytes_of}
 use Rattle.document_file.proofs.ResultLemmas.{on_ok_more}
-use Rattle.large_arrays.specs.Layout.{branch_bytes}
+use Rattle.geos_model.specs.LargeLayout.{branch_bytes}
 use Rattle.large_arrays.specs.ChangePlans.{ArePlanned, ArePlannedByHandle}
 use Rattle.large_arrays.specs.Gathering.{HasOldBody}
 use Rattle.large_arrays.specs.HandleLists.{old_handles}
 use Rattle.large_arrays.specs.declared.handles.OldBranch.{OldBranch}
-use Rattle.large_arrays.proofs.Pairs.{pairs-at}
+use Rattle.geos_model.proofs.Pairs.{pairs-at}
 use Rattle.large_arrays.proofs.piece_plans.plan_piece.Goals as goal
 
 abbrev no_branch : OldBranch

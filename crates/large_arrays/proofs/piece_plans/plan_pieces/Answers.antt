@@ -4,8 +4,8 @@ use Rattle.std.proofs.lemmas.List.Elements.{Contains-get_or}
 use Rattle.std.specs.List.{zip}
 use Rattle.geos_model.specs.Document.{Document}
 use Rattle.geos_model.specs.declared.handle.VmHandle.{VmHandle}
-use Rattle.large_arrays.specs.Pieces.{BranchPiece}
-use Rattle.large_arrays.specs.Layout.{branch_bytes}
+use Rattle.geos_model.specs.Pieces.{BranchPiece}
+use Rattle.geos_model.specs.LargeLayout.{branch_bytes}
 use Rattle.large_arrays.specs.SizedElements.{SizedElements}
 use Rattle.vm_chains.specs.Numbers.{numbers}
 use Rattle.large_arrays.specs.HandleLists.{old_handles}

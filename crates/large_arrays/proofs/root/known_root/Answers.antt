@@ -1,7 +1,7 @@
 use Rattle.std.proofs.Common.{◌≡◌, ◌∙◌, ◌≤◌, ℕ, List, true, Option, Some, None, is_some, refl, arith, length}
 use Rattle.geos_model.specs.Heap.{capacity}
 use Rattle.chunk_arrays.specs.Parts.{AreByteValues}
-use Rattle.large_arrays.specs.Layout.{Root, root_of}
+use Rattle.geos_model.specs.LargeLayout.{Root, root_of}
 use Rattle.large_arrays.specs.RootParts.{HasRoot}
 use Rattle.large_arrays.proofs.RootLemmas.{has-parts, root_of-parts}
 use Rattle.large_arrays.proofs.root.known_root.Goals as goal

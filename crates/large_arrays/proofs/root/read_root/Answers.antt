@@ -2,7 +2,7 @@ use Rattle.std.proofs.Common.{◌≡◌, ◌∙◌, ◌+◌, ◌*◌, ℕ, List,
 use Rattle.std.specs.List.{range_with_len}
 use Rattle.geos_model.specs.Words.{word_at}
 use Rattle.chunk_arrays.specs.Parts.{AreByteValues}
-use Rattle.large_arrays.specs.Layout.{root_read, total_count}
+use Rattle.geos_model.specs.LargeLayout.{root_read, total_count}
 use Rattle.large_arrays.specs.RootParts.{HasRoot}
 use Rattle.large_arrays.proofs.RootLemmas.{root_of-parts, no_root}
 use Rattle.large_arrays.proofs.root.read_root.Goals as goal

@@ -3,10 +3,10 @@ use Rattle.geos_model.specs.declared.fault.Fault.TheVariants.{Memory}
 use Rattle.vm_blocks.proofs.KeepingLaws.{lacks-memory}
 use Rattle.vm_chains.specs.Numbers.{numbers}
 use Rattle.vm_chains.proofs.Loading.{carried_so}
-use Rattle.large_arrays.specs.Layout.{Root, root_bytes}
+use Rattle.geos_model.specs.LargeLayout.{Root, root_bytes}
 use Rattle.large_arrays.specs.ChangePlans.{ArePlanned, ArePlannedByHandle}
 use Rattle.large_arrays.specs.WindowPlans.{gathered_root}
-use Rattle.large_arrays.proofs.Layouts.{raw-live}
+use Rattle.geos_model.proofs.Layouts.{raw-live}
 use Rattle.large_arrays.proofs.PlannedRoots.{root-lacks, was-root}
 use Rattle.large_arrays.proofs.root_plan.plan_root.Goals as goal
 

@@ -3,8 +3,8 @@ use Rattle.std.proofs.lemmas.List.{length-map}
 use Rattle.geos_model.specs.Heap.{capacity}
 use Rattle.geos_model.specs.declared.handle.VmHandle.{VmHandle}
 use Rattle.vm_chains.specs.Numbers.{numbers}
-use Rattle.large_arrays.specs.Layout.{Root}
-use Rattle.large_arrays.specs.Pieces.{BranchPiece}
+use Rattle.geos_model.specs.LargeLayout.{Root}
+use Rattle.geos_model.specs.Pieces.{BranchPiece}
 use Rattle.large_arrays.proofs.PlannedRoots.{replaced-short}
 use Rattle.large_arrays.proofs.root_plan.replaced_bytes.Goals as goal
 

@@ -6,7 +6,7 @@ use Rattle.vm_blocks.specs.Keeping.{IsEnvironmentFault}
 use Rattle.vm_blocks.proofs.KeepingLaws.{keeps-refl, keeps-same, keeps-trans, lacks-later}
 use Rattle.vm_chains.specs.Walking.{Stops}
 use Rattle.vm_chains.proofs.Loading.{carried, carried_so, still_room}
-use Rattle.large_arrays.specs.Pieces.{elements_in_pieces}
+use Rattle.geos_model.specs.Pieces.{elements_in_pieces}
 use Rattle.large_arrays.specs.LargeRuns.{are_branches_under, pieces_under, run_under}
 use Rattle.large_arrays.specs.declared.spot.BranchLink.{BranchLink}
 use Rattle.large_arrays.proofs.CopiedRuns.{joined_bytes, counts-rest, counts-done, count-first, pieces-done, copied-step, appended-same, tested-step, tested-none, tested-done}

@@ -1,9 +1,9 @@
 use Rattle.std.proofs.Common.{◌≡◌, ◌≤◌, ◌<◌, ◌+◌, ◌++◌, true, length, take, drop, get_or}
-use Rattle.large_arrays.specs.Pieces.{elements_in_pieces}
+use Rattle.geos_model.specs.Pieces.{elements_in_pieces}
 use Rattle.large_arrays.specs.Spots.{counts_of}
 use Rattle.large_arrays.specs.LargeRuns.{are_branches_under, pieces_under, run_under}
 use Rattle.large_arrays.proofs.CopiedRuns.{joined_bytes}
-use Rattle.large_arrays.proofs.OverwrittenPieces.{sum}
+use Rattle.geos_model.proofs.OverwrittenPieces.{sum}
 use Rattle.vm_blocks.specs.Keeping.{KeepsBlocks, IsHonest}
 use Rattle.large_arrays.proofs.runs.copy_run.Given as goal
 

@@ -5,7 +5,7 @@ use Rattle.geos_model.specs.declared.fault.Fault.TheVariants.{Memory}
 use Rattle.vm_blocks.specs.Keeping.{IsEnvironmentFault}
 use Rattle.vm_blocks.proofs.KeepingLaws.{keeps-steady, keeps-trans, lacks-later, lacks-memory}
 use Rattle.vm_chains.proofs.Loading.{carried, carried_so, still_room}
-use Rattle.large_arrays.specs.Layout.{Root}
+use Rattle.geos_model.specs.LargeLayout.{Root}
 use Rattle.large_arrays.specs.Spots.{link_handles}
 use Rattle.large_arrays.specs.LargeRuns.{IsReadable, IsRunRefused, IsReadSpot}
 use Rattle.large_arrays.specs.declared.spot.BranchLink.{BranchLink}

@@ -12,15 +12,15 @@ use Rattle.vm_chains.specs.Numbers.{numbers}
 use Rattle.vm_chains.proofs.Loading.{carried, carried_so}
 use Rattle.vm_blocks.specs.Keeping.{IsEnvironmentFault}
 use Rattle.vm_blocks.specs.Preparing.{CanRemoveByHandle}
-use Rattle.large_arrays.specs.Layout.{root_bytes}
-use Rattle.large_arrays.specs.Window.{window}
-use Rattle.large_arrays.specs.Blocks.{root_at}
+use Rattle.geos_model.specs.LargeLayout.{root_bytes}
+use Rattle.geos_model.specs.LargeWindow.{window}
+use Rattle.geos_model.specs.LargeBlocks.{root_at}
 use Rattle.large_arrays.specs.HandleLists.{ShareNoHandle, old_handles}
 use Rattle.large_arrays.specs.ChangePlans.{ArePlanned, ArePlannedByHandle, piece_bodies}
 use Rattle.large_arrays.specs.Gathering.{AreGathered, HasOldBody}
 use Rattle.large_arrays.specs.WindowPlans.{AreGone, AreHomes, ArePieceHandles, HasGatheredRoot, RefusesWindow, gathered_root, lacks_places}
 use Rattle.large_arrays.specs.declared.handles.OldBranch.{OldBranch}
-use Rattle.large_arrays.proofs.Layouts.{raw-live}
+use Rattle.geos_model.proofs.Layouts.{raw-live}
 use Rattle.large_arrays.proofs.PieceBlocks.{handles-few, handles-many, piece-homes, freed-apart, freed-gone, root-untouched, root-apart, homes-drift, gone-drift, olds-drift}
 use Rattle.large_arrays.proofs.PlannedBlocks.{among, freed-so, refuses-map, refuses-places, window-planned}
 use Rattle.large_arrays.proofs.window_plan.plan_window.Goals as goal

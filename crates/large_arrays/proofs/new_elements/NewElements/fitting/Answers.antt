@@ -1,6 +1,6 @@
 use Rattle.std.proofs.Common.{◌≡◌, ◌≤◌, ◌<◌, ◌+◌, ◌/◌, ℕ, ◌==◌, false, min, length, take, sym, ap, ap₂, subst, ◌∙◌}
 use Rattle.std.proofs.lemmas.Bool.{ne_eqb}
-use Rattle.large_arrays.specs.Pieces.{piece_weight}
+use Rattle.geos_model.specs.Pieces.{piece_weight}
 use Rattle.large_arrays.specs.SizedElements.{SizedElements}
 use Rattle.large_arrays.specs.NewElementsViewing.{seen_elements, HasNewElements}
 use Rattle.large_arrays.specs.declared.new_elements.NewElements.TheInside.{Inside}

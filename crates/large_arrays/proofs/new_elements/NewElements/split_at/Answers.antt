@@ -1,6 +1,6 @@
 use Rattle.std.proofs.Common.{◌≡◌, ◌≤◌, ◌-◌, ℕ, List, length, take, drop, sym, ap, ap₂, subst, arith}
 use Rattle.geos_model.proofs.Arrays.{joined}
-use Rattle.large_arrays.specs.Pieces.{BranchPiece}
+use Rattle.geos_model.specs.Pieces.{BranchPiece}
 use Rattle.large_arrays.specs.SizedElements.{SizedElements}
 use Rattle.large_arrays.specs.NewElementsViewing.{cut_new, seen_elements, HasNewElements}
 use Rattle.large_arrays.specs.declared.new_elements.NewElements.TheInside.{Inside}

@@ -1,5 +1,5 @@
 use Rattle.std.proofs.Common.{◌≡◌, ◌<◌, ◌++◌, ℕ, true, [], length, sym, subst, ◌∙◌}
-use Rattle.large_arrays.specs.Pieces.{BranchPiece, each_fits}
+use Rattle.geos_model.specs.Pieces.{BranchPiece, each_fits}
 use Rattle.large_arrays.specs.SizedElements.{SizedElements, SizedPieces}
 use Rattle.large_arrays.specs.Filling.{FillsPiece}
 use Rattle.large_arrays.specs.PiecesKeeping.{with_piece_behind}

@@ -1,6 +1,6 @@
 use Rattle.std.proofs.Common.{◌≡◌, ◌+◌, ◌*◌, ◌++◌, ℕ, List, [], length, sum, flat_map, ap, ◌∙◌, arith}
 use Rattle.geos_model.specs.Words.{word}
-use Rattle.large_arrays.specs.Layout.{branch_bytes}
+use Rattle.geos_model.specs.LargeLayout.{branch_bytes}
 use Rattle.large_arrays.specs.SizedElements.{SizedElements}
 use Rattle.large_arrays.specs.ElementLengths.{places_by}
 use Rattle.large_arrays.specs.PieceKeeping.{held_elements, KeepsElements}

@@ -1,6 +1,6 @@
 use Rattle.std.proofs.Common.{◌≡◌, ◌≤◌, ◌+◌, ◌++◌, ℕ, true, List, length, sym, ap, ap₂, ◌∙◌, arith}
 use Rattle.geos_model.proofs.Arrays.{joined}
-use Rattle.large_arrays.specs.Pieces.{piece_weight, branch_room}
+use Rattle.geos_model.specs.Pieces.{piece_weight, branch_room}
 use Rattle.large_arrays.specs.SizedElements.{SizedElements, have_size}
 use Rattle.large_arrays.specs.ElementLengths.{kept_lengths}
 use Rattle.large_arrays.specs.PieceKeeping.{held_elements, KeepsElements}

@@ -2,7 +2,7 @@ use Rattle.std.proofs.Common.{◌≡◌, ◌≤◌, ◌+◌, ◌-◌, ◌++◌, 
 use Rattle.std.proofs.lemmas.List.{length-take-le}
 use Rattle.geos_model.specs.Array.{Array, is_even}
 use Rattle.geos_model.proofs.Arrays.{joined}
-use Rattle.large_arrays.specs.Pieces.{BranchPiece, piece_weight, branch_room}
+use Rattle.geos_model.specs.Pieces.{BranchPiece, piece_weight, branch_room}
 use Rattle.large_arrays.specs.SizedElements.{SizedElements, have_size}
 use Rattle.large_arrays.specs.ElementLengths.{kept_lengths}
 use Rattle.large_arrays.specs.PieceKeeping.{held_elements, KeepsElements}

@@ -1,5 +1,5 @@
 use Rattle.std.proofs.Common.{◌≡◌, ◌≤◌, ◌+◌, ◌*◌, length, ap, arith, leb-true}
-use Rattle.large_arrays.specs.Pieces.{piece_weight, branch_room}
+use Rattle.geos_model.specs.Pieces.{piece_weight, branch_room}
 use Rattle.large_arrays.specs.PieceKeeping.{AreHeldElements}
 use Rattle.large_arrays.specs.SizedElements.{SizedElements}
 use Rattle.large_arrays.specs.declared.piece.Piece.TheInside.{Inside}

@@ -1,7 +1,7 @@
 use Rattle.std.proofs.Common.{◌≡◌, ◌∙◌, ◌+◌, ◌*◌, ℕ, List, sym, ap, length, get_or, zero-add, arith}
 use Rattle.std.proofs.lemmas.List.FromFn.{get_or-map-range_with_len}
 use Rattle.geos_model.specs.Words.{word_at}
-use Rattle.large_arrays.specs.Layout.{Root}
+use Rattle.geos_model.specs.LargeLayout.{Root}
 use Rattle.large_arrays.specs.RootParts.{branches_in}
 use Rattle.large_arrays.proofs.RootLemmas.{length-branches_read}
 use Rattle.large_arrays.proofs.root.RootView.branch.Goals as goal

@@ -1,6 +1,6 @@
 use Rattle.std.proofs.Common.{◌∙◌, sym, ap, length, arith}
 use Rattle.chunk_arrays.proofs.CutLemmas.{word_at-lt}
-use Rattle.large_arrays.specs.Layout.{Root}
+use Rattle.geos_model.specs.LargeLayout.{Root}
 use Rattle.large_arrays.proofs.RootLemmas.{length-counts_read, length-branches_read}
 use Rattle.large_arrays.proofs.root.RootView.branches.Goals as goal
 

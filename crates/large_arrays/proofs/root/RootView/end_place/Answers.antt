@@ -1,8 +1,8 @@
 use Rattle.std.proofs.Common.{◌≡◌, ◌∙◌, ◌+◌, ◌-◌, ℕ, List, sym, ap, length, get_or, drop, arith}
 use Rattle.chunk_arrays.proofs.CutLemmas.{word_at-lt}
-use Rattle.large_arrays.specs.Layout.{Root}
+use Rattle.geos_model.specs.LargeLayout.{Root}
 use Rattle.large_arrays.specs.RootParts.{branches_in}
-use Rattle.large_arrays.specs.Spread.{end_place}
+use Rattle.geos_model.specs.Spread.{end_place}
 use Rattle.large_arrays.proofs.RootLemmas.{length-counts_read, length-branches_read}
 use Rattle.large_arrays.proofs.PlaceSteps.{shifted, end-next, end-last}
 use Rattle.large_arrays.proofs.root.RootView.end_place.Goals as goal

@@ -1,5 +1,5 @@
 use Rattle.std.proofs.Common.{◌≡◌, drop}
-use Rattle.large_arrays.specs.Spread.{start_place}
+use Rattle.geos_model.specs.Spread.{start_place}
 use Rattle.large_arrays.proofs.PlaceSteps.{shifted}
 use Rattle.large_arrays.proofs.root.RootView.start_place.Given as goal
 

@@ -1,6 +1,6 @@
 use Rattle.std.proofs.Common.{◌≡◌, ◌∙◌, ◌+◌, ℕ, drop, sum_by, sym, ap, take, arith}
 use Rattle.std.proofs.lemmas.List.Sums.{sum_by-take-drop}
-use Rattle.large_arrays.specs.Layout.{Root, total_count}
+use Rattle.geos_model.specs.LargeLayout.{Root, total_count}
 use Rattle.large_arrays.proofs.RootRuns.{few_without}
 use Rattle.large_arrays.proofs.root.RootView.total_without.Goals as goal
 
