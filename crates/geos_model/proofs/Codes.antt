@@ -38,7 +38,7 @@ steps_code = coded× (coded_list step_code) (coded_list (coded_list coded_ℕ))
 
 abbrev pub group_code : Coded OpenGroup
 group_code =
-    code_by (Document × (ℕ × (ℕ × List Place))) (coded× document_code (coded× coded_ℕ (coded× coded_ℕ places_code))) (λ g. (g.before, (g.edits, (g.cost, g.places)))) (λ p. record { before = p.0; edits = p.1.0; cost = p.1.1.0; places = p.1.1.1 }) (λ _. refl)
+    code_by (Document × (Bool × (ℕ × List Place))) (coded× document_code (coded× coded_bool (coded× coded_ℕ places_code))) (λ g. (g.before, (g.edited, (g.cost, g.places)))) (λ p. record { before = p.0; edited = p.1.0; cost = p.1.1.0; places = p.1.1.1 }) (λ _. refl)
 
 -- a position by what leads to it, nothing where no steps do, and how many steps
 abbrev pub position_code : Coded Position

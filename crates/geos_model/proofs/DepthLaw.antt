@@ -20,7 +20,7 @@ use Rattle.geos_model.specs.Places.{places_of}
 use Rattle.geos_model.specs.declared.place.Place.{Place}
 use Rattle.geos_model.proofs.Refusals.{none_applies, or_none}
 use Rattle.geos_model.proofs.Undoing.{OnDone, on_done, refused, bad_line-refused, answered, none_refuses, not_in_group}
-use Rattle.geos_model.proofs.UndoLaw.{Past, outside, back, edits_of, Counted, counted-first, counted-same, counted-in, counted-empty, even-on, IsBack, undo-back}
+use Rattle.geos_model.proofs.UndoLaw.{Past, outside, back, edited_in, Counted, counted-first, counted-same, counted-in, counted-empty, even-on, IsBack, undo-back}
 
 -- What is left of a past: the document, and the newest steps; all of them without a limit where nothing is forgotten.
 record Keeps (limit : Option ℕ) (forgets : Bool) (start now : Past) : Type 0 where
@@ -102,8 +102,8 @@ deeper : (limit : Option ℕ) (start : Past) (t : Tally) (m : Machine) (s : Undo
     → m.group ≡ None → m.undo_limit ≡ limit → t.group ≡ None → iterate back t.steps (s.document, past) ≡ start
     → m.past ≡ limited limit (s ∷ past) → IfSome (one_deeper limit t) (λ u. Deep limit forgets start u m)
 deeper None start t m s past forgets none is free goes made = deep-counted None forgets start (record t { steps = t.steps + 1 }) m (record {
-  group = free ∙ ap edits_of (sym none);
-  whole = subst (λ group. IfSome group (λ g. g.edits ≡ 0 → m.document ≡ g.before)) (sym none) tt;
+  group = free ∙ ap edited_in (sym none);
+  whole = subst (λ group. IfSome group (λ g. g.edited ≡ false → m.document ≡ g.before)) (sym none) tt;
   bound = is;
   goes = rw (none, made, add_one t.steps) goes;
 })
@@ -121,8 +121,8 @@ deeper (Some most) start t m s past forgets none is free goes made = elim (cases
         now = (start.0, take (most - suc t.steps) start.1);
         keeps = keeps-some (Some most) forgets start (most - suc t.steps) (λ unlimited none. cc unlimited);
         counted = record {
-          group = free ∙ ap edits_of (sym none);
-          whole = subst (λ group. IfSome group (λ g. g.edits ≡ 0 → m.document ≡ g.before)) (sym none) tt;
+          group = free ∙ ap edited_in (sym none);
+          whole = subst (λ group. IfSome group (λ g. g.edited ≡ false → m.document ≡ g.before)) (sym none) tt;
           bound = is;
           goes = rw (none, made, one) there;
         };
@@ -133,27 +133,27 @@ deeper (Some most) start t m s past forgets none is free goes made = elim (cases
 
 -- an edit, in a group and in none
 edit-deep : (limit : Option ℕ) (start : Past) (t : Tally) (m : Machine) (group : Option OpenGroup) (kind : Kind) (n : ℕ) (ps : List Place) (d : Document) (forgets : Bool)
-    → group ≡ m.group → t.group ≡ edits_of group → Counted limit start t m → IfSome (depth_edited limit t.group t) (λ u. Deep limit forgets start u (recorded group kind n ps d m))
+    → group ≡ m.group → t.group ≡ edited_in group → Counted limit start t m → IfSome (depth_edited limit t.group t) (λ u. Deep limit forgets start u (recorded group kind n ps d m))
 edit-deep limit start t m None kind n ps d forgets is same counted =
     subst (λ o. IfSome (depth_edited limit o t) (λ u. Deep limit forgets start u (recorded None kind n ps d m))) (sym same)
     (deeper limit start t (recorded None kind n ps d m) (record { kind = kind; cost = n; document = m.document; places = ps }) m.past forgets (sym is) counted.bound same
     (rw (← is) at counted.goes) (ap (λ (x : Option ℕ). limited x (record { kind = kind; cost = n; document = m.document; places = ps } ∷ m.past)) counted.bound))
 edit-deep limit start t m (Some g) kind n ps d forgets is same counted =
     subst (λ o. IfSome (depth_edited limit o t) (λ u. Deep limit forgets start u (recorded (Some g) kind n ps d m))) (sym same)
-    (deep-counted limit forgets start (record t { group = Some (g.edits + 1) }) (recorded (Some g) kind n ps d m) (counted-in start t m g kind n ps d is limit counted))
+    (deep-counted limit forgets start (record t { group = Some true }) (recorded (Some g) kind n ps d m) (counted-in start t m g kind n ps d is limit counted))
 
 -- a group that ends
-end-deep : (limit : Option ℕ) (start : Past) (t : Tally) (m : Machine) (group : Option OpenGroup) (forgets : Bool) → group ≡ m.group → t.group ≡ edits_of group → Counted limit start t m
+end-deep : (limit : Option ℕ) (start : Past) (t : Tally) (m : Machine) (group : Option OpenGroup) (forgets : Bool) → group ≡ m.group → t.group ≡ edited_in group → Counted limit start t m
     → OnDone (λ reply new. IfSome (depth_ended limit t.group t) (λ u. Deep limit forgets start u new)) (option_map (λ g. (Accepted, ended g m)) group)
 end-deep limit start t m None forgets is same counted = tt
-end-deep limit start t m (Some g) forgets is same counted = subst (λ o. IfSome (depth_ended limit o t) (λ u. Deep limit forgets start u (ended g m))) (sym same) (elim (cases_Bool (g.edits == 0)) [
-  | inl none ↦ subst (λ b. IfSome (if b then Some (record t { group = None }) else one_deeper limit (record t { group = None })) (λ u. Deep limit forgets start u (ended g m))) (sym none)
-      (deep-counted limit forgets start (record t { group = None }) (ended g m) (counted-empty limit start t m g is none counted))
-  | inr some ↦
+end-deep limit start t m (Some g) forgets is same counted = subst (λ o. IfSome (depth_ended limit o t) (λ u. Deep limit forgets start u (ended g m))) (sym same) (elim (cases_Bool g.edited) [
+  | inl some ↦
       let s : UndoStep = record { kind = Group; cost = g.cost; document = g.before; places = g.places } in
-      subst (λ b. IfSome (if b then Some (record t { group = None }) else one_deeper limit (record t { group = None })) (λ u. Deep limit forgets start u (ended g m))) (sym some)
+      subst (λ b. IfSome (if b then one_deeper limit (record t { group = None }) else Some (record t { group = None })) (λ u. Deep limit forgets start u (ended g m))) (sym some)
       (deeper limit start (record t { group = None }) (ended g m) s m.past forgets refl counted.bound refl
       (rw (← is) at counted.goes) (rw some (ap (λ (x : Option ℕ). limited x (s ∷ m.past)) counted.bound)))
+  | inr none ↦ subst (λ b. IfSome (if b then one_deeper limit (record t { group = None }) else Some (record t { group = None })) (λ u. Deep limit forgets start u (ended g m))) (sym none)
+      (deep-counted limit forgets start (record t { group = None }) (ended g m) (counted-empty limit start t m g is none counted))
 ])
 
 -- an undo
@@ -166,8 +166,8 @@ undo-deep limit forgets start t old new undo counted = elim (cases_Bool (t.steps
       let is : t.steps ≡ suc k = by_steps t.steps some in
       let goes : iterate back k (outside new) ≡ start = ap (iterate back k) undo.goes ∙ sym (ap (λ (n : ℕ). iterate back n (outside old)) is) ∙ counted.goes in
       rw some (deep-counted limit forgets start (record t { steps = k }) new (record {
-        group = counted.group ∙ ap edits_of (undo.was ∙ sym undo.stays);
-        whole = subst (λ group. IfSome group (λ g. g.edits ≡ 0 → new.document ≡ g.before)) (sym undo.stays) tt;
+        group = counted.group ∙ ap edited_in (undo.was ∙ sym undo.stays);
+        whole = subst (λ group. IfSome group (λ g. g.edited ≡ false → new.document ≡ g.before)) (sym undo.stays) tt;
         bound = undo.limit ∙ counted.bound;
         goes = goes;
       }))
@@ -191,8 +191,8 @@ redo-deep limit forgets start t m (s ∷ future) none counted =
       goes = rw one (rw none at counted.goes);
     })
   where
-    counted-whole : IfSome m.group (λ g. g.edits ≡ 0 → s.document ≡ g.before)
-    counted-whole = subst (λ group. IfSome group (λ g. g.edits ≡ 0 → s.document ≡ g.before)) (sym none) tt
+    counted-whole : IfSome m.group (λ g. g.edited ≡ false → s.document ≡ g.before)
+    counted-whole = subst (λ group. IfSome group (λ g. g.edited ≡ false → s.document ≡ g.before)) (sym none) tt
 
 -- a join
 join-deep : (limit : Option ℕ) (forgets : Bool) (start : Past) (t : Tally) (m : Machine) (n : ℕ) (past : List UndoStep) → t.steps ≡ n → m.past ≡ past → m.group ≡ None

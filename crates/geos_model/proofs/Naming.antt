@@ -1,5 +1,5 @@
 -- A name goes where its step goes.
-use Rattle.std.proofs.Common.{◌≡◌, ◌+◌, ◌==◌, ◌++◌, ℕ, zero, suc, List, [], ◌∷◌, length, take, drop, Bool, false, if◌then◌else◌, Option, Some, None, refl, sym, ap, subst, ◌∙◌, inl, inr, arith}
+use Rattle.std.proofs.Common.{◌≡◌, ◌==◌, ◌++◌, ℕ, zero, suc, List, [], ◌∷◌, length, take, drop, Bool, false, if◌then◌else◌, Option, Some, None, refl, sym, ap, subst, ◌∙◌, inl, inr, arith}
 use Rattle.std.proofs.lemmas.Bool.{cases_Bool}
 use Rattle.std.specs.Option.{option_map}
 use Rattle.geos_model.specs.Refusal.{first_refusal}
@@ -61,11 +61,11 @@ ended-named : (m : Machine) (group : Option OpenGroup) → AreNamed m → OnDone
 ended-named m None named = tt
 ended-named m (Some g) named =
     let step : UndoStep = record { kind = Group; cost = g.cost; document = g.before; places = g.places } in
-    elim (cases_Bool (g.edits == 0)) [
-      | inl none ↦ record { past = rw none named.past; future = named.future }
-      | inr some ↦
+    elim (cases_Bool g.edited) [
+      | inl some ↦
           let more = limited-many m.undo_limit ([] ∷ m.past_names) (step ∷ m.past) (one_more [] m.past_names step m.past named.past) in
           record { past = rw some more; future = named.future }
+      | inr none ↦ record { past = rw none named.past; future = named.future }
     ]
 
 abandoned-named : (m : Machine) (group : Option OpenGroup) → AreNamed m → OnDone HasNames (option_map (λ g. (Accepted, abandoned g m)) group)

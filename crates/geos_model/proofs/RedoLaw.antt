@@ -23,7 +23,7 @@ lists_of m = record { document = m.document; past = m.past; future = m.future }
 
 -- a group that is empty, with this document
 record IsEmpty (d : Document) (g : OpenGroup) : Type 0 where
-  edits : g.edits ≡ 0
+  edited : g.edited ≡ false
   before : g.before ≡ d
 
 -- the group that is open is empty, if one is
@@ -45,7 +45,7 @@ at-leaves m (Some (reply, new)) bare at = record { same = ap lists_of at; bare =
 ended-leaves : (m : Machine) (group : Option OpenGroup) → IfSome group (IsEmpty m.document)
     → OnDone (λ reply new. Leaves m new) (option_map (λ g. (Accepted, ended g m)) group)
 ended-leaves m None empty = tt
-ended-leaves m (Some g) empty = record { same = rw empty.edits refl; bare = tt }
+ended-leaves m (Some g) empty = record { same = rw empty.edited refl; bare = tt }
 
 abandoned-leaves : (m : Machine) (group : Option OpenGroup) → IfSome group (IsEmpty m.document)
     → OnDone (λ reply new. Leaves m new) (option_map (λ g. (Accepted, abandoned g m)) group)
@@ -60,7 +60,7 @@ done_by-leaves commands.Redo m h bare = absurd (cc h)
 done_by-leaves commands.Revert m h bare = absurd (cc h)
 done_by-leaves commands.Join m h bare = absurd (cc h)
 done_by-leaves (commands.Forget most) m h bare = absurd (cc h)
-done_by-leaves commands.Begin m h bare = record { same = refl; bare = record { edits = refl; before = refl } }
+done_by-leaves commands.Begin m h bare = record { same = refl; bare = record { edited = refl; before = refl } }
 done_by-leaves commands.End m h bare = ended-leaves m m.group bare
 done_by-leaves commands.Abandon m h bare = abandoned-leaves m m.group bare
 done_by-leaves commands.Update m h bare = record { same = refl; bare = bare }

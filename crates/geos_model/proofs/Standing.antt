@@ -1,6 +1,6 @@
 -- Where the machine says that the document is a committed one, it is.
-use Rattle.std.proofs.Common.{◌≡◌, ◌<◌, ◌≤◌, ◌==◌, ℕ, zero, suc, List, [], ◌∷◌, All, take, Bool, true, false, not, nat_le, Option, Some, None, IfSome, unwrap_or, refl, sym, ap, subst, ◌∙◌, inl, inr, arith, leb-true}
-use Rattle.std.proofs.lemmas.Bool.{cases_Bool, eqb-true, and_parts}
+use Rattle.std.proofs.Common.{◌≡◌, ◌<◌, ◌≤◌, ℕ, zero, suc, List, [], ◌∷◌, All, take, Bool, true, false, not, nat_le, Option, Some, None, IfSome, unwrap_or, refl, sym, ap, subst, ◌∙◌, inl, inr, arith, leb-true}
+use Rattle.std.proofs.lemmas.Bool.{cases_Bool, and_parts}
 use Rattle.std.specs.Option.{option_map, option_map_or}
 use Rattle.geos_model.specs.Refusal.{applies, first_refusal}
 use Rattle.geos_model.specs.Document.{Document}
@@ -8,7 +8,7 @@ use Rattle.geos_model.specs.Meaning.{effect}
 use Rattle.geos_model.specs.Cost.{cost}
 use Rattle.geos_model.specs.Position.{Position, Back, Ahead, Nowhere, is_here, position_after_step, position_stepped, position_within, position_in_group, position_after_undo, position_after_redo, position_after_join}
 use Rattle.geos_model.specs.Reply.{Reply, Accepted, NumberIs}
-use Rattle.geos_model.specs.Machine.{Machine, Request, UndoStep, OpenGroup, Call, Step, Run, IsValidMachine, IsValidGroup, is_empty_group, has_edits, is_committed, command_conditions, done_by, recorded, undone, redone, begun, ended, abandoned, kind_of, limited, after_join, joined_steps, after_forget, after_lock, after_name, after_unlock, after_update, after_save, after_save_as, after_revert, opened_machine, stands_as, may_give_up}
+use Rattle.geos_model.specs.Machine.{Machine, Request, UndoStep, OpenGroup, Call, Step, Run, IsValidMachine, IsValidGroup, has_edits, is_committed, command_conditions, done_by, recorded, undone, redone, begun, ended, abandoned, kind_of, limited, after_join, joined_steps, after_forget, after_lock, after_name, after_unlock, after_update, after_save, after_save_as, after_revert, opened_machine, stands_as, may_give_up}
 use Rattle.geos_model.specs.Undoing.{is_refused, is_revert}
 use Rattle.geos_model.specs.Saving.{is_save}
 use Rattle.geos_model.specs.Validity.{word_asked}
@@ -31,11 +31,11 @@ says-committed p m d valid stands says =
     let parts = and_parts (is_here p) (not (has_edits m)) says in
     by_position p parts.0 stands
   where
-    by_group : (group : Option OpenGroup) → IfSome group (λ g. IsValidGroup g m) → not (option_map_or (λ g. not (is_empty_group g)) group false) ≡ true → outside_group group m.document ≡ m.document
+    by_group : (group : Option OpenGroup) → IfSome group (λ g. IsValidGroup g m) → not (option_map_or (λ g. g.edited) group false) ≡ true → outside_group group m.document ≡ m.document
     by_group None valid none = refl
-    by_group (Some g) valid none = elim (cases_Bool (g.edits == 0)) [
-      | inl empty ↦ (valid.none (eqb-true g.edits 0 empty)).0
-      | inr some ↦ absurd (cc (rw some at none))
+    by_group (Some g) valid none = elim (cases_Bool g.edited) [
+      | inl some ↦ absurd (cc (rw some at none))
+      | inr empty ↦ (valid.none empty).0
     ]
 
     by_position : (q : Position) → is_here q ≡ true → StandsAt q m d → m.document ≡ d
@@ -197,13 +197,13 @@ end-right : (group : Option OpenGroup) (m : Machine) → group ≡ m.group → I
 end-right None m is valid right = tt
 end-right (Some g) m is valid right =
     let there : g.before ≡ outside_group m.group m.document = ap (λ (x : Option OpenGroup). outside_group x m.document) is in
-    elim (cases_Bool (g.edits == 0)) [
-      | inl none ↦
-          same-right m (ended g m) refl refl (rw none refl) (rw none refl) (sym (valid.none (eqb-true g.edits 0 none)).0 ∙ there) (rw none refl) refl right
-      | inr some ↦
+    elim (cases_Bool g.edited) [
+      | inl some ↦
           let s : UndoStep = record { kind = Group; cost = g.cost; document = g.before; places = g.places } in
           both-right m (ended g m) (position_stepped m.undo_limit) refl refl (rw some refl) (rw some refl)
           (λ p d stands. stepped-stands m.undo_limit p m (ended g m) d s (rw some refl) there stands) right
+      | inr none ↦
+          same-right m (ended g m) refl refl (rw none refl) (rw none refl) (sym (valid.none none).0 ∙ there) (rw none refl) refl right
     ]
 
 abandon-right : (group : Option OpenGroup) (m : Machine) → group ≡ m.group → AreRightPositions m → OnDone IsRight (option_map (λ g. (Accepted, abandoned g m)) group)
@@ -268,7 +268,7 @@ run-right old new (c ∷ cs) low valid right run =
 -- It says so.
 
 here-says : (m : Machine) → m.group ≡ None → is_committed (Back zero) m ≡ true
-here-says m none = ap (λ (g : Option OpenGroup). not (option_map_or (λ x. not (is_empty_group x)) g false)) none
+here-says m none = ap (λ (g : Option OpenGroup). not (option_map_or (λ x. x.edited) g false)) none
 
 update-says : (failed : Bool) (old new : Machine) (request : Request) (reply : Reply) → Step failed old request reply new → is_refused reply ≡ false → commits_update request ≡ true
     → is_as_updated new ≡ true

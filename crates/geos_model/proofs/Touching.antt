@@ -1,6 +1,6 @@
 -- What is told of each call is what it changes.
-use Rattle.std.proofs.Common.{◌≡◌, ◌≢◌, ◌⊎◌, ℕ, zero, suc, ◌==◌, ◌&&◌, List, [], ◌∷◌, take, length, nat_lt, Bool, true, false, not, Option, Some, None, refl, sym, ap, subst, ◌∙◌, inl, inr, arith}
-use Rattle.std.proofs.lemmas.Bool.{cases_Bool, eqb-true, eq-eqb, true≢false}
+use Rattle.std.proofs.Common.{◌≡◌, ◌⊎◌, ℕ, zero, suc, ◌==◌, ◌&&◌, List, [], ◌∷◌, take, length, nat_lt, Bool, true, false, not, Option, Some, None, refl, sym, ap, subst, ◌∙◌, inl, inr, arith}
+use Rattle.std.proofs.lemmas.Bool.{cases_Bool, true≢false}
 use Rattle.std.proofs.lemmas.Bool.Decides.{nat_tests}
 use Rattle.std.specs.Option.{option_map, option_map_or}
 use Rattle.geos_model.specs.Refusal.{first_refusal}
@@ -39,12 +39,12 @@ Ahead d (s ∷ ss) = Reaches s.places d s.document × Ahead s.document ss
 
 abbrev InGroup : Option OpenGroup → Document → Type 0
 InGroup None d = Unit {0}
-InGroup (Some g) d = Reaches g.places g.before d × (g.edits ≡ 0 → d ≡ g.before)
+InGroup (Some g) d = Reaches g.places g.before d × (g.edited ≡ false → d ≡ g.before)
 
 -- with an edit in the open group nothing is left to make again
 abbrev Left : Option OpenGroup → List UndoStep → Type 0
 Left None ss = Unit {0}
-Left (Some g) ss = g.edits ≢ 0 → ss ≡ []
+Left (Some g) ss = g.edited ≡ true → ss ≡ []
 
 record AreTold (m : Machine) : Type 0 where
   past : Behind (outside_group m.group m.document) m.past
@@ -99,7 +99,7 @@ edit-goes m e (Some g) kind n is none told =
       record {
         past = subst (λ (x : Option OpenGroup). Behind (outside_group x m.document) m.past) (sym is) told.past;
         future = tt;
-        group = (reaches-append g.places ps g.before m.document after held.0 (edit-reaches e m.document none), λ none. absurd (omega (arith, none)));
+        group = (reaches-append g.places ps g.before m.document after held.0 (edit-reaches e m.document none), λ none. absurd (cc none));
         left = λ some. refl;
       },
       reached ps m.document after (edit-reaches e m.document none),
@@ -151,9 +151,9 @@ end-goes m (Some g) is told =
     let step : UndoStep = record { kind = Group; cost = g.cost; document = g.before; places = g.places } in
     record {
       keeps = record {
-        past = elim (cases_Bool (g.edits == 0)) [
-          | inl none ↦ rw none (subst (λ (d : Document). Behind d m.past) (sym (held.1 (eqb-true g.edits 0 none))) line)
-          | inr some ↦ rw some (behind-limited m.undo_limit m.document (step ∷ m.past) (held.0, line))
+        past = elim (cases_Bool g.edited) [
+          | inl some ↦ rw some (behind-limited m.undo_limit m.document (step ∷ m.past) (held.0, line))
+          | inr none ↦ rw none (subst (λ (d : Document). Behind d m.past) (sym (held.1 none)) line)
         ];
         future = told.future;
         group = tt;
@@ -170,12 +170,11 @@ abandon-goes m (Some g) is told =
     record {
       keeps = record {
         past = subst (λ (x : Option OpenGroup). Behind (outside_group x m.document) m.past) (sym is) told.past;
-        future = elim (cases_Bool (g.edits == 0)) [
-          | inl none ↦ subst (λ (d : Document). Ahead d m.future) (held.1 (eqb-true g.edits 0 none)) told.future
-          | inr some ↦
-              let nothing : m.future ≡ [] =
-              (subst (λ (x : Option OpenGroup). Left x m.future) (sym is) told.left) (λ e. absurd (true≢false (sym (eq-eqb g.edits 0 e) ∙ some))) in
+        future = elim (cases_Bool g.edited) [
+          | inl some ↦
+              let nothing : m.future ≡ [] = (subst (λ (x : Option OpenGroup). Left x m.future) (sym is) told.left) some in
               subst (λ (ss : List UndoStep). Ahead g.before ss) (sym nothing) tt
+          | inr none ↦ subst (λ (d : Document). Ahead d m.future) (held.1 none) told.future
         ];
         group = tt;
         left = tt;
@@ -211,7 +210,7 @@ done-goes commands.Begin m none told =
         past = subst (λ (g : Option OpenGroup). Behind (outside_group g m.document) m.past) shut told.past;
         future = told.future;
         group = (refl, λ e. refl);
-        left = λ some. absurd (some refl);
+        left = λ some. absurd (cc some);
       };
       told = (refl, refl);
     }

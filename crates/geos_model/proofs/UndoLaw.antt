@@ -1,6 +1,6 @@
 -- Undoing as many steps as calls made, with groups among the calls.
-use Rattle.std.proofs.Common.{◌||◌, ◌≡◌, ◌≤◌, ℕ, ◌==◌, List, [], ◌∷◌, Bool, true, false, Option, Some, None, IfSome, refl, sym, ap, subst, ◌∙◌, inl, inr, arith, add-one, ◌+◌, if◌then◌else◌}
-use Rattle.std.proofs.lemmas.Bool.{cases_Bool, eqb-true}
+use Rattle.std.proofs.Common.{◌||◌, ◌≡◌, ◌≤◌, ℕ, List, [], ◌∷◌, Bool, true, false, Option, Some, None, IfSome, refl, sym, ap, subst, ◌∙◌, inl, inr, arith, add-one, ◌+◌, if◌then◌else◌}
+use Rattle.std.proofs.lemmas.Bool.{cases_Bool}
 use Rattle.std.specs.Option.{option_map}
 use Rattle.std.specs.Fn.{iterate}
 use Rattle.geos_model.specs.Refusal.{first_refusal}
@@ -33,23 +33,23 @@ abbrev pub back : Past → Past
 back (d, []) = (d, [])
 back (d, s ∷ past) = (s.document, past)
 
--- how many edits the group has that is open
-abbrev pub edits_of : Option OpenGroup → Option ℕ
-edits_of group = option_map (λ g. g.edits) group
+-- whether the group that is open has edits
+abbrev pub edited_in : Option OpenGroup → Option Bool
+edited_in group = option_map (λ g. g.edited) group
 
 -- Calls with this tally came to the machine with this limit from this past: undoing the steps that they made goes back there. A group
 -- without an edit has left the document.
 pub record Counted (limit : Option ℕ) (start : Past) (t : Tally) (m : Machine) : Type 0 where
-  pub group : t.group ≡ edits_of m.group
-  pub whole : IfSome m.group (λ g. g.edits ≡ 0 → m.document ≡ g.before)
+  pub group : t.group ≡ edited_in m.group
+  pub whole : IfSome m.group (λ g. g.edited ≡ false → m.document ≡ g.before)
   pub bound : m.undo_limit ≡ limit
   pub goes : iterate back t.steps (outside m) ≡ start
 
 -- at first, where no group is open
 pub counted-first : (m : Machine) → m.group ≡ None → Counted m.undo_limit (outside m) (record { steps = 0; group = None }) m
 counted-first m none = record {
-  group = sym (ap edits_of none);
-  whole = subst (λ group. IfSome group (λ g. g.edits ≡ 0 → m.document ≡ g.before)) (sym none) tt;
+  group = sym (ap edited_in none);
+  whole = subst (λ group. IfSome group (λ g. g.edited ≡ false → m.document ≡ g.before)) (sym none) tt;
   bound = refl;
   goes = refl;
 }
@@ -65,22 +65,22 @@ counted-at : (limit : Option ℕ) (start : Past) (t : Tally) (m : Machine) (o : 
 counted-at limit start t m None counted at = tt
 counted-at limit start t m (Some (reply, new)) counted at = counted-same limit start t m new counted at
 
--- an edit in a group is one more there
+-- with an edit in it a group has edits
 pub counted-in : (start : Past) (t : Tally) (m : Machine) (g : OpenGroup) (kind : Kind) (n : ℕ) (ps : List Place) (d : Document) → Some g ≡ m.group
-    → (limit : Option ℕ) → Counted limit start t m → Counted limit start (record t { group = Some (g.edits + 1) }) (recorded (Some g) kind n ps d m)
+    → (limit : Option ℕ) → Counted limit start t m → Counted limit start (record t { group = Some true }) (recorded (Some g) kind n ps d m)
 counted-in start t m g kind n ps d is limit counted = record {
   group = refl;
-  whole = λ none. absurd (omega (arith, none));
+  whole = λ none. absurd (cc none);
   bound = counted.bound;
   goes = rw (← is) at counted.goes;
 }
 
--- what an edit does in no group is one step more, and in a group one edit more
+-- what an edit does in no group is one step more, and a group has edits after it
 counted-edit : (start : Past) (t : Tally) (m : Machine) (group : Option OpenGroup) (kind : Kind) (n : ℕ) (ps : List Place) (d : Document)
-    → group ≡ m.group → t.group ≡ edits_of group → Counted None start t m → Counted None start (with_edit t.group t) (recorded group kind n ps d m)
+    → group ≡ m.group → t.group ≡ edited_in group → Counted None start t m → Counted None start (with_edit t.group t) (recorded group kind n ps d m)
 counted-edit start t m None kind n ps d is same counted = rw same (record {
-  group = ap edits_of is;
-  whole = subst (λ group. IfSome group (λ g. g.edits ≡ 0 → d ≡ g.before)) is tt;
+  group = ap edited_in is;
+  whole = subst (λ group. IfSome group (λ g. g.edited ≡ false → d ≡ g.before)) is tt;
   bound = counted.bound;
   goes = rw (counted.bound, add-one, ← is) (rw (← is) at counted.goes);
 })
@@ -88,7 +88,7 @@ counted-edit start t m (Some g) kind n ps d is same counted = rw same (counted-i
 
 -- a group that begins has no edit
 counted-begin : (limit : Option ℕ) (start : Past) (t : Tally) (m : Machine) → m.group ≡ None → Counted limit start t m
-    → Counted limit start (record t { group = Some 0 }) (begun m)
+    → Counted limit start (record t { group = Some false }) (begun m)
 counted-begin limit start t m none counted = record {
   group = refl;
   whole = λ empty. refl;
@@ -97,22 +97,22 @@ counted-begin limit start t m none counted = record {
 }
 
 -- one that ends without an edit leaves all
-pub counted-empty : (limit : Option ℕ) (start : Past) (t : Tally) (m : Machine) (g : OpenGroup) → Some g ≡ m.group → (g.edits == 0) ≡ true
+pub counted-empty : (limit : Option ℕ) (start : Past) (t : Tally) (m : Machine) (g : OpenGroup) → Some g ≡ m.group → g.edited ≡ false
     → Counted limit start t m → Counted limit start (record t { group = None }) (ended g m)
 counted-empty limit start t m g is none counted =
-    let whole : g.edits ≡ 0 → m.document ≡ g.before = subst (λ group. IfSome group (λ g. g.edits ≡ 0 → m.document ≡ g.before)) (sym is) counted.whole in
+    let whole : g.edited ≡ false → m.document ≡ g.before = subst (λ group. IfSome group (λ g. g.edited ≡ false → m.document ≡ g.before)) (sym is) counted.whole in
     let goes : iterate back t.steps (g.before, m.past) ≡ start = rw (← is) at counted.goes in
-    record { group = refl; whole = tt; bound = counted.bound; goes = rw (none, whole (eqb-true g.edits 0 none)) goes }
+    record { group = refl; whole = tt; bound = counted.bound; goes = rw (none, whole none) goes }
 
 -- one that ends is a step where it has edits
-counted-end : (start : Past) (t : Tally) (m : Machine) (group : Option OpenGroup) → group ≡ m.group → t.group ≡ edits_of group → Counted None start t m
+counted-end : (start : Past) (t : Tally) (m : Machine) (group : Option OpenGroup) → group ≡ m.group → t.group ≡ edited_in group → Counted None start t m
     → OnDone (λ reply new. Counted None start (with_end t.group t) new) (option_map (λ g. (Accepted, ended g m)) group)
 counted-end start t m None is same counted = tt
 counted-end start t m (Some g) is same counted =
     let goes : iterate back t.steps (g.before, m.past) ≡ start = rw (← is) at counted.goes in
-    rw same (elim (cases_Bool (g.edits == 0)) [
-      | inl none ↦ subst (λ b. Counted None start (record { steps = if b then t.steps else t.steps + 1; group = None }) (ended g m)) (sym none) (counted-empty None start t m g is none counted)
-      | inr some ↦ record { group = refl; whole = tt; bound = counted.bound; goes = rw (some, counted.bound, add-one) goes }
+    rw same (elim (cases_Bool g.edited) [
+      | inl some ↦ record { group = refl; whole = tt; bound = counted.bound; goes = rw (some, counted.bound, add-one) goes }
+      | inr none ↦ subst (λ b. Counted None start (record { steps = if b then t.steps + 1 else t.steps; group = None }) (ended g m)) (sym none) (counted-empty None start t m g is none counted)
     ])
 
 -- one that is abandoned leaves the document that was before it
@@ -195,16 +195,14 @@ calls-counted start (c ∷ cs) t old new none run counted = elim (cases_Bool (is
 
 -- No call makes fewer steps.
 
-more-edit : (o : Option ℕ) (t : Tally) → t.steps ≤ (with_edit o t).steps
+more-edit : (o : Option Bool) (t : Tally) → t.steps ≤ (with_edit o t).steps
 more-edit None t = omega arith
-more-edit (Some n) t = omega arith
+more-edit (Some edited) t = omega arith
 
-more-end : (o : Option ℕ) (t : Tally) → t.steps ≤ (with_end o t).steps
+more-end : (o : Option Bool) (t : Tally) → t.steps ≤ (with_end o t).steps
 more-end None t = omega arith
-more-end (Some n) t = elim (cases_Bool (n == 0)) [
-  | inl none ↦ rw none (omega arith)
-  | inr some ↦ rw some (omega arith)
-]
+more-end (Some true) t = omega arith
+more-end (Some false) t = omega arith
 
 more-request : (request : Request) (t : Tally) → t.steps ≤ (after_request request t).steps
 more-request None t = omega arith
@@ -248,13 +246,13 @@ undo-tally (Some commands.Undo) t k = refl
 undo-tally _ t k = absurd (cc k)
 
 -- calls that made no step may be counted from where the machine stands now
-counted-here : (t : Tally) (m : Machine) → m.undo_limit ≡ None → t.steps ≡ 0 → t.group ≡ edits_of m.group → IfSome m.group (λ g. g.edits ≡ 0 → m.document ≡ g.before) → Counted None (outside m) t m
+counted-here : (t : Tally) (m : Machine) → m.undo_limit ≡ None → t.steps ≡ 0 → t.group ≡ edited_in m.group → IfSome m.group (λ g. g.edited ≡ false → m.document ≡ g.before) → Counted None (outside m) t m
 counted-here t m unlimited none group whole = record { group = group; whole = whole; bound = unlimited; goes = rw none refl }
 
 counted-back : (t : Tally) (old new : Machine) → t.steps ≡ 0 → IsBack old new → Counted None (outside old) t old → Counted None (outside new) t new
 counted-back t old new none undo counted =
-    counted-here t new (undo.limit ∙ counted.bound) none (counted.group ∙ ap edits_of (undo.was ∙ sym undo.stays))
-    (subst (λ group. IfSome group (λ g. g.edits ≡ 0 → new.document ≡ g.before)) (sym undo.stays) tt)
+    counted-here t new (undo.limit ∙ counted.bound) none (counted.group ∙ ap edited_in (undo.was ∙ sym undo.stays))
+    (subst (λ group. IfSome group (λ g. g.edited ≡ false → new.document ≡ g.before)) (sym undo.stays) tt)
 
 -- Among calls that make no step each undo goes back once, and what else is accepted but what replaces steps stands where it stood.
 calls-undone : (calls : List Call) (t : Tally) (old new : Machine) → accepted replaces_steps calls ≡ 0 → (after_calls calls t).steps ≡ 0

@@ -1,5 +1,5 @@
 -- Every step of the machine keeps validity: edits, then the machine.
-use Rattle.std.proofs.Common.{◌≡◌, ℕ, zero, suc, ◌+◌, ◌<◌, ◌≤◌, Bool, true, false, List, [], ◌∷◌, ◌++◌, length, replicate, Option, Some, None, IfSome, unwrap_or, refl, sym, ap, subst, ◌∙◌, ◌==◌, inl, inr, arith, le-leb, ltb-false, take}
+use Rattle.std.proofs.Common.{◌≡◌, ℕ, zero, suc, ◌+◌, ◌<◌, ◌≤◌, Bool, true, false, List, [], ◌∷◌, ◌++◌, length, replicate, Option, Some, None, IfSome, unwrap_or, refl, sym, ap, subst, ◌∙◌, inl, inr, arith, le-leb, ltb-false, take}
 use Rattle.std.proofs.lemmas.Bool.{cases_Bool, eqb-false, true≢false}
 use Rattle.std.proofs.lemmas.List.{length-replicate}
 use Rattle.std.specs.List.{All}
@@ -246,7 +246,7 @@ recorded-valid (Some g) kind n ps d m valid is good locks = record {
   future = valid-none;
   group = record {
     before = (open_group-valid m g is valid).before;
-    none = λ none. absurd (omega (arith, none));
+    none = λ none. absurd (cc none);
     some = λ some. refl;
   };
   updated = valid.updated;
@@ -266,9 +266,9 @@ ended-valid : (group : Option OpenGroup) (m : Machine) → IsValidMachine m → 
 ended-valid None m valid held = tt
 ended-valid (Some g) m valid held = record {
   document = valid.document;
-  past = elim (cases_Bool (g.edits == 0)) [
-    | inl none ↦ rw none valid.past
-    | inr some ↦ rw some (valid-limited m.undo_limit (record { kind = Group; cost = g.cost; document = g.before; places = g.places } ∷ m.past) (valid-push (record { kind = Group; cost = g.cost; document = g.before; places = g.places }) m.past held.before valid.past))
+  past = elim (cases_Bool g.edited) [
+    | inl some ↦ rw some (valid-limited m.undo_limit (record { kind = Group; cost = g.cost; document = g.before; places = g.places } ∷ m.past) (valid-push (record { kind = Group; cost = g.cost; document = g.before; places = g.places }) m.past held.before valid.past))
+    | inr none ↦ rw none valid.past
   ];
   future = valid.future;
   group = tt;
@@ -309,7 +309,7 @@ done_by-valid commands.Begin m low valid none = record {
   document = valid.document;
   past = valid.past;
   future = valid.future;
-  group = record { before = valid.document; none = λ none. (refl, refl); some = λ some. absurd (some refl) };
+  group = record { before = valid.document; none = λ none. (refl, refl); some = λ some. absurd (cc some) };
   updated = valid.updated;
   saved = valid.saved;
   locks = kept_locks-valid m (begun m) valid.locks refl refl (λ b locked live. live);

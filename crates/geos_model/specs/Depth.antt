@@ -24,23 +24,23 @@ one_higher t = if t.steps == 0 then None else Some (record t { steps = t.steps -
 abbrev pub depth_joined : Tally → Option Tally
 depth_joined t = if nat_le 2 t.steps then Some (record t { steps = t.steps - 1 }) else None
 
--- an edit, in a group or in none
-abbrev pub depth_edited : Option ℕ → Option ℕ → Tally → Option Tally
+-- an edit, in a group, which then has edits, or in none
+abbrev pub depth_edited : Option ℕ → Option Bool → Tally → Option Tally
 depth_edited limit None t = one_deeper limit t
-depth_edited limit (Some edits) t = Some (record t { group = Some (edits + 1) })
+depth_edited limit (Some edited) t = Some (record t { group = Some true })
 
 -- the group ends: it is a step if it has edits
-abbrev pub depth_ended : Option ℕ → Option ℕ → Tally → Option Tally
+abbrev pub depth_ended : Option ℕ → Option Bool → Tally → Option Tally
 depth_ended limit None t = Some t
-depth_ended limit (Some edits) t =
-    if edits == 0 then Some (record t { group = None }) else one_deeper limit (record t { group = None })
+depth_ended limit (Some edited) t =
+    if edited then one_deeper limit (record t { group = None }) else Some (record t { group = None })
 
 -- after a request that was accepted, where so many steps are kept at most
 abbrev pub depth_after : Option ℕ → Request → Tally → Option Tally
 depth_after limit (Some (commands.Edit e)) t = depth_edited limit t.group t
 depth_after limit (Some commands.Undo) t = one_higher t
 depth_after limit (Some commands.Redo) t = Some (record t { steps = t.steps + 1 })
-depth_after limit (Some commands.Begin) t = Some (record t { group = Some 0 })
+depth_after limit (Some commands.Begin) t = Some (record t { group = Some false })
 depth_after limit (Some commands.End) t = depth_ended limit t.group t
 depth_after limit (Some commands.Abandon) t = Some (record t { group = None })
 depth_after limit (Some commands.Join) t = depth_joined t

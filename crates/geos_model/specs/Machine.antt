@@ -1,5 +1,5 @@
 -- The machine: a document with its past and its future, the group of edits that is open, and what the file has of it.
-use Rattle.std.specs.Prelude.{◌≡◌, ◌≢◌, ◌⊎◌, ◌≤◌, ℕ, ◌+◌, ◌-◌, List, [], ◌∷◌, ◌++◌, Bool, true, false, not, ◌==◌, ◌&&◌, nat_le, nat_lt, if◌then◌else◌, length, take, drop, get_or, count_by, All, Option, Some, None, IfSome, is_some, unwrap_or}
+use Rattle.std.specs.Prelude.{◌≡◌, ◌⊎◌, ◌≤◌, ℕ, ◌+◌, ◌-◌, List, [], ◌∷◌, ◌++◌, Bool, true, false, not, ◌==◌, ◌&&◌, nat_le, nat_lt, if◌then◌else◌, length, take, drop, get_or, count_by, All, Option, Some, None, IfSome, is_some, unwrap_or}
 use Rattle.std.specs.Ordering.{nat_cmp}
 use Rattle.std.specs.FinMap.{FinMap, empty, get, insert, remove, contains_key, len}
 use Rattle.std.specs.Option.{option_map, option_map_or}
@@ -30,11 +30,11 @@ pub record UndoStep : Type 0 where
   pub document : Document
   pub places : List Place  -- at which it was made, in the order in which its edits were
 
--- A group that is open: the document when it began, how many edits it has so far, what they cost together, and where
--- they changed the document.
+-- A group that is open: the document when it began, whether an edit was made in it so far, what its edits cost
+-- together, and where they changed the document.
 pub record OpenGroup : Type 0 where
   pub before : Document
-  pub edits : ℕ
+  pub edited : Bool
   pub cost : ℕ
   pub places : List Place  -- of its edits, in the order in which they were made
 
@@ -100,9 +100,9 @@ pub record AreValidLocks (m : Machine) : Type 0 where
 pub record IsValidGroup (g : OpenGroup) (m : Machine) : Type 0 where
   pub before : IsValid g.before
   -- without an edit the document is that before it, and nothing is charged
-  pub none : g.edits ≡ 0 → (g.before ≡ m.document) × (g.cost ≡ 0)
+  pub none : g.edited ≡ false → (g.before ≡ m.document) × (g.cost ≡ 0)
   -- with one nothing is left to make again
-  pub some : g.edits ≢ 0 → m.future ≡ []
+  pub some : g.edited ≡ true → m.future ≡ []
 
 -- each of its documents is valid, and so are its group and its locks
 pub record IsValidMachine (m : Machine) : Type 0 where
@@ -247,15 +247,15 @@ in_group m = is_some m.group
 
 -- one without edits
 abbrev pub is_empty_group : OpenGroup → Bool
-is_empty_group g = g.edits == 0
+is_empty_group g = not g.edited
 
 -- whether a group is open that has edits, so that they are to be taken back where it is abandoned
 abbrev pub has_edits : Machine → Bool
-has_edits m = option_map_or (λ g. not (is_empty_group g)) m.group false
+has_edits m = option_map_or (λ g. g.edited) m.group false
 
 -- a group is open that has no edit yet
 abbrev pub begun : Machine → Machine
-begun m = record m { group = Some (record { before = m.document; edits = 0; cost = 0; places = [] }) }
+begun m = record m { group = Some (record { before = m.document; edited = false; cost = 0; places = [] }) }
 
 -- no more steps than the limit allows, the newest, or so many names
 abbrev pub limited : {A : Type 0} → Option ℕ → List A → List A
@@ -386,7 +386,7 @@ recorded (Some g) kind cost ps d m = record m {
   document = d;
   future = [];
   future_names = [];
-  group = Some (record g { edits = g.edits + 1; cost = g.cost + cost; places = g.places ++ ps });
+  group = Some (record g { edited = true; cost = g.cost + cost; places = g.places ++ ps });
   updated_at = position_in_group m.updated_at;
   saved_at = position_in_group m.saved_at;
   touched = ps;

@@ -1,5 +1,5 @@
 -- What undoing edits and redoing them comes to, over runs of the machine alone.
-use Rattle.std.specs.Prelude.{◌≡◌, ℕ, List, [], ◌∷◌, Bool, true, false, not, ◌&&◌, ◌||◌, ◌+◌, ◌==◌, zero, suc, if◌then◌else◌, Option, Some, None}
+use Rattle.std.specs.Prelude.{◌≡◌, ℕ, List, [], ◌∷◌, Bool, true, false, not, ◌&&◌, ◌||◌, ◌+◌, zero, suc, if◌then◌else◌, Option, Some, None}
 use Rattle.geos_model.specs.Reply.{Reply, Refused}
 use Rattle.geos_model.specs.Machine.{Machine, Request, Call, Run}
 use Rattle.geos_model.specs.declared.command.Command.TheVariants as commands
@@ -64,26 +64,26 @@ pub record SamePast (old new : Machine) : Type 0 where
   pub document : new.document ≡ old.document
   pub past : new.past ≡ old.past
 
--- Groups among calls before which none is open: how many undo steps the calls have made, and how many edits the group
--- that is open then has, None where none is.
+-- Groups among calls before which none is open: how many undo steps the calls have made, and whether the group that is
+-- open then has edits, None where none is.
 pub record Tally : Type 0 where
   pub steps : ℕ
-  pub group : Option ℕ
+  pub group : Option Bool
 
--- one edit more: in no group it is a step
-abbrev pub with_edit : Option ℕ → Tally → Tally
+-- one edit more: in no group it is a step, and a group then has edits
+abbrev pub with_edit : Option Bool → Tally → Tally
 with_edit None t = record t { steps = t.steps + 1 }
-with_edit (Some n) t = record t { group = Some (n + 1) }
+with_edit (Some edited) t = record t { group = Some true }
 
 -- the group ends: it is a step if it has edits
-abbrev pub with_end : Option ℕ → Tally → Tally
+abbrev pub with_end : Option Bool → Tally → Tally
 with_end None t = t
-with_end (Some n) t = record { steps = if n == 0 then t.steps else t.steps + 1; group = None }
+with_end (Some edited) t = record { steps = if edited then t.steps + 1 else t.steps; group = None }
 
 -- after a request that was accepted
 abbrev pub after_request : Request → Tally → Tally
 after_request (Some (commands.Edit e)) t = with_edit t.group t
-after_request (Some commands.Begin) t = record t { group = Some 0 }
+after_request (Some commands.Begin) t = record t { group = Some false }
 after_request (Some commands.End) t = with_end t.group t
 after_request (Some commands.Abandon) t = record t { group = None }
 after_request request t = t

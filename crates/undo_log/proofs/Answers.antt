@@ -1,5 +1,5 @@
 -- What the machine answers to an edit, to undo and to redo, and to what begins and ends a group.
-use Rattle.std.proofs.Common.{◌≡◌, ◌+◌, ◌==◌, suc, false, length, List, [], ◌∷◌, ◌++◌, reverse, Option, Some, None, refl, sym, ap, subst, ◌∙◌, arith}
+use Rattle.std.proofs.Common.{◌≡◌, ◌+◌, ◌==◌, suc, true, false, not, length, List, [], ◌∷◌, ◌++◌, reverse, Option, Some, None, refl, sym, ap, subst, ◌∙◌, arith}
 use Rattle.std.proofs.lemmas.Bool.{ne_eqb}
 use Rattle.std.proofs.lemmas.List.Sums.{sum_by-append, sum_by-cons}
 use Rattle.std.proofs.lemmas.List.Sorted.{sum_by-IsPermutation, IsPermutation-reverse}
@@ -42,7 +42,7 @@ abbrev pub log_of : Log → List LogEntry → List LogEntry → Option (List Cha
 log_of log undo redo group = record log { undo = undo; redo = redo; group = group }
 
 module _ (m : Machine) (edit : Edit) (d : Document) (log : Log) (c : Change) (done : Done) (plans : Plans edit d c done) (gives : after_change (reversed c) (after_change c d) ≡ d) where
-  -- the machine after an edit in a group, which is counted there
+  -- the machine after an edit in a group, which has edits then
   abbrev after_edit : List LogEntry → List Change → Machine
   after_edit undo cs = record m {
     document = after_change c d;
@@ -52,7 +52,7 @@ module _ (m : Machine) (edit : Edit) (d : Document) (log : Log) (c : Change) (do
     future_names = [];
     group = Some (record {
       before = after_all Backwards cs d;
-      edits = length cs + 1;
+      edited = true;
       cost = changes_cost cs + change_cost c;
       places = all_places Forwards (reverse cs) ++ change_places c;
     });
@@ -71,7 +71,7 @@ module _ (m : Machine) (edit : Edit) (d : Document) (log : Log) (c : Change) (do
   counted : (undo : List LogEntry) (cs : List Change) → after_edit undo cs ≡ machine_with m (after_change c d) (record (log_of (without_redo log) undo [] (Some (c ∷ cs))) { touched = change_places c })
   counted undo cs =
       let back : d ≡ after_change (reversed c) (after_change c d) = sym gives in
-      let more : length cs + 1 ≡ length (c ∷ cs) = omega arith in
+      let more : true ≡ not (length (c ∷ cs) == 0) = sym (ap not (some_steps c cs)) in
       let charged : changes_cost cs + change_cost c ≡ changes_cost (c ∷ cs) = let sum = sum_by-cons change_cost c cs in omega (arith, sum) in
       let told : all_places Forwards (reverse cs) ++ change_places c ≡ all_places Forwards (reverse (c ∷ cs)) = sym (places-one_more c cs) in
       λ i. record m {
@@ -80,7 +80,7 @@ module _ (m : Machine) (edit : Edit) (d : Document) (log : Log) (c : Change) (do
         future = [];
         past_names = log.undo_names;
         future_names = [];
-        group = Some (record { before = after_all Backwards cs (back i); edits = more i; cost = charged i; places = told i });
+        group = Some (record { before = after_all Backwards cs (back i); edited = more i; cost = charged i; places = told i });
         updated_at = position_in_group log.updated_at;
         saved_at = position_in_group log.saved_at;
         touched = change_places c;

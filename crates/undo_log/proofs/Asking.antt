@@ -68,7 +68,7 @@ not_empty [] some = absurd (some refl)
 not_empty (x ∷ xs) some = some_steps x xs
 
 -- the open group has changes where it has places
-has_changes : (group : Option (List Change)) (d : Document) → all_places Backwards (open_changes group) ≢ [] → option_map_or (λ g. not (g.edits == 0)) (option_map (group_of d) group) false ≡ true
+has_changes : (group : Option (List Change)) (d : Document) → all_places Backwards (open_changes group) ≢ [] → option_map_or (λ g. g.edited) (option_map (group_of d) group) false ≡ true
 has_changes None d some = absurd (some refl)
 has_changes (Some []) d some = absurd (some refl)
 has_changes (Some (c ∷ cs)) d some = ap not (some_steps c cs)

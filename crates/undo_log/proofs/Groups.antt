@@ -18,7 +18,7 @@ use Rattle.undo_log.specs.Logging.{AreExclusive, IsHead, abandoned_log, Log, aft
 use Rattle.undo_log.specs.Sessions.{SessionState, machine_of, opposite, CanApplyBothByHandle, AreSteps, IsExact}
 use Rattle.undo_log.specs.Turning.{IsEntryApplied}
 use Rattle.undo_log.specs.Entries.{LogEntry}
-use Rattle.undo_log.proofs.Answers.{begin_moved, end_moved, log_of}
+use Rattle.undo_log.proofs.Answers.{begin_moved, end_moved, log_of, some_steps}
 use Rattle.undo_log.proofs.Directions.{listed_by, listed_of, log_moved, turned}
 use Rattle.undo_log.proofs.Forgetting.{closed_listed, closed_steps}
 use Rattle.undo_log.proofs.Keeping.{Holds, answers_on, machine_with, none_marked}
@@ -33,8 +33,8 @@ group_valid facts s target exact apart = by_group s.log.group (before-valid s.do
   where
     by_group : (o : Option (List Change)) → IsValid (before o s.document) → AreExclusive (open_changes o) s.log.redo → IfSome (option_map (group_of s.document) o) (λ g. IsValidGroup g (machine_of target s))
     by_group None valid apart = tt
-    by_group (Some []) valid apart = record { before = valid; none = λ _. (refl, refl); some = λ other. absurd (other refl) }
-    by_group (Some (c ∷ cs)) valid apart = record { before = valid; none = λ none. absurd (cc none); some = λ _. ap (λ (es : List LogEntry). entry_steps Forwards es s.document) apart }
+    by_group (Some []) valid apart = record { before = valid; none = λ _. (refl, refl); some = λ other. absurd (cc other) }
+    by_group (Some (c ∷ cs)) valid apart = record { before = valid; none = λ none. absurd (cc (rw (some_steps c cs) at none)); some = λ _. ap (λ (es : List LogEntry). entry_steps Forwards es s.document) apart }
 
 pub opened_undo : (log : Log) → log.group ≡ None → to_undo (record log { group = Some [] }) ≡ to_undo log
 opened_undo log none = sym (ap (λ (g : Option (List Change)). open_changes g ++ all_changes log.undo) none)

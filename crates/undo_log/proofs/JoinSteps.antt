@@ -160,6 +160,6 @@ module _ {S : Type 0} (s : SessionState S) where
       twice true = refl
       twice false = refl
 
-      by_group : (group : Option (List Change)) → option_map_or (λ cs. length cs == 0) group true ≡ not (option_map_or (λ g. not (g.edits == 0)) (option_map (group_of s.document) group) false)
+      by_group : (group : Option (List Change)) → option_map_or (λ cs. length cs == 0) group true ≡ not (option_map_or (λ g. g.edited) (option_map (group_of s.document) group) false)
       by_group None = refl
       by_group (Some cs) = twice (length cs == 0)

@@ -1,5 +1,5 @@
 -- What is kept of steps that can be undone or made again, and what a call makes of it.
-use Rattle.std.specs.Prelude.{◌≡◌, ℕ, Bool, true, ◌&&◌, ◌==◌, if◌then◌else◌, List, [], ◌∷◌, ◌++◌, drop, length, reverse, map, take, Option, Some, None}
+use Rattle.std.specs.Prelude.{◌≡◌, ℕ, Bool, true, not, ◌&&◌, ◌==◌, if◌then◌else◌, List, [], ◌∷◌, ◌++◌, drop, length, reverse, map, take, Option, Some, None}
 use Rattle.std.specs.List.{sum_by}
 use Rattle.std.specs.Option.{option_map_or}
 use Rattle.geos_model.specs.Document.{Document}
@@ -161,7 +161,7 @@ before group d = after_all Backwards (open_changes group) d
 abbrev pub group_of : Document → List Change → OpenGroup
 group_of d cs = record {
   before = after_all Backwards cs d;
-  edits = length cs;
+  edited = not (length cs == 0);
   cost = changes_cost cs;
   places = all_places Forwards (reverse cs);
 }
