@@ -12,7 +12,7 @@ use Rattle.geos_model.specs.ElementArray.{Slots, element_at, is_sound, element_b
 use Rattle.geos_model.specs.ElementEdits.{no_slots, elements_in, count_at, bytes_at, with_element, without_element, unreferenced, added, element_added, token_added, reference_added, reference_removed, element_deleted, element_changed, on_token, create_elements_conditions, add_conditions, add_reference_conditions, change_conditions}
 use Rattle.geos_model.specs.NameArray.{NameArray, name_bytes, name_array_of}
 use Rattle.geos_model.specs.NameEdits.{no_names, names_in, text_at, part_at, added_name, name_added, name_token_added, name_changed, name_part_set, name_reference_removed, on_name_token, create_names_conditions, add_name_conditions, change_name_conditions, set_part_conditions}
-use Rattle.geos_model.specs.Document.{Block, Document, with_block, without_block, with_blocks, without_blocks, handles_of, attributes_of, chunks_of, raw_bytes_of, is_heap, block_at, next_handle}
+use Rattle.geos_model.specs.Document.{Block, Document, with_block, without_block, with_blocks, attributes_of, chunks_of, raw_bytes_of, is_heap, block_at, next_handle}
 use Rattle.geos_model.specs.Chain.{chain_blocks, free_handles, copies_of, copy_conditions}
 use Rattle.geos_model.specs.Meaning.{conditions, effect, chunk_at, with_chunk, new_chunk_handle, on_chunk, past_end, too_big, no_place, no_room}
 use Rattle.geos_model.specs.Places.{array_places, block_place, at_new_chunk, places_of}
