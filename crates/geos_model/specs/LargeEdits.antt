@@ -38,8 +38,7 @@ is_too_long size bytes = size == 0 && nat_lt branch_room (length bytes + 2)
 abbrev pub new_array_blocks : Document → ℕ → ℕ → List (ℕ × Block)
 new_array_blocks d uid size =
     let hs = new_handles d 2 in
-    let h = get_or hs 1 0 in
-    (
+    let h = get_or hs 1 0 in (
       get_or hs 0 0,
       record {
         attributes = record { user_id = uid; heap_type = 0 };

@@ -17,8 +17,6 @@ use Rattle.geos_model.specs.declared.look_up.ChunkLookUp.{ChunkLookUp}
 use Rattle.geos_model.specs.declared.look_up.ChunkLookUp.TheVariants as chunk_look_ups
 use Rattle.geos_model.specs.declared.look_up.ElementArrayLookUp.{ElementArrayLookUp}
 use Rattle.geos_model.specs.declared.look_up.ElementArrayLookUp.TheVariants as element_array_look_ups
-use Rattle.geos_model.specs.declared.look_up.LargeLookUp.{LargeLookUp}
-use Rattle.geos_model.specs.declared.look_up.LargeLookUp.TheVariants as large_look_ups
 use Rattle.geos_model.specs.declared.look_up.LookUp.{LookUp}
 use Rattle.geos_model.specs.declared.look_up.LookUp.TheVariants as look_ups
 use Rattle.geos_model.specs.declared.look_up.NameArrayLookUp.{NameArrayLookUp}
@@ -122,17 +120,15 @@ abbrev pub block_look_up : VmHandle → BlockLookUp → Command
 block_look_up b block_look_ups.Info = commands.Info b
 block_look_up b block_look_ups.ReadRaw = commands.ReadRaw b
 block_look_up b block_look_ups.Chunks = commands.Chunks b
+block_look_up b block_look_ups.LargeCount = commands.LargeCount b
 block_look_up b (block_look_ups.InChunk c asked) = chunk_look_up b c asked
 
 abbrev pub chain_look_up : ChainLookUp → Command
 chain_look_up (chain_look_ups.Walk b) = commands.Walk b
 chain_look_up (chain_look_ups.Size b) = commands.ChainSize b
 chain_look_up (chain_look_ups.Equal b other) = commands.ChainEqual b other
-
-abbrev pub large_look_up : VmHandle → LargeLookUp → Command
-large_look_up b large_look_ups.Count = commands.LargeCount b
-large_look_up b (large_look_ups.Element i) = commands.LargeElement b i
-large_look_up b (large_look_ups.Run i n) = commands.LargeRun b i n
+chain_look_up (chain_look_ups.LargeElement b i) = commands.LargeElement b i
+chain_look_up (chain_look_ups.LargeRun b i n) = commands.LargeRun b i n
 
 abbrev pub command_of : LookUp → Command
 command_of look_ups.List = commands.List
@@ -141,4 +137,3 @@ command_of (look_ups.StepName asked) = step_name_look_up asked
 command_of (look_ups.Places asked) = places_look_up asked
 command_of (look_ups.InBlock b asked) = block_look_up b asked
 command_of (look_ups.AlongChain asked) = chain_look_up asked
-command_of (look_ups.InLarge b asked) = large_look_up b asked

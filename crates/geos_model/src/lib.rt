@@ -32,7 +32,7 @@ pub use limit::{
 };
 pub use look_up::{
     ArrayLookUp, BlockLookUp, ChainLookUp, ChunkArrayLookUp, ChunkLookUp, ElementArrayLookUp,
-    LargeLookUp, LookUp, NameArrayLookUp, PlacesLookUp, PlainLookUp, StepNameLookUp,
+    LookUp, NameArrayLookUp, PlacesLookUp, PlainLookUp, StepNameLookUp,
 };
 pub use place::Place;
 pub use reply::Reply;

@@ -79,23 +79,19 @@ pub enum BlockLookUp<'a> {
     Info,
     ReadRaw,
     Chunks,
+    /// How many elements the large array has whose root it is.
+    LargeCount,
     InChunk(ChunkHandle, ChunkLookUp<'a>),
 }
 
-/// What is asked along chains, each of which has a root.
+/// What is asked along chains and of the branches of large arrays, each of which has a root.
 #[derive(Clone, Copy)]
 pub enum ChainLookUp {
     Walk(VmHandle),
     Size(VmHandle),
     Equal(VmHandle, VmHandle),
-}
-
-/// What is asked of a large array, by the numbers of its elements.
-#[derive(Clone, Copy)]
-pub enum LargeLookUp {
-    Count,
-    Element(ElementCount),
-    Run(ElementCount, ElementCount),
+    LargeElement(VmHandle, ElementCount),
+    LargeRun(VmHandle, ElementCount, ElementCount),
 }
 
 /// What is asked, by the bodies that are looked into: none, that of one block, or those of chains.
@@ -107,7 +103,6 @@ pub enum LookUp<'a> {
     Places(PlacesLookUp),
     InBlock(VmHandle, BlockLookUp<'a>),
     AlongChain(ChainLookUp),
-    InLarge(VmHandle, LargeLookUp),
 }
 
 // One row for each.
@@ -158,9 +153,9 @@ impl Command {
             Command::Walk(root) => LookUp::AlongChain(ChainLookUp::Walk(*root)),
             Command::ChainSize(root) => LookUp::AlongChain(ChainLookUp::Size(*root)),
             Command::ChainEqual(first, second) => LookUp::AlongChain(ChainLookUp::Equal(*first, *second)),
-            Command::LargeCount(root) => LookUp::InLarge(*root, LargeLookUp::Count),
-            Command::LargeElement(root, i) => LookUp::InLarge(*root, LargeLookUp::Element(*i)),
-            Command::LargeRun(root, i, n) => LookUp::InLarge(*root, LargeLookUp::Run(*i, *n)),
+            Command::LargeCount(root) => LookUp::InBlock(*root, BlockLookUp::LargeCount),
+            Command::LargeElement(root, i) => LookUp::AlongChain(ChainLookUp::LargeElement(*root, *i)),
+            Command::LargeRun(root, i, n) => LookUp::AlongChain(ChainLookUp::LargeRun(*root, *i, *n)),
         }
     }
 }
