@@ -1,5 +1,5 @@
 -- What planning an edit comes to.
-use Rattle.std.specs.Prelude.{◌≡◌, ◌<◌, ◌⊎◌, ◌+◌, ℕ, Bool, true, false, List, [], ◌∷◌, None, Some, length, Result, IfOk, IfErr, MatchResult, Vec}
+use Rattle.std.specs.Prelude.{◌≡◌, ◌<◌, ◌⊎◌, ◌+◌, ℕ, Bool, true, false, List, [], ◌∷◌, ◌++◌, None, Some, length, Result, IfOk, IfErr, MatchResult, Vec}
 use Rattle.std.specs.List.{flat_map, sum_by}
 use Rattle.geos_model.specs.Refusal.{first_refusal}
 use Rattle.geos_model.specs.Document.{Document, handles_of, is_raw}
@@ -9,7 +9,7 @@ use Rattle.geos_model.specs.Machine.{edit_needs, kind_of}
 use Rattle.geos_model.specs.Places.{places_of}
 use Rattle.geos_model.specs.Scope.{Scope, Chain, scope_of}
 use Rattle.geos_model.specs.declared.fault.Fault.{Fault}
-use Rattle.geos_model.specs.declared.fault.Fault.TheVariants.{Memory, CacheFull, NoHandles, IsMap}
+use Rattle.geos_model.specs.declared.fault.Fault.TheVariants.{Memory, CacheFull, NotArray, NoElement, BadChain, IsMap, Range, TooBig, NoHandles}
 use Rattle.geos_model.specs.declared.command.Done.{Done}
 use Rattle.geos_model.specs.declared.command.Edit.{Edit}
 use Rattle.geos_model.specs.declared.command.Edit.TheVariants as edits
@@ -28,7 +28,7 @@ use Rattle.vm_blocks.specs.Keeping.{KeepsBlocks, IsEnvironmentFault, IsHonest, i
 use Rattle.vm_blocks.specs.Kinds.{IsWrongBlock}
 use Rattle.vm_blocks.specs.Preparing.{after_changes, CanApplyAll, CanApplyAllByHandle, CanCarryOut}
 use Rattle.vm_chains.specs.Answers.{IsChainFault}
-use Rattle.large_arrays.specs.EditPlans.{IsGivenFault, IsLargeEditRefusal, IsPastFault, IsSettingFault}
+use Rattle.doc_edits.specs.Found.{is_among}
 use Rattle.doc_edits.specs.Room.{lacks_frames, ReadsNothing}
 
 -- what kind of step a change is
@@ -63,9 +63,11 @@ pub record Plans (edit : Edit) (d : Document) (change : Change) (done : Done) : 
 abbrev pub RefusesInMemory : Edit → Document → Fault → Type 0
 RefusesInMemory edit d fault = (fault ≡ Memory) ⊎ (first_refusal (conditions edit d) ≡ Some fault)
 
--- what an edit of a large array may be refused for, of the document before: its root, these of its own, its branches
-abbrev pub IsLargeFault : (Fault → Type 0) → Document → ℕ → Fault → Type 0
-IsLargeFault own d b fault = IsLargeEditRefusal own (λ _. ⊥) d b fault
+-- What an edit of a large array may be refused for, of the document before: its root for what handles and kinds tell,
+-- and else for what is given, for the root's bytes or for branches.
+abbrev pub IsLargeFault : List Fault → Document → ℕ → Fault → Type 0
+IsLargeFault given d b fault = IsWrongBlock is_raw d b fault
+    ⊎ (is_among (given ++ NotArray ∷ BadChain ∷ IsMap ∷ NoHandles ∷ []) fault ≡ true)
 
 -- What an edit that looks into many blocks may be refused for, of the document before: its root for what handles and
 -- kinds tell, and else for the chain or the branches. Of each body that is said as it was when it was read, so that
@@ -73,9 +75,9 @@ IsLargeFault own d b fault = IsLargeEditRefusal own (λ _. ⊥) d b fault
 abbrev pub IsManyBlocksFault : Edit → Document → Fault → Type 0
 IsManyBlocksFault (edits.CopyChain b) d fault = IsChainFault (IsWrongBlock is_raw d b.0) fault ⊎ (fault ≡ NoHandles)
 IsManyBlocksFault (edits.FreeChain b) d fault = IsChainFault (IsWrongBlock is_raw d b.0) fault ⊎ (fault ≡ IsMap)
-IsManyBlocksFault (edits.InsertLarge b i bytes) d fault = IsLargeFault IsGivenFault d b.0 fault
-IsManyBlocksFault (edits.SetLarge b i bytes) d fault = IsLargeFault IsSettingFault d b.0 fault
-IsManyBlocksFault (edits.DeleteLarge b i n) d fault = IsLargeFault IsPastFault d b.0 fault
+IsManyBlocksFault (edits.InsertLarge b i bytes) d fault = IsLargeFault (Range ∷ TooBig ∷ []) d b.0 fault
+IsManyBlocksFault (edits.SetLarge b i bytes) d fault = IsLargeFault (NoElement ∷ Range ∷ TooBig ∷ []) d b.0 fault
+IsManyBlocksFault (edits.DeleteLarge b i n) d fault = IsLargeFault (NoElement ∷ []) d b.0 fault
 IsManyBlocksFault edit d fault = ⊥
 
 -- whether it is an edit of a chain
