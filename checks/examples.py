@@ -27,6 +27,7 @@ EXAMPLES = [
     ["tutorial_drawing"],
     ["tutorial_table", "tutorial_table_opened", "tutorial_table_copied"],
     ["tutorial_letter", "tutorial_letter_opened"],
+    ["tutorial_novel"],
     ["designed_text"],
     ["designed_drawing", "designed_drawing_opened"],
     ["designed_database"],
