@@ -16,6 +16,7 @@ EXAMPLES = [
     ["chunk_edits"],
     ["arrays"],
     ["chains"],
+    ["large_text"],
     ["contents"],
     ["groups"],
     ["joined_steps"],
