@@ -1,4 +1,5 @@
-//! Edits of a document, planned: each is refused, or becomes one change that means it. And what is looked up of one.
+//! Edits of a document, planned: each is refused, or becomes one change that means it, or several of a large array. And
+//! what is looked up of one.
 #![tactic(auto)]
 
 mod block_plans;
