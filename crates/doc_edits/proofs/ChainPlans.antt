@@ -32,7 +32,7 @@ use Rattle.document_file.specs.declared.member.Member.{Member}
 use Rattle.vm_blocks.specs.declared.member.Members.{Members}
 use Rattle.vm_chains.specs.Answers.{RefusesChain}
 use Rattle.doc_edits.specs.Found.{AreLate}
-use Rattle.doc_edits.specs.Planning.{kind_of_change, IsChainEditFault, Plans, PlansAlongChain}
+use Rattle.doc_edits.specs.Planning.{kind_of_change, IsManyBlocksFault, Plans, PlansAlongChain}
 use Rattle.doc_edits.proofs.Refusals.{handed_on}
 
 -- The plan of an edit along a chain is refused before any block is looked into, as each command along a chain is,
@@ -56,7 +56,7 @@ module _ {S : Type 0} {facts : S → StoreFacts} {edit : Edit} {a : CacheState S
 
     pub plan_missed : {b : CacheState S} → is_full a ≡ false → KeepsBlocks facts a b
         → (IsHonest facts a.disk.store → RefusesChain (IsEnvironmentFault facts a.disk.store b.disk.store) (conditions edit b.document) fault)
-        → IsEnvironmentFault facts a.disk.store b.disk.store fault ⊎ IsChainEditFault edit a.document fault → PlansAlongChain facts a b edit r
+        → IsEnvironmentFault facts a.disk.store b.disk.store fault ⊎ IsManyBlocksFault edit a.document fault → PlansAlongChain facts a b edit r
     plan_missed {b} room keeps refuses why =
         handed_on (PlansAlongChain facts a b edit) r fault is
         (record {

@@ -26,7 +26,7 @@ use Rattle.vm_blocks.specs.declared.change.Change.{Change}
 use Rattle.vm_blocks.specs.declared.change.Change.TheVariants as changes
 use Rattle.vm_blocks.proofs.KeepingLaws.{keeps-refl, lacks-memory}
 use Rattle.vm_blocks.proofs.Preparing.{applies_listed, applies_takes}
-use Rattle.doc_edits.specs.Planning.{freed_by, kind_of_change, IsChainEditFault, Plans, PlansAlongChain, PlansEdit, RefusesEdit, RefusesInMemory}
+use Rattle.doc_edits.specs.Planning.{freed_by, kind_of_change, IsManyBlocksFault, Plans, PlansAlongChain, PlansEdit, RefusesEdit, RefusesInMemory}
 use Rattle.doc_edits.specs.Room.{lacks_frames, ReadsNothing}
 use Rattle.doc_edits.proofs.Loading.{IsBrought}
 use Rattle.doc_edits.proofs.Refusals.{accepted_so, handed_on, may_lack}
@@ -99,7 +99,7 @@ module _ {S : Type 0} (facts : S → StoreFacts) (edit : Edit) (a b : CacheState
         shut = λ out. absurd (true≢false (sym out ∙ room));
         kind = (ready r planned).1;
         alone = alone;
-        refusals = either_so r (RefusesEdit (IsEnvironmentFault facts a.disk.store b.disk.store) (lacks_frames a (edit_needs edit)) edit b.document) (IsChainEditFault edit a.document) (refused_so r _ _ may_refuse);
+        refusals = either_so r (RefusesEdit (IsEnvironmentFault facts a.disk.store b.disk.store) (lacks_frames a (edit_needs edit)) edit b.document) (IsManyBlocksFault edit a.document) (refused_so r _ _ may_refuse);
         plain = λ is. (plain is, refused);
         already = λ nothing. let w = already nothing in (w.0, w.1, subst (λ (d : Document). IfErr r (RefusesInMemory edit d)) w.1 refused);
       }

@@ -1,5 +1,6 @@
 -- What planning an edit comes to.
-use Rattle.std.specs.Prelude.{◌≡◌, ◌⊎◌, ◌+◌, ℕ, Bool, true, false, List, [], ◌∷◌, None, Some, length, Result, IfOk, IfErr, MatchResult}
+use Rattle.std.specs.Prelude.{◌≡◌, ◌<◌, ◌⊎◌, ◌+◌, ℕ, Bool, true, false, List, [], ◌∷◌, ◌++◌, None, Some, length, Result, IfOk, IfErr, MatchResult, Vec}
+use Rattle.std.specs.List.{flat_map, sum_by}
 use Rattle.geos_model.specs.Refusal.{first_refusal}
 use Rattle.geos_model.specs.Document.{Document, handles_of, is_raw}
 use Rattle.geos_model.specs.Meaning.{conditions, effect}
@@ -8,7 +9,7 @@ use Rattle.geos_model.specs.Machine.{edit_needs, kind_of}
 use Rattle.geos_model.specs.Places.{places_of}
 use Rattle.geos_model.specs.Scope.{Scope, Chain, scope_of}
 use Rattle.geos_model.specs.declared.fault.Fault.{Fault}
-use Rattle.geos_model.specs.declared.fault.Fault.TheVariants.{Memory, CacheFull, NoHandles, IsMap}
+use Rattle.geos_model.specs.declared.fault.Fault.TheVariants.{Memory, CacheFull, NotArray, NoElement, BadChain, IsMap, Range, TooBig, NoHandles}
 use Rattle.geos_model.specs.declared.command.Done.{Done}
 use Rattle.geos_model.specs.declared.command.Edit.{Edit}
 use Rattle.geos_model.specs.declared.command.Edit.TheVariants as edits
@@ -25,8 +26,9 @@ use Rattle.vm_blocks.specs.declared.change.Change.{Change}
 use Rattle.vm_blocks.specs.declared.change.Change.TheVariants as changes
 use Rattle.vm_blocks.specs.Keeping.{KeepsBlocks, IsEnvironmentFault, IsHonest, is_full}
 use Rattle.vm_blocks.specs.Kinds.{IsWrongBlock}
-use Rattle.vm_blocks.specs.Preparing.{CanCarryOut}
+use Rattle.vm_blocks.specs.Preparing.{after_changes, CanApplyAll, CanApplyAllByHandle, CanCarryOut}
 use Rattle.vm_chains.specs.Answers.{IsChainFault}
+use Rattle.doc_edits.specs.Found.{is_among}
 use Rattle.doc_edits.specs.Room.{lacks_frames, ReadsNothing}
 
 -- what kind of step a change is
@@ -61,13 +63,22 @@ pub record Plans (edit : Edit) (d : Document) (change : Change) (done : Done) : 
 abbrev pub RefusesInMemory : Edit → Document → Fault → Type 0
 RefusesInMemory edit d fault = (fault ≡ Memory) ⊎ (first_refusal (conditions edit d) ≡ Some fault)
 
--- What an edit of a chain may be refused for, of the document before: its root for what handles and kinds tell, and
--- else for the chain. Of each body of the chain that is said as it was when it was read, so that over a store that
--- isn't honest no one document need have it as its first refusal.
-abbrev pub IsChainEditFault : Edit → Document → Fault → Type 0
-IsChainEditFault (edits.CopyChain b) d fault = IsChainFault (IsWrongBlock is_raw d b.0) fault ⊎ (fault ≡ NoHandles)
-IsChainEditFault (edits.FreeChain b) d fault = IsChainFault (IsWrongBlock is_raw d b.0) fault ⊎ (fault ≡ IsMap)
-IsChainEditFault edit d fault = ⊥
+-- What an edit of a large array may be refused for, of the document before: its root for what handles and kinds tell,
+-- and else for what is given, for the root's bytes or for branches.
+abbrev pub IsLargeFault : List Fault → Document → ℕ → Fault → Type 0
+IsLargeFault given d b fault = IsWrongBlock is_raw d b fault
+    ⊎ (is_among (given ++ NotArray ∷ BadChain ∷ IsMap ∷ NoHandles ∷ []) fault ≡ true)
+
+-- What an edit that looks into many blocks may be refused for, of the document before: its root for what handles and
+-- kinds tell, and else for the chain or the branches. Of each body that is said as it was when it was read, so that
+-- over a store that isn't honest no one document need have it as its first refusal.
+abbrev pub IsManyBlocksFault : Edit → Document → Fault → Type 0
+IsManyBlocksFault (edits.CopyChain b) d fault = IsChainFault (IsWrongBlock is_raw d b.0) fault ⊎ (fault ≡ NoHandles)
+IsManyBlocksFault (edits.FreeChain b) d fault = IsChainFault (IsWrongBlock is_raw d b.0) fault ⊎ (fault ≡ IsMap)
+IsManyBlocksFault (edits.InsertLarge b i bytes) d fault = IsLargeFault (Range ∷ TooBig ∷ []) d b.0 fault
+IsManyBlocksFault (edits.SetLarge b i bytes) d fault = IsLargeFault (NoElement ∷ Range ∷ TooBig ∷ []) d b.0 fault
+IsManyBlocksFault (edits.DeleteLarge b i n) d fault = IsLargeFault (NoElement ∷ []) d b.0 fault
+IsManyBlocksFault edit d fault = ⊥
 
 -- whether it is an edit of a chain
 
@@ -102,7 +113,7 @@ pub record PlansAlongChain {S : Type 0} (facts : S → StoreFacts) (old new : Ca
   pub kind : IfOk result (λ p. kind_of_change p.0 ≡ kind_of edit)
   pub refusals : IfErr result (λ fault.
       RefusesEdit (IsEnvironmentFault facts old.disk.store new.disk.store) (is_full old) edit new.document fault
-      ⊎ IsChainEditFault edit old.document fault)
+      ⊎ IsManyBlocksFault edit old.document fault)
 
 -- What planning any edit comes to. Over any store, but for one of a chain: it is planned in the document as it is held
 -- from then on, or refused there. Where there is no room for what it needs, nothing changes. Where it needs no body, or
@@ -123,7 +134,35 @@ pub record PlansEdit {S : Type 0} (facts : S → StoreFacts) (old new : CacheSta
   pub refusals : IfErr result (λ fault.
       RefusesEdit (IsEnvironmentFault facts old.disk.store new.disk.store) (lacks_frames old (edit_needs edit)) edit
       new.document fault
-      ⊎ IsChainEditFault edit old.document fault)
+      ⊎ IsManyBlocksFault edit old.document fault)
   pub plain : kind_of edit ≡ Plain → (new ≡ old) × IfErr result (RefusesInMemory edit new.document)
   pub already : ReadsNothing old (edit_needs edit) (conditions edit old.document)
       → (new.disk ≡ old.disk) × (new.document ≡ old.document) × IfErr result (RefusesInMemory edit old.document)
+
+-- Nothing refuses the edit; the changes can be made in the document one after another, mean the edit, and change it at
+-- the places of the edit. There is one at least.
+pub record PlansAll (edit : Edit) (d : Document) (changes : List Change) : Type 0 where
+  pub accepted : first_refusal (conditions edit d) ≡ None
+  pub applies : CanApplyAll changes d
+  pub document : after_changes changes d ≡ (effect edit d).0
+  pub cost : sum_by change_cost changes ≡ cost edit d (effect edit d).0
+  pub places : flat_map change_places changes ≡ places_of edit d
+  pub some : 0 < length changes
+
+-- What planning an edit of a large array comes to: the file is kept, and, if the store gives back what it has, the edit
+-- is planned in the document as it is held from then on, or refused there. Over any store the changes can be tried. A
+-- plan is given only where some frame has no locked block. Where each frame has one nothing changes, and the answer is
+-- the first refusal of the document before, CacheFull counted among them.
+pub record PlansLarge {S : Type 0} (facts : S → StoreFacts) (old new : CacheState S) (edit : Edit)
+    (result : Result (Vec Change) Fault) : Type 0 where
+  pub keeps : KeepsBlocks facts old new
+  pub planned : IsHonest facts old.disk.store
+      → MatchResult result (λ changes. PlansAll edit new.document changes.items)
+      (RefusesEdit (IsEnvironmentFault facts old.disk.store new.disk.store) (is_full old) edit new.document)
+  pub listed : IfOk result (λ changes. CanApplyAllByHandle changes.items new.document)
+  pub room : IfOk result (λ _. is_full old ≡ false)
+  pub shut : is_full old ≡ true → (new ≡ old)
+      × IfErr result (λ fault. first_refusal ((CacheFull, true) ∷ conditions edit old.document) ≡ Some fault)
+  pub refusals : IfErr result (λ fault.
+      RefusesEdit (IsEnvironmentFault facts old.disk.store new.disk.store) (is_full old) edit new.document fault
+      ⊎ IsManyBlocksFault edit old.document fault)

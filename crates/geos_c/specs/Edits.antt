@@ -15,7 +15,7 @@ use Rattle.geos_model.specs.declared.handle.VmHandle.{VmHandle}
 use Rattle.vm_store.specs.Facts.{StoreFacts}
 use Rattle.document_file.specs.Disk.{KeepsCommitted}
 use Rattle.vm_blocks.specs.Keeping.{IsEnvironmentFault, is_loaded}
-use Rattle.doc_edits.specs.Planning.{IsChainEditFault, RefusesEdit}
+use Rattle.doc_edits.specs.Planning.{IsManyBlocksFault, RefusesEdit}
 use Rattle.doc_edits.specs.Room.{lacks_frames, ReadsNothing}
 use Rattle.undo_log.specs.Editing.{EditsInMemory}
 use Rattle.undo_log.specs.Locking.{IsBarred}
@@ -30,7 +30,7 @@ pub record Edits {S : Type 0} (facts : S → StoreFacts) (edit : Edit) (old new 
   pub refusals : IfErr answer (λ fault. IsBarred edit old fault ⊎ (
       RefusesEdit (IsEnvironmentFault facts old.disk.store new.disk.store) (lacks_frames (cache_of old) (edit_needs edit))
       edit new.document fault
-      ⊎ IsChainEditFault edit old.document fault))
+      ⊎ IsManyBlocksFault edit old.document fault))
   pub locked : ((target : Bool) → is_barred edit (machine_of target old) ≡ true) → (answer ≡ Err Locked) × (new ≡ old)
   pub shut : lacks_frames (cache_of old) (edit_needs edit) ≡ true → (new ≡ old)
       × IsErrAnd answer (λ fault. IsBarred edit old fault ⊎ RefusesEdit (λ f. f ≡ Memory) true edit old.document fault)

@@ -120,13 +120,13 @@ abbrev pub block_look_up : VmHandle → BlockLookUp → Command
 block_look_up b block_look_ups.Info = commands.Info b
 block_look_up b block_look_ups.ReadRaw = commands.ReadRaw b
 block_look_up b block_look_ups.Chunks = commands.Chunks b
-block_look_up b block_look_ups.LargeCount = commands.LargeCount b
 block_look_up b (block_look_ups.InChunk c asked) = chunk_look_up b c asked
 
 abbrev pub chain_look_up : ChainLookUp → Command
 chain_look_up (chain_look_ups.Walk b) = commands.Walk b
 chain_look_up (chain_look_ups.Size b) = commands.ChainSize b
 chain_look_up (chain_look_ups.Equal b other) = commands.ChainEqual b other
+chain_look_up (chain_look_ups.LargeCount b) = commands.LargeCount b
 chain_look_up (chain_look_ups.LargeElement b i) = commands.LargeElement b i
 chain_look_up (chain_look_ups.LargeRun b i n) = commands.LargeRun b i n
 

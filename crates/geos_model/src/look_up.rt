@@ -79,22 +79,21 @@ pub enum BlockLookUp<'a> {
     Info,
     ReadRaw,
     Chunks,
-    /// How many elements the large array has whose root it is.
-    LargeCount,
     InChunk(ChunkHandle, ChunkLookUp<'a>),
 }
 
-/// What is asked along chains and of the branches of large arrays, each of which has a root.
+/// What is asked along chains and of large arrays, each of which has a root.
 #[derive(Clone, Copy)]
 pub enum ChainLookUp {
     Walk(VmHandle),
     Size(VmHandle),
     Equal(VmHandle, VmHandle),
+    LargeCount(VmHandle),
     LargeElement(VmHandle, ElementCount),
     LargeRun(VmHandle, ElementCount, ElementCount),
 }
 
-/// What is asked, by the bodies that are looked into: none, that of one block, or those of chains.
+/// What is asked, by the bodies that are looked into: none, that of one block, or those of chains or large arrays.
 #[derive(Clone, Copy)]
 pub enum LookUp<'a> {
     List,
@@ -153,7 +152,7 @@ impl Command {
             Command::Walk(root) => LookUp::AlongChain(ChainLookUp::Walk(*root)),
             Command::ChainSize(root) => LookUp::AlongChain(ChainLookUp::Size(*root)),
             Command::ChainEqual(first, second) => LookUp::AlongChain(ChainLookUp::Equal(*first, *second)),
-            Command::LargeCount(root) => LookUp::InBlock(*root, BlockLookUp::LargeCount),
+            Command::LargeCount(root) => LookUp::AlongChain(ChainLookUp::LargeCount(*root)),
             Command::LargeElement(root, i) => LookUp::AlongChain(ChainLookUp::LargeElement(*root, *i)),
             Command::LargeRun(root, i, n) => LookUp::AlongChain(ChainLookUp::LargeRun(*root, *i, *n)),
         }

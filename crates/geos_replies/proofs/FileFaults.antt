@@ -29,7 +29,7 @@ use Rattle.vm_blocks.proofs.KeepingLaws.{lacks-cases}
 use Rattle.vm_chains.specs.Answers.{IsWrongRoot}
 use Rattle.vm_blocks.specs.State.{CacheState}
 use Rattle.doc_edits.specs.LookUps.{IsWrongRootOf, AnswersFromBlocks, AnswersChainFromBlocks, answer_of}
-use Rattle.doc_edits.specs.Planning.{IsChainEditFault, RefusesEdit}
+use Rattle.doc_edits.specs.Planning.{IsManyBlocksFault, RefusesEdit}
 use Rattle.doc_edits.specs.Room.{lacks_frames}
 use Rattle.undo_log.specs.Committing.{IsSaveAsRefused}
 use Rattle.undo_log.specs.Locking.{IsBarred}
@@ -113,7 +113,7 @@ root_other (commands.ChainEqual b other) d fault wrong is = roots_other d b.0 ot
 root_other _ d fault wrong is = wrong
 
 -- of an edit of a chain
-chain_other : (e : Edit) (d : Document) (fault : Fault) → IsChainEditFault e d fault → fault ≡ faults.File → ⊥
+chain_other : (e : Edit) (d : Document) (fault : Fault) → IsManyBlocksFault e d fault → fault ≡ faults.File → ⊥
 chain_other (edits.CopyChain b) d fault (inl (inl wrong)) is = wrong_other is_raw d b.0 fault wrong is
 chain_other (edits.CopyChain b) d fault (inl (inr bad)) is = cc (bad, is)
 chain_other (edits.CopyChain b) d fault (inr none) is = cc (none, is)
@@ -189,7 +189,7 @@ module _ {S : Type 0} (facts : S → StoreFacts) where
 
   -- of an edit
   pub file_edit : {A : Type 0} (e : Edit) (old new : SessionState S) (r : Result A Fault)
-      → IfErr r (λ fault. IsBarred e old fault ⊎ (RefusesEdit (IsEnvironmentFault facts old.disk.store new.disk.store) (lacks_frames (cache_of old) (edit_needs e)) e new.document fault ⊎ IsChainEditFault e old.document fault))
+      → IfErr r (λ fault. IsBarred e old fault ⊎ (RefusesEdit (IsEnvironmentFault facts old.disk.store new.disk.store) (lacks_frames (cache_of old) (edit_needs e)) e new.document fault ⊎ IsManyBlocksFault e old.document fault))
       → IfErr r (IsFailure facts old.disk.store new.disk.store)
   file_edit e old new (Ok x) refusals = tt
   file_edit e old new (Err fault) (inl barred) = λ is. cc (barred.0, is)

@@ -16,7 +16,7 @@ use Rattle.vm_blocks.specs.State.{CacheState}
 use Rattle.vm_blocks.specs.Keeping.{IsEnvironmentFault, KeepsBlocks}
 use Rattle.vm_blocks.specs.Preparing.{CanApplyByHandle, IsApplied}
 use Rattle.vm_blocks.specs.declared.change.Change.{Change}
-use Rattle.doc_edits.specs.Planning.{is_of_chain, kind_of_change, IsChainEditFault, Plans, RefusesEdit, RefusesInMemory}
+use Rattle.doc_edits.specs.Planning.{is_of_chain, kind_of_change, IsManyBlocksFault, Plans, RefusesEdit, RefusesInMemory}
 use Rattle.doc_edits.specs.Room.{lacks_frames, ReadsNothing}
 
 -- What a change means that was made, over any store: the edit, of the document as it was held once its block was
@@ -48,7 +48,7 @@ pub record MakesEdit {S : Type 0} (facts : S → StoreFacts) (edit : Edit) (old 
   pub refusals : IfErr result (λ fault.
       RefusesEdit (IsEnvironmentFault facts old.disk.store new.disk.store) (lacks_frames old (edit_needs edit)) edit
       new.document fault
-      ⊎ IsChainEditFault edit old.document fault)
+      ⊎ IsManyBlocksFault edit old.document fault)
   pub rules : IsTrue (facts old.disk.store).honest
       → IfErr result (RefusesEdit (IsEnvironmentFault facts old.disk.store new.disk.store)
       (lacks_frames old (edit_needs edit)) edit new.document)

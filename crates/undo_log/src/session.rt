@@ -21,7 +21,7 @@ ghost use Rattle.vm_blocks.specs.Keeping.{IsEnvironmentFault, is_loaded};
 ghost use Rattle.vm_blocks.specs.Locking.{CantLock, GainsLock, HasNoLock, LosesLock};
 ghost use Rattle.vm_blocks.specs.Opening.{IsOpenedFrom, IsNotOpened, IsMadeIn, IsNotMade};
 ghost use Rattle.chunk_edits.specs.declared.direction.Direction.TheVariants.{Backwards, Forwards};
-ghost use Rattle.doc_edits.specs.Planning.{IsChainEditFault, RefusesEdit};
+ghost use Rattle.doc_edits.specs.Planning.{IsManyBlocksFault, RefusesEdit};
 ghost use Rattle.doc_edits.specs.Room.{lacks_frames, ReadsNothing};
 ghost use Rattle.undo_log.specs.Editing.{EditsInMemory};
 ghost use Rattle.undo_log.specs.Locking.{IsBarred};
@@ -299,7 +299,7 @@ impl<S: Store> Session<S> {
         ensures refusals { IfErr result (λ fault. IsBarred edit.now self.old fault
             ⊎ (RefusesEdit (IsEnvironmentFault S.facts self.old.disk.store self.new.disk.store)
             (lacks_frames (cache_of self.old) (edit_needs edit.now)) edit.now self.new.document fault
-            ⊎ IsChainEditFault edit.now self.old.document fault)) }
+            ⊎ IsManyBlocksFault edit.now self.old.document fault)) }
         ensures locked { ((target : Bool) → is_barred edit.now (machine_of target self.old) ≡ true)
             → (result ≡ Err Fault.Locked) × (self.new ≡ self.old) }
         ensures shut { lacks_frames (cache_of self.old) (edit_needs edit.now) ≡ true → (self.new ≡ self.old)

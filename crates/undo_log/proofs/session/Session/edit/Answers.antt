@@ -13,7 +13,7 @@ use Rattle.document_file.proofs.PassingLemmas.{KeepsCommitted-refl}
 use Rattle.vm_blocks.specs.Keeping.{IsEnvironmentFault}
 use Rattle.chunk_edits.specs.declared.direction.Direction.TheVariants.{Backwards}
 use Rattle.vm_blocks.proofs.KeepingLaws.{keeps-refl, keeps-passes, lacks-memory}
-use Rattle.doc_edits.specs.Planning.{IsChainEditFault, RefusesEdit}
+use Rattle.doc_edits.specs.Planning.{IsManyBlocksFault, RefusesEdit}
 use Rattle.doc_edits.specs.Room.{lacks_frames, ReadsNothing}
 use Rattle.undo_log.specs.Editing.{EditsInMemory}
 use Rattle.undo_log.specs.Locking.{IsBarred, bars}
@@ -146,9 +146,9 @@ returns-in_err-change-clause-refusals g c =
     let old = session_with c.self.inside.blocks c.self.inside.log.lists in
     let p = err_from_is_err_and c.from_residual-in_err-change.result c.from_residual-in_err-change.ensures.1 in
     subst (λ (s : SessionState g.row.S.Denot). IfErr c.from_residual-in_err-change.result (λ fault. IsBarred c.args.edit.now s fault
-    ⊎ (RefusesEdit (IsEnvironmentFault facts s.disk.store new.disk.store) (lacks_frames (cache_of s) (edit_needs c.args.edit.now)) c.args.edit.now new.document fault ⊎ IsChainEditFault c.args.edit.now s.document fault))) c.self.view_is
+    ⊎ (RefusesEdit (IsEnvironmentFault facts s.disk.store new.disk.store) (lacks_frames (cache_of s) (edit_needs c.args.edit.now)) c.args.edit.now new.document fault ⊎ IsManyBlocksFault c.args.edit.now s.document fault))) c.self.view_is
     (subst (λ r. IfErr r (λ fault. IsBarred c.args.edit.now old fault
-    ⊎ (RefusesEdit (IsEnvironmentFault facts c.self.inside.blocks.disk.store new.disk.store) (lacks_frames c.self.inside.blocks (edit_needs c.args.edit.now)) c.args.edit.now new.document fault ⊎ IsChainEditFault c.args.edit.now c.self.inside.blocks.document fault)))
+    ⊎ (RefusesEdit (IsEnvironmentFault facts c.self.inside.blocks.disk.store new.disk.store) (lacks_frames c.self.inside.blocks (edit_needs c.args.edit.now)) c.args.edit.now new.document fault ⊎ IsManyBlocksFault c.args.edit.now c.self.inside.blocks.document fault)))
     (sym (p.1 ∙ ap Err p.2)) (inr (made_for c.target-target.ensures c.in_err-change.ensures).refusals))
 
 pub returns-in_err-change-clause-passes : goal.returns-in_err-change-clause-passes
