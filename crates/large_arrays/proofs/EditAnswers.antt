@@ -7,7 +7,7 @@ use Rattle.geos_model.specs.ElementArray.{all_distinct}
 use Rattle.geos_model.specs.Document.{Document, is_raw, raw_bytes_of, with_blocks, without_blocks}
 use Rattle.geos_model.specs.Refusal.{Conditions, first_refusal}
 use Rattle.geos_model.specs.declared.fault.Fault.{Fault}
-use Rattle.geos_model.specs.declared.fault.Fault.TheVariants.{NoElement, BadChain, IsMap, Range, TooBig, NoHandles}
+use Rattle.geos_model.specs.declared.fault.Fault.TheVariants.{BadChain, IsMap, NoHandles}
 use Rattle.vm_blocks.specs.declared.change.Change.{Change}
 use Rattle.vm_chains.specs.Answers.{AnswersChain}
 use Rattle.vm_chains.specs.Walking.{Stops}
@@ -154,7 +154,7 @@ module _ (d : Document) (b i j : ℕ) (new : BranchPiece) where
   planned-nothing changes plans nothing = (
     window-nothing d b i j new nothing,
     plans-same d changes (replaced-none d b i j new nothing)
-    (sym (cond-true ((i == j) && (length new == 0)) (b ∷ []) (freed_handles (window d b i j new) ++ b ∷ (window d b i j new).news) nothing)) plans,
+        (sym (cond-true ((i == j) && (length new == 0)) (b ∷ []) (freed_handles (window d b i j new) ++ b ∷ (window d b i j new).news) nothing)) plans,
   )
 
   module _ (some : ((i == j) && (length new == 0)) ≡ false) where

@@ -9,7 +9,7 @@ use Rattle.std.specs.Option.{option_map_or}
 use Rattle.std.specs.FinMap.{FinMap, get, insert, same_map, nat_cmp-IsAntisymmetric}
 use Rattle.geos_model.specs.Cost.{image_length}
 use Rattle.geos_model.specs.ElementArray.{all_distinct}
-use Rattle.geos_model.specs.Document.{Block, Document, is_live, is_raw, raw_bytes_of, handles_of, with_block, with_blocks, without_blocks}
+use Rattle.geos_model.specs.Document.{Block, Document, is_live, is_raw, raw_bytes_of, handles_of, with_block, without_blocks}
 use Rattle.geos_model.specs.Image.{image}
 use Rattle.geos_model.specs.declared.command.Body.TheVariants.{Raw}
 use Rattle.geos_model.proofs.BlockLists.{put_elsewhere, put_stands, taken_gone}

@@ -17,8 +17,8 @@ use Rattle.geos_model.specs.ChangedBlocks.{overwritten_blocks}
 use Rattle.large_arrays.specs.Loading.{IsRootRefusal}
 use Rattle.geos_model.specs.LargeWindow.{are_branches, elements_overwritten}
 
--- The changes, of which there are some, can be made of the document, one after another, and make this of it. They change
--- these blocks, and cost what that costs.
+-- There are changes, which can be made of the document, one after another, and make this of it. They change these
+-- blocks, and cost what that costs.
 pub record PlansLargeEdit (d after : Document) (changed : List ℕ) (changes : List Change) : Type 0 where
   pub applies : CanApplyAll changes d
   pub makes : after_changes changes d ≡ after

@@ -30,8 +30,8 @@ use vm_store::Store;
 
 /// Of the edit that puts elements in before the one at `i`, or behind the last one: as many as the bytes are, of an
 /// array whose elements vary in size one. NoBlock, WrongKind, NotArray; Range past the last one, or where the bytes are
-/// no whole number of elements; TooBig where no branch has room for the one that they are. Only then branches are looked
-/// at: BadChain, IsMap, NoHandles. Memory, File, Damaged.
+/// no whole number of elements; TooBig where no branch has room for the one that they are. Only then branches are
+/// looked at: BadChain, IsMap, NoHandles. Memory, File, Damaged.
 pub fn plan_insertion<S: Store>(
     alloc: Global,
     blocks: &mut FileBlocks<S>,
