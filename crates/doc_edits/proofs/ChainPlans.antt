@@ -3,11 +3,11 @@ use Rattle.std.proofs.Common.{◌≡◌, ◌⊎◌, ◌<◌, ◌≤◌, ℕ, Boo
 use Rattle.std.proofs.lemmas.Bool.{true≢false}
 use Rattle.std.specs.Result.{IsErrAnd}
 use Rattle.geos_model.specs.Refusal.{Conditions, first_refusal}
-use Rattle.geos_model.specs.Chain.{chain_blocks, chain_blocks_of, copies_of, free_handles, new_handles, on_chain, copy_conditions, free_conditions}
+use Rattle.geos_model.specs.Chain.{chain_blocks, chain_blocks_of, copies_of, free_handles, new_handles, copy_conditions, free_conditions}
 use Rattle.geos_model.specs.Cost.{images_length}
 use Rattle.geos_model.specs.Document.{Document, handles_of, with_blocks, without_blocks}
 use Rattle.geos_model.specs.Machine.{kind_of}
-use Rattle.geos_model.specs.Meaning.{conditions}
+use Rattle.geos_model.specs.Meaning.{conditions, on_raw}
 use Rattle.geos_model.specs.Places.{block_place}
 use Rattle.geos_model.specs.declared.command.Done.{Done}
 use Rattle.geos_model.specs.declared.command.Done.TheVariants as done
@@ -39,8 +39,8 @@ use Rattle.doc_edits.proofs.Refusals.{handed_on}
 -- or on the way, or given.
 module _ {S : Type 0} {facts : S → StoreFacts} {edit : Edit} {a : CacheState S} where
   module _ {r : Result (Change × Done) Fault} {fault : Fault} (is : IsErrAnd r (λ e. e ≡ fault)) where
-    pub plan_refused : (root : VmHandle) (rest : Conditions) → conditions edit a.document ≡ on_chain a.document root.0 ++ rest → AreLate rest
-        → ((rest : Conditions) → AreLate rest → first_refusal ((CacheFull, is_full a) ∷ on_chain a.document root.0 ++ rest) ≡ Some fault) → PlansAlongChain facts a a edit r
+    pub plan_refused : (root : VmHandle) (rest : Conditions) → conditions edit a.document ≡ on_raw a.document root.0 ++ rest → AreLate rest
+        → ((rest : Conditions) → AreLate rest → first_refusal ((CacheFull, is_full a) ∷ on_raw a.document root.0 ++ rest) ≡ Some fault) → PlansAlongChain facts a a edit r
     plan_refused root rest own late refuses =
         let first : first_refusal ((CacheFull, is_full a) ∷ conditions edit a.document) ≡ Some fault = ap (λ (cs : Conditions). first_refusal ((CacheFull, is_full a) ∷ cs)) own ∙ refuses rest late in
         handed_on (PlansAlongChain facts a a edit) r fault is

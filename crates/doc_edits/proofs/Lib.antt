@@ -12,8 +12,10 @@ pub mod FirstConditions
 pub mod Loading
 pub mod ChunkPlans
 pub mod LookUps
+pub mod LargeLookUps
 pub mod Forms
 pub mod BlockPlans
 pub mod ChainPlans
+pub mod LargePlans
 pub mod Planned
 pub mod EditedArrays

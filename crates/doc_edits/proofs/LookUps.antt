@@ -36,7 +36,7 @@ use Rattle.vm_blocks.specs.Keeping.{KeepsBlocks, IsEnvironmentFault, IsHonest, I
 use Rattle.vm_blocks.proofs.KeepingLaws.{keeps-refl}
 use Rattle.vm_blocks.specs.Kinds.{IsWrongBlock}
 use Rattle.doc_edits.specs.Found.{AreLate, IsChunkAt}
-use Rattle.doc_edits.specs.LookUps.{answer_of, chunk_asked, makes_list, AnswersInChunk, FindsInMemory, IsWrongRootOf, LooksUp, LooksUpInMemory, RefusesChunk, AnswersFromBlocks, AnswersChainFromBlocks, ShowsOrRefuses}
+use Rattle.doc_edits.specs.LookUps.{answer_of, chunk_asked, makes_list, AnswersInChunk, FindsInMemory, IsRootFaultOf, LooksUp, LooksUpInMemory, RefusesChunk, AnswersFromBlocks, AnswersChainFromBlocks, ShowsOrRefuses}
 use Rattle.doc_edits.specs.Room.{lacks_frames, IsChainRefusal, IsRefusedEarly, ReadsNothing}
 use Rattle.doc_edits.specs.declared.look_ups.Lists.{Lists}
 use Rattle.doc_edits.specs.declared.look_ups.Prepared.{Prepared}
@@ -84,14 +84,14 @@ refused_reply : {T : Type 0} (f : T → Reply) (P : Fault → Type 0) → ((x : 
 refused_reply f P never (Ok x) why fault is = absurd (never x fault is)
 refused_reply f P never (Err e) why fault is = let same : e ≡ fault = cc is in subst P same why
 
--- A look-up along chains,
+-- A look-up along chains or of a large array,
 module _ {S T : Type 0} (facts : S → StoreFacts) (command : Command) (f : T → Reply) (never : (x : T) (fault : Fault) → f x ≡ Refused fault → ⊥) (r : Result T Fault) (a : CacheState S) where
   -- that is refused before any block is looked into,
   pub refused_along : (fault : Fault) → IsErrAnd r (λ e. e ≡ fault) → first_refusal ((CacheFull, is_full a) ∷ look_up_conditions command a.document) ≡ Some fault
-      → IsRefusedEarly (IsWrongRootOf command a.document) (is_full a) fault → AnswersChainFromBlocks facts a a command (reply_by f r)
+      → IsRefusedEarly (IsRootFaultOf command a.document) (is_full a) fault → AnswersChainFromBlocks facts a a command (reply_by f r)
   refused_along fault is first early =
       let lacks = IsEnvironmentFault facts a.disk.store a.disk.store in
-      let root = IsWrongRootOf command a.document in
+      let root = IsRootFaultOf command a.document in
       record {
         keeps = keeps-refl facts a;
         value = λ steady. refused_as lacks (is_full a) command a.document f r fault is (look_up_refused lacks (is_full a) command a.document fault first);
@@ -106,14 +106,14 @@ module _ {S T : Type 0} (facts : S → StoreFacts) (command : Command) (f : T �
   -- or goes along them.
   pub seen_along : (b : CacheState S) (P : T → Type 0) → is_full a ≡ false → KeepsBlocks facts a b → ((x : T) → P x → look_up command b.document ≡ Some (f x))
       → (IsHonest facts a.disk.store → AnswersChain (IsEnvironmentFault facts a.disk.store b.disk.store) (look_up_conditions command b.document) P r)
-      → IfErr r (IsWalkRefusal (IsEnvironmentFault facts a.disk.store b.disk.store) (IsWrongRootOf command a.document)) → AnswersChainFromBlocks facts a b command (reply_by f r)
+      → IfErr r (IsWalkRefusal (IsEnvironmentFault facts a.disk.store b.disk.store) (IsRootFaultOf command a.document)) → AnswersChainFromBlocks facts a b command (reply_by f r)
   seen_along b P room keeps does answers refusals =
       let lacks = IsEnvironmentFault facts a.disk.store b.disk.store in
       record {
         keeps = keeps;
         value = λ steady. chain_answered lacks (is_full a) room command b.document f P r does (answers steady);
         shut = λ full. absurd (true≢false (sym full ∙ room));
-        refusals = λ fault is. inl (refused_reply f (IsWalkRefusal lacks (IsWrongRootOf command a.document)) never r refusals fault is);
+        refusals = λ fault is. inl (refused_reply f (IsWalkRefusal lacks (IsRootFaultOf command a.document)) never r refusals fault is);
       }
 
 -- the refusals of a look-up into a chunk are those for the chunk, and later ones
@@ -145,6 +145,9 @@ look_up_cases (commands.Chunks b) d = tt
 look_up_cases (commands.Walk b) d = tt
 look_up_cases (commands.ChainSize b) d = tt
 look_up_cases (commands.ChainEqual b other) d = tt
+look_up_cases (commands.LargeCount b) d = tt
+look_up_cases (commands.LargeElement b i) d = tt
+look_up_cases (commands.LargeRun b i n) d = tt
 look_up_cases (commands.Lock b) d = tt
 look_up_cases (commands.Unlock b) d = tt
 look_up_cases (commands.Dirty b) d = tt

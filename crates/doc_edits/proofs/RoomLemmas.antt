@@ -1,15 +1,15 @@
 -- What is answered where there may be no room in memory for the block into which a command looks.
-use Rattle.std.proofs.Common.{◌≡◌, ◌⊎◌, ◌++◌, ◌∷◌, ℕ, Bool, true, false, Result, Ok, Err, IsOk, IfOk, IfErr, Some, is_none, [], refl, sym, ap, subst, ◌∙◌, inl, inr}
+use Rattle.std.proofs.Common.{◌≡◌, ◌⊎◌, ◌++◌, ◌∷◌, ℕ, Bool, true, false, Result, Ok, Err, IsOk, IfOk, IfErr, Some, [], refl, sym, ap, subst, ◌∙◌, inl, inr}
 use Rattle.std.proofs.lemmas.Bool.{cases_Bool, true≢false}
 use Rattle.vm_store.specs.Facts.{StoreFacts}
 use Rattle.geos_model.specs.Document.{Document, is_heap, is_live, is_raw}
-use Rattle.geos_model.specs.Chain.{chain, on_chain, on_chains}
+use Rattle.geos_model.specs.Chain.{on_chains}
 use Rattle.geos_model.specs.Machine.{Needs, NoBody, OneBody, ManyBodies}
 use Rattle.geos_model.specs.Meaning.{on_block, on_raw, on_heap}
 use Rattle.geos_model.specs.Refusal.{Conditions, first_refusal}
 use Rattle.geos_model.specs.declared.fault.Fault.{Fault}
-use Rattle.geos_model.specs.declared.fault.Fault.TheVariants.{BadChain, NoBlock, WrongKind, CacheFull}
-use Rattle.geos_model.proofs.FirstRefusals.{ComesBefore, still_first, full-block, full-chain, full-chains, full-heap, full-raw}
+use Rattle.geos_model.specs.declared.fault.Fault.TheVariants.{NoBlock, WrongKind, CacheFull}
+use Rattle.geos_model.proofs.FirstRefusals.{ComesBefore, still_first, full-block, full-chains, full-heap, full-raw}
 use Rattle.vm_blocks.specs.State.{CacheState}
 use Rattle.vm_blocks.specs.Keeping.{KeepsBlocks, IsCacheFull, is_loaded, has_no_frame_for}
 use Rattle.vm_blocks.specs.Kinds.{IsWrongBlock}
@@ -60,14 +60,20 @@ module _ (h : ℕ) (conditions : Document → Conditions) where
     full = λ d heap. let first = begins d in ap (λ (cs : Conditions). first_refusal ((CacheFull, true) ∷ cs)) first.2 ∙ full-heap late_faults first.0 first.1 refl true refl d h (heap_live d h heap) heap;
   }
 
--- A chain is looked for from its root, and then room for any block.
+-- A chain or a large array is looked for from its root, and then room for any block.
 
-pub root_refused : (d : Document) (h : ℕ) (full : Bool) (fault : Fault) → IsWrongBlock is_raw d h fault → (rest : Conditions) → AreLate rest → first_refusal ((CacheFull, full) ∷ on_chain d h ++ rest) ≡ Some fault
+pub root_refused : (d : Document) (h : ℕ) (full : Bool) (fault : Fault) → IsWrongBlock is_raw d h fault → (rest : Conditions) → AreLate rest → first_refusal ((CacheFull, full) ∷ on_raw d h ++ rest) ≡ Some fault
 root_refused d h full fault other = λ rest late.
-    still_first CacheFull full (on_chain d h ++ rest) fault (other_before is_raw d h fault other) (raw_other d h ((BadChain, is_none (chain d h)) ∷ rest) fault other late)
+    still_first CacheFull full (on_raw d h ++ rest) fault (other_before is_raw d h fault other) (raw_other d h rest fault other late)
 
-pub chain_full : (d : Document) (h : ℕ) (full : Bool) (fault : Fault) → is_raw d h ≡ true → (fault ≡ CacheFull) × (full ≡ true) → (rest : Conditions) → AreLate rest → first_refusal ((CacheFull, full) ∷ on_chain d h ++ rest) ≡ Some fault
-chain_full d h full fault raw is = λ rest late. full-chain late_faults rest late refl full is.1 d h (raw_live d h raw) raw ∙ ap (λ (f : Fault). Some f) (sym is.0)
+pub root_full : (d : Document) (h : ℕ) (full : Bool) (fault : Fault) → is_raw d h ≡ true → (fault ≡ CacheFull) × (full ≡ true) → (rest : Conditions) → AreLate rest → first_refusal ((CacheFull, full) ∷ on_raw d h ++ rest) ≡ Some fault
+root_full d h full fault raw is = λ rest late. full-raw late_faults rest late refl full is.1 d h (raw_live d h raw) raw ∙ ap (λ (f : Fault). Some f) (sym is.0)
+
+-- whatever comes later
+pub begun_refused : (h : ℕ) (conditions : Document → Conditions) → Begins on_raw h conditions → (d : Document) (full : Bool) (fault : Fault)
+    → ((rest : Conditions) → AreLate rest → first_refusal ((CacheFull, full) ∷ on_raw d h ++ rest) ≡ Some fault) → first_refusal ((CacheFull, full) ∷ conditions d) ≡ Some fault
+begun_refused h conditions begins d full fault refuses =
+    let begin = begins d in ap (λ (cs : Conditions). first_refusal ((CacheFull, full) ∷ cs)) begin.2 ∙ refuses begin.0 begin.1
 
 pub early_of_chain : (lacks root : Fault → Type 0) (full : Bool) (fault : Fault) → IsRefusedEarly root full fault → IsChainRefusal lacks root full fault
 early_of_chain lacks root full fault (inl refused) = inl (inr (inl refused))

@@ -1,14 +1,14 @@
 -- What a look-up may answer of a document, and what it leaves of it.
-use Rattle.std.specs.Prelude.{◌≡◌, ◌⊎◌, ⊤, ℕ, List, Bool, true, false, ◌∷◌, Option, None, Some, Result, Ok, Err, IfErr, MatchResult}
+use Rattle.std.specs.Prelude.{◌≡◌, ◌⊎◌, ◌≤◌, ◌-◌, ⊤, ℕ, List, [], Bool, true, false, ◌∷◌, Option, None, Some, Result, Ok, Err, IfErr, MatchResult, length, take, drop}
 use Rattle.std.specs.Option.{option_map_or}
 use Rattle.std.specs.Borrow.{follows_so, Fml, RattleType, MutBor}
 use Rattle.geos_model.specs.Refusal.{first_refusal}
-use Rattle.geos_model.specs.Document.{Document, is_heap, is_raw}
+use Rattle.geos_model.specs.Document.{Document, is_heap, is_raw, raw_bytes_of}
 use Rattle.geos_model.specs.LookUps.{array_look_up}
 use Rattle.geos_model.specs.Machine.{OneBody, look_up_needs}
-use Rattle.geos_model.specs.Reply.{Reply, AreEqual, NumberIs, Refused, blocks_are, chunks_are, info_is, look_up_conditions, look_up}
+use Rattle.geos_model.specs.Reply.{Reply, AreEqual, BytesAre, NumberIs, Refused, blocks_are, chunks_are, info_is, look_up_conditions, look_up}
 use Rattle.geos_model.specs.declared.fault.Fault.{Fault}
-use Rattle.geos_model.specs.declared.fault.Fault.TheVariants.{CacheFull, Memory}
+use Rattle.geos_model.specs.declared.fault.Fault.TheVariants.{CacheFull, Memory, NotArray, NoElement, Range}
 use Rattle.geos_model.specs.declared.command.Command.{Command}
 use Rattle.geos_model.specs.declared.command.Command.TheVariants as commands
 use Rattle.geos_model.specs.declared.handle.ChunkHandle.{ChunkHandle}
@@ -18,8 +18,9 @@ use Rattle.vm_blocks.specs.State.{CacheState}
 use Rattle.vm_blocks.specs.Keeping.{KeepsBlocks, IsEnvironmentFault, IsHonest, is_full, is_loaded, has_no_frame_for}
 use Rattle.vm_blocks.specs.Kinds.{IsWrongBlock}
 use Rattle.vm_chains.specs.Answers.{IsWrongRoot}
-use Rattle.doc_edits.specs.Found.{IsChunkAt, IsChunkLive}
+use Rattle.doc_edits.specs.Found.{IsChunkAt, IsChunkLive, is_among}
 use Rattle.doc_edits.specs.Room.{lacks_frames, IsChainRefusal, ReadsNothing}
+use Rattle.doc_edits.specs.declared.look_ups.ElementPlace.{ElementPlace}
 use Rattle.doc_edits.specs.declared.look_ups.Lists.{Lists}
 use Rattle.doc_edits.specs.declared.look_ups.Prepared.{Prepared}
 use Rattle.doc_edits.specs.declared.look_ups.Prepared.TheVariants as prepared
@@ -80,15 +81,25 @@ pub record AnswersFromBlocks {S : Type 0} (facts : S → StoreFacts) (old new : 
   pub already : ReadsNothing old (look_up_needs command) (look_up_conditions command old.document)
       → (new.disk ≡ old.disk) × (new.document ≡ old.document) × LooksUpInMemory command old.document reply
 
--- why a look-up along chains is refused for their roots, without a look into any block
-abbrev pub IsWrongRootOf : Command → Document → Fault → Type 0
-IsWrongRootOf (commands.Walk b) d = IsWrongBlock is_raw d b.0
-IsWrongRootOf (commands.ChainSize b) d = IsWrongBlock is_raw d b.0
-IsWrongRootOf (commands.ChainEqual b other) d = IsWrongRoot d b.0 other.0
-IsWrongRootOf command d = λ fault. ⊥
+-- What a look-up of a large array is refused for by its root: for what handles and kinds tell, or for one of these.
+abbrev pub IsArrayRootFault : List Fault → Document → ℕ → Fault → Type 0
+IsArrayRootFault faults d b fault = IsWrongBlock is_raw d b fault ⊎ (is_among faults fault ≡ true)
 
--- What a look-up along chains comes to: the file is kept, and, if the store gives back what it has, the document as it
--- is held from then on is looked up. Where each frame has a locked block nothing changes, and the document before is.
+-- What a look-up along chains or of a large array is refused for by their roots: of chains for what handles and kinds
+-- tell, and of an array also where its bytes are no root, or have too few elements for what is asked, or those of
+-- another kind.
+abbrev pub IsRootFaultOf : Command → Document → Fault → Type 0
+IsRootFaultOf (commands.Walk b) d = IsWrongBlock is_raw d b.0
+IsRootFaultOf (commands.ChainSize b) d = IsWrongBlock is_raw d b.0
+IsRootFaultOf (commands.ChainEqual b other) d = IsWrongRoot d b.0 other.0
+IsRootFaultOf (commands.LargeCount b) d = IsArrayRootFault (NotArray ∷ []) d b.0
+IsRootFaultOf (commands.LargeElement b i) d = IsArrayRootFault (NotArray ∷ NoElement ∷ []) d b.0
+IsRootFaultOf (commands.LargeRun b i n) d = IsArrayRootFault (NotArray ∷ NoElement ∷ Range ∷ []) d b.0
+IsRootFaultOf command d = λ fault. ⊥
+
+-- What a look-up along chains or of a large array comes to: the file is kept, and, if the store gives back what it has,
+-- the document as it is held from then on is looked up. Where each frame has a locked block nothing changes, and the
+-- document before is.
 pub record AnswersChainFromBlocks {S : Type 0} (facts : S → StoreFacts) (old new : CacheState S) (command : Command)
     (reply : Reply) : Type 0 where
   pub keeps : KeepsBlocks facts old new
@@ -97,7 +108,7 @@ pub record AnswersChainFromBlocks {S : Type 0} (facts : S → StoreFacts) (old n
   pub shut : is_full old ≡ true → (new ≡ old) × (answer_of true command old.document ≡ Some reply)
   pub refusals : (fault : Fault) → reply ≡ Refused fault
       → IsChainRefusal (IsEnvironmentFault facts old.disk.store new.disk.store)
-      (IsWrongRootOf command old.document) (is_full old) fault
+      (IsRootFaultOf command old.document) (is_full old) fault
 
 -- A chunk is looked for without the store where no body has to be read for a look-up into it, which is then refused by
 -- the rules alone.
@@ -130,17 +141,30 @@ AnswersInChunk bytes asks reply =
     (d : Document) (b : VmHandle) (c : ChunkHandle) → IsChunkAt d b.0 c.0 bytes
     → answer_of false (asks b c) d ≡ Some reply
 
+-- An element stands in a raw block in memory, which has bytes there.
+pub record IsElementLoaded {S : Type 0} (s : CacheState S) (p : ElementPlace) : Type 0 where
+  pub loaded : is_loaded s p.block.0 ≡ true
+  pub raw : is_raw s.document p.block.0 ≡ true
+  pub order : p.start ≤ p.end
+  pub within : p.end ≤ length (raw_bytes_of s.document p.block.0)
+
+-- these bytes
+abbrev pub placed_bytes : Document → ElementPlace → List ℕ
+placed_bytes d p = take (p.end - p.start) (drop p.start (raw_bytes_of d p.block.0))
+
 -- the block in which the answer stands is in memory
 abbrev pub IsPreparedLookUp : {S : Type 0} → Prepared → CacheState S → Type 0
 IsPreparedLookUp (prepared.Raw b) s = (is_loaded s b.0 ≡ true) × (is_raw s.document b.0 ≡ true)
 IsPreparedLookUp (prepared.Chunk b c) s = (is_loaded s b.0 ≡ true) × (is_heap s.document b.0 ≡ true)
 IsPreparedLookUp (prepared.Array b c asked) s = (is_loaded s b.0 ≡ true) × IsChunkLive s.document b.0 c.0
+IsPreparedLookUp (prepared.Element place) s = IsElementLoaded s place
 IsPreparedLookUp _ s = ⊤
 
 -- it is a list
 abbrev pub is_list : Prepared → Bool
 is_list prepared.Blocks = true
 is_list prepared.Chunks = true
+is_list prepared.Bytes = true
 is_list _ = false
 
 -- what is answered of what was prepared: it, a list, or what the document answers
@@ -150,9 +174,11 @@ Shows (prepared.Number n) s lists reply = reply ≡ NumberIs n
 Shows (prepared.Equal equal) s lists reply = reply ≡ AreEqual equal
 Shows prepared.Blocks s lists reply = reply ≡ blocks_are lists.blocks.items
 Shows prepared.Chunks s lists reply = reply ≡ chunks_are lists.chunks.items
+Shows prepared.Bytes s lists reply = reply ≡ BytesAre lists.bytes.items
 Shows (prepared.Raw b) s lists reply = answer_of false (commands.ReadRaw b) s.document ≡ Some reply
 Shows (prepared.Chunk b c) s lists reply = answer_of false (commands.Read b c) s.document ≡ Some reply
 Shows (prepared.Array b c asked) s lists reply = answer_of false (array_look_up b c asked) s.document ≡ Some reply
+Shows (prepared.Element place) s lists reply = reply ≡ BytesAre (placed_bytes s.document place)
 
 -- or why nothing was prepared
 abbrev pub ShowsOrRefuses : {S : Type 0} → Result Prepared Fault → CacheState S → Lists → Reply → Type 0

@@ -1,5 +1,6 @@
 -- What planning an edit comes to.
-use Rattle.std.specs.Prelude.{◌≡◌, ◌<◌, ◌⊎◌, ◌+◌, ℕ, Bool, true, false, List, [], ◌∷◌, ◌++◌, None, Some, length, Result, IfOk, IfErr, MatchResult, Vec}
+use Rattle.std.specs.Prelude.{◌≡◌, ◌<◌, ◌⊎◌, ℕ, Bool, true, false, List, [], ◌∷◌, ◌++◌, None, Some, length, Result, IfOk, IfErr, MatchResult, Vec}
+use Rattle.std.specs.Global.{Global}
 use Rattle.std.specs.List.{flat_map, sum_by}
 use Rattle.geos_model.specs.Refusal.{first_refusal}
 use Rattle.geos_model.specs.Document.{Document, handles_of, is_raw}
@@ -154,7 +155,7 @@ pub record PlansAll (edit : Edit) (d : Document) (changes : List Change) : Type 
 -- plan is given only where some frame has no locked block. Where each frame has one nothing changes, and the answer is
 -- the first refusal of the document before, CacheFull counted among them.
 pub record PlansLarge {S : Type 0} (facts : S → StoreFacts) (old new : CacheState S) (edit : Edit)
-    (result : Result (Vec Change) Fault) : Type 0 where
+    (result : Result (Vec Change Global) Fault) : Type 0 where
   pub keeps : KeepsBlocks facts old new
   pub planned : IsHonest facts old.disk.store
       → MatchResult result (λ changes. PlansAll edit new.document changes.items)

@@ -8,8 +8,8 @@ use Rattle.vm_blocks.specs.State.{CacheState}
 use Rattle.vm_blocks.specs.Keeping.{is_full, is_loaded, has_no_frame_for}
 use Rattle.vm_chains.specs.Answers.{IsWalkRefusal}
 
--- A block that isn't locked can't be brought into memory where each frame has a locked one, and those of a chain are
--- not even looked for.
+-- A block that isn't locked can't be brought into memory where each frame has a locked one, and those of a chain or of
+-- a large array are not even looked for.
 abbrev pub lacks_frames : {S : Type 0} → CacheState S → Needs → Bool
 lacks_frames state needs = lacks_room (has_no_frame_for state) (is_full state) needs
 
@@ -24,10 +24,11 @@ ReadsNothing state NoBody conditions = Unit {0}
 ReadsNothing state (OneBody b) conditions = (is_loaded state b ≡ true) ⊎ IsRefusedUnseen conditions
 ReadsNothing state ManyBodies conditions = ⊥
 
--- A refusal of a command along a chain, whose root may be refused so, that is told before any block is looked into.
+-- A refusal of a command along a chain or of a large array, whose root may be refused so, that is told before any block
+-- is looked into.
 abbrev pub IsRefusedEarly : (Fault → Type 0) → Bool → Fault → Type 0
 IsRefusedEarly root full fault = root fault ⊎ ((fault ≡ CacheFull) × (full ≡ true))
 
--- what a look-up along a chain is refused for, over any store
+-- what a look-up along a chain or of a large array is refused for, over any store
 abbrev pub IsChainRefusal : (Fault → Type 0) → (Fault → Type 0) → Bool → Fault → Type 0
 IsChainRefusal lacks root full fault = IsWalkRefusal lacks root fault ⊎ ((fault ≡ CacheFull) × (full ≡ true))

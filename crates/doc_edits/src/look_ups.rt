@@ -3,19 +3,19 @@ ghost use Rattle.std.specs.Prelude.{◌≡◌, [], true, false, IfOk, MatchResul
 ghost use Rattle.geos_model.specs.ArrayEdits.{array_in, on_array, on_element};
 ghost use Rattle.geos_model.specs.Forms.{form_asked, has_form};
 ghost use Rattle.geos_model.specs.LookUps.{array_look_up, block_look_up, chain_look_up, chunk_array_look_up, chunk_look_up, element_array_look_up, name_array_look_up};
-ghost use Rattle.geos_model.specs.Reply.{Reply as Answer, AreEqual, NumberIs, reply_by, reply_of, info_is, blocks_are, chunks_are};
+ghost use Rattle.geos_model.specs.Reply.{Reply as Answer, AreEqual, BytesAre, NumberIs, reply_by, reply_of, info_is, blocks_are, chunks_are};
 ghost use Rattle.geos_model.specs.declared.command.Command.TheVariants as commands;
 ghost use Rattle.vm_blocks.specs.Keeping.{KeepsBlocks, is_loaded};
 ghost use Rattle.element_arrays.specs.Answering.{IsAnswered, IsRefused};
 ghost use Rattle.doc_edits.specs.declared.look_ups.Lists.{Lists};
-ghost use Rattle.doc_edits.specs.LookUps.{AnswersInChunk, FindsChunk, IsPreparedLookUp, AnswersFromBlocks, AnswersChainFromBlocks, Shows, ShowsOrRefuses, is_list};
+ghost use Rattle.doc_edits.specs.LookUps.{AnswersInChunk, FindsChunk, IsElementLoaded, IsPreparedLookUp, AnswersFromBlocks, AnswersChainFromBlocks, Shows, ShowsOrRefuses, is_list, placed_bytes};
 
 use crate::found::{bytes_in, heap_at, known_at, raw_at};
 use crate::marking::test_array;
 use crate::room::{test_chain, test_chains};
 use geos_model::{
     ArrayLookUp, BlockLookUp, ChainLookUp, ChunkArrayLookUp, ChunkHandle, ChunkLookUp,
-    ElementArrayLookUp, Fault, Info, NameArrayLookUp, Reply, VmHandle,
+    ElementArrayLookUp, ElementCount, Fault, Info, NameArrayLookUp, Reply, VmHandle,
 };
 use lmem_heap::{ArrayKind, KnownBytes};
 use std::alloc::Global;
@@ -121,11 +121,67 @@ fn chain_equal<S: Store>(
     vm_chains::equal(alloc, blocks, first, second)
 }
 
+/// How many elements a large array has.
+fn large_count<S: Store>(blocks: &mut FileBlocks<S>, root: VmHandle) -> Result<u32, Fault>
+    ensures { AnswersChainFromBlocks S.facts blocks.old blocks.new (commands.LargeCount root)
+        (reply_by NumberIs result) }
+{
+    test_chain(blocks, root)?;
+    Err(Fault::Memory)
+}
+
+/// Where an element of a large array stands: in a block, from one byte up to another.
+#[derive(Clone, Copy)]
+pub struct ElementPlace {
+    pub block: VmHandle,
+    pub start: usize,
+    pub end: usize,
+}
+
+/// Where an element of a large array stands, in a block that is in memory then.
+fn large_element<S: Store>(
+    blocks: &mut FileBlocks<S>,
+    root: VmHandle,
+    i: ElementCount,
+) -> Result<ElementPlace, Fault>
+    ensures answers { AnswersChainFromBlocks S.facts blocks.old blocks.new (commands.LargeElement root i)
+        (reply_by (λ place. BytesAre (placed_bytes blocks.new.document place)) result) }
+    ensures ready { IfOk result (IsElementLoaded blocks.new) }
+{
+    test_chain(blocks, root)?;
+    Err(Fault::Memory)
+}
+
+/// The bytes of an element that was prepared, where they lie.
+fn element<S: Store>(blocks: &FileBlocks<S>, place: ElementPlace) -> &[u8]
+    requires { IsElementLoaded blocks.now place }
+    ensures { result.now ≡ placed_bytes blocks.now.document place }
+{
+    &raw_at(blocks, place.block).bytes()[place.start..place.end]
+}
+
+/// The bytes of elements of a large array, one after another.
+fn large_run<S: Store>(
+    alloc: Global,
+    blocks: &mut FileBlocks<S>,
+    root: VmHandle,
+    i: ElementCount,
+    n: ElementCount,
+) -> Result<Vec<u8>, Fault>
+    ensures { AnswersChainFromBlocks S.facts blocks.old blocks.new (commands.LargeRun root i n)
+        (reply_by (λ bytes. BytesAre bytes.items) result) }
+{
+    test_chain(blocks, root)?;
+    Err(Fault::Memory)
+}
+
 /// The lists that were asked for last, of which replies are lent.
 #[derive(Drop)]
 pub struct Lists {
     pub blocks: Vec<VmHandle>,
     pub chunks: Vec<ChunkHandle>,
+    /// Those of elements of a large array.
+    pub bytes: Vec<u8>,
 }
 
 impl Lists {
@@ -134,6 +190,7 @@ impl Lists {
         Lists {
             blocks: Vec::new(alloc),
             chunks: Vec::new(alloc),
+            bytes: Vec::new(alloc),
         }
     }
 }
@@ -148,12 +205,16 @@ pub enum Prepared<'a> {
     Blocks,
     /// The list of chunks.
     Chunks,
+    /// The list of bytes.
+    Bytes,
     /// The bytes of a raw block in memory.
     Raw(VmHandle),
     /// The bytes of a chunk of a heap in memory, if it is live.
     Chunk(VmHandle, ChunkHandle),
     /// What is asked of the array in a live chunk of a heap in memory.
     Array(VmHandle, ChunkHandle, ArrayLookUp<'a>),
+    /// The bytes of an element of a large array, in a raw block in memory.
+    Element(ElementPlace),
 }
 
 /// Brings into memory what a look-up into one block looks into.
@@ -215,7 +276,7 @@ fn kind_asked(asked: ArrayLookUp<'_>) -> ArrayKind {
     }
 }
 
-/// Looks up along chains, whose blocks are brought into memory one after another.
+/// Looks up along chains and in large arrays, whose blocks are brought into memory one after another.
 pub fn prepare_along_chain<'a, S: Store>(
     alloc: Global,
     blocks: &mut FileBlocks<S>,
@@ -241,6 +302,18 @@ pub fn prepare_along_chain<'a, S: Store>(
             let equal = chain_equal(alloc, blocks, first, second)?;
             Ok(Prepared::Equal(equal))
         }
+        ChainLookUp::LargeCount(root) => {
+            let count = large_count(blocks, root)?;
+            Ok(Prepared::Number(u64::from(count)))
+        }
+        ChainLookUp::LargeElement(root, i) => {
+            let place = large_element(blocks, root, i)?;
+            Ok(Prepared::Element(place))
+        }
+        ChainLookUp::LargeRun(root, i, n) => {
+            lists.bytes = large_run(alloc, blocks, root, i, n)?;
+            Ok(Prepared::Bytes)
+        }
     }
 }
 
@@ -257,7 +330,7 @@ pub fn answer<'a, S: Store>(
         Prepared::Info(info) => Ok(Reply::Info(info)),
         Prepared::Number(n) => Ok(Reply::Number(n)),
         Prepared::Equal(equal) => Ok(Reply::Equal(equal)),
-        Prepared::Blocks | Prepared::Chunks => unreachable!(),
+        Prepared::Blocks | Prepared::Chunks | Prepared::Bytes => unreachable!(),
         Prepared::Raw(block) => Ok(Reply::Bytes(raw_at(blocks, block).bytes())),
         Prepared::Chunk(block, chunk) => {
             bytes_in(heap_at(blocks, block), chunk).map(Reply::Bytes)
@@ -265,6 +338,7 @@ pub fn answer<'a, S: Store>(
         Prepared::Array(block, chunk, asked) => {
             array_reply(&known_at(blocks, block, chunk), asked)
         }
+        Prepared::Element(place) => Ok(Reply::Bytes(element(blocks, place))),
     }
 }
 

@@ -5,6 +5,7 @@ ghost use Rattle.doc_edits.specs.Planning.{PlansEdit};
 use crate::block_plans::{plan_block, plan_new_block, plan_setting};
 use crate::chain_plans::plan_chain;
 use crate::chunk_plans::{plan_array, plan_bytes, plan_free_chunk, plan_new_chunk};
+use crate::large_plans::plan_new_large;
 use crate::marking::{array_kind, test_array};
 use crate::raw_plans::plan_raw;
 use geos_model::{
@@ -34,6 +35,7 @@ pub fn plan<S: Store>(
         Target::NewChunk(handle, new) => plan_in_heap(alloc, blocks, handle, new),
         Target::Chunk(handle, chunk, edit) => plan_in_chunk(alloc, blocks, handle, chunk, edit),
         Target::Chain(root, edit) => plan_chain(alloc, blocks, root, edit),
+        Target::NewLarge(user_id, size) => plan_new_large(alloc, blocks, user_id, size),
     }
 }
 
