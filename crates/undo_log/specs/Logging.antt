@@ -202,6 +202,21 @@ added_to (Some cs) c log = record (without_redo log) { group = Some (c ∷ cs); 
 abbrev pub with_change : Change → Log → Log
 with_change c log = added_to log.group c log
 
+-- So are those of an edit of a large array together, in the order in which they were made.
+abbrev pub all_added_to : Option (List Change) → List Change → Log → Log
+all_added_to None cs log = record (with_entry (entries.Group (reverse cs)) log) {
+  redo = [];
+  redo_names = [];
+  touched = all_places Forwards cs;
+}
+all_added_to (Some ds) cs log = record (without_redo log) {
+  group = Some (reverse cs ++ ds);
+  touched = all_places Forwards cs;
+}
+
+abbrev pub with_changes : List Change → Log → Log
+with_changes cs log = all_added_to log.group cs log
+
 -- the group is the newest entry, if it has changes
 abbrev pub closed_with : Option (List Change) → Log → Log
 closed_with None log = log
@@ -281,8 +296,10 @@ abandoned_log log = record log { group = None; touched = all_places Backwards (o
 abbrev pub retold : Touched → Log → Log
 retold last log = record log { touched = told last (newest_changes log.undo log.group) (next_changes log.redo) }
 
--- A log, what it tells of, and whether there is room for one change more.
+-- A log, what it tells of, whether there is a place for an entry more, to which entries that can be made again give way,
+-- and how many changes more the open group has room for.
 pub record LogState : Type 0 where
   pub lists : Log
   pub last : Touched
-  pub room : Bool
+  pub place : Bool
+  pub spare : ℕ
