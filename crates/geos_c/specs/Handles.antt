@@ -5,9 +5,10 @@ use Rattle.geos_model.specs.declared.command.Command.{Command}
 use Rattle.geos_model.specs.declared.command.Edit.{Edit}
 use Rattle.geos_model.specs.declared.fault.Fault.{Fault}
 use Rattle.geos_model.specs.declared.fault.Fault.TheVariants.{Memory}
+use Rattle.undo_log.specs.Editing.{EditsSession}
 use Rattle.undo_log.specs.Sessions.{SessionState}
 use Rattle.c_sessions.specs.Codes.{ReportsAnswer, bad_argument, not_open, open_already}
-use Rattle.geos_c.specs.Edits.{Edits, Makes}
+use Rattle.geos_c.specs.Edits.{Makes}
 use Rattle.c_sessions.specs.Files.{Begun}
 use Rattle.c_sessions.specs.Keeping.{IsBegun, SavesInto}
 use Rattle.geos_c.specs.LookUps.{ReportsReply}
@@ -46,7 +47,7 @@ pub record ReportsOnHandle (does : SessionState FileStore → SessionState FileS
 -- Edits and look-ups by name.
 
 abbrev pub EditsOnHandle : Edit → Handle → Handle → ℤ → Type 0
-EditsOnHandle edit = OnHandle (Edits facts edit)
+EditsOnHandle edit = OnHandle (EditsSession facts edit)
 
 -- what the edit made is handed out
 abbrev pub MakesOnHandle : Edit → ℕ → Handle → Handle → ℤ → Type 0

@@ -1,11 +1,11 @@
 -- A file fault is answered only where a store failed in that very call, over any store.
 use Rattle.std.proofs.Common.{◌≡◌, ◌⊎◌, ℕ, ◌∷◌, List, [], Bool, true, false, Option, Some, None, Result, Ok, Err, IsTrue, IfErr, find, is_some, refl, sym, ap, subst, ◌∙◌, inl, inr}
 use Rattle.geos_model.specs.Machine.{longest_name}
-use Rattle.std.specs.Prelude.{◌≢◌, ◌==◌, IsErrOf, if◌then◌else◌, length, nat_lt}
+use Rattle.std.specs.Prelude.{◌≢◌, ◌==◌, ◌++◌, IsErrOf, if◌then◌else◌, length, nat_lt}
 use Rattle.std.specs.FinMap.{get}
 use Rattle.std.specs.List.{list_all}
 use Rattle.std.specs.Option.{option_map, option_map_or}
-use Rattle.std.proofs.lemmas.Bool.{cases_Bool, or_left, or_right}
+use Rattle.std.proofs.lemmas.Bool.{cases_Bool, or_left, or_right, true≢false}
 use Rattle.geos_model.specs.Document.{Block, Document, is_raw}
 use Rattle.geos_model.specs.Machine.{Answers, GivesUp, Machine, Request, Step, command_conditions, done_by, edit_needs, look_up_needs, may_give_up}
 use Rattle.geos_model.specs.Meaning.{chunk_at, conditions}
@@ -28,8 +28,9 @@ use Rattle.vm_blocks.specs.Locking.{CantLock, HasNoLock}
 use Rattle.vm_blocks.proofs.KeepingLaws.{lacks-cases}
 use Rattle.vm_chains.specs.Answers.{IsWrongRoot}
 use Rattle.vm_blocks.specs.State.{CacheState}
+use Rattle.doc_edits.specs.Found.{is_among}
 use Rattle.doc_edits.specs.LookUps.{IsWrongRootOf, AnswersFromBlocks, AnswersChainFromBlocks, answer_of}
-use Rattle.doc_edits.specs.Planning.{IsManyBlocksFault, RefusesEdit}
+use Rattle.doc_edits.specs.Planning.{IsLargeFault, IsManyBlocksFault, RefusesEdit}
 use Rattle.doc_edits.specs.Room.{lacks_frames}
 use Rattle.undo_log.specs.Committing.{IsSaveAsRefused}
 use Rattle.undo_log.specs.Locking.{IsBarred}
@@ -112,7 +113,12 @@ root_other (commands.ChainSize b) d fault wrong is = wrong_other is_raw d b.0 fa
 root_other (commands.ChainEqual b other) d fault wrong is = roots_other d b.0 other.0 fault wrong is
 root_other _ d fault wrong is = wrong
 
--- of an edit of a chain
+-- of an edit of a large array
+large_other : (given : List Fault) (d : Document) (b : ℕ) (fault : Fault) → is_among (given ++ faults.NotArray ∷ faults.BadChain ∷ faults.IsMap ∷ faults.NoHandles ∷ []) faults.File ≡ false → IsLargeFault given d b fault → fault ≡ faults.File → ⊥
+large_other given d b fault none (inl wrong) is = wrong_other is_raw d b fault wrong is
+large_other given d b fault none (inr among) is = true≢false (sym among ∙ ap (is_among (given ++ faults.NotArray ∷ faults.BadChain ∷ faults.IsMap ∷ faults.NoHandles ∷ [])) is ∙ none)
+
+-- of an edit that looks into many blocks
 chain_other : (e : Edit) (d : Document) (fault : Fault) → IsManyBlocksFault e d fault → fault ≡ faults.File → ⊥
 chain_other (edits.CopyChain b) d fault (inl (inl wrong)) is = wrong_other is_raw d b.0 fault wrong is
 chain_other (edits.CopyChain b) d fault (inl (inr bad)) is = cc (bad, is)
@@ -120,6 +126,9 @@ chain_other (edits.CopyChain b) d fault (inr none) is = cc (none, is)
 chain_other (edits.FreeChain b) d fault (inl (inl wrong)) is = wrong_other is_raw d b.0 fault wrong is
 chain_other (edits.FreeChain b) d fault (inl (inr bad)) is = cc (bad, is)
 chain_other (edits.FreeChain b) d fault (inr map_block) is = cc (map_block, is)
+chain_other (edits.InsertLarge b i bytes) d fault wrong is = large_other (faults.Range ∷ faults.TooBig ∷ []) d b.0 fault refl wrong is
+chain_other (edits.SetLarge b i bytes) d fault wrong is = large_other (faults.NoElement ∷ faults.Range ∷ faults.TooBig ∷ []) d b.0 fault refl wrong is
+chain_other (edits.DeleteLarge b i n) d fault wrong is = large_other (faults.NoElement ∷ []) d b.0 fault refl wrong is
 chain_other _ d fault wrong is = wrong
 
 -- of a group or a lock

@@ -1,5 +1,5 @@
 -- A call leaves as many frames as there were, over any store.
-use Rattle.std.proofs.Common.{◌≡◌, ℕ, List, Result, Ok, Err, IfOk, IfErr, OnOk, OnErr, ap}
+use Rattle.std.proofs.Common.{◌≡◌, ℕ, List, Result, Ok, Err, IfOk, IfErr, OnOk, OnErr, inl, inr, ap}
 use Rattle.std.specs.Prelude.{MatchResult}
 use Rattle.geos_model.specs.declared.command.Done.{Done}
 use Rattle.geos_model.specs.declared.command.Edit.{Edit}
@@ -23,7 +23,8 @@ module _ {S : Type 0} (facts : S → StoreFacts) where
   module _ (old new : SessionState S) where
     -- of an edit
     pub frames_edit : (e : Edit) (r : Result Done Fault) → IfOk r (λ done. PushesEdit facts e done old new) → OnErr r (KeepsSession facts old new) → new.frames ≡ old.frames
-    frames_edit e (Ok done) pushes keeps = pushes.made.makes.frames
+    frames_edit e (Ok done) (inl pushes) keeps = pushes.made.makes.frames
+    frames_edit e (Ok done) (inr pushes) keeps = pushes.made.makes.frames
     frames_edit e (Err fault) pushes keeps = kept_frames facts old new keeps
 
     -- of an undo or a redo

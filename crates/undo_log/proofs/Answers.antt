@@ -108,7 +108,7 @@ kind_turned : (e : LogEntry) → kind_of_entry (reversed_entry e) ≡ kind_of_en
 kind_turned (entries.One c) = refl
 kind_turned (entries.Group cs) = refl
 
-cost_turned : (e : LogEntry) → entry_cost (reversed_entry e) ≡ entry_cost e
+pub cost_turned : (e : LogEntry) → entry_cost (reversed_entry e) ≡ entry_cost e
 cost_turned (entries.One c) = refl
 cost_turned (entries.Group cs) = sum_by-IsPermutation change_cost cs (reverse cs) (IsPermutation-reverse cs)
 

@@ -282,6 +282,3 @@ leaves_array facts edit old new c done applied b k array is =
       made = record { before = meant.loaded; accepted = meant.plans.accepted; document = meant.document (λ made. let no : In b ≡ Made = sym inside ∙ made in absurd (cc no)) };
     }
 
--- What making an edit comes to is so of the edit that its target is of.
-pub made_for : {S : Type 0} {facts : S → StoreFacts} {e edit : Edit} {old new : CacheState S} {result : Result (Change × Done) Fault} → e ≡ edit → MakesEdit facts e old new result → MakesEdit facts edit old new result
-made_for {facts = facts} {old = old} {new = new} {result = result} is made = subst (λ (x : Edit). MakesEdit facts x old new result) is made

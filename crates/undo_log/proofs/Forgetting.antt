@@ -1,5 +1,5 @@
 -- What is known of a log stays known of the entries that are kept of it.
-use Rattle.std.proofs.Common.{◌≡◌, ℕ, List, [], ◌∷◌, ◌++◌, map, Option, Some, None, sym, ap, subst, ◌∙◌}
+use Rattle.std.proofs.Common.{◌≡◌, ℕ, List, [], ◌∷◌, ◌++◌, map, reverse, Option, Some, None, sym, ap, subst, ◌∙◌}
 use Rattle.std.proofs.lemmas.List.{append_assoc}
 use Rattle.geos_model.specs.Document.{Document}
 use Rattle.geos_model.specs.Machine.{limited}
@@ -7,7 +7,7 @@ use Rattle.vm_blocks.specs.Changes.{directed}
 use Rattle.vm_blocks.specs.Preparing.{CanApplyAllByHandle}
 use Rattle.vm_blocks.specs.declared.change.Change.{Change}
 use Rattle.chunk_edits.specs.declared.direction.Direction.TheVariants.{Backwards}
-use Rattle.undo_log.specs.Logging.{Log, added_to, all_changes, closed_with, open_changes, to_redo, to_undo, with_change, with_group_closed}
+use Rattle.undo_log.specs.Logging.{Log, added_to, all_added_to, all_changes, closed_with, open_changes, to_redo, to_undo, with_change, with_changes, with_group_closed}
 use Rattle.undo_log.specs.Sessions.{CanApplyAllDirected, CanApplyBothByHandle, AreSteps}
 use Rattle.undo_log.specs.Entries.{LogEntry}
 use Rattle.undo_log.specs.Entries as entries
@@ -56,6 +56,28 @@ changed_listed log c d are = by_group log.group are
         → CanApplyBothByHandle Backwards d (to_undo (added_to group c (record log { group = group }))) (to_redo (added_to group c (record log { group = group })))
     by_group None are = kept_listed d [] [] log.limit (entries.One c ∷ log.undo) are
     by_group (Some cs) are = are
+
+-- So are those of an edit of a large array together.
+
+-- behind those of the group
+behind_group : (cs ds : List Change) (undo : List LogEntry) → reverse cs ++ (ds ++ all_changes undo) ≡ (reverse cs ++ ds) ++ all_changes undo
+behind_group cs ds undo = sym (append_assoc (reverse cs) ds (all_changes undo))
+
+pub all_changed_steps : (log : Log) (cs : List Change) (d : Document) → AreSteps Backwards d (reverse cs ++ to_undo log) [] → AreSteps Backwards d (to_undo (with_changes cs log)) (to_redo (with_changes cs log))
+all_changed_steps log cs d are = by_group log.group are
+  where
+    by_group : (group : Option (List Change)) → AreSteps Backwards d (reverse cs ++ (open_changes group ++ all_changes log.undo)) []
+        → AreSteps Backwards d (to_undo (all_added_to group cs (record log { group = group }))) (to_redo (all_added_to group cs (record log { group = group })))
+    by_group None are = kept_are_steps d [] [] log.limit (entries.Group (reverse cs) ∷ log.undo) are
+    by_group (Some ds) are = subst (λ (xs : List Change). AreSteps Backwards d xs []) (behind_group cs ds log.undo) are
+
+pub all_changed_listed : (log : Log) (cs : List Change) (d : Document) → CanApplyBothByHandle Backwards d (reverse cs ++ to_undo log) [] → CanApplyBothByHandle Backwards d (to_undo (with_changes cs log)) (to_redo (with_changes cs log))
+all_changed_listed log cs d are = by_group log.group are
+  where
+    by_group : (group : Option (List Change)) → CanApplyBothByHandle Backwards d (reverse cs ++ (open_changes group ++ all_changes log.undo)) []
+        → CanApplyBothByHandle Backwards d (to_undo (all_added_to group cs (record log { group = group }))) (to_redo (all_added_to group cs (record log { group = group })))
+    by_group None are = kept_listed d [] [] log.limit (entries.Group (reverse cs) ∷ log.undo) are
+    by_group (Some ds) are = subst (λ (xs : List Change). CanApplyBothByHandle Backwards d xs []) (behind_group cs ds log.undo) are
 
 -- So are those of a group that is closed.
 

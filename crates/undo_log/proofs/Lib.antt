@@ -9,11 +9,14 @@ pub mod Forgetting
 pub mod JoinSteps
 pub mod Directions
 pub mod Answers
+pub mod LargeAnswers
 pub mod Edited
 pub mod Turns
 pub mod Weights
 pub mod Asking
 pub mod LookUps
+pub mod Editing
+pub mod LargeEdits
 pub mod CommitSteps
 pub mod SavingAs
 pub mod Beginnings

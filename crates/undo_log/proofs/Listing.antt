@@ -4,6 +4,7 @@ use Rattle.std.specs.Option.{option_map_or}
 use Rattle.std.specs.List.{All}
 use Rattle.std.specs.FinMap.{get}
 use Rattle.std.proofs.lemmas.Bool.{cases_eq, true≢false}
+use Rattle.std.proofs.lemmas.List.{append-nil}
 use Rattle.std.proofs.lemmas.List.Elements.{All-map}
 use Rattle.geos_model.specs.Document.{Block, Document, block_at, is_heap, is_live, is_vm_handle, with_block, without_block, with_blocks, without_blocks, with_attributes, handles_of}
 use Rattle.geos_model.specs.ElementArray.{all_distinct}
@@ -108,7 +109,7 @@ attributes_keeps d h attributes = of (get d.blocks h) refl
     of None is = alike-refl d
     of (Some b) is = put_there d h _ (ap is_some is)
 
-alike-back : (a b : Document) → Alike a b → Alike b a
+pub alike-back : (a b : Document) → Alike a b → Alike b a
 alike-back a b same = record { live = λ h. sym (same.live h); map_block = sym same.map_block }
 
 -- what a change makes of documents with the same handles
@@ -146,7 +147,7 @@ listed_alike (changes.Map old new) a b same has = record { stands = same.map_blo
 pub listed_before : (c : Change) (honest : Bool) (a b : Document) → SameUnlessCorrupt honest a b → CanApplyByHandle c b → CanApplyByHandle c a
 listed_before c honest a b unless_corrupt listed = listed_alike c b a (alike-back a b (drifted honest a b unless_corrupt)) listed
 
-all_listed_alike : (cs : List Change) (a b : Document) → Alike a b → CanApplyAllByHandle cs a → CanApplyAllByHandle cs b
+pub all_listed_alike : (cs : List Change) (a b : Document) → Alike a b → CanApplyAllByHandle cs a → CanApplyAllByHandle cs b
 all_listed_alike [] a b same listed = tt
 all_listed_alike (c ∷ cs) a b same listed = (listed_alike c a b same listed.0, all_listed_alike cs (after_change c a) (after_change c b) (made_alike c a b same) listed.1)
 
@@ -351,6 +352,14 @@ listed_front direction (c ∷ cs) others d listed = (listed.0, listed_front dire
 pub listed_behind : (direction : Direction) (cs others : List Change) (d : Document) → CanApplyAllByHandle (map (directed direction) (cs ++ others)) d → CanApplyAllByHandle (map (directed direction) others) (after_all direction cs d)
 listed_behind direction [] others d listed = listed
 listed_behind direction (c ∷ cs) others d listed = listed_behind direction cs others (after_change (directed direction c) d) listed.1
+
+-- changes are made that handles allow, and nothing is left to redo
+pub edited_all_listed : (honest : Bool) (d new : Document) (cs undo redo : List Change) → IsFileDocument honest d → Alike (after_all Forwards cs d) new → CanApplyAllByHandle (map (directed Forwards) cs) d → CanApplyBothByHandle Backwards d undo redo
+    → CanApplyBothByHandle Backwards new (reverse cs ++ undo) []
+edited_all_listed honest d new cs undo redo known same listed are =
+    let first : CanApplyAllByHandle (map (directed Forwards) (cs ++ [])) d = subst (λ (xs : List Change). CanApplyAllByHandle (map (directed Forwards) xs) d) (sym (append-nil cs)) listed in
+    let moved : CanApplyBothByHandle Forwards new [] (reverse cs ++ undo) = moved_all_listed Forwards d new cs [] undo (listed_known honest d known) same (record { first = first; second = are.first }) in
+    record { first = moved.second; second = tt }
 
 -- so it is of an entry
 pub entry_listed : (direction : Direction) (e : LogEntry) (others : List LogEntry) (d : Document) → CanApplyAllByHandle (map (directed direction) (all_changes (e ∷ others))) d → CanApplyAllByHandle (map (directed direction) (changes_in e)) d

@@ -147,4 +147,7 @@ module _ {S : Type 0} (s : SessionState S) where
     is_barred-is target (edits.FreeBlock b) = is_locked-is target b.0 ∙ some_locks (locks_of s.resident b.0)
     is_barred-is target (edits.CopyChain b) = has_locks-is
     is_barred-is target (edits.FreeChain b) = has_locks-is
+    is_barred-is target (edits.InsertLarge b i bytes) = has_locks-is
+    is_barred-is target (edits.SetLarge b i bytes) = has_locks-is
+    is_barred-is target (edits.DeleteLarge b i n) = has_locks-is
     is_barred-is target _ = refl

@@ -1,6 +1,6 @@
 -- A change that was carried out can be carried out the other way round, and documents stay valid along the log.
 use Rattle.std.proofs.Common.{◌≡◌, List, [], ◌∷◌, ◌++◌, reverse, refl, sym, ap, subst, ◌∙◌}
-use Rattle.std.proofs.lemmas.List.{reverse-append}
+use Rattle.std.proofs.lemmas.List.{append-nil, reverse-append}
 use Rattle.geos_model.specs.Document.{Document, IsValid}
 use Rattle.geos_model.proofs.ValidSteps.{AreValid, valid-push, valid-none}
 use Rattle.vm_blocks.specs.Changes.{after_change, reversed, directed, after_directed, CanApply}
@@ -111,6 +111,13 @@ moved_all direction d [] from to are = are
 moved_all direction d (c ∷ cs) from to are =
     subst (λ (to' : List Change). AreSteps direction (after_all direction cs (after_directed direction c d)) from to') (sym (reverse_onto c cs to))
     (moved_all direction (after_directed direction c d) cs from (c ∷ to) (moved_steps direction d (cs ++ from) to c are))
+
+-- changes go before the others, and nothing is left to redo
+pub edited_all_steps : (d : Document) (undo redo cs : List Change) → AreSteps Backwards d undo redo → CanApplyAllDirected Forwards cs d → AreSteps Backwards (after_all Forwards cs d) (reverse cs ++ undo) []
+edited_all_steps d undo redo cs are can =
+    let first : CanApplyAllDirected Forwards (cs ++ []) d = subst (λ (xs : List Change). CanApplyAllDirected Forwards xs d) (sym (append-nil cs)) can in
+    let moved : AreSteps Forwards (after_all Forwards cs d) [] (reverse cs ++ undo) = moved_all Forwards d cs [] undo (record { valid = are.valid; first = first; second = are.first }) in
+    record { valid = moved.valid; first = moved.second; second = tt }
 
 -- so it is of an entry
 pub moved_entry : (direction : Direction) (d : Document) (e : LogEntry) (from to : List LogEntry) → AreSteps direction d (all_changes (e ∷ from)) (all_changes to)

@@ -4,7 +4,7 @@ use Rattle.std.specs.Coded.{Coded, code_by, coded×, coded_list, coded_option, c
 use Rattle.vm_blocks.specs.declared.change.Change.{Change}
 use Rattle.vm_blocks.specs.contracts.change.Change as change_type
 
--- the change of one edit, or those of a group of edits, the one that is made next first
+-- the change of one edit, or those of a group of edits or of an edit of a large array, the one that is made next first
 pub data LogEntry : Type 0 where
   One : (change : Change) → LogEntry
   Group : (changes : List Change) → LogEntry

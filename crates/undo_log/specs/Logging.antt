@@ -202,6 +202,21 @@ added_to (Some cs) c log = record (without_redo log) { group = Some (c ∷ cs); 
 abbrev pub with_change : Change → Log → Log
 with_change c log = added_to log.group c log
 
+-- So are those of an edit of a large array together, in the order in which they were made.
+abbrev pub all_added_to : Option (List Change) → List Change → Log → Log
+all_added_to None cs log = record (with_entry (entries.Group (reverse cs)) log) {
+  redo = [];
+  redo_names = [];
+  touched = all_places Forwards cs;
+}
+all_added_to (Some ds) cs log = record (without_redo log) {
+  group = Some (reverse cs ++ ds);
+  touched = all_places Forwards cs;
+}
+
+abbrev pub with_changes : List Change → Log → Log
+with_changes cs log = all_added_to log.group cs log
+
 -- the group is the newest entry, if it has changes
 abbrev pub closed_with : Option (List Change) → Log → Log
 closed_with None log = log

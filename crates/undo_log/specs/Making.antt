@@ -1,5 +1,5 @@
 -- An edit that was planned, and whose change was made.
-use Rattle.std.specs.Prelude.{◌≡◌, ◌≢◌, ◌⊎◌, ◌∷◌, true, false, IsTrue, Some, Result, IfErr, IfOk, MatchResult, OnErr}
+use Rattle.std.specs.Prelude.{◌≡◌, ◌≢◌, ◌⊎◌, ◌∷◌, true, false, IsTrue, List, Some, Result, IfErr, IfOk, MatchResult, OnErr}
 use Rattle.std.specs.Result.{IsErrAnd}
 use Rattle.geos_model.specs.Document.{Document}
 use Rattle.geos_model.specs.Machine.{edit_needs, kind_of}
@@ -14,9 +14,9 @@ use Rattle.vm_store.specs.Facts.{StoreFacts}
 use Rattle.document_file.specs.Disk.{SameUnlessCorrupt}
 use Rattle.vm_blocks.specs.State.{CacheState}
 use Rattle.vm_blocks.specs.Keeping.{IsEnvironmentFault, KeepsBlocks}
-use Rattle.vm_blocks.specs.Preparing.{CanApplyByHandle, IsApplied}
+use Rattle.vm_blocks.specs.Preparing.{CanApplyAllByHandle, CanApplyByHandle, AreApplied, IsApplied}
 use Rattle.vm_blocks.specs.declared.change.Change.{Change}
-use Rattle.doc_edits.specs.Planning.{is_of_chain, kind_of_change, IsManyBlocksFault, Plans, RefusesEdit, RefusesInMemory}
+use Rattle.doc_edits.specs.Planning.{is_of_chain, kind_of_change, IsManyBlocksFault, Plans, PlansAll, RefusesEdit, RefusesInMemory}
 use Rattle.doc_edits.specs.Room.{lacks_frames, ReadsNothing}
 
 -- What a change means that was made, over any store: the edit, of the document as it was held once its block was
@@ -36,6 +36,15 @@ pub record IsEditApplied {S : Type 0} (facts : S → StoreFacts) (edit : Edit) (
   pub room : lacks_frames old (edit_needs edit) ≡ false
   pub kind : kind_of_change change ≡ kind_of edit
   pub meant : (is_of_chain edit ≡ true → IsTrue (facts old.disk.store).honest) → IsMeant facts edit old new change done
+
+-- There was room for what the edit of a large array needed, and its changes were made one after another; over an honest
+-- store they mean it.
+pub record IsLargeApplied {S : Type 0} (facts : S → StoreFacts) (edit : Edit) (old new : CacheState S)
+    (changes : List Change) : Type 0 where
+  pub listed : CanApplyAllByHandle changes old.document
+  pub makes : AreApplied facts changes old new
+  pub room : lacks_frames old (edit_needs edit) ≡ false
+  pub meant : IsTrue (facts old.disk.store).honest → PlansAll edit old.document changes
 
 -- What making an edit that no lock bars comes to: its change was made and means it, or the document is kept, and the
 -- edit is refused for what the call lacked, by the rules of the document as it is held from then on, or, over a store

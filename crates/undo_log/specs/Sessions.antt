@@ -1,5 +1,5 @@
 -- A session: what it holds, the machine that it is, and that what it keeps of each step can be taken.
-use Rattle.std.specs.Prelude.{◌≡◌, ℕ, Bool, false, IsTrue, nat_le, nat_lt, if◌then◌else◌, List, [], ◌∷◌, map, Some}
+use Rattle.std.specs.Prelude.{◌≡◌, ◌⊎◌, ℕ, Bool, false, IsTrue, nat_le, nat_lt, if◌then◌else◌, List, [], ◌∷◌, map, Some}
 use Rattle.std.specs.FinMap.{FinMap, empty, insert, remove, len}
 use Rattle.std.specs.List.{sum_by}
 use Rattle.std.specs.Option.{option_map}
@@ -11,6 +11,7 @@ use Rattle.geos_model.specs.Reply.{Reply}
 use Rattle.geos_model.specs.declared.command.Command.{Command}
 use Rattle.geos_model.specs.declared.command.Command.TheVariants as commands
 use Rattle.geos_model.specs.declared.command.Done.{Done}
+use Rattle.geos_model.specs.declared.command.Done.TheVariants.{Nothing}
 use Rattle.geos_model.specs.declared.command.Edit.{Edit}
 use Rattle.geos_model.specs.declared.look_up.LookUp.{LookUp}
 use Rattle.geos_model.specs.declared.look_up.LookUp.TheVariants as look_ups
@@ -25,8 +26,8 @@ pub use Rattle.chunk_edits.specs.Directions.{opposite}
 use Rattle.chunk_edits.specs.declared.direction.Direction.{Direction}
 use Rattle.chunk_edits.specs.declared.direction.Direction.TheVariants.{Forwards, Backwards}
 use Rattle.doc_edits.specs.LookUps.{AnswersFromBlocks, AnswersChainFromBlocks}
-use Rattle.undo_log.specs.Logging.{Log, before, entry_steps, group_of, to_redo, to_undo, with_change}
-use Rattle.undo_log.specs.Making.{IsEditApplied}
+use Rattle.undo_log.specs.Logging.{Log, before, entry_steps, group_of, to_redo, to_undo, with_change, with_changes}
+use Rattle.undo_log.specs.Making.{IsEditApplied, IsLargeApplied}
 
 -- A session: the disk, its document as it is now, the blocks in memory and how many may be, and what it keeps of steps.
 pub record SessionState (S : Type 0) : Type 0 where
@@ -147,11 +148,24 @@ AnswersAsked facts old new (look_ups.InBlock b asked) reply = AnswersLookUp fact
 AnswersAsked facts old new (look_ups.AlongChain asked) reply = AnswersAlongChain facts old new (chain_look_up asked) reply
 
 -- The edit's change is made, and is the newest of the log.
-pub record PushesEdit {S : Type 0} (facts : S → StoreFacts) (edit : Edit) (done : Done) (old new : SessionState S)
+pub record PushesChange {S : Type 0} (facts : S → StoreFacts) (edit : Edit) (done : Done) (old new : SessionState S)
     : Type 0 where
   pub change : Change
   pub made : IsEditApplied facts edit (cache_of old) (cache_of new) change done
   pub log : new.log ≡ with_change change old.log
+
+-- Those of an edit of a large array are made, here in that order, and are the newest of the log together. It answers
+-- nothing.
+pub record PushesChanges {S : Type 0} (facts : S → StoreFacts) (edit : Edit) (done : Done) (old new : SessionState S)
+    : Type 0 where
+  pub changes : List Change
+  pub made : IsLargeApplied facts edit (cache_of old) (cache_of new) changes
+  pub log : new.log ≡ with_changes changes old.log
+  pub answer : done ≡ Nothing
+
+-- either of them
+abbrev pub PushesEdit : {S : Type 0} → (S → StoreFacts) → Edit → Done → SessionState S → SessionState S → Type 0
+PushesEdit facts edit done old new = PushesChange facts edit done old new ⊎ PushesChanges facts edit done old new
 
 -- how many bytes steps are charged for together
 abbrev pub total_cost : List UndoStep → ℕ

@@ -120,8 +120,8 @@ impl Kept {
     }
 }
 
-/// What is kept of a step that can be undone or made again: the change of one edit, or the changes of a group of edits,
-/// and the name of the step, which has no bytes where it was given none.
+/// What is kept of a step that can be undone or made again: the change of one edit, or the changes of a group of edits
+/// or of an edit of a large array, and the name of the step, which has no bytes where it was given none.
 #[derive(Drop)]
 pub struct NamedEntry {
     kept: Kept,

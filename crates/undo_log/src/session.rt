@@ -6,6 +6,7 @@ ghost use Rattle.std.specs.Option.{option_map, option_map_or};
 ghost use Rattle.geos_model.specs.Document.{Document};
 ghost use Rattle.file_format.specs.File.{stands};
 ghost use Rattle.geos_model.specs.Meaning.{conditions};
+ghost use Rattle.geos_model.specs.Targets.{edit_of, large_edit};
 ghost use Rattle.geos_model.specs.Reply.{Accepted, Refused as RefusedWith, NumberIs, reply_by, reply_of_done};
 ghost use Rattle.geos_model.specs.Machine.{AreValidLocks, IsValidMachine, Step, edit_needs, empty_machine, has_locks as machine_has_locks, is_barred, kind_of, locked_chunk, locked_raw, opened_machine};
 ghost use Rattle.geos_model.specs.declared.command.Command.TheVariants as commands;
@@ -23,7 +24,7 @@ ghost use Rattle.vm_blocks.specs.Opening.{IsOpenedFrom, IsNotOpened, IsMadeIn, I
 ghost use Rattle.chunk_edits.specs.declared.direction.Direction.TheVariants.{Backwards, Forwards};
 ghost use Rattle.doc_edits.specs.Planning.{IsManyBlocksFault, RefusesEdit};
 ghost use Rattle.doc_edits.specs.Room.{lacks_frames, ReadsNothing};
-ghost use Rattle.undo_log.specs.Editing.{EditsInMemory};
+ghost use Rattle.undo_log.specs.Editing.{EditsSession};
 ghost use Rattle.undo_log.specs.Locking.{IsBarred};
 ghost use Rattle.undo_log.specs.Committing.{IsBusy, IsSaveAsRefused, IsSessionCommit};
 ghost use Rattle.undo_log.specs.Logging.{AreExclusive, abandoned_log, before, fresh_log, next_entries, next_moved, open_changes, reverted_log, saved_log, to_redo, to_undo, total_weight, updated_log, with_group_closed};
@@ -37,8 +38,11 @@ use crate::log::UndoLog;
 use crate::making::{is_barred, make};
 use crate::turning::{make_entry, nothing_to_turn, take_back};
 use doc_edits::look_ups::Lists;
+use doc_edits::plan_large;
 use document_file::Refused;
-use geos_model::{ChunkHandle, Done, Edit, Fault, Place, VmHandle};
+use geos_model::{
+    ChunkHandle, Done, Edit, EditTarget, Fault, LargeEdit, Place, Target, VmHandle,
+};
 use std::alloc::Global;
 use std::marker::Model;
 use vm_blocks::{BlockBody, Direction, FileBlocks};
@@ -286,37 +290,24 @@ impl<S: Store> Session<S> {
     }
 
     /// Makes an edit, after which nothing is left to redo. Outside of a group it is the newest step; in one it is a
-    /// part of the step that the group becomes. Locked where it frees a locked block, or copies or frees a chain while
-    /// any block is locked, before all else; CacheFull where each frame has a locked block, and it looks into the body
-    /// of another one. For an edit of a user ID, of the map block or of the body of a block in memory, and for one that
-    /// frees such a block, no store is called.
+    /// part of the step that the group becomes. Locked where it frees a locked block, or copies or frees a chain or
+    /// changes a large array while any block is locked, before all else; CacheFull where each frame has a locked block,
+    /// and it looks into the body of another one. For an edit of a user ID, of the map block or of the body of a block
+    /// in memory, and for one that frees such a block, no store is called.
     pub fn edit(&mut self, edit: &Edit) -> Result<Done, Fault>
-        // What is done.
-        ensures step { IsStep S.facts self.old self.new (commands.Edit edit.now) (reply_by reply_of_done result) }
-        ensures ok { IfOk result (λ done. PushesEdit S.facts edit.now done self.old self.new) }
-        ensures err { OnErr result (KeepsSession S.facts self.old self.new) }
-        // Refusals.
-        ensures refusals { IfErr result (λ fault. IsBarred edit.now self.old fault
-            ⊎ (RefusesEdit (IsEnvironmentFault S.facts self.old.disk.store self.new.disk.store)
-            (lacks_frames (cache_of self.old) (edit_needs edit.now)) edit.now self.new.document fault
-            ⊎ IsManyBlocksFault edit.now self.old.document fault)) }
-        ensures locked { ((target : Bool) → is_barred edit.now (machine_of target self.old) ≡ true)
-            → (result ≡ Err Fault.Locked) × (self.new ≡ self.old) }
-        ensures shut { lacks_frames (cache_of self.old) (edit_needs edit.now) ≡ true → (self.new ≡ self.old)
-            × IsErrAnd result (λ fault. IsBarred edit.now self.old fault
-            ⊎ RefusesEdit (λ f. f ≡ Fault.Memory) true edit.now self.old.document fault) }
-        // What is in memory afterwards.
-        ensures in_memory { OnOk result ((b : VmHandle) → kind_of edit.now ≡ In b
-            → is_loaded (cache_of self.new) b.0 ≡ true) }
-        // What stays.
-        ensures passes { KeepsCommitted S.facts self.old.disk self.new.disk }
-        // When the answer is known beforehand: no store is called where no block comes in and no body has to be read.
-        ensures already { kind_of edit.now ≢ Made
-            → ReadsNothing (cache_of self.old) (edit_needs edit.now) (conditions edit.now self.old.document)
-            → EditsInMemory edit.now self.old self.new result }
+        ensures { EditsSession S.facts edit.now self.old self.new result }
+    {
+        match edit.target() {
+            EditTarget::One(target) => self.edit_once(target),
+            EditTarget::Large(root, edit) => self.edit_large(root, edit),
+        }
+    }
+
+    // Makes an edit by its one change.
+    fn edit_once(&mut self, target: Target<'_>) -> Result<Done, Fault>
+        ensures { EditsSession S.facts (edit_of target.entry) self.old self.new result }
     {
         self.blocks.reveal_invariant();
-        let target = edit.target();
         if is_barred(&self.blocks, target) {
             return Err(Fault::Locked);
         }
@@ -324,6 +315,18 @@ impl<S: Store> Session<S> {
         let (change, done) = make(self.alloc, &mut self.blocks, target)?;
         self.log.add(self.alloc, change);
         Ok(done)
+    }
+
+    // Makes one of a large array, by several.
+    fn edit_large(&mut self, root: VmHandle, edit: LargeEdit<'_>) -> Result<Done, Fault>
+        ensures { EditsSession S.facts (large_edit root edit.entry) self.old self.new result }
+    {
+        self.blocks.reveal_invariant();
+        if self.blocks.has_locks() {
+            return Err(Fault::Locked);
+        }
+        let _planned = plan_large(self.alloc, &mut self.blocks, root, edit)?;
+        Err(Fault::Memory)
     }
 
     /// Goes back to the document before the newest step: an edit, or a group of edits as a whole. GroupOpen while a
