@@ -105,5 +105,5 @@ module _ {S : Type 0} (facts : S → StoreFacts) where
 
 -- The fault that `?` hands on, of a session that is seen to be another one.
 pub carried : {S : Type 0} {facts : S → StoreFacts} {edit : Edit} {old s new : SessionState S} → old ≡ s → (fault : Fault) (r : Result Done Fault) → IsErrAnd r (λ x. x ≡ fault) → EditsSession facts edit old new (Err fault) → EditsSession facts edit s new r
-carried is fault (Ok done) no edits = absurd no
+carried is fault (Ok done) never edits = absurd never
 carried {S} {facts} {edit} {old} {s} {new} is fault (Err e) same edits = subst (λ (x : SessionState S). EditsSession facts edit x new (Err e)) is (subst (λ (f : Fault). EditsSession facts edit old new (Err f)) (sym same) edits)

@@ -1,6 +1,6 @@
 -- What an edit of a large array comes to.
-use Rattle.std.proofs.Common.{◌≡◌, ◌∙◌, ◌++◌, Bool, true, false, Ok, Err, IsTrue, List, [], ◌∷◌, map, reverse, inl, inr, refl, sym, ap, subst}
-use Rattle.std.specs.Prelude.{Vec, nat_lt}
+use Rattle.std.proofs.Common.{◌≡◌, ◌∙◌, ◌++◌, Bool, true, false, Ok, Err, IsTrue, Vec, Global, List, [], ◌∷◌, map, reverse, inl, inr, refl, sym, ap, subst}
+use Rattle.std.specs.Prelude.{nat_lt}
 use Rattle.std.proofs.lemmas.Bool.{true≢false}
 use Rattle.geos_model.specs.Document.{Document, IsValid}
 use Rattle.geos_model.specs.ElementArray.{all_distinct}
@@ -40,7 +40,7 @@ use Rattle.undo_log.proofs.Edited.{not_barred}
 use Rattle.undo_log.proofs.Forgetting.{all_changed_listed, all_changed_steps}
 use Rattle.undo_log.proofs.Keeping.{Holds, machine_with, none_marked, passed_machine}
 use Rattle.undo_log.proofs.LargeAnswers.{large_answers}
-use Rattle.undo_log.proofs.Listing.{Alike, alike-back, all_listed_alike, drifted, edited_all_listed}
+use Rattle.undo_log.proofs.Listing.{Alike, alike-back, all_listed_alike, drifted, edited_all_listed, forwards}
 use Rattle.undo_log.proofs.Locks.{has_no_room-is, is_barred-is}
 use Rattle.undo_log.proofs.LookUps.{same_session}
 use Rattle.undo_log.proofs.Steps.{all_back, edited_all_steps}
@@ -90,10 +90,6 @@ module _ {S : Type 0} (facts : S → StoreFacts) (old new : SessionState S) (edi
 
 -- Changes that are made one after another, the first one first.
 
-pub forwards : (cs : List Change) → map (directed Forwards) cs ≡ cs
-forwards [] = refl
-forwards (c ∷ cs) = ap (λ (xs : List Change). c ∷ xs) (forwards cs)
-
 after_forwards : (cs : List Change) (d : Document) → after_all Forwards cs d ≡ after_changes cs d
 after_forwards cs d = ap (λ (xs : List Change). after_changes xs d) (forwards cs)
 
@@ -137,7 +133,7 @@ module _ {S : Type 0} (facts : S → StoreFacts) (old mid : CacheState S) (keeps
       all_listed_alike cs mid.document old.document (alike-back old.document mid.document (drifted (facts old.disk.store).honest old.document mid.document (keeps-unless_corrupt facts old mid keeps))) listed
 
   -- why those that can be made aren't
-  pub all_lacking : (new : S) (fault : Fault) → (IsHonest facts old.disk.store → CanApplyAll cs mid.document) → CantPrepareAll facts cs mid new fault → IsEnvironmentFault facts old.disk.store new.disk.store fault
+  pub all_lacking : (new : CacheState S) (fault : Fault) → (IsHonest facts old.disk.store → CanApplyAll cs mid.document) → CantPrepareAll facts cs mid new fault → IsEnvironmentFault facts old.disk.store new.disk.store fault
   all_lacking new fault can why = elim why as (λ _. IsEnvironmentFault facts old.disk.store new.disk.store fault) [
     | inl lacks ↦ lacks-later facts old mid new.disk.store fault keeps lacks
     | inr damaged ↦
@@ -146,7 +142,7 @@ module _ {S : Type 0} (facts : S → StoreFacts) (old mid : CacheState S) (keeps
   ]
 
 module _ {S : Type 0} (facts : S → StoreFacts) (old new : SessionState S) (mid : CacheState S) (edit : Edit) (large : IsLarge edit) (distinct : all_distinct (map (λ x. x.0) old.resident) ≡ true)
-    (free : bars old.resident edit ≡ false) (changes : Vec Change) (plan : PlansLarge facts (cache_of old) mid edit (Ok changes)) where
+    (free : bars old.resident edit ≡ false) (changes : Vec Change Global) (plan : PlansLarge facts (cache_of old) mid edit (Ok changes)) where
   -- they aren't made
   pub large_unmade : (fault : Fault) → KeepsSession facts old new → CantPrepareAll facts changes.items mid (cache_of new) fault → EditsSession facts edit old new (Err fault)
   large_unmade fault keeps why =

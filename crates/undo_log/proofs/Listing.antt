@@ -353,7 +353,12 @@ pub listed_behind : (direction : Direction) (cs others : List Change) (d : Docum
 listed_behind direction [] others d listed = listed
 listed_behind direction (c ∷ cs) others d listed = listed_behind direction cs others (after_change (directed direction c) d) listed.1
 
--- changes are made that handles allow, and nothing is left to redo
+-- changes that are made forwards
+pub forwards : (cs : List Change) → map (directed Forwards) cs ≡ cs
+forwards [] = refl
+forwards (c ∷ cs) = ap (λ (xs : List Change). c ∷ xs) (forwards cs)
+
+-- they are made as handles allow, and nothing is left to redo
 pub edited_all_listed : (honest : Bool) (d new : Document) (cs undo redo : List Change) → IsFileDocument honest d → Alike (after_all Forwards cs d) new → CanApplyAllByHandle (map (directed Forwards) cs) d → CanApplyBothByHandle Backwards d undo redo
     → CanApplyBothByHandle Backwards new (reverse cs ++ undo) []
 edited_all_listed honest d new cs undo redo known same listed are =

@@ -44,8 +44,10 @@ log_code =
 
 abbrev pub log_state_code : Coded LogState
 log_state_code =
-    code_by (Log × (Touched × Bool)) (coded× log_code (coded× touched_type.the_row.coded coded_bool))
-    (λ l. (l.lists, (l.last, l.room))) (λ p. record { lists = p.0; last = p.1.0; room = p.1.1 }) (λ _. refl)
+    code_by ((Log × Touched) × (Bool × ℕ))
+    (coded× (coded× log_code touched_type.the_row.coded) (coded× coded_bool coded_ℕ))
+    (λ l. ((l.lists, l.last), (l.place, l.spare)))
+    (λ p. record { lists = p.0.0; last = p.0.1; place = p.1.0; spare = p.1.1 }) (λ _. refl)
 
 abbrev pub session_code : {S : Type 0} → Coded S → Coded (SessionState S)
 session_code {S} s =

@@ -296,8 +296,10 @@ abandoned_log log = record log { group = None; touched = all_places Backwards (o
 abbrev pub retold : Touched → Log → Log
 retold last log = record log { touched = told last (newest_changes log.undo log.group) (next_changes log.redo) }
 
--- A log, what it tells of, and whether there is room for one change more.
+-- A log, what it tells of, whether there is a place for an entry more, to which entries that can be made again give way,
+-- and how many changes more the open group has room for.
 pub record LogState : Type 0 where
   pub lists : Log
   pub last : Touched
-  pub room : Bool
+  pub place : Bool
+  pub spare : ℕ

@@ -1,16 +1,16 @@
 //! The log: what can be undone, what can be made again, the group that is open, and where the committed documents
 //! stand.
-ghost use Rattle.std.specs.Prelude.{◌≡◌, ◌≢◌, ◌<◌, ◌≤◌, ◌+◌, ◌-◌, ◌^◌, ◌++◌, [], ◌&&◌, ◌==◌, IfErr, IfOk, IsOk, true, Some, None, OnOk, MatchOption, MatchResult, is_some, length, min, reverse};
+ghost use Rattle.std.specs.Prelude.{◌≡◌, ◌≢◌, ◌<◌, ◌≤◌, ◌+◌, ◌-◌, ◌^◌, ◌++◌, [], ◌&&◌, ◌==◌, IfErr, IfOk, IsOk, true, Some, None, OnOk, MatchOption, MatchResult, is_some, length, min, reverse, vec_capacity, vec_len};
 ghost use Rattle.std.specs.Option.{option_map};
 ghost use Rattle.chunk_edits.specs.declared.direction.Direction.TheVariants.{Backwards, Forwards};
 ghost use Rattle.geos_model.specs.Machine.{first_name};
 ghost use Rattle.undo_log.specs.Entries.{entry_names, log_entries};
-ghost use Rattle.undo_log.specs.Logging.{AreExclusive, IsHead, BecomesAt, abandoned_log, changes_in, forgotten_log, fresh_log, is_at, joined_log, open_changes, named, named_log, next_entries, next_moved, next_names, retold, reverted_log, saved_log, to_redo, to_undo, total_weight, turned_over, updated_log, with_change, with_group_closed, with_named, without_redo};
+ghost use Rattle.undo_log.specs.Logging.{AreExclusive, IsHead, BecomesAt, abandoned_log, changes_in, forgotten_log, fresh_log, is_at, joined_log, open_changes, named, named_log, next_entries, next_moved, next_names, retold, reverted_log, saved_log, to_redo, to_undo, total_weight, turned_over, updated_log, with_change, with_changes, with_group_closed, with_named, without_redo};
 ghost use Rattle.undo_log.specs.Asking.{asked_places, places_ahead};
 ghost use Rattle.undo_log.specs.Telling.{newest_changes, next_changes, told};
 
 use crate::entry::{Changes, NamedEntry};
-use crate::growing::reserve_one;
+use crate::growing::reserve;
 use crate::joining::{empty_entries, join_at};
 use crate::marks::Marks;
 use crate::touched::{Touched, tell_made, tell_newest, tell_next};
@@ -46,14 +46,14 @@ impl Model for UndoLog {
     ghost use Rattle.undo_log.specs.Codes.{log_state_code};
     ghost use Rattle.undo_log.specs.Logging.{AreExclusive, open_changes};
     ghost use Rattle.undo_log.specs.Marks.{AreMarksWithin, position_of};
-    ghost use Rattle.undo_log.specs.Rooms.{has_room, waiting};
+    ghost use Rattle.undo_log.specs.Rooms.{spare_room, waiting};
     ghost use Rattle.undo_log.specs.Telling.{newest_changes, next_changes, told};
 
     ghost Value = { LogState };
 
     ghost coded = { log_state_code };
 
-    ghost use Rattle.std.specs.Prelude.{◌+◌, ◌≤◌, drop, reverse, take, vec_len, vec_capacity};
+    ghost use Rattle.std.specs.Prelude.{◌+◌, ◌≤◌, drop, nat_lt, reverse, take, vec_len, vec_capacity};
     ghost use Rattle.std.specs.Option.{option_map};
 
     ghost view = { λ l. record {
@@ -72,8 +72,8 @@ impl Model for UndoLog {
         limit = l.limit;
       };
       last = l.last;
-      room = has_room l.done (vec_capacity l.entries)
-          (option_map (λ changes. (vec_len changes, vec_capacity changes)) l.group);
+      place = nat_lt l.done (vec_capacity l.entries);
+      spare = spare_room (option_map (λ changes. (vec_len changes, vec_capacity changes)) l.group);
     } };
 
     ghost invariant = { λ l. (l.dead ≤ l.done) × (l.done ≤ vec_len l.entries)
@@ -103,24 +103,26 @@ impl UndoLog {
         }
     }
 
-    /// Makes room for one change more.
-    pub(crate) fn reserve(&mut self) -> Result<(), AllocError>
+    /// Makes room for so many changes more, of one edit.
+    pub(crate) fn reserve(&mut self, count: usize) -> Result<(), AllocError>
         ensures lists { self.new.lists ≡ self.old.lists }
-        ensures room { OnOk result (self.new.room ≡ true) }
+        ensures place { OnOk result (self.new.place ≡ true) }
+        ensures spare { OnOk result (is_some self.old.lists.group ≡ true → count ≤ self.new.spare) }
     {
         // An entry that could be made again gives its place to the change.
         if self.done == self.entries.len() {
-            reserve_one(&mut self.entries)?;
+            reserve(&mut self.entries, 1)?;
         }
         if let Some(changes) = &mut self.group {
-            reserve_one(changes)?;
+            reserve(changes, count)?;
         }
         Ok(())
     }
 
     /// The change of an edit that was made is the newest.
     pub(crate) fn add(&mut self, alloc: Global, change: Change)
-        requires { self.old.room ≡ true }
+        requires place { self.old.place ≡ true }
+        requires spare { is_some self.old.lists.group ≡ true → 1 ≤ self.old.spare }
         ensures { self.new.lists ≡ with_change change self.old.lists }
     {
         // In a group too.
@@ -133,10 +135,29 @@ impl UndoLog {
         self.push(alloc, NamedEntry::one(change));
     }
 
+    /// So are those of an edit of a large array together, in the order in which they were made.
+    pub(crate) fn add_all(&mut self, alloc: Global, changes: Vec<Change>)
+        requires place { self.old.place ≡ true }
+        requires spare { is_some self.old.lists.group ≡ true → vec_len changes ≤ self.old.spare }
+        ensures { self.new.lists ≡ with_changes changes.items self.old.lists }
+    {
+        self.cut_undone();
+        self.last.be_newest(changes.len());
+        if let Some(newest) = &mut self.group {
+            push_all(newest, changes);
+            return;
+        }
+        self.push(
+            alloc,
+            NamedEntry::group(Changes::new(changes), Vec::new(alloc)),
+        );
+    }
+
     // Nothing is left to make again, nor to be told of it.
     fn cut_undone(&mut self)
         ensures lists { self.new.lists ≡ retold self.old.last (without_redo self.old.lists) }
-        ensures room { self.new.room ≡ self.old.room }
+        ensures place { self.new.place ≡ self.old.place }
+        ensures spare { self.new.spare ≡ self.old.spare }
     {
         // Where nothing was, the vector needn't be asked.
         if self.done < self.entries.len() {
@@ -147,7 +168,7 @@ impl UndoLog {
 
     // An entry is the newest, and the limit may take the oldest.
     fn push(&mut self, alloc: Global, entry: NamedEntry)
-        requires room { self.old.room ≡ true }
+        requires place { self.old.place ≡ true }
         requires closed { self.old.lists.group ≡ None }
         requires none { self.old.lists.redo ≡ [] }
         ensures { self.new.lists
@@ -510,6 +531,18 @@ impl UndoLog {
         ensures { AreExclusive (open_changes self.now.lists.group) self.now.lists.redo }
     {
         let _group = &self.group;
+    }
+}
+
+// Changes go behind those of a stack, which has room for them.
+fn push_all(stack: &mut Vec<Change>, mut changes: Vec<Change>)
+    requires { vec_len stack.old + vec_len changes ≤ vec_capacity stack.old }
+    ensures items { stack.new.items ≡ stack.old.items ++ changes.items }
+    ensures len { vec_len stack.new ≡ vec_len stack.old + vec_len changes }
+    ensures capacity { vec_capacity stack.old ≤ vec_capacity stack.new }
+{
+    if stack.append(&mut changes).is_err() {
+        unreachable!();
     }
 }
 

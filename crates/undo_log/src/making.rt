@@ -1,13 +1,16 @@
 //! Edits that are planned and made, and which of them a lock bars.
-ghost use Rattle.std.specs.Prelude.{◌≡◌, false};
+ghost use Rattle.std.specs.Prelude.{◌≡◌, false, None, nat_lt, IfErr, OnErr, OnOk};
 ghost use Rattle.geos_model.specs.Targets.{edit_of};
+ghost use Rattle.vm_blocks.specs.Keeping.{KeepsBlocks};
+ghost use Rattle.vm_blocks.specs.Preparing.{AreApplied, CanApplyAllByHandle, CantPrepareAll};
+ghost use Rattle.vm_blocks.specs.State.{locked_count};
 ghost use Rattle.undo_log.specs.Locking.{bars};
 ghost use Rattle.undo_log.specs.Making.{MakesEdit};
 
 use doc_edits::{mark_edited, plan};
 use geos_model::{BlockEdit, Done, Fault, Target};
 use std::alloc::Global;
-use vm_blocks::{Change, FileBlocks};
+use vm_blocks::{Change, Direction, FileBlocks};
 use vm_store::Store;
 
 /// Whether a lock keeps an edit from being made: it frees a locked block, or copies or frees a chain while any block is
@@ -35,4 +38,25 @@ pub fn make<S: Store>(
     blocks.carry_out(&change)?;
     mark_edited(blocks, target);
     Ok((change, done))
+}
+
+/// Makes changes one after another, the first one first, all or none. No block is locked.
+pub fn make_all<S: Store>(blocks: &mut FileBlocks<S>, changes: &mut [Change]) -> Result<(), Fault>
+    // Asked of the caller.
+    requires unmarked { blocks.old.disk.marked ≡ None }
+    requires unlocked { nat_lt 0 (locked_count blocks.old.resident) ≡ false }
+    requires listed { CanApplyAllByHandle changes.old blocks.old.document }
+    // What is done.
+    ensures ok { OnOk result (AreApplied S.facts changes.old blocks.old blocks.new) }
+    ensures err { OnErr result (KeepsBlocks S.facts blocks.old blocks.new) }
+    // Refusals.
+    ensures refusals { IfErr result (CantPrepareAll S.facts changes.old blocks.old blocks.new) }
+    // What stays.
+    ensures changes { changes.new ≡ changes.old }
+{
+    // The next one is to be the last.
+    changes.reverse();
+    let made = blocks.change_all(changes, Direction::Forwards);
+    changes.reverse();
+    made
 }

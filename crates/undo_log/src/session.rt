@@ -35,7 +35,7 @@ mod look_ups;
 mod steps;
 
 use crate::log::UndoLog;
-use crate::making::{is_barred, make};
+use crate::making::{is_barred, make, make_all};
 use crate::turning::{make_entry, nothing_to_turn, take_back};
 use doc_edits::look_ups::Lists;
 use doc_edits::plan_large;
@@ -311,7 +311,7 @@ impl<S: Store> Session<S> {
         if is_barred(&self.blocks, target) {
             return Err(Fault::Locked);
         }
-        self.log.reserve()?;
+        self.log.reserve(1)?;
         let (change, done) = make(self.alloc, &mut self.blocks, target)?;
         self.log.add(self.alloc, change);
         Ok(done)
@@ -325,8 +325,11 @@ impl<S: Store> Session<S> {
         if self.blocks.has_locks() {
             return Err(Fault::Locked);
         }
-        let _planned = plan_large(self.alloc, &mut self.blocks, root, edit)?;
-        Err(Fault::Memory)
+        let mut changes = plan_large(self.alloc, &mut self.blocks, root, edit)?;
+        self.log.reserve(changes.len())?;
+        make_all(&mut self.blocks, changes.as_mut_slice())?;
+        self.log.add_all(self.alloc, changes);
+        Ok(Done::Nothing)
     }
 
     /// Goes back to the document before the newest step: an edit, or a group of edits as a whole. GroupOpen while a
