@@ -163,6 +163,9 @@ chain_is : (asked : ChainLookUp) → IsLookUp (chain_look_up asked) × (look_up_
 chain_is (chain_look_ups.Walk b) = (record { takes = λ _. refl; calls = λ _. refl; refuses = λ _. refl; answers = λ _. refl }, refl)
 chain_is (chain_look_ups.Size b) = (record { takes = λ _. refl; calls = λ _. refl; refuses = λ _. refl; answers = λ _. refl }, refl)
 chain_is (chain_look_ups.Equal b other) = (record { takes = λ _. refl; calls = λ _. refl; refuses = λ _. refl; answers = λ _. refl }, refl)
+chain_is (chain_look_ups.LargeCount b) = (record { takes = λ _. refl; calls = λ _. refl; refuses = λ _. refl; answers = λ _. refl }, refl)
+chain_is (chain_look_ups.LargeElement b i) = (record { takes = λ _. refl; calls = λ _. refl; refuses = λ _. refl; answers = λ _. refl }, refl)
+chain_is (chain_look_ups.LargeRun b i n) = (record { takes = λ _. refl; calls = λ _. refl; refuses = λ _. refl; answers = λ _. refl }, refl)
 
 -- So it answers what was prepared.
 module _ {S : Type 0} (facts : S → StoreFacts) (old new : CacheState S) (log : Log) (s : SessionState S) (is : session_with old log ≡ s) (distinct : all_distinct (map (λ s. s.0) old.resident) ≡ true)

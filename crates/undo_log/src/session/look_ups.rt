@@ -27,6 +27,7 @@ macro_rules! lend {
         match $prepared {
             Prepared::Blocks => Ok(Reply::Blocks(&$session.lists.blocks)),
             Prepared::Chunks => Ok(Reply::Chunks(&$session.lists.chunks)),
+            Prepared::Bytes => Ok(Reply::Bytes(&$session.lists.bytes)),
             _ => look_ups::answer(&$session.blocks, $prepared),
         }
     };

@@ -1,5 +1,5 @@
 use Rattle.std.proofs.Common.{ap, refl}
-use Rattle.geos_model.specs.Reply.{PlacesAre, blocks_are, chunks_are, reply_by, reply_of}
+use Rattle.geos_model.specs.Reply.{BytesAre, PlacesAre, blocks_are, chunks_are, reply_by, reply_of}
 use Rattle.geos_model.specs.LookUps.{places_look_up}
 use Rattle.geos_model.specs.declared.command.Command.TheVariants as commands
 use Rattle.geos_model.specs.Forms as forms
@@ -34,6 +34,16 @@ returns-in-Chunks g c =
     let new = c.prepare_in_block.new.blocks in let lists = c.prepare_in_block.new.lists in let r = c.prepare_in_block.result in
     let reply = chunks_are c.deref-in-Chunks.result.now in
     let shows = shows_ok new lists r c.in_ok-prepared-in-InBlock.prepared reply c.in_ok-prepared-in-InBlock.was (rw c.in-Chunks.is (ap chunks_are c.deref-in-Chunks.ensures.value)) in
+    rw c.in-InBlock.is (
+      (refl, (λ _. tt), in_block_looked g.S.Store.facts _ new c.self.inside.log.lists _ c.self.view_is c.reveal_invariant.ensures.distinct lists r reply shows c.in-InBlock.block c.in-InBlock.asked c.prepare_in_block.ensures.sees),
+      record { leaves = tt; form = in_block_form g.S.Store.facts _ new c.self.inside.log.lists _ c.self.view_is c.reveal_invariant.ensures.distinct lists r reply shows c.in-InBlock.block c.in-InBlock.asked c.prepare_in_block.ensures.sees },
+    )
+
+pub returns-in-Bytes : goal.returns-in-Bytes
+returns-in-Bytes g c =
+    let new = c.prepare_in_block.new.blocks in let lists = c.prepare_in_block.new.lists in let r = c.prepare_in_block.result in
+    let reply = BytesAre c.deref-in-Bytes.result.now in
+    let shows = shows_ok new lists r c.in_ok-prepared-in-InBlock.prepared reply c.in_ok-prepared-in-InBlock.was (rw c.in-Bytes.is (ap BytesAre c.deref-in-Bytes.ensures.value)) in
     rw c.in-InBlock.is (
       (refl, (λ _. tt), in_block_looked g.S.Store.facts _ new c.self.inside.log.lists _ c.self.view_is c.reveal_invariant.ensures.distinct lists r reply shows c.in-InBlock.block c.in-InBlock.asked c.prepare_in_block.ensures.sees),
       record { leaves = tt; form = in_block_form g.S.Store.facts _ new c.self.inside.log.lists _ c.self.view_is c.reveal_invariant.ensures.distinct lists r reply shows c.in-InBlock.block c.in-InBlock.asked c.prepare_in_block.ensures.sees },
@@ -74,6 +84,16 @@ returns-in-Chunks-prepared g c =
     let new = c.prepare_along_chain.new.blocks in let lists = c.prepare_along_chain.new.lists in let r = c.prepare_along_chain.result in
     let reply = chunks_are c.deref-in-Chunks-prepared.result.now in
     let shows = shows_ok new lists r c.in_ok-prepared-in-AlongChain.prepared reply c.in_ok-prepared-in-AlongChain.was (rw c.in-Chunks-prepared.is (ap chunks_are c.deref-in-Chunks-prepared.ensures.value)) in
+    rw c.in-AlongChain.is (
+      (refl, (λ _. tt), along_chain_looked g.S.Store.facts _ new c.self.inside.log.lists _ c.self.view_is c.reveal_invariant-in-AlongChain.ensures.distinct lists r reply shows c.in-AlongChain.asked c.prepare_along_chain.ensures.sees),
+      record { leaves = tt; form = along_chain_form g.S.Store.facts _ new c.self.inside.log.lists _ c.self.view_is c.reveal_invariant-in-AlongChain.ensures.distinct lists r reply shows c.in-AlongChain.asked c.prepare_along_chain.ensures.sees },
+    )
+
+pub returns-in-Bytes-prepared : goal.returns-in-Bytes-prepared
+returns-in-Bytes-prepared g c =
+    let new = c.prepare_along_chain.new.blocks in let lists = c.prepare_along_chain.new.lists in let r = c.prepare_along_chain.result in
+    let reply = BytesAre c.deref-in-Bytes-prepared.result.now in
+    let shows = shows_ok new lists r c.in_ok-prepared-in-AlongChain.prepared reply c.in_ok-prepared-in-AlongChain.was (rw c.in-Bytes-prepared.is (ap BytesAre c.deref-in-Bytes-prepared.ensures.value)) in
     rw c.in-AlongChain.is (
       (refl, (λ _. tt), along_chain_looked g.S.Store.facts _ new c.self.inside.log.lists _ c.self.view_is c.reveal_invariant-in-AlongChain.ensures.distinct lists r reply shows c.in-AlongChain.asked c.prepare_along_chain.ensures.sees),
       record { leaves = tt; form = along_chain_form g.S.Store.facts _ new c.self.inside.log.lists _ c.self.view_is c.reveal_invariant-in-AlongChain.ensures.distinct lists r reply shows c.in-AlongChain.asked c.prepare_along_chain.ensures.sees },
@@ -124,6 +144,9 @@ invariant_of-self-in-Blocks g c = kept_invariant g.S.Store.facts _ _ c.self.insi
 pub invariant_of-self-in-Chunks : goal.invariant_of-self-in-Chunks
 invariant_of-self-in-Chunks g c = kept_invariant g.S.Store.facts _ _ c.self.inside.log.lists c.prepare_in_block.ensures.keeps c.self.invariant
 
+pub invariant_of-self-in-Bytes : goal.invariant_of-self-in-Bytes
+invariant_of-self-in-Bytes g c = kept_invariant g.S.Store.facts _ _ c.self.inside.log.lists c.prepare_in_block.ensures.keeps c.self.invariant
+
 pub invariant_of-self-in_default : goal.invariant_of-self-in_default
 invariant_of-self-in_default g c = kept_invariant g.S.Store.facts _ _ c.self.inside.log.lists c.prepare_in_block.ensures.keeps c.self.invariant
 
@@ -135,6 +158,9 @@ invariant_of-self-in-Blocks-prepared g c = kept_invariant g.S.Store.facts _ _ c.
 
 pub invariant_of-self-in-Chunks-prepared : goal.invariant_of-self-in-Chunks-prepared
 invariant_of-self-in-Chunks-prepared g c = kept_invariant g.S.Store.facts _ _ c.self.inside.log.lists c.prepare_along_chain.ensures.keeps c.self.invariant
+
+pub invariant_of-self-in-Bytes-prepared : goal.invariant_of-self-in-Bytes-prepared
+invariant_of-self-in-Bytes-prepared g c = kept_invariant g.S.Store.facts _ _ c.self.inside.log.lists c.prepare_along_chain.ensures.keeps c.self.invariant
 
 pub invariant_of-self-in_default-prepared : goal.invariant_of-self-in_default-prepared
 invariant_of-self-in_default-prepared g c = kept_invariant g.S.Store.facts _ _ c.self.inside.log.lists c.prepare_along_chain.ensures.keeps c.self.invariant
