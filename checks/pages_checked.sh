@@ -181,6 +181,17 @@ if [ -n "$program" ]; then
     run tutorial_table_copied "$copy"
     run tutorial_letter --new "$letter"
     run tutorial_letter_opened --undo 2 "$letter"
+    novel=$folder/novel.document
+    run tutorial_novel --new "$novel"
+    # What the page has a shell write, and then what it shows.
+    sed '1,/^\*\*Longer than a heap/d' docs/TUTORIAL.md >"$folder/part"
+    awk '$0 == "```sh" { on = 1; next } $0 == "```" { on = 0 } on' "$folder/part" >"$folder/novel.sh"
+    grep -x -A 3 '```' "$folder/part" | grep -A 3 '^number' >"$folder/shown"
+    mkdir "$folder/shell"
+    ln -s "$(realpath "$program")" "$folder/shell/geosvm"
+    (cd "$folder" && PATH=$folder/shell:$PATH sh novel.sh | sed 's/^ *//') >"$folder/got" 2>&1
+    { echo '41 ok'; sed '/^```/d' "$folder/shown"; } >"$folder/wanted"
+    same "the novel, longer than a heap"
     told "the table is the saved one again" "bytes 6e61696c0a000000 blocks 0001 0002" \
         "$(printf 'aget 0002 0010 0\nlist\n' | "$program" "$table" | tr '\n' ' ' | sed 's/ $//')"
     told "a file that isn't there" "geosvm: open 2 File
@@ -195,7 +206,7 @@ geosvm: $folder/missing: no such file" "$("$program" "$folder/missing" </dev/nul
     awk '/writes this, and ends with status 1:$/ { found = 1 } found && $0 == "```" { if (on) exit; on = 1; next } on' docs/SCRIPT.md >"$folder/wanted"
     same "it writes what SCRIPT.md shows"
     if there file; then
-        for made in "$book" "$drawing" "$table" "$copy" "$letter"; do
+        for made in "$book" "$drawing" "$table" "$copy" "$letter" "$novel"; do
             told "${made##*/} is a document" "GEOS VM document" "$(file -b -m "$magic" "$made" | cut -d , -f 1)"
         done
     fi

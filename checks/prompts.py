@@ -158,6 +158,8 @@ def look_at_reasons(looks):
         (b"free 0001 zzzz", b"free b c: zzzz is no c, a chunk" + handle),
         (b"eref 0001 0010 1", b"eref b c t: 1 is no t, a token" + handle),
         (b"alloc 0001 12345678", b"alloc b n: 12345678 is no n, " + number),
+        (b"hread 0001 123456789 1234567890", b"hread b i n: 1234567890 is no n, a number, 1 to 9 decimal digits\n"),
+        (b"hcreate 7 12345678", b"hcreate uid size: 12345678 is no size, " + number),
         (b"newheap 65536", b"newheap uid: 65536 is no uid, a user ID, a number up to 65535\n"),
         (b"settype 0001 x", b"settype b type: x is no type, the type of a heap, a number up to 65535\n"),
         (b"attach 0001 abc", b"attach b hex: abc is no hex, " + octets),

@@ -1,9 +1,9 @@
 -- What a look-up may answer of a document, and what it leaves of it.
-use Rattle.std.specs.Prelude.{◌≡◌, ◌⊎◌, ◌≤◌, ◌-◌, ⊤, ℕ, List, [], Bool, true, false, ◌∷◌, Option, None, Some, Result, Ok, Err, IfErr, MatchResult, length, take, drop}
+use Rattle.std.specs.Prelude.{◌≡◌, ◌⊎◌, ⊤, ℕ, List, [], Bool, true, false, ◌∷◌, Option, None, Some, Result, Ok, Err, IfErr, MatchResult}
 use Rattle.std.specs.Option.{option_map_or}
 use Rattle.std.specs.Borrow.{follows_so, Fml, RattleType, MutBor}
 use Rattle.geos_model.specs.Refusal.{first_refusal}
-use Rattle.geos_model.specs.Document.{Document, is_heap, is_raw, raw_bytes_of}
+use Rattle.geos_model.specs.Document.{Document, is_heap, is_raw}
 use Rattle.geos_model.specs.LookUps.{array_look_up}
 use Rattle.geos_model.specs.Machine.{OneBody, look_up_needs}
 use Rattle.geos_model.specs.Reply.{Reply, AreEqual, BytesAre, NumberIs, Refused, blocks_are, chunks_are, info_is, look_up_conditions, look_up}
@@ -18,9 +18,9 @@ use Rattle.vm_blocks.specs.State.{CacheState}
 use Rattle.vm_blocks.specs.Keeping.{KeepsBlocks, IsEnvironmentFault, IsHonest, is_full, is_loaded, has_no_frame_for}
 use Rattle.vm_blocks.specs.Kinds.{IsWrongBlock}
 use Rattle.vm_chains.specs.Answers.{IsWrongRoot}
+use Rattle.large_arrays.specs.LargeLookUps.{IsElementLoaded, placed_bytes}
 use Rattle.doc_edits.specs.Found.{IsChunkAt, IsChunkLive, is_among}
 use Rattle.doc_edits.specs.Room.{lacks_frames, IsChainRefusal, ReadsNothing}
-use Rattle.doc_edits.specs.declared.look_ups.ElementPlace.{ElementPlace}
 use Rattle.doc_edits.specs.declared.look_ups.Lists.{Lists}
 use Rattle.doc_edits.specs.declared.look_ups.Prepared.{Prepared}
 use Rattle.doc_edits.specs.declared.look_ups.Prepared.TheVariants as prepared
@@ -140,17 +140,6 @@ abbrev pub AnswersInChunk : List ℕ → (VmHandle → ChunkHandle → Command) 
 AnswersInChunk bytes asks reply =
     (d : Document) (b : VmHandle) (c : ChunkHandle) → IsChunkAt d b.0 c.0 bytes
     → answer_of false (asks b c) d ≡ Some reply
-
--- An element stands in a raw block in memory, which has bytes there.
-pub record IsElementLoaded {S : Type 0} (s : CacheState S) (p : ElementPlace) : Type 0 where
-  pub loaded : is_loaded s p.block.0 ≡ true
-  pub raw : is_raw s.document p.block.0 ≡ true
-  pub order : p.start ≤ p.end
-  pub within : p.end ≤ length (raw_bytes_of s.document p.block.0)
-
--- these bytes
-abbrev pub placed_bytes : Document → ElementPlace → List ℕ
-placed_bytes d p = take (p.end - p.start) (drop p.start (raw_bytes_of d p.block.0))
 
 -- the block in which the answer stands is in memory
 abbrev pub IsPreparedLookUp : {S : Type 0} → Prepared → CacheState S → Type 0

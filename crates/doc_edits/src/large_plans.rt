@@ -6,6 +6,7 @@ ghost use Rattle.doc_edits.specs.Planning.{Plans, PlansLarge, RefusesInMemory};
 
 use crate::room::test_chain;
 use geos_model::{Done, Fault, LargeEdit, VmHandle};
+use large_arrays::{plan_create, plan_deletion, plan_insertion, plan_setting};
 use std::alloc::Global;
 use vm_blocks::{Change, FileBlocks};
 use vm_store::Store;
@@ -20,7 +21,8 @@ pub fn plan_new_large<S: Store>(
     ensures { MatchResult result (λ p. Plans (edits.CreateLarge user_id size) blocks.now.document p.0 p.1)
         (RefusesInMemory (edits.CreateLarge user_id size) blocks.now.document) }
 {
-    Err(Fault::Memory)
+    let (change, root) = plan_create(alloc, blocks, user_id, size)?;
+    Ok((change, Done::Block(root)))
 }
 
 /// The changes that an edit of a large array means in the document as it is after the call, one at least, each made
@@ -37,5 +39,9 @@ pub fn plan_large<S: Store>(
     ensures { PlansLarge S.facts blocks.old blocks.new (large_edit root edit.entry) result }
 {
     test_chain(blocks, root)?;
-    Err(Fault::Memory)
+    match edit {
+        LargeEdit::Insert(i, bytes) => plan_insertion(alloc, blocks, root, i.0, bytes),
+        LargeEdit::Set(i, bytes) => plan_setting(alloc, blocks, root, i.0, bytes),
+        LargeEdit::Delete(i, n) => plan_deletion(alloc, blocks, root, i.0, n.0),
+    }
 }

@@ -6,9 +6,10 @@ ghost use Rattle.geos_model.specs.LookUps.{array_look_up, block_look_up, chain_l
 ghost use Rattle.geos_model.specs.Reply.{Reply as Answer, AreEqual, BytesAre, NumberIs, reply_by, reply_of, info_is, blocks_are, chunks_are};
 ghost use Rattle.geos_model.specs.declared.command.Command.TheVariants as commands;
 ghost use Rattle.vm_blocks.specs.Keeping.{KeepsBlocks, is_loaded};
+ghost use Rattle.large_arrays.specs.LargeLookUps.{IsElementLoaded, placed_bytes};
 ghost use Rattle.element_arrays.specs.Answering.{IsAnswered, IsRefused};
 ghost use Rattle.doc_edits.specs.declared.look_ups.Lists.{Lists};
-ghost use Rattle.doc_edits.specs.LookUps.{AnswersInChunk, FindsChunk, IsElementLoaded, IsPreparedLookUp, AnswersFromBlocks, AnswersChainFromBlocks, Shows, ShowsOrRefuses, is_list, placed_bytes};
+ghost use Rattle.doc_edits.specs.LookUps.{AnswersInChunk, FindsChunk, IsPreparedLookUp, AnswersFromBlocks, AnswersChainFromBlocks, Shows, ShowsOrRefuses, is_list};
 
 use crate::found::{bytes_in, heap_at, known_at, raw_at};
 use crate::marking::test_array;
@@ -17,6 +18,7 @@ use geos_model::{
     ArrayLookUp, BlockLookUp, ChainLookUp, ChunkArrayLookUp, ChunkHandle, ChunkLookUp,
     ElementArrayLookUp, ElementCount, Fault, Info, NameArrayLookUp, Reply, VmHandle,
 };
+use large_arrays::{ElementPlace, element, prepare_element, read_run};
 use lmem_heap::{ArrayKind, KnownBytes};
 use std::alloc::Global;
 use vm_blocks::{BlockBody, FileBlocks};
@@ -127,15 +129,7 @@ fn large_count<S: Store>(blocks: &mut FileBlocks<S>, root: VmHandle) -> Result<u
         (reply_by NumberIs result) }
 {
     test_chain(blocks, root)?;
-    Err(Fault::Memory)
-}
-
-/// Where an element of a large array stands: in a block, from one byte up to another.
-#[derive(Clone, Copy)]
-pub struct ElementPlace {
-    pub block: VmHandle,
-    pub start: usize,
-    pub end: usize,
+    large_arrays::count(blocks, root)
 }
 
 /// Where an element of a large array stands, in a block that is in memory then.
@@ -149,15 +143,7 @@ fn large_element<S: Store>(
     ensures ready { IfOk result (IsElementLoaded blocks.new) }
 {
     test_chain(blocks, root)?;
-    Err(Fault::Memory)
-}
-
-/// The bytes of an element that was prepared, where they lie.
-fn element<S: Store>(blocks: &FileBlocks<S>, place: ElementPlace) -> &[u8]
-    requires { IsElementLoaded blocks.now place }
-    ensures { result.now ≡ placed_bytes blocks.now.document place }
-{
-    &raw_at(blocks, place.block).bytes()[place.start..place.end]
+    prepare_element(blocks, root, i.0)
 }
 
 /// The bytes of elements of a large array, one after another.
@@ -172,7 +158,7 @@ fn large_run<S: Store>(
         (reply_by (λ bytes. BytesAre bytes.items) result) }
 {
     test_chain(blocks, root)?;
-    Err(Fault::Memory)
+    read_run(alloc, blocks, root, i.0, n.0)
 }
 
 /// The lists that were asked for last, of which replies are lent.

@@ -42,6 +42,9 @@ asks_nothing (commands.NamePart b c t) isnt = cc isnt
 asks_nothing (commands.Walk b) isnt = cc isnt
 asks_nothing (commands.ChainSize b) isnt = cc isnt
 asks_nothing (commands.ChainEqual b other) isnt = cc isnt
+asks_nothing (commands.LargeCount b) isnt = cc isnt
+asks_nothing (commands.LargeElement b i) isnt = cc isnt
+asks_nothing (commands.LargeRun b i n) isnt = cc isnt
 asks_nothing command isnt = refl
 
 module _ (c : Command) (o : Option LookUp) (seen : MatchOption o (is_look_up c ≡ false) (λ look_up. command_of look_up ≡ c)) where

@@ -29,7 +29,7 @@ use Rattle.vm_blocks.proofs.KeepingLaws.{lacks-cases}
 use Rattle.vm_chains.specs.Answers.{IsWrongRoot}
 use Rattle.vm_blocks.specs.State.{CacheState}
 use Rattle.doc_edits.specs.Found.{is_among}
-use Rattle.doc_edits.specs.LookUps.{IsWrongRootOf, AnswersFromBlocks, AnswersChainFromBlocks, answer_of}
+use Rattle.doc_edits.specs.LookUps.{IsArrayRootFault, IsRootFaultOf, AnswersFromBlocks, AnswersChainFromBlocks, answer_of}
 use Rattle.doc_edits.specs.Planning.{IsLargeFault, IsManyBlocksFault, RefusesEdit}
 use Rattle.doc_edits.specs.Room.{lacks_frames}
 use Rattle.undo_log.specs.Committing.{IsSaveAsRefused}
@@ -107,10 +107,18 @@ roots_other : (d : Document) (first second : ℕ) (fault : Fault) → IsWrongRoo
 roots_other d first second fault (inl wrong) is = wrong_other is_raw d first fault wrong is
 roots_other d first second fault (inr wrong) is = wrong_other is_raw d second fault wrong is
 
-root_other : (c : Command) (d : Document) (fault : Fault) → IsWrongRootOf c d fault → fault ≡ faults.File → ⊥
+-- of the root of a large array that is looked up
+array_root_other : (own : List Fault) (d : Document) (b : ℕ) (fault : Fault) → is_among own faults.File ≡ false → IsArrayRootFault own d b fault → fault ≡ faults.File → ⊥
+array_root_other own d b fault none (inl wrong) is = wrong_other is_raw d b fault wrong is
+array_root_other own d b fault none (inr among) is = true≢false (sym among ∙ ap (is_among own) is ∙ none)
+
+root_other : (c : Command) (d : Document) (fault : Fault) → IsRootFaultOf c d fault → fault ≡ faults.File → ⊥
 root_other (commands.Walk b) d fault wrong is = wrong_other is_raw d b.0 fault wrong is
 root_other (commands.ChainSize b) d fault wrong is = wrong_other is_raw d b.0 fault wrong is
 root_other (commands.ChainEqual b other) d fault wrong is = roots_other d b.0 other.0 fault wrong is
+root_other (commands.LargeCount b) d fault wrong is = array_root_other (faults.NotArray ∷ []) d b.0 fault refl wrong is
+root_other (commands.LargeElement b i) d fault wrong is = array_root_other (faults.NotArray ∷ faults.NoElement ∷ []) d b.0 fault refl wrong is
+root_other (commands.LargeRun b i n) d fault wrong is = array_root_other (faults.NotArray ∷ faults.NoElement ∷ faults.Range ∷ []) d b.0 fault refl wrong is
 root_other _ d fault wrong is = wrong
 
 -- of an edit of a large array

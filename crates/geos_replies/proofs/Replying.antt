@@ -231,6 +231,9 @@ answered_stays facts old new reply (look_ups.InBlock b asked) answers none = let
 answered_stays facts old new reply (look_ups.AlongChain (chain_look_ups.Walk b)) answers none = cc none
 answered_stays facts old new reply (look_ups.AlongChain (chain_look_ups.Size b)) answers none = cc none
 answered_stays facts old new reply (look_ups.AlongChain (chain_look_ups.Equal b other)) answers none = cc none
+answered_stays facts old new reply (look_ups.AlongChain (chain_look_ups.LargeCount b)) answers none = cc none
+answered_stays facts old new reply (look_ups.AlongChain (chain_look_ups.LargeElement b i)) answers none = cc none
+answered_stays facts old new reply (look_ups.AlongChain (chain_look_ups.LargeRun b i n)) answers none = cc none
 
 -- a command that is seen as a look-up
 pub seen_as : (c : Command) (o : Option LookUp) → MatchOption o (is_look_up c ≡ false) (λ look_up. command_of look_up ≡ c) → (look_up : LookUp) → o ≡ Some look_up → command_of look_up ≡ c

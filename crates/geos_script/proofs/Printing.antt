@@ -10,7 +10,7 @@ use Rattle.std.proofs.lemmas.List.Sums.{fold_push, list_all-from_AllPass}
 use Rattle.hex.specs.Hex.{IsBytes, encode_lower, is_hex_digit, lower_digits}
 use Rattle.hex.proofs.HexLemmas.{decode_of-encode_lower, decode_of-ok, length-encode_with}
 use Rattle.geos_model.specs.Bytes.{same_bytes}
-use Rattle.geos_model.specs.Script.{block, bytes, chunk, command, command_of_words, four_digits, handle, hex_text, is_blank, is_digit, is_set, number, token, user_id, with_digit, words}
+use Rattle.geos_model.specs.Script.{block, bytes, chunk, command, command_of_words, element_number, four_digits, handle, hex_text, is_blank, is_digit, is_set, number, number_within, token, user_id, with_digit, words}
 use Rattle.geos_model.specs.declared.command.Edit.{Edit}
 use Rattle.geos_model.specs.declared.command.Edit.TheVariants as edits
 use Rattle.geos_model.specs.declared.command.Command.{Command}
@@ -18,8 +18,9 @@ use Rattle.geos_model.specs.declared.command.Command.TheVariants as commands
 use Rattle.geos_model.specs.declared.handle.VmHandle.{VmHandle}
 use Rattle.geos_model.specs.declared.handle.ChunkHandle.{ChunkHandle}
 use Rattle.geos_model.specs.declared.handle.Token.{Token}
+use Rattle.geos_model.specs.declared.element_count.ElementCount.{ElementCount}
 use Rattle.geos_model.proofs.Arrays.{same_bytes-is}
-use Rattle.geos_script.specs.Printing.{Bytes, Flag, Handle, IsInRange, IsSpellable, Number, Operand, ShortNumber, Spelling, command_spelling, command_text, edit_spelling, flag_text, operand_text, spelling_text}
+use Rattle.geos_script.specs.Printing.{Bytes, Flag, Handle, IsInRange, IsSpellable, LongNumber, Number, Operand, ShortNumber, Spelling, command_spelling, command_text, edit_spelling, flag_text, operand_text, spelling_text}
 use Rattle.geos_script.proofs.Words.{command-short, words-word}
 
 -- ---- each operand is read back
@@ -45,13 +46,20 @@ IsDecimal-decimal n wide = decimal_by_steps IsDecimal IsDecimal-one IsDecimal-mo
 if_all : {A : Type 0} (a b c : Bool) (x y : A) → a ≡ true → b ≡ true → c ≡ true → (if a && b && c then x else y) ≡ x
 if_all a b c x y first second third = rw (first, second, third) refl
 
-number_read : (n : ℕ) → n < 10 ^ 7 → number (decimal n) ≡ Some n
-number_read n small =
-    let wide : n < 2 ^ 64 = omega arith in
+read_within : (most n : ℕ) → 1 ≤ most → n < 10 ^ most → n < 2 ^ 64 → number_within most (decimal n) ≡ Some n
+read_within most n one small wide =
     let is = IsDecimal-decimal n wide in
     let some : 1 ≤ length (decimal n) = omega (arith, decimal_nonempty n wide) in
-    let few : length (decimal n) ≤ 7 = length-decimal-le 7 n (omega arith) small wide in
-    if_all _ _ _ _ _ (le-leb 1 (length (decimal n)) some) (le-leb (length (decimal n)) 7 few) is.0 ∙ ap Some is.1
+    let few : length (decimal n) ≤ most = length-decimal-le most n one small wide in
+    if_all _ _ _ _ _ (le-leb 1 (length (decimal n)) some) (le-leb (length (decimal n)) most few) is.0 ∙ ap Some is.1
+
+number_read : (n : ℕ) → n < 10 ^ 7 → number (decimal n) ≡ Some n
+number_read n small = read_within 7 n (omega arith) small (omega arith)
+
+element_number_read : (n : ElementCount) → n.0 < 10 ^ 9 → element_number (decimal n.0) ≡ Some n
+element_number_read n small =
+    let named : ℕ → ElementCount = λ k. record { 0 = k } in
+    ap (option_map named) (read_within 9 n.0 (omega arith) small (omega arith))
 
 short_read : (n : ℕ) → n < 2 ^ 16 → user_id (decimal n) ≡ Some n
 short_read n small =
@@ -146,6 +154,7 @@ IsWord-operand : (o : Operand) → IsInRange o → IsWord (operand_text o)
 IsWord-operand (Handle h) fits = IsWord-encode (h / 256 ∷ h % 256 ∷ []) (omega arith) (IsBytes-handle h fits)
 IsWord-operand (Number n) fits = IsWord-decimal n (omega arith)
 IsWord-operand (ShortNumber n) fits = IsWord-decimal n (omega arith)
+IsWord-operand (LongNumber n) fits = IsWord-decimal n (omega arith)
 IsWord-operand (Bytes bs) fits = IsWord-hex bs fits
 IsWord-operand (Flag b) fits = IsWord-flag b
 
@@ -207,6 +216,10 @@ edit_read (edits.SetNamePart b c t part) = (word refl, λ h. rw (block_read b h.
 edit_read (edits.RemoveName b c t) = (word refl, λ h. rw (block_read b h.0, chunk_read c h.1.0, token_read t h.1.1.0) refl)
 edit_read (edits.CopyChain b) = (word refl, λ h. rw (block_read b h.0) refl)
 edit_read (edits.FreeChain b) = (word refl, λ h. rw (block_read b h.0) refl)
+edit_read (edits.CreateLarge uid e) = (word refl, λ h. rw (short_read uid h.0, number_read e h.1.0) refl)
+edit_read (edits.InsertLarge b i bytes) = (word refl, λ h. rw (block_read b h.0, element_number_read i h.1.0, bytes_read bytes h.1.1.0) refl)
+edit_read (edits.SetLarge b i bytes) = (word refl, λ h. rw (block_read b h.0, element_number_read i h.1.0, bytes_read bytes h.1.1.0) refl)
+edit_read (edits.DeleteLarge b i n) = (word refl, λ h. rw (block_read b h.0, element_number_read i h.1.0, element_number_read n h.1.1.0) refl)
 
 command_read : (c : Command) → AllByRecursion IsInRange (command_spelling c).operands → command_of_words (words (spelling_text (command_spelling c))) ≡ Some c
 command_read commands.Blank h = refl
@@ -279,6 +292,12 @@ command_read (commands.ChainSize b) h =
     read_by (command_spelling (commands.ChainSize b)) (commands.ChainSize b) (word refl, λ h. rw (block_read b h.0) refl) h
 command_read (commands.ChainEqual b other) h =
     read_by (command_spelling (commands.ChainEqual b other)) (commands.ChainEqual b other) (word refl, λ h. rw (block_read b h.0, block_read other h.1.0) refl) h
+command_read (commands.LargeCount b) h =
+    read_by (command_spelling (commands.LargeCount b)) (commands.LargeCount b) (word refl, λ h. rw (block_read b h.0) refl) h
+command_read (commands.LargeElement b i) h =
+    read_by (command_spelling (commands.LargeElement b i)) (commands.LargeElement b i) (word refl, λ h. rw (block_read b h.0, element_number_read i h.1.0) refl) h
+command_read (commands.LargeRun b i n) h =
+    read_by (command_spelling (commands.LargeRun b i n)) (commands.LargeRun b i n) (word refl, λ h. rw (block_read b h.0, element_number_read i h.1.0, element_number_read n h.1.1.0) refl) h
 command_read (commands.Lock b) h =
     read_by (command_spelling (commands.Lock b)) (commands.Lock b) (word refl, λ h. rw (block_read b h.0) refl) h
 command_read (commands.Unlock b) h =

@@ -3,7 +3,7 @@ use Rattle.std.proofs.Common.{◌≡◌, ◌+◌, ◌<◌, ◌≤◌, ◌%◌, �
 use Rattle.std.specs.List.{list_all}
 use Rattle.std.specs.Option.{IfSome, option_and_then, option_map}
 use Rattle.hex.specs.Hex.{decode_of, is_hex_digit}
-use Rattle.geos_model.specs.Script.{bytes, handle, if_spelled, is_digit, number, operand, with_digit, words}
+use Rattle.geos_model.specs.Script.{bytes, handle, if_spelled, is_digit, number_within, operand, with_digit, words}
 use Rattle.geos_model.specs.declared.command.Command.{Command}
 use Rattle.geos_script.specs.Making.{is_behind_word, last, read_off}
 use Rattle.geos_script.proofs.Spelling.{bytes-even, decoded-digits, handle-digits, number-spelled}
@@ -46,21 +46,21 @@ pub handle-usual : (text rest : List ℕ) (o : Option ℕ) → 5 ≤ length text
 handle-usual text rest None long space spells is ends = tt
 handle-usual text rest (Some h) long space spells is ends = (long, rw is at (handle-read text rest h long space spells is ends))
 
-number-read : (text digits rest : List ℕ) (n : ℕ) → 1 ≤ length text → slice_index text 0 ≡ 32 → digits ≡ drop 1 text
-    → 0 < n → n ≤ length digits → n ≤ 7 → list_all is_digit (take n digits) ≡ true → rest ≡ drop n digits → true ≡ is_behind_word rest
-    → read_off number (words text) ≡ Some (fold with_digit 0 (take n digits), words rest)
-number-read text digits rest n long space is some within few all is_rest ends =
+number-read : (most : ℕ) (text digits rest : List ℕ) (n : ℕ) → 1 ≤ length text → slice_index text 0 ≡ 32 → digits ≡ drop 1 text
+    → 0 < n → n ≤ length digits → n ≤ most → list_all is_digit (take n digits) ≡ true → rest ≡ drop n digits → true ≡ is_behind_word rest
+    → read_off (number_within most) (words text) ≡ Some (fold with_digit 0 (take n digits), words rest)
+number-read most text digits rest n long space is some within few all is_rest ends =
     let there : true ≡ is_behind_word (drop n digits) = rw is_rest at ends in
     let found = words-space text digits long space is ∙ words-number digits n some within all there in
-    rw is_rest (read-one number (words text) (words (drop n digits)) (take n digits) _ found (number-spelled digits n some within few all))
+    rw is_rest (read-one (number_within most) (words text) (words (drop n digits)) (take n digits) _ found (number-spelled most digits n some within few all))
 
-pub number-usual : (text digits rest : List ℕ) (n : ℕ) → 1 ≤ length text → slice_index text 0 ≡ 32 → digits ≡ drop 1 text
-    → 0 < n → n ≤ length digits → n ≤ 7 → list_all is_digit (take n digits) ≡ true → rest ≡ drop n digits → true ≡ is_behind_word rest
-    → read_off number (words text) ≡ Some (fold with_digit 0 (take n digits), words (drop (n + 1) text))
-number-usual text digits rest n long space is some within few all is_rest ends =
+pub number-usual : (most : ℕ) (text digits rest : List ℕ) (n : ℕ) → 1 ≤ length text → slice_index text 0 ≡ 32 → digits ≡ drop 1 text
+    → 0 < n → n ≤ length digits → n ≤ most → list_all is_digit (take n digits) ≡ true → rest ≡ drop n digits → true ≡ is_behind_word rest
+    → read_off (number_within most) (words text) ≡ Some (fold with_digit 0 (take n digits), words (drop (n + 1) text))
+number-usual most text digits rest n long space is some within few all is_rest ends =
     let one_more : 1 + n ≡ n + 1 = omega arith in
     let behind : rest ≡ drop (n + 1) text = is_rest ∙ ap (drop n) is ∙ drop-drop n 1 text ∙ ap (λ (k : ℕ). drop k text) one_more in
-    rw behind at (number-read text digits rest n long space is some within few all is_rest ends)
+    rw behind at (number-read most text digits rest n long space is some within few all is_rest ends)
 
 pub bytes-read : (text digits bs : List ℕ) → 1 ≤ length text → slice_index text 0 ≡ 32 → digits ≡ drop 1 text
     → 0 < length digits → length digits % 2 ≡ 0 → if_spelled (decode_of digits) ≡ Some bs → last bytes (words text) ≡ Some bs

@@ -113,7 +113,7 @@ made_5 p q r s u is_kept made_by to ws result m same has =
     rw means (made is_kept made_by (λ t. to t.0 t.1.0 t.1.1.0 t.1.1.1.0 t.1.1.1.1) _ result m (λ t. same t.0 t.1.0 t.1.1.0 t.1.1.1.0 t.1.1.1.1) (λ t. has t.0 t.1.0 t.1.1.0 t.1.1.1.0 t.1.1.1.1))
 
 -- behind the last row there is none
-pub none_behind : (from : ℕ) (name : List ℕ) (operands : List (List ℕ)) → named_from from name operands ≡ named_from 83 name operands
+pub none_behind : (from : ℕ) (name : List ℕ) (operands : List (List ℕ)) → named_from from name operands ≡ named_from 90 name operands
     → ReadsAs command_has_bytes (named_from from name operands) (Err faults.BadCommand)
 unfolding named_from
 none_behind from name operands none = inl (refl, none)

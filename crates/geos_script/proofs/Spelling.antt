@@ -10,7 +10,7 @@ use Rattle.std.proofs.Math.Nat.{pow-le-pow_right}
 use Rattle.hex.specs.Hex.{decode_of, decode_pairs, is_hex_digit, pair_value}
 use Rattle.hex.specs.declared.error.FromHexError.{FromHexError}
 use Rattle.hex.proofs.HexLemmas.{decode_of-ok, decode_of-digits}
-use Rattle.geos_model.specs.Script.{bytes, handle, is_digit, number, with_digit, two_bytes, if_spelled, same_bytes}
+use Rattle.geos_model.specs.Script.{bytes, handle, is_digit, number_within, with_digit, two_bytes, if_spelled, same_bytes}
 use Rattle.geos_model.proofs.Arrays.{same_bytes-is}
 use Rattle.std.specs.Prelude.{option_and_then}
 
@@ -123,9 +123,9 @@ handle_pairs word h (Ok bs) is some = list_all-from_AllPass is_hex_digit word (d
 pub handle-digits : (word : List ℕ) (h : ℕ) → handle word ≡ Some h → list_all is_hex_digit word ≡ true
 handle-digits word h is = handle_pairs word h (decode_of word) refl is
 
--- digits at the front spell a number, where they are 1 to 7
-pub number-spelled : (xs : List ℕ) (n : ℕ) → 0 < n → n ≤ length xs → n ≤ 7 → list_all is_digit (take n xs) ≡ true
-    → number (take n xs) ≡ Some (fold with_digit 0 (take n xs))
-number-spelled xs n some within few digits =
+-- digits at the front spell a number, where they are 1 to so many
+pub number-spelled : (most : ℕ) (xs : List ℕ) (n : ℕ) → 0 < n → n ≤ length xs → n ≤ most → list_all is_digit (take n xs) ≡ true
+    → number_within most (take n xs) ≡ Some (fold with_digit 0 (take n xs))
+number-spelled most xs n some within few digits =
     let len : length (take n xs) ≡ n = omega (arith, length-take n xs) in
     rw (len, digits) (grind (arith, nat_tests))

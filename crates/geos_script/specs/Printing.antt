@@ -11,11 +11,12 @@ use Rattle.geos_model.specs.declared.command.Command.TheVariants as commands
 use Rattle.geos_script.specs.declared.word.Word.{Word}
 use Rattle.geos_script.specs.declared.word.Word.TheVariants as words
 
--- what stands behind a name; a short number is a user ID or a type
+-- what stands behind a name; a short number is a user ID or a type, and a long one is of elements of a large array
 pub data Operand : Type 0 where
   Handle : (h : ℕ) → Operand
   Number : (n : ℕ) → Operand
   ShortNumber : (n : ℕ) → Operand
+  LongNumber : (n : ℕ) → Operand
   Bytes : (bytes : List ℕ) → Operand
   Flag : (is_set : Bool) → Operand
 
@@ -27,14 +28,16 @@ abbrev pub operand_text : Operand → List ℕ
 operand_text (Handle h) = four_digits h
 operand_text (Number n) = decimal n
 operand_text (ShortNumber n) = decimal n
+operand_text (LongNumber n) = decimal n
 operand_text (Bytes bytes) = hex_text bytes
 operand_text (Flag is_set) = flag_text is_set
 
--- what a word can spell: of a number up to seven digits
+-- what a word can spell: of a number up to seven digits, of a long one up to nine
 abbrev pub IsInRange : Operand → Type 0
 IsInRange (Handle h) = h < 2 ^ 16
 IsInRange (Number n) = n < 10 ^ 7
 IsInRange (ShortNumber n) = n < 2 ^ 16
+IsInRange (LongNumber n) = n < 10 ^ 9
 IsInRange (Bytes bytes) = IsBytes bytes
 IsInRange (Flag is_set) = Unit {0}
 
@@ -87,6 +90,10 @@ edit_spelling (edits.SetNamePart b c t part) = spelled (codes "nset") (Handle b.
 edit_spelling (edits.RemoveName b c t) = spelled (codes "nunref") (Handle b.0 ∷ Handle c.0 ∷ Handle t.0 ∷ [])
 edit_spelling (edits.CopyChain b) = spelled (codes "chcopy") (Handle b.0 ∷ [])
 edit_spelling (edits.FreeChain b) = spelled (codes "chfree") (Handle b.0 ∷ [])
+edit_spelling (edits.CreateLarge uid e) = spelled (codes "hcreate") (ShortNumber uid ∷ Number e ∷ [])
+edit_spelling (edits.InsertLarge b i bytes) = spelled (codes "hinsert") (Handle b.0 ∷ LongNumber i.0 ∷ Bytes bytes ∷ [])
+edit_spelling (edits.SetLarge b i bytes) = spelled (codes "hset") (Handle b.0 ∷ LongNumber i.0 ∷ Bytes bytes ∷ [])
+edit_spelling (edits.DeleteLarge b i n) = spelled (codes "hdelete") (Handle b.0 ∷ LongNumber i.0 ∷ LongNumber n.0 ∷ [])
 
 -- a blank line is spelled by no byte
 abbrev pub command_spelling : Command → Spelling
@@ -126,6 +133,9 @@ command_spelling (commands.NamePart b c t) = spelled (codes "ndata") (Handle b.0
 command_spelling (commands.Walk b) = spelled (codes "walk") (Handle b.0 ∷ [])
 command_spelling (commands.ChainSize b) = spelled (codes "chsize") (Handle b.0 ∷ [])
 command_spelling (commands.ChainEqual b other) = spelled (codes "chequal") (Handle b.0 ∷ Handle other.0 ∷ [])
+command_spelling (commands.LargeCount b) = spelled (codes "hcount") (Handle b.0 ∷ [])
+command_spelling (commands.LargeElement b i) = spelled (codes "hget") (Handle b.0 ∷ LongNumber i.0 ∷ [])
+command_spelling (commands.LargeRun b i n) = spelled (codes "hread") (Handle b.0 ∷ LongNumber i.0 ∷ LongNumber n.0 ∷ [])
 command_spelling (commands.Lock b) = spelled (codes "lock") (Handle b.0 ∷ [])
 command_spelling (commands.Unlock b) = spelled (codes "unlock") (Handle b.0 ∷ [])
 command_spelling (commands.Dirty b) = spelled (codes "dirty") (Handle b.0 ∷ [])

@@ -24,6 +24,8 @@ edit_has_bytes (edits.ChangeElement b c t element) = is_nonempty element
 edit_has_bytes (edits.AddName b c name part replace) = is_nonempty name || is_nonempty part
 edit_has_bytes (edits.ChangeName b c t name) = is_nonempty name
 edit_has_bytes (edits.SetNamePart b c t part) = is_nonempty part
+edit_has_bytes (edits.InsertLarge b i bytes) = is_nonempty bytes
+edit_has_bytes (edits.SetLarge b i bytes) = is_nonempty bytes
 edit_has_bytes _ = false
 
 -- Whether a command has bytes to be kept: reading it takes memory for these and for nothing else.

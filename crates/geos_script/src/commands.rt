@@ -25,7 +25,7 @@ macro_rules! commands {
     ($with:ident($($given:tt)*)) => {
         $with! { ($($given)*)
             Edit {
-                // Of blocks, of chunks and of arrays of each kind, and of chains.
+                // Of blocks, of chunks and of arrays of each kind, of chains, and of large arrays.
                 "newraw" "uid size" => two NewRaw(uid, size),
                 "newheap" "uid" => one NewHeap(uid),
                 "vfree" "b" => one FreeBlock(b),
@@ -62,6 +62,10 @@ macro_rules! commands {
                 "nunref" "b c t" => three RemoveName(b, c, t),
                 "chcopy" "b" => one CopyChain(b),
                 "chfree" "b" => one FreeChain(b),
+                "hcreate" "uid size" => two CreateLarge(uid, size),
+                "hinsert" "b i hex" => three InsertLarge(b, i, hex),
+                "hset" "b i hex" => three SetLarge(b, i, hex),
+                "hdelete" "b i n" => three DeleteLarge(b, i, n),
             }
             Command {
                 // Steps and commits.
@@ -77,7 +81,7 @@ macro_rules! commands {
                 "save" => none Save,
                 "revert" => none Revert,
                 "saveas" => none SaveAs,
-                // Look-ups of blocks, chunks, arrays of any kind and chains, and locks and counts.
+                // Look-ups of blocks, chunks, arrays of any kind, chains and large arrays, and locks and counts.
                 "info" "b" => one Info(b),
                 "gettype" "b" => one HeapType(b),
                 "list" => none List,
@@ -100,6 +104,9 @@ macro_rules! commands {
                 "walk" "b" => one Walk(b),
                 "chsize" "b" => one ChainSize(b),
                 "chequal" "b b2" => two ChainEqual(b, b2),
+                "hcount" "b" => one LargeCount(b),
+                "hget" "b i" => two LargeElement(b, i),
+                "hread" "b i n" => three LargeRun(b, i, n),
                 "lock" "b" => one Lock(b),
                 "unlock" "b" => one Unlock(b),
                 "dirty" "b" => one Dirty(b),

@@ -1,5 +1,5 @@
 //! What a word spells, where an operand of some kind is wanted.
-ghost use Rattle.std.specs.Prelude.{◌≡◌, ◌<◌, ◌≤◌, ◌∷◌, ◌%◌, [], Bool, true, false, IfOk, IfSome, codes, drop, fold, is_some, length, ok_or, take, List, ℕ, MatchResult, None, Option, Some};
+ghost use Rattle.std.specs.Prelude.{◌≡◌, ◌<◌, ◌≤◌, ◌∷◌, ◌%◌, [], Bool, true, false, IfOk, IfSome, codes, drop, fold, is_some, length, ok_or, slice_index, take, List, ℕ, MatchResult, None, Option, Some};
 ghost use Rattle.std.specs.List.{list_all};
 ghost use Rattle.hex.specs.Hex.{decode_of};
 ghost use Rattle.geos_model.specs.Bytes.{same_bytes};
@@ -11,7 +11,7 @@ ghost use Rattle.geos_script.specs.Reading.{FailsToRead, ReadsAs, is_nonempty};
 use crate::hex_digits::{are_digits, decode_into, handle_of};
 use crate::line::{ends_word, has_no_word, next_word};
 use crate::spare::Spare;
-use geos_model::{Bytes, ChunkHandle, Fault, Token, VmHandle};
+use geos_model::{Bytes, ChunkHandle, ElementCount, Fault, Token, VmHandle};
 use std::alloc::AllocError;
 
 /// What a word may spell.
@@ -26,15 +26,21 @@ pub(crate) trait Operand: Copy {
 /// The most digits of a number.
 const MOST_DIGITS: usize = 7;
 
-/// The number that the decimal digits at the front spell, at most 7 of them, and how many they are.
+/// The most digits of a number of elements of a large array. So many are never too many for 32 bits.
+const MOST_ELEMENT_DIGITS: usize = 9;
+
+/// The number that the decimal digits at the front spell, at most so many of them, and how many they are.
 #[inline(always)]
-fn leading_number(text: &[u8]) -> (u32, usize)
+fn leading_number<const MOST: usize>(text: &[u8]) -> (u32, usize)
+    requires { MOST ≤ 9 }
     ensures within { result.1 ≤ length text.now }
-    ensures few { result.1 ≤ 7 }
+    ensures few { result.1 ≤ MOST }
     ensures digits { list_all script.is_digit (take result.1 text.now) ≡ true }
+    ensures ends { result.1 < length text.now → result.1 < MOST
+        → script.is_digit (slice_index text.now result.1) ≡ false }
     ensures value { result.0 ≡ fold script.with_digit 0 (take result.1 text.now) }
 {
-    let most = text.len().min(MOST_DIGITS);
+    let most = text.len().min(MOST);
     let mut number = 0;
     for i in 0..most {
         let digit = text[i];
@@ -46,19 +52,14 @@ fn leading_number(text: &[u8]) -> (u32, usize)
     (number, most)
 }
 
-/// 1 to 7 decimal digits.
-fn number(word: &[u8]) -> Result<u32, Fault>
-    ensures { result ≡ ok_or (script.number word.now) faults.BadCommand }
+/// 1 to so many decimal digits.
+fn number<const MOST: usize>(word: &[u8]) -> Result<u32, Fault>
+    requires { MOST ≤ 9 }
+    ensures { result ≡ ok_or (script.number_within MOST word.now) faults.BadCommand }
 {
-    if word.is_empty() || word.len() > MOST_DIGITS {
+    let (number, end) = leading_number::<MOST>(word);
+    if end == 0 || end < word.len() {
         return Err(Fault::BadCommand);
-    }
-    let mut number = 0;
-    for digit in word {
-        if !digit.is_ascii_digit() {
-            return Err(Fault::BadCommand);
-        }
-        number = 10 * number + u32::from(*digit - b'0');
     }
     Ok(number)
 }
@@ -66,13 +67,14 @@ fn number(word: &[u8]) -> Result<u32, Fault>
 /// The number that the next word spells, wherever it stands.
 #[cold]
 #[inline(never)]
-fn any_number(text: &[u8]) -> Result<(u32, &[u8]), Fault>
-    ensures { ReadsOff script.number text.now result }
+fn any_number<const MOST: usize>(text: &[u8]) -> Result<(u32, &[u8]), Fault>
+    requires { MOST ≤ 9 }
+    ensures { ReadsOff (script.number_within MOST) text.now result }
 {
     let Some((word, tail)) = next_word(text) else {
         return Err(Fault::BadCommand);
     };
-    Ok((number(word)?, tail))
+    Ok((number::<MOST>(word)?, tail))
 }
 
 // Each operand but a flag has a short way for the text that is usual. It answers in registers: an operand with the text
@@ -82,29 +84,49 @@ fn any_number(text: &[u8]) -> Result<(u32, &[u8]), Fault>
 /// that takes: none where it begins otherwise.
 // Never inlined, nor handles and bytes: else each shape of each row has its own.
 #[inline(never)]
-fn usual_number(text: &[u8]) -> (u32, usize)
+fn usual_number<const MOST: usize>(text: &[u8]) -> (u32, usize)
+    requires { MOST ≤ 9 }
     ensures { 0 < result.1 → (result.1 ≤ length text.now)
-        × (read_off script.number (script.words text.now) ≡ Some (result.0, script.words (drop result.1 text.now))) }
+        × (read_off (script.number_within MOST) (script.words text.now)
+        ≡ Some (result.0, script.words (drop result.1 text.now))) }
 {
     let [b' ', digits @ ..] = text else {
         return (0, 0);
     };
-    let (number, end) = leading_number(digits);
+    let (number, end) = leading_number::<MOST>(digits);
     if end == 0 || !ends_word(&digits[end..]) {
         return (0, 0);
     }
     (number, end + 1)
 }
 
+/// The number that the next word spells, and what stands behind it.
+#[inline(always)]
+fn next_number<const MOST: usize>(text: &[u8]) -> Result<(u32, &[u8]), Fault>
+    requires { MOST ≤ 9 }
+    ensures { ReadsOff (script.number_within MOST) text.now result }
+{
+    let (number, end) = usual_number::<MOST>(text);
+    if end == 0 {
+        return any_number::<MOST>(text);
+    }
+    Ok((number, &text[end..]))
+}
+
 impl Operand for u32 {
     ghost spelled = { script.number };
 
     fn read(text: &[u8]) -> Result<(u32, &[u8]), Fault> {
-        let (number, end) = usual_number(text);
-        if end == 0 {
-            return any_number(text);
-        }
-        Ok((number, &text[end..]))
+        next_number::<MOST_DIGITS>(text)
+    }
+}
+
+impl Operand for ElementCount {
+    ghost spelled = { script.element_number };
+
+    fn read(text: &[u8]) -> Result<(ElementCount, &[u8]), Fault> {
+        let (number, tail) = next_number::<MOST_ELEMENT_DIGITS>(text)?;
+        Ok((ElementCount(number), tail))
     }
 }
 

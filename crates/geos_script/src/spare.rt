@@ -45,7 +45,9 @@ impl Spare {
             | Edit::ChangeElement(_, _, _, bytes)
             | Edit::AddName(_, _, _, bytes, _)
             | Edit::ChangeName(_, _, _, bytes)
-            | Edit::SetNamePart(_, _, _, bytes) => swap(&mut self.bytes, bytes),
+            | Edit::SetNamePart(_, _, _, bytes)
+            | Edit::InsertLarge(_, _, bytes)
+            | Edit::SetLarge(_, _, bytes) => swap(&mut self.bytes, bytes),
             _ => {}
         }
     }

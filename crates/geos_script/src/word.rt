@@ -10,7 +10,7 @@ ghost use Rattle.geos_script.specs.Printing.{flag_text, word_text};
 ghost use Rattle.geos_script.specs.Texts.{Extends};
 
 use crate::text::{push_bytes, push_handle, push_number};
-use geos_model::{Bytes, ChunkHandle, Token, VmHandle};
+use geos_model::{Bytes, ChunkHandle, ElementCount, Token, VmHandle};
 use std::alloc::AllocError;
 
 /// An operand, by how it is spelled.
@@ -72,6 +72,14 @@ impl Spelled for u32 {
 
     fn word(&self) -> Word<'_> {
         Word::Number(u64::from(*self))
+    }
+}
+
+impl Spelled for ElementCount {
+    ghost spelled = { λ n. decimal n.0 };
+
+    fn word(&self) -> Word<'_> {
+        Word::Number(u64::from(self.0))
     }
 }
 

@@ -1,5 +1,5 @@
 -- The change that makes an array makes what it is planned to.
-use Rattle.std.proofs.Common.{◌≡◌, ◌≤◌, ◌<◌, ◌∷◌, ◌∙◌, ℕ, min, false, nat_lt, List, [], length, get_or, Option, Some, None, refl, sym, ap, subst, length-take, le-ltb, lt-ltb}
+use Rattle.std.proofs.Common.{◌≡◌, ◌≤◌, ◌<◌, ◌∷◌, ◌∙◌, ℕ, min, false, nat_lt, List, [], length, map, get_or, Option, Some, None, refl, sym, ap, subst, length-take, le-ltb, lt-ltb}
 use Rattle.std.proofs.lemmas.List.{length-map, get_or-map}
 use Rattle.std.proofs.lemmas.List.Elements.{All-nil, All-cons}
 use Rattle.std.specs.Option.{option_map_or}
@@ -22,7 +22,9 @@ use Rattle.vm_blocks.specs.declared.member.Members.{Members}
 use Rattle.vm_chains.specs.Numbers.{numbers}
 use Rattle.geos_model.specs.LargeLayout.{greatest_element_size, root_bytes, branch_bytes}
 use Rattle.geos_model.specs.LargeWindow.{raw_block}
-use Rattle.geos_model.specs.LargeEdits.{large_created, create_large_conditions}
+use Rattle.geos_model.specs.Cost.{images_length}
+use Rattle.geos_model.specs.Places.{block_place}
+use Rattle.geos_model.specs.LargeEdits.{new_array_blocks, large_created, create_large_conditions}
 use Rattle.large_arrays.specs.Creation.{empty_root, PlansCreation}
 use Rattle.geos_model.proofs.Creating.{two_of}
 use Rattle.large_arrays.proofs.PlannedChanges.{none_there}
@@ -74,14 +76,17 @@ module _ (d : Document) (uid size : ℕ) (ms : Members) (root branch : VmHandle)
   branch_free : IsFreeHandle d branch.0
   branch_free = free branch.0 (contains_later root.0 (branch.0 ∷ []) branch.0 (contains_first branch.0 []))
 
+  blocks_are : imaged_blocks ms.list.items ≡ new_array_blocks d uid size
+  blocks_are =
+      are
+      ∙ ap (λ (u : Attributes). (root.0, record { attributes = record { user_id = uid; heap_type = 0 }; body = Raw (root_bytes (empty_root size branch.0)) })
+      ∷ (branch.0, record { attributes = u; body = Raw (branch_bytes size []) }) ∷ [])
+      (sym (ap (λ (o : Option Block). option_map_or (λ (b : Block). b.attributes) o no_attributes) branch_free.free))
+      ∙ (λ i. let x = first in let y = second in (x i, record { attributes = record { user_id = uid; heap_type = 0 }; body = Raw (root_bytes (empty_root size (y i))) }) ∷ raw_block d (y i) (branch_bytes size []) ∷ [])
+
   made : with_blocks d (imaged_blocks ms.list.items) ≡ large_created d uid size
   unfolding large_created
-  made =
-      ap (with_blocks d) are
-      ∙ ap (λ (u : Attributes). with_blocks d ((root.0, record { attributes = record { user_id = uid; heap_type = 0 }; body = Raw (root_bytes (empty_root size branch.0)) })
-      ∷ (branch.0, record { attributes = u; body = Raw (branch_bytes size []) }) ∷ []))
-      (sym (ap (λ (o : Option Block). option_map_or (λ (b : Block). b.attributes) o no_attributes) branch_free.free))
-      ∙ (λ i. let x = first in let y = second in with_blocks d ((x i, record { attributes = record { user_id = uid; heap_type = 0 }; body = Raw (root_bytes (empty_root size (y i))) }) ∷ raw_block d (y i) (branch_bytes size []) ∷ []))
+  made = ap (with_blocks d) blocks_are
 
   pub creation_planned : PlansCreation uid size d (changes.BlocksIn ms) root
   creation_planned = record {
@@ -91,5 +96,7 @@ module _ (d : Document) (uid size : ℕ) (ms : Members) (root branch : VmHandle)
       distinct = ap all_distinct (sym hs_are) ∙ fresh.once;
     });
     document = made;
+    places = ap (λ (ps : List (ℕ × Block)). map block_place (handles_of ps)) are ∙ ap (map block_place) (sym hs_are);
+    cost = ap images_length blocks_are;
     answer = first;
   }

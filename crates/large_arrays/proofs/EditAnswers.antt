@@ -1,5 +1,5 @@
 -- What is answered of an edit, by what is found of its root and of its branches.
-use Rattle.std.proofs.Common.{◌≡◌, ◌≢◌, ◌⊎◌, ℕ, ◌+◌, ◌≤◌, true, false, ◌==◌, ◌&&◌, ◌||◌, List, [], ◌∷◌, ◌++◌, length, map, Some, None, Result, Ok, Err, MatchResult, IfErr, refl, sym, ap, subst, ◌∙◌, inl, inr, arith, eqb-true, leb-true, nat_le, nat_lt, is_some}
+use Rattle.std.proofs.Common.{◌≡◌, ◌≢◌, ◌⊎◌, ℕ, ◌+◌, ◌<◌, ◌≤◌, true, false, ◌==◌, ◌&&◌, ◌||◌, List, [], ◌∷◌, ◌++◌, length, map, Some, None, Result, Ok, Err, MatchResult, IfErr, refl, sym, ap, subst, ◌∙◌, inl, inr, arith, eqb-true, leb-true, length-append, nat_le, nat_lt, is_some}
 use Rattle.std.proofs.lemmas.Bool.{cases_Bool, and_parts, cond-true, cond-false}
 use Rattle.std.proofs.lemmas.Slice.Zip.{firsts-zip}
 use Rattle.std.specs.List.{list_all, zip}
@@ -7,7 +7,7 @@ use Rattle.geos_model.specs.ElementArray.{all_distinct}
 use Rattle.geos_model.specs.Document.{Document, is_raw, raw_bytes_of, with_blocks, without_blocks}
 use Rattle.geos_model.specs.Refusal.{Conditions, first_refusal}
 use Rattle.geos_model.specs.declared.fault.Fault.{Fault}
-use Rattle.geos_model.specs.declared.fault.Fault.TheVariants.{NoElement, BadChain, IsMap, Range, TooBig, NoHandles}
+use Rattle.geos_model.specs.declared.fault.Fault.TheVariants.{BadChain, IsMap, NoHandles}
 use Rattle.vm_blocks.specs.declared.change.Change.{Change}
 use Rattle.vm_chains.specs.Answers.{AnswersChain}
 use Rattle.vm_chains.specs.Walking.{Stops}
@@ -16,9 +16,6 @@ use Rattle.geos_model.specs.LargeLayout.{Root, greatest_element_size, root_of, r
 use Rattle.geos_model.specs.LargeBlocks.{root_at}
 use Rattle.geos_model.specs.LargeWindow.{Window, window, freed_handles, raw_block, replaced_root, with_window, are_branches, elements_replaced, elements_overwritten}
 use Rattle.large_arrays.specs.ChangePlans.{with_bodies, window_bodies, ArePlanned}
-use Rattle.geos_model.specs.LargeBlocks.{handles_at}
-use Rattle.geos_model.specs.Cost.{large_cost}
-use Rattle.geos_model.specs.LargePlaces.{large_places}
 use Rattle.geos_model.specs.ChangedBlocks.{replaced_blocks, overwritten_blocks, inserted_blocks, set_blocks, deleted_blocks}
 use Rattle.large_arrays.specs.WindowPlans.{IsWindowPlanned, RefusesWindow}
 use Rattle.geos_model.specs.LargeEdits.{cut_elements, element_count, run_places, large_inserted, large_set, large_deleted, on_window, on_run, insert_large_conditions, set_large_conditions, delete_large_conditions}
@@ -58,14 +55,10 @@ overwritten-none d b i new none = sym (cond-true (length new == 0) d _ none)
 
 -- What is planned for a window is the plan of the edit.
 
--- no change
-none-planned : (d e : Document) (changed : List ℕ) → d ≡ e → changed ≡ [] → PlansLargeEdit d e changed []
-none-planned d e changed is none = record {
-  applies = tt;
-  makes = is;
-  places = ap large_places (sym none);
-  cost = sym (ap (large_cost d e) none);
-}
+-- of the same document and blocks
+plans-same : (d : Document) (changes : List Change) {x y : Document} {hs ks : List ℕ} → x ≡ y → hs ≡ ks → PlansLargeEdit d x hs changes → PlansLargeEdit d y ks changes
+plans-same d changes {x} {y} {hs} {ks} same blocks plans =
+    subst (λ (e : Document). PlansLargeEdit d e ks changes) same (subst (λ (changed : List ℕ). PlansLargeEdit d x changed changes) blocks plans)
 
 blocks-are : (d : Document) (b : ℕ) (w : Window) → length w.news ≡ length w.pieces → map (λ (p : ℕ × List ℕ). p.0) (window_bodies d b w) ≡ b ∷ w.news
 blocks-are d b w many =
@@ -85,9 +78,11 @@ module _ (d : Document) (b i j : ℕ) (new : BranchPiece) (root : HasRoot d b) (
   window-planned some changes planned =
       let blocks : map (λ (p : ℕ × List ℕ). p.0) (window_bodies d b w) ≡ b ∷ w.news = blocks-are d b w pieces_many in
       let once = ap (λ (hs : List ℕ). all_distinct (freed_handles w ++ hs)) blocks ∙ window-once d b i j new root order may in
+      let more : 0 < length (freed_handles w ++ map (λ (p : ℕ × List ℕ). p.0) (window_bodies d b w)) =
+      (let all = length-append (freed_handles w) (map (λ (p : ℕ × List ℕ). p.0) (window_bodies d b w)) in let named = ap (λ (hs : List ℕ). length hs) blocks in omega arith) in
       subst (λ (hs : List ℕ). PlansLargeEdit d (elements_replaced d b i j new) hs changes)
-      (ap (λ (hs : List ℕ). freed_handles w ++ hs) blocks ∙ sym (cond-false ((i == j) && (length new == 0)) [] (freed_handles w ++ b ∷ w.news) some))
-      (planned-edit d (freed_handles w) (window_bodies d b w) once changes (elements_replaced d b i j new) (window-with_bodies d b w ∙ replaced-is d b i j new some) planned)
+      (ap (λ (hs : List ℕ). freed_handles w ++ hs) blocks ∙ sym (cond-false ((i == j) && (length new == 0)) (b ∷ []) (freed_handles w ++ b ∷ w.news) some))
+      (planned-edit d (freed_handles w) (window_bodies d b w) once more changes (elements_replaced d b i j new) (window-with_bodies d b w ∙ replaced-is d b i j new some) planned)
 
 -- Answers by others.
 
@@ -154,11 +149,12 @@ run-refusal own first lacks d b (Err fault) turn (inr bad) = inr (inl bad)
 -- Elements in the place of others.
 
 module _ (d : Document) (b i j : ℕ) (new : BranchPiece) where
-  pub planned-nothing : (changes : List Change) → changes ≡ [] → ((i == j) && (length new == 0)) ≡ true
+  pub planned-nothing : (changes : List Change) → PlansLargeEdit d d (b ∷ []) changes → ((i == j) && (length new == 0)) ≡ true
       → (first_refusal (on_window true d b i j new) ≡ None) × PlansLargeEdit d (elements_replaced d b i j new) (replaced_blocks d b i j new) changes
-  planned-nothing changes none nothing = (
+  planned-nothing changes plans nothing = (
     window-nothing d b i j new nothing,
-    subst (λ (cs : List Change). PlansLargeEdit d (elements_replaced d b i j new) (replaced_blocks d b i j new) cs) (sym none) (none-planned d (elements_replaced d b i j new) (replaced_blocks d b i j new) (replaced-none d b i j new nothing) (cond-true ((i == j) && (length new == 0)) [] (freed_handles (window d b i j new) ++ b ∷ (window d b i j new).news) nothing)),
+    plans-same d changes (replaced-none d b i j new nothing)
+        (sym (cond-true ((i == j) && (length new == 0)) (b ∷ []) (freed_handles (window d b i j new) ++ b ∷ (window d b i j new).news) nothing)) plans,
   )
 
   module _ (some : ((i == j) && (length new == 0)) ≡ false) where
@@ -180,17 +176,16 @@ module _ (d : Document) (b i j : ℕ) (new : BranchPiece) where
 -- Elements written over.
 
 module _ (d : Document) (b i : ℕ) (new : BranchPiece) where
-  pub planned-none : (changes : List Change) → changes ≡ [] → length new ≡ 0
-      → (first_refusal (on_run true d b i (length new)) ≡ None) × PlansLargeEdit d (elements_overwritten d b i new) (overwritten_blocks d b i new) changes
-  planned-none changes none nothing = (
+  pub planned-none : (changes : List Change) → PlansLargeEdit d d (b ∷ []) changes → length new ≡ 0
+      → (first_refusal (on_run true d b i (length new)) ≡ None) × PlansLargeEdit d (elements_overwritten d b i new) (overwritten_blocks d b i (length new)) changes
+  planned-none changes plans nothing = (
     run-tested d b i (length new) true (ap (λ (n : ℕ). are_branches d b (root_at d b) (run_places (root_at d b) i n)) nothing),
-    subst (λ (cs : List Change). PlansLargeEdit d (elements_overwritten d b i new) (overwritten_blocks d b i new) cs) (sym none) (none-planned d (elements_overwritten d b i new) (overwritten_blocks d b i new) (overwritten-none d b i new (ap (λ (n : ℕ). n == 0) nothing))
-        (ap (λ (n : ℕ). handles_at (root_at d b) (run_places (root_at d b) i n)) nothing)),
+    plans-same d changes (overwritten-none d b i new (ap (λ (n : ℕ). n == 0) nothing)) (sym (ap (overwritten_blocks d b i) nothing)) plans,
   )
 
   pub planned-run : {A : Type 0} (items : A → List Change) (first lacks : Fault → Type 0) (r : Result A Fault) → ((fault : Fault) → first fault → lacks fault)
       → MatchResult r (λ changes. IsOverwritingPlanned d b i new (items changes)) (Stops first (are_branches d b (root_at d b) (run_places (root_at d b) i (length new)) ≡ false))
-      → AnswersChain lacks (on_run true d b i (length new)) (λ changes. PlansLargeEdit d (elements_overwritten d b i new) (overwritten_blocks d b i new) (items changes)) r
+      → AnswersChain lacks (on_run true d b i (length new)) (λ changes. PlansLargeEdit d (elements_overwritten d b i new) (overwritten_blocks d b i (length new)) (items changes)) r
   planned-run items first lacks (Ok changes) turn is = (run-tested d b i (length new) true is.there, is.plans)
   planned-run items first lacks (Err fault) turn (inl lack) = inl (turn fault lack)
   planned-run items first lacks (Err fault) turn (inr bad) = inr (run-tested d b i (length new) false bad.1 ∙ ap (λ (f : Fault). Some f) (sym bad.0))
@@ -244,7 +239,7 @@ module _ {A : Type 0} (items : A → List Change) (first lacks : Fault → Type 
 
   abbrev pub WritesSo : Type 0
   WritesSo =
-      AnswersChain first (on_run true d b e.start (length e.new_elements.elements)) (λ changes. PlansLargeEdit d (elements_overwritten d b e.start e.new_elements.elements) (overwritten_blocks d b e.start e.new_elements.elements) (items changes)) r
+      AnswersChain first (on_run true d b e.start (length e.new_elements.elements)) (λ changes. PlansLargeEdit d (elements_overwritten d b e.start e.new_elements.elements) (overwritten_blocks d b e.start (length e.new_elements.elements)) (items changes)) r
 
   replaces : (i j : ℕ) (new : BranchPiece) → e ≡ replacement (root_at d b) i j new → ReplacesSo
       → AnswersChain lacks (on_window true d b i j new) (λ changes. PlansLargeEdit d (elements_replaced d b i j new) (replaced_blocks d b i j new) (items changes)) r
@@ -254,11 +249,11 @@ module _ {A : Type 0} (items : A → List Change) (first lacks : Fault → Type 
       (λ changes. PlansLargeEdit d (elements_replaced d b x.start x.end x.new_elements.elements) (replaced_blocks d b x.start x.end x.new_elements.elements) (items changes)) r) is so)
 
   writes : (i j : ℕ) (new : BranchPiece) → e ≡ replacement (root_at d b) i j new → WritesSo
-      → AnswersChain lacks (on_run true d b i (length new)) (λ changes. PlansLargeEdit d (elements_overwritten d b i new) (overwritten_blocks d b i new) (items changes)) r
+      → AnswersChain lacks (on_run true d b i (length new)) (λ changes. PlansLargeEdit d (elements_overwritten d b i new) (overwritten_blocks d b i (length new)) (items changes)) r
   writes i j new is so =
-      answers-later first lacks (on_run true d b i (length new)) (λ changes. PlansLargeEdit d (elements_overwritten d b i new) (overwritten_blocks d b i new) (items changes)) r turn
+      answers-later first lacks (on_run true d b i (length new)) (λ changes. PlansLargeEdit d (elements_overwritten d b i new) (overwritten_blocks d b i (length new)) (items changes)) r turn
       (subst (λ (x : Replacement). AnswersChain first (on_run true d b x.start (length x.new_elements.elements))
-      (λ changes. PlansLargeEdit d (elements_overwritten d b x.start x.new_elements.elements) (overwritten_blocks d b x.start x.new_elements.elements) (items changes)) r) is so)
+      (λ changes. PlansLargeEdit d (elements_overwritten d b x.start x.new_elements.elements) (overwritten_blocks d b x.start (length x.new_elements.elements)) (items changes)) r) is so)
 
   pub inserts-so : (i : ℕ) (bytes : List ℕ) → IsFoundEdit (λ root. IsInsertion root i bytes e) d b → ReplacesSo
       → AnswersChain lacks (insert_large_conditions d b i bytes) (λ changes. PlansLargeEdit d (large_inserted d b i bytes) (inserted_blocks d b i bytes) (items changes)) r
@@ -290,7 +285,7 @@ module _ {A : Type 0} (items : A → List Change) (first lacks : Fault → Type 
         (setting-window d b i bytes has.raw has.is has.edit.accepted any)
         (answers-same lacks (on_window true d b i (i + 1) (bytes ∷ [])) d items r
         (sym (cond-true (size == 0) (elements_replaced d b i (i + 1) (bytes ∷ [])) (elements_overwritten d b i (cut_elements size bytes)) any))
-        (sym (cond-true (size == 0) (replaced_blocks d b i (i + 1) (bytes ∷ [])) (handles_at (root_at d b) (run_places (root_at d b) i (element_count size bytes))) any))
+        (sym (cond-true (size == 0) (replaced_blocks d b i (i + 1) (bytes ∷ [])) (overwritten_blocks d b i (element_count size bytes)) any))
         (replaces i (i + 1) (bytes ∷ []) is so))
 
     pub writes-so : e.new_elements.size ≢ 0 → WritesSo
@@ -306,6 +301,6 @@ module _ {A : Type 0} (items : A → List Change) (first lacks : Fault → Type 
         (setting-run d b i bytes has.raw has.is has.edit.accepted one ∙ ap (λ (n : ℕ). first_refusal (on_run true d b i n)) count)
         (answers-same lacks (on_run true d b i (length new)) d items r
         (sym (cond-false (size == 0) (elements_replaced d b i (i + 1) (bytes ∷ [])) (elements_overwritten d b i new) one))
-        (sym (cond-false (size == 0) (replaced_blocks d b i (i + 1) (bytes ∷ [])) (handles_at (root_at d b) (run_places (root_at d b) i (element_count size bytes))) one
-        ∙ ap (λ (n : ℕ). handles_at (root_at d b) (run_places (root_at d b) i n)) count))
+        (sym (cond-false (size == 0) (replaced_blocks d b i (i + 1) (bytes ∷ [])) (overwritten_blocks d b i (element_count size bytes)) one
+        ∙ ap (overwritten_blocks d b i) count))
         (writes i (i + element_count size bytes) new has.edit.is so))

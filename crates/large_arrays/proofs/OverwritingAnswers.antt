@@ -270,15 +270,19 @@ module _ (d : Document) (b i : ℕ) (new : SizedElements) (s : Spot) (run : IsRu
       mapped size (x ∷ xs) = ap (λ (ys : List (ℕ × Block)). raw_block d x.0 (branch_bytes size x.1) ∷ ys) (mapped size xs)
 
   -- the blocks that are changed
-  handles-are : overwritten_blocks d b i new.elements ≡ link_handles links
+  handles-are : overwritten_blocks d b i n ≡ link_handles links
   handles-are =
       let same : suc e - a ≡ m = omega arith in
       let many = as_many in
       let high = there in
       let up = order in
-      ap (handles_at r) (cond-false (n == 0) [] (range_with_len a (suc e - a)) some-left)
+      cond-false (n == 0) (b ∷ []) (handles_at r (run_places r i n)) some-left
+      ∙ ap (handles_at r) (cond-false (n == 0) [] (range_with_len a (suc e - a)) some-left)
       ∙ ap (λ (k : ℕ). handles_at r (range_with_len a k)) same
       ∙ (handles-places r.branches a m (omega arith) ∙ sym are.handles)
+
+  links-some : 0 < length (link_handles links)
+  links-some = (let named = length-map links (λ (l : BranchLink). l.handle.0) in let many = links-many in let up = order in omega arith)
 
   pub run-planned : (changes : List Change) → new.size ≡ s.size → all_distinct (b ∷ link_handles links) ≡ true → AreBranchesWritten d links start new changes
       → IsOverwritingPlanned d b i new.elements changes
@@ -287,7 +291,7 @@ module _ (d : Document) (b i : ℕ) (new : SizedElements) (s : Spot) (run : IsRu
     plans =
         (let blocks : map (λ (p : ℕ × List ℕ). p.0) (run_bodies d links start new) ≡ link_handles links = bodies-first d links start new in
         subst (λ (hs : List ℕ). PlansLargeEdit d (elements_overwritten d b i new.elements) hs changes) (blocks ∙ sym handles-are)
-        (planned-edit d [] (run_bodies d links start new) (ap all_distinct blocks ∙ distinct-rest b (link_handles links) once) changes (elements_overwritten d b i new.elements)
+        (planned-edit d [] (run_bodies d links start new) (ap all_distinct blocks ∙ distinct-rest b (link_handles links) once) (subst (λ (hs : List ℕ). 0 < length hs) (sym blocks) links-some) changes (elements_overwritten d b i new.elements)
         (ap (λ (z : ℕ). with_bodies d [] (piece_bodies z (zip (link_handles links) (overwritten (pieces_under d z links) start new.elements)))) size ∙ made) written.planned));
   }
 

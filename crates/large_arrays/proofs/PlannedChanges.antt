@@ -77,7 +77,7 @@ live_put d h x live k = elim (cases_eq k h) as (λ _. is_live (with_block d h x)
 ]
 
 -- a raw block, by what is said of it
-raw_there : (d : Document) (h : ℕ) → is_raw d h ≡ true → get d.blocks h ≡ Some (raw_block d h (raw_bytes_of d h)).1
+pub raw_there : (d : Document) (h : ℕ) → is_raw d h ≡ true → get d.blocks h ≡ Some (raw_block d h (raw_bytes_of d h)).1
 raw_there d h raw = by_block (get d.blocks h) refl raw
   where
     by_body : (b : Block) (body : Body) → b.body ≡ body → not (is_heap_body body) ≡ true → Some b ≡ Some (record { attributes = b.attributes; body = Raw (bytes_of_body body) })

@@ -1,23 +1,29 @@
 -- What is planned costs what an edit costs that changes these blocks.
-use Rattle.std.proofs.Common.{◌≡◌, ◌+◌, ◌++◌, ◌∷◌, ◌∙◌, ◌&&◌, ℕ, Bool, true, false, List, [], length, map, sum_by, if◌then◌else◌, Option, Some, None, is_some, refl, sym, ap, ap₂, subst, inl, inr, arith}
+use Rattle.std.proofs.Common.{◌≡◌, ◌<◌, ◌+◌, ◌++◌, ◌∷◌, ◌∙◌, ◌&&◌, ℕ, Bool, true, false, List, [], length, map, sum_by, if◌then◌else◌, Option, Some, None, is_some, nat_cmp, refl, sym, ap, ap₂, subst, inl, inr, arith}
+use Rattle.std.proofs.lemmas.Bool.{cases_eq}
 use Rattle.std.proofs.lemmas.List.Sums.{sum_by-append}
 use Rattle.std.proofs.lemmas.List.Elements.{All-head, All-tail}
-use Rattle.std.specs.List.{All, Contains}
+use Rattle.std.specs.Cmp.{nat_cmp_total}
+use Rattle.std.specs.List.{All, Contains, flat_map}
 use Rattle.std.specs.Option.{option_map_or}
-use Rattle.std.specs.FinMap.{get}
+use Rattle.std.specs.FinMap.{FinMap, get, insert, same_map, nat_cmp-IsAntisymmetric}
 use Rattle.geos_model.specs.Cost.{image_length}
 use Rattle.geos_model.specs.ElementArray.{all_distinct}
-use Rattle.geos_model.specs.Document.{Block, Document, is_live, raw_bytes_of, handles_of, with_blocks, without_blocks}
+use Rattle.geos_model.specs.Document.{Block, Document, is_live, is_raw, raw_bytes_of, handles_of, with_block, without_blocks}
 use Rattle.geos_model.specs.Image.{image}
 use Rattle.geos_model.specs.declared.command.Body.TheVariants.{Raw}
 use Rattle.geos_model.proofs.BlockLists.{put_elsewhere, put_stands, taken_gone}
+use Rattle.geos_model.proofs.HeapEdits.{get-put_same, get-put_other}
 use Rattle.geos_model.proofs.Chains.{contains_first, contains_later}
+use Rattle.vm_blocks.specs.ChangePlaces.{change_places}
 use Rattle.vm_blocks.specs.declared.change.Change.{Change}
 use Rattle.large_arrays.specs.ChangePlans.{with_bodies, body_cost, planned_cost, ArePlanned}
 use Rattle.large_arrays.specs.EditPlans.{PlansLargeEdit}
 use Rattle.geos_model.specs.Cost.{block_cost, large_cost}
+use Rattle.geos_model.specs.Places.{large_places}
 use Rattle.geos_model.specs.LargeWindow.{raw_block}
 use Rattle.geos_model.proofs.DistinctHandles.{distinct-parts}
+use Rattle.large_arrays.proofs.PlannedChanges.{raw_there}
 
 and-false : (b : Bool) → (b && false) ≡ false
 and-false true = refl
@@ -94,12 +100,33 @@ module _ (d : Document) (freed : List ℕ) (bodies : List (ℕ × List ℕ)) (on
       let all = sum_by-append (block_cost d after) freed (map (λ (p : ℕ × List ℕ). p.0) bodies) in
       omega arith
 
+  -- Where blocks change there are changes.
+  some-changes : (cs : List Change) (changed : List ℕ) → flat_map change_places cs ≡ large_places changed → 0 < length changed → 0 < length cs
+  some-changes [] [] none more = absurd (omega arith)
+  some-changes [] (h ∷ hs) none more = absurd (cc none)
+  some-changes (c ∷ cs) changed same more = omega arith
+
   -- What is planned so is the plan of an edit.
-  pub planned-edit : (cs : List Change) (e : Document) → with_bodies d freed bodies ≡ e → ArePlanned cs d freed bodies
+  pub planned-edit : 0 < length (freed ++ map (λ (p : ℕ × List ℕ). p.0) bodies) → (cs : List Change) (e : Document) → with_bodies d freed bodies ≡ e → ArePlanned cs d freed bodies
       → PlansLargeEdit d e (freed ++ map (λ (p : ℕ × List ℕ). p.0) bodies) cs
-  planned-edit cs e is planned = record {
+  planned-edit more cs e is planned = record {
     applies = planned.applies;
     makes = planned.makes ∙ is;
+    some = some-changes cs (freed ++ map (λ (p : ℕ × List ℕ). p.0) bodies) planned.places more;
     places = planned.places;
     cost = planned.cost ∙ planned-cost ∙ ap (λ (x : Document). large_cost d x (freed ++ map (λ (p : ℕ × List ℕ). p.0) bodies)) is;
   }
+
+-- A block that becomes what it is.
+
+put_own : (d : Document) (h : ℕ) (x : Block) → get d.blocks h ≡ Some x → with_block d h x ≡ d
+put_own d h x is =
+    ap (λ (m : FinMap nat_cmp Block). record d { blocks = m })
+    (same_map nat_cmp_total nat_cmp-IsAntisymmetric (insert d.blocks h x) d.blocks (λ q. elim (cases_eq q h) [
+      | inl e ↦ get-put_same d.blocks h x q e ∙ (sym is ∙ ap (get d.blocks) (sym e))
+      | inr other ↦ get-put_other d.blocks h x q other
+    ]))
+
+pub nothing-planned : (cs : List Change) (d : Document) (b : ℕ) → is_raw d b ≡ true → ArePlanned cs d [] ((b, raw_bytes_of d b) ∷ []) → PlansLargeEdit d d (b ∷ []) cs
+nothing-planned cs d b raw planned =
+    planned-edit d [] ((b, raw_bytes_of d b) ∷ []) refl (omega arith) cs d (put_own d b (raw_block d b (raw_bytes_of d b)).1 (raw_there d b raw)) planned

@@ -77,7 +77,7 @@ fn empty_array(
 }
 
 /// The bytes of its root.
-#[tactic(auto, unfolding(crate::specs::Layout::root_bytes))]
+#[tactic(auto, unfolding(geos_model::specs::LargeLayout::root_bytes))]
 fn empty_root(alloc: Global, size: u16, branch: VmHandle) -> Result<Vec<u8>, AllocError>
     ensures bytes { IfOk result (λ bytes. bytes.items ≡ root_bytes (empty_root size branch.0)) }
     ensures len { IfOk result (λ bytes. length bytes.items ≡ 22) }
@@ -91,7 +91,7 @@ fn empty_root(alloc: Global, size: u16, branch: VmHandle) -> Result<Vec<u8>, All
 }
 
 /// The bytes of a branch without elements.
-#[tactic(auto, unfolding(crate::specs::Layout::branch_bytes, geos_model::specs::Array::array_bytes))]
+#[tactic(auto, unfolding(geos_model::specs::LargeLayout::branch_bytes, geos_model::specs::Array::array_bytes))]
 fn empty_branch(alloc: Global, size: u16) -> Result<Vec<u8>, AllocError>
     ensures bytes { IfOk result (λ bytes. bytes.items ≡ branch_bytes size []) }
     ensures len { IfOk result (λ bytes. length bytes.items ≡ 10) }

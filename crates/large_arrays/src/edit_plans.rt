@@ -1,5 +1,5 @@
 //! Plans of edits of large arrays: the changes that make one of a document, all of them or none.
-ghost use Rattle.std.specs.Prelude.{◌≡◌, ◌⊎◌, ◌≢◌, ◌≤◌, ◌<◌, ◌+◌, ◌==◌, ◌&&◌, Some, true, false, IfOk, IfErr, MatchResult, length};
+ghost use Rattle.std.specs.Prelude.{◌≡◌, ◌⊎◌, ◌≢◌, ◌≤◌, ◌<◌, ◌+◌, ◌∷◌, [], ◌==◌, ◌&&◌, Some, true, false, IfOk, IfErr, MatchResult, length};
 ghost use Rattle.geos_model.specs.Refusal.{first_refusal};
 ghost use Rattle.geos_model.specs.declared.fault.Fault.TheVariants.{NoElement, BadChain, IsMap, NoHandles};
 ghost use Rattle.vm_blocks.specs.Keeping.{KeepsBlocks, IsHonest, IsEnvironmentFault, is_full};
@@ -14,22 +14,24 @@ ghost use Rattle.large_arrays.specs.Loading.{IsRootLoaded};
 ghost use Rattle.large_arrays.specs.Replacements.{CanReplace, IsDeletion, IsInsertion, IsSetting, insertion_conditions, setting_conditions};
 ghost use Rattle.geos_model.specs.LargeWindow.{elements_replaced, elements_overwritten};
 
+use crate::changes::plan_body;
+use crate::cut_body::CutBody;
 use crate::gathering::gather;
-use crate::loading::{load_root, loaded_root};
+use crate::loading::{load_root, loaded_root, raw_bytes};
 use crate::new_elements::NewElements;
 use crate::overwriting::plan_overwriting;
 use crate::root::RootView;
 use crate::spot::Spot;
 use crate::window_plan::plan_window;
 use geos_model::{Fault, VmHandle};
-use std::alloc::Global;
+use std::alloc::{AllocError, Global};
 use vm_blocks::{Change, FileBlocks};
 use vm_store::Store;
 
 /// Of the edit that puts elements in before the one at `i`, or behind the last one: as many as the bytes are, of an
 /// array whose elements vary in size one. NoBlock, WrongKind, NotArray; Range past the last one, or where the bytes are
-/// no whole number of elements; TooBig where no branch has room for the one that they are. Only then branches are looked
-/// at: BadChain, IsMap, NoHandles. Memory, File, Damaged.
+/// no whole number of elements; TooBig where no branch has room for the one that they are. Only then branches are
+/// looked at: BadChain, IsMap, NoHandles. Memory, File, Damaged.
 pub fn plan_insertion<S: Store>(
     alloc: Global,
     blocks: &mut FileBlocks<S>,
@@ -200,6 +202,24 @@ fn elements_begun(bytes: &[u8], size: usize) -> u64
     ((bytes.len() + (size - 1)) / size) as u64
 }
 
+/// The change of an edit of no element: the root, which is in memory, becomes what it is.
+fn plan_nothing<S: Store>(
+    alloc: Global,
+    blocks: &FileBlocks<S>,
+    root: VmHandle,
+) -> Result<Vec<Change>, AllocError>
+    requires { IsRootLoaded blocks.now root.0 }
+    ensures planned { IfOk result (λ changes.
+        PlansLargeEdit blocks.now.document blocks.now.document (root.0 ∷ []) changes.items) }
+    ensures listed { IfOk result (λ changes. CanApplyAllByHandle changes.items blocks.now.document) }
+{
+    let bytes = raw_bytes(blocks, root);
+    let body = CutBody::new(bytes, 0, 0);
+    let mut changes = Vec::new(alloc);
+    plan_body(alloc, &mut changes, root, &body, &body)?;
+    Ok(changes)
+}
+
 /// The changes by which elements come in the place of others of the root, which is in memory. BadChain, IsMap,
 /// NoHandles; Memory, File, Damaged.
 fn plan_replacement<S: Store>(
@@ -229,7 +249,7 @@ fn plan_replacement<S: Store>(
         ⊎ ((fault ≡ BadChain) ⊎ ((fault ≡ IsMap) ⊎ (fault ≡ NoHandles)))) }
 {
     if edit.is_nothing() {
-        return Ok(Vec::new(alloc));
+        return Ok(plan_nothing(alloc, blocks, root)?);
     }
     let spot = Spot::new(alloc, &loaded_root(blocks, root), edit.start, edit.end)?;
     let gathered = gather(alloc, blocks, root, &spot, &edit.new_elements)?;
@@ -258,7 +278,7 @@ fn plan_writing<S: Store>(
         (on_run true blocks.new.document root.0 edit.now.start (length edit.now.new_elements.elements))
         (λ changes. PlansLargeEdit blocks.new.document
         (elements_overwritten blocks.new.document root.0 edit.now.start edit.now.new_elements.elements)
-        (overwritten_blocks blocks.new.document root.0 edit.now.start edit.now.new_elements.elements)
+        (overwritten_blocks blocks.new.document root.0 edit.now.start (length edit.now.new_elements.elements))
         changes.items) result }
     // Over any store.
     ensures listed { IfOk result (λ changes. CanApplyAllByHandle changes.items blocks.new.document) }
@@ -266,7 +286,7 @@ fn plan_writing<S: Store>(
         IsEnvironmentFault S.facts blocks.old.disk.store blocks.new.disk.store fault ⊎ (fault ≡ BadChain)) }
 {
     if edit.new_elements.count() == 0 {
-        return Ok(Vec::new(alloc));
+        return Ok(plan_nothing(alloc, blocks, root)?);
     }
     let spot = Spot::new(alloc, &loaded_root(blocks, root), edit.start, edit.end)?;
     plan_overwriting(alloc, blocks, root, &spot, &edit.new_elements)

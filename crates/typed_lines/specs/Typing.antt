@@ -34,6 +34,7 @@ operand_probe operands.Token = codes "info "
 operand_probe operands.UserId = codes "newheap "
 operand_probe operands.HeapType = codes "newheap "
 operand_probe operands.Number = codes "forget "
+operand_probe operands.ElementNumber = codes "hget 0001 "
 operand_probe operands.Bytes = codes "name "
 operand_probe operands.KeepOrSet = codes "nadd 0001 0010 00 00 "
 

@@ -16,13 +16,15 @@ pub(crate) enum Operand {
     UserId,
     HeapType,
     Number,
+    ElementNumber,
     Bytes,
     KeepOrSet,
 }
 
 impl Operand {
-    /// The operand that a row of the list of commands calls so.
-    pub(crate) fn of(name: &[u8]) -> Operand {
+    /// The operand that a row of the list of commands calls so. Of large arrays, whose commands alone begin with an h,
+    /// elements have longer numbers.
+    pub(crate) fn of(row: &[u8], name: &[u8]) -> Operand {
         match name {
             b"b" | b"b2" | b"start" => Operand::Block,
             b"c" => Operand::Chunk,
@@ -31,6 +33,7 @@ impl Operand {
             b"type" => Operand::HeapType,
             b"hex" | b"name" | b"part" => Operand::Bytes,
             b"keep|set" => Operand::KeepOrSet,
+            b"i" | b"n" if row.starts_with(b"h") => Operand::ElementNumber,
             _ => Operand::Number,
         }
     }
@@ -44,6 +47,7 @@ impl Operand {
             Operand::UserId => "a user ID, a number up to 65535",
             Operand::HeapType => "the type of a heap, a number up to 65535",
             Operand::Number => "a number, 1 to 7 decimal digits",
+            Operand::ElementNumber => "a number, 1 to 9 decimal digits",
             Operand::Bytes => {
                 "bytes, two hexadecimal digits for each, a text in quotes, or - for none"
             }
@@ -59,6 +63,7 @@ impl Operand {
             Operand::Block | Operand::Chunk | Operand::Token => "info ",
             Operand::UserId | Operand::HeapType => "newheap ",
             Operand::Number => "forget ",
+            Operand::ElementNumber => "hget 0001 ",
             Operand::Bytes => "name ",
             Operand::KeepOrSet => "nadd 0001 0010 00 00 ",
         }

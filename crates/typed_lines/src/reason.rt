@@ -35,7 +35,7 @@ fn push_reason_of(
 ) -> Result<(), AllocError> {
     let mut words = words;
     for name in row.fields().skip(1) {
-        let operand = Operand::of(name);
+        let operand = Operand::of(row, name);
         let Some((word, behind)) = next_word(words) else {
             return push_missing(out, row, name, operand);
         };

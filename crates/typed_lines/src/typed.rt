@@ -108,11 +108,12 @@ fn help_of(alloc: Global, name: &[u8]) -> Result<Vec<u8>, AllocError> {
     if topic.contains_str(b"refusals: ") {
         text.extend_from_slice(BESIDES.as_bytes())?;
     }
-    for operand in first_line(topic).fields().skip(1) {
+    let row = first_line(topic);
+    for operand in row.fields().skip(1) {
         text.extend_from_slice(b"    ")?;
         text.extend_from_slice(operand)?;
         text.extend_from_slice(b": ")?;
-        text.extend_from_slice(Operand::of(operand).text().as_bytes())?;
+        text.extend_from_slice(Operand::of(row, operand).text().as_bytes())?;
         text.push(b'\n')?;
     }
     Ok(text)

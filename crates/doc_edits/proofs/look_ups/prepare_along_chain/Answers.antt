@@ -6,7 +6,8 @@ use Rattle.geos_model.specs.declared.command.Command.{Command}
 use Rattle.geos_model.specs.declared.command.Command.TheVariants as commands
 use Rattle.vm_blocks.specs.State.{CacheState}
 use Rattle.vm_store.specs.Facts.{StoreFacts}
-use Rattle.doc_edits.specs.LookUps.{AnswersChainFromBlocks, placed_bytes}
+use Rattle.large_arrays.specs.LargeLookUps.{placed_bytes}
+use Rattle.doc_edits.specs.LookUps.{AnswersChainFromBlocks}
 use Rattle.doc_edits.proofs.Forms.{by_form}
 use Rattle.doc_edits.proofs.LookUps.{shown_err, shown_ok}
 use Rattle.doc_edits.proofs.look_ups.prepare_along_chain.Goals as goal

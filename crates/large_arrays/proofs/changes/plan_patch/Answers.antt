@@ -1,4 +1,4 @@
-use Rattle.std.proofs.Common.{◌≡◌, ◌++◌, ◌∷◌, ◌+◌, List, [], sum_by, refl, sym, subst, arith}
+use Rattle.std.proofs.Common.{◌≡◌, ◌++◌, ◌∷◌, List, [], sum_by, refl, sym, subst, arith}
 use Rattle.geos_model.specs.Document.{raw_bytes_of}
 use Rattle.chunk_edits.specs.Patching.{patched, total_held}
 use Rattle.vm_blocks.specs.Changes.{weight as change_weight}

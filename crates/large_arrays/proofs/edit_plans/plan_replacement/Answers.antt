@@ -1,4 +1,4 @@
-use Rattle.std.proofs.Common.{◌≡◌, ◌∙◌, ℕ, true, false, is_some, sym, ap, subst, inl}
+use Rattle.std.proofs.Common.{◌≡◌, ◌∙◌, ℕ, true, is_some, sym, ap, subst, inl}
 use Rattle.geos_model.specs.Document.{Document, is_raw, raw_bytes_of}
 use Rattle.geos_model.specs.declared.fault.Fault.{Fault}
 use Rattle.geos_model.specs.declared.fault.Fault.TheVariants.{Memory}
@@ -15,6 +15,17 @@ use Rattle.large_arrays.proofs.GatheredWindows.{gathered-root}
 use Rattle.large_arrays.proofs.SpotRuns.{read-run}
 use Rattle.large_arrays.proofs.edit_plans.plan_replacement.Goals as goal
 
+pub returns-in_err-plan_nothing-clause-keeps : goal.returns-in_err-plan_nothing-clause-keeps
+returns-in_err-plan_nothing-clause-keeps g c = keeps-refl g.S.Store.facts c.args.blocks.now
+
+pub returns-in_err-plan_nothing-clause-value : goal.returns-in_err-plan_nothing-clause-value
+returns-in_err-plan_nothing-clause-value g c = λ honest.
+    carried c.from_residual.result Memory _ _ c.from_residual.ensures.1 (inl (lacks-memory g.S.Store.facts c.args.blocks.now.disk.store c.args.blocks.now.disk.store))
+
+pub returns-in_err-plan_nothing-clause-refusals : goal.returns-in_err-plan_nothing-clause-refusals
+returns-in_err-plan_nothing-clause-refusals g c =
+    carried_so c.from_residual.result Memory _ c.from_residual.ensures.1 (inl (lacks-memory g.S.Store.facts c.args.blocks.now.disk.store c.args.blocks.now.disk.store))
+
 pub returns-then-is_nothing-clause-keeps : goal.returns-then-is_nothing-clause-keeps
 returns-then-is_nothing-clause-keeps g c = keeps-refl g.S.Store.facts c.args.blocks.now
 
@@ -24,15 +35,15 @@ returns-in_err-spot-clause-keeps g c = keeps-refl g.S.Store.facts c.args.blocks.
 pub returns-then-is_nothing-clause-value : goal.returns-then-is_nothing-clause-value
 returns-then-is_nothing-clause-value g c = λ honest.
     let edit = c.args.edit.now in
-    planned-nothing c.args.blocks.now.document c.args.root.0 edit.start edit.end edit.new_elements.elements c.new.result.items c.new.ensures.items (sym c.is_nothing.ensures ∙ c.if-is_nothing.true)
+    planned-nothing c.args.blocks.now.document c.args.root.0 edit.start edit.end edit.new_elements.elements c.in_ok-plan_nothing.field-0.items c.in_ok-plan_nothing.ensures.planned (sym c.is_nothing.ensures ∙ c.if-is_nothing.true)
 
 pub returns-in_err-spot-clause-value : goal.returns-in_err-spot-clause-value
 returns-in_err-spot-clause-value g c = λ honest.
-    carried c.from_residual.result Memory _ _ c.from_residual.ensures.1 (inl (lacks-memory g.S.Store.facts c.args.blocks.now.disk.store c.args.blocks.now.disk.store))
+    carried c.from_residual-in_err-spot.result Memory _ _ c.from_residual-in_err-spot.ensures.1 (inl (lacks-memory g.S.Store.facts c.args.blocks.now.disk.store c.args.blocks.now.disk.store))
 
 pub returns-in_err-spot-clause-refusals : goal.returns-in_err-spot-clause-refusals
 returns-in_err-spot-clause-refusals g c =
-    carried_so c.from_residual.result Memory _ c.from_residual.ensures.1 (inl (lacks-memory g.S.Store.facts c.args.blocks.now.disk.store c.args.blocks.now.disk.store))
+    carried_so c.from_residual-in_err-spot.result Memory _ c.from_residual-in_err-spot.ensures.1 (inl (lacks-memory g.S.Store.facts c.args.blocks.now.disk.store c.args.blocks.now.disk.store))
 
 pub gather-requires : goal.gather-requires
 gather-requires g c =

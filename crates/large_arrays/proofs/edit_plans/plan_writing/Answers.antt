@@ -1,4 +1,4 @@
-use Rattle.std.proofs.Common.{◌≡◌, ◌∙◌, ◌+◌, ℕ, true, false, length, is_some, sym, ap, subst, inl, arith}
+use Rattle.std.proofs.Common.{◌≡◌, ◌∙◌, ◌+◌, ℕ, length, is_some, sym, ap, subst, inl, arith}
 use Rattle.geos_model.specs.Document.{Document}
 use Rattle.geos_model.specs.declared.fault.Fault.TheVariants.{Memory}
 use Rattle.vm_blocks.specs.Keeping.{IsEnvironmentFault}
@@ -11,6 +11,17 @@ use Rattle.large_arrays.proofs.EditAnswers.{planned-none, planned-run}
 use Rattle.large_arrays.proofs.SpotRuns.{read-run}
 use Rattle.large_arrays.proofs.edit_plans.plan_writing.Goals as goal
 
+pub returns-in_err-plan_nothing-clause-keeps : goal.returns-in_err-plan_nothing-clause-keeps
+returns-in_err-plan_nothing-clause-keeps g c = keeps-refl g.S.Store.facts c.args.blocks.now
+
+pub returns-in_err-plan_nothing-clause-value : goal.returns-in_err-plan_nothing-clause-value
+returns-in_err-plan_nothing-clause-value g c = λ honest.
+    carried c.from_residual.result Memory _ _ c.from_residual.ensures.1 (inl (lacks-memory g.S.Store.facts c.args.blocks.now.disk.store c.args.blocks.now.disk.store))
+
+pub returns-in_err-plan_nothing-clause-refusals : goal.returns-in_err-plan_nothing-clause-refusals
+returns-in_err-plan_nothing-clause-refusals g c =
+    carried_so c.from_residual.result Memory _ c.from_residual.ensures.1 (inl (lacks-memory g.S.Store.facts c.args.blocks.now.disk.store c.args.blocks.now.disk.store))
+
 pub returns-then-count-eq0-clause-keeps : goal.returns-then-count-eq0-clause-keeps
 returns-then-count-eq0-clause-keeps g c = keeps-refl g.S.Store.facts c.args.blocks.now
 
@@ -20,15 +31,15 @@ returns-in_err-spot-clause-keeps g c = keeps-refl g.S.Store.facts c.args.blocks.
 pub returns-then-count-eq0-clause-value : goal.returns-then-count-eq0-clause-value
 returns-then-count-eq0-clause-value g c = λ honest.
     let edit = c.args.edit.now in
-    planned-none c.args.blocks.now.document c.args.root.0 edit.start edit.new_elements.elements c.new.result.items c.new.ensures.items (sym c.count.ensures.value ∙ c.if-count-eq0.true)
+    planned-none c.args.blocks.now.document c.args.root.0 edit.start edit.new_elements.elements c.in_ok-plan_nothing.field-0.items c.in_ok-plan_nothing.ensures.planned (sym c.count.ensures.value ∙ c.if-count-eq0.true)
 
 pub returns-in_err-spot-clause-value : goal.returns-in_err-spot-clause-value
 returns-in_err-spot-clause-value g c = λ honest.
-    carried c.from_residual.result Memory _ _ c.from_residual.ensures.1 (inl (lacks-memory g.S.Store.facts c.args.blocks.now.disk.store c.args.blocks.now.disk.store))
+    carried c.from_residual-in_err-spot.result Memory _ _ c.from_residual-in_err-spot.ensures.1 (inl (lacks-memory g.S.Store.facts c.args.blocks.now.disk.store c.args.blocks.now.disk.store))
 
 pub returns-in_err-spot-clause-refusals : goal.returns-in_err-spot-clause-refusals
 returns-in_err-spot-clause-refusals g c =
-    carried_so c.from_residual.result Memory _ c.from_residual.ensures.1 (inl (lacks-memory g.S.Store.facts c.args.blocks.now.disk.store c.args.blocks.now.disk.store))
+    carried_so c.from_residual-in_err-spot.result Memory _ c.from_residual-in_err-spot.ensures.1 (inl (lacks-memory g.S.Store.facts c.args.blocks.now.disk.store c.args.blocks.now.disk.store))
 
 pub plan_overwriting-requires : goal.plan_overwriting-requires
 plan_overwriting-requires g c =

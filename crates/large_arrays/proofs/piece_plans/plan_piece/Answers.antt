@@ -1,10 +1,8 @@
-use Rattle.std.proofs.Common.{◌≡◌, ◌<◌, ◌++◌, ◌∷◌, [], ℕ, List, true, false, OnOk, length, get_or, map, refl, sym, ap, subst, ◌∙◌, inl, inr, arith, Vec, Global}
-use Rattle.std.proofs.lemmas.Bool.{true≢false}
-use Rattle.std.proofs.lemmas.List.{get_or-map, get_or_default, length-map}
-use Rattle.std.specs.List.{All, AllZip, Contains}
-use Rattle.geos_model.specs.Document.{Document, is_live, is_raw, raw_bytes_of}
+use Rattle.std.proofs.Common.{◌≡◌, ◌<◌, ◌++◌, ◌∷◌, [], ℕ, List, true, length, get_or, sym, subst, ◌∙◌, inl, inr, arith, Vec, Global}
+use Rattle.std.proofs.lemmas.List.{get_or-map}
+use Rattle.std.specs.List.{All, AllZip}
+use Rattle.geos_model.specs.Document.{Document, is_live}
 use Rattle.document_file.proofs.ResultLemmas.{on_ok_more}
-use Rattle.geos_model.specs.LargeLayout.{branch_bytes}
 use Rattle.large_arrays.specs.ChangePlans.{ArePlanned, ArePlannedByHandle}
 use Rattle.large_arrays.specs.Gathering.{HasOldBody}
 use Rattle.large_arrays.specs.HandleLists.{old_handles}
