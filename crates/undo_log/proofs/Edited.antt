@@ -43,7 +43,7 @@ use Rattle.doc_edits.specs.Room.{lacks_frames, ReadsNothing}
 use Rattle.doc_edits.proofs.Targets.{array_scope}
 use Rattle.undo_log.specs.Locking.{IsBarred, bars}
 use Rattle.undo_log.specs.Editing.{EditsInMemory}
-use Rattle.undo_log.specs.Making.{IsEditApplied, MakesEdit}
+use Rattle.undo_log.specs.Making.{IsEditApplied}
 use Rattle.undo_log.specs.Logging.{Log, to_redo, to_undo, with_change}
 use Rattle.undo_log.specs.Sessions.{SessionState, cache_of, machine_of, failed_since, AreSteps, IsStep, KeepsSession}
 use Rattle.undo_log.proofs.Answers.{edit_answers}
@@ -281,4 +281,3 @@ leaves_array facts edit old new c done applied b k array is =
       loaded = made_at_hand facts c (kind_of edit) new applied.kind applied.makes.in_memory b inside;
       made = record { before = meant.loaded; accepted = meant.plans.accepted; document = meant.document (λ made. let no : In b ≡ Made = sym inside ∙ made in absurd (cc no)) };
     }
-

@@ -18,7 +18,7 @@ use Rattle.vm_blocks.specs.declared.change.Change.{Change}
 use Rattle.vm_blocks.proofs.KeepingLaws.{keeps-passes, lacks-memory}
 use Rattle.doc_edits.specs.Planning.{IsManyBlocksFault, RefusesEdit, RefusesInMemory}
 use Rattle.doc_edits.specs.Room.{lacks_frames, ReadsNothing}
-use Rattle.undo_log.specs.Editing.{EditsInMemory, EditsSession}
+use Rattle.undo_log.specs.Editing.{EditsSession}
 use Rattle.undo_log.specs.Locking.{bars}
 use Rattle.undo_log.specs.Logging.{with_change}
 use Rattle.undo_log.specs.Making.{IsEditApplied, MakesEdit}

@@ -14,7 +14,6 @@ use Rattle.geos_model.specs.declared.command.Command.TheVariants as commands
 use Rattle.geos_model.specs.declared.command.Done.TheVariants.{Nothing}
 use Rattle.geos_model.specs.declared.command.Edit.{Edit}
 use Rattle.geos_model.specs.declared.command.Kind.TheVariants.{Group}
-use Rattle.geos_model.specs.declared.place.Place.{Place}
 use Rattle.vm_blocks.specs.ChangeCosts.{change_cost}
 use Rattle.vm_blocks.specs.Preparing.{after_changes}
 use Rattle.vm_blocks.specs.declared.change.Change.{Change}
@@ -74,7 +73,7 @@ module _ (m : Machine) (edit : Edit) (d : Document) (log : Log) (cs : List Chang
       let charged : changes_cost cs ≡ changes_cost (reverse cs) = sym (cost_turned (entries.Group cs)) in
       let told : all_places Forwards cs ≡ all_places Forwards (reverse (reverse cs)) = sym (ap (all_places Forwards) (reverse-reverse cs)) in
       let past : limited log.limit (record { kind = Group; cost = changes_cost cs; document = d; places = all_places Forwards cs } ∷ entry_steps Backwards undo d)
-          ≡ entry_steps Backwards (limited log.limit (entries.Group (reverse cs) ∷ undo)) (after_changes cs d) =
+      ≡ entry_steps Backwards (limited log.limit (entries.Group (reverse cs) ∷ undo)) (after_changes cs d) =
       (λ i. limited log.limit (record { kind = Group; cost = charged i; document = back i; places = told i } ∷ entry_steps Backwards undo (back i)))
       ∙ sym (kept_steps Backwards log.limit (entries.Group (reverse cs) ∷ undo) (after_changes cs d)) in
       ap (λ (steps : List UndoStep). record (after_alone undo) { past = steps }) past

@@ -21,7 +21,7 @@ use Rattle.vm_store.specs.Facts.{StoreFacts}
 use Rattle.document_file.specs.Disk.{IsFileDocument, SameUnlessCorrupt}
 use Rattle.document_file.proofs.PassingLemmas.{KeepsCommitted-trans, SameUnlessCorrupt-trans}
 use Rattle.vm_blocks.specs.State.{CacheState, ResidentBlock, locked_count}
-use Rattle.vm_blocks.specs.Changes.{after_change, directed}
+use Rattle.vm_blocks.specs.Changes.{after_change}
 use Rattle.vm_blocks.specs.Keeping.{IsEnvironmentFault, IsHonest, KeepsBlocks, is_full}
 use Rattle.vm_blocks.specs.Preparing.{AllowAll, AreApplied, CanApplyAll, CanApplyAllByHandle, CantPrepareAll, after_changes}
 use Rattle.vm_blocks.specs.declared.change.Change.{Change}

@@ -1,5 +1,5 @@
 -- There is room for an entry, also for the one that the open group becomes.
-use Rattle.std.proofs.Common.{◌≡◌, ◌+◌, ◌<◌, ◌≤◌, ℕ, true, Vec, Global, List, [], ◌∷◌, length, reverse, drop, vec_len, vec_capacity, Option, None, Some, refl, sym, ap, ◌∙◌, arith, ltb-true}
+use Rattle.std.proofs.Common.{◌≡◌, ◌+◌, ◌<◌, ◌≤◌, ℕ, true, Vec, Global, List, [], ◌∷◌, length, reverse, drop, vec_len, vec_capacity, Option, Some, sym, ap, ◌∙◌, arith, ltb-true}
 use Rattle.std.specs.Option.{option_map}
 use Rattle.std.specs.Prelude.{nat_lt}
 use Rattle.std.proofs.lemmas.Bool.{lt-ltb}

@@ -1,16 +1,14 @@
 //! A document that is edited, with what undo needs.
-ghost use Rattle.std.specs.Prelude.{◌≡◌, ◌↔◌, ◌≢◌, ◌+◌, ◌-◌, ◌^◌, ◌≤◌, ◌<◌, ◌||◌, ◌⊎◌, ℕ, Bool, true, false, [], Some, None, Ok, Err, IsTrue, IsOk, IfOk, IfErr, OnOk, OnErr, MatchOption, MatchResult, is_some, length, min, nat_lt};
+ghost use Rattle.std.specs.Prelude.{◌≡◌, ◌↔◌, ◌+◌, ◌-◌, ◌^◌, ◌≤◌, ◌<◌, ◌||◌, ◌⊎◌, ℕ, Bool, true, false, [], Some, None, Ok, Err, IsTrue, IsOk, IfOk, IfErr, OnOk, OnErr, MatchOption, MatchResult, is_some, length, min, nat_lt};
 ghost use Rattle.std.specs.Result.{IsErrAnd};
 ghost use Rattle.std.specs.FinMap.{get};
 ghost use Rattle.std.specs.Option.{option_map, option_map_or};
 ghost use Rattle.geos_model.specs.Document.{Document};
 ghost use Rattle.file_format.specs.File.{stands};
-ghost use Rattle.geos_model.specs.Meaning.{conditions};
 ghost use Rattle.geos_model.specs.Targets.{edit_of, large_edit};
-ghost use Rattle.geos_model.specs.Reply.{Accepted, Refused as RefusedWith, NumberIs, reply_by, reply_of_done};
-ghost use Rattle.geos_model.specs.Machine.{AreValidLocks, IsValidMachine, Step, edit_needs, empty_machine, has_locks as machine_has_locks, is_barred, kind_of, locked_chunk, locked_raw, opened_machine};
+ghost use Rattle.geos_model.specs.Reply.{Accepted, Refused as RefusedWith, NumberIs, reply_by};
+ghost use Rattle.geos_model.specs.Machine.{AreValidLocks, IsValidMachine, Step, empty_machine, has_locks as machine_has_locks, locked_chunk, locked_raw, opened_machine};
 ghost use Rattle.geos_model.specs.declared.command.Command.TheVariants as commands;
-ghost use Rattle.geos_model.specs.declared.command.Kind.TheVariants.{In, Made};
 ghost use Rattle.document_file.specs.Calls.{last_sequence};
 ghost use Rattle.document_file.specs.Disk.{IsFileDocument, IsCrashConsistent, KeepsCommitted};
 ghost use Rattle.document_file.specs.Documents.{has_one_directory, sequence_in};
@@ -22,13 +20,10 @@ ghost use Rattle.vm_blocks.specs.Keeping.{IsEnvironmentFault, is_loaded};
 ghost use Rattle.vm_blocks.specs.Locking.{CantLock, GainsLock, HasNoLock, LosesLock};
 ghost use Rattle.vm_blocks.specs.Opening.{IsOpenedFrom, IsNotOpened, IsMadeIn, IsNotMade};
 ghost use Rattle.chunk_edits.specs.declared.direction.Direction.TheVariants.{Backwards, Forwards};
-ghost use Rattle.doc_edits.specs.Planning.{IsManyBlocksFault, RefusesEdit};
-ghost use Rattle.doc_edits.specs.Room.{lacks_frames, ReadsNothing};
 ghost use Rattle.undo_log.specs.Editing.{EditsSession};
-ghost use Rattle.undo_log.specs.Locking.{IsBarred};
 ghost use Rattle.undo_log.specs.Committing.{IsBusy, IsSaveAsRefused, IsSessionCommit};
 ghost use Rattle.undo_log.specs.Logging.{AreExclusive, abandoned_log, before, fresh_log, next_entries, next_moved, open_changes, reverted_log, saved_log, to_redo, to_undo, total_weight, updated_log, with_group_closed};
-ghost use Rattle.undo_log.specs.Sessions.{cache_of, file_of, has_locked_blocks, machine_of, opposite, failed_since, total_cost, IsExact, IsStep, KeepsSession, PushesEdit};
+ghost use Rattle.undo_log.specs.Sessions.{cache_of, file_of, has_locked_blocks, machine_of, opposite, failed_since, total_cost, IsExact, IsStep, KeepsSession};
 ghost use Rattle.undo_log.specs.Turning.{Abandons, IsNotAbandoned, IsRefusedUndoOrRedo, IsSure, IsSureGroup, MovesEntry, abandon_fault, newest_made, busy_fault, no_step_fault, step_command};
 
 mod look_ups;
@@ -40,9 +35,7 @@ use crate::turning::{make_entry, nothing_to_turn, take_back};
 use doc_edits::look_ups::Lists;
 use doc_edits::plan_large;
 use document_file::Refused;
-use geos_model::{
-    ChunkHandle, Done, Edit, EditTarget, Fault, LargeEdit, Place, Target, VmHandle,
-};
+use geos_model::{ChunkHandle, Done, Edit, EditTarget, Fault, LargeEdit, Place, Target, VmHandle};
 use std::alloc::Global;
 use std::marker::Model;
 use vm_blocks::{BlockBody, Direction, FileBlocks};

@@ -1,6 +1,5 @@
-use Rattle.std.proofs.Common.{◌≡◌, ◌-◌, ℕ, List, drop, length, reverse, take, take_at, length-drop, ap, ◌∙◌, arith}
+use Rattle.std.proofs.Common.{◌≡◌, ◌-◌, ℕ, drop, length, reverse, take, take_at, length-drop, ap, ◌∙◌, arith}
 use Rattle.std.proofs.lemmas.List.{reverse-reverse}
-use Rattle.vm_blocks.specs.declared.change.Change.{Change}
 use Rattle.undo_log.proofs.Telling.{newest_are}
 use Rattle.undo_log.proofs.entry.Changes.keep_next.Goals as goal
 
