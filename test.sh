@@ -43,6 +43,7 @@ check() {
     limits) python3 checks/limits.py "$geosvm" "$geosdoc" $long ;;
     lent_bytes) sh checks/lent_bytes.sh ;;
     heap_by_chance) python3 checks/heap_by_chance.py "$geosvm" $((times * 1000)) ;;
+    large_by_chance) python3 checks/large_by_chance.py "$geosvm" $times ;;
     memory_given_back) python3 checks/memory_given_back.py "$geosvm" ;;
     edits_by_chance) python3 checks/edits_by_chance.py "$geosvm" $times ;;
     designs_measured) python3 checks/designs_measured.py "$geosvm" ;;
@@ -71,7 +72,7 @@ check() {
     esac
 }
 # Those that take longest come first, and behind them what needs one of them.
-first="embedding lent_bytes each_request failing_calls limits dumped_documents salvaged summed_documents checksums_given looks memory_given_back edits_by_chance heap_by_chance bench"
+first="embedding lent_bytes each_request failing_calls limits dumped_documents salvaged summed_documents checksums_given looks memory_given_back edits_by_chance heap_by_chance large_by_chance bench"
 first="$first instructions made_beside stat_counted compared_documents changed_bytes program_ends examples designs_measured pages_checked ways_to_start"
 first="$first prompts commands_listed"
 second="failing_calls_from_c outline_editor rust_crate installed cpp_header python_package"
