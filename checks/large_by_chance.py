@@ -64,12 +64,18 @@ class Script(random.Random):
         """At least one element, as many as there is room for in a branch."""
         if not self.is_wide:
             return self.elements(size, self.randint(1, 4))
-        target = self.choice([8 * size, JOIN // 2, JOIN // 2 + size, JOIN - 20, JOIN, ROOM - 3, ROOM, ROOM, self.randint(size, ROOM)])
+        targets = [8 * size, JOIN // 2, JOIN // 2 + size, JOIN - 20, JOIN, ROOM - 3, ROOM, ROOM, self.randint(size, ROOM)]
+        return self.long_piece(size, self.choice(targets))
+
+    def long_piece(self, size, target):
+        """One that weighs so much, or little less. Where sizes vary it has few short elements beside a long one."""
         if size:
             return self.long_bytes(min(target, ROOM) // size * size or size)
-        few = tuple(self.randbytes(self.randrange(9)) for _ in range(self.randint(1, 5)))
+        few = [self.randbytes(self.randrange(9)) for _ in range(self.randint(1, 5))]
         rest = target - sum(len(element) + 2 for element in few)
-        return (*few, self.long_bytes(rest - 2)) if rest >= 2 else few
+        if rest >= 2:
+            few.insert(self.randint(0, len(few)), self.long_bytes(rest - 2))
+        return tuple(few)
 
     def long_bytes(self, n):
         """Any bytes, or zeros among which a few others are."""
@@ -105,8 +111,6 @@ class Script(random.Random):
     def draw(self, pieces, size):
         """An array whose blocks are written as such, in any order; neighbours may be as small as they like."""
         new = self.machine.now.new_handles(len(pieces) + 1)
-        if len(new) <= len(pieces):
-            return
         order = self.sample(new, len(new))
         b, *branches = order
         root = Root(size, tuple(count(size, piece) for piece in pieces), tuple(branches))
@@ -129,12 +133,28 @@ class Script(random.Random):
         size = self.size_of_elements()
         self.draw([self.piece(size) for _ in range(self.randint(1, 4 if self.is_wide else 12))], size)
 
+    def draw_edge(self):
+        """Two pieces that become one by an edit after which they weigh as much as they may, and stay two by one that puts in more; or three
+        of any weights, between which elements come that are as long as they get."""
+        size = self.choice([0, 0, 1, 1, 2])
+        if self.randrange(2):
+            first, gap = 2 * self.randint(1000, JOIN // 2 - 1000), 12
+            self.draw([self.long_piece(size, first), self.long_piece(size, JOIN - first - gap)], size)
+            edits = [(0, gap if size else gap - 2), (0, gap + size if size else gap - 1)]
+        else:
+            size = self.choice([0, size])
+            self.draw([self.long_piece(size, self.choice(weights)) for weights in ([100, 9000, 40000], [60000, ROOM], [100, 20000, ROOM])], size)
+            edits = [(self.choice([-1, 0, 1, 1, 2, 2]), self.choice([40000, 60000, 65000, 65508])) for _ in range(2)]
+        for by, length in self.sample(edits, 2):
+            root = root_of(self.machine.now.blocks[self.roots[-1]].body)
+            i = max(0, min(self.choice([0, root.counts[0], root.counts[0], sum(root.counts[:2])]) + by, sum(root.counts)))
+            self.make_edit(f"hinsert {handle(self.roots[-1])} {i} {hex_of(self.long_bytes(length))}", self.roots[-1])
+            self.say(self.choice(["undo", "undo", "undo", "undos"]))
+
     def draw_far(self):
         """A root of more branches than there can be handles, most of them at one block."""
-        size, branches = self.choice([0, 1]), self.choice([8190, 8191, 8192, 10000])
+        size, branches = self.choice([0, 1]), self.choice([8190, 8191, 8192, 8193, 8193, 10000])
         new = self.machine.now.new_handles(4)
-        if len(new) < 4:
-            return
         for _ in new:
             self.say("newraw 0 0")
         b, *few = new
@@ -150,7 +170,7 @@ class Script(random.Random):
         if self.randrange(2):
             self.say("newraw 9 7")
         for _ in range(self.randint(1, 2)):
-            self.choice([self.make, self.draw_some, self.draw_some])()
+            self.choice([self.make, self.draw_some, self.draw_edge if self.is_wide else self.draw_some])()
         if self.randrange(8) == 0:
             self.draw_far()
         if self.is_scarce:
@@ -216,17 +236,22 @@ class Script(random.Random):
         if root is not None and self.randrange(20) == 0:
             self.say("map " + handle(self.choice([0, *root.handles[:20]])))
         kind = self.choice(["hinsert", "hinsert", "hset", "hdelete"])
-        before, old = self.machine.now, self.machine.now.elements(b) if b in self.machine.now.blocks else None
-        line = f"hdelete {handle(b)} {i} {n}" if kind == "hdelete" else f"{kind} {handle(b)} {i} {hex_of(self.new_bytes(root))}"
+        if kind == "hdelete":
+            self.make_edit(f"hdelete {handle(b)} {i} {n}", b)
+        else:
+            self.make_edit(f"{kind} {handle(b)} {i} {hex_of(self.new_bytes(root))}", b)
+
+    def make_edit(self, line, b):
+        before, old = self.machine.now, self.machine.now.elements(b)
         reply = self.say(line)
         if reply == "ok":
             self.compare(line, before, old, b)
             self.look_at_edit(b)
-        else:
-            fault = reply.split()[-1]
-            if fault in FAULTS:
-                self.faults[fault] += 1
-            assert self.machine.now is before
+            return
+        fault = reply.split()[-1]
+        if fault in FAULTS:
+            self.faults[fault] += 1
+        assert self.machine.now is before
 
     def compare(self, line, before, old, b):
         """The array is the list, edited; where it was one. That is of the model alone."""
