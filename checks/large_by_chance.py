@@ -5,8 +5,9 @@ has the arrays as lists too.
 
     python3 checks/large_by_chance.py GEOSVM [COUNT]
 
-There are 8 scripts for each of COUNT, each the same each time, and each is run with 1, 2 and 8 frames. At the end of each all is undone
-and made again, and the document is read each time; then the file is opened again, and has what was committed last.
+There are 8 scripts for each of COUNT, each the same each time, and each is run with 1, 2 and 8 frames; two of five have a limit of steps.
+At the end of each all is undone and made again, and the document is read each time; then the file is opened again, and has what was
+committed last.
 """
 import os
 import random
@@ -33,7 +34,8 @@ class Script(random.Random):
 
     def __init__(self, seed):
         super().__init__(seed)
-        self.machine, self.lines, self.replies, self.length = Machine(FRAMES[-1]), [], [], 0
+        self.limit = [None, None, 1, None, 4][seed % 5]
+        self.machine, self.lines, self.replies, self.length = Machine(FRAMES[-1], self.limit), [], [], 0
         self.roots, self.repairs, self.dump = [], [], None
         # Whether pieces are near the room of a branch, few handles are free, and blocks are locked.
         self.is_wide, self.is_scarce, self.has_locks = seed % 2 == 1, seed % 8 == 5, seed % 8 in (3, 6)
@@ -46,6 +48,11 @@ class Script(random.Random):
         self.replies.append(reply)
         self.length += len(line) + len(reply)
         return reply
+
+    def replies_of(self, frames):
+        """With so many. They say nothing of the replies, but where blocks are locked."""
+        machine = Machine(frames, self.limit)
+        return [machine.answer(line) for line in self.lines] if self.has_locks else self.replies
 
     # Bytes and pieces
 
@@ -468,10 +475,6 @@ class Script(random.Random):
         return self
 
 
-def replies_of(machine, lines):
-    return [machine.answer(line) for line in lines]
-
-
 def play(geosvm, words, lines, wanted, told):
     """Runs a script. Something else than is wanted is told, by the first line of it."""
     script = "".join(line + "\n" for line in lines)
@@ -504,9 +507,9 @@ def go(geosvm, path, seed):
     script = Script(seed).write()
     right = 0
     for frames in FRAMES:
-        wanted = script.replies if not script.has_locks else replies_of(Machine(frames), script.lines)
-        told = f"script {seed}, {frames} frames"
-        right += play(geosvm, ["--new", "--cache", str(frames), path], script.lines, wanted, told)
+        wanted = script.replies_of(frames)
+        words = ["--new", "--cache", str(frames), *(["--undo", str(script.limit)] if script.limit else []), path]
+        right += play(geosvm, words, script.lines, wanted, f"script {seed}, {frames} frames")
     again = opened(script.machine)
     right += play(geosvm, [path], again.lines, again.replies, f"script {seed}, opened again")
     return right, script

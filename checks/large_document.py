@@ -308,9 +308,10 @@ class Group:
 
 
 class Machine:
-    """A session on a new file, with so many frames."""
+    """A session on a new file, with so many frames, of which so many steps can be undone, or all."""
 
-    def __init__(self, frames):
+    def __init__(self, frames, limit=None):
+        self.limit = limit
         self.now = self.updated = self.saved = Document({})
         self.past, self.future, self.group, self.touched_places, self.locks, self.frames = [], [], None, [], {}, frames
 
@@ -349,9 +350,14 @@ class Machine:
         if self.group:
             self.group.places, self.group.has_edit = self.group.places + places, True
         else:
-            self.past.append((self.now, places))
+            self.add_step(self.now, places)
         self.now = document
         return reply
+
+    def add_step(self, before, places):
+        self.past.append((before, places))
+        if self.limit:
+            self.forget(self.limit)
 
     # Steps
 
@@ -383,7 +389,7 @@ class Machine:
     def end(self):
         refuse_if(not self.group, "NoGroup")
         if self.group.has_edit:
-            self.past.append((self.group.before, self.group.places))
+            self.add_step(self.group.before, self.group.places)
         self.group = None
         return "ok"
 
