@@ -43,7 +43,7 @@ check() {
     limits) python3 checks/limits.py "$geosvm" "$geosdoc" $long ;;
     lent_bytes) sh checks/lent_bytes.sh ;;
     heap_by_chance) python3 checks/heap_by_chance.py "$geosvm" $((times * 1000)) ;;
-    large_by_chance) python3 checks/large_by_chance.py "$geosvm" $((times / 10)) ;;
+    large_by_chance) python3 checks/large_by_chance.py "$geosvm" $times ;;
     memory_given_back) python3 checks/memory_given_back.py "$geosvm" ;;
     edits_by_chance) python3 checks/edits_by_chance.py "$geosvm" $times ;;
     designs_measured) python3 checks/designs_measured.py "$geosvm" ;;
