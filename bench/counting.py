@@ -37,7 +37,7 @@ def counted(program: Path, script: Script, folder: Path) -> int:
 
 
 class LineCounter:
-    """Counts of one program. What a run takes without a line is counted once, and is in none of them."""
+    """Counts of one program. What a run takes without a line, with a new document, is counted once, and is in none of them."""
 
     def __init__(self, program: Path) -> None:
         self._program = program
@@ -47,7 +47,13 @@ class LineCounter:
         """The instructions of a line of the script; None where it has none."""
         if not script.lines:
             return None
-        return (counted(self._program, script, folder) - self._without_lines()) / script.lines
+        without = self._without_lines() if script.counts_opening else self._opening(script, folder)
+        return (counted(self._program, script, folder) - without) / script.lines
+
+    def _opening(self, script: Script, folder: Path) -> int:
+        """What a run takes that opens the document of a script, and reads no line."""
+        empty = write_lines(iter(()), folder / "empty", folder / "empty.right", script.before)
+        return counted(self._program, empty, folder)
 
     def _without_lines(self) -> int:
         if self._empty is None:

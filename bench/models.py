@@ -1,9 +1,12 @@
-"""What the workloads know of a document beforehand, so that they know each reply: sizes of chunks, slots of arrays, trees."""
+"""What the workloads know of a document beforehand, so that they know each reply: sizes of chunks, slots of arrays, texts, trees."""
 
 from __future__ import annotations
 
 import heapq
+from bisect import bisect_left
+from collections.abc import Iterator
 from dataclasses import dataclass
+from itertools import accumulate
 from random import Random
 from typing import Final
 
@@ -253,6 +256,49 @@ class TokenModel:
             self._used.add(token)
         elif old is not None:
             self._free.append(token)
+
+
+class TextModel:
+    """The bytes of a text, in pieces, so that an edit of a long one takes as long as that of a piece."""
+
+    _PIECE: Final = 32_768
+
+    def __init__(self, content: bytes | bytearray) -> None:
+        places = range(0, max(1, len(content)), self._PIECE)
+        self._pieces = [bytearray(content[at : at + self._PIECE]) for at in places]
+
+    def __len__(self) -> int:
+        return sum(map(len, self._pieces))
+
+    def insert(self, at: int, content: bytes) -> None:
+        """Puts bytes in before the one at a place up to the end."""
+        k, at = self._found(at)
+        piece = self._pieces[k]
+        piece[at:at] = content
+        if len(piece) > 2 * self._PIECE:
+            self._pieces[k : k + 1] = [piece[: self._PIECE], piece[self._PIECE :]]
+
+    def delete(self, at: int, count: int) -> None:
+        """Takes bytes out; there are so many from that place on."""
+        while count:
+            k, start = self._found(at + 1)
+            piece = self._pieces[k]
+            start -= 1
+            less = min(count, len(piece) - start)
+            del piece[start : start + less]
+            count -= less
+
+    def runs(self, most: int) -> Iterator[tuple[int, bytes]]:
+        """All bytes in runs of so many, the last one of fewer, each with its place."""
+        whole = b"".join(self._pieces)
+        for at in range(0, len(whole), most):
+            yield at, whole[at : at + most]
+
+    def _found(self, at: int) -> tuple[int, int]:
+        """The first piece that ends at this place or behind it, and where in it the place is."""
+        ends = list(accumulate(map(len, self._pieces)))
+        k = bisect_left(ends, at)
+        return k, at - (ends[k - 1] if k else 0)
 
 
 class TreeModel:

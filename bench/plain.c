@@ -7,6 +7,7 @@
 ** A chunk is a piece of malloc's, and a heap counts what its chunks need. Arrays lie in their chunks as docs/FORMAT.md has them, and are
 ** searched from the first element on. Raw blocks are in the file, 8 of them in memory; a commit writes what changed and the directory to
 ** free pages, and then a slot, so that the file is a document. Steps lie in one row, each with the bytes before and after it.
+** A large array, of bytes alone, lies in raw blocks as docs/FORMAT.md has it, and by the same rule; each root and branch counts as one.
 ** Without --new the file is opened, and no more of it is read than the directories.
 */
 #include <fcntl.h>
@@ -21,7 +22,8 @@ enum {
   LINE = 140000, READ = 1 << 16, REPLIES = 1 << 18,
   CAPACITY = 65520, ENTRIES = 32752, BLOCKS = 8192, NONE = 0xffff,
   FRAMES = 8, PAGE = 512, PAGES = 1 << 21, DIRECTORY = 16, LISTED = 16, SLOT = 32,
-  COUNT = 3, ELEMENT_HEAD = 10, NAME_HEAD = 12
+  COUNT = 3, ELEMENT_HEAD = 10, NAME_HEAD = 12,
+  ROOT = 16, BRANCH = 10, ROOM = CAPACITY - BRANCH, JOINED = 49132, WINDOW = 8, LONG = 64
 };
 
 static void require(bool holds) {
@@ -110,10 +112,11 @@ static void set_long(uint8_t *at, int value) { set_word(at, value); set_word(at 
 
 typedef struct { uint8_t *bytes; int size, room; } Chunk;
 typedef struct { Chunk *chunks; uint64_t live[ENTRIES / 64 + 1]; int room, top, spaces; } Heap;
-typedef struct { Heap *heap; int size, page, updated, saved; } Block; /* its pages in the documents, 0 where it isn't */
+typedef struct { int page, length; } Extent;
+typedef struct { Heap *heap; int size; bool live; Extent place, updated, saved; } Block; /* in the documents; page 0 where it isn't */
 
 static Block blocks[BLOCKS + 1];
-static int greatest; /* how many there are: none is freed */
+static int greatest; /* none from here on is live; only branches are freed */
 
 static int space_of(int size) { return size ? (size + 5) / 4 * 4 : 0; }
 static int need(int top, int spaces) { return 16 + (top + 1) / 2 * 4 + spaces; }
@@ -181,12 +184,12 @@ static void drop_chunk(Heap *heap, int entry) {
 /* Raw blocks: those that were used last, each as the image that is written, a zero and the bytes; and pages of the file */
 
 typedef struct { int block; unsigned used; bool changed; uint8_t image[CAPACITY + 1]; } Frame;
-typedef struct { int page, length; } Extent;
 
 static Frame frames[FRAMES];
 static unsigned uses;
 static int file, sequence;
 static int pages = 2, lowest = 2; /* no page from `pages` on is taken, and none below `lowest` is free */
+static int lowest_run = 2; /* no run of LONG free pages begins below it */
 static Extent updated, saved; /* the directories of the two documents of the file */
 static uint8_t taken[PAGES] = {1, 1};
 
@@ -200,12 +203,15 @@ static uint8_t *free_page(uint8_t *from) {
 /* The first free pages for so many bytes. */
 static int take_pages(int length) {
   const int count = pages_of(length);
-  uint8_t *at = free_page(taken + lowest), *behind = taken + pages;
-  lowest = (int)(at - taken);
+  uint8_t *at = free_page(taken + (count < LONG ? lowest : lowest_run)), *behind = taken + pages;
+  if (count < LONG) lowest = (int)(at - taken);
+  bool passed = count < LONG; /* a long run */
   for (int free = 0; at < behind; at = free_page(at + free)) {
     for (free = 1; free < count && at + free < behind && !at[free];) free++;
+    if (!passed && (free >= LONG || at + free == behind)) { lowest_run = (int)(at - taken); passed = true; }
     if (free == count || at + free == behind) break;
   }
+  if (!passed) lowest_run = pages;
   const int page = (int)(at - taken);
   require(page + count <= PAGES);
   memset(taken + page, 1, (size_t)count);
@@ -216,14 +222,24 @@ static int take_pages(int length) {
 static void give_pages(Extent it) {
   memset(taken + it.page, 0, (size_t)pages_of(it.length));
   if (it.page < lowest) lowest = it.page;
+  if (it.page - LONG < lowest_run) lowest_run = it.page < 2 + LONG ? 2 : it.page - LONG;
 }
 
 static void write_file(const uint8_t *from, int count, off_t at) { require(pwrite(file, from, (size_t)count, at) == count); }
 
+/* Whether a block has pages that are in neither document. */
+static bool is_own(const Block *it) {
+  return it->place.page && it->place.page != it->updated.page && it->place.page != it->saved.page;
+}
+
 static void write_back(Frame *frame) {
   Block *it = &blocks[frame->block];
-  if (!it->page || it->page == it->updated || it->page == it->saved) it->page = take_pages(it->size + 1);
-  write_file(frame->image, it->size + 1, (off_t)it->page * PAGE);
+  const int length = it->size + 1;
+  const bool own = is_own(it), fits = it->place.page && pages_of(length) == pages_of(it->place.length);
+  if (own && !fits) give_pages(it->place);
+  if (!own || !fits) it->place.page = take_pages(length);
+  it->place.length = length;
+  write_file(frame->image, length, (off_t)it->place.page * PAGE);
   frame->changed = false;
 }
 
@@ -236,32 +252,35 @@ static Frame *frame_for(int block) {
   if (oldest->changed) write_back(oldest);
   oldest->block = block;
   oldest->used = ++uses;
-  if (blocks[block].page) {
+  if (blocks[block].place.page) {
     const int length = blocks[block].size + 1;
-    require(pread(file, oldest->image, (size_t)length, (off_t)blocks[block].page * PAGE) == length);
+    require(pread(file, oldest->image, (size_t)length, (off_t)blocks[block].place.page * PAGE) == length);
   }
   return oldest;
 }
 
 static Frame *load(int block) {
-  require(block >= 1 && block <= greatest && !blocks[block].heap);
+  require(block >= 1 && block <= greatest && blocks[block].live && !blocks[block].heap);
   return frame_for(block);
 }
 
 static int directory_bytes(uint8_t *to) {
+  uint8_t *entry = to + DIRECTORY;
   memcpy(to, "GDIR\2\0", 6);
-  set_word(to + 6, greatest);
   memset(to + 8, 0, 8);
   for (int block = 1; block <= greatest; block++) {
-    uint8_t *entry = to + DIRECTORY + LISTED * (block - 1);
+    if (!blocks[block].live) continue;
     require(!blocks[block].heap);
     set_word(entry, block);
     set_word(entry + 2, 0);
-    set_long(entry + 4, blocks[block].page);
+    set_long(entry + 4, blocks[block].place.page);
     set_long(entry + 8, blocks[block].size + 1);
     set_long(entry + 12, 0);
+    entry += LISTED;
   }
-  return DIRECTORY + LISTED * greatest;
+  const int length = (int)(entry - to);
+  set_word(to + 6, (length - DIRECTORY) / LISTED);
+  return length;
 }
 
 static void write_through(const void *from, int count, off_t at) { write_file(from, count, at); require(fsync(file) == 0); }
@@ -282,11 +301,12 @@ static void write_slot(void) {
 
 /* What a commit makes free of a block: its pages in the documents before that it has in neither now. */
 static void give_replaced(Block *it, bool save) {
-  const int length = it->size + 1, old_updated = it->updated, old_saved = it->saved;
-  it->updated = it->page;
-  if (save) it->saved = it->page;
-  if (old_updated && old_updated != it->page && old_updated != old_saved) give_pages((Extent){old_updated, length});
-  if (save && old_saved && old_saved != it->page) give_pages((Extent){old_saved, length});
+  const int page = it->place.page;
+  const Extent old_updated = it->updated, old_saved = it->saved;
+  it->updated = it->place;
+  if (save) it->saved = it->place;
+  if (old_updated.page && old_updated.page != page && old_updated.page != old_saved.page) give_pages(old_updated);
+  if (save && old_saved.page && old_saved.page != page) give_pages(old_saved);
 }
 
 static void commit(bool save) {
@@ -321,9 +341,10 @@ static void read_directory(Extent it, bool of_saved) {
     require(block >= 1 && block <= BLOCKS);
     take_extent(image);
     if (block > greatest) greatest = block;
+    if (of_saved) { blocks[block].saved = image; continue; }
     blocks[block].size = image.length - 1;
-    if (of_saved) blocks[block].saved = image.page;
-    else blocks[block].page = blocks[block].updated = image.page;
+    blocks[block].live = true;
+    blocks[block].place = blocks[block].updated = image;
   }
 }
 
@@ -396,9 +417,80 @@ static int find_slot(const Chunk *chunk, int head, int skipped, const uint8_t *t
   return -1;
 }
 
+/* Large arrays of bytes: how many elements each branch has is in the root, and the branches' handles behind that */
+
+static int branches_of(const uint8_t *root) { return word_at(root + 4); }
+static int count_at(const uint8_t *root, int k) { return word_at(root + ROOT + 2 * k); }
+static uint8_t *link_at(uint8_t *root, int k) { return root + ROOT + 2 * branches_of(root) + 4 * k; }
+
+static uint8_t *body_of(int block) { return load(block)->image + 1; }
+
+static uint8_t *changed_body(int block) {
+  Frame *frame = load(block);
+  frame->changed = true;
+  return frame->image + 1;
+}
+
+static int branch_at(int root, int k) { return word_at(link_at(body_of(root), k) + 2); }
+
+/* Puts bytes in place of others in branch k. */
+static void splice_branch(int root, int k, int at, int old, int new, const uint8_t *from) {
+  const int block = branch_at(root, k), size = blocks[block].size, by = new - old;
+  uint8_t *body = changed_body(block), *place = body + BRANCH + at;
+  memmove(place + new, place + old, (size_t)(size - BRANCH - at - old));
+  if (new) memcpy(place, from, (size_t)new);
+  blocks[block].size = size + by;
+  set_word(body + 2, size + by - BRANCH);
+  if (!by) return;
+  body = changed_body(root);
+  set_word(body + ROOT + 2 * k, count_at(body, k) + by);
+  set_long(body + 12, long_at(body + 12) + by);
+}
+
+static void start_block(int block, const uint8_t *from, int size) {
+  require(block <= BLOCKS && !blocks[block].live);
+  blocks[block].live = true;
+  blocks[block].size = size;
+  if (block > greatest) greatest = block;
+  memcpy(frame_for(block)->image + 1, from, (size_t)size);
+  frame_for(block)->image[0] = 0;
+  frame_for(block)->changed = true;
+}
+
+/* Its pages are given back, unless a document of the file has them: then a commit does so. */
+static void drop_block(int block) {
+  Block *it = &blocks[block];
+  for (Frame *frame = frames; frame < frames + FRAMES; frame++)
+    if (frame->block == block) { frame->block = 0; frame->changed = false; }
+  if (is_own(it)) give_pages(it->place);
+  it->live = false;
+  it->place = (Extent){0};
+}
+
+/* An empty branch comes in at a place, or goes. */
+static void turn_branch(int root, int k, int block, bool comes) {
+  static const uint8_t empty[BRANCH] = {0, 0, 0, 0, 1, 0, 0, 0, 8, 0};
+  if (comes) start_block(block, empty, BRANCH);
+  else drop_block(block);
+  uint8_t *body = changed_body(root), *count = body + ROOT + 2 * k, *link = link_at(body, k), *end = body + blocks[root].size;
+  const int branches = branches_of(body) + (comes ? 1 : -1);
+  if (comes) {
+    memmove(link + 6, link, (size_t)(end - link));
+    memmove(count + 2, count, (size_t)(link - count));
+    set_word(count, 0);
+    set_long(link + 2, block << 16);
+  } else {
+    memmove(count, count + 2, (size_t)(link - count - 2));
+    memmove(link - 2, link + 4, (size_t)(end - link - 4));
+  }
+  blocks[root].size = ROOT + 6 * branches;
+  set_word(body + 2, ROOT + 2 * branches);
+  set_word(body + 4, branches);
+}
+
 /* Steps */
 
-enum { BLOCK, MADE, FREED, SPLICED, WRITTEN, INSERTED, SLOT_SET, SLOT_ADDED };
+enum { BLOCK, MADE, FREED, SPLICED, WRITTEN, INSERTED, SLOT_SET, SLOT_ADDED, RUN, BRANCH_IN, BRANCH_OUT };
 
 /* Behind a step stand the bytes that were there and those that came, the latter not where they are zeros. */
 typedef struct {
@@ -445,7 +537,11 @@ static void turn(const Step *step, bool forward) {
     Frame *frame = load(step->block);
     memcpy(frame->image + 1 + step->at, forward ? new : old, step->new);
     frame->changed = true;
-  } else if (step->kind >= SLOT_SET) turn_slot(step, forward, heap_of(step->block), old, new);
+  } else if (step->kind == RUN) {
+    splice_branch(step->block, step->chunk, step->at, forward ? step->old : step->new, forward ? step->new : step->old,
+                  forward ? new : old);
+  } else if (step->kind > RUN) turn_branch(step->block, step->chunk, step->at, forward == (step->kind == BRANCH_IN));
+  else if (step->kind >= SLOT_SET) turn_slot(step, forward, heap_of(step->block), old, new);
   else turn_chunk(step, forward, heap_of(step->block), old, new);
 }
 
@@ -517,7 +613,7 @@ static uint8_t given[LINE], other[LINE];
 
 static int make_block(int size, Heap *heap) {
   require(greatest < BLOCKS);
-  blocks[++greatest] = (Block){.heap = heap, .size = size};
+  blocks[++greatest] = (Block){.heap = heap, .size = size, .live = true};
   add_step((Step){.kind = BLOCK, .block = (uint16_t)greatest}, NULL, NULL);
   put_handle("block ", greatest);
   return greatest;
@@ -556,7 +652,8 @@ static void put_listed(int value) { put(" "); put_hex(value, 4); }
 
 static void list(void) {
   put("blocks");
-  for (int block = 1; block <= greatest; block++) put_listed(block);
+  for (int block = 1; block <= greatest; block++)
+    if (blocks[block].live) put_listed(block);
   put("\n");
 }
 
@@ -811,6 +908,164 @@ static void ndata(void) {
   put_bytes(used_slot(it, handle()) + COUNT, it.skipped - COUNT);
 }
 
+/* An array of bytes without one: its root and an empty branch. */
+static void hcreate(void) {
+  static const uint8_t root[ROOT + 6] = {0xff, 0xff, ROOT + 2, 0, 1, 0, 'G', 'A', 'R', 'R', 1}, empty[BRANCH] = {[4] = 1, [8] = 8};
+  require((number(), number()) == 1);
+  const int first = greatest + 1;
+  start_block(first, root, sizeof root);
+  start_block(first + 1, empty, BRANCH);
+  set_word(link_at(changed_body(first), 0) + 2, first + 1);
+  add_step((Step){.kind = BLOCK, .block = (uint16_t)first}, NULL, NULL);
+  put_handle("block ", first);
+}
+
+static int free_block(void) {
+  int block = 1;
+  while (block <= greatest && blocks[block].live) block++;
+  return block;
+}
+
+/* Bytes in place of others in branch k, as a step. */
+static void step_run(int root, int k, int at, int old, int new, const uint8_t *from) {
+  make_step((Step){.kind = RUN, .block = (uint16_t)root, .chunk = (uint16_t)k, .at = (uint16_t)at, .old = (uint16_t)old,
+                   .new = (uint16_t)new}, body_of(branch_at(root, k)) + BRANCH + at, from);
+}
+
+static void step_branch(int kind, int root, int k, int block) {
+  make_step((Step){.kind = (uint8_t)kind, .block = (uint16_t)root, .chunk = (uint16_t)k, .at = (uint16_t)block}, NULL, NULL);
+}
+
+/* How many bytes two runs have alike in front. */
+static int alike_first(const uint8_t *is, const uint8_t *from, int most) {
+  int count = 0;
+  while (count + 64 <= most && memcmp(is + count, from + count, 64) == 0) count += 64;
+  while (count < most && is[count] == from[count]) count++;
+  return count;
+}
+
+/* Makes these the bytes of branch k: what is alike before and behind stays. */
+static void step_bytes(int root, int k, const uint8_t *from, int new) {
+  const int block = branch_at(root, k), old = blocks[block].size - BRANCH, most = old < new ? old : new;
+  const uint8_t *is = body_of(block) + BRANCH;
+  const int first = alike_first(is, from, most);
+  int last = 0;
+  while (last + 64 <= most - first && memcmp(is + old - last - 64, from + new - last - 64, 64) == 0) last += 64;
+  while (last < most - first && is[old - last - 1] == from[new - last - 1]) last++;
+  if (old != new || first < old) step_run(root, k, first, old - first - last, new - first - last, from + first);
+}
+
+/* The branches of a window, from `first` to `last`, in place of which pieces come. */
+typedef struct { int first, last, count, lengths[WINDOW]; } Window;
+
+/* A branch of these, which has most that stays; the first of these. */
+static int with_most(const int *stays, int count) {
+  int most = 0;
+  for (int k = 1; k < count; k++)
+    if (stays[k] > stays[most]) most = k;
+  return most;
+}
+
+/* Carries a window out, as steps; `bytes` are those of its pieces, and `stays` is how many stay in each old branch. */
+static void step_window(int root, const Window *it, const uint8_t *bytes, const int *stays, bool more_before) {
+  const int olds = it->last - it->first + 1;
+  bool kept[WINDOW] = {false}, is_old[WINDOW] = {false};
+  if (it->count == 1) kept[with_most(stays, olds)] = true;
+  for (int k = 0; it->count > 1 && k < olds; k++) kept[k] = k < it->count - 1 || k == olds - 1;
+  if (it->count > 1 && olds == 1) is_old[more_before ? 0 : it->count - 1] = true;
+  else for (int k = 0; k < it->count; k++) is_old[k] = it->count == 1 || k < olds - 1 || k == it->count - 1;
+  for (int k = olds; k--;) {
+    if (kept[k]) continue;
+    step_run(root, it->first + k, 0, blocks[branch_at(root, it->first + k)].size - BRANCH, 0, NULL);
+    step_branch(BRANCH_OUT, root, it->first + k, branch_at(root, it->first + k));
+  }
+  for (int k = 0; k < it->count; k++) {
+    if (!is_old[k]) step_branch(BRANCH_IN, root, it->first + k, free_block());
+    step_bytes(root, it->first + k, bytes, it->lengths[k]);
+    bytes += it->lengths[k];
+  }
+}
+
+/* Puts bytes in place of those from i up to j, by the rule of docs/FORMAT.md. */
+static void replace(int root, int i, int j, const uint8_t *from, int new) {
+  static uint8_t gathered[WINDOW * CAPACITY];
+  const uint8_t *body = body_of(root);
+  const int branches = branches_of(body), some = i < j;
+  int p = 0, up_to = i + some;
+  for (int count; p < branches - 1 && (count = count_at(body, p)) < up_to; p++) up_to -= count;
+  const int before = up_to - some;
+  int q = p, behind = before + j - i;
+  for (int count; q < branches - 1 && (count = count_at(body, q)) < behind; q++) behind -= count;
+  const int tail = count_at(body, q) - behind, left = p ? count_at(body, p - 1) : CAPACITY;
+  const int right = q + 1 < branches ? count_at(body, q + 1) : CAPACITY;
+  require(long_at(body + 12) >= j && tail >= 0);
+  Window it = {.first = p, .last = q};
+  for (int more = before + new; more > 0; more -= ROOM) it.lengths[it.count++] = more < ROOM ? more : ROOM;
+  if (tail && it.count && it.lengths[it.count - 1] + tail <= (p == q ? ROOM : JOINED)) it.lengths[it.count - 1] += tail;
+  else if (tail) it.lengths[it.count++] = tail;
+  if (!it.count && left + right <= JOINED) {
+    it = (Window){p - 1, q + 1, 1, {left + right}};
+  } else if (!it.count && branches == q - p + 1) {
+    it.count = 1;
+  } else if (it.count) {
+    if (it.lengths[0] + left <= JOINED) { it.first--; it.lengths[0] += left; }
+    if (it.lengths[it.count - 1] + right <= JOINED) { it.last++; it.lengths[it.count - 1] += right; }
+  }
+  const bool outer = groups;
+  groups = true;
+  if (it.first == it.last && it.count == 1) {
+    step_run(root, p, before, j - i, new, from);
+  } else {
+    int stays[WINDOW] = {0}, length = 0;
+    require(it.last - it.first + 1 <= WINDOW && it.count <= WINDOW);
+    for (int k = it.first; k <= it.last; k++) {
+      const uint8_t *bytes = body_of(branch_at(root, k)) + BRANCH;
+      const int count = count_at(body_of(root), k), head = k < p ? count : k == p ? before : 0;
+      const int last = k > q ? count : k == q ? tail : 0;
+      stays[k - it.first] = k < p || k > q ? count : head + last;
+      memcpy(gathered + length, bytes, (size_t)head);
+      length += head;
+      if (k == p && new) { memcpy(gathered + length, from, (size_t)new); length += new; }
+      memcpy(gathered + length, bytes + count - last, (size_t)last);
+      length += last;
+    }
+    step_window(root, &it, gathered, stays, before >= tail);
+  }
+  groups = outer;
+  joins = outer;
+  put("ok\n");
+}
+
+static void hinsert(void) {
+  const int root = handle(), i = number(), count = bytes(given);
+  replace(root, i, i, given, count);
+}
+
+static void hdelete(void) {
+  const int root = handle(), i = number(), count = number();
+  replace(root, i, i + count, NULL, 0);
+}
+
+static void hread(void) {
+  const int root = handle();
+  int from = number(), left = number(), k = 0;
+  require(left <= CAPACITY);
+  put(left ? "bytes " : "bytes -");
+  for (; left; k++) {
+    const uint8_t *body = body_of(root);
+    require(k < branches_of(body));
+    const int count = count_at(body, k), some = count - from < left ? count - from : left;
+    if (some <= 0) { from -= count; continue; }
+    const uint8_t *it = body_of(branch_at(root, k)) + BRANCH + from;
+    for (int at = 0; at < some; at++) put_hex(it[at], 2);
+    left -= some;
+    from = 0;
+  }
+  put("\n");
+}
+
+static void hcount(void) { put_count("number ", long_at(body_of(handle()) + 12)); }
+
 static void put_undos(void) { put_count("number ", undos); }
 static void put_redos(void) { put_count("number ", redos); }
 
@@ -822,7 +1077,8 @@ static const struct { const char *name; void (*run)(void); } commands[] = {
   {"eadd", eadd}, {"eref", eref}, {"eunref", eunref}, {"edelete", edelete}, {"echange", echange}, {"eused", eused},
   {"etoken", etoken}, {"ecount", ecount}, {"edata", edata}, {"ncreate", ncreate}, {"nadd", nadd}, {"nunref", nunref},
   {"nname", nname}, {"nfind", nfind}, {"ncount", ncount}, {"ntext", ntext}, {"ndata", ndata},
-  {"begin", begin}, {"end", end_group}
+  {"begin", begin}, {"end", end_group}, {"hcreate", hcreate}, {"hinsert", hinsert}, {"hdelete", hdelete}, {"hread", hread},
+  {"hcount", hcount}
 };
 
 static void answer(const char *line) {

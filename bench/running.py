@@ -9,7 +9,7 @@ import signal
 import subprocess
 from collections.abc import Iterator
 from contextlib import contextmanager, suppress
-from dataclasses import dataclass
+from dataclasses import dataclass, replace
 from itertools import zip_longest
 from pathlib import Path
 from tempfile import TemporaryDirectory
@@ -35,7 +35,7 @@ class ReapedError(BenchError):
 class Script:
     """The lines of a workload in a file, and in another the replies that are right.
 
-    They are for a new document, or for the one that the script `before` makes of a new one.
+    They are for a new document, or for the one that the script `before` makes of a new one, whose opening can be left out of counts.
     """
 
     path: Path
@@ -43,6 +43,7 @@ class Script:
     lines: int
     refused: int
     before: Script | None = None
+    counts_opening: bool = True
 
 
 @dataclass(frozen=True, slots=True)
@@ -69,7 +70,8 @@ def write_script(workload: Workload, scale: Scale, seed: int, folder: Path) -> S
     """Makes the two files of a workload, and two more where it has a script before it."""
     first = workload.lines_before(scale, seed)
     before = None if first is None else write_lines(first, folder / "before", folder / "before.right")
-    return write_lines(workload.lines(scale, seed), folder / "script", folder / "right", before)
+    script = write_lines(workload.lines(scale, seed), folder / "script", folder / "right", before)
+    return replace(script, counts_opening=workload.counts_opening)
 
 
 def write_lines(made: Lines, path: Path, replies: Path, before: Script | None = None) -> Script:

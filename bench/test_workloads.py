@@ -11,6 +11,7 @@ import resource
 import tempfile
 import unittest
 from collections import Counter
+from dataclasses import replace
 from itertools import islice
 from pathlib import Path
 from random import Random
@@ -18,7 +19,7 @@ from unittest import mock
 
 from bench import chosen, columns, fastest, row, titles
 from counting import LineCounter
-from models import BLOCKS, CAPACITY, HeapModel, Slot, TokenModel, TreeModel
+from models import BLOCKS, CAPACITY, HeapModel, Slot, TextModel, TokenModel, TreeModel
 from running import BenchError, Run, Script, adopt_orphans, first_difference, run, write_script
 from workloads import Scale, Workload, workloads
 
@@ -112,6 +113,24 @@ class Tokens(unittest.TestCase):
         self.assertEqual((array.slot(0), array.next_token()), (Slot(1, "aa"), 1))
 
 
+class Texts(unittest.TestCase):
+    def test_an_edited_text_is_as_bytes_that_are_edited_alike(self) -> None:
+        rng = Random(1)
+        right = bytearray(rng.randbytes(70_000))
+        text = TextModel(right)
+        for _ in range(400):
+            content, at = rng.randbytes(rng.choice([1, 64, 40_000])), rng.randint(0, len(right))
+            less = min(rng.choice([0, 64, 90_000]), len(right) - at)
+            text.delete(at, less)
+            text.insert(at, content)
+            right[at : at + less] = content
+            self.assertEqual(len(text), len(right))
+        runs = list(text.runs(10_000))
+        self.assertEqual([at for at, _ in runs], list(range(0, len(right), 10_000)))
+        self.assertEqual(b"".join(content for _, content in runs), right)
+        self.assertEqual(len(TextModel(b"")), 0)
+
+
 class Trees(unittest.TestCase):
     def test_a_walk_comes_once_to_each_block_from_the_root_on(self) -> None:
         for blocks in (1, 2, 7, 500):
@@ -164,7 +183,28 @@ class Workloads(unittest.TestCase):
 
     def test_rows_of_other_scripts_have_a_new_document(self) -> None:
         before = [workload.name for workload in workloads() if workload.lines_before(SMALL, 1) is not None]
-        self.assertEqual(before, ["opening"])
+        self.assertEqual(before, ["opening", "edits-1", "edits-10", "edits-100"])
+        counting = [workload.name for workload in workloads() if not workload.counts_opening]
+        self.assertEqual(counting, ["edits-1", "edits-10", "edits-100"])
+
+    def test_a_text_is_built_edited_and_read_whole(self) -> None:
+        lines = list(named("text-2").lines(Scale(0.01), 1))
+        verbs = Counter(line.text.split()[0] for line in lines)
+        edits = [line.text.split() for line in lines if line.text.startswith(("hinsert", "hdelete"))]
+        self.assertEqual(len(edits), 312 + 100)
+        self.assertEqual([words[2] for words in edits[:312]], [str(at) for at in range(0, 64 * 312, 64)])
+        self.assertEqual({len(words[3]) if words[0] == "hinsert" else int(words[3]) for words in edits}, {128, 64})
+        length = 64 * (verbs["hinsert"] - verbs["hdelete"])
+        self.assertEqual(sum(len(line.reply) - 6 for line in lines if line.text.startswith("hread")), 2 * length)
+        self.assertIn(f"number {length}", [line.reply for line in lines])
+
+    def test_each_branch_of_a_text_of_any_size_has_room(self) -> None:
+        for size in (1, 10, 100):
+            made = [line.text for line in named(f"edits-{size}").lines_before(Scale(0.1), 1) or ()]
+            self.assertEqual({text.split()[2] for text in made[1:-1]}, {"0"})
+            self.assertEqual({len(text.split()[3]) for text in made[1:-1]}, {100_000})
+            self.assertEqual(len(made) - 2, 2 * size)
+            self.assertEqual(len(texts(named(f"edits-{size}"), Scale(0.1), 1)), 101)
 
     def test_each_group_of_two_edits_is_undone(self) -> None:
         verbs = [text.split()[0] for text in texts(named("groups"), Scale(0.01), 1)]
@@ -270,6 +310,16 @@ class Counts(WithPrograms):
         waits = "i=0; while [ $i -lt 2000 ]; do i=$((i + 1)); done"
         other = self.a_line(self.program(f"{waits}; {READS} done"), self.lines(200))
         self.assertTrue(0.99 * one < other < 1.01 * one, (one, other))
+
+    def test_an_opening_is_in_no_count_where_that_is_said(self) -> None:
+        loop = "i=0; while [ $i -lt $(($# * 2000)) ]; do i=$((i + 1)); done"
+        program = self.program(f'if [ "$1" = --new ]; then : >"$2"; set --; fi; {loop}; {READS} done')
+        before = Script(self.written("before", ""), self.written("before.right", ""), 0, 0)
+        new = self.lines(200)
+        opened, uncounted = replace(new, before=before), replace(new, before=before, counts_opening=False)
+        one, counted, other = (self.a_line(program, script) for script in (new, opened, uncounted))
+        self.assertTrue(0.99 * one < other < 1.01 * one, (one, other))
+        self.assertGreater(counted, 1.1 * one)
 
     def test_a_script_without_a_line_has_no_count(self) -> None:
         self.assertIsNone(LineCounter(self.program("cat")).a_line(self.lines(0), self.folder))

@@ -11,9 +11,9 @@ from dataclasses import dataclass
 from functools import partial
 from itertools import islice
 from random import Random
-from typing import NamedTuple
+from typing import Final, NamedTuple
 
-from models import BLOCKS, CAPACITY, HeapModel, Slot, TokenModel, TreeModel, handle
+from models import BLOCKS, CAPACITY, HeapModel, Slot, TextModel, TokenModel, TreeModel, handle
 
 
 class Line(NamedTuple):
@@ -24,6 +24,14 @@ class Line(NamedTuple):
 
 
 Lines = Iterator[Line]
+
+EDITED: Final = 64
+"""How many bytes an edit of a text puts in or takes out."""
+
+BRANCH: Final = 50_000
+"""How many each branch of a saved text has: too many to be joined, and fewer than there is room for."""
+
+READ_AT_ONCE: Final = 8_192
 
 
 @dataclass(frozen=True, slots=True)
@@ -48,12 +56,14 @@ Generator = Callable[[Scale, Random], Lines]
 class Workload:
     """A workload under the name that the table and `--only` have for it, and its generator.
 
-    It has a new document, or with `before` the one that such a script has made, of which nothing is measured.
+    It has a new document, or with `before` the one that such a script has made, of which nothing is measured. The opening of that one is
+    part of what is counted in instructions only where it `counts_opening`.
     """
 
     name: str
     make: Generator
     before: Generator | None = None
+    counts_opening: bool = True
 
     @property
     def family(self) -> str:
@@ -397,6 +407,60 @@ def chains(scale: Scale, rng: Random) -> Lines:
         yield Line("undo")
 
 
+def text_edits(count: int, length: int, rng: Random) -> Iterator[tuple[int, bytes]]:
+    """Insertions of 64 bytes, and deletions, which have none, at random places of a text of such a length."""
+    for _ in range(count):
+        content = rng.randbytes(EDITED) if length < EDITED or rng.randrange(2) else b""
+        yield rng.randint(0, length if content else length - EDITED), content
+        length += EDITED if content else -EDITED
+
+
+def text_edit(at: int, content: bytes) -> Line:
+    return Line(f"hinsert 0001 {at} {content.hex()}" if content else f"hdelete 0001 {at} {EDITED}")
+
+
+def text(megabytes: int, edits: int, scale: Scale, rng: Random) -> Lines:
+    """A text of so many MB built in pieces of 64 bytes, edited at random places, and read whole: edits of large arrays."""
+    built = bytearray()
+    yield Line("hcreate 1 1", "block 0001")
+    for _ in range(scale.size(megabytes * 1_000_000 // EDITED)):
+        content = rng.randbytes(EDITED)
+        yield text_edit(len(built), content)
+        built += content
+    made = TextModel(built)
+    for at, content in text_edits(scale.times(edits), len(made), rng):
+        if content:
+            made.insert(at, content)
+        else:
+            made.delete(at, EDITED)
+        yield text_edit(at, content)
+    yield Line("hcount 0001", f"number {len(made)}")
+    for at, content in made.runs(READ_AT_ONCE):
+        yield Line(f"hread 0001 {at} {len(content)}", bytes_reply(content))
+
+
+def branches_of(megabytes: int, scale: Scale) -> int:
+    """How many branches a text of so many MB has, in each of which there is room for more."""
+    return scale.size(megabytes * 1_000_000 // BRANCH)
+
+
+def saved_text(megabytes: int, scale: Scale, rng: Random) -> Lines:
+    """Such a text, saved. Each piece is put in before the others, so that it is a branch of its own."""
+    yield Line("hcreate 1 1", "block 0001")
+    for _ in range(branches_of(megabytes, scale)):
+        yield Line(f"hinsert 0001 0 {rng.randbytes(BRANCH).hex()}")
+    yield Line("save")
+
+
+def edits(megabytes: int, scale: Scale, rng: Random) -> Lines:
+    """1,000 insertions and deletions of 64 bytes in a saved text of so many MB, whose opening isn't counted: what an edit takes."""
+    length = BRANCH * branches_of(megabytes, scale)
+    for at, content in text_edits(scale.times(1_000), length, rng):
+        length += EDITED if content else -EDITED
+        yield text_edit(at, content)
+    yield Line("hcount 0001", f"number {length}")
+
+
 def array(elements: int, scale: Scale, rng: Random) -> Lines:
     """An array of elements of 4 bytes built one by one, and then 10,000 edits and look-ups of it."""
     held: list[str] = []
@@ -463,6 +527,9 @@ def workloads() -> list[Workload]:
         Workload("opening", opening, before=saved_blocks),
         Workload("groups", groups),
         Workload("chains", chains),
+        Workload("text-2", partial(text, 2, 10_000)),
+        Workload("text-50", partial(text, 50, 100_000)),
+        *(Workload(f"edits-{size}", partial(edits, size), partial(saved_text, size), counts_opening=False) for size in (1, 10, 100)),
         *(Workload(f"array-{size}", partial(array, size)) for size in (10, 1_000, 10_000)),
         *(Workload(f"document-{size}", partial(document, size)) for size in (10, 200, 2_000)),
         *(Workload(f"undo-{size}", partial(undo, size)) for size in (1_000, 10_000, 100_000, 1_000_000)),
