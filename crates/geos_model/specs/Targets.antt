@@ -1,5 +1,5 @@
--- The edit that is seen as a target, of one change or of a large array. It is all that is said of the view: what is said of an edit, each layer says of
--- the edit, and its match is over the view.
+-- The edit that is seen as a target, of one change or of a large array. It is all that is said of the view: what is
+-- said of an edit, each layer says of the edit, and its match is over the view.
 use Rattle.geos_model.specs.declared.command.Edit.{Edit}
 use Rattle.geos_model.specs.declared.command.Edit.TheVariants as edits
 use Rattle.geos_model.specs.declared.handle.ChunkHandle.{ChunkHandle}
