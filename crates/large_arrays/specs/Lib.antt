@@ -31,3 +31,4 @@ pub mod EditPlans
 pub mod Patches
 pub mod Replacements
 pub mod OverwritingPlans
+pub mod Within
