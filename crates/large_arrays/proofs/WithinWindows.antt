@@ -1,24 +1,27 @@
 -- The window of an edit that stays within one branch: that branch's block has what is left of it with the new elements.
-use Rattle.std.proofs.Common.{◌≡◌, ◌⊎◌, ℕ, zero, suc, ◌+◌, ◌-◌, ◌*◌, ◌<◌, ◌≤◌, true, false, ◌==◌, nat_le, List, [], ◌∷◌, ◌++◌, length, map, take, drop, get_or, is_some, refl, sym, ap, ap₂, subst, ◌∙◌, inl, inr, arith, length-append, length-drop}
+use Rattle.std.proofs.Common.{◌≡◌, ◌⊎◌, ℕ, zero, suc, ◌+◌, ◌-◌, ◌*◌, ◌<◌, ◌≤◌, Bool, true, false, not, ◌==◌, ◌||◌, nat_le, List, [], ◌∷◌, ◌++◌, length, map, take, drop, filter, get_or, is_some, refl, sym, ap, ap₂, subst, ◌∙◌, inl, inr, arith, length-append, length-drop}
 use Rattle.std.proofs.Math.Nat.{add-mul}
-use Rattle.std.proofs.lemmas.Bool.{and_from, lt-leb, le-leb, ne_eqb}
-use Rattle.std.proofs.lemmas.List.{length-take-le}
-use Rattle.std.specs.List.{range_with_len}
-use Rattle.geos_model.specs.Chain.{new_handles}
+use Rattle.std.proofs.lemmas.Bool.{and_from, cond-false, eq-eqb, lt-leb, le-leb, le-ltb, ne_eqb}
+use Rattle.std.proofs.lemmas.List.{length-take-le, take-append-drop, drop_more}
+use Rattle.std.specs.List.{list_any, range_with_len, splice}
+use Rattle.geos_model.specs.Chain.{free_handles, new_handles}
 use Rattle.geos_model.specs.Document.{Document, raw_bytes_of}
 use Rattle.geos_model.specs.Pieces.{BranchPiece, piece_weight, branch_room, join_room, are_joined}
-use Rattle.geos_model.specs.LargeLayout.{Root, root_of, total_count}
+use Rattle.geos_model.specs.LargeLayout.{Root, most_branches, root_of, root_bytes, branch_bytes, total_count}
 use Rattle.geos_model.specs.Spread.{first_place, end_place, piece_before}
 use Rattle.geos_model.specs.LargeBlocks.{root_at, pieces_at}
-use Rattle.geos_model.specs.LargeWindow.{Window, window, looked_at, window_first, window_end, window_pieces, window_handles, staying}
+use Rattle.geos_model.specs.LargeWindow.{Window, window, freed_handles, replaced_root, looked_at, window_first, window_end, window_pieces, window_handles, staying}
 use Rattle.geos_model.proofs.BranchBytes.{is_sized, weight-even}
 use Rattle.geos_model.proofs.Layouts.{root-facts, root-counts, pieces-many, piece_is}
 use Rattle.geos_model.proofs.PieceLists.{root_full, sized-append, sized_part}
 use Rattle.geos_model.proofs.SpreadCount.{ends}
 use Rattle.geos_model.proofs.SpreadPlaces.{first-end_same}
 use Rattle.geos_model.proofs.SpreadSides.{is_full}
+use Rattle.vm_blocks.specs.declared.change.Change.{Change}
+use Rattle.large_arrays.specs.ChangePlans.{ArePlanned, window_bodies}
 use Rattle.large_arrays.specs.SizedElements.{have_size}
-use Rattle.large_arrays.specs.Within.{StaysWithin, place_within, count_within, piece_within, handle_within}
+use Rattle.large_arrays.specs.WindowPlans.{IsWindowPlanned}
+use Rattle.large_arrays.specs.Within.{StaysWithin, place_within, count_within, piece_within, handle_within, bodies_within}
 use Rattle.large_arrays.proofs.PlaceSums.{end-within}
 use Rattle.large_arrays.proofs.RootPieces.{found-weight}
 use Rattle.large_arrays.proofs.WindowParts.{window-in}
@@ -39,6 +42,12 @@ too_much : (size : ℕ) (p q : BranchPiece) (m n : ℕ) → piece_weight size p 
 too_much size p q m n one other past =
     let sum = add-mul m n size in
     lt-leb (piece_weight size p + piece_weight size q) join_room (omega arith)
+
+-- A block that goes on doesn't go.
+freed_none : (h : ℕ) → filter (λ x. not (list_any (λ y. y == x) (h ∷ []))) (h ∷ []) ≡ []
+freed_none h =
+    let goes : Bool = not (list_any (λ y. y == h) (h ∷ [])) in
+    cond-false goes (h ∷ []) [] (ap (λ (c : Bool). not (c || false)) (eq-eqb h h refl))
 
 module _ (d : Document) (b i j : ℕ) (new : BranchPiece) (found : is_some (root_of (raw_bytes_of d b)) ≡ true) (order : i ≤ j)
     (within : j ≤ total_count (root_at d b)) (sized : have_size (root_at d b).size new ≡ true) (stays : StaysWithin (root_at d b) i j (length new)) where
@@ -173,3 +182,34 @@ module _ (d : Document) (b i j : ℕ) (new : BranchPiece) (found : is_some (root
       window-in d b i j new
       ∙ ap₂ (λ (at end : ℕ). made at end (end - at) (window_pieces r.size ps i j new)) first behind
       ∙ ap₂ (made from.0 (suc from.0)) one placed
+
+  -- The plan of such an edit.
+
+  branches_same : splice r.branches from.0 (suc from.0) (handle_within d b i j ∷ []) ≡ r.branches
+  branches_same =
+      let many = pieces-many d b found in
+      let here = low in
+      let next : suc from.0 ≡ from.0 + 1 = omega arith in
+      ap (λ (k : ℕ). take from.0 r.branches ++ handle_within d b i j ∷ drop k r.branches) next
+      ∙ ap (λ (hs : List ℕ). take from.0 r.branches ++ hs) (sym (drop_more r.branches from.0 0 (omega arith)))
+      ∙ take-append-drop from.0 r.branches
+
+  bodies_are : window_bodies d b (within_window d b i j new) ≡ bodies_within d b i j new
+  bodies_are =
+      ap₂ (λ (n : ℕ) (hs : List ℕ).
+      (b, root_bytes (record { size = r.size; counts = splice r.counts from.0 (suc from.0) (n ∷ []); branches = hs })) ∷ (handle_within d b i j, branch_bytes r.size piece) ∷ [])
+      piece-count branches_same
+
+  -- No block goes or comes, and what gives the root and that branch these bodies is the plan.
+  pub within-planned : (changes : List Change) → ArePlanned changes d [] (bodies_within d b i j new) → IsWindowPlanned d b (window d b i j new) changes
+  within-planned changes planned =
+      let w : Window = within_window d b i j new in
+      let none : freed_handles w ≡ [] = freed_none (handle_within d b i j) in
+      let few = stays.few in
+      let many = ap length branches_same in
+      subst (λ (x : Window). IsWindowPlanned d b x changes) (sym window-within) (record {
+        no_map = ap (list_any (λ h. h == d.map_block)) none;
+        handles = le-ltb (length (free_handles d)) 0 (omega arith);
+        room = le-ltb most_branches (length (replaced_root r w).branches) (omega arith);
+        planned = subst (λ (hs : List ℕ). ArePlanned changes d hs (window_bodies d b w)) (sym none) (subst (ArePlanned changes d []) (sym bodies_are) planned);
+      })
