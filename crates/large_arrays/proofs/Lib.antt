@@ -61,3 +61,5 @@ pub mod PlannedBlocks
 pub mod WrittenBranches
 pub mod OverwritingSteps
 pub mod OverwritingAnswers
+pub mod RootScans
+pub mod PlaceBlocks
