@@ -63,3 +63,5 @@ pub mod OverwritingSteps
 pub mod OverwritingAnswers
 pub mod WithinPieces
 pub mod WithinWindows
+pub mod RootScans
+pub mod PlaceBlocks

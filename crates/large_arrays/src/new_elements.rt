@@ -95,6 +95,7 @@ impl<'a> NewElements<'a> {
     pub fn bytes(&self) -> &'a [u8]
         ensures value { result.now ≡ flat_map (λ x. x) self.now.elements }
         ensures one { self.now.size ≡ 0 → length self.now.elements ≤ 1 }
+        ensures sized { have_size self.now.size self.now.elements ≡ true }
     {
         self.bytes
     }

@@ -21,6 +21,9 @@ pub(crate) const MARK: [u8; 4] = *b"GARR";
 /// The greatest size of elements that have one size.
 const GREATEST_SIZE: u16 = 4_096;
 
+/// How many branches are passed at a time where a place is looked for.
+const BLOCK: usize = 64;
+
 /// The root of a large array, read where it lies. Contracts see it as the root.
 #[derive(Drop)]
 pub struct RootView<'a> {
@@ -94,12 +97,20 @@ fn word(bytes: &[u8], at: usize) -> u16
     LittleEndian::read_u16(&bytes[at..])
 }
 
+/// The double word at a place.
+fn double_word(bytes: &[u8], at: usize) -> u32
+    requires { at + 4 ≤ length bytes.now }
+    ensures { result ≡ double_word_at bytes.now at }
+{
+    LittleEndian::read_u32(&bytes[at..])
+}
+
 /// How many elements a root says that there are.
 fn stored_total(bytes: &[u8]) -> u32
     requires { 16 ≤ length bytes.now }
     ensures { result ≡ double_word_at bytes.now 12 }
 {
-    LittleEndian::read_u32(&bytes[12..])
+    double_word(bytes, 12)
 }
 
 /// Whether bytes begin as those of a root do, and are as many.
@@ -151,12 +162,12 @@ fn has_counts(bytes: &[u8], branches: usize) -> bool
     if branches == 1 {
         return true;
     }
+    // The least is found by vectors, and a search that ends at a zero is not.
+    let mut least = u16::MAX;
     for i in 0..branches {
-        if word(bytes, 16 + 2 * i) == 0 {
-            return false;
-        }
+        least = least.min(word(bytes, 16 + 2 * i));
     }
-    true
+    0 < least
 }
 
 /// Whether each branch begins with a zero word.
@@ -165,12 +176,12 @@ fn has_zeros(bytes: &[u8], branches: usize) -> bool
     requires room { 16 + 6 * branches ≤ length bytes.now }
     ensures { IsTrue result ↔ HasZeros bytes.now }
 {
+    // All are looked at by vectors, each with the handle behind its zero word.
+    let mut seen = 0;
     for i in 0..branches {
-        if word(bytes, 16 + 2 * branches + 4 * i) != 0 {
-            return false;
-        }
+        seen |= double_word(bytes, 16 + 2 * branches + 4 * i);
     }
-    true
+    seen % 65_536 == 0
 }
 
 impl<'a> RootView<'a> {
@@ -256,6 +267,39 @@ impl<'a> RootView<'a> {
         &self.bytes[start + 4 * from..start + 4 * to]
     }
 
+    /// Whole blocks of branches before the one that has an element: how many branches these are, and how many elements
+    /// lie between them and that element.
+    fn passed(&self, i: u32) -> (usize, u32)
+        ensures within { result.0 < length self.now.counts }
+        ensures value { sum_by (λ c. c) (take result.0 self.now.counts) + result.1 ≡ i }
+        ensures between { 0 < result.0 → 0 < result.1 }
+    {
+        let blocks = (self.branches - 1) / BLOCK;
+        let mut left = i;
+        for block in 0..blocks {
+            let total = self.block_total(BLOCK * block);
+            if left <= total {
+                return (BLOCK * block, left);
+            }
+            left -= total;
+        }
+        (BLOCK * blocks, left)
+    }
+
+    /// How many elements a block of branches has, from one on.
+    fn block_total(&self, first: usize) -> u32
+        requires few { first < 2 ^ 16 }
+        requires within { first + 64 ≤ length self.now.counts }
+        ensures { result + sum_by (λ c. c) (drop (first + 64) self.now.counts)
+            ≡ sum_by (λ c. c) (drop first self.now.counts) }
+    {
+        let mut total: u32 = 0;
+        for k in 0..BLOCK {
+            total += u32::from(self.count(first + k));
+        }
+        total
+    }
+
     /// In which branch an element is, or a run begins, and how many of that branch's elements are before it.
     pub fn start_place(&self, i: u32) -> (usize, u32)
         ensures value { result ≡ start_place self.now.counts i }
@@ -264,8 +308,9 @@ impl<'a> RootView<'a> {
         ensures few { result.0 < 2 ^ 16 }
     {
         let last = self.branches - 1;
-        let mut left = i;
-        for k in 0..last {
+        let (first, before) = self.passed(i);
+        let mut left = before;
+        for k in first..last {
             let count = u32::from(self.count(k));
             if left < count {
                 return (k, left);
@@ -283,8 +328,9 @@ impl<'a> RootView<'a> {
         ensures few { result.0 < 2 ^ 16 }
     {
         let last = self.branches - 1;
-        let mut left = i;
-        for k in 0..last {
+        let (first, before) = self.passed(i);
+        let mut left = before;
+        for k in first..last {
             let count = u32::from(self.count(k));
             if left <= count {
                 return (k, left);

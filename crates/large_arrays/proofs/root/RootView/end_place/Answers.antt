@@ -5,7 +5,11 @@ use Rattle.large_arrays.specs.RootParts.{branches_in}
 use Rattle.geos_model.specs.Spread.{end_place}
 use Rattle.large_arrays.proofs.RootLemmas.{length-counts_read, length-branches_read}
 use Rattle.large_arrays.proofs.PlaceSteps.{shifted, end-next, end-last}
+use Rattle.large_arrays.proofs.PlaceBlocks.{end-passed}
 use Rattle.large_arrays.proofs.root.RootView.end_place.Goals as goal
+
+pub loop-k-init : goal.loop-k-init
+loop-k-init c = end-passed c.args.self.now.counts c.passed-first.result.0 c.passed-first.result.1 c.args.i c.passed-first.ensures.within c.passed-first.ensures.value c.passed-first.ensures.between
 
 pub count-requires : goal.count-requires
 count-requires c =
@@ -41,8 +45,9 @@ returns-clause-value c =
     let some = c.self.invariant.parts.head.length.some in
     let from = c.loop-k-test.false in
     let upto = c.loop-k.auto.k-end in
-    let end : k + 0 ≡ c.self.inside.branches - 1 = omega (arith, from, upto) in
-    sym (c.loop-k.invariant ∙ ap (shifted k) (end-last counts k left (omega (arith, many, all, some, from, upto))) ∙ ap (λ (m : ℕ). (m, left)) end)
+    let within = c.passed-first.ensures.within in
+    let end : k + 0 ≡ c.self.inside.branches - 1 = omega (arith, many, all, some, from, upto, within) in
+    sym (c.loop-k.invariant ∙ ap (shifted k) (end-last counts k left (omega (arith, many, all, some, from, upto, within))) ∙ ap (λ (m : ℕ). (m, left)) end)
 
 pub returns-then-left-count-clause-within : goal.returns-then-left-count-clause-within
 returns-then-left-count-clause-within c =
