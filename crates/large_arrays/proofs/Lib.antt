@@ -3,18 +3,9 @@ pub mod FirstRefusal
 pub mod WindowEdits
 pub mod OverwrittenElements
 pub mod Inserting
-pub mod RootLemmas
-pub mod PlaceSteps
-pub mod BranchLemmas
 pub mod HandlePlaces
 pub mod LinkRuns
-pub mod PieceLemmas
-pub mod NewElementsLemmas
-pub mod BodyLemmas
-pub mod CommonParts
-pub mod PackingLemmas
 pub mod WindowPieces
-pub mod RootRuns
 pub mod Marking
 pub mod RefusalOrder
 pub mod LoadedBlocks
@@ -22,7 +13,6 @@ pub mod PlannedChanges
 pub mod RootPieces
 pub mod NeighbourLemmas
 pub mod Created
-pub mod LeastSplices
 pub mod PlaceSums
 pub mod LoadedBranches
 pub mod RootFacts
@@ -48,9 +38,6 @@ pub mod WrittenLemmas
 pub mod LocalEdits
 pub mod PlannedWindows
 pub mod PlannedEdits
-pub mod PatchPieces
-pub mod ShiftedWords
-pub mod PatchedRegions
 pub mod EditRefusals
 pub mod EditAnswers
 pub mod GatheredWindows
@@ -63,5 +50,3 @@ pub mod OverwritingSteps
 pub mod OverwritingAnswers
 pub mod WithinPieces
 pub mod WithinWindows
-pub mod RootScans
-pub mod PlaceBlocks

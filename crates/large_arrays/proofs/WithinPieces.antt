@@ -8,7 +8,7 @@ use Rattle.geos_model.specs.LargeWindow.{left_joins, right_joins, looks_left, lo
 use Rattle.geos_model.specs.JoinedPieces.{window_of}
 use Rattle.geos_model.proofs.SpreadFits.{weight-append, part-fits}
 use Rattle.geos_model.proofs.SpreadSides.{is_full}
-use Rattle.large_arrays.proofs.PackingLemmas.{packed-run, packed-last, with_last-joined}
+use Rattle.large_bodies.proofs.PackingLemmas.{packed-run, packed-last, with_last-joined}
 use Rattle.large_arrays.proofs.WindowPieces.{window-pieces-are}
 
 not_empty : (x : List ℕ) (xs : BranchPiece) → x ∷ xs ≡ [] → ⊥

@@ -19,7 +19,7 @@ use Rattle.geos_model.proofs.SpreadPlaces.{first-end_same}
 use Rattle.geos_model.proofs.SpreadSides.{is_full}
 use Rattle.vm_blocks.specs.declared.change.Change.{Change}
 use Rattle.large_arrays.specs.ChangePlans.{ArePlanned, window_bodies}
-use Rattle.large_arrays.specs.SizedElements.{have_size}
+use Rattle.large_bodies.specs.SizedElements.{have_size}
 use Rattle.large_arrays.specs.WindowPlans.{IsWindowPlanned}
 use Rattle.large_arrays.specs.Within.{StaysWithin, place_within, count_within, piece_within, handle_within, bodies_within}
 use Rattle.large_arrays.proofs.PlaceSums.{end-within}

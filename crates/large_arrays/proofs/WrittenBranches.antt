@@ -11,10 +11,10 @@ use Rattle.geos_model.proofs.Arrays.{joined, table_of, table-even, all_even, len
 use Rattle.chunk_edits.specs.Patching.{PatchPiece, Keep, Put, taken, given, peak, patched, ArePiecesOf, PatchLeads}
 use Rattle.chunk_arrays.specs.Reading.{element_place}
 use Rattle.chunk_arrays.proofs.PlaceLemmas.{front_of, length-front, bytes-front}
-use Rattle.large_arrays.specs.BranchReading.{IsPlain}
+use Rattle.large_bodies.specs.BranchReading.{IsPlain}
 use Rattle.geos_model.specs.Pieces.{BranchPiece}
 use Rattle.geos_model.specs.LargeLayout.{branch_bytes}
-use Rattle.large_arrays.specs.SizedElements.{have_size}
+use Rattle.large_bodies.specs.SizedElements.{have_size}
 use Rattle.large_arrays.specs.WrittenPieces.{written_piece}
 use Rattle.geos_model.proofs.BranchBytes.{array_of_piece, is_sized, length-branch_bytes, weight-even}
 use Rattle.geos_model.proofs.PieceLists.{sized-append, sized_part}

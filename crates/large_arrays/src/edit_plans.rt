@@ -15,15 +15,13 @@ ghost use Rattle.large_arrays.specs.Replacements.{CanReplace, IsDeletion, IsInse
 ghost use Rattle.geos_model.specs.LargeWindow.{elements_replaced, elements_overwritten};
 
 use crate::changes::plan_body;
-use crate::cut_body::CutBody;
 use crate::gathering::gather;
 use crate::loading::{load_root, loaded_root, raw_bytes};
-use crate::new_elements::NewElements;
 use crate::overwriting::plan_overwriting;
-use crate::root::RootView;
 use crate::spot::Spot;
 use crate::window_plan::plan_window;
 use geos_model::{Fault, VmHandle};
+use large_bodies::{CutBody, NewElements, RootView};
 use std::alloc::{AllocError, Global};
 use vm_blocks::{Change, FileBlocks};
 use vm_store::Store;
