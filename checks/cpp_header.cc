@@ -226,6 +226,30 @@ static void chains(session &s) {
   s.chfree(copy);
 }
 
+static void large_arrays(session &s) {
+  const block text = s.hcreate(3, 1), lines = s.hcreate(3, 0);
+  s.hinsert(text, 0, std::string(70000, 'x'));
+  s.hset(text, 65509, "ab");
+  s.hdelete(text, 0, 65508);
+  MUST(s.hcount(text) == 4492 && is(s.hread(text, 0, 4), "xabx") && is(s.hget(text, 1), "a"));
+  s.undo();
+  MUST(s.hcount(text) == 70000 && s.hread(text, 1, 65520).size() == 65520 && s.walk(text).size() == 3);
+  s.hinsert(lines, 0, "one");
+  s.hinsert(lines, 1, {});
+  MUST(s.hcount(lines) == 2 && is(s.hget(lines, 0), "one") && s.hget(lines, 1).empty());
+  REFUSED(fault::range, s.hread(lines, 0, 1, to...));
+  REFUSED(fault::range, s.hinsert(text, 70001, "x", to...));
+  REFUSED(fault::range, s.hcreate(3, std::size_t{1} << 32, to...));
+  REFUSED(fault::no_element, s.hget(text, std::size_t{1} << 32, to...));
+  REFUSED(fault::no_element, s.hdelete(text, 0, std::size_t{1} << 32, to...));
+  REFUSED(fault::no_element, s.hset(text, 70000, "x", to...));
+  REFUSED(fault::too_big, s.hinsert(lines, 0, std::string(65509, 'x'), to...));
+  REFUSED(fault::not_array, s.hcount(s.newraw(3, 1), to...));
+  s.lock(text);
+  REFUSED(fault::locked, s.hset(text, 0, "y", to...));
+  s.unlock(text);
+}
+
 static void steps(session &s) {
   const block raw = s.newraw(4, 1);
   s.name("Make");
@@ -852,6 +876,7 @@ int main(int count, char **words) {
     blocks_and_chunks(s);
     arrays(s);
     chains(s);
+    large_arrays(s);
     steps(s);
     locks(s);
     commands(s);

@@ -486,6 +486,21 @@ public:
   block chcopy(block b, report r = {}) { return made<block>(r, geosvm_chcopy, b.number()); }
   void chfree(block b, report r = {}) { edit(r, geosvm_chfree, b.number()); }
 
+  /* Edits of large arrays, each by its root. */
+
+  block hcreate(std::uint16_t user_id, std::size_t size, report r = {}) {
+    return made<block>(r, geosvm_hcreate, user_id, below::capped(size));
+  }
+  void hinsert(block root, std::size_t i, bytes_view from, report r = {}) {
+    edit(r, geosvm_hinsert, root.number(), below::capped(i), from.data(), from.size());
+  }
+  void hset(block root, std::size_t i, bytes_view from, report r = {}) {
+    edit(r, geosvm_hset, root.number(), below::capped(i), from.data(), from.size());
+  }
+  void hdelete(block root, std::size_t i, std::size_t count, report r = {}) {
+    edit(r, geosvm_hdelete, root.number(), below::capped(i), below::capped(count));
+  }
+
   /* Look-ups. */
 
   block_info info(block b, report r = {}) {
@@ -544,6 +559,14 @@ public:
   std::size_t chsize(block b, report r = {}) { return number<std::size_t>(r, geosvm_chsize, b.number()); }
   bool chequal(block b, block other, report r = {}) {
     return number<std::uint8_t>(r, geosvm_chequal, b.number(), other.number()) != 0;
+  }
+
+  std::size_t hcount(block root, report r = {}) { return number<std::size_t>(r, geosvm_hcount, root.number()); }
+  bytes hget(block root, std::size_t i, report r = {}) {
+    return copied(r, geosvm_hget, root.number(), below::capped(i));
+  }
+  bytes hread(block root, std::size_t i, std::size_t count, report r = {}) {
+    return copied(r, geosvm_hread, root.number(), below::capped(i), below::capped(count));
   }
 
   /* Steps. */

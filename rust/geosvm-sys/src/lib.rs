@@ -53,13 +53,13 @@ pub const GEOSVM_NO_CHUNK: i32 = 6;
 pub const GEOSVM_WRONG_KIND: i32 = 7;
 /// The heap would need more than 65,520 bytes.
 pub const GEOSVM_FULL: i32 = 8;
-/// A raw block would have more than 65,520 bytes, or a step a name of more than 64.
+/// Over 65,520 bytes in a raw block, 64 in a step's name, or 65,508 in an element.
 pub const GEOSVM_TOO_BIG: i32 = 9;
 /// Fewer block handles are free than are needed.
 pub const GEOSVM_NO_HANDLES: i32 = 10;
 /// A place, length or size is outside its bounds.
 pub const GEOSVM_RANGE: i32 = 11;
-/// The chunk is no array of the kind that is wanted.
+/// The chunk is no array of the kind that is wanted, or the block no root of a large array.
 pub const GEOSVM_NOT_ARRAY: i32 = 12;
 /// There is no such element, or the token isn't used.
 pub const GEOSVM_NO_ELEMENT: i32 = 13;
@@ -69,7 +69,7 @@ pub const GEOSVM_COUNT_FULL: i32 = 14;
 pub const GEOSVM_NO_NAME: i32 = 15;
 /// Another token has the name.
 pub const GEOSVM_NAME_IN_USE: i32 = 16;
-/// No chain begins at the block.
+/// No chain begins at the block, or a branch isn't what the root of a large array says.
 pub const GEOSVM_BAD_CHAIN: i32 = 17;
 /// The map block would be freed.
 pub const GEOSVM_IS_MAP: i32 = 18;
