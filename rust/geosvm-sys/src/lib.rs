@@ -364,6 +364,14 @@ unsafe extern "C" {
     pub fn geosvm_chcopy(s: *mut geosvm_session, block: u16, copy: *mut u16) -> i32;
     /// Frees each block of a chain.
     pub fn geosvm_chfree(s: *mut geosvm_session, block: u16) -> i32;
+    /// Makes a large array, and tells its root.
+    pub fn geosvm_hcreate(s: *mut geosvm_session, user_id: u16, size: u32, root: *mut u16) -> i32;
+    /// Puts elements in before element `i` of a large array.
+    pub fn geosvm_hinsert(s: *mut geosvm_session, root: u16, i: u32, bytes: *const u8, size: usize) -> i32;
+    /// Puts elements in the place of those from element `i` on.
+    pub fn geosvm_hset(s: *mut geosvm_session, root: u16, i: u32, bytes: *const u8, size: usize) -> i32;
+    /// Deletes `count` elements.
+    pub fn geosvm_hdelete(s: *mut geosvm_session, root: u16, i: u32, count: u32) -> i32;
     /// Makes a block of `to` like one of `from`.
     pub fn geosvm_copy_block(from: *mut geosvm_session, block: u16, to: *mut geosvm_session, copy: *mut u16) -> i32;
     /// Tells whether a block is a heap, its user ID and its size.
@@ -456,6 +464,27 @@ unsafe extern "C" {
     pub fn geosvm_chsize(s: *mut geosvm_session, block: u16, size: *mut usize) -> i32;
     /// Tells whether two chains are equal.
     pub fn geosvm_chequal(s: *mut geosvm_session, block: u16, other: u16, equal: *mut u8) -> i32;
+    /// Tells how many elements a large array has.
+    pub fn geosvm_hcount(s: *mut geosvm_session, root: u16, count: *mut usize) -> i32;
+    /// Copies the bytes of an element.
+    pub fn geosvm_hget(
+        s: *mut geosvm_session,
+        root: u16,
+        i: u32,
+        buffer: *mut u8,
+        room: usize,
+        length: *mut usize,
+    ) -> i32;
+    /// Copies the bytes of `count` elements of one size.
+    pub fn geosvm_hread(
+        s: *mut geosvm_session,
+        root: u16,
+        i: u32,
+        count: u32,
+        buffer: *mut u8,
+        room: usize,
+        length: *mut usize,
+    ) -> i32;
     /// Tells how many steps can be undone.
     pub fn geosvm_undos(s: *mut geosvm_session, count: *mut usize) -> i32;
     /// Tells how many steps can be redone.
