@@ -286,7 +286,8 @@ impl<S: Store> Session<S> {
     /// part of the step that the group becomes. Locked where it frees a locked block, or copies or frees a chain or
     /// changes a large array while any block is locked, before all else; CacheFull where each frame has a locked block,
     /// and it looks into the body of another one. For an edit of a user ID, of the map block or of the body of a block
-    /// in memory, and for one that frees such a block, no store is called.
+    /// in memory, and for one that frees such a block, no store is called; nor where the block that is named isn't
+    /// there or is of the wrong kind.
     pub fn edit(&mut self, edit: &Edit) -> Result<Done, Fault>
         ensures { EditsSession S.facts edit.now self.old self.new result }
     {
