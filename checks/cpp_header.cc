@@ -315,6 +315,22 @@ static void locks(session &s) {
   }
   s.unlock(raw);
   MUST(s.locks(raw) == 0);
+  const std::string root_digits = s.command("hcreate 5 2").substr(6, 4);
+  const block root(static_cast<std::uint16_t>(std::stoul(root_digits, nullptr, 16)));
+  MUST(s.command("hinsert " + root_digits + " 0 61626364") == "ok\n");
+  block has_it;
+  MUST(is(s.lock_run(root, 1, has_it), "cd") && s.locks(has_it) == 1);
+  {
+    bytes_view elements, none;
+    const locked_block l(s, root, 0, elements);
+    MUST(l.is_locked() && is(elements, "abcd") && l.handle() == has_it && s.locks(has_it) == 2);
+    std::error_code refusal;
+    const locked_block past(s, root, 2, none, refusal);
+    MUST(refusal == fault::no_element && !past.is_locked() && none.size() == 0);
+  }
+  s.unlock(has_it);
+  MUST(s.locks(has_it) == 0);
+  REFUSED(fault::not_array, s.lock_run(raw, 0, has_it, to...));
 }
 
 static void commands(session &s) {

@@ -23,8 +23,8 @@
 **     may be in different threads at once, also sessions that read one file.
 **   - Each pointer leads to as many elements as its size says, is not NULL even at size 0, and what a call writes overlaps nothing
 **     else that the same call is passed.
-**   - Bytes that geosvm_locked_chunk and geosvm_locked_raw have lent are never written, and are read as long as they are lent ("Locks"),
-**     and not while a call on their session runs.
+**   - Bytes that geosvm_locked_chunk, geosvm_locked_raw and geosvm_lock_run have lent are never written, and are read as long as they are
+**     lent ("Locks"), and not while a call on their session runs.
 **   - Of a file that it opens itself, and passes by its descriptor: that is open to be read and written, or to be read alone
 **     ("Reading"), and stays so until geosvm_close; it stays the caller's, since no call closes it. Its position moves.
 **   - No two open sessions have the same file unless both read it alone, and none is saved into one that another has. Nobody else
@@ -333,6 +333,14 @@ int32_t geosvm_save_as_path(geosvm_session *s, const char *path, uint32_t flags)
 ** A command by geosvm_command that does the same ends it likewise. All other calls leave the bytes as they are, and where they are:
 ** look-ups, edits of other blocks, other locks, geosvm_dirty, begin, end, join, forget and name, and what is refused, as undo, redo,
 ** abandon and commits are while any block is locked.
+**
+** geosvm_lock_run is for a large array whose elements have one size. It locks the block that has element `i`, once more, and lends its
+** elements from there to the last one in that block, one behind the other: *block becomes the block, *bytes the address of element `i`, and
+** *length how many bytes they are, never 0; divided by the size of an element that is how many elements. geosvm_unlock of *block gives
+** them back, and until then they are lent as those of geosvm_locked_raw are. The element behind them is the first of another block.
+** GEOSVM_NO_BLOCK, WRONG_KIND, CACHE_FULL where each frame has a locked block, NOT_ARRAY, NO_ELEMENT, BAD_CHAIN, RANGE where elements vary
+** in size, the first of them, then LOCK_LIMIT; MEMORY, FILE or DAMAGED as of a look-up. Where it is refused nothing is locked, *block is 0,
+** *bytes is NULL and *length is 0.
 */
 int32_t geosvm_lock(geosvm_session *s, uint16_t block);
 int32_t geosvm_unlock(geosvm_session *s, uint16_t block);
@@ -340,6 +348,7 @@ int32_t geosvm_dirty(geosvm_session *s, uint16_t block);
 int32_t geosvm_locks(geosvm_session *s, uint16_t block, uint8_t *count);
 int32_t geosvm_locked_chunk(geosvm_session *s, uint16_t block, uint16_t chunk, const uint8_t **bytes, size_t *length);
 int32_t geosvm_locked_raw(geosvm_session *s, uint16_t block, const uint8_t **bytes, size_t *length);
+int32_t geosvm_lock_run(geosvm_session *s, uint16_t root, uint32_t i, uint16_t *block, const uint8_t **bytes, size_t *length);
 
 /*
 ** CAPI: Edits

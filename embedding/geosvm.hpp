@@ -378,6 +378,15 @@ public:
     return lent(r, geosvm_locked_chunk, b.number(), c.number());
   }
   bytes_view locked_raw(block b, report r = {}) { return lent(r, geosvm_locked_raw, b.number()); }
+  /* Locks the block of a large array that has element i, which `has_it` becomes, and lends its elements from there on. */
+  bytes_view lock_run(block root, std::size_t i, block &has_it, report r = {}) {
+    std::uint16_t number = 0;
+    const auto call = [&number](geosvm_session *own, std::uint16_t b, std::uint32_t at, const std::uint8_t **first,
+                                std::size_t *length) { return geosvm_lock_run(own, b, at, &number, first, length); };
+    const bytes_view elements = lent(r, call, root.number(), below::capped(i));
+    has_it = block(number);
+    return elements;
+  }
 
   /* Edits of blocks. */
 
@@ -743,6 +752,12 @@ class locked_block {
 public:
   locked_block(session &s, block b, report r = {}) : block_(b) {
     is_locked_ = r.tell(geosvm_lock(s.raw(), b.number()));
+    at_ = s.at_;
+  }
+  /* The block of a large array that has element i, and its elements from there on. */
+  locked_block(session &s, block root, std::size_t i, bytes_view &elements, report r = {}) {
+    elements = s.lock_run(root, i, block_, r);
+    is_locked_ = elements.data() != nullptr;
     at_ = s.at_;
   }
   locked_block(locked_block &&other) noexcept

@@ -147,6 +147,43 @@ static void lent(geosvm_session *s) {
   TELL(geosvm_locked_raw(s, 2, &raw, &m));
 }
 
+/* Elements of a large array where they lie: 17 of 4,096 bytes, of which a block has 15. */
+static void lent_runs(geosvm_session *s) {
+  geosvm_session closed = GEOSVM_CLOSED;
+  const uint8_t *run = NULL, *more = NULL;
+  static char line[8300];
+  char reply[256];
+  uint16_t block = 77, other = 77;
+  size_t n = 77, m = 77;
+  long bad = 0;
+  puts("-- elements lent");
+  show(s, "hcreate 7 4096");
+  for (int i = 0; i < 17; i++) {
+    size_t at = (size_t)snprintf(line, 32, "hinsert 0013 %d ", i);
+    for (int k = 0; k < 4096; k++, at += 2) snprintf(line + at, 3, "%02x", (unsigned)i & 255);
+    bad += say(s, line, reply, sizeof reply) != GEOSVM_OK;
+  }
+  printf("17 elements: %ld wrong answers\n", bad);
+  TELL(geosvm_lock_run(&closed, 19, 13, &block, &run, &n));
+  printf("block %u, %zu bytes, %s\n", block, n, run == NULL ? "nowhere" : "somewhere");
+  TELL(geosvm_lock_run(s, 19, 13, &block, &run, &n));
+  printf("block %u, %zu bytes: %u and %u\n", block, n, run[0], run[4096]);
+  TELL(geosvm_lock_run(s, 19, 15, &other, &more, &m));
+  printf("block %u, %zu bytes: %u and %u\n", other, m, more[0], more[4096]);
+  show(s, "hdelete 0013 0 1");
+  printf("%u and %u\n", run[0], more[0]);
+  TELL(geosvm_unlock(s, block));
+  TELL(geosvm_unlock(s, other));
+  TELL(geosvm_lock_run(s, 19, 17, &block, &run, &n));
+  printf("block %u, %zu bytes, %s\n", block, n, run == NULL ? "nowhere" : "somewhere");
+  TELL(geosvm_lock_run(s, 99, 0, &block, &run, &n));
+  TELL(geosvm_lock_run(s, 1, 0, &block, &run, &n));
+  TELL(geosvm_lock_run(s, 2, 0, &block, &run, &n));
+  show(s, "hcreate 7 0");
+  show(s, "hinsert 0016 0 616263");
+  TELL(geosvm_lock_run(s, 22, 0, &block, &run, &n));
+}
+
 static void commits(geosvm_session *s, int fd) {
   puts("-- commits");
   TELL(geosvm_update(s));
@@ -739,6 +776,7 @@ int main(void) {
   TELL(geosvm_create(&s, fd, 8));
   edits(&s);
   lent(&s);
+  lent_runs(&s);
   commits(&s, fd);
   another_file(&s, fd);
   refusals(&s, fd);

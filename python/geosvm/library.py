@@ -68,6 +68,7 @@ dirty u16
 locks u16 -> u8
 locked_chunk u16 u16 -> lent
 locked_raw u16 -> lent
+lock_run u16 u32 -> u16 lent
 """
 EDITS = """
 newraw u16 u32 -> u16

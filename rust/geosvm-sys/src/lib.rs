@@ -238,6 +238,15 @@ unsafe extern "C" {
     ) -> i32;
     /// Lends the bytes of a locked raw block.
     pub fn geosvm_locked_raw(s: *mut geosvm_session, block: u16, bytes: *mut *const u8, length: *mut usize) -> i32;
+    /// Locks the block of a large array that has an element, and lends its elements from there on.
+    pub fn geosvm_lock_run(
+        s: *mut geosvm_session,
+        root: u16,
+        i: u32,
+        block: *mut u16,
+        bytes: *mut *const u8,
+        length: *mut usize,
+    ) -> i32;
     /// Makes a raw block of zeros.
     pub fn geosvm_newraw(s: *mut geosvm_session, user_id: u16, size: u32, block: *mut u16) -> i32;
     /// Makes a block with an empty heap.
