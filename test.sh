@@ -14,16 +14,18 @@ program() {
 geosvm=$(program geosvm geosvm)
 geosdoc=$(program geosdoc geosdoc)
 
-# How many documents are made by chance, how often edits are, of how many bytes of a file each is changed, and which requests for memory
-# are refused.
+# How many documents are made by chance, how often edits are, and how many of large arrays, of how many bytes of a file each is changed, and
+# which requests for memory are refused.
 documents=100
 times=10
+edits=6000
 every=4
 requests=5
 long=
 if [ "${LONG:-}" ]; then
     documents=1000
     times=200
+    edits=1000000
     every=1
     requests=1
     long=--long
@@ -43,7 +45,7 @@ check() {
     limits) python3 checks/limits.py "$geosvm" "$geosdoc" $long ;;
     lent_bytes) sh checks/lent_bytes.sh ;;
     heap_by_chance) python3 checks/heap_by_chance.py "$geosvm" $((times * 1000)) ;;
-    large_by_chance) python3 checks/large_by_chance.py "$geosvm" $times ;;
+    large_by_chance) python3 checks/large_by_chance.py "$geosvm" $times $edits ;;
     memory_given_back) python3 checks/memory_given_back.py "$geosvm" ;;
     edits_by_chance) python3 checks/edits_by_chance.py "$geosvm" $times ;;
     designs_measured) python3 checks/designs_measured.py "$geosvm" ;;

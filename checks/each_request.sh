@@ -194,17 +194,33 @@ each_of "$data/files_opened" "" saved
 each_of "$data/tutorial_letter_opened" "--undo 2" letter
 
 # The cases, each opening as a script with its replies: `case_3.0` is that of the new file, and `case_3.1` of the file that it leaves. In
-# `case_3.options` is how the first is run, in `case_3.files` on which file each other one is.
+# `case_3.options` is how the first is run, in `case_3.files` on which file each other one is, and in `case_3.frames` with how many frames.
 awk 'function put(command, reply) {
-        print command >>(name "." opening ".script")
+        print expanded(command) >>(name "." opening ".script")
         print reply >>(name "." opening ".replies")
+    }
+    # A word 00*3 stands for 000000.
+    function expanded(text, words, count, k, piece) {
+        if (!index(text, "*")) return text
+        count = split(text, words, " ")
+        text = ""
+        for (k = 1; k <= count; k++) {
+            split(words[k], piece, "*")
+            text = text (k > 1 ? " " : "") (index(words[k], "*") ? repeated(piece[1], piece[2]) : words[k])
+        }
+        return text
+    }
+    function repeated(piece, times, half) {
+        if (times < 2) return times ? piece : ""
+        half = repeated(piece, int(times / 2))
+        return half half (times % 2 ? piece : "")
     }
     function commit() { put("update", "ok"); put("save", "ok"); put("revert", "ok") }
     function say(line) { sub(/^ +/, "", line); split(line, parts, / += /); put(parts[1], parts[2]) }
     /^define/ { name = "" }
     /^case/ { name = "case_" ++cases; opening = 0; file = "document"; options = "--new" }
     !name { next }
-    /^frames/ { print options " --cache " $2 >(name ".options") }
+    /^frames/ { print options " --cache " $2 >(name ".options"); print "--cache " $2 >(name ".frames") }
     /^target/ { printf " --as copy" >>(name ".options"); file = "copy" }
     /^use commits/ { commit() }
     /^former/ { file = "document" }
@@ -221,7 +237,7 @@ for script in case_*.0.script; do
     opening=0
     [ ! -e "$name".files ] || while read -r file; do
         opening=$((opening + 1))
-        each_of "$name".$opening "" left_by_"$file"
+        each_of "$name".$opening "$(cat "$name".frames)" left_by_"$file"
     done <"$name".files
 done
 echo "        $total requests"

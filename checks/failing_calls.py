@@ -11,7 +11,8 @@ its bytes, or with an error from it on. Of each run of a program is looked at: w
 the last commit that was acknowledged, or of one that was tried since; that no other file was touched. And of what is left by a stop of
 the machine behind any call: that it leads to such documents too, where only what was synced is there, or that and one write more, or
 the first few, or all. So it is seen whether the file is synced before and after each commit, and its folder after a file was made; and
-whether a commit that gives a file its checksums is told only once no stop leaves a slot open beside it that has none.
+whether a commit that gives a file its checksums is told only once no stop leaves a slot open beside it that has none. Where large arrays
+are edited each reply is compared too, with the model of large_document.py, in which a refused line has changed nothing.
 """
 import errno
 import os
@@ -21,6 +22,7 @@ import sys
 import tempfile
 
 from dumped_documents import documents_of, slots_of
+from large_document import Block, Document, Machine as ArrayMachine
 
 HERE = os.path.dirname(os.path.abspath(__file__))
 OTHER = b"some other file\n"
@@ -29,6 +31,32 @@ SCRIPT = "vwrite 0001 0 0010\nsave\nvwrite 0001 0 0011\nupdate\nvread 0001\nvwri
 BY_REVERT = "vwrite 0001 0 0010\nrevert\n"
 COMMITS = ("save", "update", "revert")
 TO_TARGET = "vwrite 0001 0 0020\nsaveas\nvwrite 0001 0 0021\nsave\n"
+# An array of bytes with one full branch, and one with two short elements in its branch.
+FULL, LONG = 65_510, 65_508
+ARRAYS = f"hcreate 7 1\nhinsert 0001 0 {'61' * FULL}\nhcreate 7 0\nhinsert 0003 0 61\nhinsert 0003 1 6262\nsave\n"
+# Branches are split in two and in three, edited over their edges, and joined again.
+ARRAY_EDITS = f"""hinsert 0001 30000 6363
+hset 0001 30000 64646464
+undo
+redo
+hinsert 0003 1 {'65' * LONG}
+update
+hread 0001 29998 8
+begin
+hinsert 0001 30002 66
+hdelete 0001 29000 20000
+hset 0003 1 67
+end
+undo
+redo
+undo
+hdelete 0003 0 2
+save
+hinsert 0003 0 68
+undo
+hget 0003 0
+hread 0001 29999 4
+"""
 
 # What fails otherwise than by EIO and by an interruption.
 HOWS = {
@@ -114,11 +142,19 @@ def run(library, folder, words, script, failing=None, number=0, how=errno.EIO, l
 class Session:
     """The documents of a session, each the bytes of block 0001 and whether block 0002 is there; None where there is none."""
 
+    EMPTY = b"", False
+    # What is wrong with a reply.
+    wrong = None
+
     def __init__(self, before):
-        self.now = before or (b"", False)
+        self.now = before or self.EMPTY
         self.saved = self.now
         self.acknowledged = before and (before, before)
         self.tried = []
+
+    @staticmethod
+    def document_of(blocks):
+        return (blocks[1][2][1:] if 1 in blocks else b"", 2 in blocks)
 
     def commit(self, pair, reply):
         if reply == "ok":
@@ -151,18 +187,42 @@ class Session:
         return [self.acknowledged, *self.tried]
 
 
-def pair_of(path):
-    """What the file's updated and saved document are, in the words of a session; None where it is none."""
+class ArraySession(Session):
+    """One that edits large arrays. Its documents are raw blocks with their user IDs, and its replies those of a model."""
+
+    EMPTY = {}
+
+    def __init__(self, before):
+        super().__init__(before)
+        self.machine = ArrayMachine(1)
+        document = Document(self.now)
+        self.machine.now = self.machine.updated = self.machine.saved = document
+
+    @staticmethod
+    def document_of(blocks):
+        return {b: Block(user_id, image[1:]) for b, (user_id, _, image) in blocks.items()}
+
+    def answer(self, line, reply):
+        if reply != "no 2 File":
+            wanted = self.machine.answer(line)
+            if reply not in (None, wanted):
+                self.wrong = self.wrong or f"{line[:60]} is answered {reply[:60]} and not {wanted[:60]}"
+            self.now = self.machine.now.blocks
+        super().answer(line, reply)
+
+
+def pair_of(path, kind=Session):
+    """What the file's updated and saved document are, in the words of a session of that kind; None where it is none."""
     try:
         documents = documents_of(path)
     except (AssertionError, IndexError, OSError):
         return None
-    return tuple((blocks[1][2][1:] if 1 in blocks else b"", 2 in blocks) for _, blocks in documents)
+    return tuple(kind.document_of(blocks) for _, blocks in documents)
 
 
-def sessions_of(script, replies, before):
+def sessions_of(script, replies, before, kind=Session):
     """The session, and beside it the target's from its `saveas` on."""
-    session, target = Session(before), None
+    session, target = kind(before), None
     lines = script.splitlines()
     for at, line in enumerate(lines):
         reply = replies[at] if at < len(replies) else None
@@ -260,9 +320,9 @@ def made(geosvm, path, script):
 class Scenario:
     """A program on a file, with a script."""
 
-    def __init__(self, name, words, script, file=SAVED, target=None, makes=False, opens=True):
+    def __init__(self, name, words, script, file=SAVED, target=None, makes=False, opens=True, kind=Session):
         self.name, self.words, self.script, self.file, self.target, self.makes = name, words, script, file, target, makes
-        self.opens = opens
+        self.opens, self.kind = opens, kind
         self.gives_checksums = "--checksums" in words
         self.files = None
         self.shutting = set()
@@ -345,7 +405,9 @@ def judge(scenario, folder, files, ran, wanted, before, target_before):
             return "another file was touched"
     told = ran.errors.split()
     begun = not (ran.status == 1 and told[1] in ("open", "create", "target"))
-    session, target = sessions_of(scenario.script, replies, None if scenario.makes else before)
+    session, target = sessions_of(scenario.script, replies, None if scenario.makes else before, scenario.kind)
+    if session.wrong:
+        return session.wrong
     for name, its, was in (("document", session, before), ("target", target, target_before)):
         path = os.path.join(folder, name)
         now = None
@@ -356,12 +418,13 @@ def judge(scenario, folder, files, ran, wanted, before, target_before):
             # A file that was missing may be there, empty, or begun. One that was made beside the old one has its place already where its
             # folder can't be synced then.
             has_its_place = any(call.name == "rename" and call.result == 0 and call.more.endswith("\t" + name) for call in ran.calls)
-            if files.get(name) is not None and now != files[name] and not (has_its_place and pair_of(path)):
+            if files.get(name) is not None and now != files[name] and not (has_its_place and pair_of(path, scenario.kind)):
                 return f"{name} was touched by a run that didn't begin"
             continue
-        allowed = its.allowed() if its.acknowledged else [*its.allowed(), was and (was, was), ((b"", False), (b"", False))]
-        if pair_of(path) not in allowed:
-            return f"{name} has {pair_of(path)}, and not one of {allowed}; {replies} {ran.errors!r}"
+        empty = scenario.kind.EMPTY
+        allowed = its.allowed() if its.acknowledged else [*its.allowed(), was and (was, was), (empty, empty)]
+        if pair_of(path, scenario.kind) not in allowed:
+            return f"{name} has {pair_of(path, scenario.kind)}, and not one of {allowed}; {replies} {ran.errors!r}"[:2000]
     return None
 
 
@@ -383,7 +446,7 @@ def judge_stops(scenario, folder, files, ran, machine, before):
         has_failed = has_failed or call.name in ("pwrite", "fsync") and call.result < 0 and call.result != -errno.EINTR
         is_given = scenario.gives_checksums and any(line in COMMITS and reply == "ok" for line, reply in zip(lines, replies[:told]))
         if told != allowed_for:
-            allowed, allowed_for = allowed_behind(scenario.script, replies, told, None if scenario.makes else before), told
+            allowed, allowed_for = allowed_behind(scenario, replies, told, None if scenario.makes else before), told
         for content in machine.left("document"):
             key = content, told
             if key in seen:
@@ -401,28 +464,28 @@ def judge_stops(scenario, folder, files, ran, machine, before):
                 return f"a stop behind call {at} ({call.name} {call.kind}), {told} replies, leaves a slot without checksums open"
             with open(image, "wb") as file:
                 file.write(content)
-            pair = pair_of(image)
+            pair = pair_of(image, scenario.kind)
             if pair not in allowed:
                 if not has_begun and (is_in_place or not files.get("document")):
                     continue
-                return f"a stop behind call {at} ({call.name} {call.kind}), {told} replies, leaves {pair}, and not one of {allowed}"
+                return f"a stop behind call {at} ({call.name} {call.kind}), {told} replies, leaves {pair}, and not one of {allowed}"[:2000]
     return None
 
 
-def allowed_behind(script, replies, told, before):
+def allowed_behind(scenario, replies, told, before):
     """What a file may have where so many replies are told. What was carried out and isn't told yet may be there."""
-    session, _ = sessions_of(script, replies[:told], before)
-    return [pair for pair in (*session.allowed(), *later(script, replies, told, before)) if pair]
+    session, _ = sessions_of(scenario.script, replies[:told], before, scenario.kind)
+    return [pair for pair in (*session.allowed(), *later(scenario.script, replies, told, before, scenario.kind)) if pair]
 
 
-def later(script, replies, told, before):
+def later(script, replies, told, before, kind=Session):
     """What commits behind the replies that are told may have led to."""
-    more = [((b"", False), (b"", False))] if before is None else []
+    more = [(kind.EMPTY, kind.EMPTY)] if before is None else []
     for end in range(told, len(script.splitlines()) + 1):
-        session, _ = sessions_of(script, replies[:end], before)
+        session, _ = sessions_of(script, replies[:end], before, kind)
         more += [pair for pair in session.allowed() if pair]
         lines = script.splitlines()[:end + 1]
-        session = Session(before)
+        session = kind(before)
         for at, line in enumerate(lines):
             if line == "saveas":
                 break
@@ -442,7 +505,7 @@ def try_scenario(checks, library, geosvm, program, scenario, room, has_streams=T
     folder = os.path.join(room, "files")
     files = scenario.prepare(geosvm, folder)
     document, target = os.path.join(folder, "document"), os.path.join(folder, "target")
-    before, target_before = (found and found[0] for found in (pair_of(document), pair_of(target)))
+    before, target_before = (found and found[0] for found in (pair_of(document, scenario.kind), pair_of(target, scenario.kind)))
     machine = Machine(folder)
     words = [*program, *scenario.words]
     first = run(library, folder, words, scenario.script)
@@ -470,7 +533,9 @@ def try_scenario(checks, library, geosvm, program, scenario, room, has_streams=T
                 last = most if lasts or name == "fsync" else number
                 wanted = scenario.fails_as(call, how, number, last, notes_files=has_streams)
                 found = judge(scenario, folder, files, ran, wanted, before, target_before)
-                found = found or judge_stops(scenario, folder, files, ran, machine, before)
+                # Stops are looked at beside what fails where documents are small alone.
+                if not found and scenario.kind is Session:
+                    found = judge_stops(scenario, folder, files, ran, machine, before)
                 if found:
                     wrong.append(f"number {number}: {found}")
             said = how if how == "short" else errno.errorcode[how]
@@ -611,6 +676,8 @@ SCENARIOS = [
     Scenario("made anew", ["--new", "document"], SAVED + SCRIPT, makes=True),
     Scenario("saved as a new one", ["--as", "target", "document"], SCRIPT + TO_TARGET),
     Scenario("saved as an old one", ["--as", "target", "document"], SCRIPT + TO_TARGET, target=SAVED),
+    Scenario("large arrays, in one frame", ["--cache", "1", "document"], ARRAY_EDITS, file=ARRAYS, kind=ArraySession),
+    Scenario("large arrays, in five frames", ["--cache", "5", "document"], ARRAY_EDITS, file=ARRAYS, kind=ArraySession),
 ]
 # The library makes no file beside an old one: its program opens the files.
 OF_LIBRARY = ["opened", "no document", "made", "saved as a new one"]

@@ -3,11 +3,11 @@
 edits of their blocks as such, and blocks that they are damaged by. Each reply is compared with what large_document.py says, a model that
 has the arrays as lists too.
 
-    python3 checks/large_by_chance.py GEOSVM [COUNT]
+    python3 checks/large_by_chance.py GEOSVM [COUNT] [EDITS]
 
 There are 8 scripts for each of COUNT, each the same each time, and each is run with 1, 2 and 8 frames; two of five have a limit of steps.
 At the end of each all is undone and made again, and the document is read each time; then the file is opened again, and has what was
-committed last.
+committed last. Then come at least EDITS edits of arrays of some MB, by the scripts of large_list.py, which has a plain list alone.
 """
 import os
 import random
@@ -18,11 +18,14 @@ import tempfile
 
 from large_array import GREATEST_SIZE, HEADER, JOIN, ROOM, Root, branch_bytes, count, packed, part, root_bytes, root_of, word
 from large_document import MOST_BLOCKS, Machine, handle, hex_of
+from large_list import Script as ListScript
 
 FRAMES = 1, 2, 8
 # What edits of arrays are refused for, but for wrong blocks.
 FAULTS = ["Locked", "NotArray", "NoElement", "BadChain", "IsMap", "Range", "TooBig", "NoHandles"]
 STEPS = 60
+# How many edits a script beside a plain list has, at most, behind those that fill the list.
+LIST_EDITS = 5_000
 # How many bytes a script and its replies have, about, before it comes to its end.
 LONGEST = 700_000
 # A line has 140,000 bytes at most.
@@ -39,7 +42,7 @@ class Script(random.Random):
         self.roots, self.repairs, self.dump = [], [], None
         # Whether pieces are near the room of a branch, few handles are free, and blocks are locked.
         self.is_wide, self.is_scarce, self.has_locks = seed % 2 == 1, seed % 8 == 5, seed % 8 in (3, 6)
-        self.splits = self.joins = 0
+        self.edits = self.splits = self.joins = 0
         self.faults = dict.fromkeys(FAULTS, 0)
 
     def say(self, line):
@@ -252,6 +255,7 @@ class Script(random.Random):
         before, old = self.machine.now, self.machine.now.elements(b)
         reply = self.say(line)
         if reply == "ok":
+            self.edits += 1
             self.compare(line, before, old, b)
             self.look_at_edit(b)
             return
@@ -515,10 +519,28 @@ def go(geosvm, path, seed):
     return right, script
 
 
+def go_beside_lists(geosvm, path, wanted):
+    """How many runs of scripts beside plain lists were right, how many there were, and how many edits they had."""
+    right = runs = edits = 0
+    seed = 0
+    while edits < wanted:
+        script = ListScript(seed, min(LIST_EDITS, wanted // 9 + 1)).write()
+        for frames in FRAMES:
+            words = ["--new", "--cache", str(frames), *(["--undo", str(script.limit)] if script.limit else []), path]
+            right += play(geosvm, words, script.lines, script.replies, f"list {seed}, {frames} frames")
+            edits += script.edits
+        again = script.opened()
+        right += play(geosvm, [path], again.lines, again.replies, f"list {seed}, opened again")
+        runs += len(FRAMES) + 1
+        seed += 1
+    return right, runs, edits
+
+
 def main():
     geosvm = os.path.abspath(sys.argv[1])
     scripts = 8 * (int(sys.argv[2]) if len(sys.argv) > 2 else 10)
-    passed = failed = lines = splits = joins = 0
+    wanted_edits = int(sys.argv[3]) if len(sys.argv) > 3 else 6_000
+    passed = failed = lines = splits = joins = edits = 0
     faults = dict.fromkeys(FAULTS, 0)
     with tempfile.TemporaryDirectory() as folder:
         for seed in range(scripts):
@@ -526,12 +548,17 @@ def main():
             passed += right
             failed += len(FRAMES) + 1 - right
             lines += len(script.lines)
+            edits += len(FRAMES) * script.edits
             splits += script.splits
             joins += script.joins
             for name, n in script.faults.items():
                 faults[name] += n
+        right, runs, list_edits = go_beside_lists(geosvm, os.path.join(folder, "document"), wanted_edits)
+    passed += right
+    failed += runs - right
     print(f"        {lines} lines, {splits} edits by which blocks came, {joins} by which some went; of edits were refused: "
           + ", ".join(f"{n} as {name}" for name, n in faults.items()))
+    print(f"        {edits + list_edits} edits, {edits} of them beside the model of blocks, and {list_edits} beside a plain list")
     # They aren't a few.
     often = min(splits, joins) > scripts // 2 and all(5 * n > scripts // 8 for n in faults.values())
     print(f"{passed + often} passed, {failed + (not often)} failed")

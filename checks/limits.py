@@ -8,10 +8,13 @@ Each commit waits for the disk, so there are fewer of them but for `--long`.
 import itertools
 import json
 import os
+import random
 import subprocess
 import sys
 import tempfile
 import time
+
+from large_array import ROOM, Root, branch_bytes, root_bytes
 
 COMMITS = 10_000 if "--long" in sys.argv else 2_000
 STEPS = 327_520
@@ -22,6 +25,11 @@ JOINED = 100_000
 BLOCKS = 660
 BLOCK_BYTES = 65_520
 READS = 80
+LONGEST_LINE = 140_000
+LONGEST_ELEMENT = 65_508
+# Large arrays: the bytes of an element, 0 where sizes vary, and how many elements there are.
+ARRAYS = [(1, 1_000_000), (40, 20_000), (4096, 300), (0, 60)]
+MOST_BLOCKS = 8192
 # The places of the edits of a group, and of those that are joined.
 RAW_RUN, CHUNK_RUN = " run 0001 0000 0 4 4", " run 0002 0010 0 4 4"
 
@@ -118,7 +126,11 @@ def steps_within_limit(count):
 
 def most_memory(geosvm, path, count):
     """The kB that a run of so many steps had at most."""
-    words, lines = [geosvm, "--new", "--undo", str(LIMIT), path], steps_within_limit(count)
+    return memory_of([geosvm, "--new", "--undo", str(LIMIT), path], steps_within_limit(count))
+
+
+def memory_of(words, lines):
+    """The kB that a run had at most, of lines that come with their replies."""
     with subprocess.Popen(words, stdin=subprocess.PIPE, stdout=subprocess.PIPE, text=True) as program:
         while some := list(itertools.islice(lines, 200)):
             program.stdin.write("".join(line + "\n" for line, _ in some))
@@ -259,14 +271,172 @@ def long_replies(geosvm, geosdoc, path):
     return f"{sum(map(len, script.replies))} bytes of replies to one read"
 
 
-TRIED = {it.__name__: it for it in (many_commits, many_steps, limited_steps, joined_steps, large_groups, large_file, long_replies)}
+class Array:
+    """A large array of a script, and a plain list of its elements."""
+
+    def __init__(self, script, b, size):
+        self.script, self.b, self.size, self.elements, self.counts = script, f"{b:04x}", size, [], []
+        self.chance = random.Random(size)
+        script.ask(f"hcreate 7 {size}", f"block {self.b}")
+
+    def new(self, k, count):
+        """Any elements from k on. Where sizes vary they are as long as they can be, short, or anything between."""
+        lengths = [LONGEST_ELEMENT, 3, 0, LONGEST_ELEMENT - 1, 40_000, 12, 9_000 + k]
+        return [self.chance.randbytes(self.size or lengths[at % len(lengths)]) for at in range(k, k + count)]
+
+    def fill(self, count):
+        """By lines that are about as long as there can be, where elements have one size, and one by one where they vary."""
+        most = (LONGEST_LINE - 30) // 2 // self.size if self.size else 1
+        while len(self.elements) < count:
+            self.counts.append(len(self.elements))
+            new = self.new(len(self.elements), min(most, count - len(self.elements)))
+            self.script.ask(f"hinsert {self.b} {len(self.elements)} {b''.join(new).hex() or '-'}")
+            self.elements += new
+
+    def read_all(self):
+        self.script.ask(f"hcount {self.b}", f"number {len(self.elements)}")
+        step = BLOCK_BYTES // self.size if self.size else 1
+        for i in range(0, len(self.elements), step):
+            some = self.elements[i:i + step]
+            line = f"hread {self.b} {i} {len(some)}" if self.size else f"hget {self.b} {i}"
+            self.script.ask(line, f"bytes {b''.join(some).hex() or '-'}")
+
+    def refuse(self):
+        """Numbers of nine digits, and what is one more than there can be."""
+        b, count, element = self.b, len(self.elements), "61" * (self.size or 1)
+        for i in (count, 999_999_998):
+            for line in (f"hget {b} {i}", f"hset {b} {i} {element}", f"hread {b} {i} 1", f"hread {b} 0 {i + 1}", f"hdelete {b} {i} 1",
+                         f"hdelete {b} {i} {i}", f"hdelete {b} 0 {i + 1}"):
+                self.script.ask(line, "no 13 NoElement")
+            self.script.ask(f"hinsert {b} {i + 1} {element}", "no 11 Range")
+        self.script.ask(f"hget {b} 1000000000", "no 25 BadCommand")
+        self.script.ask(f"hread {b} 0 {BLOCK_BYTES // self.size + 1 if self.size else 1}", "no 11 Range")
+        if self.size > 1:
+            self.script.ask(f"hinsert {b} 0 {element}61", "no 11 Range")
+        if self.size == 0:
+            self.script.ask(f"hinsert {b} 0 {'61' * (LONGEST_ELEMENT + 1)}", "no 9 TooBig")
+
+    def insert_longest(self):
+        """A line of just as many bytes as there can be, and one of one more."""
+        i = len(self.elements) // 2
+        line = f"hinsert {self.b} {i} "
+        n = (LONGEST_LINE - len(line)) // 2 // self.size if self.size else 1
+        line = (line + "61" * (n * (self.size or LONGEST_ELEMENT))).ljust(LONGEST_LINE)
+        self.script.ask(line + " ", "no 25 BadCommand")
+        self.script.ask(line)
+        self.elements[i:i] = [b"a" * (self.size or LONGEST_ELEMENT)] * n
+        self.read_all()
+        del self.elements[i:i + n]
+        self.script.ask("undo")
+        self.read_all()
+
+    def delete_all(self):
+        self.script.ask(f"hdelete {self.b} 0 {len(self.elements)}")
+        self.script.ask(f"hcount {self.b}", "number 0")
+        self.script.ask("undo")
+        self.read_all()
+
+
+def large_arrays(geosvm, geosdoc, path):
+    """Large arrays of more than ten times what a block has: filled, asked for what they haven't, edited by the longest lines, and emptied at
+    once. Each step is undone and made again."""
+    script = Script()
+    arrays = [Array(script, 2 * number + 1, size) for number, (size, _) in enumerate(ARRAYS)]
+    for array, (_, count) in zip(arrays, ARRAYS):
+        array.fill(count)
+        assert sum(map(len, array.elements)) > 10 * BLOCK_BYTES
+    for array in arrays:
+        array.read_all()
+        array.refuse()
+        array.insert_longest()
+        array.delete_all()
+    steps = sum(len(array.counts) for array in arrays)
+    script.ask("undos", f"number {steps + len(arrays)}")
+    for array in reversed(arrays):
+        for count in reversed(array.counts):
+            script.ask("undo")
+            script.ask(f"hcount {array.b}", f"number {count}")
+    for _ in range(steps):
+        script.ask("redo")
+    script.ask("save")
+    opened = Script()
+    for array in arrays:
+        array.read_all()
+        array.script = opened
+        array.read_all()
+    script.run(geosvm, "--new", path)
+    opened.run(geosvm, path)
+    return f"{sum(sum(map(len, array.elements)) for array in arrays)} bytes in {len(arrays)} large arrays"
+
+
+def all_handles(geosvm, geosdoc, path):
+    """A large array that has each handle: nothing is put in where that takes one more, and all of it is set, and deleted at once."""
+    branches, script = MOST_BLOCKS - 1, Script()
+    script.ask("newraw 7 0", "block 0001")
+    for b in range(2, MOST_BLOCKS + 1):
+        script.ask("newraw 0 0", f"block {b:04x}")
+        script.ask(f"attach {b:04x} {branch_bytes(1, bytes([b % 256])).hex()}")
+    root = Root(1, (1,) * branches, tuple(range(2, MOST_BLOCKS + 1)))
+    script.ask(f"attach 0001 {root_bytes(root).hex()}")
+    script.ask("save")
+    script.ask("forget 0")
+    was = "bytes " + bytes(b % 256 for b in range(2, MOST_BLOCKS + 1)).hex()
+    full = "61" * ROOM
+    script.ask("hcreate 7 1", "no 10 NoHandles")
+    script.ask(f"hinsert 0001 {branches} {full}", "no 10 NoHandles")
+    script.ask(f"hread 0001 0 {branches}", was)
+    # The two neighbours of the one that goes become one, so that two handles are free.
+    script.ask("hdelete 0001 4000 1")
+    for number, reply in enumerate(["ok", "ok", "no 10 NoHandles"]):
+        script.ask(f"hinsert 0001 {branches - 1 + number * ROOM} {full}", reply)
+    script.ask("hcount 0001", f"number {branches - 1 + 2 * ROOM}")
+    for _ in range(3):
+        script.ask("undo")
+    script.ask(f"hread 0001 0 {branches}", was)
+    script.ask(f"hset 0001 0 {'62' * branches}")
+    script.ask(f"hread 0001 0 {branches}", "bytes " + "62" * branches)
+    script.ask(f"hdelete 0001 0 {branches}")
+    script.ask("list", "blocks 0001 0002")
+    script.ask("undo")
+    script.ask("undo")
+    script.ask(f"hread 0001 0 {branches}", was)
+    script.run(geosvm, "--new", path)
+    return f"{branches} branches"
+
+
+def largest_array(geosvm, geosdoc, path):
+    """A large array of as many bytes as there can be, each branch full. It is emptied at once, and given back."""
+    branches, rest = MOST_BLOCKS - 1, "62" * (ROOM - 4)
+    total = branches * ROOM
+
+    def lines():
+        yield "hcreate 7 1", "block 0001"
+        for number in range(branches):
+            yield f"hinsert 0001 {number * ROOM} {word(number)}{rest}", "ok"
+        yield f"hinsert 0001 {total} 61", "no 10 NoHandles"
+        for turn in ("save", f"hdelete 0001 0 {total}", "undo"):
+            yield turn, "ok"
+            yield "hcount 0001", f"number {0 if turn[0] == 'h' else total}"
+            if turn[0] != "h":
+                yield f"hget 0001 {total - 1}", "bytes 62"
+                yield f"hget 0001 {total}", "no 13 NoElement"
+                for number in range(0, branches, 90):
+                    yield f"hread 0001 {number * ROOM} 5", f"bytes {word(number)}62"
+                yield f"hread 0001 {total - BLOCK_BYTES} {BLOCK_BYTES}", f"bytes {'62' * 10}{word(branches - 1)}{rest}"
+    most = memory_of([geosvm, "--new", "--undo", "1", path], lines())
+    return f"{total} bytes, in {most} kB of memory"
+
+
+TRIED = {it.__name__: it for it in (many_commits, many_steps, limited_steps, joined_steps, large_groups, large_file, long_replies,
+                                    large_arrays, all_handles, largest_array)}
+LONG_ALONE = ["largest_array"]
 
 
 def main():
     geosvm, geosdoc, *names = [word for word in sys.argv[1:] if word != "--long"]
     geosvm, geosdoc = map(os.path.abspath, (geosvm, geosdoc))
     passed = failed = 0
-    for name in names or TRIED:
+    for name in names or [name for name in TRIED if "--long" in sys.argv or name not in LONG_ALONE]:
         began = time.monotonic()
         with tempfile.TemporaryDirectory() as folder:
             try:

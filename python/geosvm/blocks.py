@@ -13,6 +13,7 @@ from .library import as_bytes
 if TYPE_CHECKING:
     from .arrays import Array, ElementArray, NameArray
     from .document import Document
+    from .large_arrays import LargeArray
 
 Data = Union[bytes, bytearray, memoryview]
 B = TypeVar("B", bound="Block")
@@ -188,6 +189,11 @@ class Raw(Block, Text):
     def chain(self) -> Chain:
         """The chain that begins at this block."""
         return Chain(self.document, *self._handles)
+
+    def as_large_array(self) -> LargeArray:
+        """The large array of which it is the root; what is none is NotArray when it is asked."""
+        from .large_arrays import LargeArray
+        return LargeArray(self.document, *self._handles)
 
 
 class Chain(Part):
