@@ -1,12 +1,12 @@
 -- Elements that are to be lent, by what is found of their root and of their branch.
-use Rattle.std.proofs.Common.{◌≡◌, ◌≢◌, ◌⊎◌, ℕ, suc, ◌+◌, ◌-◌, ◌*◌, ◌<◌, ◌≤◌, nat_le, nat_lt, Bool, true, false, not, cond, ◌==◌, ◌&&◌, ◌||◌, List, [], ◌∷◌, ◌++◌, length, take, drop, map, get_or, replicate, Option, Some, None, unwrap_or, is_none, Result, Ok, Err, IfOk, IfErr, MatchResult, refl, sym, ap, ◌∙◌, inl, inr, arith, length-drop, lt-ltb, ltb-true, ltb-false, leb-true, leb-false}
+use Rattle.std.proofs.Common.{◌≡◌, ◌≢◌, ◌⊎◌, ℕ, suc, ◌+◌, ◌-◌, ◌*◌, ◌<◌, ◌≤◌, nat_le, nat_lt, Bool, true, false, not, cond, ◌==◌, ◌&&◌, ◌||◌, List, [], ◌∷◌, ◌++◌, length, take, drop, get_or, replicate, Option, Some, None, unwrap_or, is_none, Result, Ok, Err, IfOk, IfErr, MatchResult, refl, sym, ap, ◌∙◌, inl, inr, arith, length-drop, lt-ltb, ltb-true, ltb-false, leb-true, leb-false}
 use Rattle.std.proofs.Math.Seq.{drop-cons}
 use Rattle.std.proofs.lemmas.Bool.{and_parts, cases_Bool, ne_eqb, true≢false}
-use Rattle.std.proofs.lemmas.List.{drop-append-le, drop-drop, get_or-map, get_or_past, take_at}
+use Rattle.std.proofs.lemmas.List.{drop-append-le, drop-drop, get_or-map, get_or_past, take_all, take_at}
 use Rattle.std.proofs.lemmas.Result.{IfErr-weaker, MatchResult-weaker}
 use Rattle.std.specs.List.{list_all}
 use Rattle.std.specs.Result.{IsErrAnd}
-use Rattle.geos_model.specs.Array.{Array}
+use Rattle.geos_model.specs.Array.{Array, array_bytes}
 use Rattle.geos_model.specs.Document.{Document, is_live, is_raw, raw_bytes_of}
 use Rattle.geos_model.specs.Heap.{capacity}
 use Rattle.geos_model.specs.LargeBlocks.{root_at, branch_at, pieces_at}
@@ -29,12 +29,10 @@ use Rattle.vm_blocks.specs.Kinds.{IsWrongBlock}
 use Rattle.vm_blocks.proofs.KeepingLaws.{keeps-refl}
 use Rattle.vm_chains.specs.Walking.{Stops}
 use Rattle.chunk_arrays.specs.Reading.{element_place}
-use Rattle.chunk_arrays.proofs.PlaceLemmas.{drop-place}
+use Rattle.chunk_arrays.proofs.PlaceLemmas.{place-end, run-is}
 use Rattle.large_arrays.specs.BranchReading.{IsPlain}
-use Rattle.large_arrays.specs.LargeLookUps.{IsElementSpot}
 use Rattle.large_arrays.specs.LargeRuns.{IsRunRefusal}
 use Rattle.large_arrays.specs.Loading.{branch_under}
-use Rattle.large_arrays.specs.declared.look_ups.ElementSpot.{ElementSpot}
 use Rattle.large_arrays.proofs.ElementAnswers.{get-dead, get-found, get-none, get-same}
 use Rattle.large_arrays.proofs.LoadedBranches.{branch-array, under-raw}
 use Rattle.large_arrays.proofs.PlaceSums.{start-drop, start-within}
@@ -50,21 +48,24 @@ use Rattle.doc_edits.proofs.LargeLookUps.{run_why}
 use Rattle.doc_edits.proofs.Refusals.{accepted_so, handed_on}
 use Rattle.doc_edits.proofs.RoomLemmas.{begun_refused, early_of_chain, never_unseen, unseen_first}
 
--- the bytes of a branch from an element on
-pub lent_bytes : (d : Document) (h size count : ℕ) (a : Array) → size < 65536 → branch_under d h size count ≡ Some a.elements → IsPlain a size count → (i : ℕ)
+-- The bytes from an element on: of an array, and of a branch.
+
+from_place : (a : Array) (i : ℕ) → i ≤ length a.elements → drop (element_place a i) (array_bytes a) ≡ joined (drop i a.elements)
+from_place a i low =
+    let n : ℕ = element_place a (length a.elements) - element_place a i in
+    let end = place-end a in
+    let cut = length-drop (element_place a i) (array_bytes a) in
+    let left = length-drop i a.elements in
+    sym (take_all n (drop (element_place a i) (array_bytes a)) (omega (arith, end, cut)))
+    ∙ run-is a i (length a.elements) low
+    ∙ ap joined (take_all (length a.elements - i) (drop i a.elements) (omega (arith, left)))
+
+pub lent_bytes : (d : Document) (h size count : ℕ) (a : Array) → size < 65536 → branch_under d h size count ≡ Some a.elements → IsPlain a size count → (i : ℕ) → i ≤ length a.elements
     → drop (2 + element_place a i) (raw_bytes_of d h) ≡ joined (drop i a.elements)
-lent_bytes d h size count a small found plain i =
+lent_bytes d h size count a small found plain i low =
     sym (drop-drop (element_place a i) 2 (raw_bytes_of d h))
     ∙ ap (drop (element_place a i)) (branch-array size count (raw_bytes_of d h) a small (under-raw d h size count a.elements found).1 plain).0
-    ∙ drop-place a i
-
--- the spot as one of which an element is looked up
-
-abbrev pub as_element : LentSpot → ElementSpot
-as_element s = record { size = s.size; link = s.link; before = s.before }
-
-spot_element : (r : Root) (i : ℕ) (s : LentSpot) → IsLentSpot r i s → IsElementSpot r i (as_element s)
-spot_element r i s is = record { there = is.there; size = is.size; handle = is.handle; count = is.count; before = is.before }
+    ∙ from_place a i low
 
 not_or : (p : Bool) → not (p || false) ≡ not p
 not_or true = refl
@@ -125,18 +126,18 @@ module _ (d : Document) (b i : ℕ) (raw : is_raw d b ≡ true) (is : root_of (r
       ∙ sym (of_get (is_live d b) (is_raw d b) none over (not over && not are))
 
   pub lent-same : s.link.handle.0 ≡ b → first_refusal (read_large_conditions d b i 1) ≡ Some BadChain
-  lent-same same = read_is_get ∙ get-same d b i raw is (as_element s) (spot_element r i s spot) same
+  lent-same same = read_is_get ∙ get-same d b i raw is (record { size = s.size; link = s.link; before = s.before }) (record { there = spot.there; size = spot.size; handle = spot.handle; count = spot.count; before = spot.before }) same
 
   pub lent-none : branch_under d s.link.handle.0 s.size s.link.count ≡ None → first_refusal (read_large_conditions d b i 1) ≡ Some BadChain
-  lent-none missing = read_is_get ∙ get-none d b i raw is (as_element s) (spot_element r i s spot) missing
+  lent-none missing = read_is_get ∙ get-none d b i raw is (record { size = s.size; link = s.link; before = s.before }) (record { there = spot.there; size = spot.size; handle = spot.handle; count = spot.count; before = spot.before }) missing
 
   pub lent-dead : is_raw d s.link.handle.0 ≡ false → first_refusal (read_large_conditions d b i 1) ≡ Some BadChain
-  lent-dead dead = read_is_get ∙ get-dead d b i raw is (as_element s) (spot_element r i s spot) dead
+  lent-dead dead = read_is_get ∙ get-dead d b i raw is (record { size = s.size; link = s.link; before = s.before }) (record { there = spot.there; size = spot.size; handle = spot.handle; count = spot.count; before = spot.before }) dead
 
   -- its branch is one
   module _ (elements : BranchPiece) (found : branch_under d s.link.handle.0 s.size s.link.count ≡ Some elements) where
     pub lent-found : s.link.handle.0 ≢ b → first_refusal (read_large_conditions d b i 1) ≡ None
-    lent-found other = read_is_get ∙ get-found d b i raw is (as_element s) (spot_element r i s spot) other elements found
+    lent-found other = read_is_get ∙ get-found d b i raw is (record { size = s.size; link = s.link; before = s.before }) (record { there = spot.there; size = spot.size; handle = spot.handle; count = spot.count; before = spot.before }) other elements found
 
     -- there is a branch at the place
     lies : k < length r.counts

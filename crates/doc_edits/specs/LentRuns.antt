@@ -1,5 +1,5 @@
 -- Elements of one size of a large array, lent where they lie in the block of a branch.
-use Rattle.std.specs.Prelude.{◌≡◌, ◌≤◌, ◌<◌, ◌⊎◌, ◌∷◌, ◌-◌, ℕ, [], true, false, length, drop, get_or, None, Some, Result, IfOk, IfErr, MatchResult}
+use Rattle.std.specs.Prelude.{◌≡◌, ◌≤◌, ◌<◌, ◌⊎◌, ◌∷◌, ◌-◌, ℕ, List, [], Bool, true, false, length, drop, get_or, None, Some, Result, IfOk, IfErr, MatchResult}
 use Rattle.std.specs.List.{flat_map}
 use Rattle.std.specs.Result.{IsErrAnd}
 use Rattle.geos_model.specs.Document.{Document, is_raw, raw_bytes_of}

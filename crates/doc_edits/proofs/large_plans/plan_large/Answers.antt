@@ -19,7 +19,7 @@ returns-in_err-test_chain g c =
 
 pub returns-in-Insert : goal.returns-in-Insert
 returns-in-Insert g c =
-    let edit : LargeEdit = large_edits.Insert c.in-Insert.i c.in-Insert.bytes.now in
+    let edit : LargeEdit = large_edits.Insert c.in-Insert.i c.in-Insert.bytes in
     let seen = never_unseen c.args.root.0 (conditions (large_edit c.args.root edit)) (large_begins c.args.root edit) c.args.blocks.now.document c.in_ok-test_chain.ensures.raw in
     let a = c.args.blocks.now in let b = c.plan_insertion.new.blocks in let r = c.plan_insertion.result in let did = c.plan_insertion.ensures in
     rw c.in-Insert.is (large_planned g.S.Store.facts (edits.InsertLarge c.args.root c.in-Insert.i c.in-Insert.bytes.now) a b (inserted_blocks b.document c.args.root.0 c.in-Insert.i.0 c.in-Insert.bytes.now) c.in_ok-test_chain.ensures.value seen did.keeps r did.value did.listed
@@ -27,7 +27,7 @@ returns-in-Insert g c =
 
 pub returns-in-Set : goal.returns-in-Set
 returns-in-Set g c =
-    let edit : LargeEdit = large_edits.Set c.in-Set.i c.in-Set.bytes.now in
+    let edit : LargeEdit = large_edits.Set c.in-Set.i c.in-Set.bytes in
     let seen = never_unseen c.args.root.0 (conditions (large_edit c.args.root edit)) (large_begins c.args.root edit) c.args.blocks.now.document c.in_ok-test_chain.ensures.raw in
     let a = c.args.blocks.now in let b = c.plan_setting.new.blocks in let r = c.plan_setting.result in let did = c.plan_setting.ensures in
     rw c.in-Set.is (large_planned g.S.Store.facts (edits.SetLarge c.args.root c.in-Set.i c.in-Set.bytes.now) a b (set_blocks b.document c.args.root.0 c.in-Set.i.0 c.in-Set.bytes.now) c.in_ok-test_chain.ensures.value seen did.keeps r did.value did.listed

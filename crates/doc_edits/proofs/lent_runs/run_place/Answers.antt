@@ -16,12 +16,13 @@ overflow_add-result g c =
 pub returns-clause-value : goal.returns-clause-value
 returns-clause-value g c =
     let a = c.in_ok-view.view.array in let e = c.in_ok-view.ensures {u = tt} in let s = c.args.spot.now in let d = c.args.blocks.now.document in
+    let there = c.requires.there in let many = e.plain.1 in let from = c.from.ensures in
     record {
       block = refl;
       elements = a.elements;
       branch = subst (λ (n : ℕ). branch_under d s.link.handle.0 s.size n ≡ Some a.elements) c.from.ensures e.value;
       bytes = ap (λ (n : ℕ). drop (2 + n) (raw_bytes_of d s.link.handle.0)) c.place.ensures.place
-          ∙ lent_bytes d s.link.handle.0 s.size c.from.result a c.requires.size e.value e.plain s.before;
+          ∙ lent_bytes d s.link.handle.0 s.size c.from.result a c.requires.size e.value e.plain s.before (omega (arith, there, many, from));
     }
 
 pub returns-clause-ready : goal.returns-clause-ready
