@@ -23,6 +23,6 @@ mod raw_plans;
 mod room;
 
 pub use large_plans::plan_large;
-pub use lent_runs::{RunPlace, prepare_run};
+pub use lent_runs::prepare_run;
 pub use marking::mark_edited;
 pub use planning::plan;

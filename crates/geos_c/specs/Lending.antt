@@ -10,8 +10,8 @@ use Rattle.geos_model.specs.declared.command.Command.{Command}
 use Rattle.geos_model.specs.declared.fault.Fault.{Fault}
 use Rattle.geos_model.specs.declared.fault.Fault.TheVariants.{NotLocked}
 use Rattle.vm_store.specs.Facts.{StoreFacts}
-use Rattle.doc_edits.specs.LentRuns.{run_bytes}
-use Rattle.doc_edits.specs.declared.lent_runs.RunPlace.{RunPlace}
+use Rattle.large_arrays.specs.LentRuns.{run_bytes}
+use Rattle.large_arrays.specs.declared.lent_runs.RunPlace.{RunPlace}
 use Rattle.undo_log.specs.LockedRuns.{LocksRun}
 use Rattle.undo_log.specs.Sessions.{SessionState, machine_of}
 use Rattle.c_sessions.specs.Codes.{code_of}

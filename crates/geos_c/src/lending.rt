@@ -7,12 +7,12 @@ ghost use Rattle.geos_model.specs.Reply.{BytesAre, reply_by};
 ghost use Rattle.geos_model.specs.declared.command.Command.TheVariants as commands;
 ghost use Rattle.geos_c.specs.Calls.{chunk_handle, vm};
 ghost use Rattle.c_sessions.specs.Codes.{ReportsAnswer};
-ghost use Rattle.doc_edits.specs.LentRuns.{run_bytes};
+ghost use Rattle.large_arrays.specs.LentRuns.{run_bytes};
 ghost use Rattle.undo_log.specs.Sessions.{machine_of};
 ghost use Rattle.geos_c.specs.Lending.{HandsOutPlace, IsLent, Lends, LendsRun};
 
-use doc_edits::RunPlace;
 use geos_model::{ChunkHandle, Fault, VmHandle};
+use large_arrays::RunPlace;
 use std::ptr::null;
 use undo_log::Session;
 use vm_store::Store;

@@ -50,3 +50,4 @@ pub mod OverwritingSteps
 pub mod OverwritingAnswers
 pub mod WithinPieces
 pub mod WithinWindows
+pub mod LentRuns

@@ -19,3 +19,4 @@ pub mod EditPlans
 pub mod Replacements
 pub mod OverwritingPlans
 pub mod Within
+pub mod LentRuns

@@ -11,6 +11,7 @@ mod gathering;
 mod handles;
 mod joining;
 mod law;
+mod lent_runs;
 mod loading;
 mod look_ups;
 mod middle;
@@ -33,6 +34,7 @@ pub use law::{
     few_change_law, large_edits_law, large_places_law, large_stays_law, large_validity_law,
     local_law, spread_law,
 };
+pub use lent_runs::{RunPlace, find_run};
 pub use loading::{load_branch, load_root, loaded_branch, loaded_root};
 pub use look_ups::{ElementPlace, count, element, prepare_element};
 pub use middle::{Middle, middle_of};

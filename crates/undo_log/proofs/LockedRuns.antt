@@ -19,8 +19,9 @@ use Rattle.vm_blocks.specs.State.{CacheState, KeepsDocument, locks_of}
 use Rattle.vm_blocks.specs.Keeping.{KeepsBlocks, IsEnvironmentFault, is_full, is_loaded}
 use Rattle.vm_blocks.specs.Locking.{CantLock, GainsLock}
 use Rattle.vm_blocks.proofs.KeepingLaws.{honest-steady, keeps-full, keeps-locks, keeps-same, keeps-shut, keeps-stays, keeps-trans, keeps-unless_corrupt, lacks-later, loaded-live, open-shut}
-use Rattle.doc_edits.specs.LentRuns.{FindsRun, IsRunPlace, element_branch}
-use Rattle.doc_edits.specs.declared.lent_runs.RunPlace.{RunPlace}
+use Rattle.doc_edits.specs.LentRuns.{FindsRun}
+use Rattle.large_arrays.specs.LentRuns.{IsRunPlace, element_branch}
+use Rattle.large_arrays.specs.declared.lent_runs.RunPlace.{RunPlace}
 use Rattle.undo_log.specs.LockedRuns.{HasLockedRun, LocksRun}
 use Rattle.undo_log.specs.Logging.{Log}
 use Rattle.undo_log.specs.Sessions.{SessionState, cache_of, machine_of}

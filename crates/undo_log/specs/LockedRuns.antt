@@ -14,9 +14,10 @@ use Rattle.vm_store.specs.Facts.{StoreFacts}
 use Rattle.vm_blocks.specs.State.{locks_of}
 use Rattle.vm_blocks.specs.Keeping.{IsEnvironmentFault, is_full}
 use Rattle.vm_blocks.specs.Locking.{GainsLock}
-use Rattle.doc_edits.specs.LentRuns.{IsRunFault, IsRunPlace, element_branch}
+use Rattle.doc_edits.specs.LentRuns.{IsRunFault}
+use Rattle.large_arrays.specs.LentRuns.{IsRunPlace, element_branch}
 use Rattle.doc_edits.specs.Room.{IsRefusedUnseen}
-use Rattle.doc_edits.specs.declared.lent_runs.RunPlace.{RunPlace}
+use Rattle.large_arrays.specs.declared.lent_runs.RunPlace.{RunPlace}
 use Rattle.undo_log.specs.Sessions.{SessionState, IsStep, KeepsSession, cache_of, machine_of}
 
 -- The block of this place was locked once more, which is a step of the machine as any lock is. Its bytes are lent, and

@@ -2,8 +2,9 @@
 ghost use Rattle.undo_log.specs.LockedRuns.{LocksRun};
 
 use super::Session;
-use doc_edits::{RunPlace, prepare_run};
+use doc_edits::prepare_run;
 use geos_model::{Fault, VmHandle};
+use large_arrays::RunPlace;
 use vm_store::Store;
 
 impl<S: Store> Session<S> {

@@ -8,9 +8,9 @@ use Rattle.vm_chains.proofs.Loading.{carried, carried_so, still_room}
 use Rattle.large_arrays.specs.LargeRuns.{IsRunRefused}
 use Rattle.large_arrays.proofs.ElementAnswers.{at-end, stops-end, stops-refusal}
 use Rattle.large_arrays.proofs.RunAnswers.{read-refused, root-before-run, run-refusal}
-use Rattle.doc_edits.specs.LentRuns.{IsLentSpot}
-use Rattle.doc_edits.proofs.LentRuns.{IsFoundLent, lent-before, lent-same, lent_answered, lent_missed, lent_refusals}
-use Rattle.doc_edits.proofs.lent_runs.find_run.Goals as goal
+use Rattle.large_arrays.specs.LentRuns.{IsLentSpot}
+use Rattle.large_arrays.proofs.LentRuns.{IsFoundLent, lent-before, lent-same, lent_answered, lent_missed, lent_refusals}
+use Rattle.large_arrays.proofs.lent_runs.find_run.Goals as goal
 
 pub returns-in_err-load_root-clause-value : goal.returns-in_err-load_root-clause-value
 returns-in_err-load_root-clause-value g c = λ steady.

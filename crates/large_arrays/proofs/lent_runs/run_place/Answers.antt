@@ -3,8 +3,8 @@ use Rattle.geos_model.specs.Document.{raw_bytes_of}
 use Rattle.chunk_arrays.proofs.PlaceLemmas.{place-within}
 use Rattle.large_arrays.specs.Loading.{branch_under}
 use Rattle.large_arrays.proofs.LoadedBranches.{placed-within}
-use Rattle.doc_edits.proofs.LentRuns.{lent_bytes}
-use Rattle.doc_edits.proofs.lent_runs.run_place.Goals as goal
+use Rattle.large_arrays.proofs.LentRuns.{lent_bytes}
+use Rattle.large_arrays.proofs.lent_runs.run_place.Goals as goal
 
 pub overflow_add-result : goal.overflow_add-result
 overflow_add-result g c =
