@@ -46,8 +46,13 @@ pub mod GoneBlocks
 pub mod PlannedRoots
 pub mod PlannedBlocks
 pub mod WrittenBranches
+pub mod WithinPatches
+pub mod WithinRoots
+pub mod WithinSpots
+pub mod WithinAnswers
 pub mod OverwritingSteps
 pub mod OverwritingAnswers
 pub mod WithinPieces
 pub mod WithinWindows
 pub mod LentRuns
+pub mod WithinEdits

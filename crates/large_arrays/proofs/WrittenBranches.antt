@@ -21,11 +21,11 @@ use Rattle.geos_model.proofs.PieceLists.{sized-append, sized_part}
 
 -- ---- a patch of three pieces
 
-peak-cons : (p : PatchPiece) (ps : List PatchPiece) → peak (p ∷ ps) ≡ max (taken p) (given p) + peak ps
+pub peak-cons : (p : PatchPiece) (ps : List PatchPiece) → peak (p ∷ ps) ≡ max (taken p) (given p) + peak ps
 peak-cons p ps = sum_by-cons (λ (q : PatchPiece). max (taken q) (given q)) p ps
 
 -- some bytes in the middle are others then
-middle-leads : (a b c x : List ℕ) → PatchLeads (Keep (length a) ∷ Put b x ∷ Keep (length c) ∷ []) (a ++ (b ++ c)) (a ++ (x ++ c))
+pub middle-leads : (a b c x : List ℕ) → PatchLeads (Keep (length a) ∷ Put b x ∷ Keep (length c) ∷ []) (a ++ (b ++ c)) (a ++ (x ++ c))
 middle-leads a b c x =
     let p : List PatchPiece = Put b x ∷ Keep (length c) ∷ [] in
     let q : List PatchPiece = Keep (length c) ∷ [] in

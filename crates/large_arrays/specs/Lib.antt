@@ -20,3 +20,4 @@ pub mod Replacements
 pub mod OverwritingPlans
 pub mod Within
 pub mod LentRuns
+pub mod WithinPlans

@@ -23,6 +23,7 @@ mod runs;
 mod spot;
 mod staying;
 mod window_plan;
+mod within;
 
 pub use bodies::copy_bodies;
 pub use changes::{plan_block, plan_body, plan_freeing, stacked};
