@@ -3,6 +3,7 @@
 ** one of them fail, or each from one on. failing_calls.py says by the environment which:
 **
 **   CALLS_TOLD      the file to which each call is told, on a line
+**   CALLS_BARE      where it is there, no bytes are told
 **   FAILING_CALL    which calls are counted: a name and what it is of, as "pwrite file" or "fsync folder"
 **   FAILING_NUMBER  which of these fails, from 1 on; none where it isn't there
 **   FAILING_HOW     the number of the error, or "short": no more than half of the bytes are moved
@@ -27,7 +28,7 @@ enum { TOLD_TO = 1000, MOST_BYTES = 1 << 18 };
 static int told_to = -1;
 static const char *failing, *how;
 static long failing_number, count;
-static int lasts;
+static int lasts, is_bare;
 
 __attribute__((constructor)) static void begin(void) {
   const char *path = getenv("CALLS_TOLD"), *number = getenv("FAILING_NUMBER");
@@ -37,6 +38,7 @@ __attribute__((constructor)) static void begin(void) {
     told_to = (int)syscall(SYS_fcntl, low, F_DUPFD_CLOEXEC, TOLD_TO);
     syscall(SYS_close, low);
   }
+  is_bare = getenv("CALLS_BARE") != NULL;
   failing = getenv("FAILING_CALL");
   how = getenv("FAILING_HOW");
   lasts = getenv("FAILING_LASTS") != NULL;
@@ -104,7 +106,7 @@ static ssize_t move(const char *call, long system, int number, void *bytes, size
   size_t asked = is_failing && is_short() && size > 1 ? size / 2 : size;
   ssize_t result = is_failing && !is_short() ? failed() : syscall(system, number, bytes, asked, at);
   int writes = system == SYS_write || system == SYS_pwrite64;
-  tell(call, kind, node, at, size, result, writes && result > 0 ? hex_of(bytes, (size_t)result) : "");
+  tell(call, kind, node, at, size, result, writes && result > 0 && !is_bare ? hex_of(bytes, (size_t)result) : "");
   return result;
 }
 

@@ -121,7 +121,7 @@ class Ran:
         self.calls = calls
 
 
-def run(library, folder, words, script, failing=None, number=0, how=errno.EIO, lasts=False):
+def run(library, folder, words, script, failing=None, number=0, how=errno.EIO, lasts=False, is_bare=False):
     told = os.path.join(folder, "..", "told")
     if os.path.exists(told):
         os.remove(told)
@@ -130,7 +130,8 @@ def run(library, folder, words, script, failing=None, number=0, how=errno.EIO, l
         environment |= {"FAILING_CALL": failing, "FAILING_NUMBER": str(number), "FAILING_HOW": str(how)}
     if lasts:
         environment["FAILING_LASTS"] = "yes"
-
+    if is_bare:
+        environment["CALLS_BARE"] = "yes"
     done = subprocess.run(words, cwd=folder, input=script.encode(), stdout=subprocess.PIPE, stderr=subprocess.PIPE,
                           env=environment, timeout=60)
     with open(told) as lines:
@@ -324,6 +325,8 @@ class Scenario:
         self.name, self.words, self.script, self.file, self.target, self.makes = name, words, script, file, target, makes
         self.opens, self.kind = opens, kind
         self.gives_checksums = "--checksums" in words
+        # Where documents are large each call fails in one way alone, and stops are looked at only where nothing fails.
+        self.is_large = kind is not Session
         self.files = None
         self.shutting = set()
 
@@ -522,19 +525,18 @@ def try_scenario(checks, library, geosvm, program, scenario, room, has_streams=T
         # What is told where standard error fails can't be looked at. What a C program does on its streams is its own.
         if kind == "errors" or name == "lseek" or not has_streams and kind in ("input", "output"):
             continue
-        for how, lasts in hows_of(name):
+        for how, lasts in [(errno.EIO, False)] if scenario.is_large else hows_of(name):
             wrong = []
             for number in range(1, most + 1):
                 files = scenario.prepare(geosvm, folder)
                 machine = Machine(folder)
-                ran = run(library, folder, words, scenario.script, f"{name} {kind}", number, how, lasts)
+                ran = run(library, folder, words, scenario.script, f"{name} {kind}", number, how, lasts, scenario.is_large)
                 call = [call for call in ran.calls if (call.name, call.kind) == (name, kind)][number - 1]
                 # Behind a sync that failed every further one of the file fails.
                 last = most if lasts or name == "fsync" else number
                 wanted = scenario.fails_as(call, how, number, last, notes_files=has_streams)
                 found = judge(scenario, folder, files, ran, wanted, before, target_before)
-                # Stops are looked at beside what fails where documents are small alone.
-                if not found and scenario.kind is Session:
+                if not found and not scenario.is_large:
                     found = judge_stops(scenario, folder, files, ran, machine, before)
                 if found:
                     wrong.append(f"number {number}: {found}")
