@@ -1,9 +1,8 @@
 -- A block of a large array is found, and locked so that elements of it are lent.
-use Rattle.std.proofs.Common.{◌≡◌, ◌≢◌, ◌⊎◌, ◌∷◌, ◌≤◌, ◌<◌, ◌+◌, ◌==◌, ◌&&◌, ℕ, Bool, true, false, not, map, length, Some, Result, Ok, Err, IsOk, IfErr, OnErr, inl, inr, refl, sym, ap, subst, ◌∙◌, arith}
-use Rattle.std.specs.Prelude.{IsTrue}
+use Rattle.std.proofs.Common.{◌≡◌, ◌⊎◌, ◌∷◌, ◌≤◌, ◌<◌, ◌+◌, ◌&&◌, ℕ, Bool, true, not, map, length, Some, Result, Ok, Err, inl, inr, refl, sym, ap, subst, ◌∙◌, arith}
 use Rattle.std.specs.Result.{IsErrAnd}
 use Rattle.std.proofs.lemmas.Bool.{cases_eq, cond-true, ne_eqb, true≢false}
-use Rattle.geos_model.specs.Document.{Document, is_live, is_raw, raw_bytes_of}
+use Rattle.geos_model.specs.Document.{Document, is_raw, raw_bytes_of}
 use Rattle.geos_model.specs.ElementArray.{all_distinct}
 use Rattle.geos_model.specs.LargeBlocks.{root_at}
 use Rattle.geos_model.specs.Machine.{is_locked, locked_raw}
@@ -22,9 +21,9 @@ use Rattle.vm_blocks.proofs.KeepingLaws.{honest-steady, keeps-full, keeps-locks,
 use Rattle.doc_edits.specs.LentRuns.{FindsRun}
 use Rattle.large_arrays.specs.LentRuns.{IsRunPlace, element_branch}
 use Rattle.large_arrays.specs.declared.lent_runs.RunPlace.{RunPlace}
-use Rattle.undo_log.specs.LockedRuns.{HasLockedRun, LocksRun}
+use Rattle.undo_log.specs.LockedRuns.{LocksRun}
 use Rattle.undo_log.specs.Logging.{Log}
-use Rattle.undo_log.specs.Sessions.{SessionState, cache_of, machine_of}
+use Rattle.undo_log.specs.Sessions.{SessionState, machine_of}
 use Rattle.undo_log.proofs.Locking.{lock_is}
 use Rattle.undo_log.proofs.Locks.{is_locked-is}
 use Rattle.undo_log.proofs.LookUps.{same_session, session_with}
@@ -56,7 +55,7 @@ module _ {S : Type 0} (facts : S → StoreFacts) (a m : CacheState S) (log : Log
         → IsEnvironmentFault facts a.disk.store e.disk.store fault ⊎ ((fault ≡ LockLimit) × (locks_of m.resident h ≡ 255))
     unlocked fault (inl lacks) = inl (lacks-later facts a m e.disk.store fault found.keeps lacks)
     unlocked fault (inr (inl dead)) = absurd (true≢false (sym (loaded-live m h found.ready.loaded) ∙ dead.1))
-    unlocked fault (inr (inr (inl most))) = inr (most.0, most.1.1)
+    unlocked fault (inr (inr (inl most))) = inr (most.0, most.2)
     unlocked fault (inr (inr (inr full))) = absurd (true≢false (sym full.1.1 ∙ open-shut m h (keeps-full facts a m found.keeps ∙ found.room)))
 
     pub run_unlocked : (fault : Fault) → KeepsBlocks facts m e → IsEnvironmentFault facts m.disk.store e.disk.store fault ⊎ CantLock m h fault
@@ -83,7 +82,7 @@ module _ {S : Type 0} (facts : S → StoreFacts) (a m : CacheState S) (log : Log
     -- what keeps it from being locked did so before it was found
     cant_later : (fault : Fault) → CantLock a h fault → CantLock m h fault
     cant_later fault (inl dead) = inl (dead.0, (keeps-unless_corrupt facts a m found.keeps).live h ∙ dead.1)
-    cant_later fault (inr (inl most)) = inr (inl (most.0, (keeps-unless_corrupt facts a m found.keeps).live h ∙ most.1.0, (keeps-locks facts a m found.keeps).each h ∙ most.1.1))
+    cant_later fault (inr (inl most)) = inr (inl (most.0, (keeps-unless_corrupt facts a m found.keeps).live h ∙ most.1, (keeps-locks facts a m found.keeps).each h ∙ most.2))
     cant_later fault (inr (inr full)) = inr (inr ((keeps-unless_corrupt facts a m found.keeps).live h ∙ full.0, (full.1.0, keeps-shut facts a m found.keeps h ∙ full.1.1)))
 
     stays_later : KeepsDocument facts m e → KeepsDocument facts a e
