@@ -1,5 +1,5 @@
 -- What is answered of an edit that stays within one branch.
-use Rattle.std.proofs.Common.{◌≡◌, ◌≢◌, ◌⊎◌, ℕ, ◌+◌, ◌-◌, ◌<◌, ◌≤◌, ◌==◌, ◌&&◌, true, false, List, [], ◌∷◌, ◌++◌, length, take, drop, map, get_or, None, Some, is_some, refl, sym, ap, ap₂, subst, ◌∙◌, inl, inr, arith, append_assoc, eqb-true}
+use Rattle.std.proofs.Common.{◌≡◌, ◌≢◌, ℕ, ◌<◌, ◌≤◌, ◌==◌, true, false, List, [], ◌∷◌, ◌++◌, length, take, drop, get_or, None, Some, is_some, refl, sym, ap, subst, ◌∙◌, inl, inr, arith, append_assoc, eqb-true}
 use Rattle.std.proofs.lemmas.Bool.{cases_Bool, and_parts, and_from, true≢false}
 use Rattle.std.specs.List.{Contains, list_all, splice}
 use Rattle.geos_model.specs.Document.{Document, is_live, is_raw, raw_bytes_of}
@@ -9,7 +9,6 @@ use Rattle.geos_model.specs.Pieces.{BranchPiece}
 use Rattle.geos_model.specs.LargeBlocks.{root_at, branch_at, pieces_at}
 use Rattle.geos_model.specs.LargeLayout.{Root, root_of, root_bytes, branch_bytes}
 use Rattle.geos_model.specs.LargeWindow.{are_branches}
-use Rattle.geos_model.specs.Spread.{first_place, end_place}
 use Rattle.geos_model.proofs.BlockLists.{distinct-first}
 use Rattle.geos_model.proofs.BranchBytes.{branch_of-is}
 use Rattle.geos_model.proofs.Chains.{contains_cases, contains_first}
@@ -22,8 +21,7 @@ use Rattle.vm_blocks.specs.declared.change.Change.{Change}
 use Rattle.large_arrays.specs.ChangePlans.{ArePlanned, ArePlannedByHandle, IsUntouched}
 use Rattle.large_arrays.specs.Loading.{branch_under}
 use Rattle.large_bodies.specs.SizedElements.{SizedElements}
-use Rattle.large_arrays.specs.Spots.{IsSpot}
-use Rattle.large_arrays.specs.Within.{place_within, root_within, piece_within, bodies_within}
+use Rattle.large_arrays.specs.Within.{place_within, root_within, piece_within}
 use Rattle.large_arrays.specs.WithinPlans.{IsBranchEdit, IsPlannedWithin, PatchesBranch}
 use Rattle.large_arrays.specs.declared.within.BranchEdit.{BranchEdit}
 use Rattle.large_arrays.proofs.LoadedBranches.{under-raw}

@@ -1,5 +1,5 @@
 -- The patch of a branch that an edit stays within.
-use Rattle.std.proofs.Common.{◌≡◌, ℕ, ◌+◌, ◌-◌, ◌*◌, ◌≤◌, ◌==◌, ◌||◌, ◌&&◌, nat_lt, max, Bool, true, false, List, [], ◌∷◌, ◌++◌, length, take, drop, refl, sym, ap, ap₂, subst, ◌∙◌, arith, append_assoc, length-append, length-drop, take_at, drop_at, mul-le-mul_right}
+use Rattle.std.proofs.Common.{◌≡◌, ℕ, ◌+◌, ◌-◌, ◌*◌, ◌≤◌, ◌==◌, ◌||◌, nat_lt, Bool, true, false, List, [], ◌∷◌, ◌++◌, length, take, drop, refl, sym, ap, ap₂, subst, ◌∙◌, arith, append_assoc, length-append, length-drop, take_at, drop_at, mul-le-mul_right}
 use Rattle.std.proofs.lemmas.Bool.{and_parts, and_from, cond-false}
 use Rattle.std.proofs.lemmas.Grind.{flat_map-append}
 use Rattle.std.proofs.lemmas.List.{length-take-le, take-append-drop, drop-drop}
@@ -8,7 +8,7 @@ use Rattle.geos_model.specs.Array.{Array, array_bytes, is_even}
 use Rattle.geos_model.specs.Heap.{capacity}
 use Rattle.geos_model.specs.Words.{word}
 use Rattle.geos_model.proofs.Arrays.{joined, head_of, table-even, length-array_bytes, length-joined}
-use Rattle.chunk_edits.specs.Patching.{PatchPiece, Keep, Put, taken, given, peak, patched, ArePiecesOf, PatchLeads}
+use Rattle.chunk_edits.specs.Patching.{PatchPiece, Keep, Put, patched, ArePiecesOf, PatchLeads}
 use Rattle.chunk_arrays.specs.Reading.{element_place, elements_start}
 use Rattle.chunk_arrays.proofs.PlaceLemmas.{bytes-front}
 use Rattle.geos_model.specs.Pieces.{BranchPiece, branch_room}
@@ -17,7 +17,7 @@ use Rattle.geos_model.proofs.BranchBytes.{array_of_piece, is_sized, length-branc
 use Rattle.geos_model.proofs.PieceLists.{sized-append, sized_part}
 use Rattle.large_bodies.specs.BranchReading.{IsPlain}
 use Rattle.large_bodies.specs.SizedElements.{have_size}
-use Rattle.large_arrays.proofs.WrittenBranches.{branch-long, middle-leads, peak-cons, plain-is}
+use Rattle.large_arrays.proofs.WrittenBranches.{middle-leads, peak-cons, plain-is}
 
 -- Pieces before others.
 

@@ -1,5 +1,5 @@
 -- The patch of a root of which one branch gets other elements.
-use Rattle.std.proofs.Common.{◌≡◌, ℕ, suc, ◌+◌, ◌-◌, ◌*◌, ◌<◌, ◌≤◌, max, List, [], ◌∷◌, ◌++◌, length, take, drop, get_or, sum_by, flat_map, refl, sym, ap, ap₂, subst, ◌∙◌, arith, append_assoc, length-append, length-drop}
+use Rattle.std.proofs.Common.{◌≡◌, ℕ, suc, ◌+◌, ◌-◌, ◌*◌, ◌<◌, ◌≤◌, List, [], ◌∷◌, ◌++◌, length, take, drop, get_or, sum_by, refl, sym, ap, subst, ◌∙◌, arith, append_assoc, length-append, length-drop}
 use Rattle.std.proofs.lemmas.Grind.{flat_map-append}
 use Rattle.std.proofs.lemmas.List.{length-take-le, take-append-drop, drop_more}
 use Rattle.std.proofs.lemmas.List.Sums.{sum_by-append, sum_by-cons}
@@ -10,7 +10,7 @@ use Rattle.geos_model.specs.Words.{word, double_word}
 use Rattle.geos_model.specs.LargeLayout.{Root, large_mark, root_bytes, total_count}
 use Rattle.geos_model.proofs.Arrays.{length-words}
 use Rattle.geos_model.proofs.RootBytes.{length-links, root_bytes-spelled}
-use Rattle.chunk_edits.specs.Patching.{PatchPiece, Keep, Put, taken, given, peak, PatchLeads}
+use Rattle.chunk_edits.specs.Patching.{PatchPiece, Keep, Put, peak, PatchLeads}
 use Rattle.large_bodies.specs.RootEdits.{count_bytes, link_bytes}
 use Rattle.large_arrays.specs.Spots.{IsSpot}
 use Rattle.large_arrays.specs.Within.{place_within, root_within}

@@ -1,15 +1,15 @@
 -- Whether an edit stays within one branch, by what a spot has of the root.
-use Rattle.std.proofs.Common.{◌≡◌, ◌≢◌, ◌⊎◌, ℕ, suc, ◌+◌, ◌-◌, ◌*◌, ◌<◌, ◌≤◌, ◌==◌, nat_lt, min, List, [], ◌∷◌, length, take, drop, map, get_or, sum_by, refl, sym, ap, ap₂, subst, ◌∙◌, inl, inr, arith, length-drop, ltb-true, ltb-false, mul-le-mul_left}
+use Rattle.std.proofs.Common.{◌≡◌, ◌≢◌, ◌⊎◌, ℕ, suc, ◌+◌, ◌-◌, ◌*◌, ◌<◌, ◌≤◌, nat_lt, min, List, length, take, drop, map, get_or, refl, sym, ap, ap₂, subst, ◌∙◌, inl, inr, arith, length-drop, ltb-true, ltb-false, mul-le-mul_left}
 use Rattle.std.proofs.lemmas.Bool.{cases_Bool}
 use Rattle.std.proofs.lemmas.List.{length-map, length-take, get_or-map, get_or-take, get_or-drop}
 use Rattle.geos_model.specs.Pieces.{branch_room, join_room}
-use Rattle.geos_model.specs.LargeLayout.{Root, total_count}
+use Rattle.geos_model.specs.LargeLayout.{Root}
 use Rattle.geos_model.specs.Spread.{first_place, end_place}
 use Rattle.geos_model.proofs.SpreadPlaces.{first-end_same}
 use Rattle.large_arrays.specs.Middle.{IsRunSpot}
-use Rattle.large_arrays.specs.Spots.{IsSpot, counts_of, link_handles}
-use Rattle.large_arrays.specs.Within.{StaysWithin, place_within, count_within}
-use Rattle.large_arrays.specs.WithinPlans.{FitsEdit, IsBranchEdit, IsEditAt, StandsAlone}
+use Rattle.large_arrays.specs.Spots.{IsSpot, counts_of}
+use Rattle.large_arrays.specs.Within.{place_within, count_within}
+use Rattle.large_arrays.specs.WithinPlans.{FitsEdit, IsEditAt, StandsAlone}
 use Rattle.large_arrays.specs.declared.spot.BranchLink.{BranchLink}
 use Rattle.large_arrays.specs.declared.spot.Spot.{Spot}
 use Rattle.large_arrays.specs.declared.within.BranchEdit.{BranchEdit}

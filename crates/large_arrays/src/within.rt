@@ -1,6 +1,6 @@
 //! Edits of elements of one size that stay within one branch. The root tells which they are, so that no other branch is
 //! looked at; and what such an edit changes is known where it stands, so that nothing is copied to be compared.
-ghost use Rattle.std.specs.Prelude.{◌≡◌, ◌⊎◌, ◌<◌, ◌≤◌, ◌+◌, ◌-◌, ◌*◌, ◌++◌, ◌∷◌, ℕ, [], None, true, false, IfOk, IfErr, IfSome, MatchResult, length};
+ghost use Rattle.std.specs.Prelude.{◌≡◌, ◌⊎◌, ◌<◌, ◌≤◌, ◌+◌, ◌-◌, ◌++◌, ◌∷◌, ℕ, [], None, true, false, IfOk, IfErr, IfSome, MatchResult, length};
 ghost use Rattle.std.specs.List.{splice};
 ghost use Rattle.geos_model.specs.Array.{array_bytes};
 ghost use Rattle.geos_model.specs.Heap.{capacity};
@@ -11,8 +11,9 @@ ghost use Rattle.vm_blocks.specs.Keeping.{KeepsBlocks, IsHonest, IsEnvironmentFa
 ghost use Rattle.vm_blocks.specs.Preparing.{CanApplyAllByHandle};
 ghost use Rattle.vm_chains.specs.Walking.{Stops};
 ghost use Rattle.geos_model.specs.LargeBlocks.{root_at};
-ghost use Rattle.geos_model.specs.LargeLayout.{Root, branch_bytes, root_bytes};
+ghost use Rattle.geos_model.specs.LargeLayout.{Root, branch_bytes, most_branches, root_bytes};
 ghost use Rattle.geos_model.specs.LargeWindow.{are_branches};
+ghost use Rattle.geos_model.specs.Pieces.{branch_room};
 ghost use Rattle.large_bodies.specs.BranchReading.{IsPlain};
 ghost use Rattle.large_arrays.specs.Loading.{IsRootLoaded, branch_under};
 ghost use Rattle.large_arrays.specs.Middle.{IsRunSpot};
@@ -69,6 +70,7 @@ pub(crate) fn branch_edit(spot: &Spot, new: &NewElements<'_>) -> Option<BranchEd
     if !stands_alone(spot, at, count) {
         return None;
     }
+    // No root of so many branches has elements enough for that, but a spot doesn't tell.
     let others = spot.total - u32::from(link.count);
     if others > u32::MAX - count as u32 {
         return None;
@@ -86,7 +88,7 @@ pub(crate) fn branch_edit(spot: &Spot, new: &NewElements<'_>) -> Option<BranchEd
 fn count_after(spot: &Spot, count: u16, new: usize) -> usize
     requires order { spot.now.start.1 ≤ spot.now.end.1 }
     requires within { spot.now.end.1 ≤ count }
-    requires few { new ≤ 65510 }
+    requires few { new ≤ branch_room }
     ensures value { result ≡ spot.now.start.1 + new + (count - spot.now.end.1) }
     ensures few { result < 262144 }
 {
@@ -176,7 +178,7 @@ pub(crate) fn plan_within<S: Store>(
     Ok(changes)
 }
 
-/// The patch of the branch. BadChain where it isn't what its link says. What is needed of it is in the patch, so that it
+/// The patch of the branch. BadChain where it isn't what its link says. The patch holds what is needed of it, so that it
 /// may leave memory.
 fn branch_patch<S: Store>(
     alloc: Global,
@@ -242,7 +244,7 @@ fn count_bytes(count: u16) -> [u8; 4]
 /// The patch of a root's bytes: how many elements it has, and how many the branch has.
 fn root_patch(alloc: Global, spot: &Spot, edit: &BranchEdit) -> Result<Patch, AllocError>
     requires place { spot.now.start.0 < spot.now.branches }
-    requires few { spot.now.branches ≤ 8191 }
+    requires few { spot.now.branches ≤ most_branches }
     ensures leads { IfOk result (λ patch. (r : Root) (i j new : ℕ) → IsSpot r i j spot.now
         → length r.counts ≡ length r.branches → IsBranchEdit r i j new edit.now
         → PatchLeads patch (root_bytes r) (root_bytes (root_within r i j new))) }

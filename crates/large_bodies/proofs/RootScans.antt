@@ -1,5 +1,5 @@
--- The words at the front of all branches, seen together.
-use Rattle.std.proofs.Common.{◌≡◌, ℕ, ◌+◌, ◌<◌, ◌%◌, ◌↔◌, List, bit_or, sym, ap, ap₂, subst, ◌∙◌, inl, inr, arith}
+-- All branches of a root, seen together.
+use Rattle.std.proofs.Common.{◌≡◌, ℕ, ◌+◌, ◌<◌, ◌%◌, ◌↔◌, List, bit_or, min, sym, ap, ap₂, subst, ◌∙◌, inl, inr, arith}
 use Rattle.std.proofs.lemmas.Bool.{cases_eq}
 use Rattle.std.proofs.lemmas.Nat.{or_mod, le_or_l, le_or_r}
 use Rattle.geos_model.specs.Words.{word_at, double_word_at}
@@ -36,3 +36,14 @@ zeros_more bytes are place i seen next is before =
       λ none. (let both = or_none seen next none in each_more (λ k. word_at bytes (place k) ≡ 0) i (before.0 both.0) (sym low ∙ both.1)),
       λ all. none_or seen next (before.1 (λ k less. all k (omega (arith, less)))) (low ∙ all i (omega arith)),
     )
+
+-- the least count is above 0 where each is
+pub least_more : (f : ℕ → ℕ) (i least next found : ℕ) → next ≡ f i → found ≡ min least next → (0 < least) ↔ ((k : ℕ) → k < i → 0 < f k)
+    → (0 < found) ↔ ((k : ℕ) → k < i + 1 → 0 < f k)
+least_more f i least next found here is before = (
+  λ some. each_more (λ k. 0 < f k) i (before.0 (omega (arith, some, is))) (omega (arith, some, is, here)),
+  λ all.
+      let rest : 0 < least = before.1 (λ k less. all k (omega (arith, less))) in
+      let last : 0 < f i = all i (omega arith) in
+      omega (arith, rest, last, here, is),
+)

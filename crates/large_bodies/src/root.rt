@@ -59,11 +59,15 @@ pub fn read_root<'a>(bytes: &'a [u8]) -> Result<RootView<'a>, Fault>
         return Err(Fault::NotArray);
     }
     let branches = usize::from(word(bytes, 4));
-    let total = count_total(bytes, branches);
+    let AllBranches {
+        total,
+        has_counts,
+        has_zeros,
+    } = all_branches(bytes, branches);
     if stored_total(bytes) != total {
         return Err(Fault::NotArray);
     }
-    if !has_counts(bytes, branches) || !has_zeros(bytes, branches) {
+    if !has_counts || !has_zeros {
         return Err(Fault::NotArray);
     }
     let size = usize::from(word(bytes, 10));
@@ -140,48 +144,43 @@ fn has_length(bytes: &[u8]) -> bool
     0 < branches && place == 16 + 2 * branches && bytes.len() == 16 + 6 * branches
 }
 
-/// How many elements all branches have, as the root says.
-fn count_total(bytes: &[u8], branches: usize) -> u32
+/// What is told of all branches of a root together.
+#[derive(Drop)]
+struct AllBranches {
+    /// How many elements they have, as the root says.
+    total: u32,
+    /// Whether none is empty but a single one.
+    has_counts: bool,
+    /// Whether each begins with a zero word.
+    has_zeros: bool,
+}
+
+/// All branches of a root, looked at once. It doesn't end at a first fault, so that several are looked at together by
+/// vectors.
+fn all_branches(bytes: &[u8], branches: usize) -> AllBranches
+    requires branches { branches ≡ branches_in bytes.now }
     requires few { branches < 2 ^ 16 }
-    requires room { 16 + 2 * branches ≤ length bytes.now }
-    ensures { result ≡ sum_by (λ c. c) (map (λ i. word_at bytes.now (16 + 2 * i)) (range_with_len 0 branches)) }
+    requires room { 16 + 6 * branches ≤ length bytes.now }
+    ensures total { result.total ≡
+        sum_by (λ c. c) (map (λ i. word_at bytes.now (16 + 2 * i)) (range_with_len 0 branches)) }
+    ensures counts { IsTrue result.has_counts ↔ HasCounts bytes.now }
+    ensures zeros { IsTrue result.has_zeros ↔ HasZeros bytes.now }
 {
     let mut total: u32 = 0;
+    let mut least = u32::MAX;
+    // The bits of all links, each with its zero word in the low half.
+    let mut links = 0;
     for i in 0..branches {
-        total += u32::from(word(bytes, 16 + 2 * i));
+        let count = u32::from(word(bytes, 16 + 2 * i));
+        total += count;
+        least = least.min(count);
+        links |= double_word(bytes, 16 + 2 * branches + 4 * i);
     }
-    total
-}
-
-/// Whether no branch is empty but a single one.
-fn has_counts(bytes: &[u8], branches: usize) -> bool
-    requires branches { branches ≡ branches_in bytes.now }
-    requires room { 16 + 2 * branches ≤ length bytes.now }
-    ensures { IsTrue result ↔ HasCounts bytes.now }
-{
-    if branches == 1 {
-        return true;
+    AllBranches {
+        total,
+        has_counts: branches == 1 || 0 < least,
+        has_zeros: links % 65_536 == 0,
     }
-    // The least is found by vectors, and a search that ends at a zero is not.
-    let mut least = u16::MAX;
-    for i in 0..branches {
-        least = least.min(word(bytes, 16 + 2 * i));
-    }
-    0 < least
-}
-
-/// Whether each branch begins with a zero word.
-fn has_zeros(bytes: &[u8], branches: usize) -> bool
-    requires branches { branches ≡ branches_in bytes.now }
-    requires room { 16 + 6 * branches ≤ length bytes.now }
-    ensures { IsTrue result ↔ HasZeros bytes.now }
-{
-    // All are looked at by vectors, each with the handle behind its zero word.
-    let mut seen = 0;
-    for i in 0..branches {
-        seen |= double_word(bytes, 16 + 2 * branches + 4 * i);
-    }
-    seen % 65_536 == 0
 }
 
 impl<'a> RootView<'a> {

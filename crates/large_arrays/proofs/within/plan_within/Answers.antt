@@ -1,14 +1,13 @@
-use Rattle.std.proofs.Common.{◌≡◌, ◌∙◌, ◌≢◌, ◌<◌, ◌⊎◌, ℕ, true, is_some, length, refl, sym, ap, subst, inl, inr, arith}
+use Rattle.std.proofs.Common.{◌≡◌, ◌∙◌, ◌≢◌, ℕ, true, is_some, length, refl, sym, ap, inl, inr, arith}
 use Rattle.std.proofs.lemmas.Bool.{eq-eqb, true≢false}
-use Rattle.geos_model.specs.Document.{Document, is_live, is_raw, raw_bytes_of}
-use Rattle.geos_model.specs.declared.fault.Fault.TheVariants.{BadChain, Memory}
+use Rattle.geos_model.specs.Document.{Document, is_raw, raw_bytes_of}
+use Rattle.geos_model.specs.declared.fault.Fault.TheVariants.{Memory}
 use Rattle.vm_blocks.specs.Keeping.{IsEnvironmentFault}
 use Rattle.vm_blocks.proofs.KeepingLaws.{keeps-refl, keeps-same, lacks-memory}
-use Rattle.vm_chains.specs.Walking.{Stops}
 use Rattle.vm_chains.proofs.Loading.{carried, carried_so, still_live}
 use Rattle.vm_chains.proofs.WalkLemmas.{raw_live}
 use Rattle.geos_model.specs.LargeBlocks.{root_at}
-use Rattle.geos_model.specs.LargeLayout.{Root, root_of}
+use Rattle.geos_model.specs.LargeLayout.{root_of}
 use Rattle.geos_model.proofs.Layouts.{root-facts}
 use Rattle.large_arrays.proofs.LoadedBranches.{under-raw}
 use Rattle.large_arrays.proofs.RunSpots.{has-links}

@@ -1,4 +1,4 @@
-use Rattle.std.proofs.Common.{◌≡◌, ◌∙◌, ◌+◌, ◌-◌, ◌++◌, ◌∷◌, ◌==◌, ℕ, List, [], false, length, refl, ap, ap₂, arith}
+use Rattle.std.proofs.Common.{◌≡◌, ◌∙◌, ◌-◌, ◌++◌, ◌∷◌, ◌==◌, ℕ, List, [], false, length, refl, ap, ap₂, arith}
 use Rattle.std.specs.List.{splice}
 use Rattle.chunk_edits.specs.Patching.{PatchPiece, Keep, Put, PatchLeads}
 use Rattle.chunk_arrays.proofs.PlaceLemmas.{place-within, place-step}

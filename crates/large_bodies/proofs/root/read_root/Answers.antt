@@ -22,7 +22,7 @@ pub returns-then-stored_total-total : goal.returns-then-stored_total-total
 returns-then-stored_total-total c =
     let bytes : List ℕ = c.args.bytes.now in
     let are : AreByteValues bytes = (λ i. (c.type_inv.bytes i).fits) in
-    let sum = total_is bytes c.from-branches.result c.count_total-total.result (c.from-branches.ensures ∙ c.word.ensures) c.count_total-total.ensures in
+    let sum = total_is bytes c.from-branches.result c.all_branches-total.result.total (c.from-branches.ensures ∙ c.word.ensures) c.all_branches-total.ensures.total in
     (refl, no_root bytes are c.requires (λ p. c.if-stored_total-total.true (c.stored_total.ensures ∙ p.total ∙ sym sum)))
 
 pub returns-then-not-has_counts : goal.returns-then-not-has_counts
@@ -31,8 +31,8 @@ returns-then-not-has_counts c =
     let are : AreByteValues bytes = (λ i. (c.type_inv.bytes i).fits) in (
       refl,
       no_root bytes are c.requires (λ p. elim c.then-not-has_counts.branch [
-        | then-not-has_counts-via-then-not-has_counts w ↦ (let yes = c.has_counts.ensures.1 p.counts in let no = w.if-not-has_counts.true in absurd (cc))
-        | then-not-has_counts-via-else-not-has_counts+then-not-has_zeros w ↦ (let yes = w.has_zeros.ensures.1 p.zeros in let no = w.if-not-has_zeros.true in absurd (cc))
+        | then-not-has_counts-via-then-not-has_counts w ↦ (let yes = c.all_branches-total.ensures.counts.1 p.counts in let no = w.if-not-has_counts.true in absurd (cc))
+        | then-not-has_counts-via-else-not-has_counts+then-not-has_zeros w ↦ (let yes = c.all_branches-total.ensures.zeros.1 p.zeros in let no = w.if-not-has_zeros.true in absurd (cc))
       ]),
     )
 
@@ -40,13 +40,13 @@ pub invariant_of-result : goal.invariant_of-result
 invariant_of-result c =
     let bytes : List ℕ = c.args.bytes.now in
     let are : AreByteValues bytes = (λ i. (c.type_inv.bytes i).fits) in
-    let sum = total_is bytes c.from-branches.result c.count_total-total.result (c.from-branches.ensures ∙ c.word.ensures) c.count_total-total.ensures in
+    let sum = total_is bytes c.from-branches.result c.all_branches-total.result.total (c.from-branches.ensures ∙ c.word.ensures) c.all_branches-total.ensures.total in
     record {
       parts = record {
         head = c.has_head.ensures.0 c.if-not-has_head.false;
         total = sym c.stored_total.ensures ∙ c.if-stored_total-total.false ∙ sum;
-        counts = c.has_counts.ensures.0 c.if-not-has_counts.false;
-        zeros = c.has_zeros.ensures.0 c.if-not-has_zeros.false;
+        counts = c.all_branches-total.ensures.counts.0 c.if-not-has_counts.false;
+        zeros = c.all_branches-total.ensures.zeros.0 c.if-not-has_zeros.false;
       };
       are_bytes = are;
       short = c.requires;
@@ -59,11 +59,11 @@ pub returns : goal.returns
 returns c =
     let bytes : List ℕ = c.args.bytes.now in
     let are : AreByteValues bytes = (λ i. (c.type_inv.bytes i).fits) in
-    let sum = total_is bytes c.from-branches.result c.count_total-total.result (c.from-branches.ensures ∙ c.word.ensures) c.count_total-total.ensures in
+    let sum = total_is bytes c.from-branches.result c.all_branches-total.result.total (c.from-branches.ensures ∙ c.word.ensures) c.all_branches-total.ensures.total in
     let parts : HasRoot bytes = record {
       head = c.has_head.ensures.0 c.if-not-has_head.false;
       total = sym c.stored_total.ensures ∙ c.if-stored_total-total.false ∙ sum;
-      counts = c.has_counts.ensures.0 c.if-not-has_counts.false;
-      zeros = c.has_zeros.ensures.0 c.if-not-has_zeros.false;
+      counts = c.all_branches-total.ensures.counts.0 c.if-not-has_counts.false;
+      zeros = c.all_branches-total.ensures.zeros.0 c.if-not-has_zeros.false;
     } in
     root_of-parts bytes are parts
