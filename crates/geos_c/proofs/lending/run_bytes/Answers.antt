@@ -1,4 +1,4 @@
-use Rattle.std.proofs.Common.{true, length, ap, arith, length-drop, sym, ◌∙◌, ◌+◌, ◌-◌, drop, take}
+use Rattle.std.proofs.Common.{true, length, ap, arith, length-drop, ◌∙◌, ◌-◌, drop}
 use Rattle.std.proofs.lemmas.List.{take_all}
 use Rattle.geos_c.proofs.LendingLemmas.{is_lent, lent_is}
 use Rattle.geos_c.proofs.lending.run_bytes.Goals as goal
