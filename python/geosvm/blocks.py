@@ -173,6 +173,12 @@ class Raw(Block, Text):
         data: bytes = self._call("locked_raw")
         return data
 
+    def lock_run(self, i: int) -> tuple[Raw, bytes]:
+        """Locks the block that has element `i` of the large array of which this is the root, and
+        gives that block, which is to be unlocked, and its elements from there on, copied."""
+        block, data = self._call("lock_run", i)
+        return Raw(self.document, block), data
+
     def write(self, at: int, data: Data) -> None:
         self._call("vwrite", at, data)
 
