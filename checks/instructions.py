@@ -36,6 +36,8 @@ ROWS = {
     "opening": 0.05,
     "groups": 0.1,
     "chains": 0.1,
+    "text-2": 0.1,
+    "edits-1": 0.3,
 }
 SEED = 1
 MORE = 1.05
