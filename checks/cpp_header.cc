@@ -226,6 +226,30 @@ static void chains(session &s) {
   s.chfree(copy);
 }
 
+static void large_arrays(session &s) {
+  const block text = s.hcreate(3, 1), lines = s.hcreate(3, 0);
+  s.hinsert(text, 0, std::string(70000, 'x'));
+  s.hset(text, 65509, "ab");
+  s.hdelete(text, 0, 65508);
+  MUST(s.hcount(text) == 4492 && is(s.hread(text, 0, 4), "xabx") && is(s.hget(text, 1), "a"));
+  s.undo();
+  MUST(s.hcount(text) == 70000 && s.hread(text, 1, 65520).size() == 65520 && s.walk(text).size() == 3);
+  s.hinsert(lines, 0, "one");
+  s.hinsert(lines, 1, {});
+  MUST(s.hcount(lines) == 2 && is(s.hget(lines, 0), "one") && s.hget(lines, 1).empty());
+  REFUSED(fault::range, s.hread(lines, 0, 1, to...));
+  REFUSED(fault::range, s.hinsert(text, 70001, "x", to...));
+  REFUSED(fault::range, s.hcreate(3, std::size_t{1} << 32, to...));
+  REFUSED(fault::no_element, s.hget(text, std::size_t{1} << 32, to...));
+  REFUSED(fault::no_element, s.hdelete(text, 0, std::size_t{1} << 32, to...));
+  REFUSED(fault::no_element, s.hset(text, 70000, "x", to...));
+  REFUSED(fault::too_big, s.hinsert(lines, 0, std::string(65509, 'x'), to...));
+  REFUSED(fault::not_array, s.hcount(s.newraw(3, 1), to...));
+  s.lock(text);
+  REFUSED(fault::locked, s.hset(text, 0, "y", to...));
+  s.unlock(text);
+}
+
 static void steps(session &s) {
   const block raw = s.newraw(4, 1);
   s.name("Make");
@@ -291,6 +315,22 @@ static void locks(session &s) {
   }
   s.unlock(raw);
   MUST(s.locks(raw) == 0);
+  const std::string root_digits = s.command("hcreate 5 2").substr(6, 4);
+  const block root(static_cast<std::uint16_t>(std::stoul(root_digits, nullptr, 16)));
+  MUST(s.command("hinsert " + root_digits + " 0 61626364") == "ok\n");
+  block has_it;
+  MUST(is(s.lock_run(root, 1, has_it), "cd") && s.locks(has_it) == 1);
+  {
+    bytes_view elements, none;
+    const locked_block l(s, root, 0, elements);
+    MUST(l.is_locked() && is(elements, "abcd") && l.handle() == has_it && s.locks(has_it) == 2);
+    std::error_code refusal;
+    const locked_block past(s, root, 2, none, refusal);
+    MUST(refusal == fault::no_element && !past.is_locked() && none.size() == 0);
+  }
+  s.unlock(has_it);
+  MUST(s.locks(has_it) == 0);
+  REFUSED(fault::not_array, s.lock_run(raw, 0, has_it, to...));
 }
 
 static void commands(session &s) {
@@ -852,6 +892,7 @@ int main(int count, char **words) {
     blocks_and_chunks(s);
     arrays(s);
     chains(s);
+    large_arrays(s);
     steps(s);
     locks(s);
     commands(s);

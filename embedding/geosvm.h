@@ -23,8 +23,8 @@
 **     may be in different threads at once, also sessions that read one file.
 **   - Each pointer leads to as many elements as its size says, is not NULL even at size 0, and what a call writes overlaps nothing
 **     else that the same call is passed.
-**   - Bytes that geosvm_locked_chunk and geosvm_locked_raw have lent are never written, and are read as long as they are lent ("Locks"),
-**     and not while a call on their session runs.
+**   - Bytes that geosvm_locked_chunk, geosvm_locked_raw and geosvm_lock_run have lent are never written, and are read as long as they are
+**     lent ("Locks"), and not while a call on their session runs.
 **   - Of a file that it opens itself, and passes by its descriptor: that is open to be read and written, or to be read alone
 **     ("Reading"), and stays so until geosvm_close; it stays the caller's, since no call closes it. Its position moves.
 **   - No two open sessions have the same file unless both read it alone, and none is saved into one that another has. Nobody else
@@ -42,7 +42,8 @@
 **
 ** WHICH CALLS MAY USE THE FILE: geosvm_open and its like, commits and save-as; every edit, undo, redo and abandon, and every look-up into
 ** a block, since a block that isn't among the `frames` in memory is read, and one that makes room for it is written if it was changed;
-** and edits that make blocks, geosvm_newraw, newheap, vcopy, chcopy and copy_block, and undos and redos by which blocks come, in any case.
+** and edits that make blocks, geosvm_newraw, newheap, vcopy, chcopy, hcreate and copy_block, and those hinsert, hset
+** and hdelete, undos and redos by which blocks come, in any case.
 ** Never: geosvm_close, but that it closes a file of the library's own; begin, end, join, name, forget and limit_undo; unlock, dirty, locks,
 ** locked_chunk and locked_raw; uid, settype, map, gettype, mapblock, list and find; undos, redos, modified, undo_name, redo_name, and what
 ** tells places; and what is refused for its arguments or its session. On a disk that is slow or gone these answer at once.
@@ -112,7 +113,7 @@ static const geosvm_session geosvm_private_closed __attribute__((unused)) = { NU
 #define GEOSVM_NO_CHUNK         6
 #define GEOSVM_WRONG_KIND       7   /* a heap where a raw block is wanted, or the reverse */
 #define GEOSVM_FULL             8   /* the heap would need more than 65,520 bytes */
-#define GEOSVM_TOO_BIG          9   /* a raw block would have more than 65,520 bytes, or a step a name of more than 64 */
+#define GEOSVM_TOO_BIG          9   /* over 65,520 bytes in a raw block, 64 in a step's name, or 65,508 in an element */
 #define GEOSVM_NO_HANDLES      10
 #define GEOSVM_RANGE           11   /* a place, length or size is outside its bounds */
 #define GEOSVM_NOT_ARRAY       12
@@ -332,6 +333,14 @@ int32_t geosvm_save_as_path(geosvm_session *s, const char *path, uint32_t flags)
 ** A command by geosvm_command that does the same ends it likewise. All other calls leave the bytes as they are, and where they are:
 ** look-ups, edits of other blocks, other locks, geosvm_dirty, begin, end, join, forget and name, and what is refused, as undo, redo,
 ** abandon and commits are while any block is locked.
+**
+** geosvm_lock_run is for a large array whose elements have one size. It locks the block that has element `i`, once more, and lends its
+** elements from there to the last one in that block, one behind the other: *block becomes the block, *bytes the address of element `i`, and
+** *length how many bytes they are, never 0; divided by the size of an element that is how many elements. geosvm_unlock of *block gives
+** them back, and until then they are lent as those of geosvm_locked_raw are. The element behind them is the first of another block.
+** GEOSVM_NO_BLOCK, WRONG_KIND, CACHE_FULL where each frame has a locked block, NOT_ARRAY, NO_ELEMENT, BAD_CHAIN, RANGE where elements vary
+** in size, the first of them, then LOCK_LIMIT; MEMORY, FILE or DAMAGED as of a look-up. Where it is refused nothing is locked, *block is 0,
+** *bytes is NULL and *length is 0.
 */
 int32_t geosvm_lock(geosvm_session *s, uint16_t block);
 int32_t geosvm_unlock(geosvm_session *s, uint16_t block);
@@ -339,18 +348,21 @@ int32_t geosvm_dirty(geosvm_session *s, uint16_t block);
 int32_t geosvm_locks(geosvm_session *s, uint16_t block, uint8_t *count);
 int32_t geosvm_locked_chunk(geosvm_session *s, uint16_t block, uint16_t chunk, const uint8_t **bytes, size_t *length);
 int32_t geosvm_locked_raw(geosvm_session *s, uint16_t block, const uint8_t **bytes, size_t *length);
+int32_t geosvm_lock_run(geosvm_session *s, uint16_t root, uint32_t i, uint16_t *block, const uint8_t **bytes, size_t *length);
 
 /*
 ** CAPI: Edits
 **
-** An edit that is accepted is a step for geosvm_undo, or a part of the open group; one that is refused changes nothing. What docs/SCRIPT.md
-** says of the command with its name is so of the call. *block, *copy, *chunk or *token becomes what was made, 0 where the call answers
-** anything but GEOSVM_OK. Bytes are copied, so they may be freed or written after the call. Numbers may be as large as their types allow.
+** An edit that is accepted is a step for geosvm_undo, or a part of the open group; one that is refused changes nothing.
+** What docs/SCRIPT.md says of the command with its name is so of the call. *block, *copy, *chunk, *token or *root
+** becomes what was made, 0 where the call answers anything but GEOSVM_OK. Bytes are copied, so they may be freed or
+** written after the call. Numbers may be as large as their types allow.
 **
-** At each call stand its refusals; the first that applies is answered. Any edit may be GEOSVM_MEMORY; GEOSVM_FILE where a block has to be
-** brought into memory, or another one out of it, and the file failed, and of geosvm_newraw, newheap, vcopy and chcopy, which write what
-** they make to the file at once; and GEOSVM_DAMAGED where what was read of it is no block, or has another checksum. What is
-** refused while blocks are locked stands in docs/SCRIPT.md under Locks.
+** At each call stand its refusals; the first that applies is answered. Any edit may be GEOSVM_MEMORY; GEOSVM_FILE where
+** a block has to be brought into memory, or another one out of it, and the file failed, and of edits by which blocks
+** come: geosvm_newraw, newheap, vcopy, chcopy, hcreate, and at times hinsert, hset and hdelete, since these write what
+** they make to the file at once; and GEOSVM_DAMAGED where what was read of it is no block, or has another checksum.
+** What is refused while blocks are locked stands in docs/SCRIPT.md under Locks.
 */
 
 /*
@@ -450,6 +462,33 @@ int32_t geosvm_chcopy(geosvm_session *s, uint16_t block, uint16_t *copy); /* NO_
 int32_t geosvm_chfree(geosvm_session *s, uint16_t block);                 /* NO_BLOCK, WRONG_KIND, BAD_CHAIN, IS_MAP */
 
 /*
+** CAPI: Edits of large arrays
+**
+** A large array is for what is longer than a block, as a text. Its elements stand in raw blocks, its branches, and each
+** call names it by its root, the raw block that has their handles. geosvm_hcreate makes one without elements, which
+** will have `size` bytes each, 4,096 at most, or with 0 any number; *root becomes its root, with the user ID. Another
+** block is its branch, under the next free handle. geosvm_hinsert puts these bytes in before element `i`, or behind the
+** last one; geosvm_hset puts them in the place of the elements from `i` on, and geosvm_hdelete deletes `count` from
+** there on.
+**
+** Where sizes vary the bytes are one element, of 65,508 bytes at most. Else they are as many elements as they have room
+** for, a whole text at once, and RANGE where some are left over. An edit of no element changes nothing, and is a step
+** all the same. What is for chains, geosvm_chcopy, chfree, walk, chsize and chequal, takes the root of an array too;
+** geosvm_vcopy would make a second root of the same branches.
+**
+** Each but geosvm_hcreate is LOCKED while any block is; else NO_BLOCK, WRONG_KIND, NOT_ARRAY where the block is no
+** root, and then what stands there. BAD_CHAIN: a branch that is needed isn't what the root says. IS_MAP: one would go
+** that is the map block.
+*/
+int32_t geosvm_hcreate(geosvm_session *s, uint16_t user_id, uint32_t size, uint16_t *root); /* RANGE, NO_HANDLES */
+int32_t geosvm_hinsert(geosvm_session *s, uint16_t root, uint32_t i, const uint8_t *bytes,
+                       size_t size);               /* RANGE, TOO_BIG, BAD_CHAIN, IS_MAP, NO_HANDLES */
+int32_t geosvm_hset(geosvm_session *s, uint16_t root, uint32_t i, const uint8_t *bytes,
+                    size_t size);                  /* NO_ELEMENT, RANGE, TOO_BIG, BAD_CHAIN, IS_MAP, NO_HANDLES */
+int32_t geosvm_hdelete(geosvm_session *s, uint16_t root, uint32_t i,
+                       uint32_t count);            /* NO_ELEMENT, BAD_CHAIN, IS_MAP, NO_HANDLES */
+
+/*
 ** CAPI: A copy in another document
 **
 ** geosvm_copy_block makes a block of `to` like one of `from`: raw with the same bytes, or a heap of the same type with the same chunks under
@@ -534,6 +573,20 @@ int32_t geosvm_ndata(geosvm_session *s, uint16_t block, uint16_t chunk, uint16_t
 int32_t geosvm_walk(geosvm_session *s, uint16_t block, uint16_t *blocks, size_t room, size_t *length);
 int32_t geosvm_chsize(geosvm_session *s, uint16_t block, size_t *size);
 int32_t geosvm_chequal(geosvm_session *s, uint16_t block, uint16_t other, uint8_t *equal);
+
+/*
+** CAPI: Look-ups of large arrays
+**
+** geosvm_hcount tells how many elements a large array has, geosvm_hget copies the bytes of one, by its number from 0
+** on, and geosvm_hread those of `count` elements of one size from `i` on, one behind the other; that is RANGE where
+** sizes vary, and where they have more than 65,520 bytes together. Each is NO_BLOCK, WRONG_KIND, NOT_ARRAY where the
+** block is no root, and then what stands there.
+*/
+int32_t geosvm_hcount(geosvm_session *s, uint16_t root, size_t *count);
+int32_t geosvm_hget(geosvm_session *s, uint16_t root, uint32_t i, uint8_t *buffer, size_t room,
+                    size_t *length);               /* NO_ELEMENT, BAD_CHAIN */
+int32_t geosvm_hread(geosvm_session *s, uint16_t root, uint32_t i, uint32_t count, uint8_t *buffer, size_t room,
+                     size_t *length);              /* NO_ELEMENT, RANGE, BAD_CHAIN */
 
 /*
 ** CAPI: Steps

@@ -378,6 +378,15 @@ public:
     return lent(r, geosvm_locked_chunk, b.number(), c.number());
   }
   bytes_view locked_raw(block b, report r = {}) { return lent(r, geosvm_locked_raw, b.number()); }
+  /* Locks the block of a large array that has element i, which `has_it` becomes, and lends its elements from there on. */
+  bytes_view lock_run(block root, std::size_t i, block &has_it, report r = {}) {
+    std::uint16_t number = 0;
+    const auto call = [&number](geosvm_session *own, std::uint16_t b, std::uint32_t at, const std::uint8_t **first,
+                                std::size_t *length) { return geosvm_lock_run(own, b, at, &number, first, length); };
+    const bytes_view elements = lent(r, call, root.number(), below::capped(i));
+    has_it = block(number);
+    return elements;
+  }
 
   /* Edits of blocks. */
 
@@ -486,6 +495,21 @@ public:
   block chcopy(block b, report r = {}) { return made<block>(r, geosvm_chcopy, b.number()); }
   void chfree(block b, report r = {}) { edit(r, geosvm_chfree, b.number()); }
 
+  /* Edits of large arrays, each by its root. */
+
+  block hcreate(std::uint16_t user_id, std::size_t size, report r = {}) {
+    return made<block>(r, geosvm_hcreate, user_id, below::capped(size));
+  }
+  void hinsert(block root, std::size_t i, bytes_view from, report r = {}) {
+    edit(r, geosvm_hinsert, root.number(), below::capped(i), from.data(), from.size());
+  }
+  void hset(block root, std::size_t i, bytes_view from, report r = {}) {
+    edit(r, geosvm_hset, root.number(), below::capped(i), from.data(), from.size());
+  }
+  void hdelete(block root, std::size_t i, std::size_t count, report r = {}) {
+    edit(r, geosvm_hdelete, root.number(), below::capped(i), below::capped(count));
+  }
+
   /* Look-ups. */
 
   block_info info(block b, report r = {}) {
@@ -544,6 +568,14 @@ public:
   std::size_t chsize(block b, report r = {}) { return number<std::size_t>(r, geosvm_chsize, b.number()); }
   bool chequal(block b, block other, report r = {}) {
     return number<std::uint8_t>(r, geosvm_chequal, b.number(), other.number()) != 0;
+  }
+
+  std::size_t hcount(block root, report r = {}) { return number<std::size_t>(r, geosvm_hcount, root.number()); }
+  bytes hget(block root, std::size_t i, report r = {}) {
+    return copied(r, geosvm_hget, root.number(), below::capped(i));
+  }
+  bytes hread(block root, std::size_t i, std::size_t count, report r = {}) {
+    return copied(r, geosvm_hread, root.number(), below::capped(i), below::capped(count));
   }
 
   /* Steps. */
@@ -720,6 +752,12 @@ class locked_block {
 public:
   locked_block(session &s, block b, report r = {}) : block_(b) {
     is_locked_ = r.tell(geosvm_lock(s.raw(), b.number()));
+    at_ = s.at_;
+  }
+  /* The block of a large array that has element i, and its elements from there on. */
+  locked_block(session &s, block root, std::size_t i, bytes_view &elements, report r = {}) {
+    elements = s.lock_run(root, i, block_, r);
+    is_locked_ = elements.data() != nullptr;
     at_ = s.at_;
   }
   locked_block(locked_block &&other) noexcept

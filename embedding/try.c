@@ -147,6 +147,43 @@ static void lent(geosvm_session *s) {
   TELL(geosvm_locked_raw(s, 2, &raw, &m));
 }
 
+/* Elements of a large array where they lie: 17 of 4,096 bytes, of which a block has 15. */
+static void lent_runs(geosvm_session *s) {
+  geosvm_session closed = GEOSVM_CLOSED;
+  const uint8_t *run = NULL, *more = NULL;
+  static char line[8300];
+  char reply[256];
+  uint16_t block = 77, other = 77;
+  size_t n = 77, m = 77;
+  long bad = 0;
+  puts("-- elements lent");
+  show(s, "hcreate 7 4096");
+  for (int i = 0; i < 17; i++) {
+    size_t at = (size_t)snprintf(line, 32, "hinsert 0013 %d ", i);
+    for (int k = 0; k < 4096; k++, at += 2) snprintf(line + at, 3, "%02x", (unsigned)i & 255);
+    bad += say(s, line, reply, sizeof reply) != GEOSVM_OK;
+  }
+  printf("17 elements: %ld wrong answers\n", bad);
+  TELL(geosvm_lock_run(&closed, 19, 13, &block, &run, &n));
+  printf("block %u, %zu bytes, %s\n", block, n, run == NULL ? "nowhere" : "somewhere");
+  TELL(geosvm_lock_run(s, 19, 13, &block, &run, &n));
+  printf("block %u, %zu bytes: %u and %u\n", block, n, run[0], run[4096]);
+  TELL(geosvm_lock_run(s, 19, 15, &other, &more, &m));
+  printf("block %u, %zu bytes: %u and %u\n", other, m, more[0], more[4096]);
+  show(s, "hdelete 0013 0 1");
+  printf("%u and %u\n", run[0], more[0]);
+  TELL(geosvm_unlock(s, block));
+  TELL(geosvm_unlock(s, other));
+  TELL(geosvm_lock_run(s, 19, 17, &block, &run, &n));
+  printf("block %u, %zu bytes, %s\n", block, n, run == NULL ? "nowhere" : "somewhere");
+  TELL(geosvm_lock_run(s, 99, 0, &block, &run, &n));
+  TELL(geosvm_lock_run(s, 1, 0, &block, &run, &n));
+  TELL(geosvm_lock_run(s, 2, 0, &block, &run, &n));
+  show(s, "hcreate 7 0");
+  show(s, "hinsert 0016 0 616263");
+  TELL(geosvm_lock_run(s, 22, 0, &block, &run, &n));
+}
+
 static void commits(geosvm_session *s, int fd) {
   puts("-- commits");
   TELL(geosvm_update(s));
@@ -543,6 +580,101 @@ static void places(void) {
   close(fd);
 }
 
+/* Large arrays: a text of more than a block, elements of any sizes, and what is refused of both. */
+static void large_arrays(void) {
+  static uint8_t many[70000];
+  geosvm_session s = GEOSVM_CLOSED, closed = GEOSVM_CLOSED;
+  geosvm_place told[4];
+  uint8_t bytes[16];
+  uint16_t root = 77, list[8];
+  int fd = file("large.document");
+  size_t n = 77;
+  puts("-- large arrays");
+  memset(many, 'x', sizeof many);
+  TELL(geosvm_create(&s, fd, 8));
+  GIVES(geosvm_hcreate(&s, 7, 4097, &root), root);
+  GIVES(geosvm_hcreate(&s, 7, 1, &root), root);
+  PLACES(geosvm_touched(&s, 0, told, 4, &n));
+  TELL(geosvm_hinsert(&s, 1, 0, TEXT("hello")));
+  TELL(geosvm_hset(&s, 1, 0, TEXT("J")));
+  TELL(geosvm_hinsert(&s, 1, 5, TEXT("y")));
+  GIVES(geosvm_hcount(&s, 1, &n), n);
+  TELL(geosvm_hread(&s, 1, 0, 6, bytes, sizeof bytes, &n));
+  show_bytes(bytes, n);
+  TELL(geosvm_hread(&s, 1, 1, 4, bytes, 2, &n));
+  printf("%zu bytes, of which 2 fit\n", n);
+  show_bytes(bytes, 2);
+  TELL(geosvm_hdelete(&s, 1, 1, 2));
+  TELL(geosvm_hget(&s, 1, 1, bytes, sizeof bytes, &n));
+  show_bytes(bytes, n);
+  TELL(geosvm_hget(&s, 1, 4, bytes, sizeof bytes, &n));
+  show_bytes(bytes, n);
+  TELL(geosvm_hread(&s, 1, 3, 2, bytes, sizeof bytes, &n));
+  TELL(geosvm_hinsert(&s, 1, 5, TEXT("!")));
+  TELL(geosvm_hset(&s, 1, 3, TEXT("!!")));
+  TELL(geosvm_hdelete(&s, 1, 3, 2));
+  GIVES(geosvm_undos(&s, &n), n);
+  TELL(geosvm_undo(&s));
+  TELL(geosvm_hinsert(&s, 1, 6, many, sizeof many));
+  PLACES(geosvm_touched(&s, 0, told, 4, &n));
+  GIVES(geosvm_hcount(&s, 1, &n), n);
+  TELL(geosvm_walk(&s, 1, list, 8, &n));
+  show_handles(list, n);
+  GIVES(geosvm_chsize(&s, 1, &n), n);
+  TELL(geosvm_hset(&s, 1, 65509, TEXT("ab")));
+  PLACES(geosvm_touched(&s, 0, told, 4, &n));
+  TELL(geosvm_hread(&s, 1, 65508, 4, bytes, sizeof bytes, &n));
+  show_bytes(bytes, n);
+  GIVES(geosvm_hread(&s, 1, 0, 65520, bytes, sizeof bytes, &n), n);
+  GIVES(geosvm_hread(&s, 1, 0, 65521, bytes, sizeof bytes, &n), n);
+  TELL(geosvm_hdelete(&s, 1, 6, 70000));
+  PLACES(geosvm_touched(&s, 0, told, 4, &n));
+  TELL(geosvm_lock(&s, 1));
+  TELL(geosvm_hinsert(&s, 1, 0, TEXT("")));
+  TELL(geosvm_hset(&s, 1, 0, TEXT("H")));
+  TELL(geosvm_hdelete(&s, 1, 0, 1));
+  GIVES(geosvm_hcount(&s, 1, &n), n);
+  GIVES(geosvm_hcreate(&s, 8, 0, &root), root);
+  TELL(geosvm_unlock(&s, 1));
+  TELL(geosvm_hinsert(&s, 3, 0, TEXT("one")));
+  TELL(geosvm_hinsert(&s, 3, 1, TEXT("")));
+  TELL(geosvm_hset(&s, 3, 1, TEXT("two")));
+  GIVES(geosvm_hcount(&s, 3, &n), n);
+  TELL(geosvm_hget(&s, 3, 1, bytes, sizeof bytes, &n));
+  show_bytes(bytes, n);
+  TELL(geosvm_hread(&s, 3, 0, 2, bytes, sizeof bytes, &n));
+  TELL(geosvm_hinsert(&s, 3, 0, many, 65509));
+  TELL(geosvm_hinsert(&s, 3, 0, many, 65508));
+  TELL(geosvm_walk(&s, 3, list, 8, &n));
+  show_handles(list, n);
+  GIVES(geosvm_hget(&s, 3, 0, bytes, sizeof bytes, &n), n);
+  TELL(geosvm_map(&s, 5));
+  TELL(geosvm_hdelete(&s, 3, 0, 1));
+  GIVES(geosvm_hcreate(&s, 7, 2, &root), root);
+  TELL(geosvm_hinsert(&s, 6, 0, TEXT("abc")));
+  TELL(geosvm_hinsert(&s, 6, 0, TEXT("abcd")));
+  GIVES(geosvm_hcount(&s, 6, &n), n);
+  GIVES(geosvm_hcount(&s, 2, &n), n);
+  TELL(geosvm_hget(&s, 99, 0, bytes, sizeof bytes, &n));
+  TELL(geosvm_save(&s));
+  TELL(geosvm_close(&s));
+  TELL(geosvm_open(&s, fd, 8));
+  TELL(geosvm_hread(&s, 1, 0, 6, bytes, sizeof bytes, &n));
+  show_bytes(bytes, n);
+  TELL(geosvm_vwrite(&s, 2, 2, TEXT("\2")));
+  TELL(geosvm_hget(&s, 1, 0, bytes, sizeof bytes, &n));
+  GIVES(geosvm_hcount(&s, 1, &n), n);
+  TELL(geosvm_close(&s));
+  GIVES(geosvm_hcreate(&closed, 7, 1, &root), root);
+  TELL(geosvm_hinsert(&closed, 1, 0, TEXT("hello")));
+  TELL(geosvm_hset(&closed, 1, 0, TEXT("hello")));
+  TELL(geosvm_hdelete(&closed, 1, 0, 1));
+  GIVES(geosvm_hcount(&closed, 1, &n), n);
+  GIVES(geosvm_hget(&closed, 1, 0, bytes, sizeof bytes, &n), n);
+  GIVES(geosvm_hread(&closed, 1, 0, 1, bytes, sizeof bytes, &n), n);
+  close(fd);
+}
+
 /* Names and sentences of codes: those of faults are the names that replies have. */
 static void codes(void) {
   puts("-- codes");
@@ -644,6 +776,7 @@ int main(void) {
   TELL(geosvm_create(&s, fd, 8));
   edits(&s);
   lent(&s);
+  lent_runs(&s);
   commits(&s, fd);
   another_file(&s, fd);
   refusals(&s, fd);
@@ -660,6 +793,7 @@ int main(void) {
   steps();
   step_names();
   places();
+  large_arrays();
   checksums();
   pthread_t thread[4];
   long bad = 0;

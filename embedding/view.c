@@ -82,11 +82,12 @@ static void compare(const view *v, geosvm_session *s) {
 }
 
 /* Edits. The order of their kinds counts: those before `vfree` make a block, those before `chcopy` take any block, those before `settype` a
-   raw one, and others a heap; those from `free` on take a chunk, from `ainsert` on with an array, from `eadd` or `nadd` on of that kind. */
+   raw one, from `hinsert` on the root of a large array, and others a heap; those from `free` on take a chunk, from `ainsert` on with an
+   array, from `eadd` or `nadd` on of that kind. */
 
 #define EACH_KIND(X) \
-  X(newraw) X(newheap) X(vcopy) X(vfree) X(uid) X(map) X(chcopy) X(chfree) X(vwrite) X(vsplice) X(attach) X(settype) X(alloc) X(acreate) \
-  X(ecreate) X(ncreate) X(free) X(resize) X(insert) X(delete) X(write) X(splice) X(ainsert) X(aset) X(aresize) X(adelete) X(azero) \
+  X(newraw) X(newheap) X(vcopy) X(hcreate) X(vfree) X(uid) X(map) X(chcopy) X(chfree) X(vwrite) X(vsplice) X(attach) X(hinsert) X(hset) \
+  X(hdelete) X(settype) X(alloc) X(acreate) X(ecreate) X(ncreate) X(free) X(resize) X(insert) X(delete) X(write) X(splice) X(ainsert) X(aset) X(aresize) X(adelete) X(azero) \
   X(eadd) X(eref) X(eunref) X(edelete) X(echange) X(nadd) X(nname) X(nset) X(nunref)
 #define NUMBER(name) edit_##name,
 #define TEXT(name) #name,
@@ -112,6 +113,10 @@ static bool suits(geosvm_session *s, const view *v, int kind, uint16_t b, uint16
   uint16_t token;
   if (kind < edit_chcopy) return true;
   if (v->blocks[b].is_heap != (kind >= edit_settype)) return false;
+  if (kind >= edit_hinsert && kind < edit_settype) return geosvm_hcount(s, b, &count) == GEOSVM_OK;
+  /* Roots have other bytes seldom, and branches, whose user ID is 0. */
+  if (kind >= edit_vwrite && kind < edit_hinsert)
+    return below(8) == 0 || (v->blocks[b].user_id != 0 && geosvm_hcount(s, b, &count) != GEOSVM_OK);
   if (kind < edit_free) return true;
   const bool is_array = geosvm_acount(s, b, c, &count) == GEOSVM_OK;
   if (kind < edit_ainsert) return !is_array || below(8) == 0;
@@ -125,6 +130,7 @@ static int32_t edit_block(geosvm_session *s, int kind, uint16_t b, uint32_t at, 
   switch (kind) {
   case edit_newraw: return geosvm_newraw(s, (uint16_t)below(9), some_size(), &made);
   case edit_newheap: return geosvm_newheap(s, (uint16_t)below(9), &made);
+  case edit_hcreate: return geosvm_hcreate(s, (uint16_t)(1 + below(8)), below(3), &made);
   case edit_vfree: return geosvm_vfree(s, b);
   case edit_vcopy: return geosvm_vcopy(s, b, &made);
   case edit_vwrite:
@@ -137,6 +143,22 @@ static int32_t edit_block(geosvm_session *s, int kind, uint16_t b, uint32_t at, 
   case edit_chcopy: return geosvm_chcopy(s, b, &made);
   default: return geosvm_chfree(s, b);
   }
+}
+
+/* Elements come by few bytes and by many, so that a branch is split, and go likewise, so that two become one. */
+static int32_t edit_large(geosvm_session *s, int kind, uint16_t root) {
+  static uint8_t many[40000];
+  size_t elements = 0;
+  if (geosvm_hcount(s, root, &elements) != GEOSVM_OK) elements = 0;
+  const uint32_t i = below((uint32_t)elements + 1), left = (uint32_t)elements - i, most = left < 80 ? left : 80;
+  if (kind == edit_hdelete) return geosvm_hdelete(s, root, i, below(6) ? below(most + 1) : left);
+  if (below(6) == 0) {
+    const size_t size = 2 * below(sizeof many / 2);
+    memset(many, (int)below(3), size);
+    return kind == edit_hset ? geosvm_hset(s, root, i, many, size) : geosvm_hinsert(s, root, i, many, size);
+  }
+  return kind == edit_hset ? geosvm_hset(s, root, i, text_bytes, some(text_bytes, most))
+                           : geosvm_hinsert(s, root, i, text_bytes, some(text_bytes, 80));
 }
 
 static int32_t edit_chunk(geosvm_session *s, int kind, uint16_t b, uint16_t c, uint32_t at, uint32_t count) {
@@ -197,7 +219,8 @@ static bool is_accepted(const view *v, geosvm_session *s, int kind) {
   if (kind > edit_free && length > 4000) kind = edit_resize;
   if (kind >= edit_ainsert && geosvm_acount(s, b, c, &elements) != GEOSVM_OK) elements = 0;
   int32_t code;
-  if (kind <= edit_settype) code = edit_block(s, kind, b, at, count);
+  if (kind >= edit_hinsert && kind <= edit_hdelete) code = edit_large(s, kind, b);
+  else if (kind <= edit_settype) code = edit_block(s, kind, b, at, count);
   else if (kind <= edit_splice) code = edit_chunk(s, kind, b, c, at, count);
   else code = edit_array(s, kind, b, c, below((uint32_t)elements + 1));
   if (code == GEOSVM_MEMORY || code == GEOSVM_FILE || code == GEOSVM_DAMAGED || code >= GEOSVM_NOT_OPEN) fail(names[kind], code);

@@ -18,15 +18,16 @@ from .errors import (
     NothingToUndo, NotLocked, NotOpen, OpenAlready, Range, TooBig, Untold, Worn, WrongKind,
     WrongThread,
 )
+from .large_arrays import LargeArray
 from .library import fault_name, version
 from .places import Place, PlaceKind
 
 __all__ = [
     "Array", "BadArgument", "BadChain", "BadCommand", "Block", "BrokenGroup", "CacheFull", "Chain",
     "Chunk", "CountFull", "CutOff", "Damaged", "Document", "ElementArray", "Error", "File", "Full",
-    "GroupOpen", "Heap", "IsMap", "LockLimit", "Locked", "Memory", "NameArray", "NameInUse",
-    "NoBlock", "NoChunk", "NoElement", "NoGroup", "NoHandles", "NoName", "NoTarget", "NotArray",
-    "NotDocument", "NotLocked", "NotOpen", "NothingToRedo", "NothingToUndo", "OpenAlready", "Place",
-    "PlaceKind", "Range", "Raw", "TooBig", "Untold", "Worn", "WrongKind", "WrongThread", "create",
-    "fault_name", "open", "version",
+    "GroupOpen", "Heap", "IsMap", "LargeArray", "LockLimit", "Locked", "Memory", "NameArray",
+    "NameInUse", "NoBlock", "NoChunk", "NoElement", "NoGroup", "NoHandles", "NoName", "NoTarget",
+    "NotArray", "NotDocument", "NotLocked", "NotOpen", "NothingToRedo", "NothingToUndo",
+    "OpenAlready", "Place", "PlaceKind", "Range", "Raw", "TooBig", "Untold", "Worn", "WrongKind",
+    "WrongThread", "create", "fault_name", "open", "version",
 ]

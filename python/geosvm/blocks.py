@@ -13,6 +13,7 @@ from .library import as_bytes
 if TYPE_CHECKING:
     from .arrays import Array, ElementArray, NameArray
     from .document import Document
+    from .large_arrays import LargeArray
 
 Data = Union[bytes, bytearray, memoryview]
 B = TypeVar("B", bound="Block")
@@ -172,6 +173,12 @@ class Raw(Block, Text):
         data: bytes = self._call("locked_raw")
         return data
 
+    def lock_run(self, i: int) -> tuple[Raw, bytes]:
+        """Locks the block that has element `i` of the large array of which this is the root, and
+        gives that block, which is to be unlocked, and its elements from there on, copied."""
+        block, data = self._call("lock_run", i)
+        return Raw(self.document, block), data
+
     def write(self, at: int, data: Data) -> None:
         self._call("vwrite", at, data)
 
@@ -188,6 +195,11 @@ class Raw(Block, Text):
     def chain(self) -> Chain:
         """The chain that begins at this block."""
         return Chain(self.document, *self._handles)
+
+    def as_large_array(self) -> LargeArray:
+        """The large array of which it is the root; what is none is NotArray when it is asked."""
+        from .large_arrays import LargeArray
+        return LargeArray(self.document, *self._handles)
 
 
 class Chain(Part):

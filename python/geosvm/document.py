@@ -13,6 +13,7 @@ from .arrays import Name, name_bytes
 from .blocks import Block, Heap, Raw
 from .errors import BrokenGroup, Error, GroupOpen, NoBlock, NoGroup, NotOpen, TooBig, from_code
 from .files import Path, Replacement, make_locked, open_locked, sync_folder
+from .large_arrays import LargeArray
 from .library import FILE, REPLY_MOST, last_error
 from .places import Place, as_places
 from .session import Session
@@ -150,6 +151,10 @@ class Document:
     def new_raw(self, size: int = 0, user_id: int = 0) -> Raw:
         """Makes a raw block of so many zeros."""
         return Raw(self, self.call("newraw", user_id, size))
+
+    def new_large_array(self, size: int = 0, user_id: int = 0) -> LargeArray:
+        """Makes a large array of elements of `size` bytes, 0 for any sizes; its root has the ID."""
+        return LargeArray(self, self.call("hcreate", user_id, size))
 
     def copy_in(self, block: Heap | Raw) -> Heap | Raw:
         """Makes a block like one of another document: with its content, its user ID and type,

@@ -74,7 +74,7 @@ class Full(Error):
 
 
 class TooBig(Error, ValueError):
-    """a raw block would have more than 65,520 bytes, or a step a name of more than 64"""
+    """over 65,520 bytes in a raw block, 64 in a step's name, or 65,508 in an element"""
 
     code = 9
 
@@ -92,7 +92,7 @@ class Range(Error, ValueError):
 
 
 class NotArray(Error):
-    """the chunk is no array of the kind that is wanted"""
+    """the chunk is no array of the kind that is wanted, or the block no root of a large array"""
 
     code = 12
 
@@ -122,7 +122,7 @@ class NameInUse(Error):
 
 
 class BadChain(Error):
-    """no chain begins at the block"""
+    """no chain begins at the block, or a branch isn't what the root of a large array says"""
 
     code = 17
 

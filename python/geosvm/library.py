@@ -68,6 +68,7 @@ dirty u16
 locks u16 -> u8
 locked_chunk u16 u16 -> lent
 locked_raw u16 -> lent
+lock_run u16 u32 -> u16 lent
 """
 EDITS = """
 newraw u16 u32 -> u16
@@ -106,6 +107,10 @@ nset u16 u16 u16 bytes
 nunref u16 u16 u16
 chcopy u16 -> u16
 chfree u16
+hcreate u16 u32 -> u16
+hinsert u16 u32 bytes
+hset u16 u32 bytes
+hdelete u16 u32 u32
 """
 LOOK_UPS = """
 info u16 -> u8 u16 u32
@@ -130,6 +135,9 @@ ndata u16 u16 u16 -> bytes
 walk u16 -> handles
 chsize u16 -> size
 chequal u16 u16 -> u8
+hcount u16 -> size
+hget u16 u32 -> bytes
+hread u16 u32 u32 -> bytes
 undos -> size
 redos -> size
 modified -> size

@@ -57,7 +57,7 @@ class Session:
         call = CALLS[name]
         if call.gives and call.gives[0] in LISTS:
             return self._listed(call, values)
-        if call.gives == ["lent"]:
+        if call.gives[-1:] == ["lent"]:
             return self._lent(call, values)
         given = [NUMBERS[kind]() for kind in call.gives]
         code, number = self._made(call, values, *map(ctypes.byref, given))
@@ -103,13 +103,17 @@ class Session:
         call = CALLS[name]
         return self._asked(call, values, (LISTS[call.gives[0]] * 0)())[1]
 
-    def _lent(self, call: Call, values: tuple[Any, ...]) -> bytes:
-        """The bytes that are lent, copied: no object of Python's may outlive the loan."""
+    def _lent(self, call: Call, values: tuple[Any, ...]) -> Any:
+        """The bytes that are lent, copied: no object of Python's may outlive the loan. What else the
+        call gives comes before them."""
+        given = [NUMBERS[kind]() for kind in call.gives[:-1]]
         address, length = ctypes.c_void_p(), ctypes.c_size_t()
-        code, number = self._made(call, values, ctypes.byref(address), ctypes.byref(length))
+        code, number = self._made(
+            call, values, *map(ctypes.byref, (*given, address, length)))
         if code != 0:
             raise from_code(code, call.name, number)
-        return ctypes.string_at(address, length.value)
+        data = ctypes.string_at(address, length.value)
+        return (*(it.value for it in given), data) if given else data
 
     def close(self) -> None:
         """Closes the session and its file, once. What wasn't committed is given up."""

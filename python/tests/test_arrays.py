@@ -108,3 +108,75 @@ class NameArrays(DocumentCase):
         self.assertTrue(b"r\xc3\xa9" in heap[names.handle].as_name_array())
         with self.assertRaises(KeyError):
             names["left"]
+
+
+class LargeArrays(DocumentCase):
+    def test_a_text(self):
+        text = self.doc.new_large_array(1, user_id=7)
+        text.insert(0, b"hello")
+        text.set(0, b"J")
+        text.insert(len(text), b"y")
+        self.assertEqual((text.read(0, len(text)), text[1], len(text)), (b"Jelloy", b"e", 6))
+        text.delete(1, 2)
+        self.assertEqual((text.read(0, 4), text.element(1), text[-1]), (b"Jloy", b"l", b"y"))
+        self.doc.undo()
+        text.insert(6, bytes(70000))
+        text.set(65509, b"ab")
+        self.assertEqual((text.read(65508, 4), len(text)), (b"\0ab\0", 70006))
+        self.assertEqual(len(text.read(1, 65520)), 65520)
+        self.assertEqual((text.handle, text.root.user_id, len(text.chain())), (1, 7, 3))
+        self.assertEqual(self.doc[text.handle].as_large_array(), text)
+        copy = text.chain().copy().root.as_large_array()
+        self.assertEqual((len(copy), copy.read(65509, 2)), (70006, b"ab"))
+        text.clear()
+        self.assertEqual((len(text), len(text.chain())), (0, 2))
+
+    def test_elements_of_any_sizes_are_a_list(self):
+        wanted = []
+        array = self.doc.new_large_array()
+        for it in (wanted, array):
+            it.append(b"one")
+            it.extend([b"two", b"", b"four"])
+            it.insert(0, b"zero")
+            it.insert(-1, b"before")
+            it[1] = b"ONE"
+            it[-1] = b"FOUR" * 1000
+            del it[2]
+            it += [b"end"]
+        self.assertEqual(list(array), wanted)
+        self.assertEqual((array[1:], array[::-1]), (wanted[1:], wanted[::-1]))
+        self.assertEqual(array.pop(), b"end")
+        del array[1:3]
+        self.assertEqual(list(array), wanted[:1] + wanted[3:-1])
+        del array[0]
+        self.assertIn(b"before", array)
+
+    def test_what_is_refused(self):
+        text, lines = self.doc.new_large_array(2), self.doc.new_large_array()
+        text.insert(0, b"abcd")
+        refused = [
+            (geosvm.Range, lambda: self.doc.new_large_array(4097)),
+            (geosvm.Range, lambda: text.insert(3, b"ab")),
+            (geosvm.Range, lambda: text.insert(0, b"abc")),
+            (geosvm.Range, lambda: lines.read(0, 0)),
+            (geosvm.TooBig, lambda: lines.insert(0, bytes(65509))),
+            (geosvm.NoElement, lambda: text[2]),
+            (geosvm.NoElement, lambda: text[-3]),
+            (geosvm.NoElement, lambda: text.read(1, 2)),
+            (geosvm.NoElement, lambda: text.set(1, b"abcd")),
+            (geosvm.NoElement, lambda: text.delete(0, 3)),
+            (geosvm.NoElement, lambda: text.__delitem__(2)),
+            (geosvm.NotArray, lambda: len(self.doc.new_raw(3).as_large_array())),
+            (geosvm.BadArgument, lambda: text.read(-1, 1)),
+        ]
+        for kind, call in refused:
+            with self.subTest(kind=kind), self.assertRaises(kind):
+                call()
+        with self.assertRaises(ValueError):
+            del text[::2]
+        with text.root.locked(), self.assertRaises(geosvm.Locked):
+            text.set(0, b"AB")
+        self.doc[2].write(2, b"\1")
+        with self.assertRaises(geosvm.BadChain):
+            text.element(0)
+        self.assertEqual(len(text), 2)

@@ -109,6 +109,16 @@ class Blocks(DocumentCase):
         with self.assertRaises(geosvm.NotLocked):
             chunk.locked_read()
 
+    def test_elements_are_lent_by_a_lock(self):
+        root = self.doc[int(self.doc.command("hcreate 5 2").split()[1], 16)]
+        self.doc.command(f"hinsert {root.handle:04x} 0 61626364")
+        block, data = root.lock_run(1)
+        self.assertEqual((data, block.lock_count), (b"cd", 1))
+        block.unlock()
+        with self.assertRaises(geosvm.NoElement):
+            root.lock_run(2)
+        self.assertEqual(block.lock_count, 0)
+
     def test_a_lock_goes_with_an_exception(self):
         heap = self.doc.new_heap()
         with self.assertRaises(ZeroDivisionError), heap.locked():

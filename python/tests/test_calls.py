@@ -7,7 +7,9 @@ import unittest
 from pathlib import Path
 
 import geosvm
-from geosvm import arrays, blocks, document, errors, files, library, places, session
+from geosvm import (
+    arrays, blocks, document, errors, files, large_arrays, library, places, session,
+)
 
 TESTS = Path(__file__).resolve().parent
 PACKAGE = Path(library.__file__).resolve().parent
@@ -95,7 +97,8 @@ class Package(unittest.TestCase):
         self.assertEqual(untried, [])
 
     def functions(self):
-        for module in (arrays, blocks, document, errors, files, library, places, session):
+        for module in (arrays, blocks, document, errors, files, large_arrays, library, places,
+                       session):
             for value in vars(module).values():
                 if inspect.isclass(value) and value.__module__ == module.__name__:
                     for it in vars(value).values():
@@ -107,7 +110,8 @@ class Package(unittest.TestCase):
     def test_each_function_has_type_hints(self):
         # What stands only for type checkers is given here.
         names = dict(vars(blocks), Array=geosvm.Array, ElementArray=geosvm.ElementArray,
-                     NameArray=geosvm.NameArray, Document=geosvm.Document, Chunk=geosvm.Chunk)
+                     NameArray=geosvm.NameArray, LargeArray=geosvm.LargeArray,
+                     Document=geosvm.Document, Chunk=geosvm.Chunk)
         count = 0
         for it in self.functions():
             # A dataclass and an enumeration have some that aren't the package's own.

@@ -1,11 +1,11 @@
 -- Edits of chains, as changes of many blocks.
-use Rattle.std.proofs.Common.{◌≡◌, ◌⊎◌, ◌<◌, ◌≤◌, ℕ, Bool, false, List, [], ◌∷◌, ◌++◌, length, map, get_or, None, Some, Result, Ok, refl, sym, ap, ◌∙◌, arith, inl, inr, ltb-false}
+use Rattle.std.proofs.Common.{◌≡◌, ◌⊎◌, ◌<◌, ◌≤◌, ℕ, Bool, true, false, List, [], ◌∷◌, ◌++◌, length, map, get_or, None, Some, Result, Ok, refl, sym, ap, ◌∙◌, arith, inl, inr, ltb-false}
 use Rattle.std.proofs.lemmas.Bool.{true≢false}
 use Rattle.std.specs.Result.{IsErrAnd}
 use Rattle.geos_model.specs.Refusal.{Conditions, first_refusal}
 use Rattle.geos_model.specs.Chain.{chain_blocks, chain_blocks_of, copies_of, free_handles, new_handles, copy_conditions, free_conditions}
 use Rattle.geos_model.specs.Cost.{images_length}
-use Rattle.geos_model.specs.Document.{Document, handles_of, with_blocks, without_blocks}
+use Rattle.geos_model.specs.Document.{Document, handles_of, is_raw, with_blocks, without_blocks}
 use Rattle.geos_model.specs.Machine.{kind_of}
 use Rattle.geos_model.specs.Meaning.{conditions, on_raw}
 use Rattle.geos_model.specs.Places.{block_place}
@@ -33,7 +33,9 @@ use Rattle.vm_blocks.specs.declared.member.Members.{Members}
 use Rattle.vm_chains.specs.Answers.{RefusesChain}
 use Rattle.doc_edits.specs.Found.{AreLate}
 use Rattle.doc_edits.specs.Planning.{kind_of_change, IsManyBlocksFault, Plans, PlansAlongChain}
+use Rattle.doc_edits.specs.Room.{IsRefusedUnseen}
 use Rattle.doc_edits.proofs.Refusals.{handed_on}
+use Rattle.doc_edits.proofs.RoomLemmas.{never_unseen, unseen_first}
 
 -- The plan of an edit along a chain is refused before any block is looked into, as each command along a chain is,
 -- or on the way, or given.
@@ -50,14 +52,15 @@ module _ {S : Type 0} {facts : S → StoreFacts} {edit : Edit} {a : CacheState S
           ready = tt;
           room = tt;
           shut = λ full. (refl, ap (λ (b : Bool). first_refusal ((CacheFull, b) ∷ conditions edit a.document)) (sym full) ∙ first);
+          unseen = λ unseen. (refl, unseen_first (is_full a) (conditions edit a.document) fault unseen first);
           kind = tt;
           refusals = inl (inr first);
         })
 
-    pub plan_missed : {b : CacheState S} → is_full a ≡ false → KeepsBlocks facts a b
+    pub plan_missed : {b : CacheState S} → is_full a ≡ false → (IsRefusedUnseen (conditions edit a.document) → ⊥) → KeepsBlocks facts a b
         → (IsHonest facts a.disk.store → RefusesChain (IsEnvironmentFault facts a.disk.store b.disk.store) (conditions edit b.document) fault)
         → IsEnvironmentFault facts a.disk.store b.disk.store fault ⊎ IsManyBlocksFault edit a.document fault → PlansAlongChain facts a b edit r
-    plan_missed {b} room keeps refuses why =
+    plan_missed {b} room seen keeps refuses why =
         handed_on (PlansAlongChain facts a b edit) r fault is
         (record {
           keeps = keeps;
@@ -68,6 +71,7 @@ module _ {S : Type 0} {facts : S → StoreFacts} {edit : Edit} {a : CacheState S
           ready = tt;
           room = tt;
           shut = λ full. absurd (true≢false (sym full ∙ room));
+          unseen = λ unseen. absurd (seen unseen);
           kind = tt;
           refusals = elim why [
             | inl lack ↦ inl (inl lack)
@@ -75,17 +79,26 @@ module _ {S : Type 0} {facts : S → StoreFacts} {edit : Edit} {a : CacheState S
           ];
         })
 
-  pub plan_given : {b : CacheState S} {change : Change} {done : Done} → is_full a ≡ false → KeepsBlocks facts a b → (IsHonest facts a.disk.store → Plans edit b.document change done)
+  pub plan_given : {b : CacheState S} {change : Change} {done : Done} → is_full a ≡ false → (IsRefusedUnseen (conditions edit a.document) → ⊥) → KeepsBlocks facts a b → (IsHonest facts a.disk.store → Plans edit b.document change done)
       → CanCarryOut change b → kind_of_change change ≡ kind_of edit → PlansAlongChain facts a b edit (Ok (change, done))
-  plan_given room keeps plans ready kind = record {
+  plan_given room seen keeps plans ready kind = record {
     keeps = keeps;
     planned = plans;
     ready = ready;
     room = room;
     shut = λ full. absurd (true≢false (sym full ∙ room));
+    unseen = λ unseen. absurd (seen unseen);
     kind = kind;
     refusals = tt;
   }
+
+-- the root of a chain that is raw is seen
+pub chain_seen : (root : VmHandle) (d : Document) → is_raw d root.0 ≡ true
+    → (IsRefusedUnseen (conditions (edits.CopyChain root) d) → ⊥) × (IsRefusedUnseen (conditions (edits.FreeChain root) d) → ⊥)
+chain_seen root d raw = (
+  never_unseen root.0 (conditions (edits.CopyChain root)) (λ x. (_, refl, refl)) d raw,
+  never_unseen root.0 (conditions (edits.FreeChain root)) (λ x. (_, refl, refl)) d raw,
+)
 
 -- what is planned under new handles
 

@@ -44,7 +44,8 @@ use Rattle.doc_edits.specs.Found.{AreLate, is_among}
 use Rattle.doc_edits.specs.Planning.{kind_of_change, IsLargeFault, IsManyBlocksFault, Plans, PlansAll, PlansLarge}
 use Rattle.doc_edits.proofs.FirstConditions.{scope_first}
 use Rattle.doc_edits.proofs.Refusals.{handed_on}
-use Rattle.doc_edits.proofs.RoomLemmas.{Begins, begun_refused}
+use Rattle.doc_edits.specs.Room.{IsRefusedUnseen}
+use Rattle.doc_edits.proofs.RoomLemmas.{Begins, begun_refused, unseen_first}
 
 -- its root is looked for first
 pub large_begins : (root : VmHandle) (edit : LargeEdit) → Begins on_raw root.0 (conditions (large_edit root edit))
@@ -66,13 +67,14 @@ module _ {S : Type 0} {facts : S → StoreFacts} {edit : Edit} {a : CacheState S
           listed = tt;
           room = tt;
           shut = λ full. (refl, ap (λ (b : Bool). first_refusal ((CacheFull, b) ∷ conditions edit a.document)) (sym full) ∙ first);
+          unseen = λ unseen. (refl, unseen_first (is_full a) (conditions edit a.document) fault unseen first);
           refusals = inl (inr first);
         })
 
-    pub large_missed : {b : CacheState S} → is_full a ≡ false → KeepsBlocks facts a b
+    pub large_missed : {b : CacheState S} → is_full a ≡ false → (IsRefusedUnseen (conditions edit a.document) → ⊥) → KeepsBlocks facts a b
         → (IsHonest facts a.disk.store → RefusesChain (IsEnvironmentFault facts a.disk.store b.disk.store) (conditions edit b.document) fault)
         → IsEnvironmentFault facts a.disk.store b.disk.store fault ⊎ IsManyBlocksFault edit a.document fault → PlansLarge facts a b edit r
-    large_missed {b} room keeps refuses why =
+    large_missed {b} room seen keeps refuses why =
         handed_on (PlansLarge facts a b edit) r fault is
         (record {
           keeps = keeps;
@@ -83,31 +85,33 @@ module _ {S : Type 0} {facts : S → StoreFacts} {edit : Edit} {a : CacheState S
           listed = tt;
           room = tt;
           shut = λ full. absurd (true≢false (sym full ∙ room));
+          unseen = λ unseen. absurd (seen unseen);
           refusals = elim why [
             | inl lack ↦ inl (inl lack)
             | inr other ↦ inr other
           ];
         })
 
-  pub large_given : {b : CacheState S} {changes : Vec Change Global} → is_full a ≡ false → KeepsBlocks facts a b → (IsHonest facts a.disk.store → PlansAll edit b.document changes.items)
+  pub large_given : {b : CacheState S} {changes : Vec Change Global} → is_full a ≡ false → (IsRefusedUnseen (conditions edit a.document) → ⊥) → KeepsBlocks facts a b → (IsHonest facts a.disk.store → PlansAll edit b.document changes.items)
       → CanApplyAllByHandle changes.items b.document → PlansLarge facts a b edit (Ok changes)
-  large_given room keeps plans listed = record {
+  large_given room seen keeps plans listed = record {
     keeps = keeps;
     planned = plans;
     listed = listed;
     room = room;
     shut = λ full. absurd (true≢false (sym full ∙ room));
+    unseen = λ unseen. absurd (seen unseen);
     refusals = tt;
   }
 
 -- What is planned of one.
-module _ {S : Type 0} (facts : S → StoreFacts) (edit : Edit) (a b : CacheState S) (changed : List ℕ) (room : is_full a ≡ false) (keeps : KeepsBlocks facts a b) where
+module _ {S : Type 0} (facts : S → StoreFacts) (edit : Edit) (a b : CacheState S) (changed : List ℕ) (room : is_full a ≡ false) (seen : IsRefusedUnseen (conditions edit a.document) → ⊥) (keeps : KeepsBlocks facts a b) where
   pub large_planned : (r : Result (Vec Change Global) Fault)
       → (IsHonest facts a.disk.store → AnswersChain (IsEnvironmentFault facts a.disk.store b.disk.store) (conditions edit b.document) (λ changes. PlansLargeEdit b.document (effect edit b.document).0 changed changes.items) r)
       → IfOk r (λ changes. CanApplyAllByHandle changes.items b.document) → IfErr r (λ fault. IsEnvironmentFault facts a.disk.store b.disk.store fault ⊎ IsManyBlocksFault edit a.document fault)
       → large_cost b.document (effect edit b.document).0 changed ≡ cost edit b.document (effect edit b.document).0 → large_places changed ≡ places_of edit b.document → PlansLarge facts a b edit r
   large_planned (Ok changes) answers listed refusals costs places =
-      large_given room keeps (λ honest. let did = answers honest in record {
+      large_given room seen keeps (λ honest. let did = answers honest in record {
         accepted = did.0;
         applies = did.1.applies;
         document = did.1.makes;
@@ -115,7 +119,7 @@ module _ {S : Type 0} (facts : S → StoreFacts) (edit : Edit) (a b : CacheState
         places = did.1.places ∙ places;
         some = did.1.some;
       }) listed
-  large_planned (Err fault) answers listed refusals costs places = large_missed refl room keeps answers refusals
+  large_planned (Err fault) answers listed refusals costs places = large_missed refl room seen keeps answers refusals
 
 -- what it is refused for: its root, these of its own, its branches
 pub large_why : (lacks own : Fault → Type 0) (d : Document) (b : ℕ) (given : List Fault) → ((fault : Fault) → own fault → is_among (given ++ NotArray ∷ BadChain ∷ IsMap ∷ NoHandles ∷ []) fault ≡ true)

@@ -13,6 +13,7 @@ pub mod Loading
 pub mod ChunkPlans
 pub mod LookUps
 pub mod LargeLookUps
+pub mod LentRuns
 pub mod Forms
 pub mod BlockPlans
 pub mod ChainPlans

@@ -1,5 +1,6 @@
 -- What comes of bringing into memory what an edit looks into.
 use Rattle.std.proofs.Common.{◌≡◌, ◌⊎◌, ◌∷◌, ℕ, Bool, true, false, Some, Result, Err, IsOk, IfOk, IfErr, refl, sym, ap, subst, ◌∙◌}
+use Rattle.std.specs.Result.{IsErrAnd}
 use Rattle.geos_model.specs.Document.{Document, is_heap, is_live, is_raw}
 use Rattle.geos_model.specs.Machine.{Needs, OneBody, edit_needs, needs_of_scope}
 use Rattle.geos_model.specs.Meaning.{conditions}
@@ -14,15 +15,16 @@ use Rattle.vm_blocks.specs.State.{CacheState}
 use Rattle.vm_blocks.specs.Keeping.{IsCacheFull, is_loaded, has_no_frame_for}
 use Rattle.vm_blocks.specs.Kinds.{IsWrongBlock}
 use Rattle.doc_edits.specs.Planning.{RefusesEdit}
-use Rattle.doc_edits.specs.Room.{lacks_frames, ReadsNothing}
+use Rattle.doc_edits.specs.Room.{lacks_frames, IsRefusedUnseen, ReadsNothing}
 use Rattle.doc_edits.proofs.FirstConditions.{FirstOfScope, heap_begins, scope_first}
-use Rattle.doc_edits.proofs.RoomLemmas.{LooksFor, early_dead, err_dead, err_of, looks_for_any, looks_for_heap, looks_for_raw, unchanged, room_of, shut_of}
+use Rattle.doc_edits.proofs.RoomLemmas.{LooksFor, early_dead, err_dead, err_of, kept_unseen, looks_for_any, looks_for_heap, looks_for_raw, unchanged, room_of, shut_of}
 
 -- With the room it has, the block was brought in, or the edit is refused first of all.
 pub record IsBrought {S : Type 0} (lacks : Fault → Type 0) (edit : Edit) (a b : CacheState S) (result : Result (Unit {0}) Fault) : Type 0 where
   pub room : IfOk result (λ _. lacks_frames a (edit_needs edit) ≡ false)
   pub shut : lacks_frames a (edit_needs edit) ≡ true → (b ≡ a) × IfErr result (λ fault. first_refusal ((CacheFull, true) ∷ conditions edit a.document) ≡ Some fault)
   pub err : IfErr result (RefusesEdit lacks (lacks_frames a (edit_needs edit)) edit b.document)
+  pub unseen : IsRefusedUnseen (conditions edit a.document) → (b ≡ a) × IsErrAnd result (λ fault. first_refusal (conditions edit a.document) ≡ Some fault)
   pub already : ReadsNothing a (edit_needs edit) (conditions edit a.document)
       → (b.disk ≡ a.disk) × (b.document ≡ a.document)
       × IfErr result (λ fault. first_refusal (conditions edit a.document) ≡ Some fault)
@@ -43,6 +45,7 @@ module _ {S : Type 0} (lacks : Fault → Type 0) (edit : Edit) (a b : CacheState
       room = subst (λ (out : Bool). IfOk result (λ _. out ≡ false)) (sym same) (room_of is_kind a b h.0 result early shut (conditions edit) looks);
       shut = λ out. shut_of is_kind a b h.0 result early shut (conditions edit) looks (sym same ∙ out);
       err = subst (λ (out : Bool). IfErr result (RefusesEdit lacks out edit b.document)) (sym same) (err_of is_kind a b h.0 result early shut (conditions edit) looks lacks err);
+      unseen = kept_unseen is_kind a b h.0 result early (conditions edit) looks;
       already = λ nothing. unchanged is_kind a b h.0 result early shut (conditions edit) looks already (subst (λ (n : Needs). ReadsNothing a n (conditions edit a.document)) needs nothing);
     }
 

@@ -1,5 +1,5 @@
 -- What planning comes to, once the block that is needed was brought in or not.
-use Rattle.std.proofs.Common.{◌≡◌, ◌⊎◌, ◌∷◌, [], ℕ, true, false, Result, Ok, Err, IfOk, IfErr, MatchResult, inl, inr, refl, sym, ap, subst, ◌∙◌}
+use Rattle.std.proofs.Common.{◌≡◌, ◌⊎◌, ◌∷◌, [], ℕ, true, false, None, Some, Result, Ok, Err, IfOk, IfErr, MatchResult, inl, inr, refl, sym, ap, subst, ◌∙◌}
 use Rattle.std.proofs.lemmas.Bool.{true≢false}
 use Rattle.std.specs.Result.{IsErrAnd}
 use Rattle.geos_model.specs.Document.{Document}
@@ -13,6 +13,7 @@ use Rattle.geos_model.specs.declared.command.Edit.{Edit}
 use Rattle.geos_model.specs.declared.command.Edit.TheVariants as edits
 use Rattle.geos_model.specs.declared.command.Kind.TheVariants.{Plain, In}
 use Rattle.geos_model.specs.declared.fault.Fault.{Fault}
+use Rattle.geos_model.specs.declared.fault.Fault.TheVariants.{NoBlock, WrongKind}
 use Rattle.geos_model.specs.declared.handle.ChunkHandle.{ChunkHandle}
 use Rattle.geos_model.specs.declared.handle.VmHandle.{VmHandle}
 use Rattle.geos_model.specs.declared.target.ChainEdit.{ChainEdit}
@@ -27,7 +28,7 @@ use Rattle.vm_blocks.specs.declared.change.Change.TheVariants as changes
 use Rattle.vm_blocks.proofs.KeepingLaws.{keeps-refl, lacks-memory}
 use Rattle.vm_blocks.proofs.Preparing.{applies_listed, applies_takes}
 use Rattle.doc_edits.specs.Planning.{freed_by, kind_of_change, IsManyBlocksFault, Plans, PlansAlongChain, PlansEdit, RefusesEdit, RefusesInMemory}
-use Rattle.doc_edits.specs.Room.{lacks_frames, ReadsNothing}
+use Rattle.doc_edits.specs.Room.{lacks_frames, IsRefusedUnseen, ReadsNothing}
 use Rattle.doc_edits.proofs.Loading.{IsBrought}
 use Rattle.doc_edits.proofs.Refusals.{accepted_so, handed_on, may_lack}
 use Rattle.doc_edits.proofs.Targets.{chunk_scope}
@@ -61,6 +62,16 @@ either_so : {A : Type 0} (result : Result A Fault) (P Q : Fault → Type 0) → 
 either_so (Ok x) P Q is = tt
 either_so (Err fault) P Q is = inl is
 
+and_so : {A : Type 0} (result : Result A Fault) (P Q : Fault → Type 0) → ((fault : Fault) → P fault → Q fault) → IsErrAnd result P → IsErrAnd result Q
+and_so (Ok x) P Q turn is = absurd is
+and_so (Err fault) P Q turn is = turn fault is
+
+-- what is refused unseen isn't planned
+unplanned : (edit : Edit) (d : Document) (r : Result (Change × Done) Fault) → MatchResult r (λ p. Plans edit d p.0 p.1) (RefusesInMemory edit d) → IsRefusedUnseen (conditions edit d) → IsErrAnd r (RefusesInMemory edit d)
+unplanned edit d (Ok p) plans (inl dead) = let no : None ≡ Some NoBlock = sym plans.accepted ∙ dead in absurd (cc no)
+unplanned edit d (Ok p) plans (inr other) = let no : None ≡ Some WrongKind = sym plans.accepted ∙ other in absurd (cc no)
+unplanned edit d (Err fault) refuses unseen = refuses
+
 -- Where it needs no more than is there, and nothing but that block was brought in.
 module _ {S : Type 0} (facts : S → StoreFacts) (edit : Edit) (a b : CacheState S) (keeps : KeepsBlocks facts a b) (room : lacks_frames a (edit_needs edit) ≡ false)
     (there : (x : ℕ) → edit_needs edit ≡ OneBody x → is_loaded b x ≡ true) (r : Result (Change × Done) Fault)
@@ -88,8 +99,9 @@ module _ {S : Type 0} (facts : S → StoreFacts) (edit : Edit) (a b : CacheState
   may_refuse = may_lack (IsEnvironmentFault facts a.disk.store b.disk.store) (lacks_frames a (edit_needs edit)) edit b.document _ r room (lacks-memory facts a.disk.store b.disk.store) planned
 
   pub plans_there : ((x : VmHandle) → edit ≡ edits.FreeBlock x → IfOk r (λ p. freed_by p.0 ≡ x.0 ∷ [])) → (kind_of edit ≡ Plain → b ≡ a)
+      → (IsRefusedUnseen (conditions edit a.document) → (b ≡ a) × IsErrAnd r (RefusesInMemory edit a.document))
       → (ReadsNothing a (edit_needs edit) (conditions edit a.document) → (b.disk ≡ a.disk) × (b.document ≡ a.document)) → PlansEdit facts a b edit r
-  plans_there alone plain already =
+  plans_there alone plain unseen already =
       let refused : IfErr r (RefusesInMemory edit b.document) = refused_so r _ (RefusesInMemory edit b.document) planned in
       record {
         keeps = keeps;
@@ -97,6 +109,7 @@ module _ {S : Type 0} (facts : S → StoreFacts) (edit : Edit) (a b : CacheState
         ready = (ready r planned).0;
         room = accepted_so r (lacks_frames a (edit_needs edit) ≡ false) room;
         shut = λ out. absurd (true≢false (sym out ∙ room));
+        unseen = unseen;
         kind = (ready r planned).1;
         alone = alone;
         refusals = either_so r (RefusesEdit (IsEnvironmentFault facts a.disk.store b.disk.store) (lacks_frames a (edit_needs edit)) edit b.document) (IsManyBlocksFault edit a.document) (refused_so r _ _ may_refuse);
@@ -109,7 +122,7 @@ module _ {S : Type 0} (facts : S → StoreFacts) (edit : Edit) (needs : edit_nee
   pub plans_bare : (r : Result (Change × Done) Fault) → MatchResult r (λ p. Plans edit a.document p.0 p.1) (RefusesInMemory edit a.document) → PlansEdit facts a a edit r
   plans_bare r planned =
       plans_there facts edit a a (keeps-refl facts a) (ap (lacks_frames a) needs) (λ x one. let no : NoBody ≡ OneBody x = sym needs ∙ one in absurd (cc no)) r planned
-      (λ x is. let no : NoBody ≡ OneBody x.0 = sym needs ∙ ap edit_needs is in absurd (cc no)) (λ plain. refl) (λ nothing. (refl, refl))
+      (λ x is. let no : NoBody ≡ OneBody x.0 = sym needs ∙ ap edit_needs is in absurd (cc no)) (λ plain. refl) (λ unseen. (refl, unplanned edit a.document r planned unseen)) (λ nothing. (refl, refl))
 
 -- An edit that needs one.
 module _ {S : Type 0} (facts : S → StoreFacts) (edit : Edit) (h : VmHandle) (needs : edit_needs edit ≡ OneBody h.0) (a b : CacheState S) (keeps : KeepsBlocks facts a b) where
@@ -124,6 +137,7 @@ module _ {S : Type 0} (facts : S → StoreFacts) (edit : Edit) (h : VmHandle) (n
     ready = tt;
     room = tt;
     shut = brought.shut;
+    unseen = λ unseen. let w = brought.unseen unseen in (w.0, inr w.1);
     kind = tt;
     alone = λ x is. tt;
     refusals = inl brought.err;
@@ -140,7 +154,7 @@ module _ {S : Type 0} (facts : S → StoreFacts) (edit : Edit) (h : VmHandle) (n
       → ((x : VmHandle) → edit ≡ edits.FreeBlock x → IfOk r (λ p. freed_by p.0 ≡ x.0 ∷ [])) → PlansEdit facts a b edit r
   plans_brought brought loaded r planned alone =
       plans_there facts edit a b keeps brought.room (λ x one. let same : h.0 ≡ x = cc (sym needs ∙ one) in subst (λ (y : ℕ). is_loaded b y ≡ true) same loaded) r planned
-      alone (λ plain. absurd (not_plain plain)) (λ nothing. let w = brought.already nothing in (w.0, w.1))
+      alone (λ plain. absurd (not_plain plain)) (λ unseen. absurd (brought.unseen unseen).1) (λ nothing. let w = brought.already nothing in (w.0, w.1))
 
 -- An edit of a chunk, whose heap was brought in.
 pub plans_chunk : {S : Type 0} (facts : S → StoreFacts) (h : VmHandle) (k : ChunkHandle) (edit : ChunkEdit) (a b : CacheState S) → KeepsBlocks facts a b
@@ -158,6 +172,7 @@ plans_along facts a b root chain_edits.Copy r plans = record {
   ready = plans.ready;
   room = plans.room;
   shut = plans.shut;
+  unseen = λ unseen. let w = plans.unseen unseen in (w.0, and_so r _ _ (λ fault first. inr first) w.1);
   kind = plans.kind;
   alone = λ x is. absurd (cc is);
   refusals = plans.refusals;
@@ -170,6 +185,7 @@ plans_along facts a b root chain_edits.Free r plans = record {
   ready = plans.ready;
   room = plans.room;
   shut = plans.shut;
+  unseen = λ unseen. let w = plans.unseen unseen in (w.0, and_so r _ _ (λ fault first. inr first) w.1);
   kind = plans.kind;
   alone = λ x is. absurd (cc is);
   refusals = plans.refusals;

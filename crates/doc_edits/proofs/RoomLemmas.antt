@@ -1,6 +1,7 @@
 -- What is answered where there may be no room in memory for the block into which a command looks.
 use Rattle.std.proofs.Common.{◌≡◌, ◌⊎◌, ◌++◌, ◌∷◌, ℕ, Bool, true, false, Result, Ok, Err, IsOk, IfOk, IfErr, Some, [], refl, sym, ap, subst, ◌∙◌, inl, inr}
 use Rattle.std.proofs.lemmas.Bool.{cases_Bool, true≢false}
+use Rattle.std.specs.Result.{IsErrAnd}
 use Rattle.vm_store.specs.Facts.{StoreFacts}
 use Rattle.geos_model.specs.Document.{Document, is_heap, is_live, is_raw}
 use Rattle.geos_model.specs.Chain.{on_chains}
@@ -37,6 +38,18 @@ pub record LooksFor (is_kind : Document → ℕ → Bool) (h : ℕ) (conditions 
   pub other : (d : Document) (fault : Fault) → IsWrongBlock is_kind d h fault → first_refusal (conditions d) ≡ Some fault
   pub full : (d : Document) → is_kind d h ≡ true → first_refusal ((CacheFull, true) ∷ conditions d) ≡ Some CacheFull
 
+-- one of the kind isn't refused unseen
+of_kind_seen : (is_kind : Document → ℕ → Bool) (h : ℕ) (conditions : Document → Conditions) → LooksFor is_kind h conditions → (d : Document) → is_kind d h ≡ true → IsRefusedUnseen (conditions d) → ⊥
+of_kind_seen is_kind h conditions looks d of unseen = elim unseen as (λ _. ⊥) [
+  | inl dead ↦ seen NoBlock refl (λ is. cc is) dead
+  | inr other ↦ seen WrongKind refl (λ is. cc is) other
+]
+  where
+    seen : (fault : Fault) → ComesBefore fault CacheFull → (fault ≡ CacheFull → ⊥) → first_refusal (conditions d) ≡ Some fault → ⊥
+    seen fault before other first =
+        let same : Some fault ≡ Some CacheFull = sym (still_first CacheFull true (conditions d) fault before first) ∙ looks.full d of in
+        other (cc same)
+
 -- the conditions are those of the block, and later ones
 abbrev pub Begins : (Document → ℕ → Conditions) → ℕ → (Document → Conditions) → Type 0
 Begins on h conditions = (d : Document) → (rest : Conditions) × AreLate rest × (conditions d ≡ on d h ++ rest)
@@ -69,6 +82,15 @@ root_refused d h full fault other = λ rest late.
 pub root_full : (d : Document) (h : ℕ) (full : Bool) (fault : Fault) → is_raw d h ≡ true → (fault ≡ CacheFull) × (full ≡ true) → (rest : Conditions) → AreLate rest → first_refusal ((CacheFull, full) ∷ on_raw d h ++ rest) ≡ Some fault
 root_full d h full fault raw is = λ rest late. full-raw late_faults rest late refl full is.1 d h (raw_live d h raw) raw ∙ ap (λ (f : Fault). Some f) (sym is.0)
 
+-- Where it is raw nothing is refused unseen, and what is refused so is refused so whether there is room or not.
+
+pub never_unseen : (h : ℕ) (conditions : Document → Conditions) → Begins on_raw h conditions → (d : Document) → is_raw d h ≡ true → IsRefusedUnseen (conditions d) → ⊥
+never_unseen h conditions begins d raw unseen = of_kind_seen is_raw h conditions (looks_for_raw h conditions begins) d raw unseen
+
+pub unseen_first : (full : Bool) (conditions : Conditions) (fault : Fault) → IsRefusedUnseen conditions → first_refusal ((CacheFull, full) ∷ conditions) ≡ Some fault → first_refusal conditions ≡ Some fault
+unseen_first full conditions fault (inl dead) is = dead ∙ sym (still_first CacheFull full conditions NoBlock refl dead) ∙ is
+unseen_first full conditions fault (inr other) is = other ∙ sym (still_first CacheFull full conditions WrongKind refl other) ∙ is
+
 -- whatever comes later
 pub begun_refused : (h : ℕ) (conditions : Document → Conditions) → Begins on_raw h conditions → (d : Document) (full : Bool) (fault : Fault)
     → ((rest : Conditions) → AreLate rest → first_refusal ((CacheFull, full) ∷ on_raw d h ++ rest) ≡ Some fault) → first_refusal ((CacheFull, full) ∷ conditions d) ≡ Some fault
@@ -89,6 +111,22 @@ module _ (d : Document) (first second : ℕ) (full : Bool) (fault : Fault) where
 
   pub chains_full : is_raw d first ≡ true → is_raw d second ≡ true → (fault ≡ CacheFull) × (full ≡ true) → first_refusal ((CacheFull, full) ∷ on_chains d first second) ≡ Some fault
   chains_full mine other is = full-chains [] [] refl refl full is.1 d first second (raw_live d first mine) mine (raw_live d second other) other ∙ ap (λ (f : Fault). Some f) (sym is.0)
+
+-- A load of what is refused unseen changes nothing.
+pub kept_unseen : {S : Type 0} (is_kind : Document → ℕ → Bool) (a b : CacheState S) (h : ℕ) (result : Result (Unit {0}) Fault) → ((fault : Fault) → IsWrongBlock is_kind a.document h fault → (result ≡ Err fault) × (b ≡ a))
+    → (conditions : Document → Conditions) → LooksFor is_kind h conditions → IsRefusedUnseen (conditions a.document) → (b ≡ a) × IsErrAnd result (λ fault. first_refusal (conditions a.document) ≡ Some fault)
+kept_unseen is_kind a b h result early conditions looks unseen = elim (cases_Bool (is_kind a.document h)) as (λ _. (b ≡ a) × IsErrAnd result (λ fault. first_refusal (conditions a.document) ≡ Some fault)) [
+  | inl of ↦ absurd (of_kind_seen is_kind h conditions looks a.document of unseen)
+  | inr other ↦ elim (cases_Bool (is_live a.document h)) as (λ _. (b ≡ a) × IsErrAnd result (λ fault. first_refusal (conditions a.document) ≡ Some fault)) [
+    | inl live ↦ refused WrongKind (inr (refl, live, other))
+    | inr dead ↦ refused NoBlock (inl (refl, dead))
+  ]
+]
+  where
+    refused : (fault : Fault) → IsWrongBlock is_kind a.document h fault → (b ≡ a) × IsErrAnd result (λ fault. first_refusal (conditions a.document) ≡ Some fault)
+    refused fault why =
+        let none = early fault why in
+        (none.1, subst (λ (r : Result (Unit {0}) Fault). IsErrAnd r (λ f. first_refusal (conditions a.document) ≡ Some f)) (sym none.0) (looks.other a.document fault why))
 
 -- What a load answers is the first refusal, or what it lacks.
 module _ {S : Type 0} (is_kind : Document → ℕ → Bool) (a b : CacheState S) (h : ℕ) (result : Result (Unit {0}) Fault)
@@ -154,20 +192,13 @@ module _ {S : Type 0} (is_kind : Document → ℕ → Bool) (a b : CacheState S)
               subst (λ (r : Result (Unit {0}) Fault). IfErr r (λ f. first_refusal (conditions a.document) ≡ Some f)) (sym none.0) (looks.other a.document fault why),
             )
 
-        -- one of the kind isn't refused unseen
-        seen : is_kind a.document h ≡ true → (fault : Fault) → ComesBefore fault CacheFull → (fault ≡ CacheFull → ⊥) → first_refusal (conditions a.document) ≡ Some fault → ⊥
-        seen of fault before other first =
-            let same : Some fault ≡ Some CacheFull = sym (still_first CacheFull true (conditions a.document) fault before first) ∙ looks.full a.document of in
-            other (cc same)
-
         accepted : (r : Result (Unit {0}) Fault) → IsOk r → IfErr r (λ f. first_refusal (conditions a.document) ≡ Some f)
         accepted (Ok u) is = tt
         accepted (Err fault) is = absurd (cc is)
 
         of_kind : is_kind a.document h ≡ true → (is_loaded a h ≡ true) ⊎ IsRefusedUnseen (conditions a.document) → IsAtRest
         of_kind of (inl loaded) = let there = already loaded of in (there.1, there.2, accepted result there.0)
-        of_kind of (inr (inl dead)) = absurd (seen of NoBlock refl (λ is. cc is) dead)
-        of_kind of (inr (inr other)) = absurd (seen of WrongKind refl (λ is. cc is) other)
+        of_kind of (inr unseen) = absurd (of_kind_seen is_kind h conditions looks a.document of unseen)
 
   module _ (lacks : Fault → Type 0) where
     pub refused_for : (fault : Fault) → result ≡ Err fault → lacks fault ⊎ (IsWrongBlock is_kind b.document h fault ⊎ IsCacheFull a h fault)

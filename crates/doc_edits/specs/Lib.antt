@@ -3,4 +3,5 @@ pub mod Found
 pub mod Room
 pub mod Building
 pub mod LookUps
+pub mod LentRuns
 pub mod Marking

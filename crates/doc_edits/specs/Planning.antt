@@ -1,6 +1,7 @@
 -- What planning an edit comes to.
 use Rattle.std.specs.Prelude.{◌≡◌, ◌<◌, ◌⊎◌, ℕ, Bool, true, false, List, [], ◌∷◌, ◌++◌, None, Some, length, Result, IfOk, IfErr, MatchResult, Vec}
 use Rattle.std.specs.Global.{Global}
+use Rattle.std.specs.Result.{IsErrAnd}
 use Rattle.std.specs.List.{flat_map, sum_by}
 use Rattle.geos_model.specs.Refusal.{first_refusal}
 use Rattle.geos_model.specs.Document.{Document, handles_of, is_raw}
@@ -30,7 +31,7 @@ use Rattle.vm_blocks.specs.Kinds.{IsWrongBlock}
 use Rattle.vm_blocks.specs.Preparing.{after_changes, CanApplyAll, CanApplyAllByHandle, CanCarryOut}
 use Rattle.vm_chains.specs.Answers.{IsChainFault}
 use Rattle.doc_edits.specs.Found.{is_among}
-use Rattle.doc_edits.specs.Room.{lacks_frames, ReadsNothing}
+use Rattle.doc_edits.specs.Room.{lacks_frames, IsRefusedUnseen, ReadsNothing}
 
 -- what kind of step a change is
 abbrev pub kind_of_change : Change → Kind
@@ -100,7 +101,8 @@ RefusesEdit lacks no_room edit d fault =
 -- locked block; it is of the edit's kind, and can be carried out at once. Where each frame has one nothing changes, and
 -- the answer is the first refusal of the document before, CacheFull counted among them. Over any store the edit is
 -- refused for nothing but what the call lacked, the first refusal of the document as it is held from then on, where
--- CacheFull counts if each frame had one, or what an edit of a chain may be refused for in the document before.
+-- CacheFull counts if each frame had one, or what an edit of a chain may be refused for in the document before. Where
+-- its root is no raw block nothing changes, and that is the answer.
 pub record PlansAlongChain {S : Type 0} (facts : S → StoreFacts) (old new : CacheState S) (edit : Edit)
     (result : Result (Change × Done) Fault) : Type 0 where
   pub keeps : KeepsBlocks facts old new
@@ -111,14 +113,16 @@ pub record PlansAlongChain {S : Type 0} (facts : S → StoreFacts) (old new : Ca
   pub room : IfOk result (λ _. is_full old ≡ false)
   pub shut : is_full old ≡ true → (new ≡ old)
       × IfErr result (λ fault. first_refusal ((CacheFull, true) ∷ conditions edit old.document) ≡ Some fault)
+  pub unseen : IsRefusedUnseen (conditions edit old.document) → (new ≡ old)
+      × IsErrAnd result (λ fault. first_refusal (conditions edit old.document) ≡ Some fault)
   pub kind : IfOk result (λ p. kind_of_change p.0 ≡ kind_of edit)
   pub refusals : IfErr result (λ fault.
       RefusesEdit (IsEnvironmentFault facts old.disk.store new.disk.store) (is_full old) edit new.document fault
       ⊎ IsManyBlocksFault edit old.document fault)
 
 -- What planning any edit comes to. Over any store, but for one of a chain: it is planned in the document as it is held
--- from then on, or refused there. Where there is no room for what it needs, nothing changes. Where it needs no body, or
--- one that is in memory, or is refused for its block, no store is called and none lacked.
+-- from then on, or refused there. Where there is no room for what it needs, or it is refused for its block, nothing
+-- changes. Where it needs no body, or one that is in memory, no store is called and none lacked.
 pub record PlansEdit {S : Type 0} (facts : S → StoreFacts) (old new : CacheState S) (edit : Edit)
     (result : Result (Change × Done) Fault) : Type 0 where
   pub keeps : KeepsBlocks facts old new
@@ -130,6 +134,8 @@ pub record PlansEdit {S : Type 0} (facts : S → StoreFacts) (old new : CacheSta
   pub room : IfOk result (λ _. lacks_frames old (edit_needs edit) ≡ false)
   pub shut : lacks_frames old (edit_needs edit) ≡ true → (new ≡ old)
       × IfErr result (λ fault. first_refusal ((CacheFull, true) ∷ conditions edit old.document) ≡ Some fault)
+  pub unseen : IsRefusedUnseen (conditions edit old.document)
+      → (new ≡ old) × IsErrAnd result (RefusesInMemory edit old.document)
   pub kind : IfOk result (λ p. kind_of_change p.0 ≡ kind_of edit)
   pub alone : (b : VmHandle) → edit ≡ edits.FreeBlock b → IfOk result (λ p. freed_by p.0 ≡ b.0 ∷ [])
   pub refusals : IfErr result (λ fault.
@@ -153,7 +159,8 @@ pub record PlansAll (edit : Edit) (d : Document) (changes : List Change) : Type 
 -- What planning an edit of a large array comes to: the file is kept, and, if the store gives back what it has, the edit
 -- is planned in the document as it is held from then on, or refused there. Over any store the changes can be tried. A
 -- plan is given only where some frame has no locked block. Where each frame has one nothing changes, and the answer is
--- the first refusal of the document before, CacheFull counted among them.
+-- the first refusal of the document before, CacheFull counted among them. Where its root is no raw block nothing
+-- changes, and that is the answer.
 pub record PlansLarge {S : Type 0} (facts : S → StoreFacts) (old new : CacheState S) (edit : Edit)
     (result : Result (Vec Change Global) Fault) : Type 0 where
   pub keeps : KeepsBlocks facts old new
@@ -164,6 +171,8 @@ pub record PlansLarge {S : Type 0} (facts : S → StoreFacts) (old new : CacheSt
   pub room : IfOk result (λ _. is_full old ≡ false)
   pub shut : is_full old ≡ true → (new ≡ old)
       × IfErr result (λ fault. first_refusal ((CacheFull, true) ∷ conditions edit old.document) ≡ Some fault)
+  pub unseen : IsRefusedUnseen (conditions edit old.document) → (new ≡ old)
+      × IsErrAnd result (λ fault. first_refusal (conditions edit old.document) ≡ Some fault)
   pub refusals : IfErr result (λ fault.
       RefusesEdit (IsEnvironmentFault facts old.disk.store new.disk.store) (is_full old) edit new.document fault
       ⊎ IsManyBlocksFault edit old.document fault)

@@ -10,7 +10,7 @@ use vm_blocks::{Change, FileBlocks};
 use vm_chains::{copy_plan, free_plan};
 use vm_store::Store;
 
-/// Of an edit of a chain.
+/// Of an edit of a chain. Where its root is refused, for NoBlock or WrongKind, nothing changes.
 pub fn plan_chain<S: Store>(
     alloc: Global,
     blocks: &mut FileBlocks<S>,

@@ -27,9 +27,9 @@ pub fn plan_new_large<S: Store>(
 
 /// The changes that an edit of a large array means in the document as it is after the call, one at least, each made
 /// after the one before it; or its first refusal there, or what the call lacked. Blocks may be brought into memory, and
-/// nothing else changes. NoBlock and WrongKind come first; then CacheFull where each frame has a locked block: then
-/// nothing changes at all; then NotArray, NoElement, BadChain, IsMap, Range, TooBig, NoHandles. Memory, File or Damaged
-/// may come in place of what follows CacheFull.
+/// nothing else changes. NoBlock and WrongKind come first; then CacheFull where each frame has a locked block: with
+/// these three nothing changes at all; then NotArray, NoElement, BadChain, IsMap, Range, TooBig, NoHandles. Memory,
+/// File or Damaged may come in place of what follows CacheFull.
 pub fn plan_large<S: Store>(
     alloc: Global,
     blocks: &mut FileBlocks<S>,

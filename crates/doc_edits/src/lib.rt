@@ -8,6 +8,7 @@ mod chain_plans;
 mod chunk_plans;
 mod found;
 mod large_plans;
+mod lent_runs;
 /// What is looked up of a document. A block that is looked into is brought into memory first, which may be refused;
 /// the answer is that of the document as it is held from then on. Of a chain each block is, one after another, and of
 /// a large array the root and the branches that have what is asked for. Each call answers its first refusal: NoBlock
@@ -22,5 +23,6 @@ mod raw_plans;
 mod room;
 
 pub use large_plans::plan_large;
+pub use lent_runs::prepare_run;
 pub use marking::mark_edited;
 pub use planning::plan;

@@ -1,6 +1,6 @@
 //! Whether there is room in memory to follow a chain or a large array, which may take any frame. Nothing is brought in
 //! for it.
-ghost use Rattle.std.specs.Prelude.{◌≡◌, ◌∷◌, ◌++◌, true, false, IfErr, MatchResult, Some};
+ghost use Rattle.std.specs.Prelude.{◌≡◌, ◌∷◌, ◌++◌, true, false, IfErr, IfOk, MatchResult, Some};
 ghost use Rattle.geos_model.specs.Chain.{on_chains};
 ghost use Rattle.geos_model.specs.Refusal.{Conditions, first_refusal};
 ghost use Rattle.geos_model.specs.declared.fault.Fault.TheVariants.{CacheFull};
@@ -23,6 +23,7 @@ pub fn test_chain<S: Store>(blocks: &FileBlocks<S>, root: VmHandle) -> Result<()
     ensures value { MatchResult result (λ _. is_full blocks.now ≡ false)
         (λ fault. (rest : Conditions) → AreLate rest
         → first_refusal ((CacheFull, is_full blocks.now) ∷ on_raw blocks.now.document root.0 ++ rest) ≡ Some fault) }
+    ensures raw { IfOk result (λ _. is_raw blocks.now.document root.0 ≡ true) }
     ensures refusals { IfErr result
         (IsRefusedEarly (IsWrongBlock is_raw blocks.now.document root.0) (is_full blocks.now)) }
 {

@@ -3,7 +3,7 @@ use Rattle.std.proofs.Common.{◌≡◌, ◌≢◌, ◌⊎◌, ◌==◌, ℕ, �
 use Rattle.std.specs.Borrow.{Bor}
 use Rattle.std.specs.Prelude.{◌&&◌, if◌then◌else◌}
 use Rattle.std.specs.FinMap.{get}
-use Rattle.std.specs.Option.{ok_or, option_map, option_map_or}
+use Rattle.std.specs.Option.{IsSome, ok_or, option_map, option_map_or}
 use Rattle.std.specs.Result.{IsErrAnd, is_ok}
 use Rattle.std.specs.Ptr.{Ptr, as_ptr, null_ptr}
 use Rattle.std.proofs.lemmas.Bool.{eq-eqb, ne_eqb}
@@ -182,6 +182,15 @@ module _ (m : Machine) (b : VmHandle) where
       pub raw_or_none : (o : Option (Bor (List ℕ))) → option_map (λ bytes. bytes.now) o ≡ locked_raw m b.0 → Lent-raw (reply_by (λ bytes. BytesAre bytes.now) (ok_or o NotLocked))
       raw_or_none None is = raw_unlocked is
       raw_or_none (Some bytes) is = raw_lent bytes.now is
+
+-- The bytes that the session lends are those that its machine does.
+
+pub is_lent : (o : Option (Bor (List ℕ))) (bytes : List ℕ) → option_map (λ b. b.now) o ≡ Some bytes → IsSome o
+is_lent None bytes is = absurd (cc is)
+is_lent (Some lent) bytes is = refl
+
+pub lent_is : (o : Option (Bor (List ℕ))) (lent : Bor (List ℕ)) (bytes : List ℕ) → o ≡ Some lent → option_map (λ b. b.now) o ≡ Some bytes → lent.now ≡ bytes
+lent_is o lent bytes was is = let same : Some lent.now ≡ Some bytes = sym (ap (option_map (λ b. b.now)) was) ∙ is in cc same
 
 -- a fault that is handed on
 pub handed_on : (r : Result (Bor (List ℕ)) Fault) (fault : Fault) (o : Option Reply) → IsErrAnd r (λ e. e ≡ fault) → o ≡ Some (Refused fault) → o ≡ Some (reply_by (λ bytes. BytesAre bytes.now) r)

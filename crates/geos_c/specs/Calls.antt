@@ -5,6 +5,7 @@ use Rattle.geos_model.specs.Machine.{Step}
 use Rattle.geos_model.specs.Reply.{Reply, Accepted, NumberIs, reply_by}
 use Rattle.geos_model.specs.declared.command.Command.{Command}
 use Rattle.geos_model.specs.declared.command.Command.TheVariants as commands
+use Rattle.geos_model.specs.declared.element_count.ElementCount.{ElementCount}
 use Rattle.geos_model.specs.declared.handle.ChunkHandle.{ChunkHandle}
 use Rattle.geos_model.specs.declared.handle.Token.{Token}
 use Rattle.geos_model.specs.declared.handle.VmHandle.{VmHandle}
@@ -126,6 +127,9 @@ chunk_handle n = record { 0 = n }
 
 abbrev pub token_numbered : ℕ → Token
 token_numbered n = record { 0 = n }
+
+abbrev pub element_count : ℕ → ElementCount
+element_count n = record { 0 = n }
 
 abbrev pub LocksBlock : {S : Type 0} → (S → StoreFacts) → ℕ → SessionState S → SessionState S → Answer → Type 0
 LocksBlock facts block old new answer = Steps facts (commands.Lock (vm block)) old new answer

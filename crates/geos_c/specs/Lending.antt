@@ -9,6 +9,10 @@ use Rattle.geos_model.specs.Reply.{Reply, BytesAre, Refused, look_up, look_up_co
 use Rattle.geos_model.specs.declared.command.Command.{Command}
 use Rattle.geos_model.specs.declared.fault.Fault.{Fault}
 use Rattle.geos_model.specs.declared.fault.Fault.TheVariants.{NotLocked}
+use Rattle.vm_store.specs.Facts.{StoreFacts}
+use Rattle.large_arrays.specs.LentRuns.{run_bytes}
+use Rattle.large_arrays.specs.declared.lent_runs.RunPlace.{RunPlace}
+use Rattle.undo_log.specs.LockedRuns.{LocksRun}
 use Rattle.undo_log.specs.Sessions.{SessionState, machine_of}
 use Rattle.c_sessions.specs.Codes.{code_of}
 
@@ -38,3 +42,12 @@ abbrev pub Lends : {S : Type 0} → Command → ℕ → Ptr → ℕ → SessionS
     → Type 0
 Lends command block at count old new answer = IsLent command block old (reply_by BytesAre answer) × (new ≡ old)
     × MatchResult answer (λ bytes. (at ≢ null_ptr) × (count ≡ length bytes)) (λ _. (at ≡ null_ptr) × (count ≡ 0))
+
+-- The block of a large array that has an element is locked, and its bytes from that element on are lent, or it is
+-- refused. Which block it is is told, and of the bytes what is told of those of any locked block.
+abbrev pub LendsRun : {S : Type 0} → (S → StoreFacts) → ℕ → ℕ → ℕ → Ptr → ℕ → SessionState S → SessionState S
+    → Result RunPlace Fault → Type 0
+LendsRun facts root i block at count old new answer = LocksRun facts root i old new answer
+    × MatchResult answer
+    (λ place. (block ≡ place.block.0) × (at ≢ null_ptr) × (count ≡ length (run_bytes new.document place)))
+    (λ _. (block ≡ 0) × (at ≡ null_ptr) × (count ≡ 0))

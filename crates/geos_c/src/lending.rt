@@ -1,13 +1,18 @@
 //! Bytes of locked blocks, lent where they lie.
-ghost use Rattle.std.specs.Prelude.{◌≡◌};
+ghost use Rattle.std.specs.Prelude.{◌≡◌, ◌≤◌, Bool, Some, length};
 ghost use Rattle.std.specs.Ptr.{as_ptr, null_ptr};
+ghost use Rattle.geos_model.specs.Document.{raw_bytes_of};
+ghost use Rattle.geos_model.specs.Machine.{locked_raw};
 ghost use Rattle.geos_model.specs.Reply.{BytesAre, reply_by};
 ghost use Rattle.geos_model.specs.declared.command.Command.TheVariants as commands;
 ghost use Rattle.geos_c.specs.Calls.{chunk_handle, vm};
 ghost use Rattle.c_sessions.specs.Codes.{ReportsAnswer};
-ghost use Rattle.geos_c.specs.Lending.{HandsOutPlace, IsLent, Lends};
+ghost use Rattle.large_arrays.specs.LentRuns.{run_bytes};
+ghost use Rattle.undo_log.specs.Sessions.{machine_of};
+ghost use Rattle.geos_c.specs.Lending.{HandsOutPlace, IsLent, Lends, LendsRun};
 
 use geos_model::{ChunkHandle, Fault, VmHandle};
+use large_arrays::RunPlace;
 use std::ptr::null;
 use undo_log::Session;
 use vm_store::Store;
@@ -101,4 +106,43 @@ pub(crate) fn lend_raw<S: Store>(
         result }
 {
     hand_out_place(locked_raw(session, VmHandle(block)), bytes, length)
+}
+
+/// The bytes of a locked block from a place on.
+fn run_bytes<S: Store>(session: &Session<S>, place: RunPlace) -> &[u8]
+    requires lent { (target : Bool) → locked_raw (machine_of target session.now) place.block.0
+        ≡ Some (raw_bytes_of session.now.document place.block.0) }
+    requires within { place.start ≤ length (raw_bytes_of session.now.document place.block.0) }
+    ensures { result.now ≡ run_bytes session.now.document place }
+{
+    &session.locked_raw(place.block).unwrap()[place.start..]
+}
+
+/// Locks the block that has an element of a large array, and lends its bytes from that on.
+pub(crate) fn lend_run<S: Store>(
+    session: &mut Session<S>,
+    root: u16,
+    i: u32,
+    block: &mut u16,
+    bytes: &mut *const u8,
+    length: &mut usize,
+) -> i32
+    ensures { ReportsAnswer
+        (LendsRun S.facts root i block.new bytes.new length.new session.old session.new) result }
+{
+    match session.lock_run(VmHandle(root), i) {
+        Ok(place) => {
+            let lent = run_bytes(session, place);
+            *block = place.block.0;
+            *bytes = address(lent);
+            *length = lent.len();
+            0
+        }
+        Err(fault) => {
+            *block = 0;
+            *bytes = nowhere();
+            *length = 0;
+            i32::from(fault.number())
+        }
+    }
 }

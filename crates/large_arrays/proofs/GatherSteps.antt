@@ -12,18 +12,18 @@ use Rattle.vm_chains.specs.Walking.{Stops}
 use Rattle.geos_model.specs.Pieces.{BranchPiece}
 use Rattle.geos_model.specs.LargeLayout.{Root}
 use Rattle.geos_model.specs.Spread.{middle}
-use Rattle.large_arrays.specs.SizedElements.{SizedPieces}
+use Rattle.large_bodies.specs.SizedElements.{SizedPieces}
 use Rattle.geos_model.specs.LargeBlocks.{root_at, pieces_at}
 use Rattle.geos_model.specs.LargeWindow.{looks_left, looks_right, looked_at, are_branches}
 use Rattle.large_arrays.specs.Bodies.{AreBodies, are_raw, bytes_of_bodies}
 use Rattle.large_arrays.specs.LookedBranches.{HasLinks, IsPieceSpot, AreThere, AreLooked, first_with, behind_with, links_between, left_links, right_links, handle_at}
 use Rattle.large_arrays.specs.Middle.{IsMiddle, are_there, run_branches}
-use Rattle.large_arrays.specs.Neighbours.{ends_of}
+use Rattle.large_bodies.specs.Neighbours.{ends_of}
 use Rattle.large_arrays.specs.Spots.{IsSpot, link_handles}
 use Rattle.large_arrays.specs.declared.joining.LookedBodies.{LookedBodies}
 use Rattle.large_arrays.specs.declared.middle.Middle.{Middle}
-use Rattle.large_arrays.specs.declared.neighbours.MiddleEnds.{MiddleEnds}
-use Rattle.large_arrays.specs.declared.neighbours.Sides.{Sides}
+use Rattle.large_bodies.specs.declared.neighbours.MiddleEnds.{MiddleEnds}
+use Rattle.large_bodies.specs.declared.neighbours.Sides.{Sides}
 use Rattle.large_arrays.specs.declared.spot.Spot.{Spot}
 use Rattle.large_arrays.proofs.SpotLinks.{range-append, handles-are}
 use Rattle.large_arrays.proofs.SpotPieces.{piece-spot}

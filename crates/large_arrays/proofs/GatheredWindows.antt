@@ -9,7 +9,7 @@ use Rattle.geos_model.specs.Chain.{free_handles, new_handles}
 use Rattle.geos_model.proofs.ChainCopies.{new-new}
 use Rattle.geos_model.specs.Pieces.{BranchPiece}
 use Rattle.geos_model.specs.LargeLayout.{Root, most_branches, root_bytes, root_of}
-use Rattle.large_arrays.specs.SizedElements.{SizedPieces}
+use Rattle.large_bodies.specs.SizedElements.{SizedPieces}
 use Rattle.geos_model.specs.LargeBlocks.{root_at, pieces_at}
 use Rattle.geos_model.specs.LargeWindow.{Window, window, window_first, window_end, window_pieces, window_handles, staying, freed_handles, replaced_root}
 use Rattle.large_arrays.specs.HandleLists.{ShareNoHandle, AreFreed, handles_outside, old_handles, old_pairs}
@@ -20,7 +20,7 @@ use Rattle.large_arrays.specs.declared.gathered.Gathered.{Gathered}
 use Rattle.large_arrays.specs.declared.handles.OldBranch.{OldBranch}
 use Rattle.large_arrays.proofs.HandlePlaces.{pairs_handles, pairs_many}
 use Rattle.large_arrays.proofs.PlannedWindows.{new-free, planned-places}
-use Rattle.large_arrays.proofs.RootRuns.{length_spliced}
+use Rattle.large_bodies.proofs.RootRuns.{length_spliced}
 use Rattle.geos_model.proofs.WindowHandles.{window_handles-many}
 
 module _ (d : Document) (b i j : ℕ) (new : BranchPiece) (g : Gathered) (is : IsGatheredWindow d b i j new g) where

@@ -15,7 +15,7 @@ use Rattle.large_arrays.specs.LookedBranches.{HasLinks, IsPieceSpot, AreThere, A
 use Rattle.large_arrays.specs.Spots.{IsSpot, link_handles}
 use Rattle.large_arrays.specs.declared.joining.LookedBodies.{LookedBodies}
 use Rattle.large_arrays.specs.declared.joining.Neighbours.{Neighbours}
-use Rattle.large_arrays.specs.declared.neighbours.Sides.{Sides}
+use Rattle.large_bodies.specs.declared.neighbours.Sides.{Sides}
 use Rattle.large_arrays.specs.declared.spot.Spot.{Spot}
 use Rattle.large_arrays.proofs.RootPieces.{found-piece}
 use Rattle.large_arrays.proofs.SpotLinks.{range-same, range-all, range-each, range-not, handles-are, raw-range, body-at}

@@ -11,7 +11,7 @@ use Rattle.chunk_arrays.specs.Viewed.{Viewed}
 use Rattle.chunk_arrays.proofs.PlaceLemmas.{run-is, one-is, place-within}
 use Rattle.geos_model.specs.Pieces.{BranchPiece}
 use Rattle.geos_model.specs.LargeLayout.{branch_bytes, branch_of}
-use Rattle.large_arrays.specs.BranchReading.{IsPlain}
+use Rattle.large_bodies.specs.BranchReading.{IsPlain}
 use Rattle.large_arrays.specs.Loading.{branch_under}
 use Rattle.geos_model.proofs.BranchBytes.{array_of_piece, behind, branch_of-is, length-branch_bytes}
 

@@ -4,11 +4,11 @@ use Rattle.std.proofs.lemmas.Bool.{and_parts, true≢false}
 use Rattle.geos_model.specs.Pieces.{BranchPiece, piece_weight, join_room}
 use Rattle.geos_model.specs.Spread.{first_place, end_place, middle, piece_before, left_piece, right_piece}
 use Rattle.geos_model.specs.LargeWindow.{left_joins, right_joins, looks_left, looks_right}
-use Rattle.large_arrays.specs.Neighbours.{ends_of, if_known, are_joined_by, looks_left_by, looks_right_by, left_joins_by, right_joins_by, last_weight}
+use Rattle.large_bodies.specs.Neighbours.{ends_of, if_known, are_joined_by, looks_left_by, looks_right_by, left_joins_by, right_joins_by, last_weight}
 use Rattle.large_arrays.specs.LookedBranches.{HasLinks, IsPieceSpot, AreThere, AreAmong, AreNeighbours, count_at, first_with, behind_with}
 use Rattle.large_arrays.specs.declared.joining.Neighbours.{Neighbours}
-use Rattle.large_arrays.specs.declared.neighbours.MiddleEnds.{MiddleEnds}
-use Rattle.large_arrays.specs.declared.neighbours.Sides.{Sides}
+use Rattle.large_bodies.specs.declared.neighbours.MiddleEnds.{MiddleEnds}
+use Rattle.large_bodies.specs.declared.neighbours.Sides.{Sides}
 use Rattle.large_arrays.specs.declared.spot.Spot.{Spot}
 use Rattle.large_arrays.proofs.NeighbourLemmas.{left_joins-by, right_joins-by, looks_left-by, looks_right-by, left_joins-seen, right_joins-seen, looks_left-one, looks_right-one}
 use Rattle.large_arrays.proofs.SpotPieces.{piece-count}

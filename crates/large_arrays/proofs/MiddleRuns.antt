@@ -12,7 +12,7 @@ use Rattle.geos_model.specs.LargeLayout.{Root, branch_of, root_of}
 use Rattle.large_arrays.specs.Middle.{IsMiddle, are_there, run_branches, run_length, run_links}
 use Rattle.geos_model.specs.Pieces.{BranchPiece, branch_room, join_room, piece_weight}
 use Rattle.large_arrays.specs.RunReading.{IsHead, IsTail, OneUnread, run_count, run_read, tail_room}
-use Rattle.large_arrays.specs.SizedElements.{SizedElements}
+use Rattle.large_bodies.specs.SizedElements.{SizedElements}
 use Rattle.large_arrays.specs.Spots.{IsSpot, link_handles}
 use Rattle.geos_model.specs.Spread.{end_place, first_place, middle, packed_from, with_last}
 use Rattle.large_arrays.specs.declared.middle.Middle.{Middle}

@@ -4,8 +4,8 @@ use Rattle.std.proofs.lemmas.Bool.{cases_Bool, true≢false, cond-true, cond-fal
 use Rattle.geos_model.specs.Pieces.{BranchPiece, piece_weight, join_room, are_joined}
 use Rattle.geos_model.specs.Spread.{first_place, end_place, middle, left_piece, right_piece, with_first}
 use Rattle.geos_model.specs.LargeWindow.{left_joins, right_joins, looks_left, looks_right}
-use Rattle.large_arrays.specs.Neighbours.{ends_of, if_known, looks_left_by, looks_right_by, are_joined_by, left_joins_by, last_weight, right_joins_by}
-use Rattle.large_arrays.specs.declared.neighbours.MiddleEnds.{MiddleEnds}
+use Rattle.large_bodies.specs.Neighbours.{ends_of, if_known, looks_left_by, looks_right_by, are_joined_by, left_joins_by, last_weight, right_joins_by}
+use Rattle.large_bodies.specs.declared.neighbours.MiddleEnds.{MiddleEnds}
 use Rattle.geos_model.proofs.SpreadFits.{weight-append}
 use Rattle.geos_model.proofs.SpreadSides.{is_full}
 use Rattle.geos_model.proofs.SpreadStays.{begins}

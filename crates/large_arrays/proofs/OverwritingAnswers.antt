@@ -23,7 +23,7 @@ use Rattle.large_arrays.specs.LargeRuns.{are_branches_under, pieces_under}
 use Rattle.large_arrays.specs.LookedBranches.{HasLinks}
 use Rattle.large_arrays.specs.Middle.{IsRunSpot, run_links}
 use Rattle.large_arrays.specs.OverwritingPlans.{AreBranchesWritten}
-use Rattle.large_arrays.specs.SizedElements.{SizedElements}
+use Rattle.large_bodies.specs.SizedElements.{SizedElements}
 use Rattle.large_arrays.specs.Spots.{AreBranchLinks, IsSpot, counts_of, link_handles}
 use Rattle.geos_model.specs.LargeWindow.{are_branches, elements_overwritten, raw_block}
 use Rattle.large_arrays.specs.WrittenPieces.{written_piece}

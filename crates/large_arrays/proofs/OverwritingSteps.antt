@@ -27,7 +27,7 @@ use Rattle.large_arrays.specs.ChangePlans.{piece_bodies, ArePlanned, ArePlannedB
 use Rattle.large_arrays.specs.LargeRuns.{are_branches_under, pieces_under}
 use Rattle.large_arrays.specs.Loading.{branch_under}
 use Rattle.large_arrays.specs.OverwritingPlans.{AddsByHandle, AreBranchesWritten, WritesBranch}
-use Rattle.large_arrays.specs.SizedElements.{SizedElements}
+use Rattle.large_bodies.specs.SizedElements.{SizedElements}
 use Rattle.large_arrays.specs.Spots.{counts_of, link_handles}
 use Rattle.large_arrays.specs.WrittenPieces.{written_piece}
 use Rattle.large_arrays.specs.declared.spot.BranchLink.{BranchLink}

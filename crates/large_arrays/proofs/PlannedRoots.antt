@@ -14,15 +14,15 @@ use Rattle.vm_chains.proofs.Loading.{still}
 use Rattle.geos_model.specs.LargeLayout.{Root, most_branches, root_bytes, root_of}
 use Rattle.geos_model.specs.LargeBlocks.{root_at}
 use Rattle.geos_model.specs.LargeEdits.{on_root}
-use Rattle.large_arrays.specs.RootEdits.{with_branches}
+use Rattle.large_bodies.specs.RootEdits.{with_branches}
 use Rattle.large_arrays.specs.WindowPlans.{HasGatheredRoot}
 use Rattle.large_arrays.specs.declared.gathered.Gathered.{Gathered}
-use Rattle.large_arrays.specs.SizedElements.{SizedElements, IsPiece}
+use Rattle.large_bodies.specs.SizedElements.{SizedElements, IsPiece}
 use Rattle.geos_model.proofs.BranchBytes.{branch-few}
 use Rattle.geos_model.proofs.Layouts.{raw-live}
 use Rattle.large_arrays.proofs.RefusalOrder.{of_root}
 use Rattle.geos_model.proofs.RootBytes.{length-root_bytes}
-use Rattle.large_arrays.proofs.RootRuns.{length_spliced}
+use Rattle.large_bodies.proofs.RootRuns.{length_spliced}
 
 -- how many elements a piece has is a word
 pub piece-word : (p : SizedElements) → IsPiece p → length p.elements < 65536

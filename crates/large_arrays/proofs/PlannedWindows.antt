@@ -14,7 +14,7 @@ use Rattle.geos_model.specs.LargeBlocks.{root_at, pieces_at}
 use Rattle.geos_model.specs.LargeWindow.{Window, window, window_first, window_end, window_pieces, window_handles, left_joins, right_joins, are_branches, freed_handles, replaced_root}
 use Rattle.geos_model.specs.LargeDocumentLaws.{replacing_looks}
 use Rattle.large_arrays.specs.HandleLists.{old_handles, old_pairs, handles_outside, ShareNoHandle, AreFreed}
-use Rattle.large_arrays.specs.RootEdits.{with_branches, run_between}
+use Rattle.large_bodies.specs.RootEdits.{with_branches, run_between}
 use Rattle.large_arrays.specs.WindowParts.{staying_pairs, window_from}
 use Rattle.large_arrays.specs.declared.handles.OldBranch.{OldBranch}
 use Rattle.large_arrays.specs.declared.staying.StayingBytes.{StayingBytes}

@@ -8,7 +8,7 @@ use Rattle.geos_model.specs.LargeLayout.{Root, root_of, root_read, total_count}
 use Rattle.geos_model.specs.LargeBlocks.{root_at, pieces_at}
 use Rattle.large_arrays.specs.Loading.{branch_under}
 use Rattle.geos_model.proofs.RootBytes.{root_of-read}
-use Rattle.large_arrays.proofs.RootLemmas.{length-counts_read, length-branches_read}
+use Rattle.large_bodies.proofs.RootLemmas.{length-counts_read, length-branches_read}
 use Rattle.geos_model.proofs.BranchBytes.{branch_of-is}
 use Rattle.geos_model.proofs.Layouts.{root-small}
 use Rattle.large_arrays.proofs.LoadedBranches.{under-raw}

@@ -8,12 +8,12 @@ use Rattle.geos_model.specs.declared.fault.Fault.{Fault}
 use Rattle.geos_model.specs.Array.{Array}
 use Rattle.geos_model.specs.Heap.{capacity}
 use Rattle.large_arrays.specs.Bodies.{bytes_of_bodies}
-use Rattle.large_arrays.specs.BranchReading.{IsPlain}
+use Rattle.large_bodies.specs.BranchReading.{IsPlain}
 use Rattle.geos_model.specs.Pieces.{BranchPiece, branch_room, piece_weight}
 use Rattle.geos_model.specs.LargeLayout.{branch_of}
 use Rattle.large_arrays.specs.Middle.{run_links}
 use Rattle.large_arrays.specs.RunReading.{IsHead, IsRunBranch, IsTail, run_count, run_read}
-use Rattle.large_arrays.specs.SizedElements.{SizedElements}
+use Rattle.large_bodies.specs.SizedElements.{SizedElements}
 use Rattle.large_arrays.specs.declared.spot.Spot.{Spot}
 use Rattle.geos_model.proofs.BranchBytes.{branch_of-is, length-branch_bytes}
 use Rattle.large_arrays.proofs.SpotRuns.{HasRun}

@@ -9,7 +9,7 @@ use Rattle.geos_model.specs.Spread.{first_place, end_place}
 use Rattle.geos_model.specs.LargeWindow.{looks_left, looks_right}
 use Rattle.large_arrays.specs.LookedBranches.{HasLinks, IsPieceSpot, AreThere, count_at, links_between}
 use Rattle.large_arrays.specs.Middle.{IsRunSpot, run_links}
-use Rattle.large_arrays.specs.declared.neighbours.Sides.{Sides}
+use Rattle.large_bodies.specs.declared.neighbours.Sides.{Sides}
 use Rattle.large_arrays.specs.declared.spot.BranchLink.{BranchLink}
 use Rattle.large_arrays.specs.declared.spot.Spot.{Spot}
 use Rattle.geos_model.proofs.Layouts.{root-small}

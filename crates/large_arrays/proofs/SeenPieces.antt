@@ -7,9 +7,9 @@ use Rattle.geos_model.specs.Pieces.{BranchPiece, piece_weight, branch_room, join
 use Rattle.geos_model.specs.LargeLayout.{Root}
 use Rattle.geos_model.specs.Spread.{first_place, end_place, packed_from, with_last, middle, piece_before, left_piece, right_piece}
 use Rattle.geos_model.specs.LargeWindow.{Window, window_first, window_end, window_pieces, window_handles, staying, left_joins, right_joins, looks_left, looks_right, looked_at}
-use Rattle.large_arrays.specs.Neighbours.{ends_of, if_known, looks_left_by, looks_right_by, left_joins_by, right_joins_by}
+use Rattle.large_bodies.specs.Neighbours.{ends_of, if_known, looks_left_by, looks_right_by, left_joins_by, right_joins_by}
 use Rattle.geos_model.specs.JoinedPieces.{window_of}
-use Rattle.large_arrays.specs.declared.neighbours.MiddleEnds.{MiddleEnds}
+use Rattle.large_bodies.specs.declared.neighbours.MiddleEnds.{MiddleEnds}
 use Rattle.geos_model.proofs.SpreadSides.{is_full}
 use Rattle.geos_model.proofs.SpreadPlaces.{first-end}
 use Rattle.geos_model.proofs.SameWeights.{full-lengths}

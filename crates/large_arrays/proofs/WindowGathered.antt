@@ -12,7 +12,7 @@ use Rattle.vm_chains.proofs.WalkLemmas.{raw_live}
 use Rattle.geos_model.specs.Pieces.{BranchPiece, piece_weight}
 use Rattle.geos_model.specs.LargeLayout.{Root}
 use Rattle.geos_model.specs.Spread.{first_place, end_place, middle, left_piece, right_piece}
-use Rattle.large_arrays.specs.SizedElements.{SizedPieces}
+use Rattle.large_bodies.specs.SizedElements.{SizedPieces}
 use Rattle.geos_model.specs.LargeBlocks.{root_at, pieces_at}
 use Rattle.geos_model.specs.LargeWindow.{left_joins, right_joins, window_first, window_end, window_pieces, staying}
 use Rattle.large_arrays.specs.Bodies.{AreBodies, are_raw, bytes_of_bodies}
@@ -26,7 +26,7 @@ use Rattle.large_arrays.specs.declared.handles.OldBranch.{OldBranch}
 use Rattle.large_arrays.specs.declared.joining.LookedBodies.{LookedBodies}
 use Rattle.large_arrays.specs.declared.joining.Neighbours.{Neighbours}
 use Rattle.large_arrays.specs.declared.middle.Middle.{Middle}
-use Rattle.large_arrays.specs.declared.neighbours.Sides.{Sides}
+use Rattle.large_bodies.specs.declared.neighbours.Sides.{Sides}
 use Rattle.large_arrays.specs.declared.spot.Spot.{Spot}
 use Rattle.large_arrays.specs.declared.staying.StayingBytes.{StayingBytes}
 use Rattle.large_arrays.specs.WindowParts.{staying_at, staying_pairs}

@@ -10,7 +10,7 @@ use Rattle.geos_model.specs.LargeLayout.{Root, is_root, root_of}
 use Rattle.geos_model.specs.Spread.{first_place, end_place, piece_before, left_piece, right_piece}
 use Rattle.geos_model.specs.LargeBlocks.{root_at, pieces_at}
 use Rattle.geos_model.specs.LargeWindow.{Window, window, window_first, window_end, window_pieces, window_handles, staying, left_joins, right_joins, replaced_root}
-use Rattle.large_arrays.specs.RootEdits.{run_between}
+use Rattle.large_bodies.specs.RootEdits.{run_between}
 use Rattle.large_arrays.specs.WindowParts.{staying_at, staying_pairs, window_from}
 use Rattle.large_arrays.specs.declared.staying.StayingBytes.{StayingBytes}
 use Rattle.geos_model.proofs.Layouts.{root-facts, pieces-many, root-counts}

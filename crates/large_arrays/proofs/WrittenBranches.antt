@@ -11,21 +11,21 @@ use Rattle.geos_model.proofs.Arrays.{joined, table_of, table-even, all_even, len
 use Rattle.chunk_edits.specs.Patching.{PatchPiece, Keep, Put, taken, given, peak, patched, ArePiecesOf, PatchLeads}
 use Rattle.chunk_arrays.specs.Reading.{element_place}
 use Rattle.chunk_arrays.proofs.PlaceLemmas.{front_of, length-front, bytes-front}
-use Rattle.large_arrays.specs.BranchReading.{IsPlain}
+use Rattle.large_bodies.specs.BranchReading.{IsPlain}
 use Rattle.geos_model.specs.Pieces.{BranchPiece}
 use Rattle.geos_model.specs.LargeLayout.{branch_bytes}
-use Rattle.large_arrays.specs.SizedElements.{have_size}
+use Rattle.large_bodies.specs.SizedElements.{have_size}
 use Rattle.large_arrays.specs.WrittenPieces.{written_piece}
 use Rattle.geos_model.proofs.BranchBytes.{array_of_piece, is_sized, length-branch_bytes, weight-even}
 use Rattle.geos_model.proofs.PieceLists.{sized-append, sized_part}
 
 -- ---- a patch of three pieces
 
-peak-cons : (p : PatchPiece) (ps : List PatchPiece) → peak (p ∷ ps) ≡ max (taken p) (given p) + peak ps
+pub peak-cons : (p : PatchPiece) (ps : List PatchPiece) → peak (p ∷ ps) ≡ max (taken p) (given p) + peak ps
 peak-cons p ps = sum_by-cons (λ (q : PatchPiece). max (taken q) (given q)) p ps
 
 -- some bytes in the middle are others then
-middle-leads : (a b c x : List ℕ) → PatchLeads (Keep (length a) ∷ Put b x ∷ Keep (length c) ∷ []) (a ++ (b ++ c)) (a ++ (x ++ c))
+pub middle-leads : (a b c x : List ℕ) → PatchLeads (Keep (length a) ∷ Put b x ∷ Keep (length c) ∷ []) (a ++ (b ++ c)) (a ++ (x ++ c))
 middle-leads a b c x =
     let p : List PatchPiece = Put b x ∷ Keep (length c) ∷ [] in
     let q : List PatchPiece = Keep (length c) ∷ [] in

@@ -15,8 +15,8 @@ use Rattle.vm_blocks.specs.declared.change.Change.{Change}
 use Rattle.geos_model.specs.Pieces.{BranchPiece}
 use Rattle.geos_model.specs.LargeLayout.{root_bytes, branch_bytes}
 use Rattle.geos_model.specs.LargeBlocks.{root_at}
-use Rattle.large_arrays.specs.declared.cut_body.CutBody.{CutBody}
-use Rattle.large_arrays.specs.Patches.{HoldsLeast}
+use Rattle.large_bodies.specs.declared.cut_body.CutBody.{CutBody}
+use Rattle.large_bodies.specs.Patches.{HoldsLeast}
 use Rattle.geos_model.specs.LargeWindow.{Window, raw_block, replaced_root}
 
 -- the document without these blocks, and with raw blocks of these bytes; one that was there keeps its attributes

@@ -15,7 +15,7 @@ use Rattle.large_arrays.specs.Spots.{IsSpot, counts_of, link_handles}
 use Rattle.large_arrays.specs.declared.joining.LookedBodies.{LookedBodies}
 use Rattle.large_arrays.specs.declared.joining.Neighbours.{Neighbours}
 use Rattle.large_arrays.specs.declared.middle.Middle.{Middle}
-use Rattle.large_arrays.specs.declared.neighbours.Sides.{Sides}
+use Rattle.large_bodies.specs.declared.neighbours.Sides.{Sides}
 use Rattle.large_arrays.specs.declared.spot.BranchLink.{BranchLink}
 use Rattle.large_arrays.specs.declared.spot.Spot.{Spot}
 

@@ -9,7 +9,7 @@ use Rattle.geos_model.specs.Spread.{overwritten}
 use Rattle.large_arrays.specs.ChangePlans.{piece_bodies, ArePlanned, ArePlannedByHandle, IsUntouched}
 use Rattle.large_arrays.specs.LargeRuns.{are_branches_under, pieces_under}
 use Rattle.large_arrays.specs.Loading.{branch_under}
-use Rattle.large_arrays.specs.SizedElements.{SizedElements}
+use Rattle.large_bodies.specs.SizedElements.{SizedElements}
 use Rattle.large_arrays.specs.Spots.{link_handles}
 use Rattle.large_arrays.specs.declared.spot.BranchLink.{BranchLink}
 

@@ -1,11 +1,11 @@
 -- The branches of a run, read one by one from their bodies.
 use Rattle.std.specs.Prelude.{◌≡◌, ◌<◌, ◌≤◌, ◌-◌, ◌==◌, ℕ, List, [], true, length, take, drop, get_or, if◌then◌else◌, Option, None, Some, is_some}
 use Rattle.geos_model.specs.Array.{Array}
-use Rattle.large_arrays.specs.BranchReading.{IsPlain}
+use Rattle.large_bodies.specs.BranchReading.{IsPlain}
 use Rattle.geos_model.specs.Pieces.{BranchPiece, branch_room, join_room, piece_weight}
 use Rattle.geos_model.specs.LargeLayout.{branch_of}
 use Rattle.large_arrays.specs.Middle.{run_links}
-use Rattle.large_arrays.specs.SizedElements.{SizedElements}
+use Rattle.large_bodies.specs.SizedElements.{SizedElements}
 use Rattle.large_arrays.specs.Spots.{counts_of}
 use Rattle.large_arrays.specs.declared.middle.Ends.{Ends}
 use Rattle.large_arrays.specs.declared.spot.Spot.{Spot}

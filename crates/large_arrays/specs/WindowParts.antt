@@ -3,7 +3,7 @@ use Rattle.std.specs.Prelude.{◌+◌, ◌-◌, ◌==◌, ◌∷◌, ℕ, suc, L
 use Rattle.geos_model.specs.Pieces.{BranchPiece}
 use Rattle.geos_model.specs.LargeLayout.{Root}
 use Rattle.geos_model.specs.LargeWindow.{Window, window_handles}
-use Rattle.large_arrays.specs.RootEdits.{run_between}
+use Rattle.large_bodies.specs.RootEdits.{run_between}
 use Rattle.large_arrays.specs.declared.staying.StayingBytes.{StayingBytes}
 
 -- what stays of the branch at a place, where a run begins in one and ends in another: all of a neighbour, of these two

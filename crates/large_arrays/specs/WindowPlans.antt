@@ -13,7 +13,7 @@ use Rattle.geos_model.specs.LargeLayout.{Root, most_branches, root_of}
 use Rattle.geos_model.specs.LargeBlocks.{root_at}
 use Rattle.geos_model.specs.LargeWindow.{Window, freed_handles, replaced_root, window_handles}
 use Rattle.large_arrays.specs.HandleLists.{old_handles, old_pairs}
-use Rattle.large_arrays.specs.RootEdits.{with_branches}
+use Rattle.large_bodies.specs.RootEdits.{with_branches}
 use Rattle.large_arrays.specs.ChangePlans.{ArePlanned, window_bodies}
 use Rattle.large_arrays.specs.declared.gathered.Gathered.{Gathered}
 

@@ -9,10 +9,9 @@ ghost use Rattle.vm_blocks.specs.Changes.{CanRemoveAll, IsFreeHandle, directed_a
 ghost use Rattle.vm_blocks.specs.Preparing.{CanRemoveByHandle};
 ghost use Rattle.large_arrays.specs.ChangePlans.{ArePlanned, ArePlannedByHandle, IsUntouched, AddsHeld, AddsLeast};
 
-use crate::cut_body::CutBody;
-use crate::patches::body_patch;
 use chunk_edits::Patch;
 use geos_model::{Attributes, VmHandle};
+use large_bodies::{CutBody, body_patch};
 use std::alloc::{AllocError, Global};
 use vm_blocks::{BlockImage, Change, Direction, Members, PartChange};
 

@@ -15,15 +15,14 @@ ghost use Rattle.large_arrays.specs.Replacements.{CanReplace, IsDeletion, IsInse
 ghost use Rattle.geos_model.specs.LargeWindow.{elements_replaced, elements_overwritten};
 
 use crate::changes::plan_body;
-use crate::cut_body::CutBody;
 use crate::gathering::gather;
 use crate::loading::{load_root, loaded_root, raw_bytes};
-use crate::new_elements::NewElements;
 use crate::overwriting::plan_overwriting;
-use crate::root::RootView;
 use crate::spot::Spot;
 use crate::window_plan::plan_window;
+use crate::within::{branch_edit, plan_within};
 use geos_model::{Fault, VmHandle};
+use large_bodies::{CutBody, NewElements, RootView};
 use std::alloc::{AllocError, Global};
 use vm_blocks::{Change, FileBlocks};
 use vm_store::Store;
@@ -252,6 +251,9 @@ fn plan_replacement<S: Store>(
         return Ok(plan_nothing(alloc, blocks, root)?);
     }
     let spot = Spot::new(alloc, &loaded_root(blocks, root), edit.start, edit.end)?;
+    if let Some(within) = branch_edit(&spot, &edit.new_elements) {
+        return plan_within(alloc, blocks, root, &spot, &within, &edit.new_elements);
+    }
     let gathered = gather(alloc, blocks, root, &spot, &edit.new_elements)?;
     plan_window(alloc, blocks, root, spot.branches, &gathered)
 }

@@ -1,6 +1,6 @@
 //! What an edit takes from the branches that it looks at.
 use crate::handles::OldBranch;
-use crate::packing::Pieces;
+use large_bodies::Pieces;
 
 /// Branches in the place of which others come.
 #[derive(Drop)]

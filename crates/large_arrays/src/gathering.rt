@@ -17,10 +17,9 @@ use crate::joining::{
     LookedBodies, behind_with, first_with, links_between, looked_sides, middle_ends, put_together,
 };
 use crate::middle::middle_of;
-use crate::neighbours::Sides;
-use crate::new_elements::NewElements;
 use crate::spot::Spot;
 use geos_model::{Fault, VmHandle};
+use large_bodies::{NewElements, Sides};
 use std::alloc::Global;
 use vm_blocks::FileBlocks;
 use vm_store::Store;

@@ -15,20 +15,17 @@ ghost use Rattle.large_arrays.specs.Bodies.{are_raw, bytes_of_bodies};
 ghost use Rattle.large_arrays.specs.Gathering.{IsGatheredWindow, AreGathered};
 ghost use Rattle.geos_model.specs.JoinedPieces.{window_of};
 ghost use Rattle.large_arrays.specs.LookedBranches.{AreAmong, AreLooked, AreThere, HasLinks, HaveAllBodies, IsPieceSpot, MissesNeighbour, AreNeighbours, ReadsNeighbours, behind_with, count_at, first_with, links_between, neighbour_read};
-ghost use Rattle.large_arrays.specs.Neighbours.{ends_of, if_known};
-ghost use Rattle.large_arrays.specs.SizedElements.{elements_of_size};
+ghost use Rattle.large_bodies.specs.Neighbours.{ends_of, if_known};
+ghost use Rattle.large_bodies.specs.SizedElements.{elements_of_size};
 ghost use Rattle.large_arrays.specs.Spots.{link_handles};
 
-use crate::branch::read_branch;
 use crate::distinct::are_distinct;
 use crate::gathered::Gathered;
 use crate::middle::Middle;
-use crate::neighbours::{MiddleEnds, Sides, joined_sides, looked_at_sides};
-use crate::packing::Pieces;
-use crate::piece::Piece;
 use crate::spot::{BranchLink, Spot};
 use crate::staying::{StayingBytes, old_branches};
 use geos_model::{Fault, VmHandle};
+use large_bodies::{MiddleEnds, Piece, Pieces, Sides, joined_sides, looked_at_sides, read_branch};
 use std::alloc::{AllocError, Global};
 
 /// The bodies of the branches that an edit looks at: none or one of a neighbour.

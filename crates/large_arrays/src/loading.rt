@@ -7,14 +7,13 @@ ghost use Rattle.vm_blocks.specs.Keeping.{KeepsBlocks, IsEnvironmentFault, is_fu
 ghost use Rattle.vm_chains.specs.Answers.{AnswersChain};
 ghost use Rattle.vm_chains.specs.Walking.{Stops};
 ghost use Rattle.geos_model.specs.LargeBlocks.{root_at};
-ghost use Rattle.large_arrays.specs.BranchReading.{IsPlain};
+ghost use Rattle.large_bodies.specs.BranchReading.{IsPlain};
 ghost use Rattle.geos_model.specs.LargeEdits.{on_root};
 ghost use Rattle.large_arrays.specs.Loading.{IsRawLoaded, IsRootLoaded, IsRootRefusal, branch_under};
 
-use crate::branch::read_branch;
-use crate::root::{RootView, known_root, read_root};
 use chunk_arrays::View;
 use geos_model::{Fault, VmHandle};
+use large_bodies::{RootView, known_root, read_branch, read_root};
 use vm_blocks::{BlockBody, FileBlocks};
 use vm_chains::test_root;
 use vm_store::Store;

@@ -9,9 +9,9 @@ ghost use Rattle.geos_model.specs.LargeLayout.{total_count};
 ghost use Rattle.large_arrays.specs.Loading.{IsRawLoaded, IsRootRefusal, branch_under};
 
 use crate::loading::{load_branch, load_root, loaded_branch, loaded_root, raw_bytes};
-use crate::root::RootView;
 use crate::spot::BranchLink;
 use geos_model::{Fault, VmHandle};
+use large_bodies::RootView;
 use vm_blocks::FileBlocks;
 use vm_store::Store;
 

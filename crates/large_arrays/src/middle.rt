@@ -12,13 +12,10 @@ ghost use Rattle.geos_model.specs.Pieces.{branch_room, piece_weight};
 ghost use Rattle.large_arrays.specs.RunReading.{AreEnds, IsRunBranch, IsTail, OneUnread, run_read, tail_room};
 ghost use Rattle.large_arrays.specs.Spots.{IsSpot, link_handles};
 
-use crate::branch::read_branch;
-use crate::new_elements::NewElements;
-use crate::packing::Pieces;
-use crate::piece::{BRANCH_ROOM, JOIN_ROOM, Piece};
 use crate::spot::Spot;
 use chunk_arrays::View;
 use geos_model::Fault;
+use large_bodies::{BRANCH_ROOM, JOIN_ROOM, NewElements, Piece, Pieces, read_branch};
 use std::alloc::{AllocError, Global};
 
 /// What is left of the branches that have the elements of an edit, with those that come.

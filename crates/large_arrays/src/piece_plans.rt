@@ -11,11 +11,10 @@ ghost use Rattle.large_arrays.specs.HandleLists.{ShareNoHandle, old_handles};
 ghost use Rattle.large_arrays.specs.WindowPlans.{AreHomes, IsHome};
 
 use crate::changes::{plan_block, plan_body};
-use crate::cut_body::CutBody;
 use crate::gathered::Gathered;
-use crate::piece::Piece;
 use byteorder::{ByteOrder, LittleEndian};
 use geos_model::VmHandle;
+use large_bodies::{CutBody, Piece};
 use std::alloc::{AllocError, Global};
 use vm_blocks::Change;
 

@@ -3,10 +3,10 @@ ghost use Rattle.std.specs.Prelude.{◌≡◌, ◌<◌, ◌≤◌, ◌+◌, ◌-
 ghost use Rattle.geos_model.specs.Words.{word};
 ghost use Rattle.vm_chains.specs.Numbers.{numbers};
 ghost use Rattle.geos_model.specs.LargeLayout.{root_bytes};
-ghost use Rattle.large_arrays.specs.RootEdits.{count_bytes, head_bytes, link_bytes, with_branches};
+ghost use Rattle.large_bodies.specs.RootEdits.{count_bytes, head_bytes, link_bytes, with_branches};
 
-use crate::root::{MARK, RootView, TREE_MARK};
 use geos_model::VmHandle;
+use large_bodies::{MARK, RootView, TREE_MARK};
 use std::alloc::{AllocError, Global};
 
 /// The bytes of a root with branches of so many elements in the place of those from `first` up to `behind`. What stays

@@ -12,14 +12,12 @@ ghost use Rattle.large_arrays.specs.Loading.{IsRootLoaded};
 ghost use Rattle.large_arrays.specs.WindowPlans.{HasGatheredRoot, gathered_root};
 
 use crate::changes::plan_body;
-use crate::cut_body::CutBody;
 use crate::gathered::Gathered;
 use crate::loading::{load_root, loaded_root, raw_bytes};
-use crate::packing::Pieces;
-use crate::root::RootView;
 use crate::root_edits::new_root;
 use byteorder::{ByteOrder, LittleEndian};
 use geos_model::{Fault, VmHandle};
+use large_bodies::{CutBody, Pieces, RootView};
 use std::alloc::{AllocError, Global};
 use vm_blocks::{Change, FileBlocks};
 use vm_store::Store;

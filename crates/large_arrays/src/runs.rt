@@ -10,9 +10,9 @@ ghost use Rattle.large_arrays.specs.Loading.{branch_under};
 
 use crate::distinct::are_distinct;
 use crate::loading::{load_branch, load_root, loaded_branch, loaded_root};
-use crate::root::RootView;
 use crate::spot::{BranchLink, links_from};
 use geos_model::{CAPACITY, Fault, VmHandle};
+use large_bodies::RootView;
 use std::alloc::{AllocError, Global};
 use vm_blocks::FileBlocks;
 use vm_store::Store;

@@ -3,8 +3,8 @@
 ghost use Rattle.std.specs.Prelude.{◌≡◌, IfOk};
 ghost use Rattle.large_arrays.specs.Spots.{AreBranchLinks, IsSpot};
 
-use crate::root::RootView;
 use geos_model::VmHandle;
+use large_bodies::RootView;
 use std::alloc::{AllocError, Global};
 
 /// A branch as its root has it.

@@ -28,7 +28,7 @@ use vm_chains::free_handles;
 use vm_store::Store;
 
 /// How many branches a root has at most: all blocks of a document but the root itself.
-const MOST_BRANCHES: usize = 8_191;
+pub(crate) const MOST_BRANCHES: usize = 8_191;
 
 /// The changes that put what was gathered in the place of branches of a root that has so many. IsMap where the map
 /// block would go; NoHandles where too few are free, or the root would have too many branches; Memory, File, Damaged.

@@ -17,7 +17,7 @@ use Rattle.vm_blocks.specs.Keeping.{IsEnvironmentFault}
 use Rattle.vm_blocks.specs.declared.change.Change.{Change}
 use Rattle.vm_blocks.proofs.KeepingLaws.{keeps-passes, lacks-memory}
 use Rattle.doc_edits.specs.Planning.{IsManyBlocksFault, RefusesEdit, RefusesInMemory}
-use Rattle.doc_edits.specs.Room.{lacks_frames, ReadsNothing}
+use Rattle.doc_edits.specs.Room.{lacks_frames, IsRefusedUnseen, ReadsNothing}
 use Rattle.undo_log.specs.Editing.{EditsSession}
 use Rattle.undo_log.specs.Locking.{bars}
 use Rattle.undo_log.specs.Logging.{with_change}
@@ -39,6 +39,7 @@ module _ {S : Type 0} (facts : S → StoreFacts) where
         refusals = inl fault;
         locked = λ _. (refl, refl);
         shut = λ _. (refl, inl fault);
+        unseen = λ _. (refl, inl fault);
         in_memory = tt;
         passes = KeepsCommitted-refl facts s.disk;
         already = λ _ _. record { disk = refl; ok = tt; err = (refl, inl fault) };
@@ -51,16 +52,19 @@ module _ {S : Type 0} (facts : S → StoreFacts) where
       pub refusals : RefusesEdit (IsEnvironmentFault facts old.disk.store new.disk.store) (lacks_frames (cache_of old) (edit_needs edit)) edit new.document fault ⊎ IsManyBlocksFault edit old.document fault
       pub plain : kind_of edit ≡ Plain → RefusesInMemory edit new.document fault
       pub shut : lacks_frames (cache_of old) (edit_needs edit) ≡ true → (new ≡ old) × RefusesEdit (λ f. f ≡ Memory) true edit old.document fault
+      pub unseen : IsRefusedUnseen (conditions edit old.document) → (new ≡ old) × RefusesInMemory edit old.document fault
       pub already : kind_of edit ≢ Made → ReadsNothing (cache_of old) (edit_needs edit) (conditions edit old.document) → (new.disk ≡ old.disk) × ((new.document ≡ old.document) × RefusesInMemory edit old.document fault)
 
     -- for want of memory, where nothing came in that needn't
     pub lacks_memory : (lacks_frames (cache_of old) (edit_needs edit) ≡ true → new ≡ old)
+        → (IsRefusedUnseen (conditions edit old.document) → new ≡ old)
         → (kind_of edit ≢ Made → ReadsNothing (cache_of old) (edit_needs edit) (conditions edit old.document) → (new.disk ≡ old.disk) × (new.document ≡ old.document)) → Refuses Memory
-    lacks_memory kept read = record {
+    lacks_memory kept unseen read = record {
       rules = λ _. inl (lacks-memory facts old.disk.store new.disk.store);
       refusals = inl (inl (lacks-memory facts old.disk.store new.disk.store));
       plain = λ _. inl refl;
       shut = λ out. (kept out, inl refl);
+      unseen = λ unread. (unseen unread, inl refl);
       already = λ other nothing. let same = read other nothing in (same.0, (same.1, inl refl));
     }
 
@@ -71,6 +75,7 @@ module _ {S : Type 0} (facts : S → StoreFacts) where
       refusals = made.refusals;
       plain = λ is. (made.plain is).1;
       shut = λ out. let kept = made.shut out in (same_session (cache_of old) (cache_of new) old.log new.log kept.0 log, inr kept.1);
+      unseen = λ unread. let kept = made.unseen unread in (same_session (cache_of old) (cache_of new) old.log new.log kept.0 log, kept.1);
       already = made.already;
     }
 
@@ -82,6 +87,7 @@ module _ {S : Type 0} (facts : S → StoreFacts) where
       refusals = inr why.refusals;
       locked = λ barred. absurd (not_barred old edit distinct free barred);
       shut = λ out. let kept = why.shut out in (kept.0, inr kept.1);
+      unseen = λ unread. let kept = why.unseen unread in (kept.0, inr kept.1);
       in_memory = tt;
       passes = keeps-passes facts (cache_of old) (cache_of new) keeps.blocks;
       already = λ other nothing. let kept = why.already other nothing in record { disk = kept.0; ok = tt; err = (kept.1.0, inr kept.1.1) };
@@ -89,15 +95,17 @@ module _ {S : Type 0} (facts : S → StoreFacts) where
 
     -- made by one change
     pub edit_done : (change : Change) (done : Done) → IsEditApplied facts edit (cache_of old) (cache_of new) change done → new.log ≡ with_change change old.log
+        → (IsRefusedUnseen (conditions edit old.document) → ⊥)
         → (kind_of edit ≢ Made → ReadsNothing (cache_of old) (edit_needs edit) (conditions edit old.document) → (new.disk ≡ old.disk) × ((new.document ≡ (effect edit old.document).0) × (done ≡ (effect edit old.document).1)))
         → EditsSession facts edit old new (Ok done)
-    edit_done change done made log already = record {
+    edit_done change done made log seen already = record {
       step = edit_step facts old new edit distinct free change done made log;
       ok = inl (record { change = change; made = made; log = log });
       err = tt;
       refusals = tt;
       locked = λ barred. absurd (not_barred old edit distinct free barred);
       shut = λ out. absurd (true≢false (sym out ∙ made.room));
+      unseen = λ unread. absurd (seen unread);
       in_memory = made_at_hand facts change (kind_of edit) (cache_of new) made.kind made.makes.in_memory;
       passes = made.makes.passes;
       already = λ other nothing. let unchanged = already other nothing in record { disk = unchanged.0; ok = unchanged.1; err = tt };

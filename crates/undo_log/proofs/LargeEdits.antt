@@ -29,7 +29,7 @@ use Rattle.chunk_edits.specs.declared.direction.Direction.TheVariants.{Backwards
 use Rattle.vm_blocks.proofs.KeepingLaws.{honest-steady, keeps-frames, keeps-locks, keeps-passes, keeps-same, keeps-steady, keeps-unless_corrupt, lacks-damaged, lacks-later}
 use Rattle.vm_blocks.proofs.Preparing.{applies_takes, made_on}
 use Rattle.doc_edits.specs.Planning.{PlansAll, PlansLarge}
-use Rattle.doc_edits.specs.Room.{lacks_frames, ReadsNothing}
+use Rattle.doc_edits.specs.Room.{lacks_frames, IsRefusedUnseen, ReadsNothing}
 use Rattle.undo_log.specs.Editing.{EditsSession}
 use Rattle.undo_log.specs.Locking.{bars}
 use Rattle.undo_log.specs.Logging.{Log, after_all, to_redo, to_undo, with_changes}
@@ -79,14 +79,15 @@ module _ {S : Type 0} (facts : S → StoreFacts) (old new : SessionState S) (edi
         refusals = rw full plan.refusals;
         plain = never_plain edit large;
         shut = λ out. let kept = plan.shut (sym full ∙ out) in (same_session (cache_of old) (cache_of new) old.log new.log kept.0 keeps.log, inr kept.1);
+        unseen = λ unread. let kept = plan.unseen unread in (same_session (cache_of old) (cache_of new) old.log new.log kept.0 keeps.log, inr kept.1);
         already = λ _ nothing. reads_many edit large (cache_of old) nothing;
       })
 
   -- memory runs out later
-  pub large_unserved : is_full (cache_of old) ≡ false → EditsSession facts edit old new (Err Memory)
-  large_unserved room =
+  pub large_unserved : is_full (cache_of old) ≡ false → (IsRefusedUnseen (conditions edit old.document) → ⊥) → EditsSession facts edit old new (Err Memory)
+  large_unserved room seen =
       edit_fails facts old new edit distinct free Memory keeps (lacks_memory facts old new edit distinct free
-      (λ out. absurd (true≢false (sym out ∙ full_is edit large (cache_of old) ∙ room))) (λ _ nothing. reads_many edit large (cache_of old) nothing))
+      (λ out. absurd (true≢false (sym out ∙ full_is edit large (cache_of old) ∙ room))) (λ unread. absurd (seen unread)) (λ _ nothing. reads_many edit large (cache_of old) nothing))
 
 -- Changes that are made one after another, the first one first.
 
@@ -152,6 +153,7 @@ module _ {S : Type 0} (facts : S → StoreFacts) (old new : SessionState S) (mid
         refusals = inl (inl lacks);
         plain = never_plain edit large;
         shut = λ out. absurd (true≢false (sym out ∙ full_is edit large (cache_of old) ∙ plan.room));
+        unseen = λ unread. absurd (plan.unseen unread).1;
         already = λ _ nothing. reads_many edit large (cache_of old) nothing;
       })
 
@@ -197,6 +199,7 @@ module _ {S : Type 0} (facts : S → StoreFacts) (old new : SessionState S) (mid
           refusals = tt;
           locked = λ barred. absurd (not_barred old edit distinct free barred);
           shut = λ out. absurd (true≢false (sym out ∙ made.room));
+          unseen = λ unread. absurd (plan.unseen unread).1;
           in_memory = λ b is. (let no : Group ≡ In b = sym large.kind ∙ is in absurd (cc no));
           passes = made.makes.passes;
           already = λ _ nothing. reads_many edit large (cache_of old) nothing;

@@ -16,6 +16,7 @@ pub mod Weights
 pub mod Asking
 pub mod LookUps
 pub mod Editing
+pub mod LockedRuns
 pub mod LargeEdits
 pub mod CommitSteps
 pub mod SavingAs

@@ -15,7 +15,7 @@ use Rattle.vm_store.specs.Facts.{StoreFacts}
 use Rattle.document_file.specs.Disk.{KeepsCommitted}
 use Rattle.vm_blocks.specs.Keeping.{IsEnvironmentFault, is_loaded}
 use Rattle.doc_edits.specs.Planning.{IsManyBlocksFault, RefusesEdit, RefusesInMemory}
-use Rattle.doc_edits.specs.Room.{lacks_frames, ReadsNothing}
+use Rattle.doc_edits.specs.Room.{lacks_frames, IsRefusedUnseen, ReadsNothing}
 use Rattle.undo_log.specs.Locking.{IsBarred}
 use Rattle.undo_log.specs.Sessions.{SessionState, IsStep, KeepsSession, PushesEdit, cache_of, machine_of}
 
@@ -43,6 +43,8 @@ pub record EditsSession {S : Type 0} (facts : S → StoreFacts) (edit : Edit) (o
   pub locked : ((target : Bool) → is_barred edit (machine_of target old) ≡ true) → (result ≡ Err Locked) × (new ≡ old)
   pub shut : lacks_frames (cache_of old) (edit_needs edit) ≡ true → (new ≡ old)
       × IsErrAnd result (λ fault. IsBarred edit old fault ⊎ RefusesEdit (λ f. f ≡ Memory) true edit old.document fault)
+  pub unseen : IsRefusedUnseen (conditions edit old.document) → (new ≡ old)
+      × IsErrAnd result (λ fault. IsBarred edit old fault ⊎ RefusesInMemory edit old.document fault)
   -- What is in memory afterwards.
   pub in_memory : OnOk result ((b : VmHandle) → kind_of edit ≡ In b → is_loaded (cache_of new) b.0 ≡ true)
   -- What stays.

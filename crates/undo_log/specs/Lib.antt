@@ -13,3 +13,4 @@ pub mod Locking
 pub mod Committing
 pub mod Codes
 pub mod Editing
+pub mod LockedRuns

@@ -17,7 +17,7 @@ use Rattle.vm_blocks.specs.Keeping.{IsEnvironmentFault, KeepsBlocks}
 use Rattle.vm_blocks.specs.Preparing.{CanApplyAllByHandle, CanApplyByHandle, AreApplied, IsApplied}
 use Rattle.vm_blocks.specs.declared.change.Change.{Change}
 use Rattle.doc_edits.specs.Planning.{is_of_chain, kind_of_change, IsManyBlocksFault, Plans, PlansAll, RefusesEdit, RefusesInMemory}
-use Rattle.doc_edits.specs.Room.{lacks_frames, ReadsNothing}
+use Rattle.doc_edits.specs.Room.{lacks_frames, IsRefusedUnseen, ReadsNothing}
 
 -- What a change means that was made, over any store: the edit, of the document as it was held once its block was
 -- loaded, and the answer. Where no block comes in, the document from then on is just what the edit makes of that one.
@@ -48,8 +48,9 @@ pub record IsLargeApplied {S : Type 0} (facts : S → StoreFacts) (edit : Edit) 
 
 -- What making an edit that no lock bars comes to: its change was made and means it, or the document is kept, and the
 -- edit is refused for what the call lacked, by the rules of the document as it is held from then on, or, over a store
--- that isn't honest, for what a chain may be refused for. Where there is no room for what it needs nothing changes.
--- Where no block comes in and no body has to be read no store is called, and the document before decides alone.
+-- that isn't honest, for what a chain may be refused for. Where there is no room for what it needs, or it is refused for
+-- its block, nothing changes. Where no block comes in and no body has to be read no store is called, and the document
+-- before decides alone.
 pub record MakesEdit {S : Type 0} (facts : S → StoreFacts) (edit : Edit) (old new : CacheState S)
     (result : Result (Change × Done) Fault) : Type 0 where
   pub ok : IfOk result (λ p. IsEditApplied facts edit old new p.0 p.1)
@@ -64,6 +65,8 @@ pub record MakesEdit {S : Type 0} (facts : S → StoreFacts) (edit : Edit) (old 
   pub plain : kind_of edit ≡ Plain → (new.disk ≡ old.disk) × IfErr result (RefusesInMemory edit new.document)
   pub shut : lacks_frames old (edit_needs edit) ≡ true → (new ≡ old)
       × IsErrAnd result (λ fault. first_refusal ((CacheFull, true) ∷ conditions edit old.document) ≡ Some fault)
+  pub unseen : IsRefusedUnseen (conditions edit old.document)
+      → (new ≡ old) × IsErrAnd result (RefusesInMemory edit old.document)
   pub already : kind_of edit ≢ Made → ReadsNothing old (edit_needs edit) (conditions edit old.document)
       → (new.disk ≡ old.disk)
       × MatchResult result

@@ -26,6 +26,7 @@ ghost use Rattle.undo_log.specs.Logging.{AreExclusive, abandoned_log, before, fr
 ghost use Rattle.undo_log.specs.Sessions.{cache_of, file_of, has_locked_blocks, machine_of, opposite, failed_since, total_cost, IsExact, IsStep, KeepsSession};
 ghost use Rattle.undo_log.specs.Turning.{Abandons, IsNotAbandoned, IsRefusedUndoOrRedo, IsSure, IsSureGroup, MovesEntry, abandon_fault, newest_made, busy_fault, no_step_fault, step_command};
 
+mod lent_runs;
 mod look_ups;
 mod steps;
 
@@ -286,7 +287,8 @@ impl<S: Store> Session<S> {
     /// part of the step that the group becomes. Locked where it frees a locked block, or copies or frees a chain or
     /// changes a large array while any block is locked, before all else; CacheFull where each frame has a locked block,
     /// and it looks into the body of another one. For an edit of a user ID, of the map block or of the body of a block
-    /// in memory, and for one that frees such a block, no store is called.
+    /// in memory, and for one that frees such a block, no store is called; nor, and nothing changes then, where the
+    /// block isn't there or is of another kind.
     pub fn edit(&mut self, edit: &Edit) -> Result<Done, Fault>
         ensures { EditsSession S.facts edit.now self.old self.new result }
     {

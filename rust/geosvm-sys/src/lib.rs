@@ -53,13 +53,13 @@ pub const GEOSVM_NO_CHUNK: i32 = 6;
 pub const GEOSVM_WRONG_KIND: i32 = 7;
 /// The heap would need more than 65,520 bytes.
 pub const GEOSVM_FULL: i32 = 8;
-/// A raw block would have more than 65,520 bytes, or a step a name of more than 64.
+/// Over 65,520 bytes in a raw block, 64 in a step's name, or 65,508 in an element.
 pub const GEOSVM_TOO_BIG: i32 = 9;
 /// Fewer block handles are free than are needed.
 pub const GEOSVM_NO_HANDLES: i32 = 10;
 /// A place, length or size is outside its bounds.
 pub const GEOSVM_RANGE: i32 = 11;
-/// The chunk is no array of the kind that is wanted.
+/// The chunk is no array of the kind that is wanted, or the block no root of a large array.
 pub const GEOSVM_NOT_ARRAY: i32 = 12;
 /// There is no such element, or the token isn't used.
 pub const GEOSVM_NO_ELEMENT: i32 = 13;
@@ -69,7 +69,7 @@ pub const GEOSVM_COUNT_FULL: i32 = 14;
 pub const GEOSVM_NO_NAME: i32 = 15;
 /// Another token has the name.
 pub const GEOSVM_NAME_IN_USE: i32 = 16;
-/// No chain begins at the block.
+/// No chain begins at the block, or a branch isn't what the root of a large array says.
 pub const GEOSVM_BAD_CHAIN: i32 = 17;
 /// The map block would be freed.
 pub const GEOSVM_IS_MAP: i32 = 18;
@@ -238,6 +238,15 @@ unsafe extern "C" {
     ) -> i32;
     /// Lends the bytes of a locked raw block.
     pub fn geosvm_locked_raw(s: *mut geosvm_session, block: u16, bytes: *mut *const u8, length: *mut usize) -> i32;
+    /// Locks the block of a large array that has an element, and lends its elements from there on.
+    pub fn geosvm_lock_run(
+        s: *mut geosvm_session,
+        root: u16,
+        i: u32,
+        block: *mut u16,
+        bytes: *mut *const u8,
+        length: *mut usize,
+    ) -> i32;
     /// Makes a raw block of zeros.
     pub fn geosvm_newraw(s: *mut geosvm_session, user_id: u16, size: u32, block: *mut u16) -> i32;
     /// Makes a block with an empty heap.
@@ -364,6 +373,14 @@ unsafe extern "C" {
     pub fn geosvm_chcopy(s: *mut geosvm_session, block: u16, copy: *mut u16) -> i32;
     /// Frees each block of a chain.
     pub fn geosvm_chfree(s: *mut geosvm_session, block: u16) -> i32;
+    /// Makes a large array, and tells its root.
+    pub fn geosvm_hcreate(s: *mut geosvm_session, user_id: u16, size: u32, root: *mut u16) -> i32;
+    /// Puts elements in before element `i` of a large array.
+    pub fn geosvm_hinsert(s: *mut geosvm_session, root: u16, i: u32, bytes: *const u8, size: usize) -> i32;
+    /// Puts elements in the place of those from element `i` on.
+    pub fn geosvm_hset(s: *mut geosvm_session, root: u16, i: u32, bytes: *const u8, size: usize) -> i32;
+    /// Deletes `count` elements.
+    pub fn geosvm_hdelete(s: *mut geosvm_session, root: u16, i: u32, count: u32) -> i32;
     /// Makes a block of `to` like one of `from`.
     pub fn geosvm_copy_block(from: *mut geosvm_session, block: u16, to: *mut geosvm_session, copy: *mut u16) -> i32;
     /// Tells whether a block is a heap, its user ID and its size.
@@ -456,6 +473,27 @@ unsafe extern "C" {
     pub fn geosvm_chsize(s: *mut geosvm_session, block: u16, size: *mut usize) -> i32;
     /// Tells whether two chains are equal.
     pub fn geosvm_chequal(s: *mut geosvm_session, block: u16, other: u16, equal: *mut u8) -> i32;
+    /// Tells how many elements a large array has.
+    pub fn geosvm_hcount(s: *mut geosvm_session, root: u16, count: *mut usize) -> i32;
+    /// Copies the bytes of an element.
+    pub fn geosvm_hget(
+        s: *mut geosvm_session,
+        root: u16,
+        i: u32,
+        buffer: *mut u8,
+        room: usize,
+        length: *mut usize,
+    ) -> i32;
+    /// Copies the bytes of `count` elements of one size.
+    pub fn geosvm_hread(
+        s: *mut geosvm_session,
+        root: u16,
+        i: u32,
+        count: u32,
+        buffer: *mut u8,
+        room: usize,
+        length: *mut usize,
+    ) -> i32;
     /// Tells how many steps can be undone.
     pub fn geosvm_undos(s: *mut geosvm_session, count: *mut usize) -> i32;
     /// Tells how many steps can be redone.

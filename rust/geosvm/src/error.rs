@@ -52,13 +52,13 @@ faults! {
     WrongKind = GEOSVM_WRONG_KIND,
     /// The heap would need more than 65,520 bytes.
     Full = GEOSVM_FULL,
-    /// A raw block would have more than 65,520 bytes, or a step a name of more than 64.
+    /// Over 65,520 bytes in a raw block, 64 in a step's name, or 65,508 in an element.
     TooBig = GEOSVM_TOO_BIG,
     /// Fewer block handles are free than are needed.
     NoHandles = GEOSVM_NO_HANDLES,
     /// A place, length or size is outside its bounds.
     Range = GEOSVM_RANGE,
-    /// The chunk is no array of the kind that is wanted.
+    /// The chunk is no array of the kind that is wanted, or the block no root of a large array.
     NotArray = GEOSVM_NOT_ARRAY,
     /// There is no such element, or the token isn't used.
     NoElement = GEOSVM_NO_ELEMENT,
@@ -68,7 +68,7 @@ faults! {
     NoName = GEOSVM_NO_NAME,
     /// Another token has the name.
     NameInUse = GEOSVM_NAME_IN_USE,
-    /// No chain begins at the block.
+    /// No chain begins at the block, or a branch isn't what the root of a large array says.
     BadChain = GEOSVM_BAD_CHAIN,
     /// The map block would be freed.
     IsMap = GEOSVM_IS_MAP,

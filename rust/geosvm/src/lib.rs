@@ -1,9 +1,10 @@
 //! Documents of blocks and heaps in a file, with exact undo: the library for C of geosvm, in safe Rust.
 //!
 //! A [`Session`] is an open document. Its blocks are heaps of chunks or raw bytes, each under a handle that stays; a
-//! chunk holds bytes, or an [`Array`], an [`ElementArray`] or a [`NameArray`]. Each edit is a step that can be undone;
-//! a [`Group`] of edits is one step; a [`Locked`] block lends its bytes where they lie. `docs/SCRIPT.md` of geosvm says
-//! what each command does, and the search of this page finds each call by its name in `geosvm.h`.
+//! chunk holds bytes, or an [`Array`], an [`ElementArray`] or a [`NameArray`]; a [`LargeArray`] has many raw blocks.
+//! Each edit is a step that can be undone; a [`Group`] of edits is one step; a [`Locked`] block lends its bytes where
+//! they lie. `docs/SCRIPT.md` of geosvm says what each command does, and the search of this page finds each call by its
+//! name in `geosvm.h`.
 //!
 //! ```
 //! use geosvm::{OpenOptions, Session};
@@ -41,6 +42,7 @@ mod error;
 mod files;
 mod groups;
 mod handles;
+mod large_arrays;
 mod locks;
 mod open;
 mod places;
@@ -53,6 +55,7 @@ pub use error::{Error, Fault, Result};
 pub use geosvm_sys as sys;
 pub use groups::Group;
 pub use handles::{BlockHandle, ChunkHandle, Token};
+pub use large_arrays::LargeArray;
 pub use locks::{Lent, Locked};
 pub use open::OpenOptions;
 pub use places::Place;

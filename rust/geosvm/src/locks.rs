@@ -1,6 +1,6 @@
 //! Locks, and bytes that are lent where they lie.
 use crate::error::{Error, Fault, Result};
-use crate::session::{call, Session};
+use crate::session::{call, FromNumber, Session};
 use crate::{BlockHandle, ChunkHandle};
 use std::fmt;
 use std::ops::{Deref, DerefMut};
@@ -140,6 +140,27 @@ impl Session {
     pub fn locked_raw(&mut self, block: BlockHandle) -> Result<&[u8]> {
         let [bytes] = self.lent([Lent::Raw(block)])?;
         Ok(bytes)
+    }
+
+    /// Locks the block of a large array that has element `i`, whose elements have one size, and lends its elements from
+    /// there to the last one in that block. The block is told, by which it is unlocked; where the call is refused
+    /// nothing is locked. The bytes are lent until the session is used again, and then asked for anew by `locked_raw`.
+    ///
+    /// ```compile_fail,E0499
+    /// # let mut doc = geosvm::Session::in_memory().unwrap();
+    /// # let root = doc.new_raw(7, 3).unwrap();
+    /// let (block, elements) = doc.lock_run(root, 0).unwrap();
+    /// doc.unlock(block).unwrap();
+    /// println!("{elements:?}");
+    /// ```
+    #[doc(alias = "geosvm_lock_run")]
+    pub fn lock_run(&mut self, root: BlockHandle, i: u32) -> Result<(BlockHandle, &[u8])> {
+        let (mut block, mut at, mut length) = (0, std::ptr::null(), 0);
+        self.call(call!(geosvm_lock_run(root.get(), i, &mut block, &mut at, &mut length)))?;
+        let block = BlockHandle::from_number(block)?;
+        // SAFETY: the call is made, so none runs while the bytes are read: they are lent as long as the session is
+        // borrowed mutably, of a block that is locked. The address is that of so many bytes, and isn't null.
+        Ok((block, unsafe { slice::from_raw_parts(at, length) }))
     }
 
     /// Bytes of several chunks and raw blocks at a time, all of them locked, where they lie. They are lent until the

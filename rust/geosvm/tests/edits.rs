@@ -223,3 +223,54 @@ fn chains() -> Result<()> {
     assert_eq!(fault(doc.chain_size(root)), Fault::NoBlock);
     Ok(())
 }
+
+#[test]
+fn large_arrays() -> Result<()> {
+    let mut doc = memory();
+    let root = doc.new_large_array(7, 1)?;
+    let mut text = doc.large_array(root);
+    text.insert(0, "x".repeat(70_000))?;
+    text.set(65_509, "ab")?;
+    assert_eq!((text.read(65_508, 4)?, text.get(65_510)?), (b"xabx".to_vec(), b"b".to_vec()));
+    text.delete(0, 65_508)?;
+    assert_eq!((text.count()?, text.read(0, 4)?, text.read(4_492, 0)?), (4_492, b"xabx".to_vec(), vec![]));
+    assert_eq!(fault(text.get(4_492)), Fault::NoElement);
+    assert_eq!(fault(text.get(usize::MAX)), Fault::NoElement);
+    assert_eq!(fault(text.read(4_491, 2)), Fault::NoElement);
+    assert_eq!(fault(text.set(4_491, "yy")), Fault::NoElement);
+    assert_eq!(fault(text.delete(4_491, 2)), Fault::NoElement);
+    assert_eq!(fault(text.insert(4_493, "y")), Fault::Range);
+    doc.undo()?;
+    assert_eq!((doc.large_array(root).count()?, doc.chain(root)?.len()), (70_000, 3));
+    assert_eq!(doc.large_array(root).read(2, 65_520)?.len(), 65_520);
+    assert_eq!(fault(doc.large_array(root).read(2, 65_521)), Fault::Range);
+    assert_eq!(fault(doc.new_large_array(7, 4_097)), Fault::Range);
+    Ok(())
+}
+
+#[test]
+fn large_arrays_of_any_sizes() -> Result<()> {
+    let mut doc = memory();
+    let root = doc.new_large_array(7, 0)?;
+    let mut lines = doc.large_array(root);
+    lines.insert(0, "two")?;
+    lines.insert(0, "one")?;
+    lines.set(1, "")?;
+    assert_eq!((lines.count()?, lines.get(0)?, lines.get(1)?), (2, b"one".to_vec(), vec![]));
+    assert_eq!(fault(lines.read(0, 1)), Fault::Range);
+    assert_eq!(fault(lines.insert(0, vec![0; 65_509])), Fault::TooBig);
+    lines.insert(0, vec![0; 65_508])?;
+    assert_eq!(lines.get(0)?.len(), 65_508);
+    doc.undo()?;
+    let branch = doc.chain(root)?[1];
+    assert_eq!(fault(doc.large_array(branch).count()), Fault::NotArray);
+    doc.lock(branch)?;
+    assert_eq!(fault(doc.large_array(root).delete(0, 1)), Fault::Locked);
+    doc.unlock(branch)?;
+    doc.write_raw(branch, 2, [3])?;
+    assert_eq!(fault(doc.large_array(root).get(0)), Fault::BadChain);
+    doc.undo()?;
+    doc.free_block(root)?;
+    assert_eq!(fault(doc.large_array(root).get(0)), Fault::NoBlock);
+    Ok(())
+}

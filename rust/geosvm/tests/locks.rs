@@ -1,7 +1,7 @@
 //! Locks, and bytes that are lent.
 mod common;
 use common::{fault, memory, saved, Folder};
-use geosvm::{Fault, Lent, Result, Session};
+use geosvm::{BlockHandle, Fault, Lent, Result, Session};
 
 #[test]
 fn lent_bytes_are_those_of_the_document() -> Result<()> {
@@ -70,6 +70,22 @@ fn refusals_of_locks() -> Result<()> {
     doc.free(heap, chunk)?;
     assert_eq!(fault(doc.lent([Lent::Raw(raw), Lent::Chunk(heap, chunk)])), Fault::NoChunk);
     assert_eq!((fault(doc.free_block(raw)), fault(doc.save())), (Fault::Locked, Fault::Locked));
+    Ok(())
+}
+
+#[test]
+fn elements_are_lent_where_they_lie() -> Result<()> {
+    let mut doc = memory();
+    let made = doc.command("hcreate 5 2")?;
+    let digits = made.split_whitespace().nth(1).unwrap().to_owned();
+    let root = BlockHandle::new(u16::from_str_radix(&digits, 16).unwrap()).unwrap();
+    doc.command(format!("hinsert {digits} 0 61626364"))?;
+    let (block, elements) = doc.lock_run(root, 1)?;
+    assert_eq!(elements, b"cd");
+    assert_eq!(doc.lock_count(block)?, 1);
+    doc.unlock(block)?;
+    assert_eq!(fault(doc.lock_run(root, 2)), Fault::NoElement);
+    assert_eq!(doc.lock_count(block)?, 0);
     Ok(())
 }
 

@@ -1,13 +1,13 @@
 //! Edits by name: those of `docs/SCRIPT.md`, with their names.
 ghost use Rattle.geos_model.specs.declared.command.Edit.TheVariants as edits;
-ghost use Rattle.geos_c.specs.Calls.{chunk_handle, token_numbered, vm};
+ghost use Rattle.geos_c.specs.Calls.{chunk_handle, element_count, token_numbered, vm};
 ghost use Rattle.geos_c.specs.Handles.{Copies, CopiesAndReports, EditsOnHandle, MakesOnHandle};
 
 use crate::calls;
 use crate::copying::{copied, uncopied};
 use crate::handle::{Handle, put, take};
 use c_sessions::NOT_OPEN;
-use geos_model::{ChunkHandle, Edit, Token, VmHandle};
+use geos_model::{ChunkHandle, Edit, ElementCount, Token, VmHandle};
 use std::alloc::Global;
 
 // Makes an edit in the session behind a handle, and hands out what it made.
@@ -659,4 +659,83 @@ pub extern "C" fn geosvm_chfree(handle: &mut Handle, alloc: Global, block: u16) 
     ensures { EditsOnHandle (edits.FreeChain (vm block)) handle.old handle.new result }
 {
     edit(handle, alloc, &Edit::FreeChain(VmHandle(block)))
+}
+
+// Large arrays.
+
+/// A large array of elements of this size, 0 where sizes vary. `root` becomes its root, which has this user ID.
+#[unsafe(no_mangle)]
+pub extern "C" fn geosvm_hcreate(
+    handle: &mut Handle,
+    alloc: Global,
+    user_id: u16,
+    size: u32,
+    root: &mut u16,
+) -> i32
+    ensures { MakesOnHandle (edits.CreateLarge user_id size) root.new handle.old handle.new result }
+{
+    make(handle, alloc, &Edit::CreateLarge(user_id, size), root)
+}
+
+/// Puts these bytes in before the element that has this number: one element, or as many of its size as they are.
+#[unsafe(no_mangle)]
+pub extern "C" fn geosvm_hinsert(
+    handle: &mut Handle,
+    alloc: Global,
+    root: u16,
+    i: u32,
+    bytes: &[u8],
+) -> i32
+    ensures { Copies (EditsOnHandle (edits.InsertLarge (vm root) (element_count i) bytes.now))
+        handle.old handle.new result }
+{
+    let Ok(bytes) = copied(alloc, bytes) else {
+        return uncopied(handle);
+    };
+    edit(
+        handle,
+        alloc,
+        &Edit::InsertLarge(VmHandle(root), ElementCount(i), bytes),
+    )
+}
+
+/// Puts these bytes in the place of as many elements, from this one on.
+#[unsafe(no_mangle)]
+pub extern "C" fn geosvm_hset(
+    handle: &mut Handle,
+    alloc: Global,
+    root: u16,
+    i: u32,
+    bytes: &[u8],
+) -> i32
+    ensures { Copies (EditsOnHandle (edits.SetLarge (vm root) (element_count i) bytes.now))
+        handle.old handle.new result }
+{
+    let Ok(bytes) = copied(alloc, bytes) else {
+        return uncopied(handle);
+    };
+    edit(
+        handle,
+        alloc,
+        &Edit::SetLarge(VmHandle(root), ElementCount(i), bytes),
+    )
+}
+
+/// Deletes so many elements, from this one on.
+#[unsafe(no_mangle)]
+pub extern "C" fn geosvm_hdelete(
+    handle: &mut Handle,
+    alloc: Global,
+    root: u16,
+    i: u32,
+    count: u32,
+) -> i32
+    ensures { EditsOnHandle (edits.DeleteLarge (vm root) (element_count i) (element_count count))
+        handle.old handle.new result }
+{
+    edit(
+        handle,
+        alloc,
+        &Edit::DeleteLarge(VmHandle(root), ElementCount(i), ElementCount(count)),
+    )
 }

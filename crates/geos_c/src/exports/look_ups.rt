@@ -3,7 +3,7 @@ ghost use Rattle.std.specs.Prelude.{◌≡◌};
 ghost use Rattle.geos_model.specs.Forms.{form_asked};
 ghost use Rattle.geos_model.specs.Forms as forms;
 ghost use Rattle.geos_model.specs.declared.command.Command.TheVariants as commands;
-ghost use Rattle.geos_c.specs.Calls.{chunk_handle, token_numbered, vm};
+ghost use Rattle.geos_c.specs.Calls.{chunk_handle, element_count, token_numbered, vm};
 ghost use Rattle.geos_c.specs.Handles.{CopiesAndReports, EqualOnHandle, HandsOutOnHandle, InfoOnHandle, NumberOnHandle};
 ghost use Rattle.geos_c.specs.LookUps.{ReadsBytes};
 ghost use Rattle.geos_c.specs.Stores.{facts};
@@ -12,7 +12,7 @@ use crate::copying::{copied, uncopied};
 use crate::handle::{Handle, put, take};
 use crate::look_ups;
 use c_sessions::NOT_OPEN;
-use geos_model::{ChunkHandle, Command, Token, VmHandle};
+use geos_model::{ChunkHandle, Command, ElementCount, Token, VmHandle};
 use std::alloc::Global;
 
 // Asks the session behind a handle for a number.
@@ -535,6 +535,67 @@ pub extern "C" fn geosvm_chequal(
         handle,
         alloc,
         |session| look_ups::equal(session, VmHandle(block), VmHandle(other), equal)
+    )
+}
+
+// Large arrays.
+
+/// How many elements a large array has.
+#[unsafe(no_mangle)]
+pub extern "C" fn geosvm_hcount(
+    handle: &mut Handle,
+    alloc: Global,
+    root: u16,
+    count: &mut usize,
+) -> i32
+    ensures { NumberOnHandle (commands.LargeCount (vm root)) count.new handle.old handle.new result }
+{
+    number(handle, alloc, &Command::LargeCount(VmHandle(root)), count)
+}
+
+/// The bytes of an element by its number, from 0 on.
+#[unsafe(no_mangle)]
+pub extern "C" fn geosvm_hget(
+    handle: &mut Handle,
+    alloc: Global,
+    root: u16,
+    i: u32,
+    buffer: &mut [u8],
+    length: &mut usize,
+) -> i32
+    ensures { HandsOutOnHandle (ReadsBytes facts (commands.LargeElement (vm root) (element_count i)))
+        handle.old handle.new buffer.old buffer.new length.new result }
+{
+    bytes(
+        handle,
+        alloc,
+        &Command::LargeElement(VmHandle(root), ElementCount(i)),
+        buffer,
+        length,
+    )
+}
+
+/// The bytes of so many elements of one size, from this one on.
+#[unsafe(no_mangle)]
+pub extern "C" fn geosvm_hread(
+    handle: &mut Handle,
+    alloc: Global,
+    root: u16,
+    i: u32,
+    count: u32,
+    buffer: &mut [u8],
+    length: &mut usize,
+) -> i32
+    ensures { HandsOutOnHandle (ReadsBytes facts
+        (commands.LargeRun (vm root) (element_count i) (element_count count)))
+        handle.old handle.new buffer.old buffer.new length.new result }
+{
+    bytes(
+        handle,
+        alloc,
+        &Command::LargeRun(VmHandle(root), ElementCount(i), ElementCount(count)),
+        buffer,
+        length,
     )
 }
 

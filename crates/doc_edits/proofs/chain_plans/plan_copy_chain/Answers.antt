@@ -1,7 +1,7 @@
 use Rattle.std.proofs.Common.{refl, ap, ◌∙◌}
 use Rattle.std.proofs.lemmas.List.{get_or_read}
 use Rattle.document_file.specs.declared.member.Member.{Member}
-use Rattle.doc_edits.proofs.ChainPlans.{copy_planned, first_copy, plan_given, plan_missed, plan_refused}
+use Rattle.doc_edits.proofs.ChainPlans.{chain_seen, copy_planned, first_copy, plan_given, plan_missed, plan_refused}
 use Rattle.doc_edits.proofs.chain_plans.plan_copy_chain.Goals as goal
 
 pub returns-in_err-test_chain : goal.returns-in_err-test_chain
@@ -11,13 +11,13 @@ returns-in_err-test_chain g c =
 pub returns-in_err-copies : goal.returns-in_err-copies
 returns-in_err-copies g c =
     let did = c.in_err-copies.ensures in
-    plan_missed c.from_residual-in_err-copies.ensures.1 c.in_ok-test_chain.ensures.value c.copy_plan.ensures.keeps did.value did.refusals
+    plan_missed c.from_residual-in_err-copies.ensures.1 c.in_ok-test_chain.ensures.value (chain_seen c.args.root c.args.blocks.now.document c.in_ok-test_chain.ensures.raw).0 c.copy_plan.ensures.keeps did.value did.refusals
 
 pub returns : goal.returns
 returns g c =
     let copies = c.in_ok-copies.copies in let did = c.in_ok-copies.ensures in
     let first : Member = c.index.result.now in
-    plan_given c.in_ok-test_chain.ensures.value c.copy_plan.ensures.keeps
+    plan_given c.in_ok-test_chain.ensures.value (chain_seen c.args.root c.args.blocks.now.document c.in_ok-test_chain.ensures.raw).0 c.copy_plan.ensures.keeps
     (λ steady.
     let planned = did.value steady in
     copy_planned _ c.args.root copies first.handle planned.0 planned.1 did.applies

@@ -1,5 +1,5 @@
 use Rattle.std.proofs.Common.{refl}
-use Rattle.doc_edits.proofs.ChainPlans.{free_planned, plan_given, plan_missed, plan_refused}
+use Rattle.doc_edits.proofs.ChainPlans.{chain_seen, free_planned, plan_given, plan_missed, plan_refused}
 use Rattle.doc_edits.proofs.chain_plans.plan_free_chain.Goals as goal
 
 pub returns-in_err-test_chain : goal.returns-in_err-test_chain
@@ -9,11 +9,11 @@ returns-in_err-test_chain g c =
 pub returns-in_err-chain : goal.returns-in_err-chain
 returns-in_err-chain g c =
     let did = c.in_err-chain.ensures in
-    plan_missed c.from_residual-in_err-chain.ensures.1 c.in_ok-test_chain.ensures.value c.free_plan.ensures.keeps did.value did.refusals
+    plan_missed c.from_residual-in_err-chain.ensures.1 c.in_ok-test_chain.ensures.value (chain_seen c.args.root c.args.blocks.now.document c.in_ok-test_chain.ensures.raw).1 c.free_plan.ensures.keeps did.value did.refusals
 
 pub returns : goal.returns
 returns g c =
     let did = c.in_ok-chain.ensures in
-    plan_given c.in_ok-test_chain.ensures.value c.free_plan.ensures.keeps
+    plan_given c.in_ok-test_chain.ensures.value (chain_seen c.args.root c.args.blocks.now.document c.in_ok-test_chain.ensures.raw).1 c.free_plan.ensures.keeps
     (λ steady. let planned = did.value steady in free_planned _ c.args.root c.in_ok-chain.chain planned.0 planned.1 (did.applies steady))
     (record { listed = did.handles; takes = tt; in_memory = tt }) refl

@@ -2,7 +2,7 @@ use Rattle.std.proofs.Common.{◌++◌, ◌∷◌, ◌∙◌, ℕ, List, [], sym
 use Rattle.std.proofs.lemmas.Result.{on_ok_weaker}
 use Rattle.chunk_edits.specs.Patching.{PatchPiece, ArePiecesOf, patched}
 use Rattle.large_arrays.specs.ChangePlans.{ArePlanned}
-use Rattle.large_arrays.specs.Patches.{HoldsLeast}
+use Rattle.large_bodies.specs.Patches.{HoldsLeast}
 use Rattle.large_arrays.proofs.changes.plan_body.Goals as goal
 
 pub returns : goal.returns

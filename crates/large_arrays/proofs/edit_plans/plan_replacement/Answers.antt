@@ -1,4 +1,4 @@
-use Rattle.std.proofs.Common.{◌≡◌, ◌∙◌, ℕ, true, is_some, sym, ap, subst, inl}
+use Rattle.std.proofs.Common.{◌≡◌, ◌∙◌, ◌≤◌, ℕ, true, is_some, sym, ap, subst, inl}
 use Rattle.geos_model.specs.Document.{Document, is_raw, raw_bytes_of}
 use Rattle.geos_model.specs.declared.fault.Fault.{Fault}
 use Rattle.geos_model.specs.declared.fault.Fault.TheVariants.{Memory}
@@ -7,12 +7,14 @@ use Rattle.vm_blocks.proofs.KeepingLaws.{keeps-refl, keeps-same, keeps-steady, k
 use Rattle.vm_chains.proofs.Loading.{carried, carried_so, still_room}
 use Rattle.geos_model.specs.LargeBlocks.{root_at}
 use Rattle.large_arrays.specs.Gathering.{IsGatheredWindow}
-use Rattle.geos_model.specs.LargeLayout.{Root, root_of}
+use Rattle.geos_model.specs.LargeLayout.{Root, root_of, total_count}
+use Rattle.large_bodies.specs.SizedElements.{have_size}
 use Rattle.large_arrays.specs.Spots.{IsSpot}
 use Rattle.large_arrays.specs.WindowPlans.{HasGatheredRoot}
 use Rattle.large_arrays.proofs.EditAnswers.{chain-later, handles-later, planned-nothing, planned-window, stopped-window}
 use Rattle.large_arrays.proofs.GatheredWindows.{gathered-root}
 use Rattle.large_arrays.proofs.SpotRuns.{read-run}
+use Rattle.large_arrays.proofs.WithinEdits.{answered-within}
 use Rattle.large_arrays.proofs.edit_plans.plan_replacement.Goals as goal
 
 pub returns-in_err-plan_nothing-clause-keeps : goal.returns-in_err-plan_nothing-clause-keeps
@@ -44,6 +46,36 @@ returns-in_err-spot-clause-value g c = λ honest.
 pub returns-in_err-spot-clause-refusals : goal.returns-in_err-spot-clause-refusals
 returns-in_err-spot-clause-refusals g c =
     carried_so c.from_residual-in_err-spot.result Memory _ c.from_residual-in_err-spot.ensures.1 (inl (lacks-memory g.S.Store.facts c.args.blocks.now.disk.store c.args.blocks.now.disk.store))
+
+pub branch_edit-requires : goal.branch_edit-requires
+branch_edit-requires g c =
+    let d : Document = c.args.blocks.now.document in let b : ℕ = c.args.root.0 in let edit = c.args.edit.now in let s = c.in_ok-spot.spot in
+    let is : IsSpot (root_at d b) edit.start edit.end s = subst (λ (r : Root). IsSpot r edit.start edit.end s) c.loaded_root.ensures c.in_ok-spot.ensures in
+    read-run d b edit.start edit.end s (ap is_some c.requires.loaded.root) is c.requires.edit.order c.requires.edit.within
+
+pub plan_within-requires-clause-run : goal.plan_within-requires-clause-run
+plan_within-requires-clause-run g c =
+    let d : Document = c.args.blocks.now.document in let b : ℕ = c.args.root.0 in let edit = c.args.edit.now in let s = c.in_ok-spot.spot in
+    let is : IsSpot (root_at d b) edit.start edit.end s = subst (λ (r : Root). IsSpot r edit.start edit.end s) c.loaded_root.ensures c.in_ok-spot.ensures in
+    read-run d b edit.start edit.end s (ap is_some c.requires.loaded.root) is c.requires.edit.order c.requires.edit.within
+
+pub returns-in-Some-clause-value : goal.returns-in-Some-clause-value
+returns-in-Some-clause-value g c = λ honest.
+    let f = g.S.Store.facts in let a = c.args.blocks.now in let e = c.plan_within.new.blocks in let b : ℕ = c.args.root.0 in let edit = c.args.edit.now in
+    let i : ℕ = edit.start in let j : ℕ = edit.end in let new = edit.new_elements in let s = c.in_ok-spot.spot in let can = c.requires.edit in
+    let same : e.document ≡ a.document = keeps-same f a e c.plan_within.ensures.keeps honest in
+    let is : IsSpot (root_at a.document b) i j s = subst (λ (r : Root). IsSpot r i j s) c.loaded_root.ensures c.in_ok-spot.ensures in
+    let here : IsSpot (root_at e.document b) i j s = subst (λ (d : Document). IsSpot (root_at d b) i j s) (sym same) is in
+    let sized : have_size (root_at e.document b).size new.elements ≡ true =
+    ap (λ (n : ℕ). have_size n new.elements) (ap (λ (d : Document). (root_at d b).size) same ∙ sym can.size) ∙ c.in-Some.ensures.sized in
+    answered-within e.document b i j new.elements
+    (record {
+      raw = ap (λ (d : Document). is_raw d b) same ∙ c.requires.loaded.raw;
+      found = ap (λ (d : Document). is_some (root_of (raw_bytes_of d b))) same ∙ ap is_some c.requires.loaded.root;
+    })
+    can.order (subst (λ (d : Document). j ≤ total_count (root_at d b)) (sym same) can.within) sized (c.in-Some.ensures.edit (root_at e.document b) i j here).stays
+    (sym c.is_nothing.ensures ∙ c.if-is_nothing.false) (λ changes. changes.items) (IsEnvironmentFault f a.disk.store e.disk.store) c.plan_within.result
+    (c.plan_within.ensures.value honest i j here)
 
 pub gather-requires : goal.gather-requires
 gather-requires g c =

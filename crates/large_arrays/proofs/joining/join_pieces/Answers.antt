@@ -1,6 +1,6 @@
 use Rattle.std.proofs.Common.{◌≡◌, ◌∙◌, ◌+◌, ◌&&◌, ◌==◌, ℕ, Bool, true, false, List, [], Result, Ok, Err, IfOk, if◌then◌else◌, is_some, refl, sym, ap, ap₂, arith}
 use Rattle.geos_model.specs.Pieces.{BranchPiece}
-use Rattle.large_arrays.specs.SizedElements.{SizedPieces, elements_of_size}
+use Rattle.large_bodies.specs.SizedElements.{SizedPieces, elements_of_size}
 use Rattle.geos_model.specs.JoinedPieces.{window_of}
 use Rattle.large_arrays.proofs.joining.join_pieces.Goals as goal
 

@@ -1,8 +1,8 @@
 use Rattle.std.proofs.Common.{◌≡◌, ◌∙◌, ◌==◌, ◌*◌, ◌+◌, ◌-◌, ℕ, false, nat_lt, Option, ap, ap₂}
 use Rattle.std.proofs.lemmas.Bool.{ne_eqb}
-use Rattle.large_arrays.specs.Neighbours.{if_known, left_joins_by, right_joins_by}
+use Rattle.large_bodies.specs.Neighbours.{if_known, left_joins_by, right_joins_by}
 use Rattle.large_arrays.specs.LookedBranches.{count_at}
-use Rattle.large_arrays.specs.declared.neighbours.MiddleEnds.{MiddleEnds}
+use Rattle.large_bodies.specs.declared.neighbours.MiddleEnds.{MiddleEnds}
 use Rattle.large_arrays.proofs.LookedSides.{left-even, right-even}
 use Rattle.large_arrays.proofs.joining.looked_sides.Goals as goal
 

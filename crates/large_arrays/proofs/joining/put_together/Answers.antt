@@ -7,10 +7,10 @@ use Rattle.vm_chains.specs.Walking.{Stops}
 use Rattle.vm_chains.proofs.Loading.{carried}
 use Rattle.geos_model.specs.Pieces.{piece_weight}
 use Rattle.geos_model.specs.Spread.{middle}
-use Rattle.large_arrays.specs.SizedElements.{SizedPieces}
+use Rattle.large_bodies.specs.SizedElements.{SizedPieces}
 use Rattle.geos_model.specs.LargeBlocks.{root_at, pieces_at}
 use Rattle.large_arrays.specs.LookedBranches.{first_with, behind_with, links_between}
-use Rattle.large_arrays.specs.Neighbours.{ends_of}
+use Rattle.large_bodies.specs.Neighbours.{ends_of}
 use Rattle.large_arrays.specs.Spots.{link_handles}
 use Rattle.large_arrays.specs.declared.gathered.Gathered.{Gathered}
 use Rattle.large_arrays.specs.declared.spot.BranchLink.{BranchLink}

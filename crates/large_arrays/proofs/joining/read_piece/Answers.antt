@@ -3,7 +3,7 @@ use Rattle.std.proofs.lemmas.List.{take_all}
 use Rattle.geos_model.specs.Heap.{capacity}
 use Rattle.geos_model.specs.Pieces.{BranchPiece, piece_weight, branch_room}
 use Rattle.geos_model.specs.LargeLayout.{branch_of}
-use Rattle.large_arrays.specs.SizedElements.{SizedElements}
+use Rattle.large_bodies.specs.SizedElements.{SizedElements}
 use Rattle.geos_model.proofs.BranchBytes.{branch_of-is, length-branch_bytes}
 use Rattle.large_arrays.proofs.joining.read_piece.Goals as goal
 

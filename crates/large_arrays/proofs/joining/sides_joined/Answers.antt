@@ -1,7 +1,7 @@
 use Rattle.std.proofs.Common.{◌≡◌, ◌∙◌, ◌==◌, ℕ, true, Option, ap, ap₂, eq-eqb}
 use Rattle.geos_model.specs.Pieces.{piece_weight}
-use Rattle.large_arrays.specs.Neighbours.{if_known, left_joins_by, right_joins_by}
-use Rattle.large_arrays.specs.declared.neighbours.MiddleEnds.{MiddleEnds}
+use Rattle.large_bodies.specs.Neighbours.{if_known, left_joins_by, right_joins_by}
+use Rattle.large_bodies.specs.declared.neighbours.MiddleEnds.{MiddleEnds}
 use Rattle.large_arrays.proofs.LookedSides.{left-joined_by, right-joined_by}
 use Rattle.large_arrays.proofs.joining.sides_joined.Goals as goal
 

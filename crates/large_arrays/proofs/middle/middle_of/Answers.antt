@@ -8,7 +8,7 @@ use Rattle.large_arrays.specs.Bodies.{bytes_of_bodies}
 use Rattle.large_arrays.specs.Middle.{are_there, run_branches}
 use Rattle.geos_model.specs.Pieces.{BranchPiece}
 use Rattle.large_arrays.specs.RunReading.{tail_room}
-use Rattle.large_arrays.specs.SizedElements.{SizedElements}
+use Rattle.large_bodies.specs.SizedElements.{SizedElements}
 use Rattle.geos_model.specs.Spread.{packed_from, with_last}
 use Rattle.large_arrays.proofs.SpotRuns.{run-is}
 use Rattle.large_arrays.proofs.MiddleRuns.{all-there, is-middle, one-missing}

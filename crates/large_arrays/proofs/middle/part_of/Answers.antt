@@ -1,7 +1,7 @@
 use Rattle.std.proofs.Common.{◌≡◌, ◌∙◌, ◌-◌, ◌+◌, ◌≤◌, [], ℕ, take, drop, sym, ap, arith}
 use Rattle.std.proofs.Math.Path.{subst₂}
 use Rattle.geos_model.specs.Pieces.{BranchPiece, branch_room, piece_weight}
-use Rattle.large_arrays.specs.SizedElements.{SizedElements}
+use Rattle.large_bodies.specs.SizedElements.{SizedElements}
 use Rattle.large_arrays.proofs.RunReads.{part-fits}
 use Rattle.large_arrays.proofs.middle.part_of.Goals as goal
 

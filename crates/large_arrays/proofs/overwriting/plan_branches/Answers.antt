@@ -4,7 +4,7 @@ use Rattle.geos_model.specs.declared.fault.Fault.TheVariants.{BadChain}
 use Rattle.vm_blocks.specs.Keeping.{IsEnvironmentFault}
 use Rattle.vm_blocks.proofs.KeepingLaws.{keeps-trans, lacks-later}
 use Rattle.vm_chains.proofs.Loading.{carried, carried_so, still_room}
-use Rattle.large_arrays.specs.SizedElements.{SizedElements}
+use Rattle.large_bodies.specs.SizedElements.{SizedElements}
 use Rattle.large_arrays.specs.declared.spot.BranchLink.{BranchLink}
 use Rattle.large_arrays.proofs.Marking.{no_link}
 use Rattle.large_arrays.proofs.OverwritingSteps.{overwritten-none, overwritten-more, overwritten-stops, overwritten-all, overwritten-listed}

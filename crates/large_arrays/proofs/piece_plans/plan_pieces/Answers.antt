@@ -5,7 +5,7 @@ use Rattle.std.specs.List.{zip}
 use Rattle.geos_model.specs.declared.handle.VmHandle.{VmHandle}
 use Rattle.geos_model.specs.Pieces.{BranchPiece}
 use Rattle.geos_model.specs.LargeLayout.{branch_bytes}
-use Rattle.large_arrays.specs.SizedElements.{SizedElements}
+use Rattle.large_bodies.specs.SizedElements.{SizedElements}
 use Rattle.vm_chains.specs.Numbers.{numbers}
 use Rattle.large_arrays.specs.HandleLists.{old_handles}
 use Rattle.large_arrays.specs.ChangePlans.{ArePlanned, ArePlannedByHandle, IsUntouched, piece_bodies}

@@ -1,10 +1,10 @@
 use Rattle.std.proofs.Common.{◌≡◌, ◌∙◌, ◌+◌, ◌-◌, ◌++◌, ℕ, List, [], length, refl, sym, ap, ap₂}
 use Rattle.vm_chains.specs.Numbers.{numbers}
-use Rattle.large_arrays.specs.RootEdits.{head_bytes, count_bytes, link_bytes, run_between}
+use Rattle.large_bodies.specs.RootEdits.{head_bytes, count_bytes, link_bytes, run_between}
 use Rattle.geos_model.specs.LargeLayout.{Root}
 use Rattle.std.proofs.lemmas.List.{length-map}
 use Rattle.geos_model.specs.declared.handle.VmHandle.{VmHandle}
-use Rattle.large_arrays.proofs.RootRuns.{added, root_pushed}
+use Rattle.large_bodies.proofs.RootRuns.{added, root_pushed}
 use Rattle.large_arrays.proofs.root_edits.new_root.Goals as goal
 
 pub returns : goal.returns

@@ -24,6 +24,7 @@ returns-in_err-change g c =
       rules = λ so. plan.planned (λ _. honest-steady facts a.disk.store so);
       plain = λ is. let kept = plan.plain is in (ap (λ (x : CacheState g.row.S.Denot). x.disk) kept.0, kept.1);
       shut = plan.shut;
+      unseen = plan.unseen;
       already = λ other nothing. let kept = plan.already nothing in (kept.0, (kept.1, kept.2));
     })
 
@@ -42,6 +43,7 @@ returns-in_err-carry_out g c =
       rules = λ so. inl lacks;
       plain = λ is. absurd (never_refused edit change mid new fault c.carry_out.result c.in_err-carry_out.was plan.kind (λ made. let no : Plain ≡ Made = sym is ∙ made in absurd (cc no)) c.carry_out.ensures.sure);
       shut = λ out. absurd (true≢false (sym out ∙ plan.room));
+      unseen = λ unread. absurd (plan.unseen unread).1;
       already = λ other nothing. absurd (never_refused edit change mid new fault c.carry_out.result c.in_err-carry_out.was plan.kind other c.carry_out.ensures.sure);
     })
 
@@ -59,6 +61,7 @@ returns g c =
           let made = c.carry_out.ensures.sure (none_come_in change (kind_of edit) plan.kind (λ made. let no : Plain ≡ Made = sym is ∙ made in absurd (cc no))) in
           (made.1 ∙ ap (λ (x : CacheState g.row.S.Denot). x.disk) (plan.plain is).0, tt);
       shut = λ out. absurd (true≢false (sym out ∙ plan.room));
+      unseen = λ unread. absurd (plan.unseen unread).1;
       already = λ other nothing.
           let unchanged = plan.already nothing in
           let planned = plan.planned (λ chain. absurd (reads_chain a edit (conditions edit a.document) nothing chain)) in

@@ -51,7 +51,7 @@ returns-in_err-reserve g c =
     let new = session_with c.plan_large.new.blocks c.reserve.new.self.lists in
     let free = large.bars_is c.self.inside.blocks.resident ∙ sym c.has_locks.ensures ∙ c.if-has_locks.false in
     carried c.self.view_is Memory c.from_residual-in_err-reserve.result c.from_residual-in_err-reserve.ensures.1
-    (large_unserved facts old new edit large c.reveal_invariant.ensures.distinct free (record { blocks = c.in_ok-changes.ensures.keeps; log = c.in_err-reserve.ensures.lists }) c.in_ok-changes.ensures.room)
+    (large_unserved facts old new edit large c.reveal_invariant.ensures.distinct free (record { blocks = c.in_ok-changes.ensures.keeps; log = c.in_err-reserve.ensures.lists }) c.in_ok-changes.ensures.room (λ unread. (c.in_ok-changes.ensures.unseen unread).1))
 
 -- nothing is marked or locked
 pub make_all-requires-clause-unmarked : goal.make_all-requires-clause-unmarked

@@ -32,7 +32,7 @@ returns-in_err-reserve g c =
     let same = same_session c.self.inside.blocks c.self.inside.blocks c.self.inside.log.lists c.reserve.new.self.lists refl c.in_err-reserve.ensures.lists in
     carried c.self.view_is Memory c.from_residual.result c.from_residual.ensures.1
     (edit_fails facts old new edit distinct free Memory (record { blocks = keeps-refl facts c.self.inside.blocks; log = c.in_err-reserve.ensures.lists })
-    (lacks_memory facts old new edit distinct free (λ _. same) (λ _ _. (refl, refl))))
+    (lacks_memory facts old new edit distinct free (λ _. same) (λ _. same) (λ _ _. (refl, refl))))
 
 -- the edit is refused
 pub invariant_of-self-in_err-change : goal.invariant_of-self-in_err-change
@@ -73,4 +73,4 @@ returns g c =
     let free = sym c.is_barred.ensures ∙ c.if-is_barred.false in
     let made = c.in_ok-change.ensures in
     subst (λ (s : SessionState g.row.S.Denot). EditsSession facts edit s new (Ok done)) c.self.view_is
-    (edit_done facts old new edit c.reveal_invariant.ensures.distinct free change done made.ok (c.add.ensures ∙ ap (λ (l : Log). with_change change l) c.in_ok-reserve.ensures.lists) made.already)
+    (edit_done facts old new edit c.reveal_invariant.ensures.distinct free change done made.ok (c.add.ensures ∙ ap (λ (l : Log). with_change change l) c.in_ok-reserve.ensures.lists) (λ unread. (made.unseen unread).1) made.already)

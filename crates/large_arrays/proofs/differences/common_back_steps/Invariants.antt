@@ -1,6 +1,0 @@
-use Rattle.std.proofs.Common.{◌*◌}
-use Rattle.large_arrays.specs.Differences.{IsCommonBack}
-use Rattle.large_arrays.proofs.differences.common_back_steps.Given as goal
-
-abbrev pub invariant-loop-k : goal.invariant-loop-k
-invariant-loop-k l = IsCommonBack l.old l.new (l.k * 64)

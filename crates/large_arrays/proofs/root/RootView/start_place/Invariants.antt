@@ -1,8 +1,0 @@
-use Rattle.std.proofs.Common.{◌≡◌, drop}
-use Rattle.geos_model.specs.Spread.{start_place}
-use Rattle.large_arrays.proofs.PlaceSteps.{shifted}
-use Rattle.large_arrays.proofs.root.RootView.start_place.Given as goal
-
--- the place is that in the branches that are left
-abbrev pub invariant-loop-k : goal.invariant-loop-k
-invariant-loop-k l = start_place l.self.counts l.i ≡ shifted l.k (start_place (drop l.k l.self.counts) l.left)

@@ -1,6 +1,0 @@
-use Rattle.std.proofs.Common.{ℕ, ◌<◌}
-use Rattle.large_arrays.specs.RootParts.{count_in}
-use Rattle.large_arrays.proofs.root.has_counts.Given as goal
-
-abbrev pub invariant-loop-i : goal.invariant-loop-i
-invariant-loop-i l = (k : ℕ) → k < l.i → 0 < count_in l.bytes k

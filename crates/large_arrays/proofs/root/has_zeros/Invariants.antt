@@ -1,7 +1,0 @@
-use Rattle.std.proofs.Common.{◌≡◌, ℕ, ◌<◌}
-use Rattle.geos_model.specs.Words.{word_at}
-use Rattle.large_arrays.specs.RootParts.{branch_link_place}
-use Rattle.large_arrays.proofs.root.has_zeros.Given as goal
-
-abbrev pub invariant-loop-i : goal.invariant-loop-i
-invariant-loop-i l = (k : ℕ) → k < l.i → word_at l.bytes (branch_link_place l.bytes k) ≡ 0

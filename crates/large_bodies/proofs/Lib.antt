@@ -1,0 +1,15 @@
+pub mod RootLemmas
+pub mod PlaceSteps
+pub mod BranchLemmas
+pub mod PieceLemmas
+pub mod NewElementsLemmas
+pub mod BodyLemmas
+pub mod CommonParts
+pub mod PackingLemmas
+pub mod RootRuns
+pub mod LeastSplices
+pub mod PatchPieces
+pub mod ShiftedWords
+pub mod PatchedRegions
+pub mod RootScans
+pub mod PlaceBlocks

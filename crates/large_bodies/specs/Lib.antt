@@ -1,0 +1,13 @@
+pub mod BranchReading
+pub mod Differences
+pub mod ElementLengths
+pub mod Filling
+pub mod Neighbours
+pub mod NewElementsViewing
+pub mod PieceKeeping
+pub mod PiecesKeeping
+pub mod RootEdits
+pub mod RootParts
+pub mod RootViewing
+pub mod SizedElements
+pub mod Patches
