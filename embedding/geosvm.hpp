@@ -757,7 +757,7 @@ public:
   /* The block of a large array that has element i, and its elements from there on. */
   locked_block(session &s, block root, std::size_t i, bytes_view &elements, report r = {}) {
     elements = s.lock_run(root, i, block_, r);
-    is_locked_ = elements.data() != nullptr;
+    is_locked_ = static_cast<bool>(block_);
     at_ = s.at_;
   }
   locked_block(locked_block &&other) noexcept
