@@ -185,7 +185,10 @@ each_of() {
 
 echo "-- each request: the replies to the first lines and the document that these lead to, or all but of the line that is refused"
 total=0
-for name in first_path chunk_edits arrays chains contents joined_steps places locks small_document files_made; do
+examples="first_path chunk_edits arrays chains contents joined_steps places locks small_document files_made"
+# These take as long as the others together.
+[ "$every" -gt 1 ] || examples="$examples large_text tutorial_novel"
+for name in $examples; do
     each_of "$data/$name" --new ""
 done
 "$geosvm" --new saved <"$data/files_made.script" >replies

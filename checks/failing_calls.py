@@ -522,8 +522,9 @@ def try_scenario(checks, library, geosvm, program, scenario, room, has_streams=T
     for call in first.calls:
         kinds[call.name, call.kind] = kinds.get((call.name, call.kind), 0) + 1
     for (name, kind), most in sorted(kinds.items()):
-        # What is told where standard error fails can't be looked at. What a C program does on its streams is its own.
-        if kind == "errors" or name == "lseek" or not has_streams and kind in ("input", "output"):
+        # What is told where standard error fails can't be looked at. What a C program does on its streams is its own. A long script comes
+        # in as many reads as the system likes.
+        if kind == "errors" or name == "lseek" or (not has_streams or scenario.is_large) and kind in ("input", "output"):
             continue
         for how, lasts in [(errno.EIO, False)] if scenario.is_large else hows_of(name):
             wrong = []

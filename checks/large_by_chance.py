@@ -450,7 +450,8 @@ class Script(random.Random):
         self.say("mapblock")
         handles = sorted(now.blocks)
         if len(handles) > 200:
-            handles = sorted({h for b in self.roots if now.is_raw(b) for h in (b, *getattr(root_of(now.blocks[b].body), "handles", ()))})
+            named = {h for b in self.roots if now.is_raw(b) for h in (b, *getattr(root_of(now.blocks[b].body), "handles", ()))}
+            handles = sorted(named & now.blocks.keys())
         for b in handles[:200]:
             if len(now.blocks[b].body or b"") < 3000 or self.randrange(6 if small else 3) == 0:
                 self.say(f"vread {handle(b)}")
