@@ -168,7 +168,8 @@ class Script(random.Random):
         for _ in new:
             self.say("newraw 0 0")
         b, *few = new
-        piece = self.elements(size, 2)
+        # Two elements of any length needn't fit into a branch.
+        piece = self.elements(size, 2) if size else [element[:100] for element in self.elements(size, 2)]
         for h in few:
             self.say(f"attach {handle(h)} {hex_of(branch_bytes(size, piece))}")
         root = Root(size, (2,) * branches, (*few[:2], *[few[2]] * (branches - 2)))
