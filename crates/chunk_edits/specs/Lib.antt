@@ -4,3 +4,4 @@ pub mod Patching
 pub mod Runs
 pub mod Spans
 pub mod Splicing
+pub mod Roots

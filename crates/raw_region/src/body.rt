@@ -1,9 +1,10 @@
 //! A raw body: up to 65,520 bytes in a region of their own.
-ghost use Rattle.std.specs.Prelude.{◌≡◌, ◌+◌, ◌≤◌, ℕ, IfOk, List, [], ◌++◌, length, take, drop, replicate, slice_index, slice_range};
+ghost use Rattle.std.specs.Prelude.{◌≡◌, ◌+◌, ◌≤◌, ℕ, true, IfOk, List, [], ◌++◌, length, take, drop, replicate, slice_index, slice_range};
 ghost use Rattle.std.specs.Borrow.{sem};
 ghost use Rattle.std.specs.List.{splice};
 ghost use Rattle.geos_model.specs.Words.{word, word_at};
 ghost use Rattle.raw_region.specs.Bytes.{put};
+ghost use Rattle.raw_region.specs.Roots.{is_large_root};
 ghost use Rattle.raw_region.specs.declared.TheConstants.{SIZE};
 
 use crate::SIZE;
@@ -16,14 +17,19 @@ use std::marker::Model;
 pub struct RawBody {
     region: Region,
     len: usize,
+    /// Whether the bytes are known to be the root of a large array.
+    is_root: bool,
 }
 
 impl Model for RawBody {
+    ghost use Rattle.raw_region.specs.Roots.{is_large_root};
+
     ghost Value = { List ℕ };
 
     ghost view = { λ b. take b.len b.region };
 
-    ghost invariant = { λ b. (b.len ≤ SIZE) × (length b.region ≡ SIZE) };
+    ghost invariant = { λ b. (b.len ≤ SIZE) × (length b.region ≡ SIZE)
+        × (b.is_root ≡ true → is_large_root (take b.len b.region) ≡ true) };
 }
 
 #[tactic(auto, using(crate::proofs::Puts::lengths))]
@@ -52,7 +58,11 @@ impl RawBody {
     {
         // How long a region is, is known where a call says it.
         let _ = region.len();
-        RawBody { region, len }
+        RawBody {
+            region,
+            len,
+            is_root: false,
+        }
     }
 
     /// These bytes, in a region that may have others.
@@ -67,6 +77,7 @@ impl RawBody {
         RawBody {
             region,
             len: bytes.len(),
+            is_root: false,
         }
     }
 
@@ -74,7 +85,7 @@ impl RawBody {
     pub fn into_region(self) -> Region
         ensures { take (length self) result ≡ self }
     {
-        let RawBody { region, len: _ } = self;
+        let RawBody { region, .. } = self;
         region
     }
 
@@ -84,6 +95,22 @@ impl RawBody {
         ensures len { length self.now ≤ SIZE }
     {
         self.region.slice(0, self.len)
+    }
+
+    /// Whether the bytes are known to be the root of a large array, which `mark_root` was told since they last changed.
+    /// Where they aren't known to be one they may be one.
+    pub fn is_known_root(&self) -> bool
+        ensures { result ≡ true → is_large_root self.now ≡ true }
+    {
+        self.is_root
+    }
+
+    /// Keeps in mind that the bytes are the root of a large array, until they change. No memory is taken.
+    pub fn mark_root(&mut self)
+        requires { is_large_root self.old ≡ true }
+        ensures { self.new ≡ self.old }
+    {
+        self.is_root = true;
     }
 
     /// The word at `at`, its low byte first.
@@ -99,6 +126,7 @@ impl RawBody {
         requires { at + 2 ≤ length self.old }
         ensures { self.new ≡ put self.old at (word v) }
     {
+        self.is_root = false;
         self.region.set_word(at, v);
     }
 
@@ -107,6 +135,7 @@ impl RawBody {
         requires { at + length bytes.now ≤ length self.old }
         ensures { self.new ≡ put self.old at bytes.now }
     {
+        self.is_root = false;
         self.region.copy_in(at, bytes);
     }
 
@@ -116,6 +145,7 @@ impl RawBody {
         ensures* writes_back { sem 𝓛 (lends_body_run self.entry at n result) }
         ensures value { result.now ≡ slice_range self.old at (at + n) }
     {
+        self.is_root = false;
         self.region.slice_mut(at, n)
     }
 
@@ -126,6 +156,7 @@ impl RawBody {
         ensures { self.new ≡ splice self.old at (at + k) new.now }
     {
         let tail = self.len - (at + k);
+        self.is_root = false;
         self.region.slide(at + k, at + new.len(), tail);
         self.region.copy_in(at, new);
         self.len = at + new.len() + tail;
@@ -138,6 +169,7 @@ impl RawBody {
         ensures { self.new ≡ splice self.old at at (replicate n 0) }
     {
         let tail = self.len - at;
+        self.is_root = false;
         self.region.slide(at, at + n, tail);
         self.region.zero(at, n);
         self.len = at + n + tail;

@@ -3,12 +3,12 @@ use Rattle.std.proofs.Common.{◌≡◌, ◌≢◌, ℕ, Bool, true, List, [], �
 use Rattle.std.proofs.lemmas.Bool.{cases_eq}
 use Rattle.std.specs.Option.{option_map, option_map_or}
 use Rattle.std.specs.FinMap.{empty, get}
-use Rattle.geos_model.specs.Document.{Block, Document, chunks_of, chunks_of_body, is_live, with_block, with_body, with_attributes}
+use Rattle.geos_model.specs.Document.{Block, Document, bytes_of_body, chunks_of, chunks_of_body, raw_bytes_of, is_live, with_block, with_body, with_attributes}
 use Rattle.geos_model.specs.declared.command.Body.{Body}
 use Rattle.geos_model.proofs.HeapEdits.{get-put_same, get-put_other}
 use Rattle.geos_model.specs.declared.block.Attributes.{Attributes}
 use Rattle.vm_blocks.specs.Bodies.{body_value}
-use Rattle.vm_blocks.specs.Frames.{chunks_in_frames, frame_of, overlay, IsFrameOf, AreFramesOf}
+use Rattle.vm_blocks.specs.Frames.{bytes_in_frames, chunks_in_frames, frame_of, overlay, IsFrameOf, AreFramesOf}
 use Rattle.vm_blocks.specs.declared.body.BlockBody.{BlockBody}
 use Rattle.vm_blocks.specs.declared.frame.Frame.{Frame}
 use Rattle.vm_blocks.proofs.DocumentUnderFrames.{cover, attributes_by, heap_by, heap_body, get-overlay, overlay_map, same_document, block_by, body_by, cover_by}
@@ -87,6 +87,15 @@ body_under es d h body is = ap (option_map (λ (b : Block). b.body)) (get-overla
     by : (o : Option Frame) → option_map (λ (f : Frame). f.body) o ≡ Some body → option_map (λ (b : Block). b.body) (cover o d h) ≡ Some (body_value body)
     by None is = absurd (cc is)
     by (Some f) is = ap (option_map body_value) is
+
+-- the bytes of a raw block in memory
+
+pub bytes_under : (es : List (ℕ × Frame)) (d : Document) (h : ℕ) → is_some (frame_of es h) ≡ true → raw_bytes_of (overlay es d) h ≡ bytes_in_frames es h
+bytes_under es d h here = ap (λ (o : Option Block). option_map_or (λ b. bytes_of_body b.body) o []) (get-overlay es d h) ∙ by (frame_of es h) here
+  where
+    by : (o : Option Frame) → is_some o ≡ true → option_map_or (λ (b : Block). bytes_of_body b.body) (cover o d h) [] ≡ option_map_or (λ (f : Frame). bytes_of_body (body_value f.body)) o []
+    by None is = absurd (cc is)
+    by (Some f) is = refl
 
 -- the chunks of a heap in memory
 

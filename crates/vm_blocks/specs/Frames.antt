@@ -5,7 +5,7 @@ use Rattle.std.specs.FinMap.{empty}
 use Rattle.std.specs.List.{filter}
 use Rattle.std.specs.Map.{keys_of, lookup, set_value}
 use Rattle.vm_store.specs.Facts.{StoreFacts}
-use Rattle.geos_model.specs.Document.{Document, block_at, chunks_of_body, is_heap, is_heap_body, is_live, with_body}
+use Rattle.geos_model.specs.Document.{Document, block_at, bytes_of_body, chunks_of_body, is_heap, is_heap_body, is_live, with_body}
 use Rattle.geos_model.specs.Heap.{ChunkMap}
 use Rattle.document_file.specs.Disk.{FileState, KeepsCommitted, SameUnlessCorrupt}
 use Rattle.vm_blocks.specs.Bodies.{body_value}
@@ -20,6 +20,10 @@ frame_of es h = lookup (nat_eq h) es
 -- the chunks of a heap in memory, none of another block
 abbrev pub chunks_in_frames : List (ℕ × Frame) → ℕ → ChunkMap
 chunks_in_frames es h = option_map_or (λ f. chunks_of_body (body_value f.body)) (frame_of es h) empty
+
+-- the bytes of a raw block in memory, none of another block
+abbrev pub bytes_in_frames : List (ℕ × Frame) → ℕ → List ℕ
+bytes_in_frames es h = option_map_or (λ f. bytes_of_body (body_value f.body)) (frame_of es h) []
 
 -- what callers see of the frames
 abbrev pub residents : List (ℕ × Frame) → List ResidentBlock

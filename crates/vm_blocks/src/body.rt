@@ -6,6 +6,7 @@ ghost use Rattle.document_file.specs.Fronts.{first_word};
 ghost use Rattle.geos_model.specs.Document.{bytes_of_body, chunks_of_body, is_heap_body, is_valid_body};
 ghost use Rattle.geos_model.specs.Heap.{capacity, chunk_bytes};
 ghost use Rattle.lmem_heap.specs.Known.{is_array_of};
+ghost use Rattle.raw_region.specs.Roots.{is_large_root};
 ghost use Rattle.vm_blocks.specs.Bodies.{body_value};
 
 use document_file::Image;
@@ -69,6 +70,16 @@ impl BlockBody {
     {
         if let BlockBody::Heap(heap) = self {
             heap.mark_array(chunk, kind);
+        }
+    }
+
+    /// Has a raw body keep in mind that it is the root of a large array. Nothing that a caller sees changes.
+    pub(crate) fn mark_root(&mut self)
+        requires { is_large_root (bytes_of_body (body_value self.old)) ≡ true }
+        ensures { self.new ≡ self.old }
+    {
+        if let BlockBody::Raw(raw) = self {
+            raw.mark_root();
         }
     }
 

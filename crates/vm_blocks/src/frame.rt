@@ -6,9 +6,10 @@ ghost use Rattle.geos_model.specs.Document.{Document, IsValid, is_live, is_valid
 ghost use Rattle.geos_model.specs.Heap.{chunk_bytes};
 ghost use Rattle.lmem_heap.specs.Known.{is_array_of};
 ghost use Rattle.lru.specs.LruCache.{lru_cache, promoted};
+ghost use Rattle.raw_region.specs.Roots.{is_large_root};
 ghost use Rattle.vm_blocks.specs.Bodies.{body_value};
 ghost use Rattle.vm_blocks.specs.Changes.{directed_part};
-ghost use Rattle.vm_blocks.specs.Frames.{chunks_in_frames, frame_of, overlay, residents, with_frame, AreFramesOf};
+ghost use Rattle.vm_blocks.specs.Frames.{bytes_in_frames, chunks_in_frames, frame_of, overlay, residents, with_frame, AreFramesOf};
 ghost use Rattle.vm_blocks.specs.Parts.{AllowsPart, body_after_part};
 ghost use Rattle.vm_blocks.specs.State.{locks_of, all_frames_locked, is_first, victim};
 
@@ -96,6 +97,16 @@ pub fn mark_array(
 {
     if let Some(frame) = frames.peek_mut(&block) {
         frame.body.mark_array(chunk, kind);
+    }
+}
+
+/// Has the raw body of a block in memory keep in mind that it is the root of a large array, as `mark_array` does.
+pub fn mark_root(frames: &mut LruCache<u16, Frame>, block: u16)
+    requires { is_large_root (bytes_in_frames frames.old.entries block) ≡ true }
+    ensures { frames.new ≡ frames.old }
+{
+    if let Some(frame) = frames.peek_mut(&block) {
+        frame.body.mark_root();
     }
 }
 

@@ -1,16 +1,17 @@
 //! Blocks that come into memory.
 ghost use Rattle.std.specs.Prelude.{◌≡◌, ◌⊎◌, ◌<◌, ◌∷◌, ℕ, Ok, Err, true, false, cond, nat_lt, length, is_some, IsOk, IfErr, OnOk, OnErr, MatchOption};
 ghost use Rattle.std.specs.FinMap.{contains_key};
-ghost use Rattle.geos_model.specs.Document.{chunks_of, is_heap, is_raw, is_live};
+ghost use Rattle.geos_model.specs.Document.{chunks_of, is_heap, is_raw, is_live, raw_bytes_of};
 ghost use Rattle.geos_model.specs.Heap.{chunk_bytes};
 ghost use Rattle.lmem_heap.specs.Known.{is_array_of};
+ghost use Rattle.raw_region.specs.Roots.{is_large_root};
 ghost use Rattle.document_file.specs.Effects.{Fails, NoFault, IsDamage};
 ghost use Rattle.vm_blocks.specs.State.{is_resident, all_frames_locked, after_load, evicted, victim, KeepsDocument};
 ghost use Rattle.vm_blocks.specs.Keeping.{KeepsBlocks, IsEnvironmentFault, IsCacheFull, is_loaded, has_no_frame_for};
 ghost use Rattle.vm_blocks.specs.Kinds.{IsWrongBlock};
 
 use super::FileBlocks;
-use crate::frame::{Frame, mark_array, use_again, victim};
+use crate::frame::{Frame, mark_array, mark_root, use_again, victim};
 use crate::transfers::{read_body, write_back};
 use geos_model::{ChunkHandle, Fault, VmHandle};
 use lmem_heap::ArrayKind;
@@ -223,5 +224,16 @@ impl<S: Store> FileBlocks<S> {
         ensures { self.new ≡ self.old }
     {
         mark_array(&mut self.frames, handle.0, chunk, kind);
+    }
+
+    /// Has a raw block that is in memory keep in mind that it is the root of a large array, until a change makes
+    /// something else of it or it leaves memory. Nothing is read, written or allocated, and nothing that a caller sees
+    /// changes.
+    pub fn mark_root(&mut self, handle: VmHandle)
+        requires loaded { is_loaded self.old handle.0 ≡ true }
+        requires root { is_large_root (raw_bytes_of self.old.document handle.0) ≡ true }
+        ensures { self.new ≡ self.old }
+    {
+        mark_root(&mut self.frames, handle.0);
     }
 }
