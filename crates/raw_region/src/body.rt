@@ -22,7 +22,9 @@ pub struct RawBody {
 }
 
 impl Model for RawBody {
+    ghost use Rattle.std.specs.Prelude.{◌≡◌, ◌≤◌, ℕ, List, true, length, take};
     ghost use Rattle.raw_region.specs.Roots.{is_large_root};
+    ghost use Rattle.raw_region.specs.declared.TheConstants.{SIZE};
 
     ghost Value = { List ℕ };
 

@@ -7,7 +7,7 @@ pub invariant_of-self : goal.invariant_of-self
 invariant_of-self c =
     let s = c.self.inside in
     let used : length c.args.self.now ≡ s.len = ap length (sym c.self.view_is) ∙ length-take-le s.len s.region (omega (arith, c.self.invariant.0, c.self.invariant.1)) in
-    (omega (arith, used, c.requires.within, c.requires.room), length-put_twice s.region c.slide.new.self c.zero.new.self _ _ _ _ c.slide.ensures c.zero.ensures ∙ c.self.invariant.1)
+    (omega (arith, used, c.requires.within, c.requires.room), length-put_twice s.region c.slide.new.self c.zero.new.self _ _ _ _ c.slide.ensures c.zero.ensures ∙ c.self.invariant.1, λ wrong. absurd (cc wrong))
 
 pub returns : goal.returns
 returns c =

@@ -4,7 +4,7 @@ use Rattle.raw_region.proofs.Puts.{length-put, put_in, slice-take}
 use Rattle.raw_region.proofs.body.RawBody.slice_mut.Goals as goal
 
 pub invariant_of-self-lent : goal.invariant_of-self-lent
-invariant_of-self-lent c = let s = c.self.inside in λ w. (c.self.invariant.0, length-put s.region (take c.args.n w) c.args.at ∙ c.self.invariant.1)
+invariant_of-self-lent c = let s = c.self.inside in λ w. (c.self.invariant.0, length-put s.region (take c.args.n w) c.args.at ∙ c.self.invariant.1, λ wrong. absurd (cc wrong))
 
 pub returns : goal.returns
 returns c =
