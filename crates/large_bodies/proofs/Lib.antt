@@ -13,3 +13,6 @@ pub mod ShiftedWords
 pub mod PatchedRegions
 pub mod RootScans
 pub mod PlaceBlocks
+pub mod LedPieces
+pub mod CountedRoots
+pub mod KeptRoots

@@ -201,8 +201,8 @@ module _ (bytes : List ℕ) (are : AreByteValues bytes) (short : length bytes �
   whole : length bytes ≡ 16 + 6 * length back.counts
   whole = ap length (sym written) ∙ length-root_bytes back as_many
 
-  fits : FitsRoot back
-  fits =
+  pub fits-read : FitsRoot back
+  fits-read =
       let all = whole in record {
         is = is;
         as_many = as_many;
@@ -223,7 +223,7 @@ module _ (bytes : List ℕ) (are : AreByteValues bytes) (short : length bytes �
 
   total_back : double_word_at bytes 12 ≡ total_count back
   total_back =
-      let few = sum-few back.counts fits.counts in
+      let few = sum-few back.counts fits-read.counts in
       let all = whole in
       let low : total_count back < 4294967296 = omega arith in
       ap (λ (l : List ℕ). double_word_at l 12) (sym spells) ∙ little_number-reads_back 4 (total_count back) [] low
@@ -232,7 +232,7 @@ module _ (bytes : List ℕ) (are : AreByteValues bytes) (short : length bytes �
   zeros_back i low =
       let count = length-counts_read bytes in
       let many = length-branches_read bytes in
-      let zeros = (links_read (root_spelled back) (16 + 2 * length back.counts) 0 back.branches [] fits.branches (behind_counts back fits)).1 in
+      let zeros = (links_read (root_spelled back) (16 + 2 * length back.counts) 0 back.branches [] fits-read.branches (behind_counts back fits-read)).1 in
       let here = numbers_to (λ k. word_at (root_spelled back) (16 + 2 * length back.counts + 4 * k) == 0) 0 (length back.branches) zeros i (omega arith) (omega arith) in
       ap₂ (λ (l : List ℕ) (m : ℕ). word_at l (16 + 2 * m + 4 * i)) (sym spells) (sym count)
       ∙ eqb-true (word_at (root_spelled back) (16 + 2 * length back.counts + 4 * i)) 0 here
@@ -262,7 +262,7 @@ module _ (bytes : List ℕ) (are : AreByteValues bytes) (short : length bytes �
           };
           length = record {
             some = omega arith;
-            place = ap (λ (l : List ℕ). word_at l 2) (sym spells) ∙ place-read back fits ∙ ap (λ (m : ℕ). 16 + 2 * m) count;
+            place = ap (λ (l : List ℕ). word_at l 2) (sym spells) ∙ place-read back fits-read ∙ ap (λ (m : ℕ). 16 + 2 * m) count;
             long = all ∙ ap (λ (m : ℕ). 16 + 6 * m) count;
           };
         };

@@ -6,6 +6,7 @@ pub mod Neighbours
 pub mod NewElementsViewing
 pub mod PieceKeeping
 pub mod PiecesKeeping
+pub mod RootCounts
 pub mod RootEdits
 pub mod RootParts
 pub mod RootViewing

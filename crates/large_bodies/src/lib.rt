@@ -3,6 +3,7 @@
 #![tactic(auto)]
 
 mod branch;
+mod counts;
 mod cut_body;
 mod differences;
 mod neighbours;
@@ -13,6 +14,7 @@ mod piece;
 mod root;
 
 pub use branch::read_branch;
+pub use counts::{Counts, counts_patch};
 pub use cut_body::CutBody;
 pub use neighbours::{MiddleEnds, Sides, joined_sides, looked_at_sides};
 pub use new_elements::NewElements;
