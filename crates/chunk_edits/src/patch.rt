@@ -1,12 +1,10 @@
 //! A patch: all bytes of a chunk or a raw body in pieces, of which some stay and others change.
-ghost use Rattle.std.specs.Prelude.{◌≡◌, ◌≤◌, ◌+◌, ◌-◌, ◌*◌, ◌/◌, ◌%◌, ◌^◌, ◌<◌, ◌++◌, ◌↔◌, [], ◌∷◌, IsTrue, true, OnOk, OnErr, IfOk, length, min, take, drop, replicate};
+ghost use Rattle.std.specs.Prelude.{◌≡◌, ◌≤◌, ◌+◌, ◌-◌, ◌*◌, ◌/◌, ◌%◌, ◌^◌, ◌<◌, ◌++◌, ◌↔◌, [], ◌∷◌, IsTrue, OnOk, OnErr, IfOk, length, min, take, drop, replicate};
 ghost use Rattle.std.specs.List.{splice};
 ghost use Rattle.std.specs.FinMap.{insert, contains_key};
 ghost use Rattle.geos_model.specs.Heap.{capacity, chunk_bytes, fits_with};
 ghost use Rattle.chunk_edits.specs.Patching.{ArePiecesOf, IsPieceOf, Keep, Put, Rebase, directed_piece, directed_pieces, given, total_held, patched, peak, rebased, taken, total_taken, with_piece};
-ghost use Rattle.chunk_edits.specs.Roots.{KeepsRoots};
 ghost use Rattle.chunk_edits.specs.Spans.{own, piece_of, pieces_of, total_own};
-ghost use Rattle.raw_region.specs.Roots.{is_large_root};
 
 use crate::chunk::{chunk_of, put};
 use crate::direction::Direction;
@@ -105,26 +103,21 @@ struct Pieces {
 #[derive(Drop)]
 pub struct Patch {
     pieces: Box<Pieces>,
-    /// Whether it is known to make of each root of a large array that it is of another one.
-    keeps_roots: bool,
 }
 
 // Each step of the log keeps a patch in itself.
-const _: () = prove!(size_of::<Patch>() == 16);
+const _: () = prove!(size_of::<Patch>() == 8);
 
 impl Model for Patch {
-    ghost use Rattle.std.specs.Prelude.{◌≡◌, List, true, length};
+    ghost use Rattle.std.specs.Prelude.{◌≡◌, List, length};
     ghost use Rattle.chunk_edits.specs.Patching.{PatchPiece};
-    ghost use Rattle.chunk_edits.specs.Roots.{KeepsRoots};
     ghost use Rattle.chunk_edits.specs.Spans.{pieces_of, total_own};
 
     ghost Value = { List PatchPiece };
 
     ghost view = { λ p. pieces_of p.pieces.value.spans.items p.pieces.value.content.items };
 
-    ghost invariant = { λ p. (total_own p.pieces.value.spans.items ≡ length p.pieces.value.content.items)
-        × (p.keeps_roots ≡ true
-        → KeepsRoots (pieces_of p.pieces.value.spans.items p.pieces.value.content.items)) };
+    ghost invariant = { λ p. total_own p.pieces.value.spans.items ≡ length p.pieces.value.content.items };
 }
 
 impl Patch {
@@ -138,16 +131,7 @@ impl Patch {
         };
         Ok(Patch {
             pieces: Box::new(alloc, pieces)?,
-            keeps_roots: false,
         })
-    }
-
-    /// Keeps in mind that it makes of each root of a large array that it is of another one, until it gets more pieces.
-    pub fn mark_root_keeping(&mut self)
-        requires { KeepsRoots self.old }
-        ensures { self.new ≡ self.old }
-    {
-        self.keeps_roots = true;
     }
 
     /// So many bytes more, which stay.
@@ -155,7 +139,6 @@ impl Patch {
         ensures ok { OnOk result (self.new ≡ self.old ++ (Keep n ∷ [])) }
         ensures err { OnErr result (self.new ≡ self.old) }
     {
-        self.keeps_roots = false;
         self.pieces.spans.push(Span::Keep(n))?;
         Ok(())
     }
@@ -171,7 +154,6 @@ impl Patch {
             old: old.len() as u32,
             new: new.len() as u32,
         };
-        self.keeps_roots = false;
         let pieces = &mut *self.pieces;
         pieces.spans.reserve(1)?;
         pieces.content.reserve(span.own())?;
@@ -186,7 +168,6 @@ impl Patch {
         ensures ok { OnOk result (self.new ≡ self.old ++ (Rebase words from to ∷ [])) }
         ensures err { OnErr result (self.new ≡ self.old) }
     {
-        self.keeps_roots = false;
         self.pieces.spans.push(Span::Rebase { words, from, to })?;
         Ok(())
     }
@@ -375,27 +356,15 @@ fn rebase_chunk(heap: &mut Heap, h: ChunkHandle, at: usize, end: usize, from: u1
     rebase(&mut chunk[at..end], from, to);
 }
 
-/// Makes of a raw body what a patch makes of it in a direction. Where it is known to be the root of a large array, and
-/// the patch to keep roots, it stays known to be one.
-pub fn apply_raw_patch(body: &mut RawBody, patch: &Patch, direction: Direction)
+/// Makes of a raw body what a patch makes of it in a direction.
+pub(crate) fn patch_raw(body: &mut RawBody, patch: &Patch, direction: Direction)
     requires size { total_taken (directed_pieces direction patch.now) ≡ length body.old }
     requires room { peak patch.now ≤ capacity }
     ensures { body.new ≡ patched (directed_pieces direction patch.now) body.old }
 {
-    let stays_root = keeps_root(body, patch, direction);
     let pieces = &*patch.pieces;
     let content = pieces.content.as_slice();
     apply_raw_spans(body, pieces.spans.as_slice(), content, direction);
-    if stays_root {
-        body.mark_root();
-    }
-}
-
-/// Whether it is known that a raw body is the root of a large array, and that a patch makes another one of it.
-fn keeps_root(body: &RawBody, patch: &Patch, direction: Direction) -> bool
-    ensures { result ≡ true → is_large_root (patched (directed_pieces direction patch.now) body.now) ≡ true }
-{
-    patch.keeps_roots && body.is_known_root() && patch.is_of(body.bytes(), direction)
 }
 
 /// The same by the patch's spans, and the bytes that their pieces hold in a row.

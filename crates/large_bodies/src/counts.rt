@@ -5,7 +5,7 @@ ghost use Rattle.geos_model.specs.LargeLayout.{most_branches};
 ghost use Rattle.chunk_edits.specs.Patching.{peak};
 ghost use Rattle.large_bodies.specs.RootCounts.{ChangeTogether, counts_pieces};
 
-use chunk_edits::Patch;
+use chunk_edits::{Patch, RawPatch};
 use std::alloc::{AllocError, Global};
 
 /// How many bytes of a root stand before the number of its elements.
@@ -27,21 +27,21 @@ pub fn counts_patch(
     place: usize,
     old: Counts,
     new: Counts,
-) -> Result<Patch, AllocError>
+) -> Result<RawPatch, AllocError>
     requires place { place < branches }
     requires few { branches ≤ most_branches }
     ensures pieces { IfOk result (λ patch. patch ≡ counts_pieces branches place old new) }
     ensures room { IfOk result (λ patch. peak patch ≤ capacity) }
 {
-    let mut patch = unmarked_patch(alloc, branches, place, old, new)?;
+    let patch = pieces_patch(alloc, branches, place, old, new)?;
     if change_together(old, new) {
-        patch.mark_root_keeping();
+        return Ok(RawPatch::root_keeping(patch));
     }
-    Ok(patch)
+    Ok(RawPatch::new(patch))
 }
 
-/// The same patch, with nothing kept in mind.
-fn unmarked_patch(
+/// Its pieces.
+fn pieces_patch(
     alloc: Global,
     branches: usize,
     place: usize,

@@ -3,7 +3,7 @@ ghost use Rattle.std.specs.Prelude.{◌≡◌};
 ghost use Rattle.vm_blocks.specs.Changes.{weight, part_weight, content_weight};
 
 use crate::Members;
-use chunk_edits::{ArrayRuns, Patch, Splice};
+use chunk_edits::{ArrayRuns, Patch, RawPatch, Splice};
 use geos_model::{Attributes, Bytes, ChunkHandle, VmHandle};
 
 /// One edit of a document, with all that carrying it out takes in either direction.
@@ -34,7 +34,7 @@ pub enum PartChange {
     /// A part of a raw body is replaced.
     Raw(Splice),
     /// Pieces of a raw body change, and the others stay.
-    RawPatch(Patch),
+    RawPatch(RawPatch),
     /// A part of a chunk is replaced.
     Chunk(ChunkHandle, Splice),
     /// Pieces of a chunk change, and the others stay; and where the edit that made them changed the chunk.
@@ -74,7 +74,8 @@ impl PartChange {
     {
         match self {
             PartChange::Raw(splice) | PartChange::Chunk(_, splice) => splice.byte_count() as u64,
-            PartChange::RawPatch(patch) | PartChange::Patch(_, patch, _) => patch.byte_count(),
+            PartChange::RawPatch(patch) => patch.as_patch().byte_count(),
+            PartChange::Patch(_, patch, _) => patch.byte_count(),
             PartChange::ChunkIn(_, content) | PartChange::ChunkOut(_, content) => content.weight(),
         }
     }

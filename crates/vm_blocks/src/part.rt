@@ -42,7 +42,7 @@ fn raw_can_take(body: &RawBody, change: &PartChange, direction: Direction) -> bo
                 Direction::Backwards => raw_allows(body, splice.at(), new, old),
             }
         }
-        PartChange::RawPatch(patch) => raw_patch_allows(body, patch, direction),
+        PartChange::RawPatch(patch) => raw_patch_allows(body, patch.as_patch(), direction),
         PartChange::Chunk(_, _)
         | PartChange::Patch(_, _, _)
         | PartChange::ChunkIn(_, _)
@@ -115,7 +115,7 @@ fn raw_holds(body: &RawBody, change: &PartChange, direction: Direction) -> bool
             Direction::Forwards => occurs_at(body.bytes(), splice.at(), splice.old()),
             Direction::Backwards => occurs_at(body.bytes(), splice.at(), splice.new()),
         },
-        PartChange::RawPatch(patch) => patch.is_of(body.bytes(), direction),
+        PartChange::RawPatch(patch) => patch.as_patch().is_of(body.bytes(), direction),
         PartChange::Chunk(_, _)
         | PartChange::Patch(_, _, _)
         | PartChange::ChunkIn(_, _)

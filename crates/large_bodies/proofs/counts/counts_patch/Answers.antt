@@ -3,8 +3,8 @@ use Rattle.chunk_edits.specs.Roots.{KeepsRoots}
 use Rattle.large_bodies.proofs.KeptRoots.{HaveRoom, counts-keep_roots}
 use Rattle.large_bodies.proofs.counts.counts_patch.Goals as goal
 
-pub mark_root_keeping-requires : goal.mark_root_keeping-requires
-mark_root_keeping-requires c =
+pub root_keeping-requires : goal.root_keeping-requires
+root_keeping-requires c =
     let old_room : HaveRoom c.args.old = record { total = omega arith; count = omega arith } in
     let new_room : HaveRoom c.args.new = record { total = omega arith; count = omega arith } in
     subst KeepsRoots (sym c.in_ok-patch.ensures)

@@ -12,5 +12,5 @@ returns-clause-ok c =
     let was = c.deref_mut.ensures.value in
     ap₂ pieces_of (c.in_ok-push.ensures.ok ∙ ap (λ (p : Pieces). p.spans.items ++ spans.Keep c.args.n ∷ []) was)
     (ap (λ (p : Pieces). p.content.items) was)
-    ∙ (pieces_of-kept c.self.inside.pieces.value.spans.items (spans.Keep c.args.n) row c.self.invariant.0
+    ∙ (pieces_of-kept c.self.inside.pieces.value.spans.items (spans.Keep c.args.n) row c.self.invariant
     ∙ ap (λ (ps : List PatchPiece). ps ++ Keep c.args.n ∷ []) c.self.view_is)

@@ -16,4 +16,4 @@ returns c =
     take_all c.loop-span.span-index c.as_slice-span-items.result.now (omega arith) ∙ items in
     c.loop-span.invariant
     ∙ ap (λ (n : ℕ). min n (2 ^ 64 - 1)) (ap (sum_by (λ (s : Span). max (extent Forwards s) (extent Backwards s))) all
-    ∙ (sym (pieces-peak c.self.inside.pieces.value.spans.items c.self.inside.pieces.value.content.items c.self.invariant.0) ∙ ap peak c.self.view_is))
+    ∙ (sym (pieces-peak c.self.inside.pieces.value.spans.items c.self.inside.pieces.value.content.items c.self.invariant) ∙ ap peak c.self.view_is))

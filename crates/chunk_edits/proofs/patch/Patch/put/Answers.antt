@@ -22,5 +22,5 @@ returns-clause-ok c =
     ∙ ap (λ (l : List ℕ). l ++ old) (c.in_ok-reserve-2.ensures.items ∙ ap (λ (p : Pieces). p.content.items) was))
     ∙ append_assoc row old new) in
     ap₂ pieces_of pushed grown
-    ∙ (pieces_of-pushed ss span row (old ++ new) c.self.invariant.0
+    ∙ (pieces_of-pushed ss span row (old ++ new) c.self.invariant
     ∙ ap₂ (λ (ps : List PatchPiece) (p : PatchPiece). ps ++ p ∷ []) c.self.view_is (piece_of-put old new))

@@ -12,5 +12,5 @@ returns-clause-ok c =
     let was = c.deref_mut.ensures.value in
     ap₂ pieces_of (c.in_ok-push.ensures.ok ∙ ap (λ (p : Pieces). p.spans.items ++ spans.Rebase c.args.words c.args.from c.args.to ∷ []) was)
     (ap (λ (p : Pieces). p.content.items) was)
-    ∙ (pieces_of-kept c.self.inside.pieces.value.spans.items (spans.Rebase c.args.words c.args.from c.args.to) row c.self.invariant.0
+    ∙ (pieces_of-kept c.self.inside.pieces.value.spans.items (spans.Rebase c.args.words c.args.from c.args.to) row c.self.invariant
     ∙ ap (λ (ps : List PatchPiece). ps ++ Rebase c.args.words c.args.from c.args.to ∷ []) c.self.view_is)

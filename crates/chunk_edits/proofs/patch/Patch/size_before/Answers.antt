@@ -14,5 +14,5 @@ returns c =
     take_all c.loop-span.span-index c.as_slice-span-items.result.now (omega arith) ∙ items in
     c.loop-span.invariant
     ∙ ap (λ (n : ℕ). min n (2 ^ 64 - 1)) (ap (sum_by (extent d)) all
-    ∙ (sym (pieces-extent d c.self.inside.pieces.value.spans.items c.self.inside.pieces.value.content.items c.self.invariant.0)
+    ∙ (sym (pieces-extent d c.self.inside.pieces.value.spans.items c.self.inside.pieces.value.content.items c.self.invariant)
     ∙ ap (λ (ps : List PatchPiece). total_taken (directed_pieces d ps)) c.self.view_is))

@@ -1,7 +1,7 @@
 use Rattle.std.proofs.Common.{◌≡◌, ◌∙◌, ◌+◌, ◌-◌, ◌*◌, ◌++◌, ◌∷◌, ℕ, List, [], ap}
 use Rattle.geos_model.specs.Words.{word, double_word}
 use Rattle.chunk_edits.specs.Patching.{PatchPiece, Keep, Put}
-use Rattle.large_bodies.proofs.counts.unmarked_patch.Goals as goal
+use Rattle.large_bodies.proofs.counts.pieces_patch.Goals as goal
 
 pub returns : goal.returns
 returns c =
