@@ -1,8 +1,8 @@
-use Rattle.std.proofs.Common.{◌≡◌, ◌≤◌, ℕ, List, length, refl, sym, subst}
+use Rattle.std.proofs.Common.{◌≤◌, List, refl, sym, subst}
 use Rattle.std.proofs.lemmas.Result.{IfOk-weaker}
 use Rattle.chunk_edits.specs.Patching.{PatchPiece, PatchLeads, peak}
 use Rattle.geos_model.specs.Heap.{capacity}
-use Rattle.geos_model.specs.LargeLayout.{Root, root_bytes}
+use Rattle.geos_model.specs.LargeLayout.{root_bytes}
 use Rattle.large_arrays.specs.Within.{root_within}
 use Rattle.large_arrays.proofs.WithinRoots.{root-room, root-within}
 use Rattle.large_arrays.proofs.within.root_patch.Goals as goal
