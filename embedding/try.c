@@ -580,6 +580,36 @@ static void places(void) {
   close(fd);
 }
 
+/* An array of a hundred blocks, lent run by run, with one frame beside that of its root. Each element is its own number. */
+static void many_runs(void) {
+  enum { ELEMENTS = 825000, PIECE = 7500 };
+  static uint8_t piece[8 * PIECE];
+  geosvm_session s = GEOSVM_CLOSED;
+  const uint8_t *run = NULL;
+  uint16_t root = 77, block = 77;
+  int fd = file("runs.document");
+  size_t n = 0, runs = 0, wrong = 0;
+  puts("-- many elements lent");
+  TELL(geosvm_create(&s, fd, 2));
+  GIVES(geosvm_hcreate(&s, 7, 8, &root), root);
+  for (uint32_t i = 0; i < ELEMENTS; i += PIECE) {
+    for (uint32_t k = 0; k < PIECE; k++)
+      for (int b = 0; b < 4; b++) piece[8 * k + (size_t)b] = piece[8 * k + 4 + (size_t)b] = (uint8_t)((i + k) >> (8 * b));
+    wrong += geosvm_hinsert(&s, root, i, piece, sizeof piece) != GEOSVM_OK;
+  }
+  for (uint32_t i = 0; i < ELEMENTS && wrong == 0; i += (uint32_t)(n / 8), runs++) {
+    wrong += geosvm_lock_run(&s, root, i, &block, &run, &n) != GEOSVM_OK || n == 0 || n % 8 != 0;
+    for (size_t at = 0; at < n; at += 4) {
+      uint32_t number = i + (uint32_t)(at / 8);
+      for (int b = 0; b < 4; b++) wrong += run[at + (size_t)b] != (uint8_t)(number >> (8 * b));
+    }
+    wrong += geosvm_unlock(&s, block) != GEOSVM_OK;
+  }
+  printf("%d elements in %zu runs, %zu wrong\n", ELEMENTS, runs, wrong);
+  TELL(geosvm_close(&s));
+  close(fd);
+}
+
 /* Large arrays: a text of more than a block, elements of any sizes, and what is refused of both. */
 static void large_arrays(void) {
   static uint8_t many[70000];
@@ -794,6 +824,7 @@ int main(void) {
   step_names();
   places();
   large_arrays();
+  many_runs();
   checksums();
   pthread_t thread[4];
   long bad = 0;

@@ -1,5 +1,5 @@
 -- A root of which one branch has so many elements instead: its numbers, its bytes, and the patch that leads to them.
-use Rattle.std.proofs.Common.{◌≡◌, ℕ, suc, ◌+◌, ◌-◌, ◌*◌, ◌<◌, ◌≤◌, Bool, true, ◌&&◌, ◌||◌, ◌==◌, nat_le, nat_lt, List, [], ◌∷◌, ◌++◌, length, take, drop, get_or, flat_map, sum_by, refl, sym, ap, subst, ◌∙◌, inl, inr, arith, append_assoc, length-append, length-drop}
+use Rattle.std.proofs.Common.{◌≡◌, ℕ, suc, ◌+◌, ◌-◌, ◌*◌, ◌<◌, ◌≤◌, Bool, true, ◌&&◌, ◌||◌, ◌==◌, nat_le, nat_lt, List, [], ◌∷◌, ◌++◌, length, take, drop, get_or, sum_by, refl, sym, ap, subst, ◌∙◌, inl, inr, arith, append_assoc, length-append, length-drop}
 use Rattle.std.proofs.lemmas.Bool.{cases_Bool, and_parts, and_from}
 use Rattle.std.proofs.lemmas.Grind.{flat_map-append}
 use Rattle.std.proofs.lemmas.List.{length-take-le, take-append-drop, drop_more}
@@ -8,7 +8,7 @@ use Rattle.std.proofs.lemmas.List.Sums.{sum_by-append, sum_by-cons}
 use Rattle.std.specs.List.{list_all, splice}
 use Rattle.geos_model.specs.Chain.{tree_mark}
 use Rattle.geos_model.specs.Words.{word, double_word}
-use Rattle.geos_model.specs.LargeLayout.{Root, greatest_element_size, large_mark, is_root, root_bytes, total_count}
+use Rattle.geos_model.specs.LargeLayout.{Root, greatest_element_size, large_mark, root_bytes, total_count}
 use Rattle.geos_model.proofs.Arrays.{length-words}
 use Rattle.geos_model.proofs.RootBytes.{FitsRoot, length-links, root_bytes-spelled}
 use Rattle.chunk_edits.specs.Patching.{PatchPiece, Keep, Put, PatchLeads}
@@ -58,7 +58,7 @@ module _ (test : ℕ → Bool) (cs : List ℕ) (k : ℕ) (low : k < length cs) (
 abbrev pub with_count : Root → ℕ → ℕ → Root
 with_count r k c = record { size = r.size; counts = splice r.counts k (suc k) (c ∷ []); branches = r.branches }
 
-pub as_many_counts : (r : Root) (k c : ℕ) → k < length r.counts → length (with_count r k c).counts ≡ length r.counts
+as_many_counts : (r : Root) (k c : ℕ) → k < length r.counts → length (with_count r k c).counts ≡ length r.counts
 as_many_counts r k c low = (let long = length_spliced r.counts (c ∷ []) k (suc k) (omega arith) (omega arith) in omega arith)
 
 -- Its numbers have room where those of the root have.
@@ -92,7 +92,7 @@ abbrev pub before_total : Root → List ℕ
 before_total r = word tree_mark ++ word (16 + 2 * length r.counts) ++ word (length r.counts) ++ large_mark ++ word r.size
 
 module _ (r : Root) (k : ℕ) (low : k < length r.counts) where
-  -- what stands between that number and the count, and what behind the count
+  -- what stands between that number and the count, and what stands behind the count
   abbrev pub before_count : List ℕ
   before_count = count_bytes (take k r.counts)
 

@@ -1,21 +1,21 @@
 -- The patch of a root's counts makes roots of roots, in either direction.
-use Rattle.std.proofs.Common.{◌≡◌, ℕ, zero, suc, ◌+◌, ◌-◌, ◌*◌, ◌^◌, ◌<◌, ◌≤◌, true, nat_lt, List, [], ◌∷◌, ◌++◌, length, take, drop, get_or, flat_map, Option, Some, None, is_some, refl, sym, ap, subst, ◌∙◌, arith, ltb-true, take_at, drop_at}
+use Rattle.std.proofs.Common.{◌≡◌, ℕ, zero, suc, ◌+◌, ◌*◌, ◌^◌, ◌<◌, ◌≤◌, true, nat_lt, List, [], ◌∷◌, ◌++◌, length, take, get_or, flat_map, Option, Some, None, is_some, refl, sym, ap, subst, ◌∙◌, arith, ltb-true, drop_at}
 use Rattle.std.proofs.lemmas.Bool.{lt-ltb}
-use Rattle.std.specs.Int.{bytes_low_first}
+use Rattle.std.specs.Int.{byte_at, bytes_low_first}
 use Rattle.byteorder.specs.Endian.{little_number}
 use Rattle.byteorder.specs.Numbers.{little_number-reads_back}
 use Rattle.geos_model.specs.Chain.{tree_mark}
 use Rattle.geos_model.specs.Heap.{capacity}
 use Rattle.geos_model.specs.Words.{word, double_word}
-use Rattle.geos_model.specs.LargeLayout.{Root, large_mark, most_branches, root_bytes, root_of, root_read, total_count}
+use Rattle.geos_model.specs.LargeLayout.{Root, large_mark, most_branches, root_bytes, root_of, total_count}
 use Rattle.geos_model.proofs.Images.{word-reads_back}
 use Rattle.geos_model.proofs.RootBytes.{FitsRoot, link_of, length-root_bytes, root_bytes-spelled, root_head, root_of-read, root-again}
 use Rattle.raw_region.specs.Roots.{is_large_root}
-use Rattle.chunk_edits.specs.Patching.{PatchPiece, Keep, Put, ArePiecesOf, PatchLeads, directed_pieces, patched, total_taken}
+use Rattle.chunk_edits.specs.Patching.{ArePiecesOf, PatchLeads, directed_pieces, patched, total_taken}
 use Rattle.chunk_edits.specs.Roots.{KeepsRoots}
 use Rattle.chunk_edits.specs.declared.direction.Direction.{Direction}
 use Rattle.chunk_edits.specs.declared.direction.Direction.TheVariants.{Forwards, Backwards}
-use Rattle.chunk_edits.proofs.PatchingLemmas.{pieces_length, taken-cons}
+use Rattle.chunk_edits.proofs.PatchingLemmas.{pieces_length}
 use Rattle.chunk_arrays.specs.Parts.{AreByteValues}
 use Rattle.large_bodies.specs.RootCounts.{ChangeTogether, counts_pieces}
 use Rattle.large_bodies.specs.declared.counts.Counts.{Counts}
@@ -29,14 +29,18 @@ bytes-append [] ys are more i = more i
 bytes-append (x ∷ xs) ys are more zero = are 0
 bytes-append (x ∷ xs) ys are more (suc i) = bytes-append xs ys (λ k. are (suc k)) more i
 
+byte_at-lt : (i x : ℕ) → byte_at i x < 256
+byte_at-lt zero x = omega arith
+byte_at-lt (suc i) x = omega arith
+
 bytes-number : (i n x : ℕ) → AreByteValues (bytes_low_first i n x)
 bytes-number i zero x k = omega arith
-bytes-number i (suc n) x zero = omega arith
+bytes-number i (suc n) x zero = byte_at-lt i x
 bytes-number i (suc n) x (suc k) = bytes-number (suc i) n x k
 
 bytes-each : (f : ℕ → List ℕ) → ((x : ℕ) → AreByteValues (f x)) → (xs : List ℕ) → AreByteValues (flat_map f xs)
 bytes-each f are [] i = omega arith
-bytes-each f are (x ∷ xs) = bytes-append (f x) (flat_map f xs) (are x) (bytes-each f are xs)
+bytes-each f are (x ∷ xs) i = bytes-append (f x) (flat_map f xs) (are x) (bytes-each f are xs) i
 
 bytes-word : (x : ℕ) → AreByteValues (word x)
 bytes-word x = bytes-number 0 2 x
@@ -76,21 +80,9 @@ same-double_words : (m n : ℕ) → m < 4294967296 → n < 4294967296 → double
 same-double_words m n low high same =
     sym (little_number-reads_back 4 m [] low) ∙ ap (λ (l : List ℕ). little_number 4 (l ++ [])) same ∙ little_number-reads_back 4 n [] high
 
--- How many bytes the pieces are of.
+-- how many bytes the pieces are of
 taken-counts : (branches k : ℕ) (old new : Counts) → k < branches → total_taken (counts_pieces branches k old new) ≡ 16 + 6 * branches
-taken-counts branches k old new low =
-    let rest : ℕ = 2 * (branches - 1 - k) + 4 * branches in
-    let p4 : List PatchPiece = Keep rest ∷ [] in
-    let p3 : List PatchPiece = Put (word old.count) (word new.count) ∷ p4 in
-    let p2 : List PatchPiece = Keep (2 * k) ∷ p3 in
-    let p1 : List PatchPiece = Put (double_word old.total) (double_word new.total) ∷ p2 in
-    let s1 = taken-cons (Keep 12) p1 in
-    let s2 = taken-cons (Put (double_word old.total) (double_word new.total)) p2 in
-    let s3 = taken-cons (Keep (2 * k)) p3 in
-    let s4 = taken-cons (Put (word old.count) (word new.count)) p4 in
-    let s5 = taken-cons (Keep rest) [] in
-    let none : total_taken [] ≡ 0 = refl in
-    omega arith
+taken-counts branches k old new low = omega arith
 
 -- numbers that a root's words have room for
 pub record HaveRoom (c : Counts) : Type 0 where
@@ -147,7 +139,6 @@ module _ (r : Root) (fits : FitsRoot r) (branches k : ℕ) (old new : Counts) (l
 
   root_then : is_large_root (patched (counts_pieces branches k old new) (root_bytes r)) ≡ true
   root_then =
-      let same = many in
       let leads : PatchLeads (counts_pieces branches k old new) (root_bytes r) (root_bytes after) =
       counts-lead r k within new.count branches k old new (sym many) (sym (fits.as_many ∙ many)) refl total_is count_is total_then refl in
       let fits_then : FitsRoot after = fits-with_count r k new.count fits within (lt-ltb 0 new.count together.still_some) (lt-ltb new.count 65536 new_room.count) in

@@ -1,6 +1,8 @@
 //! The patch of a root of which one branch gets other elements: only two numbers of it change.
-ghost use Rattle.std.specs.Prelude.{◌≡◌, ◌<◌, ◌≤◌, ◌+◌, ◌-◌, ◌*◌, ◌++◌, ◌∷◌, ◌↔◌, [], IfOk, IsTrue};
+ghost use Rattle.std.specs.Prelude.{◌≡◌, ◌<◌, ◌≤◌, ◌↔◌, IfOk, IsTrue};
+ghost use Rattle.geos_model.specs.Heap.{capacity};
 ghost use Rattle.geos_model.specs.LargeLayout.{most_branches};
+ghost use Rattle.chunk_edits.specs.Patching.{peak};
 ghost use Rattle.large_bodies.specs.RootCounts.{ChangeTogether, counts_pieces};
 
 use chunk_edits::Patch;
@@ -28,7 +30,8 @@ pub fn counts_patch(
 ) -> Result<Patch, AllocError>
     requires place { place < branches }
     requires few { branches ≤ most_branches }
-    ensures { IfOk result (λ patch. patch ≡ counts_pieces branches place old new) }
+    ensures pieces { IfOk result (λ patch. patch ≡ counts_pieces branches place old new) }
+    ensures room { IfOk result (λ patch. peak patch ≤ capacity) }
 {
     let mut patch = unmarked_patch(alloc, branches, place, old, new)?;
     if change_together(old, new) {
