@@ -1,10 +1,7 @@
 -- The patch of a root of which one branch gets other elements.
-use Rattle.std.proofs.Common.{◌≡◌, ℕ, ◌<◌, ◌≤◌, ◌-◌, ◌+◌, ◌*◌, List, [], ◌∷◌, length, refl, sym, ap, ◌∙◌, arith}
-use Rattle.geos_model.specs.Heap.{capacity}
-use Rattle.geos_model.specs.Words.{word, double_word}
-use Rattle.geos_model.specs.LargeLayout.{Root, most_branches, root_bytes}
-use Rattle.chunk_edits.specs.Patching.{PatchPiece, Keep, Put, PatchLeads, peak}
-use Rattle.chunk_edits.proofs.PatchingLemmas.{peak-cons}
+use Rattle.std.proofs.Common.{◌≡◌, ℕ, ◌<◌, length, sym, ap, ◌∙◌, arith}
+use Rattle.geos_model.specs.LargeLayout.{Root, root_bytes}
+use Rattle.chunk_edits.specs.Patching.{PatchLeads}
 use Rattle.large_bodies.specs.RootCounts.{counts_pieces}
 use Rattle.large_bodies.specs.declared.counts.Counts.{Counts}
 use Rattle.large_bodies.proofs.CountedRoots.{counts-lead}
@@ -24,19 +21,3 @@ root-within s e old new low old_is new_is r i j many spot same edit =
     counts-lead r (place_within r i j) (omega arith) (count_within r i j many) s.branches s.start.0 old new (branches ∙ sym same) branches at
     (ap (λ (c : Counts). c.total) old_is ∙ spot.total) (ap (λ (c : Counts). c.count) old_is ∙ edit.old)
     (ap (λ (c : Counts). c.total) new_is ∙ edit.total) (ap (λ (c : Counts). c.count) new_is ∙ edit.count)
-
--- for which there is room
-pub root-room : (branches place : ℕ) (old new : Counts) → place < branches → branches ≤ most_branches → peak (counts_pieces branches place old new) ≤ capacity
-root-room branches place old new low few =
-    let rest : ℕ = 2 * (branches - 1 - place) + 4 * branches in
-    let p3 : List PatchPiece = Keep rest ∷ [] in
-    let p2 : List PatchPiece = Put (word old.count) (word new.count) ∷ p3 in
-    let p1 : List PatchPiece = Keep (2 * place) ∷ p2 in
-    let p0 : List PatchPiece = Put (double_word old.total) (double_word new.total) ∷ p1 in
-    let s0 = peak-cons (Keep 12) p0 in
-    let s1 = peak-cons (Put (double_word old.total) (double_word new.total)) p1 in
-    let s2 = peak-cons (Keep (2 * place)) p2 in
-    let s3 = peak-cons (Put (word old.count) (word new.count)) p3 in
-    let s4 = peak-cons (Keep rest) [] in
-    let none : peak [] ≡ 0 = refl in
-    omega arith
