@@ -1,5 +1,5 @@
 -- Edits of large arrays, as lists of changes.
-use Rattle.std.proofs.Common.{◌≡◌, ◌⊎◌, ◌≤◌, ◌++◌, ◌∷◌, [], ℕ, List, Bool, true, false, Option, None, Some, Result, Ok, Err, IfOk, IfErr, Vec, Global, length, map, refl, sym, ap, subst, ◌∙◌, inl, inr, arith, ltb-false}
+use Rattle.std.proofs.Common.{◌≡◌, ◌⊎◌, ◌<◌, ◌≤◌, ◌++◌, ◌∷◌, [], ℕ, List, Bool, true, false, Option, None, Some, Result, Ok, Err, IfOk, IfErr, Vec, Global, length, map, refl, sym, ap, subst, ◌∙◌, inl, inr, arith, ltb-false}
 use Rattle.std.proofs.lemmas.Bool.{true≢false}
 use Rattle.std.specs.List.{All, Contains}
 use Rattle.std.specs.Result.{IsErrAnd}
@@ -65,6 +65,7 @@ module _ {S : Type 0} {facts : S → StoreFacts} {edit : Edit} {a : CacheState S
           keeps = keeps-refl facts a;
           planned = λ honest. inr first;
           listed = tt;
+          some = tt;
           room = tt;
           shut = λ full. (refl, ap (λ (b : Bool). first_refusal ((CacheFull, b) ∷ conditions edit a.document)) (sym full) ∙ first);
           unseen = λ unseen. (refl, unseen_first (is_full a) (conditions edit a.document) fault unseen first);
@@ -83,6 +84,7 @@ module _ {S : Type 0} {facts : S → StoreFacts} {edit : Edit} {a : CacheState S
             | inr first ↦ inr (passed CacheFull (is_full a) (conditions edit b.document) room ∙ first)
           ];
           listed = tt;
+          some = tt;
           room = tt;
           shut = λ full. absurd (true≢false (sym full ∙ room));
           unseen = λ unseen. absurd (seen unseen);
@@ -93,11 +95,12 @@ module _ {S : Type 0} {facts : S → StoreFacts} {edit : Edit} {a : CacheState S
         })
 
   pub large_given : {b : CacheState S} {changes : Vec Change Global} → is_full a ≡ false → (IsRefusedUnseen (conditions edit a.document) → ⊥) → KeepsBlocks facts a b → (IsHonest facts a.disk.store → PlansAll edit b.document changes.items)
-      → CanApplyAllByHandle changes.items b.document → PlansLarge facts a b edit (Ok changes)
-  large_given room seen keeps plans listed = record {
+      → CanApplyAllByHandle changes.items b.document → 0 < length changes.items → PlansLarge facts a b edit (Ok changes)
+  large_given room seen keeps plans listed some = record {
     keeps = keeps;
     planned = plans;
     listed = listed;
+    some = some;
     room = room;
     shut = λ full. absurd (true≢false (sym full ∙ room));
     unseen = λ unseen. absurd (seen unseen);
@@ -108,9 +111,9 @@ module _ {S : Type 0} {facts : S → StoreFacts} {edit : Edit} {a : CacheState S
 module _ {S : Type 0} (facts : S → StoreFacts) (edit : Edit) (a b : CacheState S) (changed : List ℕ) (room : is_full a ≡ false) (seen : IsRefusedUnseen (conditions edit a.document) → ⊥) (keeps : KeepsBlocks facts a b) where
   pub large_planned : (r : Result (Vec Change Global) Fault)
       → (IsHonest facts a.disk.store → AnswersChain (IsEnvironmentFault facts a.disk.store b.disk.store) (conditions edit b.document) (λ changes. PlansLargeEdit b.document (effect edit b.document).0 changed changes.items) r)
-      → IfOk r (λ changes. CanApplyAllByHandle changes.items b.document) → IfErr r (λ fault. IsEnvironmentFault facts a.disk.store b.disk.store fault ⊎ IsManyBlocksFault edit a.document fault)
+      → IfOk r (λ changes. CanApplyAllByHandle changes.items b.document) → IfOk r (λ changes. 0 < length changes.items) → IfErr r (λ fault. IsEnvironmentFault facts a.disk.store b.disk.store fault ⊎ IsManyBlocksFault edit a.document fault)
       → large_cost b.document (effect edit b.document).0 changed ≡ cost edit b.document (effect edit b.document).0 → large_places changed ≡ places_of edit b.document → PlansLarge facts a b edit r
-  large_planned (Ok changes) answers listed refusals costs places =
+  large_planned (Ok changes) answers listed some refusals costs places =
       large_given room seen keeps (λ honest. let did = answers honest in record {
         accepted = did.0;
         applies = did.1.applies;
@@ -118,8 +121,8 @@ module _ {S : Type 0} (facts : S → StoreFacts) (edit : Edit) (a b : CacheState
         cost = did.1.cost ∙ costs;
         places = did.1.places ∙ places;
         some = did.1.some;
-      }) listed
-  large_planned (Err fault) answers listed refusals costs places = large_missed refl room seen keeps answers refusals
+      }) listed some
+  large_planned (Err fault) answers listed some refusals costs places = large_missed refl room seen keeps answers refusals
 
 -- what it is refused for: its root, these of its own, its branches
 pub large_why : (lacks own : Fault → Type 0) (d : Document) (b : ℕ) (given : List Fault) → ((fault : Fault) → own fault → is_among (given ++ NotArray ∷ BadChain ∷ IsMap ∷ NoHandles ∷ []) fault ≡ true)

@@ -157,10 +157,10 @@ pub record PlansAll (edit : Edit) (d : Document) (changes : List Change) : Type 
   pub some : 0 < length changes
 
 -- What planning an edit of a large array comes to: the file is kept, and, if the store gives back what it has, the edit
--- is planned in the document as it is held from then on, or refused there. Over any store the changes can be tried. A
--- plan is given only where some frame has no locked block. Where each frame has one nothing changes, and the answer is
--- the first refusal of the document before, CacheFull counted among them. Where its root is no raw block nothing
--- changes, and that is the answer.
+-- is planned in the document as it is held from then on, or refused there. Over any store there is a change at least,
+-- and the changes can be tried. A plan is given only where some frame has no locked block. Where each frame has one
+-- nothing changes, and the answer is the first refusal of the document before, CacheFull counted among them. Where its
+-- root is no raw block nothing changes, and that is the answer.
 pub record PlansLarge {S : Type 0} (facts : S → StoreFacts) (old new : CacheState S) (edit : Edit)
     (result : Result (Vec Change Global) Fault) : Type 0 where
   pub keeps : KeepsBlocks facts old new
@@ -168,6 +168,7 @@ pub record PlansLarge {S : Type 0} (facts : S → StoreFacts) (old new : CacheSt
       → MatchResult result (λ changes. PlansAll edit new.document changes.items)
       (RefusesEdit (IsEnvironmentFault facts old.disk.store new.disk.store) (is_full old) edit new.document)
   pub listed : IfOk result (λ changes. CanApplyAllByHandle changes.items new.document)
+  pub some : IfOk result (λ changes. 0 < length changes.items)
   pub room : IfOk result (λ _. is_full old ≡ false)
   pub shut : is_full old ≡ true → (new ≡ old)
       × IfErr result (λ fault. first_refusal ((CacheFull, true) ∷ conditions edit old.document) ≡ Some fault)

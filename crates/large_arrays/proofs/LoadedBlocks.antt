@@ -1,21 +1,25 @@
 -- What comes of bringing blocks of a large array into memory.
-use Rattle.std.proofs.Common.{◌≡◌, ◌⊎◌, ℕ, Bool, true, false, not, ◌&&◌, Option, Some, None, is_some, Result, Ok, Err, OnOk, IfErr, MatchResult, refl, sym, ap, ◌∙◌, inl, inr}
+use Rattle.std.proofs.Common.{◌≡◌, ◌⊎◌, ℕ, Bool, true, false, not, ◌&&◌, [], Option, Some, None, is_some, unwrap_or, Result, Ok, Err, OnOk, IfErr, MatchResult, refl, sym, ap, subst, ◌∙◌, inl, inr}
 use Rattle.std.proofs.lemmas.Bool.{true≢false}
 use Rattle.std.specs.Option.{option_map_or}
 use Rattle.std.specs.FinMap.{get}
 use Rattle.std.specs.Result.{is_err}
 use Rattle.vm_store.specs.Facts.{StoreFacts}
-use Rattle.geos_model.specs.Document.{Block, Document, is_heap, is_heap_body, is_live, is_raw}
+use Rattle.geos_model.specs.Document.{Block, Document, is_heap, is_heap_body, is_live, is_raw, raw_bytes_of}
+use Rattle.geos_model.specs.Refusal.{first_refusal}
 use Rattle.geos_model.specs.declared.fault.Fault.{Fault}
+use Rattle.geos_model.specs.declared.fault.Fault.TheVariants.{NotArray}
+use Rattle.raw_region.specs.Roots.{is_large_root}
 use Rattle.vm_blocks.specs.State.{CacheState}
 use Rattle.vm_blocks.specs.Keeping.{KeepsBlocks, IsEnvironmentFault, IsCacheFull, is_full, is_loaded}
 use Rattle.vm_blocks.specs.Kinds.{IsWrongBlock}
 use Rattle.vm_blocks.proofs.KeepingLaws.{keeps-unless_corrupt, open-shut}
-use Rattle.vm_chains.specs.Answers.{RefusesChain}
+use Rattle.vm_chains.specs.Answers.{AnswersChain, RefusesChain}
 use Rattle.vm_chains.specs.Walking.{Stops}
 use Rattle.geos_model.specs.LargeEdits.{on_root}
-use Rattle.large_arrays.specs.Loading.{IsRawLoaded, IsRootRefusal}
-use Rattle.large_arrays.proofs.RefusalOrder.{root_wrong}
+use Rattle.geos_model.specs.LargeLayout.{Root, root_of}
+use Rattle.large_arrays.specs.Loading.{IsRawLoaded, IsRootLoaded, IsRootRefusal}
+use Rattle.large_arrays.proofs.RefusalOrder.{root-accepted, root-none, root_wrong}
 
 -- a block is raw where it is live and no heap
 raw_there : (o : Option Block) → option_map_or (λ b. not (is_heap_body b.body)) o false ≡ (is_some o && not (option_map_or (λ b. is_heap_body b.body) o false))
@@ -85,6 +89,28 @@ module _ {S : Type 0} (facts : S → StoreFacts) (a b : CacheState S) (keeps : K
       → MatchResult r (λ _. IsRawLoaded b h) (Stops (IsEnvironmentFault facts a.disk.store b.disk.store) (is_raw b.document h ≡ false))
   raw-brought room (Ok done) ok err raw = record { loaded = ok.0; raw = ok.1 }
   raw-brought room (Err fault) ok err raw = inl (raw-missed room fault err raw)
+
+-- A root in memory, whose bytes are known to be one.
+pub root-loaded : {S : Type 0} (s : CacheState S) (b : ℕ) → IsRawLoaded s b → is_large_root (raw_bytes_of s.document b) ≡ true
+    → (first_refusal (on_root s.document b) ≡ None) × IsRootLoaded s b
+root-loaded s b there known =
+    (root-accepted s.document b there.raw known, record { loaded = there.loaded; raw = there.raw; root = found (root_of (raw_bytes_of s.document b)) known })
+  where
+    found : (o : Option Root) → is_some o ≡ true → o ≡ Some (unwrap_or o (record { size = 0; counts = []; branches = [] }))
+    found None some = absurd (cc some)
+    found (Some r) some = refl
+
+-- one that was tested there
+pub root-tested : {S : Type 0} (lacks : Fault → Type 0) (s after : CacheState S) (b : ℕ) (r : Result (Unit {0}) Fault) → IsRawLoaded s b → after ≡ s
+    → MatchResult r (λ _. is_large_root (raw_bytes_of s.document b) ≡ true) (λ fault. (fault ≡ NotArray) × (root_of (raw_bytes_of s.document b) ≡ None))
+    → AnswersChain lacks (on_root after.document b) (λ _. IsRootLoaded after b) r
+root-tested {S} lacks s after b r there same tested = subst (λ (x : CacheState S). AnswersChain lacks (on_root x.document b) (λ _. IsRootLoaded x b) r) (sym same) (by_result r tested)
+  where
+    by_result : (o : Result (Unit {0}) Fault)
+        → MatchResult o (λ _. is_large_root (raw_bytes_of s.document b) ≡ true) (λ fault. (fault ≡ NotArray) × (root_of (raw_bytes_of s.document b) ≡ None))
+        → AnswersChain lacks (on_root s.document b) (λ _. IsRootLoaded s b) o
+    by_result (Ok done) known = root-loaded s b there known
+    by_result (Err fault) none = inr (root-none s.document b fault there.raw none)
 
 -- what is known of a call that was tested to be refused, or not to be
 

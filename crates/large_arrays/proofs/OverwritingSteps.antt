@@ -235,6 +235,7 @@ pub record AreOverwritten {S : Type 0} (facts : S → StoreFacts) (a b : CacheSt
   pub first : k < length links → from ≤ get_or (counts_of links) k 0
   pub from_is : from ≡ start - sum (take k (counts_of links))
   pub left_is : left ≡ length new.elements - (sum (take k (counts_of links)) - start)
+  pub many : length changes ≡ k
   pub live : (j : ℕ) → j < k → is_live b.document (get_or (link_handles links) j 0) ≡ true
   pub listed : (d : Document) → ((j : ℕ) → j < k → is_live d (get_or (link_handles links) j 0) ≡ true) → ArePlannedByHandle changes d [] (take k (bare_bodies links))
   pub there : IsHonest facts a.disk.store → are_branches_under a.document new.size (take k links) ≡ true
@@ -254,6 +255,7 @@ module _ {S : Type 0} (facts : S → StoreFacts) (links : List BranchLink) (star
     first = first;
     from_is = omega arith;
     left_is = omega arith;
+    many = ap length none;
     live = λ j low. absurd (omega arith);
     listed = λ d all. subst (λ (cs : List Change). ArePlannedByHandle cs d [] []) (sym none) (record { applies = tt; live = λ h. refl; map_block = refl });
     there = λ steady. refl;
@@ -264,8 +266,8 @@ module _ {S : Type 0} (facts : S → StoreFacts) (links : List BranchLink) (star
   module _ (k from left : ℕ) (link : BranchLink) (part : SizedElements) (old changes : List Change) (low : k < length links) (is : link ≡ get_or links k no_link)
       (once : all_distinct (link_handles links) ≡ true) (small : new.size < 65536) (part_is : part ≡ record { size = new.size; elements = take (link.count - from) (drop (length new.elements - left) new.elements) }) where
     pub overwritten-more : (a b e : CacheState S) (after : ℕ) → AreOverwritten facts a b links start new k from left old → KeepsBlocks facts b e → WritesBranch e.document link from part old changes
-        → after ≡ left - length part.elements → AreOverwritten facts a e links start new (k + 1) 0 after changes
-    overwritten-more a b e after so keeps writes after_is =
+        → length changes ≡ length old + 1 → after ≡ left - length part.elements → AreOverwritten facts a e links start new (k + 1) 0 after changes
+    overwritten-more a b e after so keeps writes one after_is =
         let cs = counts_of links in
         let long = length-map links (λ (l : BranchLink). l.count) in
         let more = sum-more cs k (omega arith) in
@@ -286,6 +288,7 @@ module _ {S : Type 0} (facts : S → StoreFacts) (links : List BranchLink) (star
           first = λ _. omega arith;
           from_is = omega arith;
           left_is = omega arith;
+          many = one ∙ ap (λ (n : ℕ). n + 1) so.many;
           live = λ j below. below_more (λ (m : ℕ). is_live e.document (get_or (link_handles links) m 0) ≡ true) k (λ m less. still_live facts b e keeps (get_or (link_handles links) m 0) (so.live m less))
               (live-here links k link low is e.document from part old changes writes) j below;
           listed = λ d live. listed-step links k link low is once d old changes writes.listed (live k (omega arith)) (so.listed d (λ j below. live j (omega arith)));

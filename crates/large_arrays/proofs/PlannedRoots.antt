@@ -1,11 +1,10 @@
 -- A root that is loaded again, and what refuses its plan.
-use Rattle.std.proofs.Common.{◌≡◌, ◌≢◌, ◌⊎◌, ℕ, ◌+◌, ◌-◌, ◌<◌, ◌≤◌, true, false, cond, is_none, is_some, List, length, Option, Some, None, refl, sym, ap, subst, ◌∙◌, inl, inr, arith}
+use Rattle.std.proofs.Common.{◌≡◌, ◌≢◌, ◌⊎◌, ℕ, ◌+◌, ◌-◌, ◌<◌, ◌≤◌, true, is_some, List, length, Option, Some, None, sym, ap, subst, ◌∙◌, inl, inr, arith}
 use Rattle.vm_store.specs.Facts.{StoreFacts}
-use Rattle.geos_model.specs.Document.{Document, is_live, is_raw, raw_bytes_of}
+use Rattle.geos_model.specs.Document.{Document, is_raw, raw_bytes_of}
 use Rattle.geos_model.specs.Heap.{capacity}
-use Rattle.geos_model.specs.Refusal.{first_refusal}
 use Rattle.geos_model.specs.declared.fault.Fault.{Fault}
-use Rattle.geos_model.specs.declared.fault.Fault.TheVariants.{Damaged, File, Memory, NotArray, NoBlock, WrongKind}
+use Rattle.geos_model.specs.declared.fault.Fault.TheVariants.{Damaged, File, Memory}
 use Rattle.vm_blocks.specs.State.{CacheState}
 use Rattle.vm_blocks.specs.Keeping.{KeepsBlocks, IsHonest, IsEnvironmentFault}
 use Rattle.vm_blocks.proofs.KeepingLaws.{lacks-cases, lacks-damaged, lacks-memory, steady-honest}
@@ -19,8 +18,7 @@ use Rattle.large_arrays.specs.WindowPlans.{HasGatheredRoot}
 use Rattle.large_arrays.specs.declared.gathered.Gathered.{Gathered}
 use Rattle.large_bodies.specs.SizedElements.{SizedElements, IsPiece}
 use Rattle.geos_model.proofs.BranchBytes.{branch-few}
-use Rattle.geos_model.proofs.Layouts.{raw-live}
-use Rattle.large_arrays.proofs.RefusalOrder.{of_root}
+use Rattle.large_arrays.proofs.RefusalOrder.{root-accepted}
 use Rattle.geos_model.proofs.RootBytes.{length-root_bytes}
 use Rattle.large_bodies.proofs.RootRuns.{length_spliced}
 
@@ -36,16 +34,6 @@ replaced-short r first behind counts hs same order within many few =
     let right = length_spliced r.counts counts first behind order (omega arith) in
     let long = length-root_bytes (with_branches r first behind counts hs) (omega arith) in
     omega arith
-
--- nothing refuses a root that is there
-pub root-accepted : (d : Document) (b : ℕ) → is_raw d b ≡ true → is_some (root_of (raw_bytes_of d b)) ≡ true → first_refusal (on_root d b) ≡ None
-root-accepted d b raw found =
-    of_root (is_live d b) (is_raw d b) (is_none (root_of (raw_bytes_of d b)))
-    ∙ (λ i. cond (raw-live d b raw i) (cond (raw i) (cond (some (root_of (raw_bytes_of d b)) found i) (Some NotArray) None) (Some WrongKind)) (Some NoBlock))
-  where
-    some : (o : Option Root) → is_some o ≡ true → is_none o ≡ false
-    some None found = absurd (cc found)
-    some (Some r) found = refl
 
 module _ {S : Type 0} (facts : S → StoreFacts) (a m : CacheState S) (keeps : KeepsBlocks facts a m) (b : ℕ) where
   -- What else refuses a root that was there comes of a store that isn't honest.

@@ -1,12 +1,13 @@
 -- Which refusal of a look-up comes first.
-use Rattle.std.proofs.Common.{◌≡◌, ℕ, Bool, true, false, not, cond, [], ◌∷◌, Some, None, is_none, refl, sym, ap, ◌∙◌, inl, inr}
+use Rattle.std.proofs.Common.{◌≡◌, ℕ, Bool, true, false, not, cond, [], ◌∷◌, Option, Some, None, is_none, is_some, refl, sym, ap, ◌∙◌, inl, inr}
 use Rattle.geos_model.specs.Document.{Document, is_live, is_raw, raw_bytes_of}
 use Rattle.geos_model.specs.Refusal.{first_refusal}
 use Rattle.geos_model.specs.declared.fault.Fault.{Fault}
 use Rattle.geos_model.specs.declared.fault.Fault.TheVariants.{NoBlock, WrongKind, NotArray, NoElement, Range, BadChain}
 use Rattle.vm_blocks.specs.Kinds.{IsWrongBlock}
-use Rattle.geos_model.specs.LargeLayout.{root_of}
+use Rattle.geos_model.specs.LargeLayout.{Root, root_of}
 use Rattle.geos_model.specs.LargeEdits.{on_root}
+use Rattle.geos_model.proofs.Layouts.{raw-live}
 
 -- Of a root: it is live, it is raw, its bytes are one.
 pub of_root : (live raw none : Bool) → first_refusal ((NoBlock, not live) ∷ (WrongKind, not raw) ∷ (NotArray, none) ∷ [])
@@ -26,6 +27,23 @@ root_wrong d b fault (inr heap) =
     of_root (is_live d b) (is_raw d b) (is_none (root_of (raw_bytes_of d b)))
     ∙ (λ i. cond (heap.1 i) (cond (heap.2 i) (cond (is_none (root_of (raw_bytes_of d b))) (Some NotArray) None) (Some WrongKind)) (Some NoBlock))
     ∙ ap (λ (f : Fault). Some f) (sym heap.0)
+
+-- nothing refuses a root that is there
+pub root-accepted : (d : Document) (b : ℕ) → is_raw d b ≡ true → is_some (root_of (raw_bytes_of d b)) ≡ true → first_refusal (on_root d b) ≡ None
+root-accepted d b raw found =
+    of_root (is_live d b) (is_raw d b) (is_none (root_of (raw_bytes_of d b)))
+    ∙ (λ i. cond (raw-live d b raw i) (cond (raw i) (cond (some (root_of (raw_bytes_of d b)) found i) (Some NotArray) None) (Some WrongKind)) (Some NoBlock))
+  where
+    some : (o : Option Root) → is_some o ≡ true → is_none o ≡ false
+    some None found = absurd (cc found)
+    some (Some r) found = refl
+
+-- a raw block whose bytes are none
+pub root-none : (d : Document) (b : ℕ) (fault : Fault) → is_raw d b ≡ true → (fault ≡ NotArray) × (root_of (raw_bytes_of d b) ≡ None) → first_refusal (on_root d b) ≡ Some fault
+root-none d b fault raw none =
+    of_root (is_live d b) (is_raw d b) (is_none (root_of (raw_bytes_of d b)))
+    ∙ (λ i. cond (raw-live d b raw i) (cond (raw i) (cond (is_none (none.1 i)) (Some NotArray) None) (Some WrongKind)) (Some NoBlock))
+    ∙ ap (λ (f : Fault). Some f) (sym none.0)
 
 -- Of an element, and of a run of them: the root, whether it is past the last one, whether its branches are none; and
 -- whether the run is too long.

@@ -1,5 +1,5 @@
 -- The patch of a branch that an edit stays within.
-use Rattle.std.proofs.Common.{◌≡◌, ℕ, ◌+◌, ◌-◌, ◌*◌, ◌≤◌, ◌==◌, ◌||◌, nat_lt, Bool, true, false, List, [], ◌∷◌, ◌++◌, length, take, drop, refl, sym, ap, ap₂, subst, ◌∙◌, arith, append_assoc, length-append, length-drop, take_at, drop_at, mul-le-mul_right}
+use Rattle.std.proofs.Common.{◌≡◌, ℕ, ◌+◌, ◌-◌, ◌*◌, ◌≤◌, ◌==◌, ◌||◌, nat_lt, Bool, true, false, List, [], ◌∷◌, ◌++◌, length, take, drop, refl, sym, ap, subst, ◌∙◌, arith, append_assoc, length-append, length-drop, mul-le-mul_right}
 use Rattle.std.proofs.lemmas.Bool.{and_parts, and_from, cond-false}
 use Rattle.std.proofs.lemmas.Grind.{flat_map-append}
 use Rattle.std.proofs.lemmas.List.{length-take-le, take-append-drop, drop-drop}
@@ -8,7 +8,7 @@ use Rattle.geos_model.specs.Array.{Array, array_bytes, is_even}
 use Rattle.geos_model.specs.Heap.{capacity}
 use Rattle.geos_model.specs.Words.{word}
 use Rattle.geos_model.proofs.Arrays.{joined, head_of, table-even, length-array_bytes, length-joined}
-use Rattle.chunk_edits.specs.Patching.{PatchPiece, Keep, Put, patched, ArePiecesOf, PatchLeads}
+use Rattle.chunk_edits.specs.Patching.{PatchPiece, Keep, Put, PatchLeads}
 use Rattle.chunk_arrays.specs.Reading.{element_place, elements_start}
 use Rattle.chunk_arrays.proofs.PlaceLemmas.{bytes-front}
 use Rattle.geos_model.specs.Pieces.{BranchPiece, branch_room}
@@ -17,38 +17,8 @@ use Rattle.geos_model.proofs.BranchBytes.{array_of_piece, is_sized, length-branc
 use Rattle.geos_model.proofs.PieceLists.{sized-append, sized_part}
 use Rattle.large_bodies.specs.BranchReading.{IsPlain}
 use Rattle.large_bodies.specs.SizedElements.{have_size}
-use Rattle.large_arrays.proofs.WrittenBranches.{middle-leads, peak-cons, plain-is}
-
--- Pieces before others.
-
-pub keep-before : (a : List ℕ) (ps : List PatchPiece) (u v : List ℕ) → PatchLeads ps u v → PatchLeads (Keep (length a) ∷ ps) (a ++ u) (a ++ v)
-keep-before a ps u v leads =
-    let first : take (length a) (a ++ u) ≡ a = take_at a u (length a) refl in
-    let rest : drop (length a) (a ++ u) ≡ u = drop_at a u (length a) refl in
-    let high = peak-cons (Keep (length a)) ps in
-    let low = leads.peak in
-    let from = length-append a u in
-    let to = length-append a v in
-    record {
-      stands = (ap length first, subst (ArePiecesOf ps) (sym rest) leads.stands);
-      gives = ap₂ (λ (x y : List ℕ). x ++ patched ps y) first rest ∙ ap (λ (y : List ℕ). a ++ y) leads.gives;
-      peak = omega arith;
-    }
-
--- bytes that become as many others
-pub put-before : (b x : List ℕ) (ps : List PatchPiece) (u v : List ℕ) → length b ≡ length x → PatchLeads ps u v → PatchLeads (Put b x ∷ ps) (b ++ u) (x ++ v)
-put-before b x ps u v level leads =
-    let first : take (length b) (b ++ u) ≡ b = take_at b u (length b) refl in
-    let rest : drop (length b) (b ++ u) ≡ u = drop_at b u (length b) refl in
-    let high = peak-cons (Put b x) ps in
-    let low = leads.peak in
-    let from = length-append b u in
-    let to = length-append x v in
-    record {
-      stands = (first, subst (ArePiecesOf ps) (sym rest) leads.stands);
-      gives = ap (λ (y : List ℕ). x ++ patched ps y) rest ∙ ap (λ (y : List ℕ). x ++ y) leads.gives;
-      peak = omega arith;
-    }
+use Rattle.large_bodies.proofs.LedPieces.{middle-leads, put-before}
+use Rattle.large_arrays.proofs.WrittenBranches.{plain-is}
 
 -- what stands in a branch behind its count, where elements have one size
 abbrev behind_count : ℕ → List ℕ

@@ -6,6 +6,7 @@ use Rattle.geos_model.specs.Pieces.{branch_room, join_room}
 use Rattle.geos_model.specs.LargeLayout.{Root}
 use Rattle.geos_model.specs.Spread.{first_place, end_place}
 use Rattle.geos_model.proofs.SpreadPlaces.{first-end_same}
+use Rattle.large_bodies.proofs.CountedRoots.{total-within}
 use Rattle.large_arrays.specs.Middle.{IsRunSpot}
 use Rattle.large_arrays.specs.Spots.{IsSpot, counts_of}
 use Rattle.large_arrays.specs.Within.{place_within, count_within}
@@ -16,7 +17,6 @@ use Rattle.large_arrays.specs.declared.within.BranchEdit.{BranchEdit}
 use Rattle.large_arrays.proofs.Marking.{no_link}
 use Rattle.large_arrays.proofs.PlaceSums.{end-within}
 use Rattle.large_arrays.proofs.RunSpots.{has-links}
-use Rattle.large_arrays.proofs.WithinRoots.{total-within}
 
 -- What a root has at the place of a link, and how many links there are.
 module _ (f : BranchLink → ℕ) (links : List BranchLink) (xs : List ℕ) (first n : ℕ) (are : map f links ≡ take n (drop first xs)) where

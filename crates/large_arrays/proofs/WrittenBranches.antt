@@ -1,58 +1,23 @@
 -- A branch of which some elements are written over: its bytes, and the patch that leads to them.
-use Rattle.std.proofs.Common.{◌≡◌, ◌≢◌, ℕ, ◌+◌, ◌-◌, ◌*◌, ◌≤◌, ◌==◌, ◌||◌, ◌⊎◌, nat_le, nat_lt, min, max, Bool, true, false, List, [], ◌∷◌, ◌++◌, length, take, drop, refl, sym, ap, ap₂, subst, ◌∙◌, inl, inr, arith, append_assoc, append-nil, length-append, length-drop, take_at, drop_at, eqb-true, leb-true, leb-false, mul-le-mul_right}
+use Rattle.std.proofs.Common.{◌≡◌, ◌≢◌, ℕ, ◌+◌, ◌-◌, ◌*◌, ◌≤◌, ◌==◌, ◌||◌, ◌⊎◌, nat_le, nat_lt, min, Bool, true, false, List, [], ◌∷◌, ◌++◌, length, take, drop, sym, ap, ap₂, subst, ◌∙◌, inl, inr, arith, append_assoc, length-append, length-drop, eqb-true, leb-true, leb-false, mul-le-mul_right}
 use Rattle.std.proofs.lemmas.Bool.{cases_Bool, and_parts, and_from}
 use Rattle.std.proofs.lemmas.Grind.{flat_map-append}
-use Rattle.std.proofs.lemmas.List.{length-take, length-take-le, take_all, drop_all, take-append-drop, drop-drop}
-use Rattle.std.proofs.lemmas.List.Sums.{sum_by-cons}
+use Rattle.std.proofs.lemmas.List.{length-take, length-take-le, drop_all, take-append-drop, drop-drop}
 use Rattle.std.specs.List.{list_all, splice}
 use Rattle.geos_model.specs.Array.{Array, array_bytes, is_even}
 use Rattle.geos_model.specs.Words.{word}
 use Rattle.geos_model.proofs.Arrays.{joined, table_of, table-even, all_even, length-joined, length-array_bytes}
-use Rattle.chunk_edits.specs.Patching.{PatchPiece, Keep, Put, taken, given, peak, patched, ArePiecesOf, PatchLeads}
+use Rattle.chunk_edits.specs.Patching.{PatchPiece, Keep, Put, PatchLeads}
 use Rattle.chunk_arrays.specs.Reading.{element_place}
 use Rattle.chunk_arrays.proofs.PlaceLemmas.{front_of, length-front, bytes-front}
 use Rattle.large_bodies.specs.BranchReading.{IsPlain}
+use Rattle.large_bodies.proofs.LedPieces.{middle-leads}
 use Rattle.geos_model.specs.Pieces.{BranchPiece}
 use Rattle.geos_model.specs.LargeLayout.{branch_bytes}
 use Rattle.large_bodies.specs.SizedElements.{have_size}
 use Rattle.large_arrays.specs.WrittenPieces.{written_piece}
 use Rattle.geos_model.proofs.BranchBytes.{array_of_piece, is_sized, length-branch_bytes, weight-even}
 use Rattle.geos_model.proofs.PieceLists.{sized-append, sized_part}
-
--- ---- a patch of three pieces
-
-pub peak-cons : (p : PatchPiece) (ps : List PatchPiece) → peak (p ∷ ps) ≡ max (taken p) (given p) + peak ps
-peak-cons p ps = sum_by-cons (λ (q : PatchPiece). max (taken q) (given q)) p ps
-
--- some bytes in the middle are others then
-pub middle-leads : (a b c x : List ℕ) → PatchLeads (Keep (length a) ∷ Put b x ∷ Keep (length c) ∷ []) (a ++ (b ++ c)) (a ++ (x ++ c))
-middle-leads a b c x =
-    let p : List PatchPiece = Put b x ∷ Keep (length c) ∷ [] in
-    let q : List PatchPiece = Keep (length c) ∷ [] in
-    let first : take (length a) (a ++ (b ++ c)) ≡ a = take_at a (b ++ c) (length a) refl in
-    let rest : drop (length a) (a ++ (b ++ c)) ≡ b ++ c = drop_at a (b ++ c) (length a) refl in
-    let next : take (length b) (b ++ c) ≡ b = take_at b c (length b) refl in
-    let last : drop (length b) (b ++ c) ≡ c = drop_at b c (length b) refl in
-    let all : take (length c) c ≡ c = take_all (length c) c (omega arith) in
-    let none : drop (length c) c ≡ [] = drop_all (length c) c (omega arith) in
-    let end : ArePiecesOf q c = (ap length all, none) in
-    let back : ArePiecesOf p (b ++ c) = (next, subst (ArePiecesOf q) (sym last) end) in
-    let from = length-append a (b ++ c) in
-    let from_behind = length-append b c in
-    let to = length-append a (x ++ c) in
-    let to_behind = length-append x c in
-    let high = peak-cons (Keep (length a)) p in
-    let low = peak-cons (Put b x) q in
-    let least = peak-cons (Keep (length c)) [] in
-    record {
-      stands = (ap length first, subst (ArePiecesOf p) (sym rest) back);
-      gives =
-          ap₂ (λ (u v : List ℕ). u ++ patched p v) first rest
-          ∙ ap (λ (v : List ℕ). a ++ (x ++ patched q v)) last
-          ∙ ap₂ (λ (u v : List ℕ). a ++ (x ++ (u ++ v))) all none
-          ∙ ap (λ (v : List ℕ). a ++ (x ++ v)) (append-nil c);
-      peak = omega arith;
-    }
 
 -- ---- the bytes of a branch
 

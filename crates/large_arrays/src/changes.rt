@@ -1,6 +1,6 @@
 //! Changes of a document, from the bytes that its blocks have and get. A list of them stands in the order in which they
 //! are carried out.
-ghost use Rattle.std.specs.Prelude.{◌≡◌, ◌≤◌, ◌++◌, ◌∷◌, ℕ, List, [], true, IfOk, OnOk, length};
+ghost use Rattle.std.specs.Prelude.{◌≡◌, ◌≤◌, ◌+◌, ◌++◌, ◌∷◌, ℕ, List, [], true, IfOk, OnOk, length};
 ghost use Rattle.geos_model.specs.Document.{Document, handles_of, is_live, is_raw, raw_bytes_of};
 ghost use Rattle.geos_model.specs.Heap.{capacity};
 ghost use Rattle.chunk_edits.specs.Patching.{ArePiecesOf, patched, peak, total_held};
@@ -48,6 +48,7 @@ pub fn plan_body(
         → is_live d handle.0 ≡ true
         → ArePlannedByHandle changes.new.items d freed (bodies ++ (handle.0, new.now.bytes.now) ∷ [])) }
     ensures least { OnOk result (AddsLeast changes.old.items changes.new.items old.now new.now) }
+    ensures more { OnOk result (length changes.new.items ≡ length changes.old.items + 1) }
 {
     let patch = body_patch(alloc, old, new)?;
     plan_patch(changes, handle, patch)
@@ -68,6 +69,7 @@ pub(crate) fn plan_patch(
         → ArePlannedByHandle changes.old.items d freed bodies → IsUntouched freed bodies handle.0
         → is_live d handle.0 ≡ true → ArePlannedByHandle changes.new.items d freed (bodies ++ (handle.0, body) ∷ [])) }
     ensures holds { OnOk result (AddsHeld changes.old.items changes.new.items (total_held patch)) }
+    ensures more { OnOk result (length changes.new.items ≡ length changes.old.items + 1) }
 {
     changes.push(Change::Part(handle, PartChange::RawPatch(patch)))?;
     Ok(())
@@ -88,6 +90,7 @@ pub fn plan_block(
         → ArePlannedByHandle changes.old.items d freed bodies → IsUntouched freed bodies handle.0
         → IsFreeHandle d handle.0
         → ArePlannedByHandle changes.new.items d freed (bodies ++ (handle.0, bytes.items) ∷ [])) }
+    ensures more { OnOk result (length changes.new.items ≡ length changes.old.items + 1) }
 {
     let none = Attributes {
         user_id: 0,

@@ -49,6 +49,7 @@ pub fn plan_insertion<S: Store>(
         (inserted_blocks blocks.new.document root.0 i bytes.now) changes.items) result }
     // Over any store.
     ensures listed { IfOk result (λ changes. CanApplyAllByHandle changes.items blocks.new.document) }
+    ensures some { IfOk result (λ changes. 0 < length changes.items) }
     ensures refusals { IfErr result
         (IsLargeEditRefusal IsGivenFault (IsEnvironmentFault S.facts blocks.old.disk.store blocks.new.disk.store)
         blocks.old.document root.0) }
@@ -79,6 +80,7 @@ pub fn plan_setting<S: Store>(
         (set_blocks blocks.new.document root.0 i bytes.now) changes.items) result }
     // Over any store.
     ensures listed { IfOk result (λ changes. CanApplyAllByHandle changes.items blocks.new.document) }
+    ensures some { IfOk result (λ changes. 0 < length changes.items) }
     ensures refusals { IfErr result
         (IsLargeEditRefusal IsSettingFault (IsEnvironmentFault S.facts blocks.old.disk.store blocks.new.disk.store)
         blocks.old.document root.0) }
@@ -112,6 +114,7 @@ pub fn plan_deletion<S: Store>(
         result }
     // Over any store.
     ensures listed { IfOk result (λ changes. CanApplyAllByHandle changes.items blocks.new.document) }
+    ensures some { IfOk result (λ changes. 0 < length changes.items) }
     ensures refusals { IfErr result
         (IsLargeEditRefusal IsPastFault (IsEnvironmentFault S.facts blocks.old.disk.store blocks.new.disk.store)
         blocks.old.document root.0) }
@@ -211,6 +214,7 @@ fn plan_nothing<S: Store>(
     ensures planned { IfOk result (λ changes.
         PlansLargeEdit blocks.now.document blocks.now.document (root.0 ∷ []) changes.items) }
     ensures listed { IfOk result (λ changes. CanApplyAllByHandle changes.items blocks.now.document) }
+    ensures some { IfOk result (λ changes. 0 < length changes.items) }
 {
     let bytes = raw_bytes(blocks, root);
     let body = CutBody::new(bytes, 0, 0);
@@ -243,6 +247,7 @@ fn plan_replacement<S: Store>(
         changes.items) result }
     // Over any store.
     ensures listed { IfOk result (λ changes. CanApplyAllByHandle changes.items blocks.new.document) }
+    ensures some { IfOk result (λ changes. 0 < length changes.items) }
     ensures refusals { IfErr result (λ fault.
         IsEnvironmentFault S.facts blocks.old.disk.store blocks.new.disk.store fault
         ⊎ ((fault ≡ BadChain) ⊎ ((fault ≡ IsMap) ⊎ (fault ≡ NoHandles)))) }
@@ -284,6 +289,7 @@ fn plan_writing<S: Store>(
         changes.items) result }
     // Over any store.
     ensures listed { IfOk result (λ changes. CanApplyAllByHandle changes.items blocks.new.document) }
+    ensures some { IfOk result (λ changes. 0 < length changes.items) }
     ensures refusals { IfErr result (λ fault.
         IsEnvironmentFault S.facts blocks.old.disk.store blocks.new.disk.store fault ⊎ (fault ≡ BadChain)) }
 {

@@ -3,7 +3,9 @@ ghost use Rattle.std.specs.Prelude.{◌≡◌, ◌^◌, ◌+◌, ◌<◌, ◌≤
 ghost use Rattle.geos_model.specs.Document.{is_raw, raw_bytes_of};
 ghost use Rattle.geos_model.specs.Array.{array_bytes};
 ghost use Rattle.geos_model.specs.Heap.{capacity};
-ghost use Rattle.vm_blocks.specs.Keeping.{KeepsBlocks, IsEnvironmentFault, is_full};
+ghost use Rattle.geos_model.specs.LargeLayout.{root_of};
+ghost use Rattle.raw_region.specs.Roots.{is_large_root};
+ghost use Rattle.vm_blocks.specs.Keeping.{KeepsBlocks, IsEnvironmentFault, is_full, is_loaded};
 ghost use Rattle.vm_chains.specs.Answers.{AnswersChain};
 ghost use Rattle.vm_chains.specs.Walking.{Stops};
 ghost use Rattle.geos_model.specs.LargeBlocks.{root_at};
@@ -22,7 +24,7 @@ use vm_store::Store;
 // comes, and what is needed of a branch before the next one does.
 
 /// Brings a root into memory. NoBlock where no block is there, WrongKind where a heap is, NotArray where its bytes are
-/// no root.
+/// no root. They are tested where they aren't known to be one, in time by the number of branches.
 pub fn load_root<S: Store>(blocks: &mut FileBlocks<S>, root: VmHandle) -> Result<(), Fault>
     requires room { is_full blocks.old ≡ false }
     ensures keeps { KeepsBlocks S.facts blocks.old blocks.new }
@@ -33,7 +35,34 @@ pub fn load_root<S: Store>(blocks: &mut FileBlocks<S>, root: VmHandle) -> Result
         blocks.old.document root.0) }
 {
     blocks.load_raw(root)?;
+    if is_known_root(blocks, root) {
+        return Ok(());
+    }
+    test_loaded_root(blocks, root)
+}
+
+/// Whether the bytes of a block in memory are known to be a root.
+fn is_known_root<S: Store>(blocks: &FileBlocks<S>, root: VmHandle) -> bool
+    requires { is_loaded blocks.now root.0 ≡ true }
+    ensures { result ≡ true → is_large_root (raw_bytes_of blocks.now.document root.0) ≡ true }
+{
+    match blocks.body(root) {
+        BlockBody::Raw(body) => body.is_known_root(),
+        BlockBody::Heap(_) => false,
+    }
+}
+
+/// Tests the bytes of a raw block in memory, and has it keep in mind that they are a root. NotArray where they are
+/// none.
+fn test_loaded_root<S: Store>(blocks: &mut FileBlocks<S>, root: VmHandle) -> Result<(), Fault>
+    requires { IsRawLoaded blocks.old root.0 }
+    ensures same { blocks.new ≡ blocks.old }
+    ensures value { MatchResult result
+        (λ _. is_large_root (raw_bytes_of blocks.old.document root.0) ≡ true)
+        (λ fault. (fault ≡ Fault.NotArray) × (root_of (raw_bytes_of blocks.old.document root.0) ≡ None)) }
+{
     let _tested = read_root(raw_bytes(blocks, root))?;
+    blocks.mark_root(root);
     Ok(())
 }
 

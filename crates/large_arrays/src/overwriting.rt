@@ -1,5 +1,5 @@
 //! The changes by which elements of one size are written over where they are.
-ghost use Rattle.std.specs.Prelude.{◌≡◌, ◌⊎◌, ◌≢◌, ◌<◌, ◌≤◌, ◌+◌, ◌^◌, ℕ, None, true, false, IfOk, IfErr, MatchResult, length, take, drop, get_or, sum_by};
+ghost use Rattle.std.specs.Prelude.{◌≡◌, ◌⊎◌, ◌≢◌, ◌<◌, ◌≤◌, ◌+◌, ◌^◌, ℕ, None, true, false, IfOk, IfErr, MatchResult, OnOk, length, take, drop, get_or, sum_by};
 ghost use Rattle.std.specs.List.{splice};
 ghost use Rattle.geos_model.specs.Array.{array_bytes};
 ghost use Rattle.geos_model.specs.ElementArray.{all_distinct};
@@ -60,6 +60,7 @@ pub(crate) fn plan_overwriting<S: Store>(
         (run_places (root_at blocks.new.document root.0) i (length new.now.elements)) ≡ false)) }
     // Over any store.
     ensures listed { IfOk result (λ changes. CanApplyAllByHandle changes.items blocks.new.document) }
+    ensures some { IfOk result (λ changes. 0 < length changes.items) }
     ensures refusals { IfErr result (λ fault.
         IsEnvironmentFault S.facts blocks.old.disk.store blocks.new.disk.store fault ⊎ (fault ≡ BadChain)) }
 {
@@ -95,6 +96,7 @@ fn plan_branches<S: Store>(
         (are_branches_under blocks.new.document new.now.size links.now ≡ false)) }
     // Over any store.
     ensures listed { IfOk result (λ changes. CanApplyAllByHandle changes.items blocks.new.document) }
+    ensures many { IfOk result (λ changes. length changes.items ≡ length links.now) }
     ensures refusals { IfErr result (λ fault.
         IsEnvironmentFault S.facts blocks.old.disk.store blocks.new.disk.store fault ⊎ (fault ≡ BadChain)) }
 {
@@ -143,6 +145,7 @@ fn plan_branch<S: Store>(
         (λ _. WritesBranch blocks.new.document link from new.now changes.old.items changes.new.items)
         (Stops (IsEnvironmentFault S.facts blocks.old.disk.store blocks.new.disk.store)
         (branch_under blocks.new.document link.handle.0 new.now.size link.count ≡ None)) }
+    ensures more { OnOk result (length changes.new.items ≡ length changes.old.items + 1) }
 {
     load_branch(blocks, link.handle)?;
     let size = new.element_size();

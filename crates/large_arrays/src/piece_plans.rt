@@ -1,5 +1,5 @@
 //! The changes by which pieces get their blocks.
-ghost use Rattle.std.specs.Prelude.{◌≡◌, ◌≤◌, ◌<◌, ◌++◌, ◌∷◌, [], ℕ, List, true, OnOk, MatchOption, length, get_or, map};
+ghost use Rattle.std.specs.Prelude.{◌≡◌, ◌≤◌, ◌<◌, ◌+◌, ◌++◌, ◌∷◌, [], ℕ, List, true, OnOk, MatchOption, length, get_or, map};
 ghost use Rattle.std.specs.List.{All, AllZip, Contains, zip};
 ghost use Rattle.geos_model.specs.Document.{Document, is_live};
 ghost use Rattle.geos_model.specs.Heap.{capacity};
@@ -46,6 +46,7 @@ pub(crate) fn plan_pieces(
         → ShareNoHandle freed (numbers handles.now) → ShareNoHandle (map (λ p. p.0) bodies) (numbers handles.now)
         → ArePlannedByHandle changes.new.items d freed (bodies
         ++ piece_bodies gathered.now.pieces.size (zip (numbers handles.now) gathered.now.pieces.pieces))) }
+    ensures more { OnOk result (length changes.new.items ≡ length changes.old.items + length handles.now) }
 {
     for k in 0..handles.len() {
         plan_piece(alloc, gathered, handles[k], gathered.pieces.get(k), changes)?;
@@ -75,6 +76,7 @@ fn plan_piece(
         → IsHome d (old_handles gathered.now.olds.items) handle.0 → IsUntouched freed bodies handle.0
         → ArePlannedByHandle changes.new.items d freed
         (bodies ++ (handle.0, branch_bytes piece.now.size piece.now.elements) ∷ [])) }
+    ensures more { OnOk result (length changes.new.items ≡ length changes.old.items + 1) }
 {
     let body = piece.body(alloc)?;
     match place_of(gathered, handle) {

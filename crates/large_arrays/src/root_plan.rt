@@ -60,6 +60,7 @@ pub(crate) fn plan_root<S: Store>(
           root_bytes
               (gathered_root (root_at blocks.new.document root.0) gathered.now (numbers handles.now)),
         ) ∷ [])) }
+    ensures more { OnOk result (length changes.new.items ≡ length changes.old.items + 1) }
     // Refusals.
     ensures refusals { IfErr result (IsEnvironmentFault S.facts blocks.old.disk.store blocks.new.disk.store) }
 {

@@ -1,5 +1,5 @@
 //! The changes by which pieces come in the place of branches: blocks that go, the root, and the blocks of the pieces.
-ghost use Rattle.std.specs.Prelude.{◌≡◌, ◌⊎◌, ◌≤◌, ◌==◌, [], ℕ, true, false, IfOk, IfErr, MatchResult, length};
+ghost use Rattle.std.specs.Prelude.{◌≡◌, ◌⊎◌, ◌<◌, ◌≤◌, ◌==◌, [], ℕ, true, false, IfOk, IfErr, MatchResult, length};
 ghost use Rattle.std.specs.List.{All, AllZip, Contains, list_any};
 ghost use Rattle.std.specs.FinMap.{get};
 ghost use Rattle.geos_model.specs.Document.{Document, is_live};
@@ -54,6 +54,7 @@ pub(crate) fn plan_window<S: Store>(
         ⊎ RefusesWindow blocks.new.document root.0 (window blocks.new.document root.0 i j new) fault) }
     // Over any store.
     ensures listed { IfOk result (λ changes. CanApplyAllByHandle changes.items blocks.new.document) }
+    ensures some { IfOk result (λ changes. 0 < length changes.items) }
     ensures refusals { IfErr result (λ fault.
         IsEnvironmentFault S.facts blocks.old.disk.store blocks.new.disk.store fault
         ⊎ ((fault ≡ IsMap) ⊎ (fault ≡ NoHandles))) }

@@ -29,13 +29,10 @@ use crate::window_plan::MOST_BRANCHES;
 use chunk_arrays::View;
 use chunk_edits::Patch;
 use geos_model::{Fault, VmHandle};
-use large_bodies::{BRANCH_ROOM, JOIN_ROOM, NewElements};
+use large_bodies::{BRANCH_ROOM, Counts, JOIN_ROOM, NewElements, counts_patch};
 use std::alloc::{AllocError, Global};
 use vm_blocks::{Change, FileBlocks};
 use vm_store::Store;
-
-/// How many bytes of a root stand before the number of its elements.
-const BEFORE_TOTAL: u32 = 12;
 
 /// An edit of elements of one size that stays within one branch.
 #[derive(Clone, Copy)]
@@ -164,6 +161,7 @@ pub(crate) fn plan_within<S: Store>(
         (place_within (root_at blocks.new.document root.0) i j ∷ []) ≡ false)) }
     // Over any store.
     ensures listed { IfOk result (λ changes. CanApplyAllByHandle changes.items blocks.new.document) }
+    ensures some { IfOk result (λ changes. 0 < length changes.items) }
     ensures refusals { IfErr result (λ fault.
         IsEnvironmentFault S.facts blocks.old.disk.store blocks.new.disk.store fault ⊎ (fault ≡ BadChain)) }
 {
@@ -250,15 +248,13 @@ fn root_patch(alloc: Global, spot: &Spot, edit: &BranchEdit) -> Result<Patch, Al
         → PatchLeads patch (root_bytes r) (root_bytes (root_within r i j new))) }
     ensures short { IfOk result (λ patch. peak patch ≤ capacity) }
 {
-    let place = spot.start.0;
-    let behind = 2 * (spot.branches - 1 - place) + 4 * spot.branches;
-    let mut patch = Patch::new(alloc)?;
-    patch.keep(BEFORE_TOTAL)?;
-    let total = spot.total.to_le_bytes();
-    patch.put(total.as_slice(), edit.total.to_le_bytes().as_slice())?;
-    patch.keep(2 * place as u32)?;
-    let count = edit.link.count.to_le_bytes();
-    patch.put(count.as_slice(), edit.count.to_le_bytes().as_slice())?;
-    patch.keep(behind as u32)?;
-    Ok(patch)
+    let old = Counts {
+        total: spot.total,
+        count: edit.link.count,
+    };
+    let new = Counts {
+        total: edit.total,
+        count: edit.count,
+    };
+    counts_patch(alloc, spot.branches, spot.start.0, old, new)
 }

@@ -160,6 +160,7 @@ module _ {S : Type 0} (facts : S → StoreFacts) (old new : SessionState S) (mid
   large_applied : AreApplied facts changes.items mid (cache_of new) → IsLargeApplied facts edit (cache_of old) (cache_of new) changes.items
   large_applied makes = record {
     listed = all_listed_before facts (cache_of old) mid plan.keeps changes.items plan.listed;
+    some = plan.some;
     makes = all_make_later facts (cache_of old) mid plan.keeps changes.items (cache_of new) makes;
     room = full_is edit large (cache_of old) ∙ plan.room;
     meant = λ so.

@@ -1,5 +1,5 @@
 -- An edit that was planned, and whose change was made.
-use Rattle.std.specs.Prelude.{◌≡◌, ◌≢◌, ◌⊎◌, ◌∷◌, true, false, IsTrue, List, Some, Result, IfErr, IfOk, MatchResult, OnErr}
+use Rattle.std.specs.Prelude.{◌≡◌, ◌≢◌, ◌⊎◌, ◌<◌, ◌∷◌, true, false, IsTrue, List, Some, length, Result, IfErr, IfOk, MatchResult, OnErr}
 use Rattle.std.specs.Result.{IsErrAnd}
 use Rattle.geos_model.specs.Document.{Document}
 use Rattle.geos_model.specs.Machine.{edit_needs, kind_of}
@@ -37,11 +37,12 @@ pub record IsEditApplied {S : Type 0} (facts : S → StoreFacts) (edit : Edit) (
   pub kind : kind_of_change change ≡ kind_of edit
   pub meant : (is_of_chain edit ≡ true → IsTrue (facts old.disk.store).honest) → IsMeant facts edit old new change done
 
--- There was room for what the edit of a large array needed, and its changes were made one after another; over an honest
--- store they mean it.
+-- There was room for what the edit of a large array needed, and its changes, one at least, were made one after another;
+-- over an honest store they mean it.
 pub record IsLargeApplied {S : Type 0} (facts : S → StoreFacts) (edit : Edit) (old new : CacheState S)
     (changes : List Change) : Type 0 where
   pub listed : CanApplyAllByHandle changes old.document
+  pub some : 0 < length changes
   pub makes : AreApplied facts changes old new
   pub room : lacks_frames old (edit_needs edit) ≡ false
   pub meant : IsTrue (facts old.disk.store).honest → PlansAll edit old.document changes

@@ -1,8 +1,9 @@
-use Rattle.std.proofs.Common.{◌≡◌, ◌++◌, ◌∷◌, ◌∙◌, ℕ, List, [], sym, ap, subst}
+use Rattle.std.proofs.Common.{◌≡◌, ◌++◌, ◌∷◌, ◌∙◌, ℕ, List, [], length, sym, ap, subst, length-append}
 use Rattle.geos_model.specs.Document.{Block, no_attributes}
 use Rattle.geos_model.specs.declared.command.Body.TheVariants.{Raw}
 use Rattle.document_file.specs.Members.{imaged_blocks}
 use Rattle.vm_blocks.specs.declared.change.Change.{Change}
+use Rattle.vm_blocks.specs.declared.change.Change.TheVariants as changes
 use Rattle.vm_blocks.specs.declared.member.Members.{Members}
 use Rattle.large_arrays.specs.ChangePlans.{ArePlanned, ArePlannedByHandle}
 use Rattle.large_arrays.proofs.PlannedChanges.{block_planned, block_listed}
@@ -21,4 +22,5 @@ returns c =
       listed = λ d freed bodies planned untouched free.
           subst (λ (cs : List Change). ArePlannedByHandle cs d freed (bodies ++ (h, bytes) ∷ [])) (sym {A = List Change} c.in_ok-push.ensures.items)
           (block_listed d freed bodies h untouched before ms bytes one free planned);
+      more = ap {A = List Change} length c.in_ok-push.ensures.items ∙ length-append before (changes.BlocksIn ms ∷ []);
     }

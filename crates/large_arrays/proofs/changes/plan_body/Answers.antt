@@ -20,4 +20,5 @@ returns c =
       least = on_ok_weaker c.plan_patch.result
           (λ added. record { more = added.more; joined = added.joined; least = subst (HoldsLeast c.args.old.now c.args.new.now) (sym added.holds) c.in_ok-patch.ensures.held })
           c.plan_patch.ensures.holds;
+      more = c.plan_patch.ensures.more;
     }

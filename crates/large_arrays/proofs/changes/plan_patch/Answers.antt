@@ -1,4 +1,4 @@
-use Rattle.std.proofs.Common.{◌≡◌, ◌++◌, ◌∷◌, List, [], sum_by, refl, sym, subst, arith}
+use Rattle.std.proofs.Common.{◌≡◌, ◌++◌, ◌∷◌, ◌∙◌, List, [], length, sum_by, refl, sym, ap, subst, arith, length-append}
 use Rattle.geos_model.specs.Document.{raw_bytes_of}
 use Rattle.chunk_edits.specs.Patching.{patched, total_held}
 use Rattle.vm_blocks.specs.Changes.{weight as change_weight}
@@ -26,4 +26,5 @@ returns c =
         joined = c.in_ok-push.ensures.items;
         holds = (let one : sum_by change_weight (changes.Part h (parts.RawPatch ps) ∷ []) ≡ total_held ps = omega arith in one);
       };
+      more = ap {A = List Change} length c.in_ok-push.ensures.items ∙ length-append before (changes.Part h (parts.RawPatch ps) ∷ []);
     }

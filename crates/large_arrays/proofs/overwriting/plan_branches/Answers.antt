@@ -49,7 +49,8 @@ loop-link-preserved g c =
     let part_is : part ≡ record { size = new.size; elements = take (link.count - from) (drop (length new.elements - left) new.elements) } =
     ◌∙◌ {A = SizedElements} c.part_of-part.ensures (λ t. record { size = new.size; elements = take (c.from.ensures t - from) (drop (c.count-count.ensures.value t - left) new.elements) }) in
     overwritten-more g.S.Store.facts links c.args.start new k from left link part c.loop-link.changes.items c.plan_branch.new.changes.items c.loop-link-test.true refl c.requires.once c.requires.small part_is
-    a b e (left - c.count-left.result) c.loop-link.invariant c.plan_branch.ensures.keeps c.in_ok-plan_branch.ensures.value (ap (λ (n : ℕ). left - n) c.count-left.ensures.value)
+    a b e (left - c.count-left.result) c.loop-link.invariant c.plan_branch.ensures.keeps c.in_ok-plan_branch.ensures.value c.in_ok-plan_branch.ensures.more
+    (ap (λ (n : ℕ). left - n) c.count-left.ensures.value)
 
 pub returns-clause-keeps : goal.returns-clause-keeps
 returns-clause-keeps g c = c.loop-link.invariant.keeps
@@ -61,3 +62,6 @@ returns-clause-value g c = λ steady enough.
 pub returns-clause-listed : goal.returns-clause-listed
 returns-clause-listed g c =
     overwritten-listed g.S.Store.facts c.args.links.now c.args.start c.args.new.now c.args.blocks.now c.loop-link.blocks c.loop-link.link-index c.loop-link.from c.loop-link.left c.loop-link.changes.items c.loop-link.invariant c.loop-link-test.false
+
+pub returns-clause-many : goal.returns-clause-many
+returns-clause-many g c = (let many = c.loop-link.invariant.many in omega arith)

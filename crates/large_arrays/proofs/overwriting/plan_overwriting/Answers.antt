@@ -1,4 +1,5 @@
 use Rattle.std.proofs.Common.{◌≡◌, ◌∙◌, ◌∷◌, ◌+◌, ◌≤◌, ◌≢◌, ℕ, List, MatchResult, false, length, get_or, refl, sym, ap, subst, inl, inr, arith}
+use Rattle.std.proofs.lemmas.Result.{IfOk-weaker}
 use Rattle.geos_model.specs.ElementArray.{all_distinct}
 use Rattle.geos_model.specs.declared.fault.Fault.{Fault}
 use Rattle.geos_model.specs.declared.fault.Fault.TheVariants.{Memory}
@@ -76,3 +77,10 @@ returns-clause-value g c = λ steady i is.
     (λ fault lack. lack)
     (subst (λ (ls : List BranchLink). MatchResult c.plan_branches.result (λ changes. AreBranchesWritten e.document ls s.start.1 new changes.items)
     (Stops lacks (are_branches_under e.document new.size ls ≡ false))) same (c.plan_branches.ensures.value steady enough))
+
+pub returns-clause-some : goal.returns-clause-some
+returns-clause-some g c =
+    let s = c.args.spot.now in let has = run-is s c.requires.run in
+    let many : length c.links_between-links.result.now ≡ length (run_links s) = ap {A = List BranchLink} length (◌∙◌ {A = List BranchLink} c.links_between-links.ensures (run-same s)) in
+    let long = has.many in let order = has.order in
+    IfOk-weaker c.plan_branches.result _ _ (λ changes all. omega (arith, all, many, long, order)) c.plan_branches.ensures.many

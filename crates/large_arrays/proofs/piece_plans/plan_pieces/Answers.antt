@@ -47,6 +47,7 @@ loop-k-preserved c =
           (c.loop-k.invariant.listed d freed bodies before all homes apart others) all
           (subst (IsHome d olds) at (homes.each (get_or hs k 0) (Contains-get_or hs k 0 within)))
           (subst (IsUntouched freed (bodies ++ piece_bodies size (take k (zip hs ps)))) at (untouched size hs ps same k within freed bodies homes.once apart others)));
+      more = (let before = c.loop-k.invariant.more in let one = c.in_ok-plan_piece.ensures.more in omega arith);
     }
 
 -- all of them

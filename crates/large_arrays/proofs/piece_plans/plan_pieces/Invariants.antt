@@ -1,4 +1,4 @@
-use Rattle.std.proofs.Common.{◌≡◌, ◌++◌, ℕ, List, true, map, take}
+use Rattle.std.proofs.Common.{◌≡◌, ◌+◌, ◌++◌, ℕ, List, true, length, map, take}
 use Rattle.std.specs.List.{All, AllZip, zip}
 use Rattle.geos_model.specs.Document.{Document, is_live}
 use Rattle.large_arrays.specs.ChangePlans.{ArePlanned, ArePlannedByHandle, piece_bodies}
@@ -20,4 +20,5 @@ invariant-loop-k l = record {
       → AreHomes d (old_handles l.gathered.olds.items) (numbers l.handles)
       → ShareNoHandle freed (numbers l.handles) → ShareNoHandle (map (λ p. p.0) bodies) (numbers l.handles)
       → ArePlannedByHandle l.changes.items d freed (bodies ++ piece_bodies l.gathered.pieces.size (take l.k (zip (numbers l.handles) l.gathered.pieces.pieces)));
+  more : length l.changes.items ≡ length l.fn.changes.items + l.k;
 }
