@@ -9,7 +9,7 @@ ghost use Rattle.vm_blocks.specs.Changes.{CanRemoveAll, IsFreeHandle, directed_a
 ghost use Rattle.vm_blocks.specs.Preparing.{CanRemoveByHandle};
 ghost use Rattle.large_arrays.specs.ChangePlans.{ArePlanned, ArePlannedByHandle, IsUntouched, AddsHeld, AddsLeast};
 
-use chunk_edits::Patch;
+use chunk_edits::RawPatch;
 use geos_model::{Attributes, VmHandle};
 use large_bodies::{CutBody, body_patch};
 use std::alloc::{AllocError, Global};
@@ -51,14 +51,14 @@ pub fn plan_body(
     ensures more { OnOk result (length changes.new.items ≡ length changes.old.items + 1) }
 {
     let patch = body_patch(alloc, old, new)?;
-    plan_patch(changes, handle, patch)
+    plan_patch(changes, handle, RawPatch::new(patch))
 }
 
 /// Behind the others the change that a patch makes of a raw body.
 pub(crate) fn plan_patch(
     changes: &mut Vec<Change>,
     handle: VmHandle,
-    patch: Patch,
+    patch: RawPatch,
 ) -> Result<(), AllocError>
     ensures planned { OnOk result ((d : Document) (freed : List ℕ) (bodies : List (ℕ × List ℕ))
         → ArePlanned changes.old.items d freed bodies → IsUntouched freed bodies handle.0

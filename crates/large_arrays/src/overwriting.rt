@@ -27,7 +27,7 @@ use crate::joining::links_between;
 use crate::loading::{load_branch, loaded_branch};
 use crate::spot::{BranchLink, Spot};
 use chunk_arrays::View;
-use chunk_edits::Patch;
+use chunk_edits::{Patch, RawPatch};
 use geos_model::{Fault, VmHandle};
 use large_bodies::NewElements;
 use std::alloc::{AllocError, Global};
@@ -151,7 +151,7 @@ fn plan_branch<S: Store>(
     let size = new.element_size();
     let view = loaded_branch(blocks, link.handle, size, usize::from(link.count))?;
     let patch = run_patch(alloc, &view, from, new)?;
-    plan_patch(changes, link.handle, patch)?;
+    plan_patch(changes, link.handle, RawPatch::new(patch))?;
     Ok(())
 }
 

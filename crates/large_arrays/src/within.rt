@@ -27,7 +27,7 @@ use crate::loading::{load_branch, loaded_branch};
 use crate::spot::{BranchLink, Spot};
 use crate::window_plan::MOST_BRANCHES;
 use chunk_arrays::View;
-use chunk_edits::Patch;
+use chunk_edits::{Patch, RawPatch};
 use geos_model::{Fault, VmHandle};
 use large_bodies::{BRANCH_ROOM, Counts, JOIN_ROOM, NewElements, counts_patch};
 use std::alloc::{AllocError, Global};
@@ -172,7 +172,7 @@ pub(crate) fn plan_within<S: Store>(
     let patch = root_patch(alloc, spot, edit)?;
     let mut changes = Vec::with_capacity(alloc, 2)?;
     plan_patch(&mut changes, root, patch)?;
-    plan_patch(&mut changes, edit.link.handle, branch)?;
+    plan_patch(&mut changes, edit.link.handle, RawPatch::new(branch))?;
     Ok(changes)
 }
 
@@ -240,7 +240,7 @@ fn count_bytes(count: u16) -> [u8; 4]
 }
 
 /// The patch of a root's bytes: how many elements it has, and how many the branch has.
-fn root_patch(alloc: Global, spot: &Spot, edit: &BranchEdit) -> Result<Patch, AllocError>
+fn root_patch(alloc: Global, spot: &Spot, edit: &BranchEdit) -> Result<RawPatch, AllocError>
     requires place { spot.now.start.0 < spot.now.branches }
     requires few { spot.now.branches ≤ most_branches }
     ensures leads { IfOk result (λ patch. (r : Root) (i j new : ℕ) → IsSpot r i j spot.now
