@@ -21,5 +21,5 @@ returns-clause-value g c =
     let d = c.load_branch.new.blocks.document in let link = c.args.link in let new = c.args.new.now in let xs = c.in_ok-view.view.array.elements in
     let found : branch_under d link.handle.0 new.size link.count ≡ Some xs =
     (λ t. branch_under d link.handle.0 (sym c.element_size-size.ensures t) (sym c.from.ensures t)) ∙ c.in_ok-view.ensures.value in
-    branch-written d link c.args.from new c.args.changes.now.items c.plan_patch.new.changes.items xs c.in_ok-patch.patch c.requires.small found
-    c.in_ok-patch.ensures.leads c.in_ok-patch.ensures.short c.in_ok-plan_patch.ensures.planned c.in_ok-plan_patch.ensures.listed
+    branch-written d link c.args.from new c.args.changes.now.items c.plan_patch.new.changes.items xs c.new.result c.requires.small found
+    (rw c.new.ensures c.in_ok-patch.ensures.leads) (rw c.new.ensures c.in_ok-patch.ensures.short) c.in_ok-plan_patch.ensures.planned c.in_ok-plan_patch.ensures.listed

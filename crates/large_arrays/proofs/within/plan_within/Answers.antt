@@ -80,9 +80,9 @@ returns-clause-value g c = λ honest i j is.
     let found : is_some (root_of (raw_bytes_of d b)) ≡ true = ap (λ (x : Document). is_some (root_of (raw_bytes_of x b))) same ∙ ap is_some c.requires.loaded.root in
     let other : e.link.handle.0 ≢ b = λ itself. true≢false (sym (eq-eqb e.link.handle.0 b itself) ∙ sym c.eq.ensures ∙ c.if-eq.false) in
     let edit = c.requires.edit (root_at d b) i j is in
-    planned-within d b i j new e c.in_ok-patch.patch c.in_ok-branch.branch c.in_ok-changes.changes.items c.plan_patch.new.changes.items c.plan_patch-2.new.changes.items
+    planned-within d b i j new e c.in_ok-patch.patch c.new.result c.in_ok-changes.changes.items c.plan_patch.new.changes.items c.plan_patch-2.new.changes.items
     raw found c.in_ok-changes.ensures.items other (c.requires.size ∙ is.size) edit (place-low c.args.spot.now c.requires.run (root_at d b) i j is)
-    (c.in_ok-patch.ensures.leads (root_at d b) i j (length new.elements) is (sym (root-facts d b found).2) edit) c.in_ok-patch.ensures.short c.in_ok-branch.ensures.value
+    (c.in_ok-patch.ensures.leads (root_at d b) i j (length new.elements) is (sym (root-facts d b found).2) edit) c.in_ok-patch.ensures.short (rw c.new.ensures c.in_ok-branch.ensures.value)
     c.in_ok-plan_patch.ensures.planned c.in_ok-plan_patch-2.ensures.planned
 
 pub returns-clause-listed : goal.returns-clause-listed
