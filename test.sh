@@ -148,7 +148,35 @@ if [ "$named" ]; then
     done
 fi
 
-# The library for C is proved and built once more, which takes longest of all. So that begins, beside `rt ci` and behind it in line, as soon
+# Crates wait for each other, from the model up to the shell, and in an `rt ci` of so many jobs each proof takes one processor. So where there
+# is memory for it another `rt ci` proves these, each by as many processors as are free: in a copy, without must-fail edits. The first one is
+# behind it in line, tries the edits, and takes what the other has proved, since each keeps what it passes. That is no part of the verdict:
+# what the other doesn't prove the first one does.
+proves_ahead() {
+    kept=$(dirname "$(dirname "$(dirname "$(realpath "$(command -v rt)")")")")/rattle-kept
+    [ "$(sed -n 's/^MemAvailable: *\([0-9]*\) kB$/\1/p' /proc/meminfo)" -gt 18000000 ] && [ "$(nproc)" -gt 2 ] || return
+    mkdir -p -m 700 "$kept" 2>/dev/null && [ -O "$kept" ] && [ -w "$kept" ]
+}
+prove_ahead() {
+    copy=$folder/ahead
+    mkdir -p "$copy/.git" "$copy/crates" && cp HANDLES "$copy" && sed '/^geos_shell:/q' crates.txt >"$copy/crates.txt" || return
+    sed -n 's/^\([a-z][a-z_]*\)[ a-z]*:.*/\1/p' "$copy/crates.txt" | while read -r crate; do
+        mkdir "$copy/crates/$crate"
+        for part in src specs proofs; do
+            [ ! -d "crates/$crate/$part" ] || cp -r "crates/$crate/$part" "$copy/crates/$crate"
+        done
+    done
+    cd "$copy" && RT_JOBS='' exec rt ci >"$folder/proved" 2>&1
+}
+# It has begun with what all others wait for once the first of them is proved.
+wait_for_first() {
+    until grep -q '^rt: geos_model \(proved\|is kept\)' "$folder/proved" 2>/dev/null; do
+        kill -0 "$ahead" 2>/dev/null || return
+        sleep 1
+    done
+}
+
+# The library for C is proved and built once more, which takes longest of all. So that begins, beside `rt ci` and with it in line, as soon
 # as all below it are proved: in a copy, since `rt ci` is at work here.
 begin_early() {
     copy=$folder/copy
@@ -165,18 +193,25 @@ begin_early() {
         done
         [ ! -d "${crate}out/rlib" ] || cp -al "${crate}out/rlib" "$copy/${crate}out/"
     done
-    (cd "$copy" && cp "$root/test.sh" . && nice -n 5 sh test.sh --one embedding "$folder") >"$folder/early" 2>&1
+    (cd "$copy" && cp "$root/test.sh" . && nice -n 10 sh test.sh --one embedding "$folder") >"$folder/early" 2>&1
     mkdir -p embedding/out && cp "$copy/embedding/out/libgeosvm.a" embedding/out/
 }
 
 folder=$(mktemp -d)
-trap 'rm -rf "$folder"' EXIT
+ahead=
+trap '[ ! "$ahead" ] || kill "$ahead" 2>/dev/null; rm -rf "$folder"' EXIT
 passed=0
 failed=0
 if [ "$proves" ]; then
+    jobs=${RT_JOBS:-$(jobs_at_once)}
+    if proves_ahead; then
+        (prove_ahead) &
+        ahead=$!
+        wait_for_first
+    fi
     begin_early &
     early=$!
-    RT_JOBS=${RT_JOBS:-$(jobs_at_once)} rt ci 2>&1 | tee "$folder/ci"
+    RT_JOBS=$jobs nice -n 10 rt ci 2>&1 | tee "$folder/ci"
     touch "$folder/ended"
     counts=$(sed -n 's/^.*\<\([0-9][0-9]*\) passed, \([0-9][0-9]*\) failed.*$/\1 \2/p' "$folder/ci" | tail -n 1)
     if [ "$counts" ]; then
