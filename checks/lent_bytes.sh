@@ -18,7 +18,7 @@ for crate in "$root"/crates/*/; do
         [ ! -d "$crate/$part" ] || cp -r "$crate/$part" "$folder/crates/$name/$part"
     done
 done
-echo 'lending: geos_model vm_store undo_log' >>"$folder/crates.txt"
+echo 'lending: geos_model test_stores undo_log' >>"$folder/crates.txt"
 git init -q "$folder"
 cd "$folder/crates/lending"
 
@@ -49,8 +49,8 @@ edit='let _done = session.edit(&Edit::SetMap(VmHandle(0)));'
 {
     echo '#![tactic(auto)]'
     echo 'use geos_model::{ChunkHandle, Edit, VmHandle};'
+    echo 'use test_stores::MemStore;'
     echo 'use undo_log::Session;'
-    echo 'use vm_store::MemStore;'
     functions early "$look" "$edit"
     functions late "$edit" "$look"
     echo '#[test]'

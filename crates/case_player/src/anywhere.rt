@@ -6,7 +6,7 @@ use crate::streams::{STRONG, Strength};
 use crate::subject::Subject;
 use case_files::{Action, Case, Side, Step};
 use std::alloc::Global;
-use vm_store::MemStore;
+use test_stores::MemStore;
 
 /// What there is behind some first steps: what the session answers to the questions, and what its file stands for.
 #[derive(Drop)]

@@ -8,7 +8,7 @@ use case_files::{Action, Said, Side, Step};
 use geos_model::{Fault, VmHandle};
 use std::alloc::{AllocError, Global};
 use std::mem;
-use vm_store::{FuseStore, MemStore};
+use test_stores::{FuseStore, MemStore};
 
 /// Of which store the call after so many fails, or all from there on.
 #[derive(Clone, Copy)]

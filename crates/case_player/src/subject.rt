@@ -3,7 +3,7 @@ use crate::files::ProgramFiles;
 use crate::streams::{Feeding, Taking};
 use geos_model::{Fault, VmHandle};
 use std::alloc::{AllocError, Global};
-use vm_store::{FuseStore, MemStore};
+use test_stores::{FuseStore, MemStore};
 
 /// A file in memory that fails on order.
 pub type File = FuseStore<MemStore>;

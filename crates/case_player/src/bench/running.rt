@@ -7,7 +7,7 @@ use crate::subject::{File, RunOptions, Subject};
 use case_files::{Beginning, Look, Streaming};
 use std::alloc::{AllocError, Global};
 use std::mem;
-use vm_store::{FuseStore, MemStore};
+use test_stores::{FuseStore, MemStore};
 
 /// What was begun and hasn't ended.
 #[derive(Drop)]

@@ -1,12 +1,13 @@
 //! A file in memory whose calls are cut short and interrupted, which shows that what is promised of a file can be met.
 ghost use Rattle.std.specs.Prelude.{◌≡◌, ◌+◌, ◌<◌, ◌≤◌, List, Some, false, not, IsTrue, length, OnOk, IfOk};
 ghost use Rattle.vm_store.specs.Facts.{raised, IsDurable, IsUnchanged, Writes, Elapses, Sizes};
-ghost use Rattle.vm_store.specs.History.{fresh};
+ghost use Rattle.test_stores.specs.History.{fresh};
 ghost use Rattle.vm_store.specs.System.{CountsFailure, IsInterrupted, HasFailed, Idles, Reads, WritesTo, WritesPart};
-ghost use Rattle.vm_store.specs.Pieces.{pieces_facts, pieces_timely};
+ghost use Rattle.test_stores.specs.Pieces.{pieces_facts, pieces_timely};
 
-use crate::{MemStore, Store, System, SystemFault, SystemFile};
+use crate::MemStore;
 use std::marker::Model;
+use vm_store::{Store, System, SystemFault, SystemFile};
 
 /// How a file in pieces serves its calls.
 #[derive(Clone, Copy)]
@@ -33,7 +34,7 @@ pub struct PiecewiseFile {
 }
 
 impl Model for PiecewiseFile {
-    ghost use Rattle.vm_store.specs.Pieces.{Pieces};
+    ghost use Rattle.test_stores.specs.Pieces.{Pieces};
 
     ghost Value = { Pieces };
 

@@ -1,7 +1,7 @@
 -- A file in memory that moves few bytes a call.
 use Rattle.std.specs.Prelude.{ℕ, Bool}
 use Rattle.vm_store.specs.Facts.{IsTimely}
-use Rattle.vm_store.specs.History.{History, facts_of, timely}
+use Rattle.test_stores.specs.History.{History, facts_of, timely}
 use Rattle.vm_store.specs.System.{FileFacts}
 
 -- the store behind it, how many calls there were, how many of them failed and how many were interrupted, and whether a
