@@ -1,11 +1,11 @@
 //! The files of a system, opened to be read alone.
 ghost use Rattle.std.specs.Prelude.{◌≡◌, false, MatchResult};
-ghost use Rattle.vm_store.specs.System.{IsNotOpenedOrLocked, IsOpenedAndLocked};
+ghost use Rattle.host_store.specs.System.{IsNotOpenedOrLocked, IsOpenedAndLocked};
 
 use crate::obstacle::Cause;
 use crate::viewer::Viewer;
+use host_store::{HostStore, System, SystemFile};
 use std::marker::PhantomData;
-use vm_store::{HostStore, System, SystemFile};
 
 /// A system that tells why an opening of a file of it failed.
 pub trait TellsCause {

@@ -1,8 +1,8 @@
 -- A number that the program gave is always found, and is its file.
 use Rattle.std.proofs.Common.{◌≡◌, ℕ, List, [], ◌∷◌, length, Result, Ok, Err, true, false, refl, sym, ap, ◌∙◌, ◌^◌, ◌-◌, arith, inl, inr}
-use Rattle.vm_store.specs.System.{AreInterrupted, GivesUpOn, IsInterruptedOften, IsNotOpenedOrLocked, IsOpenedAndLocked}
-use Rattle.vm_store.specs.declared.system.SystemFault.{SystemFault}
-use Rattle.vm_store.specs.declared.system.SystemFault.TheVariants.{Interrupted, Failed}
+use Rattle.host_store.specs.System.{AreInterrupted, GivesUpOn, IsInterruptedOften, IsNotOpenedOrLocked, IsOpenedAndLocked}
+use Rattle.host_store.specs.declared.system.SystemFault.{SystemFault}
+use Rattle.host_store.specs.declared.system.SystemFault.TheVariants.{Interrupted, Failed}
 use Rattle.geos_c.specs.Stores.{FileStore, channel_system_calls, store_on}
 use Rattle.geos_c.specs.declared.channel.ChannelFile.{ChannelFile}
 use Rattle.geos_c.specs.declared.channel.ChannelSystem.{ChannelSystem}

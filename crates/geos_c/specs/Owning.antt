@@ -7,8 +7,8 @@ use denote.RawPtr.{Ptr}
 use Rattle.std.specs.declared.alloc.Global.{Global}
 use Rattle.std.specs.contracts.impls.GlobalAllocator.TheImpl.{ghosts}
 use Rattle.std_alloc.specs.Box.Ownership.{box_owns}
-use Rattle.vm_store.specs.contracts.host.HostStore as stores
-use Rattle.vm_store.specs.contracts.host.HostStoreStore.TheImpl as stores_impl
+use Rattle.host_store.specs.contracts.host.HostStore as stores
+use Rattle.host_store.specs.contracts.host.HostStoreStore.TheImpl as stores_impl
 use Rattle.geos_c.specs.contracts.channel.ChannelFile as files
 use Rattle.geos_c.specs.contracts.channel.ChannelFileSystemFile.TheImpl as files_impl
 use Rattle.c_sessions.specs.contracts.kept.Kept as kept

@@ -1,9 +1,9 @@
 -- The file behind a number that the program gave: of its store nothing is known, but how many calls have failed.
 use Rattle.std.specs.Prelude.{◌≡◌, ℤ, false, Ok, IfOk}
 use Rattle.vm_store.specs.Facts.{StoreFacts}
-use Rattle.vm_store.specs.Host.{Host, host_facts}
-use Rattle.vm_store.specs.HostSystem.{host_system_facts}
-use Rattle.vm_store.specs.System.{SystemCalls}
+use Rattle.host_store.specs.Host.{Host, host_facts}
+use Rattle.host_store.specs.HostSystem.{host_system_facts}
+use Rattle.host_store.specs.System.{SystemCalls}
 use Rattle.c_sessions.specs.Files.{FileCalls}
 use Rattle.geos_c.specs.declared.channel.Channel.{Channel}
 use Rattle.geos_c.specs.declared.channel.ChannelFile.{ChannelFile}

@@ -1,12 +1,13 @@
 //! Files of the program's, by numbers of its own, behind a channel: each call is a message, answered at once.
 ghost use Rattle.std.specs.Prelude.{◌≡◌};
-ghost use Rattle.vm_store.specs.HostSystem.{host_system_facts, host_system_timely};
+ghost use Rattle.host_store.specs.HostSystem.{host_system_facts, host_system_timely};
 ghost use Rattle.geos_c.specs.Stores.{channel_calls, channel_system_calls, store_on};
 
 use crate::message::{Operation, message};
 use byteorder::{ByteOrder, LittleEndian};
 use c_sessions::{FileNumber, ProgramFiles};
-use vm_store::{HostStore, StoreFault, System, SystemFault, SystemFile};
+use host_store::{HostStore, System, SystemFault, SystemFile};
+use vm_store::StoreFault;
 
 /// The files of the program. There is no other way to one of them.
 #[derive(Drop)]

@@ -20,8 +20,8 @@ use c_sessions::{
     save_as,
 };
 use geos_model::Fault;
+use host_store::HostStore;
 use std::alloc::Global;
-use vm_store::HostStore;
 
 /// No session has more frames.
 const MOST_FRAMES: usize = 64;

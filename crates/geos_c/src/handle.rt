@@ -8,11 +8,11 @@ ghost use Rattle.c_sessions.specs.declared.kept.Kept.{Kept as KeptIn};
 use crate::channel::ChannelFile;
 use crate::loose::Loose;
 use c_sessions::Kept;
+use host_store::HostStore;
 use std::alloc::Global;
 use std::marker::Model;
 use std::mem::replace;
 use std::ptr::null_mut;
-use vm_store::HostStore;
 
 /// What lies behind an open handle.
 type KeptSession = Kept<HostStore<ChannelFile>>;

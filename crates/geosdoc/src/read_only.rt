@@ -1,12 +1,12 @@
 //! The host's files, opened to be read alone.
 // No contract can say what they give, so they claim no honesty, as those that `geosvm` writes.
-ghost use Rattle.vm_store.specs.HostSystem.{host_system_facts, host_system_timely};
+ghost use Rattle.host_store.specs.HostSystem.{host_system_facts, host_system_timely};
 
 use document_tools::{Cause, SystemViewer, TellsCause};
+use host_store::{System, SystemFault, SystemFile};
 use std::fs::{File, TryLockError, metadata};
 use std::io;
 use std::os::unix::fs::FileExt;
-use vm_store::{System, SystemFault, SystemFile};
 
 /// The host's own files, to be read alone.
 #[derive(Drop)]

@@ -3,8 +3,8 @@ use crate::new_files::HostMaker;
 use crate::read_only::read_only_files;
 use document_commands::Request;
 use document_tools::Machine;
+use host_store::machine_files;
 use std::io;
-use vm_store::machine_files;
 
 /// Carries out what was asked for, and gives the exit status.
 pub fn run(rt: &HostRuntime, request: Request<'_>) -> u8 {

@@ -5,10 +5,10 @@ mod prompt;
 
 use crate::prompt::{Prompting, Typing};
 use geos_shell::run_program;
+use host_store::{NamedFiles, Unopened, machine_files};
 use std::env;
 use std::io::{self, IsTerminal, Write};
 use std::process::ExitCode;
-use vm_store::{NamedFiles, Unopened, machine_files};
 
 /// The words of the command line.
 fn words(rt: &HostRuntime) -> io::Result<Vec<String>> {

@@ -8,12 +8,13 @@ use document_file::Refused;
 use geos_model::{
     BlockLookUp, Bytes, ChunkHandle, ChunkLookUp, Done, Edit, Fault, LookUp, Reply, VmHandle,
 };
+use host_store::machine_files;
 use std::alloc::Global;
 use std::env;
 use std::io::{self, Write};
 use std::process::ExitCode;
 use undo_log::Session;
-use vm_store::{Files, Store, machine_files};
+use vm_store::{Files, Store};
 
 /// How many blocks may be in memory at a time, 1 to 64.
 const FRAMES: usize = 8;

@@ -1,8 +1,9 @@
 //! Real files, in the folder where the tests run.
 use crate::calls::{Call, PLAY, refuse, serve, touch_the_end};
+use host_store::{HostFile, HostStore, HostSystem};
 use std::fs;
 use std::test::Fail;
-use vm_store::{HostFile, HostStore, HostSystem, StoreFault};
+use vm_store::StoreFault;
 
 // Whether a file has these bytes.
 fn is_held(rt: &HostRuntime, path: &str, bytes: &[u8]) -> Result<bool, Fail> {

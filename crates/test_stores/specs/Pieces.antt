@@ -2,7 +2,7 @@
 use Rattle.std.specs.Prelude.{ℕ, Bool}
 use Rattle.vm_store.specs.Facts.{IsTimely}
 use Rattle.test_stores.specs.History.{History, facts_of, timely}
-use Rattle.vm_store.specs.System.{FileFacts}
+use Rattle.host_store.specs.System.{FileFacts}
 
 -- the store behind it, how many calls there were, how many of them failed and how many were interrupted, and whether a
 -- sync failed

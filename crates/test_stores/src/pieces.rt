@@ -2,12 +2,13 @@
 ghost use Rattle.std.specs.Prelude.{◌≡◌, ◌+◌, ◌<◌, ◌≤◌, List, Some, false, not, IsTrue, length, OnOk, IfOk};
 ghost use Rattle.vm_store.specs.Facts.{raised, IsDurable, IsUnchanged, Writes, Elapses, Sizes};
 ghost use Rattle.test_stores.specs.History.{fresh};
-ghost use Rattle.vm_store.specs.System.{CountsFailure, IsInterrupted, HasFailed, Idles, Reads, WritesTo, WritesPart};
+ghost use Rattle.host_store.specs.System.{CountsFailure, IsInterrupted, HasFailed, Idles, Reads, WritesTo, WritesPart};
 ghost use Rattle.test_stores.specs.Pieces.{pieces_facts, pieces_timely};
 
 use crate::MemStore;
+use host_store::{System, SystemFault, SystemFile};
 use std::marker::Model;
-use vm_store::{Store, System, SystemFault, SystemFile};
+use vm_store::Store;
 
 /// How a file in pieces serves its calls.
 #[derive(Clone, Copy)]

@@ -1,0 +1,5 @@
+use Rattle.host_store.proofs.Tries.{IsTrying}
+use Rattle.host_store.proofs.host.measure.Given as goal
+
+abbrev pub invariant-loop-tried : goal.invariant-loop-tried
+invariant-loop-tried g l = let facts = g.F.SystemFile.facts in IsTrying l.tried (facts l.fn.file) (facts l.file)

@@ -1,0 +1,4 @@
+pub mod Host
+pub mod HostSystem
+pub mod System
+pub mod Unopened

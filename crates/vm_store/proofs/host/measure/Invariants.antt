@@ -1,5 +1,0 @@
-use Rattle.vm_store.proofs.Tries.{IsTrying}
-use Rattle.vm_store.proofs.host.measure.Given as goal
-
-abbrev pub invariant-loop-tried : goal.invariant-loop-tried
-invariant-loop-tried g l = let facts = g.F.SystemFile.facts in IsTrying l.tried (facts l.fn.file) (facts l.file)

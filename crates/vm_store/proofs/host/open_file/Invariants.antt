@@ -1,5 +1,0 @@
-use Rattle.vm_store.specs.System.{IsInterruptedOften}
-use Rattle.vm_store.proofs.host.open_file.Given as goal
-
-abbrev pub invariant-loop-tried : goal.invariant-loop-tried
-invariant-loop-tried g l = IsInterruptedOften (λ s. g.S.System.calls.opens s l.path l.make) l.fn.system l.tried l.system

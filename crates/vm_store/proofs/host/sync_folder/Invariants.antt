@@ -1,5 +1,0 @@
-use Rattle.vm_store.specs.System.{IsInterruptedOften}
-use Rattle.vm_store.proofs.host.sync_folder.Given as goal
-
-abbrev pub invariant-loop-tried : goal.invariant-loop-tried
-invariant-loop-tried g l = IsInterruptedOften (λ s. g.S.System.calls.syncs_folder s l.path) l.fn.system l.tried l.system
