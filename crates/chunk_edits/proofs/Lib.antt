@@ -1,4 +1,5 @@
 pub mod CarryingLemmas
+pub mod FoundLemmas
 pub mod PatchingLemmas
 pub mod RebasingLemmas
 pub mod SpanLemmas

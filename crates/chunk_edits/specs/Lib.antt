@@ -1,4 +1,5 @@
 pub mod Directions
+pub mod Found
 pub mod Holding
 pub mod Patching
 pub mod Runs

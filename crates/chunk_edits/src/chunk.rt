@@ -1,4 +1,5 @@
-//! Edits of a heap's chunk: the splice that each makes, and how a splice is applied and taken back.
+//! Edits of a heap's chunk: the splice that each makes, and how a splice is applied and taken back. Who asks for a
+//! splice has found the bytes of the chunk, and hands them in.
 ghost use Rattle.std.specs.Prelude.{◌≡◌, ◌≤◌, ◌<◌, ◌+◌, ◌-◌, ◌*◌, ◌++◌, ℕ, List, true, IsTrue, IfOk, MatchResult, length, take, drop, min};
 ghost use Rattle.std.specs.List.{splice};
 ghost use Rattle.std.specs.FinMap.{insert, contains_key};
@@ -6,6 +7,7 @@ ghost use Rattle.geos_model.specs.Bytes.{written, spliced, resized, inserted, de
 ghost use Rattle.geos_model.specs.Cost.{difference};
 ghost use Rattle.geos_model.specs.Heap.{chunk_bytes, fits_with, is_heap_map, capacity};
 ghost use Rattle.geos_model.specs.Meaning.{past_end, no_room};
+ghost use Rattle.chunk_edits.specs.Found.{IsChunkIn};
 ghost use Rattle.chunk_edits.specs.Runs.{LiesAt};
 ghost use Rattle.chunk_edits.specs.Splicing.{Builds, RefusesToBuild, forwards, backwards};
 
@@ -53,25 +55,17 @@ pub(crate) fn put(heap: &mut Heap, h: ChunkHandle, at: usize, k: usize, bytes: &
 }
 
 /// The splice that writes over the bytes of a chunk from `at` on. Range where that reaches past the chunk's end.
-pub fn write(
-    alloc: Global,
-    heap: &Heap,
-    h: ChunkHandle,
-    at: u32,
-    bytes: &[u8],
-) -> Result<Splice, Fault>
-    requires { IsTrue (contains_key heap.now.chunks h.0) }
+pub fn write(alloc: Global, bytes: &[u8], at: u32, new: &[u8]) -> Result<Splice, Fault>
+    requires { length bytes.now ≤ capacity }
     ensures built { MatchResult result
-        (λ s. Builds (past_end (chunk_bytes heap.now.chunks h.0) (at + length bytes.now)) s
-        (chunk_bytes heap.now.chunks h.0) (written (chunk_bytes heap.now.chunks h.0) at bytes.now)
-        (2 * length bytes.now))
-        (RefusesToBuild (past_end (chunk_bytes heap.now.chunks h.0) (at + length bytes.now))) }
-    ensures fits { IfOk result
-        (λ s. IsTrue (fits_with heap.now.chunks h.0 (written (chunk_bytes heap.now.chunks h.0) at bytes.now))) }
-    ensures run { IfOk result (λ s. LiesAt s at (length bytes.now) (length bytes.now)) }
+        (λ s. Builds (past_end bytes.now (at + length new.now)) s bytes.now (written bytes.now at new.now)
+        (2 * length new.now))
+        (RefusesToBuild (past_end bytes.now (at + length new.now))) }
+    ensures no_longer { IfOk result (λ s. length (written bytes.now at new.now) ≤ length bytes.now) }
+    ensures run { IfOk result (λ s. LiesAt s at (length new.now) (length new.now)) }
 {
-    let old = part(chunk_of(heap, h), at as usize, bytes.len())?;
-    Ok(Splice::of(alloc, at, old, bytes)?)
+    let old = part(bytes, at as usize, new.len())?;
+    Ok(Splice::of(alloc, at, old, new)?)
 }
 
 /// The splice that puts bytes in the place of the `n` bytes at `at` of a chunk. Range where these reach past its end,
@@ -80,93 +74,90 @@ pub fn splice(
     alloc: Global,
     heap: &Heap,
     h: ChunkHandle,
+    bytes: &[u8],
     at: u32,
     n: u32,
-    bytes: &[u8],
+    new: &[u8],
 ) -> Result<Splice, Fault>
-    requires { IsTrue (contains_key heap.now.chunks h.0) }
+    requires { IsChunkIn heap.now.chunks h.0 bytes.now }
     ensures built { MatchResult result
         (λ s. Builds
-        (past_end (chunk_bytes heap.now.chunks h.0) (at + n) ++ no_room heap.now.chunks h.0
-        (spliced (chunk_bytes heap.now.chunks h.0) at n bytes.now)) s
-        (chunk_bytes heap.now.chunks h.0) (spliced (chunk_bytes heap.now.chunks h.0) at n bytes.now)
-        (n + length bytes.now))
+        (past_end bytes.now (at + n) ++ no_room heap.now.chunks h.0 (spliced bytes.now at n new.now)) s
+        bytes.now (spliced bytes.now at n new.now) (n + length new.now))
         (RefusesToBuild
-        (past_end (chunk_bytes heap.now.chunks h.0) (at + n) ++ no_room heap.now.chunks h.0
-        (spliced (chunk_bytes heap.now.chunks h.0) at n bytes.now))) }
-    ensures fits { IfOk result
-        (λ s. IsTrue (fits_with heap.now.chunks h.0 (spliced (chunk_bytes heap.now.chunks h.0) at n bytes.now))) }
-    ensures run { IfOk result (λ s. LiesAt s at n (length bytes.now)) }
+        (past_end bytes.now (at + n) ++ no_room heap.now.chunks h.0 (spliced bytes.now at n new.now))) }
+    ensures fits { IfOk result (λ s. IsTrue (fits_with heap.now.chunks h.0 (spliced bytes.now at n new.now))) }
+    ensures run { IfOk result (λ s. LiesAt s at n (length new.now)) }
 {
-    let all = chunk_of(heap, h);
-    let old = part(all, at as usize, n as usize)?;
-    let others = all.len() - old.len();
-    if !fits_size(heap, h, others + bytes.len()) {
+    let old = part(bytes, at as usize, n as usize)?;
+    let others = bytes.len() - old.len();
+    if !fits_size(heap, h, others + new.len()) {
         return Err(Fault::Full);
     }
-    Ok(Splice::of(alloc, at, old, bytes)?)
+    Ok(Splice::of(alloc, at, old, new)?)
 }
 
 /// The splice that puts `n` zeros in before the byte at `at` of a chunk. Range where `at` is past the chunk's end, Full
 /// where the heap has no room for them.
-pub fn insert(alloc: Global, heap: &Heap, h: ChunkHandle, at: u32, n: u32) -> Result<Splice, Fault>
-    requires { IsTrue (contains_key heap.now.chunks h.0) }
+pub fn insert(
+    alloc: Global,
+    heap: &Heap,
+    h: ChunkHandle,
+    bytes: &[u8],
+    at: u32,
+    n: u32,
+) -> Result<Splice, Fault>
+    requires { IsChunkIn heap.now.chunks h.0 bytes.now }
     ensures built { MatchResult result
-        (λ s. Builds
-        (past_end (chunk_bytes heap.now.chunks h.0) at ++ no_room heap.now.chunks h.0
-        (inserted (chunk_bytes heap.now.chunks h.0) at n)) s
-        (chunk_bytes heap.now.chunks h.0) (inserted (chunk_bytes heap.now.chunks h.0) at n) n)
-        (RefusesToBuild
-        (past_end (chunk_bytes heap.now.chunks h.0) at ++ no_room heap.now.chunks h.0
-        (inserted (chunk_bytes heap.now.chunks h.0) at n))) }
-    ensures fits { IfOk result
-        (λ s. IsTrue (fits_with heap.now.chunks h.0 (inserted (chunk_bytes heap.now.chunks h.0) at n))) }
+        (λ s. Builds (past_end bytes.now at ++ no_room heap.now.chunks h.0 (inserted bytes.now at n)) s
+        bytes.now (inserted bytes.now at n) n)
+        (RefusesToBuild (past_end bytes.now at ++ no_room heap.now.chunks h.0 (inserted bytes.now at n))) }
+    ensures fits { IfOk result (λ s. IsTrue (fits_with heap.now.chunks h.0 (inserted bytes.now at n))) }
     ensures run { IfOk result (λ s. LiesAt s at 0 n) }
 {
-    let size = chunk_of(heap, h).len();
-    if at as usize > size {
+    if at as usize > bytes.len() {
         return Err(Fault::Range);
     }
-    if !fits_size(heap, h, size + n as usize) {
+    if !fits_size(heap, h, bytes.len() + n as usize) {
         return Err(Fault::Full);
     }
     Ok(Splice::of_zeros(alloc, at, &[], n)?)
 }
 
 /// The splice that takes `n` bytes out of a chunk from `at` on. Range where they reach past the chunk's end.
-pub fn delete(alloc: Global, heap: &Heap, h: ChunkHandle, at: u32, n: u32) -> Result<Splice, Fault>
-    requires { IsTrue (contains_key heap.now.chunks h.0) }
+pub fn delete(alloc: Global, bytes: &[u8], at: u32, n: u32) -> Result<Splice, Fault>
+    requires { length bytes.now ≤ capacity }
     ensures built { MatchResult result
-        (λ s. Builds (past_end (chunk_bytes heap.now.chunks h.0) (at + n)) s (chunk_bytes heap.now.chunks h.0)
-        (deleted (chunk_bytes heap.now.chunks h.0) at n) n)
-        (RefusesToBuild (past_end (chunk_bytes heap.now.chunks h.0) (at + n))) }
-    ensures fits { IfOk result
-        (λ s. IsTrue (fits_with heap.now.chunks h.0 (deleted (chunk_bytes heap.now.chunks h.0) at n))) }
+        (λ s. Builds (past_end bytes.now (at + n)) s bytes.now (deleted bytes.now at n) n)
+        (RefusesToBuild (past_end bytes.now (at + n))) }
+    ensures no_longer { IfOk result (λ s. length (deleted bytes.now at n) ≤ length bytes.now) }
     ensures run { IfOk result (λ s. LiesAt s at n 0) }
 {
-    let old = part(chunk_of(heap, h), at as usize, n as usize)?;
-    Ok(Splice::of(alloc, at, old, &[])?)
+    let gone = part(bytes, at as usize, n as usize)?;
+    Ok(Splice::of(alloc, at, gone, &[])?)
 }
 
 /// The splice that cuts a chunk at its end, or adds zeros there, so that it has `n` bytes. Full where the heap has no
 /// room for them.
-pub fn resize(alloc: Global, heap: &Heap, h: ChunkHandle, n: u32) -> Result<Splice, Fault>
-    requires { IsTrue (contains_key heap.now.chunks h.0) }
+pub fn resize(
+    alloc: Global,
+    heap: &Heap,
+    h: ChunkHandle,
+    bytes: &[u8],
+    n: u32,
+) -> Result<Splice, Fault>
+    requires { IsChunkIn heap.now.chunks h.0 bytes.now }
     ensures built { MatchResult result
-        (λ s. Builds (no_room heap.now.chunks h.0 (resized (chunk_bytes heap.now.chunks h.0) n)) s
-        (chunk_bytes heap.now.chunks h.0) (resized (chunk_bytes heap.now.chunks h.0) n)
-        (difference n (length (chunk_bytes heap.now.chunks h.0))))
-        (RefusesToBuild (no_room heap.now.chunks h.0 (resized (chunk_bytes heap.now.chunks h.0) n))) }
-    ensures fits { IfOk result
-        (λ s. IsTrue (fits_with heap.now.chunks h.0 (resized (chunk_bytes heap.now.chunks h.0) n))) }
+        (λ s. Builds (no_room heap.now.chunks h.0 (resized bytes.now n)) s
+        bytes.now (resized bytes.now n) (difference n (length bytes.now)))
+        (RefusesToBuild (no_room heap.now.chunks h.0 (resized bytes.now n))) }
+    ensures fits { IfOk result (λ s. IsTrue (fits_with heap.now.chunks h.0 (resized bytes.now n))) }
     ensures run { IfOk result
-        (λ s. LiesAt s (min n (length (chunk_bytes heap.now.chunks h.0)))
-        (length (chunk_bytes heap.now.chunks h.0) - n) (n - length (chunk_bytes heap.now.chunks h.0))) }
+        (λ s. LiesAt s (min n (length bytes.now)) (length bytes.now - n) (n - length bytes.now)) }
 {
     if !heap.fits_resize(h, n) {
         return Err(Fault::Full);
     }
-    let bytes = chunk_of(heap, h);
     let kept = n.min(bytes.len() as u32);
     Ok(Splice::of_zeros(alloc, kept, &bytes[kept as usize..], n - kept)?)
 }

@@ -25,7 +25,7 @@ use Rattle.geos_model.specs.declared.handle.ChunkHandle.{ChunkHandle}
 use Rattle.geos_model.specs.declared.handle.VmHandle.{VmHandle}
 use Rattle.geos_model.specs.declared.place.Place.TheVariants as place
 use Rattle.geos_model.specs.declared.target.ByteEdit.{ByteEdit}
-use Rattle.geos_model.proofs.HeapTables.{heap_map-table, live_handle, is_chunk_handle-parts, trimmed-put, chunk_length_le}
+use Rattle.geos_model.proofs.HeapTables.{heap_map-table, live_handle, is_chunk_handle-parts, trimmed-put, chunk_length_le, fits_with-fewer}
 use Rattle.geos_model.proofs.ChunkLengths.{in_heap}
 use Rattle.geos_model.proofs.HeapEdits.{get-put_same}
 use Rattle.geos_model.proofs.Tables.{put_at, slot_at-put_same, table_map-put}
@@ -39,7 +39,7 @@ use Rattle.lmem_heap.proofs.PlacedLemmas.{slot_from_live}
 use Rattle.vm_blocks.proofs.RoomLemmas.{bytes-put}
 use Rattle.vm_blocks.specs.ChangePlaces.{run_of}
 use Rattle.vm_blocks.specs.declared.change.PartChange.TheVariants as parts
-use Rattle.doc_edits.specs.Found.{AreOwn, IsHeapAt, IsChunkAt, IsChunkLive}
+use Rattle.doc_edits.specs.Found.{AreOwn, IsHeapAt, IsChunkAt}
 use Rattle.doc_edits.specs.Building.{silently, MakesPart, MakesSplice}
 use Rattle.doc_edits.specs.Planning.{RefusesInMemory}
 use Rattle.doc_edits.proofs.Order.{more_refused, more_accepted, has_room}
@@ -208,10 +208,19 @@ module _ (edit : Edit) (d : Document) (b : VmHandle) (c : ChunkHandle) (rest : C
   plain_built (Ok s) builds fit lies = plain_made s builds fit lies
   plain_built (Err fault) refuses fit lies = plain_refuses fault refuses
 
+  -- what is no longer than the chunk finds room
+  no_longer_fits : (r : Result Splice Fault) → IfOk r (λ s. length to ≤ length (chunk_at d b.0 c.0)) → IfOk r (λ s. fits_with (chunks_of d b.0) c.0 to ≡ true)
+  no_longer_fits (Ok s) no_longer = fits_with-fewer (chunks_of d b.0) c.0 to valid live no_longer
+  no_longer_fits (Err fault) no_longer = tt
+
+  pub no_longer_built : (r : Result Splice Fault) → MatchResult r (λ s. Builds rest s (chunk_at d b.0 c.0) to held) (RefusesToBuild rest) → IfOk r (λ s. length to ≤ length (chunk_at d b.0 c.0))
+      → IfOk r (λ s. LiesAt s at before after) → MatchResult r (λ s. MakesSplice edit d b c s) (RefusesInMemory edit d)
+  no_longer_built r builds no_longer lies = plain_built r builds (no_longer_fits r no_longer) lies
+
 -- What a builder answers: of the bytes of a chunk as such,
 
-abbrev pub SplicesOf : ChunkMap → ChunkHandle → Result Splice Fault → ByteEdit → Type 0
-SplicesOf m c r edit = (d : Document) (b : VmHandle) → IsHeapAt d b.0 m → IsChunkLive d b.0 c.0 → MatchResult r (λ s. MakesSplice (byte_edit b c edit) d b c s) (RefusesInMemory (byte_edit b c edit) d)
+abbrev pub SplicesOf : ChunkMap → ChunkHandle → List ℕ → Result Splice Fault → ByteEdit → Type 0
+SplicesOf m c bytes r edit = (d : Document) (b : VmHandle) → IsHeapAt d b.0 m → IsChunkAt d b.0 c.0 bytes → MatchResult r (λ s. MakesSplice (byte_edit b c edit) d b c s) (RefusesInMemory (byte_edit b c edit) d)
 
 -- and of an array, whichever chunk it is.
 

@@ -16,6 +16,7 @@ use Rattle.geos_model.specs.declared.fault.Fault.TheVariants.{Full}
 use Rattle.geos_model.specs.declared.handle.ChunkHandle.{ChunkHandle}
 use Rattle.geos_model.specs.declared.handle.VmHandle.{VmHandle}
 use Rattle.geos_model.specs.declared.place.Place.TheVariants as place
+use Rattle.chunk_edits.specs.Found.{IsChunkIn}
 use Rattle.chunk_edits.specs.Patching.{patched, peak}
 use Rattle.chunk_edits.specs.Splicing.{Splice, forwards}
 use Rattle.geos_model.proofs.HeapTables.{fits_with-fewer, fits_with-same}
@@ -27,7 +28,7 @@ use Rattle.vm_blocks.specs.declared.change.Change.TheVariants as changes
 use Rattle.vm_blocks.specs.declared.change.Content.{Content}
 use Rattle.vm_blocks.specs.declared.change.PartChange.{PartChange}
 use Rattle.vm_blocks.specs.declared.change.PartChange.TheVariants as parts
-use Rattle.doc_edits.specs.Found.{IsHeapAt, IsChunkAt, IsChunkLive, AreLate}
+use Rattle.doc_edits.specs.Found.{IsHeapAt, IsChunkAt, AreLate}
 use Rattle.doc_edits.specs.Building.{chunk_after, IsOfChunk, StandsIn, IsBuilt, MakesPart, MakesSplice, Creates}
 use Rattle.doc_edits.specs.Planning.{Plans}
 use Rattle.doc_edits.proofs.Documents.{chunks_are, heap_there}
@@ -101,8 +102,9 @@ module _ (edit : Edit) (d : Document) (b : VmHandle) (c : ChunkHandle) where
     pub spliced : (s : Splice) → MakesSplice edit d b c s → Plans edit d (changes.Part b (parts.Chunk c s)) done.Nothing
     spliced s makes = planned (parts.Chunk c s) done.Nothing makes.part (sym makes.fits ∙ fits_same (parts.Chunk c s) done.Nothing makes.part)
 
-    pub is_live : IsChunkLive d b.0 c.0
-    is_live = record { heap = there.heap; live = there.live; valid = there.valid; value = refl }
+    -- the heap has these bytes under the handle
+    pub found_in : IsChunkIn m c.0 bytes
+    found_in = subst (λ (x : ChunkMap). IsChunkIn x c.0 bytes) same (record { live = there.live; valid = there.valid; value = there.value })
 
 -- Whether a new chunk finds a place.
 module _ (m : ChunkMap) (bytes : List ℕ) where

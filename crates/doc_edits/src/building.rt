@@ -1,15 +1,15 @@
 //! What an edit of a chunk makes of its bytes: a change of a part of them, or the bytes of a new chunk.
-ghost use Rattle.std.specs.Prelude.{◌≡◌, IsTrue, MatchResult};
-ghost use Rattle.std.specs.FinMap.{contains_key};
+ghost use Rattle.std.specs.Prelude.{◌≡◌, MatchResult};
 ghost use Rattle.geos_model.specs.Document.{Document, chunks_of};
 ghost use Rattle.geos_model.specs.Targets.{array_edit, byte_edit, chunk_array_edit, element_array_edit, name_array_edit, new_chunk};
 ghost use Rattle.geos_model.specs.declared.command.Done.TheVariants as done;
 ghost use Rattle.geos_model.specs.declared.handle.ChunkHandle.{ChunkHandle};
 ghost use Rattle.geos_model.specs.declared.handle.VmHandle.{VmHandle};
+ghost use Rattle.chunk_edits.specs.Found.{IsChunkIn};
 ghost use Rattle.vm_blocks.specs.Changes.{content_bytes};
 ghost use Rattle.vm_blocks.specs.declared.change.PartChange.TheVariants as parts;
 ghost use Rattle.doc_edits.specs.Building.{Creates, MakesPart, MakesSplice, silently};
-ghost use Rattle.doc_edits.specs.Found.{IsChunkAt, IsChunkLive, IsHeapAt};
+ghost use Rattle.doc_edits.specs.Found.{IsChunkAt, IsHeapAt};
 ghost use Rattle.doc_edits.specs.Planning.{RefusesInMemory};
 
 use chunk_edits::{ArrayPatch, Splice};
@@ -26,19 +26,20 @@ pub fn build_splice(
     alloc: Global,
     heap: &Heap,
     chunk: ChunkHandle,
+    bytes: &[u8],
     edit: ByteEdit<'_>,
 ) -> Result<Splice, Fault>
-    requires live { IsTrue (contains_key heap.now.chunks chunk.0) }
-    ensures { (d : Document) (b : VmHandle) → IsHeapAt d b.0 heap.now.chunks → IsChunkLive d b.0 chunk.0
+    requires { IsChunkIn heap.now.chunks chunk.0 bytes.now }
+    ensures { (d : Document) (b : VmHandle) → IsHeapAt d b.0 heap.now.chunks → IsChunkAt d b.0 chunk.0 bytes.now
         → MatchResult result (λ s. MakesSplice (byte_edit b chunk edit.entry) d b chunk s)
         (RefusesInMemory (byte_edit b chunk edit.entry) d) }
 {
     match edit {
-        ByteEdit::Resize(n) => chunk_edits::resize(alloc, heap, chunk, n),
-        ByteEdit::Insert(at, n) => chunk_edits::insert(alloc, heap, chunk, at, n),
-        ByteEdit::Delete(at, n) => chunk_edits::delete(alloc, heap, chunk, at, n),
-        ByteEdit::Write(at, new) => chunk_edits::write(alloc, heap, chunk, at, new),
-        ByteEdit::Splice(at, n, new) => chunk_edits::splice(alloc, heap, chunk, at, n, new),
+        ByteEdit::Resize(n) => chunk_edits::resize(alloc, heap, chunk, bytes, n),
+        ByteEdit::Insert(at, n) => chunk_edits::insert(alloc, heap, chunk, bytes, at, n),
+        ByteEdit::Delete(at, n) => chunk_edits::delete(alloc, bytes, at, n),
+        ByteEdit::Write(at, new) => chunk_edits::write(alloc, bytes, at, new),
+        ByteEdit::Splice(at, n, new) => chunk_edits::splice(alloc, heap, chunk, bytes, at, n, new),
     }
 }
 

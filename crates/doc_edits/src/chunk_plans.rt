@@ -36,8 +36,8 @@ pub fn plan_bytes<S: Store>(
         (RefusesInMemory (byte_edit handle chunk edit.entry) blocks.now.document) }
 {
     let heap = heap_at(blocks, handle);
-    bytes_in(heap, chunk)?;
-    let splice = build_splice(alloc, heap, chunk, edit)?;
+    let bytes = bytes_in(heap, chunk)?;
+    let splice = build_splice(alloc, heap, chunk, bytes, edit)?;
     Ok((
         Change::Part(handle, PartChange::Chunk(chunk, splice)),
         Done::Nothing,

@@ -1,12 +1,8 @@
-use Rattle.std.proofs.Common.{◌+◌, [], length, arith, ap}
-use Rattle.geos_model.specs.Heap.{chunk_bytes}
-use Rattle.geos_model.specs.Bytes.{deleted}
-use Rattle.geos_model.proofs.HeapTables.{fits_with-fewer}
+use Rattle.std.proofs.Common.{◌+◌, [], arith}
 use Rattle.chunk_edits.proofs.SplicingLemmas.{length-splice}
 use Rattle.chunk_edits.proofs.chunk.delete.Goals as goal
 
-pub returns-clause-fits : goal.returns-clause-fits
-returns-clause-fits c =
-    let m = c.args.heap.now.chunks in let h = c.args.h.0 in let at = c.args.at in let n = c.args.n in
-    let within = c.in_ok-old.ensures.0 in let all = ap length c.chunk_of.ensures.value in
-    fits_with-fewer m h (deleted (chunk_bytes m h) at n) c.chunk_of.ensures.valid c.requires (omega (arith, within, all, length-splice (chunk_bytes m h) [] at (at + n) (omega (arith, within, all))))
+pub returns-clause-no_longer : goal.returns-clause-no_longer
+returns-clause-no_longer c =
+    let all = c.args.bytes.now in let at = c.args.at in let n = c.args.n in let within = c.in_ok-gone.ensures.0 in
+    omega (arith, within, length-splice all [] at (at + n) (omega (arith, within)))
