@@ -90,7 +90,7 @@ impl<V> BufferPool<V> {
     pub fn contains(&self, key: u16) -> bool
         ensures { result ≡ is_some (lookup (nat_eq key) self.now.entries) }
     {
-        self.order.contains(&key)
+        slot_of(&self.order, key).is_some()
     }
 
     /// The value of a key. The order of use stays.
