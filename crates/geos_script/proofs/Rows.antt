@@ -112,6 +112,12 @@ made_5 p q r s u is_kept made_by to ws result m same has =
     let means = operand_is p (λ a. with_4 q r s u (to a)) (operand_then q (operand_then r (operand_then s (last u)))) (λ t. to t.0 t.1.0 t.1.1.0 t.1.1.1.0 t.1.1.1.1) (λ a. operand_is q (λ b. with_3 r s u (to a b)) (operand_then r (operand_then s (last u))) (λ t. to a t.0 t.1.0 t.1.1.0 t.1.1.1) (λ b. operand_is r (λ c. with_2 s u (to a b c)) (operand_then s (last u)) (λ t. to a b t.0 t.1.0 t.1.1) (λ c. operand_is s (λ d. with_1 u (to a b c d)) (last u) (λ t. to a b c t.0 t.1) (λ d. last_is u (to a b c d))))) ws in
     rw means (made is_kept made_by (λ t. to t.0 t.1.0 t.1.1.0 t.1.1.1.0 t.1.1.1.1) _ result m (λ t. same t.0 t.1.0 t.1.1.0 t.1.1.1.0 t.1.1.1.1) (λ t. has t.0 t.1.0 t.1.1.0 t.1.1.1.0 t.1.1.1.1))
 
+-- rows with other names are passed over
+pub others : (from to : ℕ) (name : List ℕ) (operands : List (List ℕ)) (result : Result Command Fault)
+    → named_from from name operands ≡ named_from to name operands → ReadsAs command_has_bytes (named_from to name operands) result
+    → ReadsAs command_has_bytes (named_from from name operands) result
+others from to name operands result same made = subst (λ o. ReadsAs command_has_bytes o result) (sym same) made
+
 -- behind the last row there is none
 pub none_behind : (from : ℕ) (name : List ℕ) (operands : List (List ℕ)) → named_from from name operands ≡ named_from 90 name operands
     → ReadsAs command_has_bytes (named_from from name operands) (Err faults.BadCommand)

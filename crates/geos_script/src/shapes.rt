@@ -35,6 +35,14 @@ impl Made for Edit {
     }
 }
 
+/// Puts a command in its place. Apart from what reads it, since what stood there is dropped, whatever that was.
+#[inline(always)]
+pub(crate) fn put(place: &mut Command, made: Command)
+    ensures { place.new ≡ made }
+{
+    *place = made;
+}
+
 /// Puts what is made of no word in its place, which the caller lends: each return of a value as long as a command costs
 /// a copy of it. Any word is one too many, and so behind the last operand of the others below.
 // Inlined, since it costs less than a call.
@@ -46,7 +54,7 @@ pub(crate) fn none(place: &mut Command, text: &[u8], made: Command) -> Result<()
     if !has_no_word(text) {
         return Err(Fault::BadCommand);
     }
-    *place = made;
+    put(place, made);
     Ok(())
 }
 
@@ -63,7 +71,7 @@ pub(crate) fn one<A: LastOperand, R: Made, F: FnOnce(A) -> R + Drop>(
         (last A.spelled_last (script.words text.now)) (putting result place.new) }
 {
     let a = A::read_last(spare, text)?;
-    *place = make(a).into_command();
+    put(place, make(a).into_command());
     Ok(())
 }
 
@@ -81,7 +89,7 @@ pub(crate) fn two<A: Operand, B: LastOperand, R: Made, F: FnOnce(A, B) -> R + Dr
 {
     let (a, text) = A::read(text)?;
     let b = B::read_last(spare, text)?;
-    *place = make(a, b).into_command();
+    put(place, make(a, b).into_command());
     Ok(())
 }
 
@@ -102,7 +110,7 @@ pub(crate) fn three<
     let (a, text) = A::read(text)?;
     let (b, text) = B::read(text)?;
     let c = C::read_last(spare, text)?;
-    *place = make(a, b, c).into_command();
+    put(place, make(a, b, c).into_command());
     Ok(())
 }
 
@@ -125,7 +133,7 @@ pub(crate) fn four<
     let (b, text) = B::read(text)?;
     let (c, text) = C::read(text)?;
     let d = D::read_last(spare, text)?;
-    *place = make(a, b, c, d).into_command();
+    put(place, make(a, b, c, d).into_command());
     Ok(())
 }
 
@@ -152,6 +160,6 @@ pub(crate) fn five<
     let (c, text) = C::read(text)?;
     let (d, text) = D::read(text)?;
     let e = E::read_last(spare, text)?;
-    *place = make(a, b, c, d, e).into_command();
+    put(place, make(a, b, c, d, e).into_command());
     Ok(())
 }

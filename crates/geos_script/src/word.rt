@@ -2,7 +2,7 @@
 //! was there.
 #![tactic(auto, using(crate::proofs::Extending::extending))]
 
-ghost use Rattle.std.specs.Prelude.{◌≡◌, ◌++◌, ◌∷◌, Bool, ℕ, List, OnOk, OnErr};
+ghost use Rattle.std.specs.Prelude.{◌≡◌, ◌++◌, ◌∷◌, [], Bool, ℕ, List, OnOk, OnErr};
 ghost use Rattle.std.specs.List.{flat_map};
 ghost use Rattle.std.specs.Fmt.{decimal};
 ghost use Rattle.geos_model.specs.Script.{four_digits, hex_text};
@@ -111,6 +111,89 @@ pub fn push_words(out: &mut Vec<u8>, name: &str, operands: &[Word]) -> Result<()
         push_word(out, *word)?;
     }
     Ok(())
+}
+
+// What stands behind a name is put there by its shape, so that the proof of a table of commands has few steps for each.
+// Inlined, since each is one call.
+
+/// Puts a name and one operand behind `out`.
+#[inline(always)]
+pub(crate) fn push_one<A: Spelled>(out: &mut Vec<u8>, name: &str, a: &A) -> Result<(), AllocError>
+    ensures ok { OnOk result
+        (out.new.items ≡ out.old.items ++ (name.now ++ flat_map (λ w. 32 ∷ w) (A.spelled a.now ∷ []))) }
+    ensures err { OnErr result (Extends out.old.items out.new.items) }
+{
+    push_words(out, name, &[a.word()])
+}
+
+/// Puts a name and two operands behind `out`.
+#[inline(always)]
+pub(crate) fn push_two<A: Spelled, B: Spelled>(
+    out: &mut Vec<u8>,
+    name: &str,
+    a: &A,
+    b: &B,
+) -> Result<(), AllocError>
+    ensures ok { OnOk result
+        (out.new.items ≡ out.old.items ++ (name.now ++ flat_map (λ w. 32 ∷ w) (A.spelled a.now ∷ B.spelled b.now ∷ []))) }
+    ensures err { OnErr result (Extends out.old.items out.new.items) }
+{
+    push_words(out, name, &[a.word(), b.word()])
+}
+
+/// Puts a name and three operands behind `out`.
+#[inline(always)]
+pub(crate) fn push_three<A: Spelled, B: Spelled, C: Spelled>(
+    out: &mut Vec<u8>,
+    name: &str,
+    a: &A,
+    b: &B,
+    c: &C,
+) -> Result<(), AllocError>
+    ensures ok { OnOk result
+        (out.new.items ≡ out.old.items ++ (name.now ++ flat_map (λ w. 32 ∷ w) (A.spelled a.now ∷ B.spelled b.now ∷ C.spelled c.now ∷ []))) }
+    ensures err { OnErr result (Extends out.old.items out.new.items) }
+{
+    push_words(out, name, &[a.word(), b.word(), c.word()])
+}
+
+/// Puts a name and four operands behind `out`.
+#[inline(always)]
+pub(crate) fn push_four<A: Spelled, B: Spelled, C: Spelled, D: Spelled>(
+    out: &mut Vec<u8>,
+    name: &str,
+    a: &A,
+    b: &B,
+    c: &C,
+    d: &D,
+) -> Result<(), AllocError>
+    ensures ok { OnOk result
+        (out.new.items ≡ out.old.items ++ (name.now ++ flat_map (λ w. 32 ∷ w) (A.spelled a.now ∷ B.spelled b.now ∷ C.spelled c.now ∷ D.spelled d.now ∷ []))) }
+    ensures err { OnErr result (Extends out.old.items out.new.items) }
+{
+    push_words(out, name, &[a.word(), b.word(), c.word(), d.word()])
+}
+
+/// Puts a name and five operands behind `out`.
+#[inline(always)]
+pub(crate) fn push_five<A: Spelled, B: Spelled, C: Spelled, D: Spelled, E: Spelled>(
+    out: &mut Vec<u8>,
+    name: &str,
+    a: &A,
+    b: &B,
+    c: &C,
+    d: &D,
+    e: &E,
+) -> Result<(), AllocError>
+    ensures ok { OnOk result
+        (out.new.items ≡ out.old.items ++ (name.now ++ flat_map (λ w. 32 ∷ w) (A.spelled a.now ∷ B.spelled b.now ∷ C.spelled c.now ∷ D.spelled d.now ∷ E.spelled e.now ∷ []))) }
+    ensures err { OnErr result (Extends out.old.items out.new.items) }
+{
+    push_words(
+        out,
+        name,
+        &[a.word(), b.word(), c.word(), d.word(), e.word()],
+    )
 }
 
 // An operand, behind a space.

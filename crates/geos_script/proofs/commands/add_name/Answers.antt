@@ -58,5 +58,6 @@ returns-in_err-part c =
 
 pub returns : goal.returns
 returns c =
-    all_five (words c.args.text.now) _ _ c.in_ok-block.ensures _ _ c.in_ok-chunk.ensures _ _ c.in-Some.ensures _ _ c.in-Some-next_word.ensures _ c.in_ok-replace.ensures
-    _ _ c.in_ok-name.ensures c.in_ok-part.ensures
+    rw c.put.ensures
+    (all_five (words c.args.text.now) _ _ c.in_ok-block.ensures _ _ c.in_ok-chunk.ensures _ _ c.in-Some.ensures _ _ c.in-Some-next_word.ensures _ c.in_ok-replace.ensures
+    _ _ c.in_ok-name.ensures c.in_ok-part.ensures)
