@@ -363,8 +363,8 @@ impl<S: Store> VmFile<S> {
         Ok(())
     }
 
-    /// Writes another body of a raw block, as its image lies in memory, and puts it into the document. Where it is refused
-    /// nothing of that is done. Memory, before anything is written; File.
+    /// Writes another body of a raw block, as its image lies in memory, and puts it into the document. Where it is
+    /// refused nothing of that is done. Memory, before anything is written; File.
     pub fn put_raw_image(&mut self, block: VmHandle, image: &[u8]) -> Result<(), Fault>
         // Asked of the caller.
         requires live { is_live self.old.document block.0 ≡ true }
