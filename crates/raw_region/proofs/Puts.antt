@@ -131,15 +131,36 @@ opened xs ys zs b len at n short is within room slid filled =
     spliced xs ys zs Z b len at 0 (at + n + (len - at)) short is (omega arith) (omega arith) moved filled (omega arith) ∙ ap (λ (j : ℕ). splice b at j Z) (sym at_is)
 
 -- what a move in the whole region leaves
-pub slid : (xs ys zs : List ℕ) (size from to n : ℕ) → length xs ≡ size → ys ≡ slice_range xs 0 size → zs ≡ put ys to (slice_range ys from (from + n))
+pub slid : (xs ys zs : List ℕ) (size from to n : ℕ) → length xs ≡ size → ys ≡ slice_range xs 0 (0 + size) → zs ≡ put ys to (slice_range ys from (from + n))
     → put xs 0 (take size zs) ≡ put xs to (slice_range xs from (from + n))
 slid xs ys zs size from to n long whole after =
     let r = slice_range xs from (from + n) in
-    let all : ys ≡ xs = whole ∙ between_to_end xs 0 size (omega arith) in
+    let all : ys ≡ xs = whole ∙ between_to_end xs 0 (0 + size) (omega arith) in
     let is : zs ≡ put xs to r = after ∙ ap (λ (l : List ℕ). put l to (slice_range l from (from + n))) all in
     let same : length zs ≡ length xs = ap length is ∙ length-put xs r to in
     ap (λ (l : List ℕ). put xs 0 l) (take_all size zs (omega arith))
     ∙ (put_is xs zs 0 (omega arith) ∙ (ap (λ (l : List ℕ). zs ++ l) (drop_all (0 + length zs) xs (omega arith)) ∙ (append-nil zs ∙ is)))
+
+-- a list with a byte before it: a run that is read behind the byte
+pub slice_behind : (xs : List ℕ) (at n : ℕ) → slice_range xs (1 + at) (1 + at + n) ≡ slice_range (drop 1 xs) at (at + n)
+slice_behind xs at n = let e : 1 + at + n - (1 + at) ≡ at + n - at = omega arith in ap (λ (k : ℕ). take k (drop (1 + at) xs)) e ∙ ap (λ (l : List ℕ). take (at + n - at) l) (sym (drop-drop at 1 xs))
+
+put_suc : (x : ℕ) (xs ws : List ℕ) (at : ℕ) → put (x ∷ xs) (suc at) ws ≡ x ∷ put xs at ws
+unfolding put
+put_suc x xs ws at = let e : suc at + length ws ≡ suc (at + length ws) = omega arith in ap (λ (n : ℕ). take (suc (length xs)) ((x ∷ take at xs) ++ (ws ++ drop n (x ∷ xs)))) e
+
+-- a run that is written behind it, and that the byte stays
+pub put_behind_byte : (bytes xs ws : List ℕ) (x at : ℕ) → bytes ≡ x ∷ xs → put bytes (1 + at) ws ≡ x ∷ put xs at ws
+put_behind_byte bytes xs ws x at begins =
+    let e : 1 + at ≡ suc at = omega arith in ap (λ (l : List ℕ). put l (1 + at) ws) begins ∙ (ap (λ (n : ℕ). put (x ∷ xs) n ws) e ∙ put_suc x xs ws at)
+
+pub byte_stays : (bytes ws : List ℕ) (x at : ℕ) → bytes ≡ x ∷ drop 1 bytes → put bytes (1 + at) ws ≡ x ∷ drop 1 (put bytes (1 + at) ws)
+byte_stays bytes ws x at begins =
+    let is = put_behind_byte bytes (drop 1 bytes) ws x at begins in is ∙ ap (λ (l : List ℕ). x ∷ drop 1 l) (sym is)
+
+-- what is left behind the first of equal bytes
+pub behind_first : (bytes : List ℕ) (m n x : ℕ) → m ≡ suc n → bytes ≡ replicate m x → drop 1 bytes ≡ replicate n x
+behind_first bytes m n x e is = ap (λ (l : List ℕ). drop 1 l) (is ∙ ap (λ (k : ℕ). replicate k x) e)
 
 -- for `#[tactic(auto, using(raw_region::proofs::Puts::lengths))]` and the like
 pub ruleset lengths = (length-put)

@@ -2,7 +2,9 @@
 ghost use Rattle.std.specs.Prelude.{◌≡◌, ◌+◌, ◌≤◌, ℕ, true, IfOk, List, [], ◌++◌, length, take, drop, replicate, slice_index, slice_range};
 ghost use Rattle.std.specs.Borrow.{sem};
 ghost use Rattle.std.specs.List.{splice};
+ghost use Rattle.geos_model.specs.Image.{image};
 ghost use Rattle.geos_model.specs.Words.{word, word_at};
+ghost use Rattle.geos_model.specs.declared.command.Body.TheVariants as bodies;
 ghost use Rattle.raw_region.specs.Bytes.{put};
 ghost use Rattle.raw_region.specs.Roots.{is_large_root};
 ghost use Rattle.raw_region.specs.declared.TheConstants.{SIZE};
@@ -97,6 +99,14 @@ impl RawBody {
         ensures len { length self.now ≤ SIZE }
     {
         self.region.slice(0, self.len)
+    }
+
+    /// The body's image, as a file keeps it, lent where it lies: the byte of its kind lies right before its bytes.
+    pub fn image(&self) -> &[u8]
+        ensures value { result.now ≡ image (bodies.Raw self.now) }
+        ensures len { length result.now ≤ SIZE + 1 }
+    {
+        self.region.with_kind(self.len)
     }
 
     /// Whether the bytes are known to be the root of a large array, which `mark_root` was told since they last changed.

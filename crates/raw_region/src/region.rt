@@ -1,5 +1,5 @@
 //! A region: 65,520 bytes from the allocator, which go back to it once.
-ghost use Rattle.std.specs.Prelude.{◌≡◌, ◌+◌, ◌≤◌, IfOk, length, replicate, slice_range};
+ghost use Rattle.std.specs.Prelude.{◌≡◌, ◌+◌, ◌≤◌, ◌∷◌, IfOk, length, replicate, slice_range, take};
 ghost use Rattle.std.specs.Borrow.{sem};
 ghost use Rattle.geos_model.specs.Words.{word, word_at};
 ghost use Rattle.raw_region.specs.Bytes.{put};
@@ -13,22 +13,25 @@ use std::marker::Model;
 
 /// `SIZE` bytes from the allocator, which go back to it once, at the drop. Contracts see the list of the bytes. A body
 /// or a heap whose bytes lie in a region gives it back, and another can be made in it.
+///
+/// Right before them lies the byte that the image of a raw body begins with, 0, so that the image of a body in a region
+/// lies there as a whole, and is lent without a copy.
 pub struct Region {
     raw: Raw,
     alloc: Global,
 }
 
 impl Model for Region {
-    ghost use Rattle.std.specs.Prelude.{◌≡◌, ℕ, List, length};
+    ghost use Rattle.std.specs.Prelude.{◌≡◌, ◌+◌, ℕ, List, ◌∷◌, length, drop};
     ghost use Rattle.raw_region.specs.declared.TheConstants.{SIZE};
 
     ghost Value = { List ℕ };
 
-    ghost view = { λ r. r.raw.bytes };
+    ghost view = { λ r. drop 1 r.raw.bytes };
 
     // It has to hold whatever list a lent slice is left as, so that each byte is below 256 can't stand here. Whoever
     // has a slice of the bytes knows it by the slice's type.
-    ghost invariant = { λ r. length r.raw.bytes ≡ SIZE };
+    ghost invariant = { λ r. (length r.raw.bytes ≡ SIZE + 1) × (r.raw.bytes ≡ 0 ∷ drop 1 r.raw.bytes) };
 }
 
 #[tactic(auto, using(crate::proofs::Puts::lengths))]
@@ -48,7 +51,7 @@ impl Region {
         ensures all { result ≡ length self.now }
         ensures size { result ≡ SIZE }
     {
-        self.raw.view().len()
+        self.raw.view().len() - 1
     }
 
     /// The allocator that the region goes back to.
@@ -78,7 +81,16 @@ impl Region {
         ensures value { result.now ≡ slice_range self.now at (at + n) }
         ensures len { length result.now ≡ n }
     {
-        &self.raw.view()[at..at + n]
+        &self.raw.view()[1 + at..1 + at + n]
+    }
+
+    /// The byte of a raw body's kind, 0, and behind it the first `n` bytes.
+    pub(crate) fn with_kind(&self, n: usize) -> &[u8]
+        requires { n ≤ SIZE }
+        ensures value { result.now ≡ 0 ∷ take n self.now }
+        ensures len { length result.now ≡ 1 + n }
+    {
+        &self.raw.view()[..1 + n]
     }
 
     /// The `n` bytes from `at` on, to be written. The region ends as it was, with what is left in them in their place.
@@ -88,7 +100,7 @@ impl Region {
         ensures value { result.now ≡ slice_range self.old at (at + n) }
         ensures len { length result.now ≡ n }
     {
-        self.raw.slice_mut(at, n)
+        self.raw.slice_mut(1 + at, n)
     }
 
     /// Moves `n` bytes from `from` to `to`, as if they were copied aside first.
@@ -97,7 +109,8 @@ impl Region {
         requires target { to + n ≤ SIZE }
         ensures { self.new ≡ put self.old to (slice_range self.old from (from + n)) }
     {
-        move_within(self.raw.slice_mut(0, SIZE), from, to, n);
+        let size = self.len();
+        move_within(self.slice_mut(0, size), from, to, n);
     }
 
     /// Writes `bytes` over the region's from `at` on.
