@@ -1,17 +1,17 @@
 -- The order of use.
-use Rattle.std.proofs.Common.{◌≡◌, ◌⊎◌, ℕ, suc, ◌-◌, ◌<◌, ◌≤◌, ◌==◌, nat_eq, nat_le, Bool, true, false, cond, not, List, [], ◌∷◌, length, take, Option, None, Some, is_some, refl, sym, ap, subst, ◌∙◌, arith, inl, inr, unwrap_or, le-leb, reverse, eq-eqb, eqb-true, leb-true}
-use Rattle.std.specs.Prelude.{◌||◌, find, slice_get, MatchOption}
+use Rattle.std.proofs.Common.{◌≡◌, ◌⊎◌, ℕ, suc, ◌<◌, ◌≤◌, ◌==◌, nat_eq, nat_le, Bool, true, false, cond, not, List, [], ◌∷◌, length, Option, None, Some, is_some, refl, sym, ap, subst, ◌∙◌, arith, inl, inr, unwrap_or, le-leb, reverse, eq-eqb, eqb-true, leb-true}
+use Rattle.std.specs.Prelude.{◌||◌, find, MatchOption}
 use Rattle.std.specs.List.{IsDistinct, filter, list_any}
 use Rattle.std.specs.Cmp.{nat_eq_equiv}
 use Rattle.std.proofs.lemmas.Map.{lookup-remove_entry}
 use Rattle.std.proofs.lemmas.Bool.{cases_Bool, cases_eq, ne_eqb}
-use Rattle.std.proofs.lemmas.List.{reverse-append, take_all}
+use Rattle.std.proofs.lemmas.List.{reverse-append}
 use Rattle.std.proofs.lemmas.List.Folds.{find-append}
 use Rattle.std.proofs.lemmas.List.Sums.{sum_by-cons}
 use Rattle.std.specs.Option.{option_map_or, option_map, option_or}
 use Rattle.std.specs.Map.{lookup, lookup_entry, remove_entry, set_value, keys_of}
-use Rattle.lru.specs.LruCache.{LruCache, put_entries, promoted}
-use Rattle.vm_blocks.specs.State.{ResidentBlock, is_first, is_resident, is_block_locked, locked_count, all_frames_locked, victim, evicted}
+use Rattle.lru.specs.LruCache.{promoted}
+use Rattle.vm_blocks.specs.State.{ResidentBlock, is_resident, is_block_locked, locked_count, all_frames_locked, victim, evicted}
 use Rattle.vm_blocks.specs.Frames.{frame_of, residents, with_frame, changed_in, is_changed_in}
 use Rattle.vm_blocks.specs.declared.frame.Frame.{Frame}
 
@@ -108,20 +108,6 @@ some_by None never = absurd (never refl)
 pub has_victim : (frames : ℕ) (ss : List ResidentBlock) → frames ≤ length ss → all_frames_locked frames ss ≡ false → is_some (victim ss) ≡ true
 has_victim frames ss full some = some_by (victim ss) (λ at. let count = no_victim ss at in let wrong : true ≡ false = sym (le-leb frames (locked_count ss) (omega (arith, count, full))) ∙ some in absurd (cc wrong))
 
--- a block comes in
-
-pub no_entry : {X : Type 0} (test : ℕ → Bool) (es : List (ℕ × X)) → lookup test es ≡ None → lookup_entry test es ≡ None
-no_entry test [] none = refl
-no_entry test (e ∷ es) none = (elim (test e.0) as (λ b. cond b (Some e.1) (lookup test es) ≡ None → cond b (Some e) (lookup_entry test es) ≡ None) [
-  | true ↦ λ wrong. absurd (cc wrong)
-  | false ↦ λ more. no_entry test es more
-]) none
-
-pub put_new : (c : LruCache ℕ Frame) (h : ℕ) (f : Frame) → frame_of c.entries h ≡ None → length c.entries < c.cap → put_entries nat_eq c h f ≡ (h, f) ∷ c.entries
-put_new c h f none room =
-    ap (λ o. option_map_or (λ (e : ℕ × Frame). (e.0, f) ∷ remove_entry (nat_eq h) c.entries) o ((h, f) ∷ take (c.cap - 1) c.entries)) (no_entry (nat_eq h) c.entries none)
-    ∙ ap (λ es. (h, f) ∷ es) (take_all (c.cap - 1) c.entries (omega (arith, room)))
-
 -- a block that is there goes first
 
 pub residents-lookup_entry : (h : ℕ) (es : List (ℕ × Frame)) → lookup_entry (nat_eq h) (residents es) ≡ option_map (λ e. (e.0, e.1.locks)) (lookup_entry (nat_eq h) es)
@@ -165,26 +151,6 @@ held_first h q es (Some e) distinct is =
 
 pub held-promoted : (h q : ℕ) (es : List (ℕ × Frame)) → IsDistinct nat_eq (keys_of es) → frame_of (promoted (nat_eq h) es) q ≡ frame_of es q
 held-promoted h q es distinct = held_first h q es (lookup_entry (nat_eq h) es) distinct refl
-
--- the block that was used last
-
-pub first_is : (h : ℕ) (es : List (ℕ × Frame)) → option_map_or (λ (e : ℕ × Frame). nat_eq h e.0) (slice_get es 0) false ≡ is_first (residents es) h
-first_is h [] = refl
-first_is h (e ∷ es) = refl
-
-pub first_held : (h : ℕ) (es : List (ℕ × Frame)) (e : ℕ × Frame) → Some e ≡ slice_get es 0 → e.0 ≡ h → Some e.1 ≡ frame_of es h
-first_held h [] e is at = absurd (cc is)
-first_held h (x ∷ es) e is at =
-    let same : e ≡ x = cc is in
-    ap (λ (p : ℕ × Frame). Some p.1) same ∙ sym (ap (λ b. cond b (Some x.1) (frame_of es h)) (eq-eqb h x.0 (sym at ∙ ap (λ (p : ℕ × Frame). p.0) same)))
-
-pub first_resident : (h : ℕ) (ss : List ResidentBlock) → is_first ss h ≡ true → is_resident ss h ≡ true
-first_resident h [] wrong = absurd (cc wrong)
-first_resident h (s ∷ ss) at = ap (λ b. is_some (cond b (Some s.1) (lookup (nat_eq h) ss))) at
-
-pub first_stays : (h : ℕ) (es : List (ℕ × Frame)) → is_first (residents es) h ≡ true → promoted (nat_eq h) es ≡ es
-first_stays h [] wrong = absurd (cc wrong)
-first_stays h (e ∷ es) at = ap (λ b. option_map_or (λ (x : ℕ × Frame). x ∷ cond b es (e ∷ remove_entry (nat_eq h) es)) (cond b (Some e) (lookup_entry (nat_eq h) es)) (e ∷ es)) at
 
 -- a block that isn't in memory moves nothing
 pub absent_stays : (h : ℕ) (es : List (ℕ × Frame)) → is_some (frame_of es h) ≡ false → promoted (nat_eq h) es ≡ es

@@ -1,5 +1,5 @@
 -- What callers see of a cache.
-use Rattle.std.specs.Prelude.{◌≡◌, ℕ, ◌==◌, Bool, false, not, nat_eq, nat_le, nat_lt, cond, List, [], ◌∷◌, length, count_by, Option, Some, None, is_some, unwrap_or, refl}
+use Rattle.std.specs.Prelude.{◌≡◌, ℕ, ◌==◌, Bool, not, nat_eq, nat_le, nat_lt, cond, List, [], ◌∷◌, length, count_by, Option, Some, None, is_some, unwrap_or, refl}
 use Rattle.std.specs.Option.{option_map_or}
 use Rattle.std.specs.Map.{lookup, remove_entry}
 use Rattle.std.specs.Coded.{Coded, code_by, coded×, coded_ℕ, coded_list}
@@ -54,11 +54,6 @@ victim (s ∷ ss) = option_map_or (λ h. Some h) (victim ss) (cond (is_block_loc
 -- without it
 abbrev pub evicted : List ResidentBlock → List ResidentBlock
 evicted residents = option_map_or (λ h. remove_entry (nat_eq h) residents) (victim residents) residents
-
--- whether a block is the one that was used last
-abbrev pub is_first : List ResidentBlock → ℕ → Bool
-is_first [] h = false
-is_first (s ∷ ss) h = nat_eq h s.0
 
 -- What is in memory once a block was loaded: that block first. Where it wasn't there and each frame was taken, the
 -- least recently used one that isn't locked had to go.

@@ -21,9 +21,9 @@ mod locking;
 
 use crate::BlockBody;
 use crate::frame::{Frame, all_locked, body_in, locks_of};
+use buffer_pool::BufferPool;
 use document_file::{Refused, VmFile};
 use geos_model::{Attributes, Fault, VmHandle};
-use lru::LruCache;
 use std::alloc::{AllocError, Global};
 use std::marker::Model;
 use std::num::NonZeroUsize;
@@ -36,7 +36,7 @@ use vm_store::Store;
 pub struct FileBlocks<S: Store> {
     alloc: Global,
     file: VmFile<S>,
-    frames: LruCache<u16, Frame>,
+    frames: BufferPool<Frame>,
     // How many of the frames have a locked block.
     locked: usize,
 }
@@ -209,7 +209,7 @@ impl<S: Store> FileBlocks<S> {
     pub fn is_resident(&self, handle: VmHandle) -> bool
         ensures { result ≡ is_loaded self.now handle.0 }
     {
-        self.frames.contains(&handle.0)
+        self.frames.contains(handle.0)
     }
 
     /// The body of a block that is in memory.
@@ -252,10 +252,10 @@ impl<S: Store> FileBlocks<S> {
 }
 
 // So many frames, none of them taken.
-fn new_frames(alloc: Global, frames: usize) -> Result<LruCache<u16, Frame>, AllocError>
+fn new_frames(alloc: Global, frames: usize) -> Result<BufferPool<Frame>, AllocError>
     requires { 1 ≤ frames }
     ensures { IfOk result (λ empty. empty ≡ lru_cache [] frames) }
 {
     let cap = NonZeroUsize::new(frames).unwrap();
-    LruCache::new(alloc, cap)
+    BufferPool::new(alloc, cap)
 }

@@ -1,7 +1,7 @@
 //! The blocks in memory, in the order of their use.
 ghost use Rattle.std.specs.Prelude.{◌≡◌, ◌<◌, ◌+◌, ◌-◌, ℕ, Bool, true, false, nat_eq, is_some, Some, IfSome, MatchOption};
 ghost use Rattle.std.specs.FinMap.{contains_key};
-ghost use Rattle.std.specs.Option.{option_copied, option_map};
+ghost use Rattle.std.specs.Option.{option_map};
 ghost use Rattle.geos_model.specs.Document.{Document, IsValid, is_live, is_valid_body, is_vm_handle};
 ghost use Rattle.geos_model.specs.Heap.{chunk_bytes};
 ghost use Rattle.lmem_heap.specs.Known.{is_array_of};
@@ -11,14 +11,14 @@ ghost use Rattle.vm_blocks.specs.Bodies.{body_value};
 ghost use Rattle.vm_blocks.specs.Changes.{directed_part};
 ghost use Rattle.vm_blocks.specs.Frames.{bytes_in_frames, chunks_in_frames, frame_of, overlay, residents, with_frame, AreFramesOf};
 ghost use Rattle.vm_blocks.specs.Parts.{AllowsPart, body_after_part};
-ghost use Rattle.vm_blocks.specs.State.{locks_of, all_frames_locked, is_first, victim};
+ghost use Rattle.vm_blocks.specs.State.{locks_of, all_frames_locked, victim};
 
 use crate::body::BlockBody;
 use crate::part::{carry_out_heap, carry_out_raw};
 use crate::{Direction, PartChange};
+use buffer_pool::BufferPool;
 use geos_model::{ChunkHandle, MOST_BLOCKS};
 use lmem_heap::ArrayKind;
-use lru::LruCache;
 
 /// A block in memory.
 #[derive(Drop)]
@@ -47,29 +47,29 @@ impl Frame {
 }
 
 /// Says whether a block in memory may differ from what the file has of it.
-pub fn mark(frames: &mut LruCache<u16, Frame>, block: u16, changed: bool)
+pub fn mark(frames: &mut BufferPool<Frame>, block: u16, changed: bool)
     ensures { frames.new
         ≡ lru_cache (with_frame frames.old.entries block (λ f. record f { changed = changed })) frames.old.cap }
 {
-    if let Some(frame) = frames.peek_mut(&block) {
+    if let Some(frame) = frames.peek_mut(block) {
         frame.changed = changed;
     }
 }
 
 // Says of a block, if it is in memory, that the file may have another body of it.
-fn mark_one(frames: &mut LruCache<u16, Frame>, block: u16)
+fn mark_one(frames: &mut BufferPool<Frame>, block: u16)
     ensures entries { frames.new
         ≡ lru_cache (with_frame frames.old.entries block (λ f. record f { changed = true })) frames.old.cap }
     ensures valid { IfSome (frame_of frames.new.entries block) (λ f. is_valid_body (body_value f.body) ≡ true) }
 {
     mark(frames, block, true);
-    if let Some(frame) = frames.peek(&block) {
+    if let Some(frame) = frames.peek(block) {
         frame.body.reveal_invariant();
     }
 }
 
 /// Says so of each block in memory.
-pub fn mark_all(frames: &mut LruCache<u16, Frame>)
+pub fn mark_all(frames: &mut BufferPool<Frame>)
     ensures shown { (d : Document) → overlay frames.new.entries d ≡ overlay frames.old.entries d }
     ensures valid { (d : Document) → IsValid d → AreFramesOf false d frames.new.entries
         → IsValid (overlay frames.new.entries d) }
@@ -85,78 +85,59 @@ pub fn mark_all(frames: &mut LruCache<u16, Frame>)
 
 /// Has the heap of a block in memory keep in mind that a chunk of it is an array of a kind. The file needs no other
 /// body for that, and the order of use stays.
-pub fn mark_array(
-    frames: &mut LruCache<u16, Frame>,
-    block: u16,
-    chunk: ChunkHandle,
-    kind: ArrayKind,
-)
+pub fn mark_array(frames: &mut BufferPool<Frame>, block: u16, chunk: ChunkHandle, kind: ArrayKind)
     requires live { contains_key (chunks_in_frames frames.old.entries block) chunk.0 ≡ true }
     requires array { is_array_of kind (chunk_bytes (chunks_in_frames frames.old.entries block) chunk.0) ≡ true }
     ensures { frames.new ≡ frames.old }
 {
-    if let Some(frame) = frames.peek_mut(&block) {
+    if let Some(frame) = frames.peek_mut(block) {
         frame.body.mark_array(chunk, kind);
     }
 }
 
 /// Has the raw body of a block in memory keep in mind that it is the root of a large array, as `mark_array` does.
-pub fn mark_root(frames: &mut LruCache<u16, Frame>, block: u16)
+pub fn mark_root(frames: &mut BufferPool<Frame>, block: u16)
     requires { is_large_root (bytes_in_frames frames.old.entries block) ≡ true }
     ensures { frames.new ≡ frames.old }
 {
-    if let Some(frame) = frames.peek_mut(&block) {
+    if let Some(frame) = frames.peek_mut(block) {
         frame.body.mark_root();
     }
 }
 
-/// Whether a block is the one in memory that was used last.
-fn is_first(frames: &LruCache<u16, Frame>, block: u16) -> bool
-    ensures { result ≡ is_first (residents frames.now.entries) block }
-{
-    match frames.peek_mru() {
-        Some((first, _)) => block == *first,
-        None => false,
-    }
-}
-
 /// Makes a block the one that was used last, and says whether it is in memory; where it isn't nothing changes.
-pub fn use_again(frames: &mut LruCache<u16, Frame>, block: u16) -> bool
+pub fn use_again(frames: &mut BufferPool<Frame>, block: u16) -> bool
     ensures value { result ≡ is_some (frame_of frames.old.entries block) }
     ensures moves { frames.new ≡ lru_cache (promoted (nat_eq block) frames.old.entries) frames.old.cap }
     ensures absent { result ≡ false → frames.new ≡ frames.old }
 {
-    // The block that was used last stays the first: this is seen without a look-up, and nothing moves.
-    if is_first(frames, block) {
-        return true;
-    }
-    frames.promote(&block)
+    frames.promote(block)
 }
 
 /// One more lock of a block in memory.
-pub fn lock(frames: &mut LruCache<u16, Frame>, block: u16)
+pub fn lock(frames: &mut BufferPool<Frame>, block: u16)
     requires { MatchOption (frame_of frames.old.entries block) (Unit {0}) (λ f. f.locks < 255) }
     ensures { frames.new
         ≡ lru_cache (with_frame frames.old.entries block (λ f. record f { locks = f.locks + 1 })) frames.old.cap }
 {
-    if let Some(frame) = frames.peek_mut(&block) {
+    if let Some(frame) = frames.peek_mut(block) {
         frame.locks += 1;
     }
 }
 
 /// One lock less of a block in memory.
-pub fn unlock(frames: &mut LruCache<u16, Frame>, block: u16)
+pub fn unlock(frames: &mut BufferPool<Frame>, block: u16)
     requires { MatchOption (frame_of frames.old.entries block) (Unit {0}) (λ f. 0 < f.locks) }
     ensures { frames.new
         ≡ lru_cache (with_frame frames.old.entries block (λ f. record f { locks = f.locks - 1 })) frames.old.cap }
 {
-    if let Some(frame) = frames.peek_mut(&block) {
+    if let Some(frame) = frames.peek_mut(block) {
         frame.locks -= 1;
     }
 }
 
 /// The least recently used block that isn't locked.
-pub fn victim(frames: &LruCache<u16, Frame>) -> Option<u16>
+pub fn victim(frames: &BufferPool<Frame>) -> Option<u16>
     ensures { result ≡ victim (residents frames.now.entries) }
 {
     match frames.iter().rev().find(|(_, frame)| frame.locks == 0) {
@@ -165,36 +146,26 @@ pub fn victim(frames: &LruCache<u16, Frame>) -> Option<u16>
     }
 }
 
-// The frame of a block in memory. That of the block that was used last is found without a look-up.
-fn frame_in(frames: &LruCache<u16, Frame>, block: u16) -> Option<&Frame>
-    ensures { option_copied result ≡ frame_of frames.now.entries block }
-{
-    match frames.peek_mru() {
-        Some((first, frame)) if *first == block => Some(frame),
-        _ => frames.peek(&block),
-    }
-}
-
 /// The body of a block in memory.
-pub fn body_in(frames: &LruCache<u16, Frame>, block: u16) -> &BlockBody
+pub fn body_in(frames: &BufferPool<Frame>, block: u16) -> &BlockBody
     requires { is_some (frame_of frames.now.entries block) ≡ true }
     ensures { option_map (λ f. f.body) (frame_of frames.now.entries block) ≡ Some result.now }
 {
-    &frame_in(frames, block).unwrap().body
+    &frames.peek(block).unwrap().body
 }
 
 /// How often a block is locked, 0 where it isn't in memory.
-pub fn locks_of(frames: &LruCache<u16, Frame>, block: u16) -> u8
+pub fn locks_of(frames: &BufferPool<Frame>, block: u16) -> u8
     ensures { result ≡ locks_of (residents frames.now.entries) block }
 {
-    match frame_in(frames, block) {
+    match frames.peek(block) {
         Some(frame) => frame.locks,
         None => 0,
     }
 }
 
 /// Whether each frame has a locked block, so that no other can come into memory.
-pub fn all_locked(frames: &LruCache<u16, Frame>) -> bool
+pub fn all_locked(frames: &BufferPool<Frame>) -> bool
     ensures { result ≡ all_frames_locked frames.now.cap (residents frames.now.entries) }
 {
     if frames.len() < frames.cap().get() {

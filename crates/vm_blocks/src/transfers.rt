@@ -9,9 +9,9 @@ ghost use Rattle.vm_blocks.specs.Frames.{frame_of, residents, overlay, with_fram
 
 use crate::body::{BlockBody, read_image};
 use crate::frame::{Frame, mark};
+use buffer_pool::BufferPool;
 use document_file::{BlockImage, Member, VmFile};
 use geos_model::{Fault, VmHandle};
-use lru::LruCache;
 use raw_region::Region;
 use std::alloc::{AllocError, Global};
 use vm_store::Store;
@@ -38,12 +38,12 @@ fn put_of<S: Store>(
 }
 
 // The body of a block in memory, if it is changed.
-fn changed_body(frames: &LruCache<u16, Frame>, block: u16) -> Option<&BlockBody>
+fn changed_body(frames: &BufferPool<Frame>, block: u16) -> Option<&BlockBody>
     ensures { MatchOption result
         (is_changed_in frames.now.entries block ≡ false)
         (λ body. IsChangedBody frames.now.entries block body.now) }
 {
-    match frames.peek(&block) {
+    match frames.peek(block) {
         Some(frame) => {
             if frame.changed {
                 Some(&frame.body)
@@ -59,7 +59,7 @@ fn changed_body(frames: &LruCache<u16, Frame>, block: u16) -> Option<&BlockBody>
 pub fn write_back<S: Store>(
     alloc: Global,
     file: &mut VmFile<S>,
-    frames: &mut LruCache<u16, Frame>,
+    frames: &mut BufferPool<Frame>,
     block: VmHandle,
 ) -> Result<(), Fault>
     // Asked of the caller.
@@ -120,7 +120,7 @@ pub fn read_body<S: Store>(
 }
 
 // The blocks in memory that are changed. Where there are none this takes no memory.
-fn changed_blocks(alloc: Global, frames: &LruCache<u16, Frame>) -> Result<Vec<u16>, AllocError>
+fn changed_blocks(alloc: Global, frames: &BufferPool<Frame>) -> Result<Vec<u16>, AllocError>
     ensures { IfOk result (λ blocks. blocks.items ≡ changed_in frames.now.entries) }
 {
     frames
@@ -135,7 +135,7 @@ fn changed_blocks(alloc: Global, frames: &LruCache<u16, Frame>) -> Result<Vec<u1
 pub fn flush<S: Store>(
     alloc: Global,
     file: &mut VmFile<S>,
-    frames: &mut LruCache<u16, Frame>,
+    frames: &mut BufferPool<Frame>,
 ) -> Result<(), Fault>
     requires kept { AreFramesOf (S.facts file.old.disk.store).honest file.old.document frames.old.entries }
     ensures moves { KeepsOverlay S.facts file.old frames.old.entries file.new frames.new.entries }
@@ -157,7 +157,7 @@ pub fn flush<S: Store>(
 pub fn begin_commit<S: Store>(
     alloc: Global,
     file: &mut VmFile<S>,
-    frames: &mut LruCache<u16, Frame>,
+    frames: &mut BufferPool<Frame>,
 ) -> Result<(), Fault>
     requires kept { AreFramesOf (S.facts file.old.disk.store).honest file.old.document frames.old.entries }
     // The file, and what a commit may be made of.

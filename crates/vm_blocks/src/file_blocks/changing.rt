@@ -256,7 +256,7 @@ impl<S: Store> FileBlocks<S> {
     {
         self.reveal_invariant();
         let _count = self.frames.len();
-        self.frames.pop(&handle.0);
+        self.frames.pop(handle.0);
         let _removed = self.file.put_blocks(&[], &[handle]);
     }
 
@@ -332,7 +332,7 @@ impl<S: Store> FileBlocks<S> {
         ensures { self.new
             ≡ record self.old { document = after_part handle.0 (directed_part direction part.now) self.old.document } }
     {
-        let frame = self.frames.peek_mut(&handle.0).unwrap();
+        let frame = self.frames.peek_mut(handle.0).unwrap();
         frame.carry_out(part, direction);
     }
 

@@ -185,7 +185,7 @@ impl<S: Store> FileBlocks<S> {
             VmHandle(block),
         )?;
         let _count = self.frames.len();
-        let frame = self.frames.pop(&block).unwrap();
+        let frame = self.frames.pop(block).unwrap();
         Ok(frame.body.into_region())
     }
 
@@ -209,7 +209,7 @@ impl<S: Store> FileBlocks<S> {
             changed: false,
             locks: 0,
         };
-        self.frames.put(handle.0, frame)?;
+        self.frames.insert(handle.0, frame)?;
         Ok(())
     }
 

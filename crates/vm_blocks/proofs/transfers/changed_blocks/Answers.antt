@@ -12,6 +12,6 @@ returns c =
     items_from_collect c.collect.result c.collect.ensures.ran
     (YieldsList-from_map _ (λ (e : ℕ × Frame). e.0)
     (YieldsList-from_filter _ (λ (e : ℕ × Frame). e.1.changed)
-    (YieldsList-from_rest {shows = deref_pair {K = ℕ} {X = Frame}} c.args.frames.now.entries (ap filter_source source ∙ c.filter.ensures.source ∙ c.iter.ensures.rest))
+    (YieldsList-from_rest {shows = deref_pair {K = ℕ} {X = Frame}} c.args.frames.now.entries (ap filter_source source ∙ c.filter.ensures.source ∙ c.iter.ensures))
     (ap filter_callee source ∙ c.filter.ensures.closure) (λ x b q k. search (rules, tests)))
     c.map.ensures.closure (λ x r q k. search rules))
