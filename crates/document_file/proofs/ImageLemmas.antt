@@ -16,7 +16,7 @@ use Rattle.file_format.specs.declared.file.Extent.{Extent}
 use Rattle.std.proofs.lemmas.List.{length-take, length-drop, get_or-take, get_or-drop}
 use Rattle.vm_store.specs.Facts.{byte}
 use Rattle.file_format.proofs.StoredDirectoryLemmas.{none_if}
-use Rattle.document_file.specs.Images.{IsImage}
+use Rattle.document_file.specs.Images.{IsImage, IsRawImage}
 use Rattle.geos_model.specs.Bytes.{same_bytes}
 use Rattle.std.proofs.lemmas.Bool.{cond-true}
 use Rattle.heap_images.specs.HeapImage.{IsHeapImage}
@@ -44,6 +44,13 @@ image-nothing = ap (λ m. image (Heap m)) (sym (table_map-nil {X = List ℕ} 2 1
 
 pub raw_valid : (bytes : List ℕ) → length bytes ≤ capacity → is_valid_body (Raw bytes) ≡ true
 raw_valid bytes small = le-leb (length bytes) capacity small
+
+-- the image of one, for who has it
+pub raw_image_is : (body bytes : List ℕ) → bytes ≡ image (Raw body) → length body ≤ capacity → IsRawImage bytes × (drop 1 bytes ≡ body)
+unfolding image
+raw_image_is body bytes is small =
+    let rest : drop 1 bytes ≡ body = ap (drop 1) is in
+    (record { image_is = ap (λ (b : List ℕ). 0 ∷ b) rest ∙ sym is; small = (let same = ap length rest in omega (arith, same, small)) }, rest)
 
 pub image-zeros : (n : ℕ) → replicate (n + 1) 0 ≡ image (Raw (replicate n 0))
 unfolding image

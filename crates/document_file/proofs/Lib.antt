@@ -23,6 +23,7 @@ pub mod PendingDirectoryLemmas
 pub mod PlaceImageLemmas
 pub mod PlacingLemmas
 pub mod PutBlocksLemmas
+pub mod PutRawLemmas
 pub mod RangesLemmas
 pub mod RawReadLemmas
 pub mod ResultLemmas

@@ -89,6 +89,12 @@ apart_out page n e apart =
     let other = pages_hold e.length in
     elim apart as (λ _. IsOut (512 * page) n (start_of e) (end_of e)) [ inl before ↦ inr (omega (arith, mine, before)) | inr behind ↦ inl (omega (arith, other, behind)) ]
 
+-- so what was found shares none with those that are taken
+pub fit_clear : (taken : List Extent) (n : ℕ) (e : Extent) → IsFirstFit taken n e → IsClear (start_of e) e.length taken
+fit_clear taken n e fit k d inside =
+    let one = get_or taken k d in
+    subst (λ m. IsOut (start_of e) m (start_of one) (end_of one)) (sym fit.length_is) (apart_out e.page n one (fit.free k d inside))
+
 -- one image more
 module _ (taken extents : List Extent) (puts : List Member) (n : ℕ) (r : Extent) (p : Member) (is : (d : Member) → get_or puts n d ≡ p) (size : (1 ≤ length (image p.block.image)) × (length (image p.block.image) ≤ longest_image)) (fit : IsFirstFit (taken_with taken extents) (length (image p.block.image)) r) where
   out : (e : Extent) → IsApart (record { page = r.page; length = length (image p.block.image) }) e → IsOut (start_of r) r.length (start_of e) (end_of e)

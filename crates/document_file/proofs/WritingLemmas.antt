@@ -5,13 +5,13 @@ use Rattle.std.proofs.lemmas.List.{get_or_default}
 use Rattle.vm_store.specs.Facts.{StoreFacts, Torn, Holds}
 use Rattle.geos_model.specs.Image.{image}
 use Rattle.file_format.specs.declared.file.Extent.{Extent}
-use Rattle.document_file.specs.Ranges.{start_of, end_of, IsOut, KeepsAll}
+use Rattle.document_file.specs.Ranges.{start_of, end_of, IsOut, IsClear, KeepsAll}
 use Rattle.document_file.specs.Slots.{CrashLeavesSlots, Outlives, block_extents, pair_extents, prepared_extents, referenced_extents, marked_extents, Outcome}
 use Rattle.document_file.specs.Writing.{AreFor, Fills, AreWritten, SparesExtents}
 use Rattle.document_file.specs.Sums.{has_sums}
 use Rattle.document_file.specs.declared.member.Member.{Member}
 use Rattle.document_file.specs.declared.slot.Slots.{Slots}
-use Rattle.document_file.proofs.RangesLemmas.{keeps_itself, torn_same, torn_holds, keeps_within}
+use Rattle.document_file.proofs.RangesLemmas.{keeps_itself, torn_same, torn_keeps, torn_holds, keeps_within}
 use Rattle.document_file.proofs.SlotsLemmas.{Outlives-refl, Outlives-trans, outcome_keeps, leaves_rebased}
 use Rattle.document_file.specs.Documents.{Documents, documents_in, attempted_in, AreStored, IsPreparedStored}
 use Rattle.document_file.specs.Disk.{recoverable, StandsForOne, KeepsCommitted}
@@ -89,6 +89,17 @@ pub spared_images : (slots : Slots) (live : List Extent) (puts : List Member) (i
 spared_images slots live puts images a b found fills =
     spared_by slots (live ++ marked_extents slots.marked) images puts (length puts) a b
     (for_fewer (live ++ referenced_extents slots) (live ++ marked_extents slots.marked) puts (length puts) images (λ P all. live_and_marked P slots live all) found) fills
+
+-- so does one that is written alone
+pub one_spared : (slots : Slots) (live : List Extent) (e : Extent) (a b : StoreFacts) → IsClear (start_of e) e.length (live ++ referenced_extents slots) → Torn (start_of e) e.length a.content b.content
+    → ((file : List ℕ) → CrashLeavesSlots a slots file → CrashLeavesSlots b slots file) → ((file : List ℕ) → CrashLeavesSlots a slots file → Outlives a b file (λ s. s ≡ slots)) → SparesExtents (live ++ marked_extents slots.marked) slots a b
+one_spared slots live e a b clear torn leaves crash =
+    let kept = live ++ marked_extents slots.marked in
+    record {
+      keeps = λ within. torn_keeps (start_of e) e.length kept a.content a.content b.content (live_and_marked (λ x. IsOut (start_of e) e.length (start_of x) (end_of x)) slots live clear) torn (keeps_itself kept a.content within);
+      leaves = leaves;
+      crash = crash;
+    }
 
 pub spared_same : (kept : List Extent) (slots : Slots) (a : StoreFacts) → SparesExtents kept slots a a
 spared_same kept slots a = record { keeps = λ within. keeps_itself kept a.content within; leaves = λ file was. was; crash = λ file was. Outlives-refl a file (λ s. s ≡ slots) }

@@ -23,6 +23,12 @@ pub record AreFor (taken : List Extent) (puts : List Member) (n : ℕ) (extents 
       → IsOut (start_of (get_or extents k e)) (get_or extents k e).length (start_of (get_or extents i e))
       (end_of (get_or extents i e))
 
+-- An extent for one image: as long as that, and apart from those that are taken.
+pub record IsFor (taken : List Extent) (bytes : List ℕ) (e : Extent) : Type 0 where
+  pub size : e.length ≡ length bytes
+  pub placed : IsPlaced e
+  pub clear : IsClear (start_of e) e.length taken
+
 -- none of these reaches into the extent
 abbrev pub IsAside : List Extent → Extent → Type 0
 IsAside extents e = All (λ x. IsOut (start_of x) x.length (start_of e) (end_of e)) extents

@@ -1,9 +1,9 @@
 //! A document file: its calls.
-ghost use Rattle.std.specs.Prelude.{if◌then◌else◌, ◌≡◌, ◌≢◌, ◌⊎◌, ◌||◌, ◌↔◌, ◌≤◌, ◌<◌, ◌+◌, ℕ, List, [], ◌∷◌, All, IsTrue, IfOk, IfErr, IfSome, OnOk, OnErr, IsErrOf, IsOk, MatchResult, Ok, Err, None, Some, true, false, is_some, length, map};
+ghost use Rattle.std.specs.Prelude.{if◌then◌else◌, ◌≡◌, ◌≢◌, ◌⊎◌, ◌||◌, ◌↔◌, ◌≤◌, ◌<◌, ◌+◌, ℕ, List, [], ◌∷◌, All, IsTrue, IfOk, IfErr, IfSome, OnOk, OnErr, IsErrOf, IsOk, MatchResult, Ok, Err, None, Some, true, false, is_some, length, map, drop};
 ghost use Rattle.std.specs.Option.{option_map};
 ghost use Rattle.std.specs.FinMap.{get, keys};
 ghost use Rattle.vm_store.specs.Facts.{FailedSince, IsUnchanged};
-ghost use Rattle.geos_model.specs.Document.{empty_document, is_live, is_vm_handle, next_handle, most_blocks, attributes_of, with_attributes, block_at, is_heap, raw_bytes_of, IsTyped};
+ghost use Rattle.geos_model.specs.Document.{empty_document, is_live, is_vm_handle, next_handle, most_blocks, attributes_of, with_attributes, with_body, block_at, is_heap, raw_bytes_of, IsTyped};
 ghost use Rattle.geos_model.specs.Image.{image};
 ghost use Rattle.geos_model.specs.declared.command.Body.TheVariants as bodies;
 ghost use Rattle.geos_model.specs.Reply.{found};
@@ -12,6 +12,7 @@ ghost use Rattle.document_file.specs.Disk.{FileState, ContentStands, SameUnlessC
 ghost use Rattle.document_file.specs.Effects.{IsFile, IsNewFile, IsTurned, KeepsSlot, SameStore, OnlyReads, LeavesDocument, IsCommit, Fails, NoFault, IsDamage, IsWorn};
 ghost use Rattle.document_file.specs.Documents.{has_checksums, has_one_directory, sequence_in};
 ghost use Rattle.document_file.specs.Fronts.{first_word};
+ghost use Rattle.document_file.specs.Images.{IsRawImage};
 ghost use Rattle.document_file.specs.Making.{first_directory, first_file, first_open, no_blocks};
 ghost use Rattle.file_format.specs.Reading.{IsResourceFault, IsOpenRefusal};
 ghost use Rattle.document_file.specs.Calls.{IsPut, put_all, remove_all, IsImageLength, last_sequence};
@@ -29,11 +30,11 @@ use crate::slot::Slots;
 use crate::stored_documents::StoredDocuments;
 use crate::sums::has_sums;
 use crate::table::{
-    BlockTable, Place, change_places, copy_table, make_room, place_in, read_block, read_raw,
-    set_attributes,
+    BlockTable, Place, change_places, copy_table, make_room, move_block, place_in, read_block,
+    read_raw, rewritten, set_attributes,
 };
 use crate::turning::opened_slots;
-use crate::writing::write_puts;
+use crate::writing::{write_image, write_puts};
 use file_format::MOST_ENTRIES;
 use file_space::FreeSpace;
 use geos_model::{Attributes, Fault, VmHandle};
@@ -359,6 +360,38 @@ impl<S: Store> VmFile<S> {
         );
         self.space = space;
         self.bounds = tightened(&self.live.places, bounds);
+        Ok(())
+    }
+
+    /// Writes another body of a raw block, as its image lies in memory, and puts it into the document. Where it is
+    /// refused nothing of that is done. Memory, before anything is written; File.
+    pub fn put_raw_image(&mut self, block: VmHandle, image: &[u8]) -> Result<(), Fault>
+        // Asked of the caller.
+        requires live { is_live self.old.document block.0 ≡ true }
+        requires raw { is_heap self.old.document block.0 ≡ false }
+        requires image { IsRawImage image.now }
+        // The document.
+        ensures keeps { MatchResult result
+            (λ _. LeavesDocument S.facts
+            (with_body self.old.document block.0 (bodies.Raw (drop 1 image.now))) self.old self.new)
+            (λ _. LeavesDocument S.facts self.old.document self.old self.new) }
+        // Refusals.
+        ensures early { IfErr result (λ fault. fault ≢ Fault.File → self.new ≡ self.old) }
+        ensures fails { Fails S.facts NoFault self.old.disk.store self.new.disk.store result }
+    {
+        let place = place_in(&self.live, block).unwrap();
+        let written = write_image(
+            self.alloc,
+            &mut self.store,
+            &self.live.places,
+            &self.slots,
+            self.space.take(),
+            image,
+        )?;
+        let place = rewritten(place, self.slots.next_version, written.extent, image);
+        let mut space = Some(written.space);
+        move_block(&mut self.live.places, block, place, &self.slots, &mut space);
+        self.space = space;
         Ok(())
     }
 

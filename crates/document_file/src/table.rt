@@ -1,14 +1,14 @@
 //! The blocks of a document and where their images lie in the file; copies of that, and who shares it.
 ghost use Rattle.std.specs.Prelude.{IsTrue, IfErr, IsErrOf, true, false, ◌≡◌, ◌≤◌, ◌-◌, ◌+◌, ◌*◌, ◌++◌, ◌∷◌, [], List, All, IfSome, IsOk, OnOk, OnErr, None, Some, get_or, length, max, slice_set, IfOk};
 ghost use Rattle.vm_store.specs.Facts.{FailedSince, Holds, byte};
-ghost use Rattle.geos_model.specs.Document.{is_heap, is_live, block_at};
+ghost use Rattle.geos_model.specs.Document.{FitAttributes, is_heap, is_live, block_at};
 ghost use Rattle.file_format.specs.File.{bytes_in, has_sum};
 ghost use Rattle.geos_model.specs.Image.{image};
 ghost use Rattle.geos_model.specs.declared.command.Body.TheVariants as bodies;
 ghost use Rattle.document_file.specs.Ranges.{IsPlaced};
 ghost use Rattle.document_file.specs.Documents.{document_in, AreImaged};
 ghost use Rattle.document_file.specs.Sound.{ArePlaces};
-ghost use Rattle.document_file.specs.Sums.{HasSumOf, HaveSums};
+ghost use Rattle.document_file.specs.Sums.{HasSumOf, HaveSums, has_sums, sum_for};
 ghost use Rattle.file_format.specs.Reading.{IsReadRefusal, IsResourceFault, OnlyReadsStore};
 ghost use Rattle.document_file.specs.Listing.{IsPlaceOf};
 ghost use Rattle.document_file.specs.Calls.{IsPut, IsImageLength};
@@ -286,6 +286,18 @@ fn placed_at(version: u8, put: &Member, extent: Extent) -> Place
     }
 }
 
+/// Where a block lies whose image is this one, in this extent. Its attributes and its kind stay.
+pub fn rewritten(place: Place, version: u8, extent: Extent, image: &[u8]) -> Place
+    ensures rewritten { result ≡ record place { extent = extent; sum = sum_for (has_sums version) image.now } }
+    ensures attributes { FitAttributes place.attributes }
+{
+    Place {
+        extent,
+        sum: sum_for(has_sums(version), image),
+        ..place
+    }
+}
+
 /// Where a block lay, if one did, is free again.
 pub fn release_place(space: &mut FreeSpace, place: Option<Place>)
     requires { AreAmongTaken (block_extents (place ∷ [])) space.old }
@@ -330,6 +342,27 @@ fn put_places(
         give_back(space, gone);
         places[at] = Some(placed_at(version, put, extents[i]));
     }
+}
+
+/// Gives a block another place, whose extent is taken before. Where the block was is free afterwards.
+pub fn move_block(
+    places: &mut [Option<Place>],
+    block: VmHandle,
+    place: Place,
+    slots: &Slots,
+    space: &mut Option<FreeSpace>,
+)
+    requires some { 1 ≤ block.0 }
+    requires room { block.0 ≤ length places.old }
+    requires known { IsSpaceOf (place.extent ∷ (block_extents places.old ++ referenced_extents slots.now)) space.old }
+    ensures places { places.new ≡ slice_set places.old (block.0 - 1) (Some place) }
+    ensures known { IsSpaceOf (block_extents places.new ++ referenced_extents slots.now) space.new }
+{
+    let _ = slots;
+    let at = usize::from(block.0) - 1;
+    let gone = places[at];
+    give_back(space, gone);
+    places[at] = Some(place);
 }
 
 fn remove_place(

@@ -1,12 +1,14 @@
 //! Images that come into the file.
-ghost use Rattle.std.specs.Prelude.{◌≡◌, ◌≢◌, ◌++◌, ◌+◌, ◌≤◌, [], All, IsTrue, IsOk, IfOk, IfErr, IsErrOf, OnOk, OnErr, length};
-ghost use Rattle.vm_store.specs.Facts.{FailedSince};
+ghost use Rattle.std.specs.Prelude.{◌≡◌, ◌≢◌, ◌++◌, ◌∷◌, ◌+◌, ◌<◌, ◌≤◌, [], All, IsTrue, IsOk, IfOk, IfErr, IsErrOf, OnOk, OnErr, length};
+ghost use Rattle.vm_store.specs.Facts.{FailedSince, Holds};
 ghost use Rattle.file_space.specs.Placing.{AreFewLong};
-ghost use Rattle.document_file.specs.Ranges.{IsPlaced};
+ghost use Rattle.file_space.specs.Space.{AreTaken};
+ghost use Rattle.document_file.specs.Calls.{IsImageLength};
+ghost use Rattle.document_file.specs.Ranges.{IsPlaced, start_of};
 ghost use Rattle.document_file.specs.Slots.{block_extents, referenced_extents, marked_extents, AreExtentsPlaced};
 ghost use Rattle.file_format.specs.Reading.{IsResourceFault};
 ghost use Rattle.document_file.specs.FreeSpace.{IsSpaceOf};
-ghost use Rattle.document_file.specs.Writing.{AreFor, Fills, AreWritten, SparesExtents};
+ghost use Rattle.document_file.specs.Writing.{AreFor, Fills, IsFor, AreWritten, SparesExtents};
 
 use crate::extent::write_extent;
 use crate::member::Member;
@@ -102,4 +104,53 @@ pub fn write_puts<S: Store>(
         extents,
         space: Some(space),
     })
+}
+
+/// An image that is written.
+#[derive(Drop)]
+pub struct WrittenImage {
+    pub extent: Extent,
+    /// The free space without this extent.
+    pub space: FreeSpace,
+}
+
+/// Takes a free extent for one image, and writes it there from where it lies. Memory, before anything is written; File.
+pub fn write_image<S: Store>(
+    alloc: Global,
+    store: &mut S,
+    live: &[Option<Place>],
+    slots: &Slots,
+    space: Option<FreeSpace>,
+    image: &[u8],
+) -> Result<WrittenImage, Fault>
+    // Asked of the caller.
+    requires live { All IsPlaced (block_extents live.now) }
+    requires kept { AreExtentsPlaced slots.now }
+    requires few { length (block_extents live.now ++ referenced_extents slots.now) < MOST_EXTENTS }
+    requires few_long { AreFewLong (block_extents live.now ++ referenced_extents slots.now) }
+    requires known { IsSpaceOf (block_extents live.now ++ referenced_extents slots.now) space }
+    requires size { IsImageLength (length image.now) }
+    // The store.
+    ensures honest { (S.facts store.new).honest ≡ (S.facts store.old).honest }
+    ensures failures { (S.facts store.old).failures ≤ (S.facts store.new).failures }
+    ensures spared { IsTrue (S.facts store.old).honest
+        → SparesExtents (block_extents live.now ++ marked_extents slots.now.marked) slots.now (S.facts store.old)
+        (S.facts store.new) }
+    // The image.
+    ensures found { IfOk result
+        (λ written. IsFor (block_extents live.now ++ referenced_extents slots.now) image.now written.extent) }
+    ensures written { IfOk result (λ written. IsTrue (S.facts store.old).honest
+        → Holds (S.facts store.new).content (start_of written.extent) image.now) }
+    ensures known { IfOk result
+        (λ written. AreTaken (written.extent ∷ (block_extents live.now ++ referenced_extents slots.now))
+        written.space) }
+    // Refusals.
+    ensures early { IfErr result (λ fault. fault ≢ Fault.File → store.new ≡ store.old) }
+    ensures file { IsErrOf result Fault.File → FailedSince (S.facts store.old) (S.facts store.new) }
+    ensures refusals { IfErr result IsResourceFault }
+{
+    let mut space = known_space(alloc, live, slots, space)?;
+    let extent = space.take(image.len() as u32)?;
+    write_extent(store, slots, extent, image)?;
+    Ok(WrittenImage { extent, space })
 }
