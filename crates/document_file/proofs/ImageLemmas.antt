@@ -46,11 +46,11 @@ pub raw_valid : (bytes : List ℕ) → length bytes ≤ capacity → is_valid_bo
 raw_valid bytes small = le-leb (length bytes) capacity small
 
 -- the image of one, for who has it
-pub raw_image_is : (body bytes : List ℕ) → bytes ≡ image (Raw body) → length body ≤ capacity → IsRawImage bytes × (drop 1 bytes ≡ body)
+pub raw_image_is : (body bytes : List ℕ) → bytes ≡ image (Raw body) → length bytes ≤ capacity + 1 → IsRawImage bytes × (drop 1 bytes ≡ body)
 unfolding image
-raw_image_is body bytes is small =
+raw_image_is body bytes is short =
     let rest : drop 1 bytes ≡ body = ap (drop 1) is in
-    (record { image_is = ap (λ (b : List ℕ). 0 ∷ b) rest ∙ sym is; small = (let same = ap length rest in omega (arith, same, small)) }, rest)
+    (record { image_is = ap (λ (b : List ℕ). 0 ∷ b) rest ∙ sym is; small = (let same = ap length rest in let long = ap length is in omega (arith, same, long, short)) }, rest)
 
 pub image-zeros : (n : ℕ) → replicate (n + 1) 0 ≡ image (Raw (replicate n 0))
 unfolding image

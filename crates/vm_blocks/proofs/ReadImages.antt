@@ -1,7 +1,6 @@
 -- What is read of an image.
-use Rattle.std.proofs.Common.{◌≡◌, ◌⊎◌, ℕ, Bool, true, false, IsTrue, List, Option, None, Some, sym, ap, subst, ◌∙◌, unwrap_or, inl, inr}
+use Rattle.std.proofs.Common.{◌≡◌, ◌⊎◌, ℕ, true, IsTrue, List, Option, None, Some, sym, ap, subst, ◌∙◌, unwrap_or, inl, inr}
 use Rattle.std.specs.Prelude.{Result, Err}
-use mathlib.Core.Bool.{beq}
 use Rattle.vm_store.specs.Facts.{StoreFacts}
 use Rattle.geos_model.specs.Document.{is_valid_body}
 use Rattle.geos_model.specs.Image.{image, body_of}

@@ -1,40 +1,54 @@
 //! Bodies that go from memory into the file, and come from there.
-ghost use Rattle.std.specs.Prelude.{◌≡◌, ◌≢◌, ◌⊎◌, ◌<◌, ℕ, false, true, cond, nat_lt, List, [], ◌∷◌, length, IsTrue, is_some, None, Some, IfOk, OnOk, OnErr, MatchOption};
+ghost use Rattle.std.specs.Prelude.{◌≡◌, ◌≢◌, ◌⊎◌, ◌<◌, ℕ, false, true, cond, nat_lt, List, [], ◌∷◌, length, IsTrue, is_some, None, Some, IfOk, OnOk, OnErr, MatchOption, MatchResult};
 ghost use Rattle.geos_model.specs.Document.{Document, block_at, is_heap, is_heap_body, is_live, with_body};
+ghost use Rattle.geos_model.specs.declared.command.Body.TheVariants as bodies;
 ghost use Rattle.document_file.specs.Calls.{IsPut, put_all, last_sequence};
 ghost use Rattle.document_file.specs.Documents.{Documents};
-ghost use Rattle.document_file.specs.Effects.{IsCommit, OnlyReads, Fails, NoFault, IsDamage, IsWorn};
+ghost use Rattle.document_file.specs.Effects.{IsCommit, LeavesDocument, OnlyReads, Fails, NoFault, IsDamage, IsWorn};
 ghost use Rattle.vm_blocks.specs.Bodies.{body_value};
 ghost use Rattle.vm_blocks.specs.Frames.{frame_of, residents, overlay, with_frames, changed_in, is_changed_in, AreClean, IsChangedBody, AreFramesOf, KeepsOverlay};
 
 use crate::body::{BlockBody, read_image};
 use crate::frame::{Frame, mark};
 use buffer_pool::BufferPool;
-use document_file::{BlockImage, Member, VmFile};
+use document_file::{BlockImage, Image, Member, VmFile};
 use geos_model::{Fault, VmHandle};
+use lmem_heap::Heap;
 use raw_region::Region;
 use std::alloc::{AllocError, Global};
 use vm_store::Store;
 
-// A block in memory, of the kind that it has in the file, as it is put there.
-fn put_of<S: Store>(
-    alloc: Global,
-    file: &VmFile<S>,
-    block: VmHandle,
-    body: &BlockBody,
-) -> Result<Member, AllocError>
-    requires live { is_live file.now.document block.0 ≡ true }
-    requires kind { is_heap_body (body_value body.now) ≡ is_heap file.now.document block.0 }
+// A heap in memory as it is put into the file.
+fn put_of<S: Store>(file: &VmFile<S>, block: VmHandle, heap: &Heap) -> Result<Member, AllocError>
+    requires { is_live file.now.document block.0 ≡ true }
     ensures put { IfOk result IsPut }
-    ensures is { IfOk result
-        (λ put. put_all (put ∷ []) file.now.document ≡ with_body file.now.document block.0 (body_value body.now)) }
+    ensures is { IfOk result (λ put. put_all (put ∷ []) file.now.document
+        ≡ with_body file.now.document block.0 (bodies.Heap heap.now.chunks)) }
 {
-    file.reveal_invariant();
     let place = file.entry(block).unwrap();
     Ok(Member {
         handle: block,
-        block: BlockImage::new(place.attributes, body.image(alloc)?),
+        block: BlockImage::new(place.attributes, Image::of_heap(heap)?),
     })
+}
+
+// Puts a body of a block, of the kind that it has in the file, there. A raw one is written from where it lies. Memory,
+// File.
+fn put_body<S: Store>(file: &mut VmFile<S>, block: VmHandle, body: &BlockBody) -> Result<(), Fault>
+    requires live { is_live file.old.document block.0 ≡ true }
+    requires kind { is_heap_body (body_value body.now) ≡ is_heap file.old.document block.0 }
+    ensures keeps { MatchResult result
+        (λ _. LeavesDocument S.facts (with_body file.old.document block.0 (body_value body.now)) file.old file.new)
+        (λ _. LeavesDocument S.facts file.old.document file.old file.new) }
+    ensures fails { Fails S.facts NoFault file.old.disk.store file.new.disk.store result }
+{
+    match body {
+        BlockBody::Raw(raw) => file.put_raw_image(block, raw.image()),
+        BlockBody::Heap(heap) => {
+            let puts = [put_of(file, block, heap)?];
+            file.put_blocks(&puts, &[])
+        }
+    }
 }
 
 // The body of a block in memory, if it is changed.
@@ -57,7 +71,6 @@ fn changed_body(frames: &BufferPool<Frame>, block: u16) -> Option<&BlockBody>
 
 /// Puts a block in memory into the file, if it is changed. Memory, File.
 pub fn write_back<S: Store>(
-    alloc: Global,
     file: &mut VmFile<S>,
     frames: &mut BufferPool<Frame>,
     block: VmHandle,
@@ -78,8 +91,7 @@ pub fn write_back<S: Store>(
     match changed_body(frames, block.0) {
         None => Ok(()),
         Some(body) => {
-            let puts = [put_of(alloc, file, block, body)?];
-            file.put_blocks(&puts, &[])?;
+            put_body(file, block, body)?;
             mark(frames, block.0, false);
             Ok(())
         }
@@ -147,7 +159,7 @@ pub fn flush<S: Store>(
     // Found in one walk, since a walk for each of them would take the square of their number.
     let blocks = changed_blocks(alloc, frames)?;
     for block in &blocks {
-        write_back(alloc, file, frames, VmHandle(*block))?;
+        write_back(file, frames, VmHandle(*block))?;
     }
     Ok(())
 }

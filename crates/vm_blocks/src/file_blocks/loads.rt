@@ -178,12 +178,7 @@ impl<S: Store> FileBlocks<S> {
         ensures fails { Fails S.facts NoFault self.old.disk.store self.new.disk.store result }
     {
         let block = victim(&self.frames).unwrap();
-        write_back(
-            self.alloc,
-            &mut self.file,
-            &mut self.frames,
-            VmHandle(block),
-        )?;
+        write_back(&mut self.file, &mut self.frames, VmHandle(block))?;
         let _count = self.frames.len();
         let frame = self.frames.pop(block).unwrap();
         Ok(frame.body.into_region())

@@ -1,4 +1,4 @@
-use Rattle.std.proofs.Common.{◌≡◌, is_some, sym, ap, ◌∙◌}
+use Rattle.std.proofs.Common.{is_some, sym, ap, ◌∙◌}
 use Rattle.geos_model.specs.Document.{is_heap, is_live}
 use Rattle.vm_blocks.proofs.DocumentUnderFrames.{overlay_kind, overlay_live}
 use Rattle.vm_blocks.proofs.file_blocks.FileBlocks.kind.Goals as goal
