@@ -77,7 +77,7 @@ check() {
 first="embedding lent_bytes each_request failing_calls limits dumped_documents salvaged summed_documents checksums_given looks memory_given_back edits_by_chance heap_by_chance large_by_chance bench"
 first="$first instructions made_beside stat_counted compared_documents changed_bytes program_ends examples designs_measured pages_checked ways_to_start"
 first="$first prompts commands_listed"
-second="failing_calls_from_c outline_editor rust_crate installed cpp_header python_package"
+second="cpp_header outline_editor rust_crate python_package installed failing_calls_from_c"
 
 # script_of NAME: the file of a check.
 script_of() {
@@ -228,14 +228,18 @@ run_each() {
     # shellcheck disable=SC2086
     printf '%s\n' $1 | xargs -r -P 4 -I NAME sh test.sh --one NAME "$folder"
 }
-if [ -e "$folder/copy" ]; then
+if [ -e "$folder/copy" ] && ! kill -0 "$early" 2>/dev/null; then
+    cat "$folder/early"
+    run_each "$second ${first#embedding }"
+elif [ -e "$folder/copy" ]; then
     run_each "${first#embedding }"
     wait "$early"
     cat "$folder/early"
+    run_each "$second"
 else
     run_each "$first"
+    run_each "$second"
 fi
-run_each "$second"
 for name in $first $second; do
     if [ "$(cat "$folder/$name.status" 2>&1)" = passed ]; then
         passed=$((passed + 1))
