@@ -113,14 +113,14 @@ pub fn push_words(out: &mut Vec<u8>, name: &str, operands: &[Word]) -> Result<()
     Ok(())
 }
 
-// What stands behind a name is put there by its shape, so that the proof of a table of commands has few steps for each.
-// Inlined, since each is one call.
+// A name and its operands, by a function for each number of these: so a row of a table of commands is one call with few
+// steps, and its text is known by the call's clause alone. Inlined, since each is one call.
 
 /// Puts a name and one operand behind `out`.
 #[inline(always)]
 pub(crate) fn push_one<A: Spelled>(out: &mut Vec<u8>, name: &str, a: &A) -> Result<(), AllocError>
-    ensures ok { OnOk result
-        (out.new.items ≡ out.old.items ++ (name.now ++ flat_map (λ w. 32 ∷ w) (A.spelled a.now ∷ []))) }
+    ensures ok { OnOk result (out.new.items ≡ out.old.items
+        ++ (name.now ++ flat_map (λ w. 32 ∷ w) (A.spelled a.now ∷ []))) }
     ensures err { OnErr result (Extends out.old.items out.new.items) }
 {
     push_words(out, name, &[a.word()])
@@ -134,8 +134,8 @@ pub(crate) fn push_two<A: Spelled, B: Spelled>(
     a: &A,
     b: &B,
 ) -> Result<(), AllocError>
-    ensures ok { OnOk result
-        (out.new.items ≡ out.old.items ++ (name.now ++ flat_map (λ w. 32 ∷ w) (A.spelled a.now ∷ B.spelled b.now ∷ []))) }
+    ensures ok { OnOk result (out.new.items ≡ out.old.items
+        ++ (name.now ++ flat_map (λ w. 32 ∷ w) (A.spelled a.now ∷ B.spelled b.now ∷ []))) }
     ensures err { OnErr result (Extends out.old.items out.new.items) }
 {
     push_words(out, name, &[a.word(), b.word()])
@@ -150,8 +150,8 @@ pub(crate) fn push_three<A: Spelled, B: Spelled, C: Spelled>(
     b: &B,
     c: &C,
 ) -> Result<(), AllocError>
-    ensures ok { OnOk result
-        (out.new.items ≡ out.old.items ++ (name.now ++ flat_map (λ w. 32 ∷ w) (A.spelled a.now ∷ B.spelled b.now ∷ C.spelled c.now ∷ []))) }
+    ensures ok { OnOk result (out.new.items ≡ out.old.items
+        ++ (name.now ++ flat_map (λ w. 32 ∷ w) (A.spelled a.now ∷ B.spelled b.now ∷ C.spelled c.now ∷ []))) }
     ensures err { OnErr result (Extends out.old.items out.new.items) }
 {
     push_words(out, name, &[a.word(), b.word(), c.word()])
@@ -167,8 +167,8 @@ pub(crate) fn push_four<A: Spelled, B: Spelled, C: Spelled, D: Spelled>(
     c: &C,
     d: &D,
 ) -> Result<(), AllocError>
-    ensures ok { OnOk result
-        (out.new.items ≡ out.old.items ++ (name.now ++ flat_map (λ w. 32 ∷ w) (A.spelled a.now ∷ B.spelled b.now ∷ C.spelled c.now ∷ D.spelled d.now ∷ []))) }
+    ensures ok { OnOk result (out.new.items ≡ out.old.items ++ (name.now ++ flat_map (λ w. 32 ∷ w)
+        (A.spelled a.now ∷ B.spelled b.now ∷ C.spelled c.now ∷ D.spelled d.now ∷ []))) }
     ensures err { OnErr result (Extends out.old.items out.new.items) }
 {
     push_words(out, name, &[a.word(), b.word(), c.word(), d.word()])
@@ -185,8 +185,8 @@ pub(crate) fn push_five<A: Spelled, B: Spelled, C: Spelled, D: Spelled, E: Spell
     d: &D,
     e: &E,
 ) -> Result<(), AllocError>
-    ensures ok { OnOk result
-        (out.new.items ≡ out.old.items ++ (name.now ++ flat_map (λ w. 32 ∷ w) (A.spelled a.now ∷ B.spelled b.now ∷ C.spelled c.now ∷ D.spelled d.now ∷ E.spelled e.now ∷ []))) }
+    ensures ok { OnOk result (out.new.items ≡ out.old.items ++ (name.now ++ flat_map (λ w. 32 ∷ w)
+        (A.spelled a.now ∷ B.spelled b.now ∷ C.spelled c.now ∷ D.spelled d.now ∷ E.spelled e.now ∷ []))) }
     ensures err { OnErr result (Extends out.old.items out.new.items) }
 {
     push_words(
