@@ -108,7 +108,8 @@ module _ (ss : List Span) (i : ℕ) (less : i < length ss) where
       → directed_pieces d (pieces_of (drop i ss) row) ≡ directed_piece d (piece_of here row) ∷ directed_pieces d (pieces_of (drop (i + 1) ss) (drop (own here) row))
   next_pieces d row = ap (λ (l : List Span). directed_pieces d (pieces_of l row)) next_span ∙ directed-cons d (piece_of here row) (pieces_of (drop (i + 1) ss) (drop (own here) row))
 
-  -- bytes are those of the pieces from here on where they begin with those of the first, and go on with those of the others
+  -- bytes are those of the pieces from here on where they begin with those of the first, and go on with those of the
+  -- others
   module _ (d : Direction) (row rest : List ℕ) (room : own here ≤ length row) where
     abbrev next : PatchPiece
     next = directed_piece d (piece_of here row)

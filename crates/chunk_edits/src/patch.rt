@@ -98,8 +98,8 @@ struct Pieces {
     content: SmallVec<u8, FEW_BYTES>,
 }
 
-/// All bytes of a chunk or a raw body in pieces, of which some stay and others change. Contracts see it as the pieces, the first one
-/// first.
+/// All bytes of a chunk or a raw body in pieces, of which some stay and others change. Contracts see it as the pieces,
+/// the first one first.
 #[derive(Drop)]
 pub struct Patch {
     pieces: Box<Pieces>,
@@ -187,7 +187,8 @@ impl Patch {
         self.pieces.content.len() as u64
     }
 
-    /// How many bytes a chunk or a raw body has before the patch is carried out in a direction; 2^64 - 1 where these are more.
+    /// How many bytes a chunk or a raw body has before the patch is carried out in a direction; 2^64 - 1 where these
+    /// are more.
     pub fn size_before(&self, direction: Direction) -> usize
         ensures { result ≡ min (total_taken (directed_pieces direction self.now)) (2 ^ 64 - 1) }
     {
@@ -382,8 +383,8 @@ fn apply_raw_spans(body: &mut RawBody, spans: &[Span], content: &[u8], direction
     }
 }
 
-/// Makes of the bytes at a place of a raw body what a span's piece makes of them in a direction. The bytes that it holds
-/// are the first of the row. Gives the place behind them.
+/// Makes of the bytes at a place of a raw body what a span's piece makes of them in a direction. The bytes that it
+/// holds are the first of the row. Gives the place behind them.
 fn apply_raw_span(
     body: &mut RawBody,
     at: usize,

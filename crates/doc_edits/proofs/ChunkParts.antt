@@ -55,7 +55,8 @@ pub record Elements : Type 0 where
 abbrev pub one_at : ℕ → Elements
 one_at t = record { from = t; to = t + 1; others = 1 }
 
--- An edit of the array in a chunk: its own refusals of its bytes, what it makes of them, by replacing which elements, and what it answers.
+-- An edit of the array in a chunk: its own refusals of its bytes, what it makes of them, by replacing which elements,
+-- and what it answers.
 pub record EditsChunk (edit : Edit) (d : Document) (b : VmHandle) (c : ChunkHandle) (own : List ℕ → Conditions) (to : List ℕ → List ℕ) (at : List ℕ → Elements) (done : Done) : Type 0 where
   pub are_own : (bytes : List ℕ) → AreOwn (own bytes)
   pub refusals : let old = chunk_at d b.0 c.0 in conditions edit d ≡ on_new_bytes d b.0 c.0 (own old) (to old)
@@ -64,7 +65,8 @@ pub record EditsChunk (edit : Edit) (d : Document) (b : VmHandle) (c : ChunkHand
   pub cost : (after : Document) → cost edit d after ≡ both_lengths d after b.0 c.0
   pub places : let e = at (chunk_at d b.0 c.0) in places_of edit d ≡ at_elements edit d b c e.from e.to e.others
 
--- What an edit of an array builds for these bytes: nothing of its own refuses it, and what it makes of them is no longer than any chunk.
+-- What an edit of an array builds for these bytes: nothing of its own refuses it, and what it makes of them is no
+-- longer than any chunk.
 abbrev pub BuildsFor : ArrayPatch → List ℕ → (List ℕ → Conditions) → (List ℕ → List ℕ) → (List ℕ → Elements) → Type 0
 BuildsFor p bytes own to at = ReplacesAt (own bytes) bytes (to bytes) (at bytes).from (at bytes).to (at bytes).others p
 

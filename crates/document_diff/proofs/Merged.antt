@@ -47,7 +47,8 @@ stays : (h : ℕ) (xs : List ℕ) → IsAbove h xs → rest_behind h xs ≡ xs
 stays h [] above = refl
 stays h (x ∷ xs) above = cond-false _ _ _ (ne_eqb x h (λ e. omega (arith, e, above)))
 
--- what a row tells, of which these handles are in the lists: nothing, or what differs under the lesser first one and then what a later row does
+-- what a row tells, of which these handles are in the lists: nothing, or what differs under the lesser first one and
+-- then what a later row does
 record Next (f : ℕ → List Difference) (p q : ℕ → Bool) (xs ys : List ℕ) (ds : List Difference) (h : ℕ) : Type 0 where
   pub i : ℕ
   pub k : ℕ

@@ -1,4 +1,5 @@
--- A slot that is whole but for its gate: with the gate open, a file that a crash leaves stands for what the slot leads to.
+-- A slot that is whole but for its gate: with the gate open, a file that a crash leaves stands for what the slot leads
+-- to.
 use Rattle.std.proofs.Common.{◌≡◌, ◌≢◌, ℕ, ◌+◌, ◌*◌, List, [], ◌∷◌, All, refl, ap, subst, ◌∙◌, arith}
 use Rattle.vm_store.specs.Facts.{StoreFacts, byte}
 use Rattle.vm_store.specs.Bytes.{writes-after_write, torn-after_write}

@@ -1,5 +1,5 @@
--- What a commit that was acknowledged leaves: the version that it wrote, and the slot of the commit before, which is shut
--- where it gave sums, and else stays.
+-- What a commit that was acknowledged leaves: the version that it wrote, and the slot of the commit before, which is
+-- shut where it gave sums, and else stays.
 use Rattle.std.proofs.Common.{◌≡◌, ◌≢◌, ◌⊎◌, ℕ, ◌+◌, ◌*◌, ◌^◌, ◌<◌, ◌≤◌, ◌==◌, Bool, true, false, IsTrue, List, length, All, None, Some, refl, sym, ap, subst, ◌∙◌, arith, inl, inr, eqb-true}
 use Rattle.std.specs.Prelude.{if◌then◌else◌}
 use Rattle.std.proofs.lemmas.Bool.{cases_Bool, cases_lt, eqb-false}

@@ -83,7 +83,8 @@ spared_by slots kept extents puts n old new are fills = record {
   crash = fills.crash;
 }
 
--- the live table's images and the marked ones, where what is written is apart from them and from all that the slots stand on
+-- the live table's images and the marked ones, where what is written is apart from them and from all that the slots
+-- stand on
 pub spared_images : (slots : Slots) (live : List Extent) (puts : List Member) (images : List Extent) (a b : StoreFacts) → AreFor (live ++ referenced_extents slots) puts (length puts) images
     → Fills slots images a b → SparesExtents (live ++ marked_extents slots.marked) slots a b
 spared_images slots live puts images a b found fills =

@@ -151,8 +151,8 @@ abbrev pub page_behind : ℕ → List (Option Place) → ℕ
 page_behind page [] = page
 page_behind page (o ∷ os) = page_behind (page + pages_taken o) os
 
--- An image of the place's kind, with the sum that the place keeps, is put at a page; it is the one that an honest source
--- has.
+-- An image of the place's kind, with the sum that the place keeps, is put at a page; it is the one that an honest
+-- source has.
 pub record IsImageCopied (checksums : Bool) (page : ℕ) (place : Place) (honest : Type 0) (source old new : List ℕ)
     : Type 0 where
   pub image : List ℕ

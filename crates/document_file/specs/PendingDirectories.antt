@@ -26,8 +26,8 @@ pub record IsSavedAnew (slots : Slots) (pending : PendingDirectory) : Type 0 whe
   pub given : slots.saved_sums ≡ Some table
   pub made : IsMadeDirectory table slots pending
 
--- The directory of the live table in the version that commits write, with its text, its sum and a place on which nothing lies that
--- stays.
+-- The directory of the live table in the version that commits write, with its text, its sum and a place on which
+-- nothing lies that stays.
 pub record IsPendingDirectory (live : BlockTable) (slots : Slots) (pending : PendingDirectory) : Type 0 where
   pub table : IsCopy pending.document.table.value live
   pub text : pending.text.items ≡

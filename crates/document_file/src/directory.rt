@@ -128,8 +128,8 @@ pub fn pending_directory_of(
     Ok(pending)
 }
 
-/// The directory of the saved document with the sums that the file gets by a commit that keeps that document. None where
-/// it gets none, or where the commit `saves`.
+/// The directory of the saved document with the sums that the file gets by a commit that keeps that document. None
+/// where it gets none, or where the commit `saves`.
 pub fn saved_anew(
     alloc: Global,
     slots: &Slots,

@@ -21,8 +21,8 @@ use geos_model::Fault;
 use std::alloc::{AllocError, Global};
 use vm_store::Store;
 
-/// The directory of the saved document with the sums that the file gets, and None where it gets none. Only where it does
-/// the free space is looked at.
+/// The directory of the saved document with the sums that the file gets, and None where it gets none. Only where it
+/// does the free space is looked at.
 pub fn reverted_anew(
     alloc: Global,
     live: &BlockTable,

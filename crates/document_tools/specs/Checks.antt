@@ -47,7 +47,8 @@ ChecksStore writes file old new from to endings.Memory = to ≡ from
 ChecksStore writes file old new from to ending =
     (r : Report) × (IsTrue old.honest → IsReport old.content r) × PrintsReport writes r from to ending
 
--- What a check of the file of a name comes to: it is opened to be read alone, and checked, and nothing is written to it.
+-- What a check of the file of a name comes to: it is opened to be read alone, and checked, and nothing is written to
+-- it.
 abbrev pub ChecksFile : {V S W : Type 0} → Views V S → (S → StoreFacts) → WriteCalls W → List ℕ → V → V → W → W → Ending
     → Type 0
 ChecksFile {V} {S} views facts writes file old new from to ending =

@@ -89,7 +89,8 @@ slot_bytes-other : (s : Slots) (t : ℕ) (slot : Option Element) (free : List �
 slot_bytes-other s t slot free j None same = ap (λ (n : ℕ). word n ++ 0xFF ∷ replicate s.size 0) same
 slot_bytes-other s t slot free j (Some e) same = refl
 
--- What puts another slot and other free tokens into an array of slots, where the free token after each other one is the same.
+-- What puts another slot and other free tokens into an array of slots, where the free token after each other one is the
+-- same.
 pub put-changed : (more : List ℕ) (s : Slots) (t : ℕ) (slot : Option Element) (free extra element : List ℕ) → t < length s.slots → ((j : ℕ) → (t ≡ j → ⊥) → token_after free j ≡ token_after s.free j) → extra ≡ word (first_token free) ++ more → element ≡ slot_bytes (changed s t slot free) t slot → put (slots_array more s) extra t (t + 1) element ≡ slots_array more (changed s t slot free)
 unfolding slots_array
 put-changed more s t slot free extra element l same first spells =

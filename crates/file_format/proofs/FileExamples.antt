@@ -70,8 +70,8 @@ zeros-told : stands (created 3 3) ≡ Err Damaged
 unfolding created no_blocks sums.crc32c_after sums.step
 zeros-told = refl
 
--- a file of a version whose updated document has the block 1, of the user ID 7, a type and an image of three bytes, as its map block, and
--- whose saved one has none
+-- a file of a version whose updated document has the block 1, of the user ID 7, a type and an image of three bytes, as
+-- its map block, and whose saved one has none
 one_block : ℕ → ℕ → List ℕ → List ℕ
 one_block version heap_type bytes =
     (0x47 ∷ 0x56 ∷ 0x4d ∷ 0x46 ∷ 1 ∷ version ∷ 0 ∷ 0 ∷ 5 ∷ 0 ∷ 0 ∷ 0 ∷ 0 ∷ 0 ∷ 0 ∷ 0 ∷ 2 ∷ 0 ∷ 0 ∷ 0 ∷ 32 ∷ 0 ∷ 0 ∷ 0 ∷ 3 ∷ 0 ∷ 0 ∷ 0 ∷ 16 ∷ 0 ∷ 0 ∷ 0 ∷ [])

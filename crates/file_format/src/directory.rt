@@ -288,8 +288,8 @@ pub fn read_entry(version: u16, text: &[u8]) -> Entry
     }
 }
 
-// Whether the words that say nothing are zero in an entry's text in a directory of this version: the last one before the
-// sum, and in version 1 the type's. All other bytes are those of the entry that was read from them.
+// Whether the words that say nothing are zero in an entry's text in a directory of this version: the last one before
+// the sum, and in version 1 the type's. All other bytes are those of the entry that was read from them.
 fn is_padded(version: u16, text: &[u8]) -> bool
     requires { length text.now ≡ entry_length version }
     ensures { IsTrue result ↔ (text.now ≡ entry_text version (entry_read version text.now)) }
@@ -298,8 +298,8 @@ fn is_padded(version: u16, text: &[u8]) -> bool
         && (version != 1 || LittleEndian::read_u16(&text[12..]) == 0)
 }
 
-// Whether an entry that was read from this text is the one of it in a directory of this version, may stand behind one of
-// the handle `last`, and can stand in the file.
+// Whether an entry that was read from this text is the one of it in a directory of this version, may stand behind one
+// of the handle `last`, and can stand in the file.
 fn is_next(
     entry: &Entry,
     text: &[u8],

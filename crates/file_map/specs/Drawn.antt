@@ -30,7 +30,8 @@ pub record IsFileMap (file : List ℕ) (m : FileMap) : Type 0 where
   pub parts : m.parts.items ≡ map (part_of_usage file) usages
   pub pages : m.pages ≡ pages_of (length file)
 
--- The same parts by their blocks' handles. Of two of one block that of the saved document alone stands behind the other.
+-- The same parts by their blocks' handles. Of two of one block that of the saved document alone stands behind the
+-- other.
 pub record AreByHandle (ps : List Part) (by_handle : List Part) : Type 0 where
   pub same : IsPermutation ps by_handle
   pub sorted : IsNonDecreasingBy handle_rank by_handle

@@ -85,7 +85,8 @@ impl Part {
         !matches!(self.users, Users::Updated)
     }
 
-    /// By this heaps are drawn one below the other: the blocks' handles, and of one block the saved document's comes last.
+    /// By this heaps are drawn one below the other: the blocks' handles, and of one block the saved document's comes
+    /// last.
     pub fn handle_rank(&self) -> u32
         ensures { result ≡ handle_rank self.now }
     {

@@ -156,9 +156,10 @@ fn salvage_place<S: Store, W: Write>(
 }
 
 /// Writes a script of commands that makes all blocks anew that are whole in a file, whether or not it opens, with lines
-/// before it that tell which are left out, whether the slot is closed, and whether the directory's sum is wrong. With `all` those are taken too whose
-/// image can be read and hasn't its sum, and a line tells of each. False where no directory can be read; then nothing is
-/// written. Nothing is written to the store. The writer gets many short pieces, so it should be buffered.
+/// before it that tell which are left out, whether the slot is closed, and whether the directory's sum is wrong. With
+/// `all` those are taken too whose image can be read and hasn't its sum, and a line tells of each. False where no
+/// directory can be read; then nothing is written. Nothing is written to the store. The writer gets many short pieces,
+/// so it should be buffered.
 pub fn salvage<S: Store, W: Write>(
     alloc: Global,
     store: &mut S,

@@ -17,8 +17,8 @@ use Rattle.c_sessions.specs.contracts.kept.Kept as kept
 abbrev pub only_allocator : Global
 only_allocator = record { memory = record { seal = tt } }
 
--- A session that is kept, in a file of the program's. What is known of its store doesn't depend on the code of the calls
--- on files, so any stands for that.
+-- A session that is kept, in a file of the program's. What is known of its store doesn't depend on the code of the
+-- calls on files, so any stands for that.
 abbrev no_code : Dict
 no_code = impl [] tnil dnil
 

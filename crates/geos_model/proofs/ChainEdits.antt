@@ -1,5 +1,5 @@
--- The blocks of a chain and of its copy under their handles. An edit of a chain that nothing refuses finds one: a copy has its
--- shape, and freed blocks are gone.
+-- The blocks of a chain and of its copy under their handles. An edit of a chain that nothing refuses finds one: a copy
+-- has its shape, and freed blocks are gone.
 use Rattle.std.proofs.Common.{◌≡◌, ◌≤◌, ℕ, true, false, ◌==◌, List, [], ◌∷◌, length, Option, Some, None, is_none, is_some, unwrap_or, refl, sym, ap, ltb-false}
 use Rattle.std.proofs.lemmas.Bool.{eq-eqb}
 use Rattle.std.proofs.lemmas.List.Elements.{All-map, All-weaker, All-contains_itself}

@@ -1,4 +1,5 @@
--- Each edit that nothing refuses reaches the document after it by its places, so that these can be put together and taken back.
+-- Each edit that nothing refuses reaches the document after it by its places, so that these can be put together and
+-- taken back.
 use Rattle.std.proofs.Common.{◌≡◌, ℕ, ◌+◌, ◌-◌, ◌<◌, ◌≤◌, Bool, true, false, List, [], ◌∷◌, ◌++◌, length, drop, map, get_or, min, replicate, None, is_none, unwrap_or, refl, sym, subst, arith, ltb-false}
 use Rattle.std.proofs.lemmas.Bool.{leb-false}
 use Rattle.std.proofs.lemmas.List.{length-replicate}

@@ -1,4 +1,5 @@
--- The first refusal where a condition stands in front of others: that a block is locked, or that there is no room in memory.
+-- The first refusal where a condition stands in front of others: that a block is locked, or that there is no room in
+-- memory.
 use Rattle.std.proofs.Common.{◌≡◌, ℕ, ◌+◌, nat_lt, if◌then◌else◌, Bool, true, false, not, ◌==◌, ◌&&◌, ◌||◌, List, [], ◌∷◌, ◌++◌, Some, None, find, refl, sym, ap, ◌∙◌, inl, inr, eqb-true}
 use Rattle.std.proofs.lemmas.Bool.{cases_Bool, true≢false, and_parts, and_from, or_left, or_right, eq-eqb, not-true}
 use Rattle.std.specs.List.{list_any, list_all}
@@ -121,8 +122,8 @@ module _ (g : Fault) (holds : Bool) (cs : Conditions) where
   pub still_first : (f : Fault) → ComesBefore f g → first_refusal cs ≡ Some f → first_refusal all ≡ Some f
   still_first f before first = found_still f one_order first before
 
-  -- Where the one in front holds it is answered, if the first of the others is looked for later or there is none. That it stands in
-  -- the one order is `refl` where it is known.
+  -- Where the one in front holds it is answered, if the first of the others is looked for later or there is none. That
+  -- it stands in the one order is `refl` where it is known.
 
   pub front_first : (f : Fault) → ComesBefore g f → holds ≡ true → first_refusal cs ≡ Some f → first_refusal all ≡ Some g
   front_first f before is first = found_front f one_order is first before
@@ -209,8 +210,8 @@ room_first holds cs is none block kind =
 abbrev pub are_later : List Fault → Bool
 are_later fs = list_all (λ f. not (stands_in f fs)) (NoBlock ∷ WrongKind ∷ before_room)
 
--- Want of room in memory before later refusals, which may stand behind the conditions of a block that is there, of one that is raw, of
--- a heap, or of one or two chains that begin at a raw block.
+-- Want of room in memory before later refusals, which may stand behind the conditions of a block that is there, of one
+-- that is raw, of a heap, or of one or two chains that begin at a raw block.
 module _ (fs : List Fault) (rest : Conditions) (are : AreAmong fs rest) (later : are_later fs ≡ true) (holds : Bool) (is : holds ≡ true) where
   none : none_apply (NoBlock ∷ WrongKind ∷ before_room) rest ≡ true
   none = none_of_others fs rest (NoBlock ∷ WrongKind ∷ before_room) are later
@@ -244,7 +245,8 @@ module _ (fs : List Fault) (rest : Conditions) (are : AreAmong fs rest) (later :
       → first_refusal ((CacheFull, holds) ∷ on_chains d b c ++ rest) ≡ Some CacheFull
   full-chains d b c live raw there kind = room_first holds (on_chains d b c ++ rest) is no_other (rw (live, there, no_block) refl) (rw (raw, kind, no_kind) refl)
 
--- What the document refuses of an edit or of a look-up is of a block or of its kind, or later than lack of room in memory.
+-- What the document refuses of an edit or of a look-up is of a block or of its kind, or later than lack of room in
+-- memory.
 
 -- so are those of an edit that sets elements of a large array, whether they vary in size or not
 set-early : (d : Document) (b i : ℕ) (bytes : List ℕ) (vary : Bool)

@@ -1,4 +1,5 @@
--- Each edit that nothing refuses reaches the document after it by its places, so that these can be put together and taken back.
+-- Each edit that nothing refuses reaches the document after it by its places, so that these can be put together and
+-- taken back.
 use Rattle.std.proofs.Common.{◌≡◌, ℕ, true, ◌+◌, ◌<◌, ◌≤◌, ◌&&◌, ◌==◌, List, [], ◌∷◌, ◌++◌, length, None, refl, sym, ap, subst, ◌∙◌, inl, inr, arith, ltb-false, eqb-true}
 use Rattle.std.proofs.lemmas.Bool.{cases_Bool, cond-true, cond-false}
 use Rattle.std.proofs.lemmas.List.{map-append}

@@ -37,8 +37,8 @@ back (d, s ∷ past) = (s.document, past)
 abbrev pub edited_in : Option OpenGroup → Option Bool
 edited_in group = option_map (λ g. g.edited) group
 
--- Calls with this tally came to the machine with this limit from this past: undoing the steps that they made goes back there. A group
--- without an edit has left the document.
+-- Calls with this tally came to the machine with this limit from this past: undoing the steps that they made goes back
+-- there. A group without an edit has left the document.
 pub record Counted (limit : Option ℕ) (start : Past) (t : Tally) (m : Machine) : Type 0 where
   pub group : t.group ≡ edited_in m.group
   pub whole : IfSome m.group (λ g. g.edited ≡ false → m.document ≡ g.before)
@@ -254,7 +254,8 @@ counted-back t old new none undo counted =
     counted-here t new (undo.limit ∙ counted.bound) none (counted.group ∙ ap edited_in (undo.was ∙ sym undo.stays))
     (subst (λ group. IfSome group (λ g. g.edited ≡ false → new.document ≡ g.before)) (sym undo.stays) tt)
 
--- Among calls that make no step each undo goes back once, and what else is accepted but what replaces steps stands where it stood.
+-- Among calls that make no step each undo goes back once, and what else is accepted but what replaces steps stands
+-- where it stood.
 calls-undone : (calls : List Call) (t : Tally) (old new : Machine) → accepted replaces_steps calls ≡ 0 → (after_calls calls t).steps ≡ 0
     → Run old calls new → Counted None (outside old) t old → outside new ≡ iterate back (accepted is_undo calls) (outside old)
 calls-undone [] t old new none no_steps run counted = ap outside run

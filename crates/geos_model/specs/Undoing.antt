@@ -103,8 +103,8 @@ steps_made cs = (tally cs).steps
 
 -- Where no group is open at the start, after the edits and after the undos, and no limit forgets steps: undoing as many
 -- steps as the edits made gives back the document and the past of the start. Groups may be abandoned among the edits;
--- with no step and no undo it says what an abandoned group leaves. No step is made among the undos, so that groups there
--- are empty or abandoned.
+-- with no step and no undo it says what an abandoned group leaves. No step is made among the undos, so that groups
+-- there are empty or abandoned.
 abbrev pub UndoLaw : Type 0
 UndoLaw =
     (old mid new : Machine) (edits undos : List Call) → old.group ≡ None → old.undo_limit ≡ None

@@ -149,8 +149,8 @@ LeavesFiles facts old None reply new = SameFiles old new
 -- Requests.
 
 -- An undo or a redo that is sure, as a session says which are, is accepted and calls no store, where no group is open
--- and no block is locked. So is an abandon of a group whose changes are sure to be taken back, where no block is locked.
--- Forgetting always is.
+-- and no block is locked. So is an abandon of a group whose changes are sure to be taken back, where no block is
+-- locked. Forgetting always is.
 abbrev pub IsTakenIfSure : {S : Type 0} → (S → StoreFacts) → SessionState S → Request → Reply → SessionState S → Type 0
 IsTakenIfSure facts old (Some commands.Undo) reply new =
     busy_fault old ≡ None → IsSure facts old Backwards old.log.undo → (reply ≡ Accepted) × (new.disk ≡ old.disk)
@@ -176,8 +176,8 @@ is_refusal (Refused fault) = true
 is_refusal reply = false
 
 -- What a refusal leaves over any store: the document, as far as the store gives back what it has, the log with its
--- group, the locks, the frames and the number of the last commit. A target is left where one was, and what was put aside
--- stays.
+-- group, the locks, the frames and the number of the last commit. A target is left where one was, and what was put
+-- aside stays.
 pub record KeepsHolding {S : Type 0} (facts : S → StoreFacts) (old new : Holding S) : Type 0 where
   pub document : SameUnlessCorrupt (facts old.session.disk.store).honest old.session.document new.session.document
   pub log : new.session.log ≡ old.session.log
@@ -205,9 +205,9 @@ LeavesInMemory (Some commands.Redo) s = HasNextInMemory s.log.undo s
 LeavesInMemory (Some (commands.Lock b)) s = is_loaded (cache_of s) b.0 ≡ true
 LeavesInMemory request s = Unit {0}
 
--- The request is answered so over any store: a refusal leaves all, a file fault is answered only where a store failed in
--- this very call, there are as many frames as before, and what an accepted request works on is in memory. Where all is
--- exact the request is served.
+-- The request is answered so over any store: a refusal leaves all, a file fault is answered only where a store failed
+-- in this very call, there are as many frames as before, and what an accepted request works on is in memory. Where all
+-- is exact the request is served.
 pub record AnswersRequest {S : Type 0} (facts : S → StoreFacts) (old : Holding S) (request : Request) (reply : Reply)
     (new : Holding S) : Type 0 where
   pub keeps : IsTrue (is_refusal reply) → KeepsHolding facts old new

@@ -69,8 +69,8 @@ fn byte_of(high: u8, low: u8) -> u8
     ((16 * values + values / 256) % 256) as u8
 }
 
-/// Writes the bytes that pairs of digits spell, and tells whether all are digits. Where one is none, the bytes are of no
-/// use.
+/// Writes the bytes that pairs of digits spell, and tells whether all are digits. Where one is none, the bytes are of
+/// no use.
 pub(crate) fn decode_into(digits: &[u8], out: &mut [u8]) -> bool
     requires { length digits.now ≡ 2 * length out.old }
     ensures tells { result ≡ list_all is_hex_digit digits.now }

@@ -22,8 +22,8 @@ impl Spare {
         }
     }
 
-    /// Takes back what the bytes of a command took, which is done with: others are left in it. Of a command that has two
-    /// byte texts these are those of the last one.
+    /// Takes back what the bytes of a command took, which is done with: others are left in it. Of a command that has
+    /// two byte texts these are those of the last one.
     pub fn take_back(&mut self, command: &mut Command) {
         match command {
             Command::Edit(edit) => self.take_back_edit(edit),

@@ -1,4 +1,5 @@
--- What a call that is served shows of the stores: how often they failed, and which pairs of a failed commit may be read.
+-- What a call that is served shows of the stores: how often they failed, and which pairs of a failed commit may be
+-- read.
 use Rattle.std.proofs.Common.{◌≡◌, ◌⊎◌, ℕ, ◌+◌, ◌≤◌, min, Bool, true, false, cond, nat_le, [], Option, Some, None, IsTrue, Result, Ok, Err, refl, sym, subst, ◌∙◌, inl, inr, arith}
 use Rattle.std.proofs.lemmas.Bool.{leb-true}
 use Rattle.geos_model.specs.Reply.{Reply, Refused}

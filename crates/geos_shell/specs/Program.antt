@@ -23,8 +23,8 @@ use Rattle.geos_shell.specs.declared.runner.ScriptOptions.{ScriptOptions}
 
 -- ---- sessions
 
--- A session on a new file that keeps so many steps to be undone, or all: the machine of the empty document, of which the
--- file is one under the number 1; with checksums or without, by which its version is 3 or 2.
+-- A session on a new file that keeps so many steps to be undone, or all: the machine of the empty document, of which
+-- the file is one under the number 1; with checksums or without, by which its version is 3 or 2.
 pub record IsCreated {S : Type 0} (facts : S → StoreFacts) (frames : ℕ) (limit : Option ℕ) (checksums : Bool)
     (store : S) (session : SessionState S) : Type 0 where
   pub honest : (facts session.disk.store).honest ≡ (facts store).honest

@@ -41,8 +41,8 @@ pub enum RunFault {
     Write,
     /// A line, the bytes of its command or the text of a reply found no memory.
     Memory,
-    /// The command in the line of this number was refused, in a run that bails. All lines of the script are counted, from
-    /// 1 on.
+    /// The command in the line of this number was refused, in a run that bails. All lines of the script are counted,
+    /// from 1 on.
     Refused(u64),
 }
 
@@ -162,8 +162,8 @@ pub fn run_in<S: Store, R: Source, W: Sink>(
 /// Answers a script as `run_in` does, in a manner of the caller's, and in so many reads at most: a reader that hasn't
 /// ended after them has failed. Where lines are echoed, the line and a line feed go before its reply; of a line of more
 /// than 140,001 bytes, which is no command, so many. A run that bails ends by `Refused` behind the first reply that is
-/// a refusal, and carries out nothing further, whatever else was read. Each read is told whether there are edits then that
-/// the file wouldn't have.
+/// a refusal, and carries out nothing further, whatever else was read. Each read is told whether there are edits then
+/// that the file wouldn't have.
 pub fn run_in_manner<S: Store, R: Source, W: Sink>(
     alloc: Global,
     manner: ScriptOptions,

@@ -87,7 +87,8 @@ root_refused true false none rest fault is = is
 root_refused true true true rest fault is = is
 root_refused true true false rest fault is = absurd (cc is)
 
--- The tests of an edit: whether its branches are looked at, whether they aren't what the root says, and what refuses it.
+-- The tests of an edit: whether its branches are looked at, whether they aren't what the root says, and what refuses
+-- it.
 
 abbrev there : Bool → ℕ → ℕ → BranchPiece → Bool
 there accepted i j new = accepted && not ((i == j) && (length new == 0))

@@ -4,7 +4,8 @@ use Rattle.geos_model.specs.Refusal.{first_refusal}
 use Rattle.geos_model.specs.declared.fault.Fault.{Fault}
 use Rattle.geos_model.specs.declared.fault.Fault.TheVariants.{NoBlock, WrongKind, NotArray, NoElement, BadChain, IsMap, Range, TooBig, NoHandles}
 
--- what refuses an edit whose root is an array's: of the run, the branches that are looked at, the map block, what is given, and handles
+-- what refuses an edit whose root is an array's: of the run, the branches that are looked at, the map block, what is
+-- given, and handles
 abbrev pub after_root : Bool → Bool → Bool → Bool → Bool → Bool → Bool → Option Fault
 after_root past chain map range long few many =
     cond past (Some NoElement) (cond chain (Some BadChain) (cond map (Some IsMap) (cond range (Some Range) (cond long (Some TooBig)

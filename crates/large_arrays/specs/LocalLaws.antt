@@ -21,8 +21,8 @@ pub record AreAlike (d e : Document) (b : ℕ) (ks : List ℕ) : Type 0 where
   pub raw : (h : ℕ) → Contains (handles_at (root_at d b) ks) h → is_raw e h ≡ is_raw d h
   pub bytes : (h : ℕ) → Contains (handles_at (root_at d b) ks) h → raw_bytes_of e h ≡ raw_bytes_of d h
 
--- Where two documents are alike in what an edit looks at, it replaces the same blocks by the same, with the same pieces,
--- or writes over elements to the same pieces; and the same refuses it.
+-- Where two documents are alike in what an edit looks at, it replaces the same blocks by the same, with the same
+-- pieces, or writes over elements to the same pieces; and the same refuses it.
 pub record LocalLaw : Type 0 where
   pub window : (d e : Document) (b i j : ℕ) (new : BranchPiece) → i ≤ j → AreAlike d e b (replacing_looks d b i j new)
       → window e b i j new ≡ window d b i j new

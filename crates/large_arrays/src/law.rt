@@ -39,8 +39,8 @@ pub fn large_places_law()
     ensures { LargePlacesLaw }
 {}
 
-/// Branches that an edit doesn't look at play no part: in documents that are alike in what it looks at, the same refuses
-/// it, and it replaces the same branches by the same.
+/// Branches that an edit doesn't look at play no part: in documents that are alike in what it looks at, the same
+/// refuses it, and it replaces the same branches by the same.
 pub fn local_law()
     ensures { LocalLaw }
 {}

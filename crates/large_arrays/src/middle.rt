@@ -147,8 +147,8 @@ fn part_of(alloc: Global, view: &View<'_>, from: usize, to: usize) -> Result<Pie
     Ok(part)
 }
 
-/// Up to how much the last piece may weigh with what stands behind the elements: of one branch all that it has room for,
-/// since it had both.
+/// Up to how much the last piece may weigh with what stands behind the elements: of one branch all that it has room
+/// for, since it had both.
 fn tail_room(spot: &Spot) -> usize
     ensures value { result ≡ tail_room spot.now }
     ensures low { result ≤ branch_room }

@@ -176,8 +176,8 @@ pub(crate) fn plan_within<S: Store>(
     Ok(changes)
 }
 
-/// The patch of the branch. BadChain where it isn't what its link says. The patch holds what is needed of it, so that it
-/// may leave memory.
+/// The patch of the branch. BadChain where it isn't what its link says. The patch holds what is needed of it, so that
+/// it may leave memory.
 fn branch_patch<S: Store>(
     alloc: Global,
     blocks: &mut FileBlocks<S>,

@@ -59,7 +59,8 @@ impl Pieces {
         Ok(pieces)
     }
 
-    /// The same with a piece behind them: in the last one if that then weighs no more than `room`. An empty one is none.
+    /// The same with a piece behind them: in the last one if that then weighs no more than `room`. An empty one is
+    /// none.
     pub fn with_tail(self, tail: Piece, room: usize) -> Result<Pieces, AllocError>
         requires size { tail.size ≡ self.size }
         requires room { room ≤ branch_room }

@@ -1,4 +1,5 @@
--- A table's value and the space that shows it, and where its chunks lie: apart, behind the table, and packed at the end.
+-- A table's value and the space that shows it, and where its chunks lie: apart, behind the table, and packed at the
+-- end.
 use Rattle.std.proofs.Common.{◌≡◌, ◌≢◌, ℕ, ◌+◌, ◌-◌, ◌<◌, ◌≤◌, List, [], ◌∷◌, length, get_or, get_or-set_other, set, take, replicate, Option, Some, None, IfSome, is_some, unwrap_or, ◌==◌, nat_lt, if◌then◌else◌, true, refl, sym, ap, subst, ◌∙◌, inl, inr, arith, ◌⊎◌, false, ◌*◌, ◌/◌, ◌++◌, slice_range, zero, suc, Bool}
 use Rattle.std.proofs.lemmas.Bool.{cases_lt, cases_eq, cond-false, ne_eqb, lt-ltb, le-ltb}
 use Rattle.std.proofs.lemmas.List.{length-set, length-replicate, get_or-take, get_or_past}

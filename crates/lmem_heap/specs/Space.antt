@@ -153,7 +153,8 @@ IsReadyToTake s i q n =
     (k : ℕ) → k < n
     → get_or s.region (q + 2 + k) 0 ≡ get_or (resized (unwrap_or (get_or (chunks_in s.region s.slots) i None) []) n) k 0
 
--- between the piece of slot i and the free one at h, of this room, lie only chunks, and that one alone is not in the list
+-- between the piece of slot i and the free one at h, of this room, lie only chunks, and that one alone is not in the
+-- list
 pub record HasBehind (s : Space) (i h room : ℕ) : Type 0 where
   pub before : List Piece
   pub bytes : List ℕ

@@ -259,7 +259,8 @@ impl Space {
         }
     }
 
-    /// A slot's chunk gets `n` bytes where it lies, with a free piece that the list lacks, before which lie only chunks.
+    /// A slot's chunk gets `n` bytes where it lies, with a free piece that the list lacks, before which lie only
+    /// chunks.
     fn grow_into(&mut self, i: usize, n: usize, h: usize)
         // A slot whose chunk has bytes.
         requires slot { i < self.old.slots }

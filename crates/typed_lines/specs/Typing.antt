@@ -41,8 +41,8 @@ operand_probe operands.KeepOrSet = codes "nadd 0001 0010 00 00 "
 abbrev pub is_command : List ℕ → Bool
 is_command line = is_some (command line)
 
--- What a typed line is. One that is a command as it stands goes to the machine so, and so does one that is a command with
--- bytes for its texts. Any other is refused there, unless it asks for help or ends the script.
+-- What a typed line is. One that is a command as it stands goes to the machine so, and so does one that is a command
+-- with bytes for its texts. Any other is refused there, unless it asks for help or ends the script.
 abbrev pub IsTypedLine : List ℕ → Typed → Type 0
 IsTypedLine typed (lines.Command line) =
     (is_command line.items ≡ true)

@@ -3,8 +3,8 @@
 use crate::words::next_word;
 use bstr::ByteSlice;
 
-/// Of each command its name and its operands, what it does, how it is answered, and as what it may be refused, the first
-/// that applies. A blank line stands between two of them.
+/// Of each command its name and its operands, what it does, how it is answered, and as what it may be refused, the
+/// first that applies. A blank line stands between two of them.
 const TOPICS: &str = concat!(
     "newraw uid size\n",
     "    makes a raw block of size zeros, under the least free block handle\n",

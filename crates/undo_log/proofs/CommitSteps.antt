@@ -1,4 +1,5 @@
--- Over an honest store a commit is a step of the machine, and over any it is refused for an open group or a locked block before all else.
+-- Over an honest store a commit is a step of the machine, and over any it is refused for an open group or a locked
+-- block before all else.
 use Rattle.std.proofs.Common.{◌≡◌, ◌⊎◌, ◌↔◌, ◌+◌, ◌==◌, Bool, true, false, IsTrue, [], ◌∷◌, Some, None, is_some, Result, Ok, Err, refl, sym, ap, subst, ◌∙◌, inl, inr}
 use Rattle.std.specs.Prelude.{if◌then◌else◌, IsErrOf, IfOk, MatchResult}
 use Rattle.std.specs.Option.{option_map}

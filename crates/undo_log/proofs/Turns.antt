@@ -1,4 +1,5 @@
--- What a step from one list of the log to the other leaves, and taking back the group that is open; and when either is sure or refused.
+-- What a step from one list of the log to the other leaves, and taking back the group that is open; and when either is
+-- sure or refused.
 use Rattle.std.proofs.Common.{◌≡◌, ◌≢◌, ℕ, Bool, true, false, not, IsTrue, List, [], ◌∷◌, ◌++◌, ◌==◌, length, map, reverse, Option, Some, None, is_some, inl, inr, refl, sym, ap, subst, ◌∙◌, arith}
 use Rattle.std.specs.Prelude.{if◌then◌else◌, Result, Ok, Err, IsOk, IfErr}
 use Rattle.std.specs.Option.{option_map}
@@ -388,7 +389,8 @@ module _ {S : Type 0} (facts : S → StoreFacts) where
               (abandon_moved m old.document old.log old.log.undo old.log.redo cs none apart)),
         )
       where
-        -- what can be made again can be in the document before the group, which is the same or has nothing to make again
+        -- what can be made again can be in the document before the group, which is the same or has nothing to make
+        -- again
         apart_can : (xs : List Change) → AreExclusive xs old.log.redo → CanApplyAllDirected Forwards (all_changes old.log.redo) old.document → CanApplyAllDirected Forwards (all_changes old.log.redo) (after_all Backwards xs old.document)
         apart_can [] apart can = can
         apart_can (c ∷ xs) apart can = subst (λ (es : List LogEntry). CanApplyAllDirected Forwards (all_changes es) (after_all Backwards (c ∷ xs) old.document)) (sym apart) tt

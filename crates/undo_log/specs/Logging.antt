@@ -94,9 +94,9 @@ abbrev pub entry_steps : Direction → List LogEntry → Document → List UndoS
 entry_steps direction [] d = []
 entry_steps direction (e ∷ es) d = entry_step direction e d ∷ entry_steps direction es (after_entry direction e d)
 
--- What can be undone and what can be made again, of both the next entry first; their names; the changes of the group that
--- is open, the newest first, None where none is open; where the committed documents stand; what is told of the change
--- that was made or taken back last; and how many entries are kept to be undone, None where all are.
+-- What can be undone and what can be made again, of both the next entry first; their names; the changes of the group
+-- that is open, the newest first, None where none is open; where the committed documents stand; what is told of the
+-- change that was made or taken back last; and how many entries are kept to be undone, None where all are.
 pub record Log : Type 0 where
   pub undo : List LogEntry
   pub redo : List LogEntry
@@ -296,8 +296,8 @@ abandoned_log log = record log { group = None; touched = all_places Backwards (o
 abbrev pub retold : Touched → Log → Log
 retold last log = record log { touched = told last (newest_changes log.undo log.group) (next_changes log.redo) }
 
--- A log, what it tells of, whether there is a place for an entry more, to which entries that can be made again give way,
--- and how many changes more the open group has room for.
+-- A log, what it tells of, whether there is a place for an entry more, to which entries that can be made again give
+-- way, and how many changes more the open group has room for.
 pub record LogState : Type 0 where
   pub lists : Log
   pub last : Touched

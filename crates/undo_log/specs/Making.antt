@@ -49,9 +49,9 @@ pub record IsLargeApplied {S : Type 0} (facts : S → StoreFacts) (edit : Edit) 
 
 -- What making an edit that no lock bars comes to: its change was made and means it, or the document is kept, and the
 -- edit is refused for what the call lacked, by the rules of the document as it is held from then on, or, over a store
--- that isn't honest, for what a chain may be refused for. Where there is no room for what it needs, or it is refused for
--- its block, nothing changes. Where no block comes in and no body has to be read no store is called, and the document
--- before decides alone.
+-- that isn't honest, for what a chain may be refused for. Where there is no room for what it needs, or it is refused
+-- for its block, nothing changes. Where no block comes in and no body has to be read no store is called, and the
+-- document before decides alone.
 pub record MakesEdit {S : Type 0} (facts : S → StoreFacts) (edit : Edit) (old new : CacheState S)
     (result : Result (Change × Done) Fault) : Type 0 where
   pub ok : IfOk result (λ p. IsEditApplied facts edit old new p.0 p.1)

@@ -88,8 +88,8 @@ abbrev pub join_fault : {S : Type 0} → SessionState S → Option Fault
 join_fault s =
     if is_some s.log.group then Some GroupOpen else if nat_lt (length s.log.undo) 2 then Some NothingToUndo else None
 
--- What keeps the newest step from having a name of so many bytes, for want of memory aside: an open group, that there is
--- no step, or the length.
+-- What keeps the newest step from having a name of so many bytes, for want of memory aside: an open group, that there
+-- is no step, or the length.
 abbrev pub name_fault : {S : Type 0} → ℕ → SessionState S → Option Fault
 name_fault n s =
     if is_some s.log.group then Some GroupOpen
@@ -135,8 +135,8 @@ IsSureKind facts s Forwards Freed = Unit {0}
 IsSureKind facts s Backwards Freed = ⊥
 IsSureKind facts s direction Group = ⊥
 
--- So it is of the changes of a group in an exact session, where no blocks come in, and each block whose body changes is in
--- memory.
+-- So it is of the changes of a group in an exact session, where no blocks come in, and each block whose body changes is
+-- in memory.
 pub record IsSureGroup {S : Type 0} (facts : S → StoreFacts) (s : SessionState S) (direction : Direction)
     (cs : List Change) : Type 0 where
   pub exact : IsExact facts s

@@ -120,7 +120,8 @@ module _ {S : Type 0} (facts : S → StoreFacts) (ps : List (ℕ × Block)) (old
 
 -- ---- while they are put in
 
--- Of the first ones of the changes, so many, the blocks are still to come in; those of the others can be taken out again.
+-- Of the first ones of the changes, so many, the blocks are still to come in; those of the others can be taken out
+-- again.
 pub record BringsIn {S : Type 0} (facts : S → StoreFacts) (direction : Direction) (cs : List Change) (rest : ℕ) (old now : CacheState S) : Type 0 where
   pub within : rest ≤ length cs
   pub named : AllNamed (directed_all direction (take rest cs))

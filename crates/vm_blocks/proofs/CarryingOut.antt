@@ -11,7 +11,8 @@ use Rattle.vm_blocks.specs.Preparing.{AreInMemory, IsInMemory}
 use Rattle.vm_blocks.specs.declared.change.Change.{Change}
 use Rattle.vm_blocks.proofs.Reversing.{all_in_memory_on, next_done, next_left}
 
--- The first ones of the changes, so many, are left: they are to be carried out in what the others made, and these can be taken back.
+-- The first ones of the changes, so many, are left: they are to be carried out in what the others made, and these can
+-- be taken back.
 pub record UnderWay {S : Type 0} (direction : Direction) (cs : List Change) (rest : ℕ) (old now : CacheState S) : Type 0 where
   pub within : rest ≤ length cs
   pub state : now ≡ record old { document = now.document }

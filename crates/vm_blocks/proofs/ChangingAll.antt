@@ -52,8 +52,8 @@ module _ {S : Type 0} (state : CacheState S) (none : locked_count state.resident
   in_reach some (changes.Attributes b old new) far = far
   in_reach some (changes.Map old new) far = far
 
--- Some of the changes were carried out: what is left of them makes the document that all make, is known by handles, and is taken by
--- the bodies where all are.
+-- Some of the changes were carried out: what is left of them makes the document that all make, is known by handles, and
+-- is taken by the bodies where all are.
 pub record Carries {S : Type 0} (facts : S → StoreFacts) (all left : List Change) (old new : CacheState S) : Type 0 where
   pub passes : KeepsCommitted facts old.disk new.disk
   pub listed : CanApplyAllByHandle left new.document

@@ -1,5 +1,5 @@
--- Changes that are carried out in memory, with the blocks that go taken out last: what they make of a document is what they make of it one
--- after another.
+-- Changes that are carried out in memory, with the blocks that go taken out last: what they make of a document is what
+-- they make of it one after another.
 use Rattle.std.proofs.Common.{◌≡◌, ◌≢◌, ◌++◌, ℕ, List, [], ◌∷◌, true, false, get_or, Option, Some, is_some, nat_cmp, append-nil, append_assoc, refl, sym, ap, subst, ◌∙◌, inl, inr}
 use Rattle.std.specs.Prelude.{unwrap_or}
 use Rattle.std.specs.Option.{option_map_or}
@@ -153,7 +153,8 @@ after_is (changes.Part b part) d listed none = (listed, refl)
 after_is (changes.Attributes b old new) d listed none = (listed, refl)
 after_is (changes.Map old new) d listed none = (listed, refl)
 
--- Beside a document without some blocks, the changes make of the one with them the same, but for these and those that go.
+-- Beside a document without some blocks, the changes make of the one with them the same, but for these and those that
+-- go.
 pub settled : (cs : List Change) (d whole : Document) (hs : List ℕ) → d ≡ without_blocks whole hs → CanApplyAllByHandle cs d → NoneComesIn cs
     → AreListed cs whole × (after_changes cs d ≡ without_blocks (all_in_place cs whole) (hs ++ all_outgoing cs))
 settled [] d whole hs is listed none = (tt, is ∙ ap (without_blocks whole) (sym (append-nil hs)))

@@ -80,8 +80,8 @@ IsReady (changes.Map old new) state = new.0 ≢ 0 → is_live state.document new
 abbrev pub carried : {S : Type 0} → Change → CacheState S → CacheState S
 carried c state = record state { document = in_place c state.document }
 
--- of a part of a body: the body is in memory and takes the change, and then the same the other way round, which gives the
--- document back
+-- of a part of a body: the body is in memory and takes the change, and then the same the other way round, which gives
+-- the document back
 pub record IsReversiblePart {S : Type 0} (part : PartChange) (b : ℕ) (state : CacheState S) : Type 0 where
   pub loaded : is_loaded state b ≡ true
   pub takes : AllowsPart part (block_at state.document b).body

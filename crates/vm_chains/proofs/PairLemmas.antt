@@ -345,8 +345,8 @@ module _ (d : Document) (x y : ℕ) (xs ys : List ℕ) (valid : IsValid d) (firs
         others = same.others;
       })))
 
--- Two chains are equal just where they have as many blocks, and those at the same place are alike: what a block links to is met at the
--- place where that is met to which its fellow links.
+-- Two chains are equal just where they have as many blocks, and those at the same place are alike: what a block links
+-- to is met at the place where that is met to which its fellow links.
 pub same_by_pairs : (d : Document) (x y : ℕ) (xs ys : List ℕ) → IsValid d → chain d x ≡ Some xs → chain d y ≡ Some ys
     → same_shape d xs ys ≡ pointwise (are_alike d) xs ys
 same_by_pairs d x y xs ys valid first second =
