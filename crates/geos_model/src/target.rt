@@ -134,12 +134,14 @@ pub enum EditTarget<'a> {
     Large(VmHandle, LargeEdit<'a>),
 }
 
-// One row for each edit: those that one change makes, and those of large arrays.
+// One row for each edit that one change makes. Those of large arrays are the same in each table.
 macro_rules! targets {
-    ($edit:expr; $($name:ident($($operand:ident),*) => $target:expr,)*; $($large:ident($($given:ident),*) => $edited:expr,)*) => {
+    ($edit:expr; $($name:ident($($operand:ident),*) => $target:expr,)*) => {
         match $edit {
             $(Edit::$name($($operand),*) => EditTarget::One($target),)*
-            $(Edit::$large($($given),*) => $edited,)*
+            Edit::InsertLarge(root, i, new) => EditTarget::Large(*root, LargeEdit::Insert(*i, new.as_slice())),
+            Edit::SetLarge(root, i, new) => EditTarget::Large(*root, LargeEdit::Set(*i, new.as_slice())),
+            Edit::DeleteLarge(root, i, n) => EditTarget::Large(*root, LargeEdit::Delete(*i, *n)),
         }
     };
 }
@@ -180,18 +182,13 @@ impl Edit {
             RemoveReference(block, chunk, token) => elements(block, chunk, ElementArrayEdit::RemoveReference(*token)),
             DeleteElement(block, chunk, token) => elements(block, chunk, ElementArrayEdit::Delete(*token)),
             ChangeElement(b, c, token, new) => elements(b, c, ElementArrayEdit::Change(*token, new.as_slice())),
-            AddName(block, chunk, name, part, replace) =>
-                names(block, chunk, NameArrayEdit::Add(name.as_slice(), part.as_slice(), *replace)),
+            AddName(b, c, name, part, set) => names(b, c, NameArrayEdit::Add(name.as_slice(), part.as_slice(), *set)),
             ChangeName(b, c, token, name) => names(b, c, NameArrayEdit::Change(*token, name.as_slice())),
             SetNamePart(b, c, token, part) => names(b, c, NameArrayEdit::SetPart(*token, part.as_slice())),
             RemoveName(block, chunk, token) => names(block, chunk, NameArrayEdit::Remove(*token)),
             CopyChain(root) => Target::Chain(*root, ChainEdit::Copy),
             FreeChain(root) => Target::Chain(*root, ChainEdit::Free),
             CreateLarge(user_id, size) => Target::NewLarge(*user_id, *size),
-            ;
-            InsertLarge(root, i, new) => EditTarget::Large(*root, LargeEdit::Insert(*i, new.as_slice())),
-            SetLarge(root, i, new) => EditTarget::Large(*root, LargeEdit::Set(*i, new.as_slice())),
-            DeleteLarge(root, i, n) => EditTarget::Large(*root, LargeEdit::Delete(*i, *n)),
         }
     }
 }
