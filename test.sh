@@ -151,9 +151,11 @@ fi
 # Crates wait for each other, from the model up to the shell, and in an `rt ci` of so many jobs each proof takes one processor. So where there
 # is memory for it another `rt ci` proves these, each by as many processors as are free: in a copy, without must-fail edits. The first one is
 # behind it in line, tries the edits, and takes what the other has proved, since each keeps what it passes. That is no part of the verdict:
-# what the other doesn't prove the first one does.
+# what the other doesn't prove the first one does. Not each kit keeps what it passes: there it would prove all twice.
 proves_ahead() {
-    kept=$(dirname "$(dirname "$(dirname "$(realpath "$(command -v rt)")")")")/rattle-kept
+    tools=$(dirname "$(realpath "$(command -v rt)")")
+    grep -qs rattle-kept "$tools"/* || return
+    kept=$(dirname "$(dirname "$tools")")/rattle-kept
     [ "$(sed -n 's/^MemAvailable: *\([0-9]*\) kB$/\1/p' /proc/meminfo)" -gt 18000000 ] && [ "$(nproc)" -gt 2 ] || return
     mkdir -p -m 700 "$kept" 2>/dev/null && [ -O "$kept" ] && [ -w "$kept" ]
 }

@@ -59,7 +59,7 @@ fn command<'a>(alloc: Global) -> Result<Command<'a>, AllocError>
     ensures { IfOk result (λ c. app_of c ≡ geosvm) }
 {
     Command::new(alloc, "geosvm")
-        .version("0.2.0, for files of versions 1 to 3, proved by rattle-kit-13f")
+        .version("0.2.0, for files of versions 1 to 3, proved by rattle-kit-13")
         .about(ABOUT)
         .after_help(command_list())
         .arg(flag(

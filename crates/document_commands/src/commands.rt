@@ -39,7 +39,7 @@ fn command<'a>(alloc: Global) -> Result<Command<'a>, AllocError>
     ensures { IfOk result (λ c. app_of c ≡ geosdoc) }
 {
     Command::new(alloc, "geosdoc")
-        .version("0.2.0, for files of versions 1 to 3, proved by rattle-kit-13f")
+        .version("0.2.0, for files of versions 1 to 3, proved by rattle-kit-13")
         .about("Tells what is in a document file, and writes none but one that restore makes")
         .subcommand_required(true)
         .arg_required_else_help(true)
