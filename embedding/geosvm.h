@@ -320,9 +320,9 @@ int32_t geosvm_save_as_path(geosvm_session *s, const char *path, uint32_t flags)
 ** next commit, as if it had been edited. *count becomes how often a block is locked; where that is refused, 0.
 **
 ** geosvm_locked_chunk and geosvm_locked_raw lend the bytes of a locked block where they lie: *bytes becomes the address of the first of
-** them, and *length how many there are, at most 65,520. Of none it is the address of no byte, but not NULL. GEOSVM_NO_BLOCK,
-** WRONG_KIND, NOT_LOCKED, NO_CHUNK, the first of them; where it is refused *bytes is NULL and *length is 0. They take no memory, and call
-** none of the functions on files.
+** them, and *length how many there are, at most 65,520. Of none it is the address of no byte, but not NULL. It is aligned to nothing, and
+** mostly odd: words that lie there are copied out first, as by memcpy. GEOSVM_NO_BLOCK, WRONG_KIND, NOT_LOCKED, NO_CHUNK, the first of
+** them; where it is refused *bytes is NULL and *length is 0. They take no memory, and call none of the functions on files.
 **
 ** The bytes are lent until one of these calls, which may move them or give their memory back; after the first they can be asked for anew:
 **
