@@ -8,15 +8,14 @@ ghost use Rattle.lmem_heap.specs.Known.{is_array_of};
 ghost use Rattle.lru.specs.LruCache.{lru_cache, promoted};
 ghost use Rattle.raw_region.specs.Roots.{is_large_root};
 ghost use Rattle.vm_blocks.specs.Bodies.{body_value};
-ghost use Rattle.vm_blocks.specs.ByteChanges.{byte_part};
 ghost use Rattle.vm_blocks.specs.Changes.{directed_part};
 ghost use Rattle.vm_blocks.specs.Frames.{bytes_in_frames, chunks_in_frames, frame_of, overlay, residents, with_frame, AreFramesOf};
 ghost use Rattle.vm_blocks.specs.Parts.{AllowsPart, body_after_part};
 ghost use Rattle.vm_blocks.specs.State.{locks_of, all_frames_locked, victim};
 
 use crate::body::BlockBody;
-use crate::part::{carry_out_heap, carry_out_raw, replace_in_heap, replace_in_raw};
-use crate::{ByteChange, Direction, PartChange};
+use crate::part::{carry_out_heap, carry_out_raw};
+use crate::{Direction, PartChange};
 use buffer_pool::BufferPool;
 use geos_model::{ChunkHandle, MOST_BLOCKS};
 use lmem_heap::ArrayKind;
@@ -43,19 +42,6 @@ impl Frame {
         match &mut self.body {
             BlockBody::Raw(raw) => carry_out_raw(raw, part, direction),
             BlockBody::Heap(heap) => carry_out_heap(heap, part, direction),
-        }
-    }
-
-    /// Replaces a run of its bytes in place, as `carry_out` does.
-    pub(crate) fn replace_bytes(&mut self, change: ByteChange<'_>)
-        requires { AllowsPart (byte_part change) (body_value self.old.body) }
-        ensures body { body_value self.new.body ≡ body_after_part (byte_part change.entry) (body_value self.old.body) }
-        ensures marks { (self.new.changed ≡ true) × (self.new.locks ≡ self.old.locks) }
-    {
-        self.changed = true;
-        match &mut self.body {
-            BlockBody::Raw(raw) => replace_in_raw(raw, change),
-            BlockBody::Heap(heap) => replace_in_heap(heap, change),
         }
     }
 }

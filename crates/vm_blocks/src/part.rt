@@ -344,8 +344,19 @@ pub(crate) fn carry_out_heap(heap: &mut Heap, change: &PartChange, direction: Di
     }
 }
 
-/// Replaces a run of the bytes of a raw body in place. As many are written over without a move of others.
-pub(crate) fn replace_in_raw(body: &mut RawBody, change: ByteChange<'_>)
+/// Replaces a run of the bytes of a body in place.
+pub(crate) fn replace_bytes(body: &mut BlockBody, change: ByteChange<'_>)
+    requires { AllowsPart (byte_part change) (body_value body.old) }
+    ensures { body_value body.new ≡ body_after_part (byte_part change.entry) (body_value body.old) }
+{
+    match body {
+        BlockBody::Raw(raw) => replace_in_raw(raw, change),
+        BlockBody::Heap(heap) => replace_in_heap(heap, change),
+    }
+}
+
+/// Of a raw body. As many are written over without a move of others.
+fn replace_in_raw(body: &mut RawBody, change: ByteChange<'_>)
     requires { RawAllowsPart (byte_part change) body.old }
     ensures { bodies.Raw body.new ≡ body_after_part (byte_part change.entry) (bodies.Raw body.old) }
 {
@@ -357,8 +368,8 @@ pub(crate) fn replace_in_raw(body: &mut RawBody, change: ByteChange<'_>)
     }
 }
 
-/// So of a chunk of a heap.
-pub(crate) fn replace_in_heap(heap: &mut Heap, change: ByteChange<'_>)
+/// Of a chunk of a heap.
+fn replace_in_heap(heap: &mut Heap, change: ByteChange<'_>)
     requires { HeapAllowsPart (byte_part change) heap.old.chunks }
     ensures { bodies.Heap heap.new.chunks ≡ body_after_part (byte_part change.entry) (bodies.Heap heap.old.chunks) }
 {

@@ -6,10 +6,10 @@ ghost use Rattle.vm_blocks.specs.ByteChanges.{byte_change, byte_part};
 ghost use Rattle.vm_blocks.specs.Changes.{after_change, after_part, directed, incoming_blocks};
 ghost use Rattle.vm_blocks.specs.Keeping.{KeepsBlocks, is_loaded, has_no_frame_for};
 ghost use Rattle.vm_blocks.specs.Parts.{AllowsPart};
-ghost use Rattle.vm_blocks.specs.Preparing.{CanApplyByHandle, AreUnlocked, AllowsChange, IsInMemory, IsShutOut, CantPrepare, IsApplied, AppliesChange};
+ghost use Rattle.vm_blocks.specs.Preparing.{CanApplyByHandle, AllowsChange, IsInMemory, IsShutOut, CantPrepare, IsApplied, AppliesChange};
 
 use super::FileBlocks;
-use crate::part::can_take_bytes;
+use crate::part::{can_take_bytes, replace_bytes};
 use crate::{ByteChange, Direction};
 use geos_model::Fault;
 use vm_store::Store;
@@ -79,7 +79,7 @@ impl<S: Store> FileBlocks<S> {
         }
     }
 
-    // Changes the body of a block in memory in place.
+    // Changes the body of a block in memory in place: from now on the file may have another.
     fn carry_out_bytes(&mut self, change: ByteChange<'_>)
         requires loaded { is_loaded self.old change.block.0 ≡ true }
         requires takes { AllowsPart (byte_part change) (block_at self.old.document change.block.0).body }
@@ -88,6 +88,7 @@ impl<S: Store> FileBlocks<S> {
         } }
     {
         let frame = self.frames.peek_mut(change.block.0).unwrap();
-        frame.replace_bytes(change);
+        frame.changed = true;
+        replace_bytes(&mut frame.body, change);
     }
 }
