@@ -119,7 +119,7 @@ impl<T> Row<T> {
         requires none { self.old.behind ≡ [] }
         ensures before { self.new.before ≡ self.old.before ++ items.now }
         ensures behind { self.new.behind ≡ [] }
-        ensures room { self.new.room + length items.now ≡ self.old.room }
+        ensures room { self.old.room ≤ self.new.room + length items.now }
     {
         if self.items.extend_from_slice(items).is_err() {
             unreachable!();
