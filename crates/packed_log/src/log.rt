@@ -111,7 +111,7 @@ impl<H: Copy, W> PackedLog<H, W> {
             Mark::Short { len, head } => {
                 Some(LentRecord::Short(head, self.bytes.newest(len as usize)))
             }
-            Mark::Whole => Some(LentRecord::Whole(&self.wholes.newest(1)[0])),
+            Mark::Whole => Some(LentRecord::Whole(self.wholes.last())),
         }
     }
 
@@ -123,7 +123,7 @@ impl<H: Copy, W> PackedLog<H, W> {
             Mark::Short { len, head } => {
                 Some(LentRecord::Short(head, self.bytes.next(len as usize)))
             }
-            Mark::Whole => Some(LentRecord::Whole(&self.wholes.next(1)[0])),
+            Mark::Whole => Some(LentRecord::Whole(self.wholes.first())),
         }
     }
 
@@ -134,7 +134,7 @@ impl<H: Copy, W> PackedLog<H, W> {
         ensures behind { self.new.behind ≡ take 1 self.old.before ++ self.old.behind }
         ensures place { self.old.place ≡ true → self.new.place ≡ true }
     {
-        let mark = self.marks.newest(1)[0];
+        let mark = *self.marks.last();
         self.marks.step_back(1);
         self.bytes.step_back(mark.bytes());
         self.wholes.step_back(mark.wholes());
@@ -146,7 +146,7 @@ impl<H: Copy, W> PackedLog<H, W> {
         ensures before { self.new.before ≡ take 1 self.old.behind ++ self.old.before }
         ensures behind { self.new.behind ≡ drop 1 self.old.behind }
     {
-        let mark = self.marks.next(1)[0];
+        let mark = *self.marks.first();
         self.marks.step_forward(1);
         self.bytes.step_forward(mark.bytes());
         self.wholes.step_forward(mark.wholes());
@@ -195,7 +195,7 @@ impl<H: Copy, W> PackedLog<H, W> {
         requires { self.old.behind ≢ [] }
         ensures { self.new ≡ record self.old { behind = drop 1 self.old.behind } }
     {
-        let mark = self.marks.next(1)[0];
+        let mark = *self.marks.first();
         self.marks.remove_next(1);
         self.bytes.remove_next(mark.bytes());
         self.wholes.remove_next(mark.wholes());

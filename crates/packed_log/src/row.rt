@@ -68,6 +68,22 @@ impl<T> Row<T> {
         &self.items.as_slice()[self.dead..]
     }
 
+    /// The last item before the cursor.
+    pub(crate) fn last(&self) -> &T
+        requires { self.now.before ≢ [] }
+        ensures { result.now ∷ [] ≡ last_of 1 self.now.before }
+    {
+        &self.items[self.cursor - 1]
+    }
+
+    /// The first item behind the cursor.
+    pub(crate) fn first(&self) -> &T
+        requires { self.now.behind ≢ [] }
+        ensures { Some result.now ≡ slice_get self.now.behind 0 }
+    {
+        &self.items[self.cursor]
+    }
+
     /// The last items before the cursor.
     pub(crate) fn newest(&self, count: usize) -> &[T]
         requires { count ≤ length self.now.before }
