@@ -1,5 +1,5 @@
 -- What a log is seen as, as the cursor steps, and records are pushed, changed and taken out.
-use Rattle.std.proofs.Common.{◌≡◌, ◌≢◌, ◌≤◌, ◌+◌, ◌-◌, ℕ, suc, List, [], ◌∷◌, ◌++◌, ◌&&◌, length, map, nat_lt, reverse, take, drop, Option, Some, None, true, true≢false, refl, sym, ap, subst, ◌∙◌, arith}
+use Rattle.std.proofs.Common.{◌≡◌, ◌≢◌, ◌≤◌, ◌+◌, ◌-◌, ℕ, suc, List, [], ◌∷◌, ◌++◌, ◌&&◌, length, map, nat_lt, reverse, take, drop, Some, true, true≢false, refl, sym, ap, subst, ◌∙◌, arith}
 use Rattle.std.proofs.lemmas.List.{append-nil, length-append, reverse-append}
 use Rattle.std.specs.List.{slice_get}
 use Rattle.packed_log.specs.declared.mark.Mark.{Mark}
@@ -7,7 +7,7 @@ use Rattle.packed_log.specs.declared.mark.Mark.TheVariants as mark
 use Rattle.packed_log.specs.Marks.{mark_bytes, mark_wholes}
 use Rattle.packed_log.specs.Records.{PackedLog, Record, Short, Whole, all_wholes, bytes_of, count_bytes, is_short, is_whole}
 use Rattle.packed_log.specs.Rows.{Row, last_of, without_last}
-use Rattle.packed_log.specs.Settled.{AreRecords, AreSettled, Holds, all_bytes, log_of, mark_of, records_of}
+use Rattle.packed_log.specs.Settled.{AreSettled, Holds, all_bytes, log_of, mark_of, records_of}
 use Rattle.packed_log.proofs.RecordLemmas.{Ends, are_records, begin_off, count_bytes-reverse, ends, first_item, front_part, held_as, held_with, last_item, last_part, length-all_bytes, length-bytes_of, length-wholes_of, put_first, put_last, rest_part, taken_off, told, wholes_of}
 
 module _ {X : Type 0} where
@@ -79,8 +79,8 @@ module _ {H W : Type 0} where
 
     pub newest_by : (k : Mark H) → Some k ≡ slice_get m.before (length m.before - 1) → Newest
     newest_by k is = newest_of (λ none.
-      let nothing = are.before.marked ∙ ap (map mark_of) none in
-      absurd (cc (is ∙ ap (λ ms. slice_get ms (length ms - 1)) nothing)))
+        let nothing = are.before.marked ∙ ap (map mark_of) none in
+        absurd (cc (is ∙ ap (λ ms. slice_get ms (length ms - 1)) nothing)))
 
     module _ (n : Newest) where
       pub marked_last : last_of 1 m.before ≡ mark_of n.newest ∷ []

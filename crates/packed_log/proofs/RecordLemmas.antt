@@ -1,11 +1,10 @@
 -- Records as they lie in three lists, and what changes at either end of them.
-use Rattle.std.proofs.Common.{◌≡◌, ◌≢◌, ◌≤◌, ◌+◌, ◌-◌, ℕ, List, [], ◌∷◌, ◌++◌, length, map, reverse, take, drop, Some, None, option_to_list, sum_by, refl, sym, ap, subst, ◌∙◌, arith}
+use Rattle.std.proofs.Common.{◌≡◌, ◌≢◌, ◌+◌, ◌-◌, ℕ, List, [], ◌∷◌, ◌++◌, length, map, reverse, take, drop, option_to_list, refl, sym, ap, subst, ◌∙◌, arith}
 use Rattle.std.proofs.Math.Seq.{drop-append_seam, take-append_seam}
 use Rattle.std.proofs.lemmas.List.{append-nil, append_assoc, length-append, map-append, reverse-append}
 use Rattle.std.proofs.lemmas.List.Sums.{sum_by-cons, sum_by_push}
 use Rattle.std.proofs.lemmas.List.Elements.{filter_map-append}
 use Rattle.packed_log.specs.declared.mark.Mark.{Mark}
-use Rattle.packed_log.specs.declared.mark.Mark.TheVariants as mark
 use Rattle.packed_log.specs.Marks.{mark_bytes, mark_wholes}
 use Rattle.packed_log.specs.Records.{Record, Short, Whole, all_wholes, bytes_of, count_bytes, whole_of}
 use Rattle.packed_log.specs.Rows.{last_of, without_last}

@@ -1,6 +1,6 @@
 -- What a contract sees of a row: its items before a cursor, the oldest first, and behind it, the next first, and how
 -- many have room at the cursor, if those behind it give way.
-use Rattle.std.specs.Prelude.{ℕ, ◌-◌, List, ◌++◌, length, take, drop, refl}
+use Rattle.std.specs.Prelude.{ℕ, ◌-◌, List, length, take, drop, refl}
 use Rattle.std.specs.Coded.{Coded, code_by, coded×, coded_list, coded_ℕ}
 
 pub record Row (T : Type 0) : Type 0 where

@@ -1,6 +1,6 @@
 -- How records lie in three rows: their marks, the bytes of those that are short, and the values of those that are
 -- whole.
-use Rattle.std.specs.Prelude.{◌≡◌, ◌&&◌, ℕ, Bool, List, [], ◌∷◌, ◌++◌, length, reverse, map, take, drop, nat_lt}
+use Rattle.std.specs.Prelude.{◌≡◌, ◌&&◌, ℕ, List, [], ◌∷◌, ◌++◌, length, reverse, map, take, drop, nat_lt}
 use Rattle.packed_log.specs.declared.mark.Mark.{Mark}
 use Rattle.packed_log.specs.declared.mark.Mark.TheVariants as mark
 use Rattle.packed_log.specs.Records.{PackedLog, Record, Short, Whole, all_wholes, bytes_of}

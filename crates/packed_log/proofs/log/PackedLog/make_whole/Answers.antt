@@ -1,4 +1,4 @@
-use Rattle.std.proofs.Common.{◌≡◌, ◌≤◌, ◌∷◌, ◌++◌, [], drop, length, sym, ap, subst, ◌∙◌}
+use Rattle.std.proofs.Common.{◌≤◌, ◌∷◌, ◌++◌, [], drop, length, sym, ap, subst, ◌∙◌}
 use Rattle.packed_log.specs.Records.{PackedLog, Whole}
 use Rattle.packed_log.specs.Settled.{records_of}
 use Rattle.packed_log.proofs.LogLemmas.{StepsBack, fit_bytes, fit_lifted, is_settled, made_whole, newest_in, newest_short, rest_is, reversed_last, same_mark, short_some, told_before, told_behind}

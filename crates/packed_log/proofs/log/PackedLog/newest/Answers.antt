@@ -1,9 +1,8 @@
-use Rattle.std.proofs.Common.{◌≡◌, ◌-◌, ◌++◌, Some, length, sym, ap, ◌∙◌}
+use Rattle.std.proofs.Common.{◌-◌, Some, length, sym, ap, ◌∙◌}
 use Rattle.std.specs.List.{slice_get}
 use Rattle.packed_log.specs.declared.mark.Mark.TheVariants as mark
 use Rattle.packed_log.specs.Records.{PackedLog, Record, Short, Whole, all_wholes}
 use Rattle.packed_log.specs.Settled.{all_bytes}
-use Rattle.packed_log.proofs.RecordLemmas.{wholes_of}
 use Rattle.packed_log.proofs.LogLemmas.{first_is, fit_bytes, newest_by, same_last, short_read, whole_marked, whole_read, whole_there}
 use Rattle.packed_log.proofs.log.PackedLog.newest.Goals as goal
 

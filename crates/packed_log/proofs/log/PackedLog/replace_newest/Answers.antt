@@ -1,4 +1,4 @@
-use Rattle.std.proofs.Common.{◌≡◌, ◌∷◌, ◌++◌, [], Some, drop, sym, ap, ◌∙◌}
+use Rattle.std.proofs.Common.{◌∷◌, ◌++◌, [], Some, drop, sym, ap, ◌∙◌}
 use Rattle.std.specs.List.{slice_get}
 use Rattle.packed_log.specs.Records.{PackedLog, Record, Whole, all_wholes}
 use Rattle.packed_log.specs.Settled.{records_of}

@@ -1,4 +1,4 @@
-use Rattle.std.proofs.Common.{◌≤◌, ◌∷◌, ◌++◌, length, reverse, take, drop, sym, ap, subst, ◌∙◌}
+use Rattle.std.proofs.Common.{◌≤◌, ◌∷◌, ◌++◌, length, take, drop, sym, ap, subst, ◌∙◌}
 use Rattle.packed_log.specs.Records.{PackedLog}
 use Rattle.packed_log.specs.Settled.{records_of}
 use Rattle.packed_log.proofs.LogLemmas.{fit_bytes, fit_wholes, head_is, is_settled, newest_in, rest_is, same_mark, stepped_back, told_before, told_behind}

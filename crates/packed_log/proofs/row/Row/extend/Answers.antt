@@ -1,4 +1,4 @@
-use Rattle.std.proofs.Common.{◌≡◌, ◌<◌, ◌≤◌, ◌+◌, ◌-◌, List, [], ◌++◌, cond, not, is_ok, true, length, take, drop, vec_capacity, vec_len, true≢false, sym, ap, subst, ◌∙◌, arith}
+use Rattle.std.proofs.Common.{◌≡◌, ◌≤◌, ◌+◌, ◌-◌, List, [], ◌++◌, cond, not, is_ok, true, length, take, drop, vec_capacity, vec_len, true≢false, sym, ap, subst, ◌∙◌, arith}
 use Rattle.std.proofs.lemmas.List.{length-append}
 use Rattle.packed_log.specs.Rows.{Row}
 use Rattle.packed_log.proofs.RowLemmas.{appended, at_end}

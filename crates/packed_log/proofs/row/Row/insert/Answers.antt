@@ -1,4 +1,4 @@
-use Rattle.std.proofs.Common.{◌≡◌, ◌<◌, ◌≤◌, ◌+◌, List, [], ◌∷◌, ◌++◌, cond, not, is_ok, true, length, take, drop, vec_len, sym, ap, subst, ◌∙◌, arith}
+use Rattle.std.proofs.Common.{◌≡◌, ◌≤◌, ◌+◌, List, [], ◌∷◌, ◌++◌, cond, not, is_ok, true, length, take, drop, vec_len, ap, ◌∙◌, arith}
 use Rattle.packed_log.specs.Rows.{Row}
 use Rattle.packed_log.proofs.RowLemmas.{put_in, put_in-behind}
 use Rattle.packed_log.proofs.row.Row.insert.Goals as goal

@@ -1,5 +1,5 @@
-use Rattle.std.proofs.Common.{◌≡◌, ◌-◌, ◌≤◌, ◌+◌, length, take, drop, vec_len, sym, ap, subst, ◌∙◌, arith}
-use Rattle.packed_log.specs.Rows.{Row, last_of, without_last}
+use Rattle.std.proofs.Common.{◌≡◌, ◌-◌, ◌≤◌, length, take, drop, vec_len, sym, ap, subst, ◌∙◌, arith}
+use Rattle.packed_log.specs.Rows.{Row, last_of}
 use Rattle.packed_log.proofs.RowLemmas.{fewer, last_ones}
 use Rattle.packed_log.proofs.row.Row.newest.Goals as goal
 

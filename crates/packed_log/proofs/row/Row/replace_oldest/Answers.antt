@@ -1,4 +1,4 @@
-use Rattle.std.proofs.Common.{◌≡◌, ◌≢◌, ◌≤◌, ◌-◌, List, [], ◌∷◌, length, set, take, drop, vec_len, vec_capacity, sym, ap, subst, ◌∙◌, arith}
+use Rattle.std.proofs.Common.{◌≡◌, ◌≢◌, ◌≤◌, ◌-◌, [], ◌∷◌, length, set, take, drop, vec_len, vec_capacity, sym, ap, subst, ◌∙◌, arith}
 use Rattle.packed_log.specs.Rows.{Row}
 use Rattle.packed_log.proofs.RowLemmas.{first_set, first_set-behind}
 use Rattle.packed_log.proofs.row.Row.replace_oldest.Goals as goal

@@ -1,4 +1,4 @@
-use Rattle.std.proofs.Common.{◌≡◌, ◌≤◌, ◌-◌, length, take, vec_len, sym, ap, ◌∙◌, arith}
+use Rattle.std.proofs.Common.{◌≡◌, ◌-◌, length, take, vec_len, sym, ap, ◌∙◌, arith}
 use Rattle.packed_log.specs.Rows.{Row}
 use Rattle.packed_log.proofs.RowLemmas.{between, lowered}
 use Rattle.packed_log.proofs.row.Row.take_dead_away.Goals as goal
