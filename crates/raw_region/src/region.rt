@@ -11,7 +11,7 @@ use byteorder::{ByteOrder, LittleEndian};
 use std::alloc::{AllocError, Global};
 use std::marker::Model;
 
-// Where the byte of a raw body's kind lies: right before the bytes.
+// Where the byte of a raw body's kind lies: right before a region's bytes.
 const KIND_AT: usize = LEAD - 1;
 
 /// `SIZE` bytes from the allocator, which go back to it once, at the drop. Contracts see the list of the bytes. A body
@@ -36,7 +36,8 @@ impl Model for Region {
 
     // It has to hold whatever list a lent slice is left as, so that each byte is below 256 can't stand here. Whoever
     // has a slice of the bytes knows it by the slice's type.
-    ghost invariant = { λ r. (length r.raw.bytes ≡ LEAD + SIZE) × (drop KIND_AT r.raw.bytes ≡ 0 ∷ drop LEAD r.raw.bytes) };
+    ghost invariant = { λ r. (length r.raw.bytes ≡ LEAD + SIZE)
+        × (drop KIND_AT r.raw.bytes ≡ 0 ∷ drop LEAD r.raw.bytes) };
 }
 
 #[tactic(auto, using(crate::proofs::Puts::lengths))]

@@ -1,4 +1,4 @@
-use Rattle.std.proofs.Common.{ℕ, ◌+◌, List, take, drop, slice_range, arith, refl, ap, ◌∙◌}
+use Rattle.std.proofs.Common.{ℕ, ◌+◌, List, take, slice_range, arith, refl, ap, ◌∙◌}
 use Rattle.raw_region.specs.Bytes.{put}
 use Rattle.raw_region.proofs.Puts.{length-put, put_behind_first, byte_stays, slice_behind}
 use Rattle.raw_region.proofs.region.Region.slice_mut.Goals as goal
