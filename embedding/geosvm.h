@@ -320,9 +320,10 @@ int32_t geosvm_save_as_path(geosvm_session *s, const char *path, uint32_t flags)
 ** next commit, as if it had been edited. *count becomes how often a block is locked; where that is refused, 0.
 **
 ** geosvm_locked_chunk and geosvm_locked_raw lend the bytes of a locked block where they lie: *bytes becomes the address of the first of
-** them, and *length how many there are, at most 65,520. Of none it is the address of no byte, but not NULL. It is aligned to nothing, and
-** mostly odd: words that lie there are copied out first, as by memcpy. GEOSVM_NO_BLOCK, WRONG_KIND, NOT_LOCKED, NO_CHUNK, the first of
-** them; where it is refused *bytes is NULL and *length is 0. They take no memory, and call none of the functions on files.
+** them, and *length how many there are, at most 65,520. Of none it is the address of no byte, but not NULL. The bytes of a raw block begin
+** at a multiple of 16, as malloc aligns them; those of a chunk are aligned to 2 and to no more, so that wider numbers that lie there are
+** copied out first, as by memcpy. GEOSVM_NO_BLOCK, WRONG_KIND, NOT_LOCKED, NO_CHUNK, the first of them; where it is refused *bytes is NULL
+** and *length is 0. They take no memory, and call none of the functions on files.
 **
 ** The bytes are lent until one of these calls, which may move them or give their memory back; after the first they can be asked for anew:
 **
@@ -336,8 +337,9 @@ int32_t geosvm_save_as_path(geosvm_session *s, const char *path, uint32_t flags)
 **
 ** geosvm_lock_run is for a large array whose elements have one size. It locks the block that has element `i`, once more, and lends its
 ** elements from there to the last one in that block, one behind the other: *block becomes the block, *bytes the address of element `i`, and
-** *length how many bytes they are, never 0; divided by the size of an element that is how many elements. geosvm_unlock of *block gives
-** them back, and until then they are lent as those of geosvm_locked_raw are. The element behind them is the first of another block.
+** *length how many bytes they are, never 0; divided by the size of an element that is how many elements. They begin at no particular
+** alignment. geosvm_unlock of *block gives them back, and until then they are lent as those of geosvm_locked_raw are. The element behind
+** them is the first of another block.
 ** GEOSVM_NO_BLOCK, WRONG_KIND, CACHE_FULL where each frame has a locked block, NOT_ARRAY, NO_ELEMENT, BAD_CHAIN, RANGE where elements vary
 ** in size, the first of them, then LOCK_LIMIT; MEMORY, FILE or DAMAGED as of a look-up. Where it is refused nothing is locked, *block is 0,
 ** *bytes is NULL and *length is 0.

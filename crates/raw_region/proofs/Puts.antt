@@ -1,5 +1,5 @@
 -- What callers of a region need of `put`, `slice_range`, `splice` and `word_at`.
-use Rattle.std.proofs.Common.{◌≡◌, ℕ, suc, ◌+◌, ◌*◌, ◌-◌, ◌≤◌, List, [], ◌∷◌, ◌++◌, length, take, drop, get_or, arith, refl, sym, ap, ◌∙◌, inl, inr, append_assoc, length-append, length-take, length-drop, slice_range, replicate}
+use Rattle.std.proofs.Common.{◌≡◌, ℕ, zero, suc, ◌+◌, ◌*◌, ◌-◌, ◌≤◌, List, [], ◌∷◌, ◌++◌, length, take, drop, get_or, arith, refl, sym, ap, ◌∙◌, inl, inr, append_assoc, length-append, length-take, length-drop, slice_range, replicate}
 use Rattle.std.specs.List.{splice}
 use Rattle.std.proofs.lemmas.Bool.{cases_lt}
 use Rattle.std.proofs.lemmas.List.{length-replicate, drop_all, take_all, append-nil, length-take-le, take_at, take-append-le, take-take, drop_at, drop-drop, drop-take, get_or-take, get_or-drop}
@@ -141,26 +141,40 @@ slid xs ys zs size from to n long whole after =
     ap (λ (l : List ℕ). put xs 0 l) (take_all size zs (omega arith))
     ∙ (put_is xs zs 0 (omega arith) ∙ (ap (λ (l : List ℕ). zs ++ l) (drop_all (0 + length zs) xs (omega arith)) ∙ (append-nil zs ∙ is)))
 
--- a list with a byte before it: a run that is read behind the byte
-pub slice_behind : (xs : List ℕ) (at n : ℕ) → slice_range xs (1 + at) (1 + at + n) ≡ slice_range (drop 1 xs) at (at + n)
-slice_behind xs at n = let e : 1 + at + n - (1 + at) ≡ at + n - at = omega arith in ap (λ (k : ℕ). take k (drop (1 + at) xs)) e ∙ ap (λ (l : List ℕ). take (at + n - at) l) (sym (drop-drop at 1 xs))
+-- a run that is read behind the first k of a list
+pub slice_behind : (xs : List ℕ) (k at n : ℕ) → slice_range xs (k + at) (k + at + n) ≡ slice_range (drop k xs) at (at + n)
+slice_behind xs k at n = let e : k + at + n - (k + at) ≡ at + n - at = omega arith in ap (λ (m : ℕ). take m (drop (k + at) xs)) e ∙ ap (λ (l : List ℕ). take (at + n - at) l) (sym (drop-drop at k xs))
 
 put_suc : (x : ℕ) (xs ws : List ℕ) (at : ℕ) → put (x ∷ xs) (suc at) ws ≡ x ∷ put xs at ws
 unfolding put
 put_suc x xs ws at = let e : suc at + length ws ≡ suc (at + length ws) = omega arith in ap (λ (n : ℕ). take (suc (length xs)) ((x ∷ take at xs) ++ (ws ++ drop n (x ∷ xs)))) e
 
--- a run that is written behind it, and that the byte stays
-pub put_behind_byte : (bytes xs ws : List ℕ) (x at : ℕ) → bytes ≡ x ∷ xs → put bytes (1 + at) ws ≡ x ∷ put xs at ws
-put_behind_byte bytes xs ws x at begins =
-    let e : 1 + at ≡ suc at = omega arith in ap (λ (l : List ℕ). put l (1 + at) ws) begins ∙ (ap (λ (n : ℕ). put (x ∷ xs) n ws) e ∙ put_suc x xs ws at)
+put_nil : (ws : List ℕ) (at : ℕ) → put [] at ws ≡ []
+unfolding put
+put_nil ws at = refl
 
-pub byte_stays : (bytes ws : List ℕ) (x at : ℕ) → bytes ≡ x ∷ drop 1 bytes → put bytes (1 + at) ws ≡ x ∷ drop 1 (put bytes (1 + at) ws)
-byte_stays bytes ws x at begins =
-    let is = put_behind_byte bytes (drop 1 bytes) ws x at begins in is ∙ ap (λ (l : List ℕ). x ∷ drop 1 l) (sym is)
+-- a run that is written behind them
+pub put_behind_first : (xs ws : List ℕ) (k at : ℕ) → drop k (put xs (k + at) ws) ≡ put (drop k xs) at ws
+put_behind_first xs ws zero at = let e : 0 + at ≡ at = omega arith in ap (λ (n : ℕ). put xs n ws) e
+put_behind_first [] ws (suc k) at = ap (λ (l : List ℕ). drop (suc k) l) (put_nil ws (suc k + at)) ∙ sym (put_nil ws at)
+put_behind_first (x ∷ xs) ws (suc k) at =
+    let e : suc k + at ≡ suc (k + at) = omega arith in
+    ap (λ (l : List ℕ). drop (suc k) l) (ap (λ (n : ℕ). put (x ∷ xs) n ws) e ∙ put_suc x xs ws (k + at)) ∙ put_behind_first xs ws k at
+
+-- and that the last of them stays
+pub byte_stays : (bytes ws : List ℕ) (x k n at : ℕ) → n ≡ suc k → drop k bytes ≡ x ∷ drop n bytes → drop k (put bytes (n + at) ws) ≡ x ∷ drop n (put bytes (n + at) ws)
+byte_stays bytes ws x k n at e was =
+    let on : n + at ≡ k + suc at = omega (arith, e) in
+    ap (λ (m : ℕ). drop k (put bytes m ws)) on ∙ (put_behind_first bytes ws k (suc at) ∙ (ap (λ (l : List ℕ). put l (suc at) ws) was ∙ (put_suc x (drop n bytes) ws at
+    ∙ ap (λ (l : List ℕ). x ∷ l) (sym (put_behind_first bytes ws n at)))))
 
 -- what is left behind the first of equal bytes
-pub behind_first : (bytes : List ℕ) (m n x : ℕ) → m ≡ suc n → bytes ≡ replicate m x → drop 1 bytes ≡ replicate n x
-behind_first bytes m n x e is = ap (λ (l : List ℕ). drop 1 l) (is ∙ ap (λ (k : ℕ). replicate k x) e)
+drop-replicate : (k n x : ℕ) → drop k (replicate (k + n) x) ≡ replicate n x
+drop-replicate zero n x = let e : 0 + n ≡ n = omega arith in ap (λ (m : ℕ). replicate m x) e
+drop-replicate (suc k) n x = let e : suc k + n ≡ suc (k + n) = omega arith in ap (λ (m : ℕ). drop (suc k) (replicate m x)) e ∙ drop-replicate k n x
+
+pub behind_first : (bytes : List ℕ) (k n m x : ℕ) → m ≡ k + n → bytes ≡ replicate m x → drop k bytes ≡ replicate n x
+behind_first bytes k n m x e is = ap (λ (l : List ℕ). drop k l) (is ∙ ap (λ (j : ℕ). replicate j x) e) ∙ drop-replicate k n x
 
 -- for `#[tactic(auto, using(raw_region::proofs::Puts::lengths))]` and the like
 pub ruleset lengths = (length-put)

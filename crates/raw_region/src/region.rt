@@ -6,10 +6,13 @@ ghost use Rattle.raw_region.specs.Bytes.{put};
 
 use crate::SIZE;
 use crate::moving::move_within;
-use crate::raw::Raw;
+use crate::raw::{LEAD, Raw};
 use byteorder::{ByteOrder, LittleEndian};
 use std::alloc::{AllocError, Global};
 use std::marker::Model;
+
+// Where the byte of a raw body's kind lies: right before a region's bytes.
+const KIND_AT: usize = LEAD - 1;
 
 /// `SIZE` bytes from the allocator, which go back to it once, at the drop. Contracts see the list of the bytes. A body
 /// or a heap whose bytes lie in a region gives it back, and another can be made in it.
@@ -24,14 +27,17 @@ pub struct Region {
 impl Model for Region {
     ghost use Rattle.std.specs.Prelude.{◌≡◌, ◌+◌, ℕ, List, ◌∷◌, length, drop};
     ghost use Rattle.raw_region.specs.declared.TheConstants.{SIZE};
+    ghost use Rattle.raw_region.specs.declared.raw.TheConstants.{LEAD};
+    ghost use Rattle.raw_region.specs.declared.region.TheConstants.{KIND_AT};
 
     ghost Value = { List ℕ };
 
-    ghost view = { λ r. drop 1 r.raw.bytes };
+    ghost view = { λ r. drop LEAD r.raw.bytes };
 
     // It has to hold whatever list a lent slice is left as, so that each byte is below 256 can't stand here. Whoever
     // has a slice of the bytes knows it by the slice's type.
-    ghost invariant = { λ r. (length r.raw.bytes ≡ SIZE + 1) × (r.raw.bytes ≡ 0 ∷ drop 1 r.raw.bytes) };
+    ghost invariant = { λ r. (length r.raw.bytes ≡ LEAD + SIZE)
+        × (drop KIND_AT r.raw.bytes ≡ 0 ∷ drop LEAD r.raw.bytes) };
 }
 
 #[tactic(auto, using(crate::proofs::Puts::lengths))]
@@ -51,7 +57,7 @@ impl Region {
         ensures all { result ≡ length self.now }
         ensures size { result ≡ SIZE }
     {
-        self.raw.view().len() - 1
+        self.raw.view().len() - LEAD
     }
 
     /// The allocator that the region goes back to.
@@ -81,7 +87,7 @@ impl Region {
         ensures value { result.now ≡ slice_range self.now at (at + n) }
         ensures len { length result.now ≡ n }
     {
-        &self.raw.view()[1 + at..1 + at + n]
+        &self.raw.view()[LEAD + at..LEAD + at + n]
     }
 
     /// The byte of a raw body's kind, 0, and behind it the first `n` bytes.
@@ -90,7 +96,7 @@ impl Region {
         ensures value { result.now ≡ 0 ∷ take n self.now }
         ensures len { length result.now ≡ 1 + n }
     {
-        &self.raw.view()[..1 + n]
+        &self.raw.view()[KIND_AT..LEAD + n]
     }
 
     /// The `n` bytes from `at` on, to be written. The region ends as it was, with what is left in them in their place.
@@ -100,7 +106,7 @@ impl Region {
         ensures value { result.now ≡ slice_range self.old at (at + n) }
         ensures len { length result.now ≡ n }
     {
-        self.raw.slice_mut(1 + at, n)
+        self.raw.slice_mut(LEAD + at, n)
     }
 
     /// Moves `n` bytes from `from` to `to`, as if they were copied aside first.

@@ -3,4 +3,4 @@ use Rattle.raw_region.proofs.Puts.{behind_first}
 use Rattle.raw_region.proofs.region.Region.new.Goals as goal
 
 pub returns : goal.returns
-returns c = behind_first c.in_ok-raw.raw.bytes 65521 65520 0 (omega arith) c.in_ok-raw.ensures
+returns c = behind_first c.in_ok-raw.raw.bytes 16 65520 65536 0 (omega arith) c.in_ok-raw.ensures
