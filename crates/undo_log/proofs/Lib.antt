@@ -24,3 +24,4 @@ pub mod Beginnings
 pub mod Groups
 pub mod MarkLemmas
 pub mod Entries
+pub mod LogViews

@@ -87,7 +87,7 @@ impl KeptSteps {
     pub(crate) fn cut_redo(&mut self)
         ensures undo { self.new.undo ≡ self.old.undo }
         ensures redo { self.new.redo ≡ [] }
-        ensures place { self.old.place ≡ true → self.new.place ≡ true }
+        ensures place { self.new.place ≡ self.old.place }
     {
         self.log.cut_behind();
     }

@@ -1,12 +1,12 @@
 //! The log: what can be undone, what can be made again, the group that is open, and where the committed documents
 //! stand.
-ghost use Rattle.std.specs.Prelude.{◌≡◌, ◌≢◌, ◌≤◌, ◌+◌, ◌-◌, ◌^◌, ◌++◌, [], ◌&&◌, ◌==◌, IfErr, IfOk, IsOk, true, Some, None, OnOk, MatchOption, MatchResult, is_some, length, min, reverse, take, vec_capacity, vec_len};
+ghost use Rattle.std.specs.Prelude.{◌≡◌, ◌≢◌, ◌≤◌, ◌+◌, ◌-◌, ◌^◌, ◌++◌, [], ◌&&◌, ◌==◌, IfErr, IfOk, IfSome, IsOk, true, Some, None, OnOk, MatchOption, MatchResult, is_some, length, min, reverse, take, vec_capacity, vec_len};
 ghost use Rattle.chunk_edits.specs.declared.direction.Direction.TheVariants.{Backwards, Forwards};
 ghost use Rattle.geos_model.specs.Machine.{first_name};
 ghost use Rattle.undo_log.specs.Entries.{One, unnamed};
 ghost use Rattle.undo_log.specs.Logging.{AreExclusive, IsHead, abandoned_log, forgotten_log, fresh_log, is_at, joined_log, limited_log, named_log, next_entries, next_moved, next_names, open_changes, pushed_log, retold, reverted_log, saved_log, to_redo, to_undo, total_weight, updated_log, with_change, with_changes, with_group_closed, without_redo};
 ghost use Rattle.undo_log.specs.Asking.{asked_places, places_ahead};
-ghost use Rattle.undo_log.specs.Steps.{step_entry};
+ghost use Rattle.undo_log.specs.Steps.{IsCounted, step_entry};
 ghost use Rattle.undo_log.specs.Telling.{all_places, newest_changes};
 
 use crate::entry::{Changes, NamedEntry};
@@ -229,6 +229,7 @@ impl UndoLog {
             (λ step. IsHead (step_entry step).entry (next_entries direction self.now.lists)) }
         ensures named { MatchOption result ([] ≡ first_name (next_names direction self.now.lists))
             (λ step. (step_entry step).name ≡ first_name (next_names direction self.now.lists)) }
+        ensures counted { IfSome result IsCounted }
     {
         match direction {
             Direction::Backwards => self.steps.newest(),
