@@ -1,0 +1,3 @@
+pub mod LogLemmas
+pub mod RecordLemmas
+pub mod RowLemmas

@@ -1,0 +1,5 @@
+pub mod Lent
+pub mod Marks
+pub mod Records
+pub mod Rows
+pub mod Settled
