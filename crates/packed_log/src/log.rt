@@ -1,8 +1,8 @@
 //! The log, and the calls of it.
-ghost use Rattle.std.specs.Prelude.{◌≡◌, ◌≢◌, ◌+◌, ◌-◌, ◌^◌, ◌≤◌, ◌++◌, [], ◌∷◌, OnErr, OnOk, Some, drop, false, length, option_map, slice_get, take, true};
+ghost use Rattle.std.specs.Prelude.{◌≡◌, ◌≢◌, ◌+◌, ◌-◌, ◌^◌, ◌<◌, ◌≤◌, ◌++◌, [], ◌∷◌, IfSome, OnErr, OnOk, Some, drop, false, length, option_map, slice_get, take, true};
 ghost use Rattle.std.specs.Bool.{OnFalse, OnTrue};
 ghost use Rattle.packed_log.specs.Lent.{record_of};
-ghost use Rattle.packed_log.specs.Records.{Short, Whole, count_bytes, is_short, is_whole, log_wholes};
+ghost use Rattle.packed_log.specs.Records.{Short, Whole, bytes_of, count_bytes, is_short, is_whole, log_wholes};
 
 use crate::mark::Mark;
 use crate::record::LentRecord;
@@ -105,7 +105,8 @@ impl<H: Copy, W> PackedLog<H, W> {
 
     /// The last record before the cursor.
     pub fn newest(&self) -> Option<LentRecord<'_, H, W>>
-        ensures { option_map record_of result ≡ slice_get self.now.before 0 }
+        ensures first { option_map record_of result ≡ slice_get self.now.before 0 }
+        ensures few { IfSome result (λ lent. length (bytes_of (record_of lent)) < 2 ^ 16) }
     {
         match *self.marks.before().last()? {
             Mark::Short { len, head } => {
@@ -117,7 +118,8 @@ impl<H: Copy, W> PackedLog<H, W> {
 
     /// The first record behind the cursor.
     pub fn next(&self) -> Option<LentRecord<'_, H, W>>
-        ensures { option_map record_of result ≡ slice_get self.now.behind 0 }
+        ensures first { option_map record_of result ≡ slice_get self.now.behind 0 }
+        ensures few { IfSome result (λ lent. length (bytes_of (record_of lent)) < 2 ^ 16) }
     {
         match *self.marks.behind().first()? {
             Mark::Short { len, head } => {

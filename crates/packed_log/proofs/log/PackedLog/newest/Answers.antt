@@ -23,8 +23,8 @@ last-requires-in-Whole g c =
     let whole = whole_marked n.newest (sym c.in-Whole.is ∙ same) in
     whole_there n.newest whole.0 (all_wholes n.front) w.before whole.1 n.at_end.in_wholes
 
-pub returns-in-Short : goal.returns-in-Short
-returns-in-Short g c =
+pub returns-in-Short-clause-first : goal.returns-in-Short-clause-first
+returns-in-Short-clause-first g c =
     let p = c.self.inside in let m = p.marks in let b = p.bytes in let w = p.wholes in let are = c.self.invariant in
     let read = c.in_ok-len.ensures.value ∙ ap (λ ms. slice_get ms (length ms - 1)) c.before-2.ensures in
     let n = newest_by m b w are c.in_ok-len.field-0.now read in
@@ -33,8 +33,8 @@ returns-in-Short g c =
     ap (λ bs. Some (Short c.in-Short.head bs)) c.newest.ensures ∙ ap (λ (r : Record g.row.H.Denot g.row.W.Denot). Some r) lies ∙ sym (first_is m b w are n)
     ∙ ap (λ (l : PackedLog g.row.H.Denot g.row.W.Denot). slice_get l.before 0) c.self.view_is
 
-pub returns-in-Whole : goal.returns-in-Whole
-returns-in-Whole g c =
+pub returns-in-Whole-clause-first : goal.returns-in-Whole-clause-first
+returns-in-Whole-clause-first g c =
     let p = c.self.inside in let m = p.marks in let b = p.bytes in let w = p.wholes in let are = c.self.invariant in
     let read = c.in_ok-len.ensures.value ∙ ap (λ ms. slice_get ms (length ms - 1)) c.before-2.ensures in
     let n = newest_by m b w are c.in_ok-len.field-0.now read in
