@@ -35,7 +35,7 @@ pub fn make_step<S: Store>(
     // Asked of the caller.
     requires unmarked { blocks.old.disk.marked ≡ None }
     requires unlocked { nat_lt 0 (locked_count blocks.old.resident) ≡ false }
-    requires listed { CanApplyAllByHandle (map (directed direction) (changes_in (step_entry step.entry).entry)) blocks.old.document }
+    requires listed { CanApplyAllByHandle (map (directed direction) (changes_in (step_entry step).entry)) blocks.old.document }
     // What is done.
     ensures ok { OnOk result (IsEntryApplied S.facts direction (step_entry step.entry).entry blocks.old blocks.new) }
     ensures err { OnErr result (KeepsBlocks S.facts blocks.old blocks.new) }
