@@ -6,6 +6,7 @@ pub mod CarryingOut
 pub mod ChangeLaws
 pub mod ChangeOutcomes
 pub mod ChangedBodies
+pub mod ChangedInPlace
 pub mod ChangingAll
 pub mod ChangingInMemory
 pub mod Commits

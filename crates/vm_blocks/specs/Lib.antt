@@ -1,5 +1,6 @@
 pub mod Allowing
 pub mod Bodies
+pub mod ByteChanges
 pub mod ChangePlaces
 pub mod Changes
 pub mod Exactness

@@ -14,6 +14,7 @@ ghost use Rattle.vm_blocks.specs.Opening.{IsOpenedFrom, IsNotOpened, IsMadeIn, I
 ghost use Rattle.lru.specs.LruCache.{lru_cache};
 
 mod changing;
+mod changing_bytes;
 mod commits;
 mod fronts;
 mod loads;

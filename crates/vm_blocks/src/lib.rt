@@ -3,6 +3,7 @@
 
 mod body;
 mod bringing_in;
+mod byte_change;
 mod change;
 mod file_blocks;
 mod frame;
@@ -15,6 +16,7 @@ mod saved;
 mod transfers;
 
 pub use body::BlockBody;
+pub use byte_change::ByteChange;
 pub use change::{Change, Content, PartChange};
 pub use chunk_edits::Direction;
 pub use document_file::{BlockImage, Member};

@@ -7,12 +7,13 @@ ghost use Rattle.geos_model.specs.declared.command.Body.TheVariants as bodies;
 ghost use Rattle.chunk_edits.specs.Patching.{directed_pieces};
 ghost use Rattle.chunk_edits.specs.Splicing.{OccursAt};
 ghost use Rattle.vm_blocks.specs.Bodies.{body_value};
+ghost use Rattle.vm_blocks.specs.ByteChanges.{byte_part};
 ghost use Rattle.vm_blocks.specs.Allowing.{AllowsRaw, AllowsRawPatch, AllowsChunk, AllowsPatch, AllowsNewChunk};
 ghost use Rattle.vm_blocks.specs.Changes.{content_bytes, directed_part};
 ghost use Rattle.vm_blocks.specs.Exactness.{HeapHolds, HoldsPart, IsExactPart, RawHolds};
 ghost use Rattle.vm_blocks.specs.Parts.{AllowsPart, RawAllowsPart, HeapAllowsPart, body_after_part};
 
-use crate::{BlockBody, Content, Direction, PartChange};
+use crate::{BlockBody, ByteChange, Content, Direction, PartChange};
 use chunk_edits::{
     Patch, apply, apply_back, apply_patch, apply_raw, apply_raw_back, apply_raw_patch,
 };
@@ -72,6 +73,18 @@ fn heap_can_take(heap: &Heap, change: &PartChange, direction: Direction) -> bool
             Direction::Backwards => allows_new(heap, *chunk, content),
         },
         PartChange::Raw(_) | PartChange::RawPatch(_) => false,
+    }
+}
+
+/// Whether a body takes a change of a run of its bytes, as `can_take` says of other changes.
+pub(crate) fn can_take_bytes(body: &BlockBody, change: ByteChange<'_>) -> bool
+    ensures { IsTrue result ↔ AllowsPart (byte_part change.entry) (body_value body.now) }
+{
+    let (at, old, new) = (change.at, change.old, change.new);
+    match (body, change.chunk) {
+        (BlockBody::Raw(body), None) => raw_allows(body, at, old, new),
+        (BlockBody::Heap(heap), Some(chunk)) => chunk_allows(heap, chunk, at, old, new),
+        (BlockBody::Raw(_), Some(_)) | (BlockBody::Heap(_), None) => false,
     }
 }
 
@@ -328,6 +341,41 @@ pub(crate) fn carry_out_heap(heap: &mut Heap, change: &PartChange, direction: Di
             Direction::Backwards => bring_in(heap, *chunk, content),
         },
         PartChange::Raw(_) | PartChange::RawPatch(_) => unreachable!(),
+    }
+}
+
+/// Replaces a run of the bytes of a body in place.
+pub(crate) fn replace_bytes(body: &mut BlockBody, change: ByteChange<'_>)
+    requires { AllowsPart (byte_part change) (body_value body.old) }
+    ensures { body_value body.new ≡ body_after_part (byte_part change.entry) (body_value body.old) }
+{
+    match body {
+        BlockBody::Raw(raw) => replace_in_raw(raw, change),
+        BlockBody::Heap(heap) => replace_in_heap(heap, change),
+    }
+}
+
+/// Of a raw body. As many are written over without a move of others.
+fn replace_in_raw(body: &mut RawBody, change: ByteChange<'_>)
+    requires { RawAllowsPart (byte_part change) body.old }
+    ensures { bodies.Raw body.new ≡ body_after_part (byte_part change.entry) (bodies.Raw body.old) }
+{
+    let (at, old) = (change.at as usize, change.old.len());
+    if change.new.len() == old {
+        body.copy_in(at, change.new);
+    } else {
+        body.replace(at, old, change.new);
+    }
+}
+
+/// Of a chunk of a heap.
+fn replace_in_heap(heap: &mut Heap, change: ByteChange<'_>)
+    requires { HeapAllowsPart (byte_part change) heap.old.chunks }
+    ensures { bodies.Heap heap.new.chunks ≡ body_after_part (byte_part change.entry) (bodies.Heap heap.old.chunks) }
+{
+    match change.chunk {
+        Some(chunk) => heap.replace(chunk, change.at as usize, change.old.len(), change.new),
+        None => unreachable!(),
     }
 }
 

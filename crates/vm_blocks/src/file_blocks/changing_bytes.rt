@@ -1,0 +1,94 @@
+//! Changes of a run of bytes that lie with the caller: they are carried out as the change that they are, with no change
+//! of their own.
+ghost use Rattle.std.specs.Prelude.{◌≡◌, [], Err, true, IsOk, IfErr, OnOk, OnErr};
+ghost use Rattle.geos_model.specs.Document.{block_at, is_live};
+ghost use Rattle.vm_blocks.specs.ByteChanges.{byte_change, byte_part};
+ghost use Rattle.vm_blocks.specs.Changes.{after_change, after_part, directed, incoming_blocks};
+ghost use Rattle.vm_blocks.specs.Keeping.{KeepsBlocks, is_loaded, has_no_frame_for};
+ghost use Rattle.vm_blocks.specs.Parts.{AllowsPart};
+ghost use Rattle.vm_blocks.specs.Preparing.{CanApplyByHandle, AllowsChange, IsInMemory, IsShutOut, CantPrepare, IsApplied, AppliesChange};
+
+use super::FileBlocks;
+use crate::part::{can_take_bytes, replace_bytes};
+use crate::{ByteChange, Direction};
+use geos_model::Fault;
+use vm_store::Store;
+
+impl<S: Store> FileBlocks<S> {
+    /// Makes a change of a run of bytes, in the direction, as `change` does. Beyond bringing the block into memory it
+    /// takes none.
+    pub fn change_bytes(
+        &mut self,
+        change: ByteChange<'_>,
+        direction: Direction,
+    ) -> Result<(), Fault>
+        // Asked of the caller.
+        requires { CanApplyByHandle (directed direction (byte_change change)) self.old.document }
+        // What is done.
+        ensures ok { OnOk result (IsApplied S.facts (directed direction (byte_change change.entry)) self.old self.new) }
+        ensures err { OnErr result (KeepsBlocks S.facts self.old self.new) }
+        // Refusals.
+        ensures refusals { IfErr result
+            (CantPrepare S.facts (directed direction (byte_change change.entry)) self.old self.new) }
+        // When the answer is known beforehand.
+        ensures sure { incoming_blocks (directed direction (byte_change change.entry)) ≡ []
+            → IsInMemory (directed direction (byte_change change.entry)) self.old
+            → AllowsChange (directed direction (byte_change change.entry)) self.old.document
+            → IsOk result × (self.new.disk ≡ self.old.disk)
+            × (self.new.document ≡ after_change (directed direction (byte_change change.entry)) self.old.document) }
+        ensures shut { IsShutOut (directed direction (byte_change change.entry)) self.old
+            → (result ≡ Err Fault.CacheFull) × (self.new ≡ self.old) }
+    {
+        self.replace_bytes(change.towards(direction))
+    }
+
+    // So it does forwards, in one word.
+    fn replace_bytes(&mut self, change: ByteChange<'_>) -> Result<(), Fault>
+        requires { is_live self.old.document change.block.0 ≡ true }
+        ensures { AppliesChange S.facts (byte_change change.entry) self.old self.new result }
+    {
+        self.ready_bytes(change)?;
+        self.carry_out_bytes(change);
+        Ok(())
+    }
+
+    // Brings the block into memory, and tests that its body takes the change.
+    fn ready_bytes(&mut self, change: ByteChange<'_>) -> Result<(), Fault>
+        // Asked of the caller.
+        requires { is_live self.old.document change.block.0 ≡ true }
+        // What stays.
+        ensures keeps { KeepsBlocks S.facts self.old self.new }
+        // What is done.
+        ensures loaded { OnOk result (is_loaded self.new change.entry.block.0 ≡ true) }
+        ensures takes { OnOk result
+            (AllowsPart (byte_part change.entry) (block_at self.new.document change.entry.block.0).body) }
+        // Refusals.
+        ensures err { IfErr result (CantPrepare S.facts (byte_change change.entry) self.old self.new) }
+        // When the answer is known beforehand.
+        ensures sure { is_loaded self.old change.entry.block.0 ≡ true
+            → AllowsPart (byte_part change.entry) (block_at self.old.document change.entry.block.0).body
+            → IsOk result × (self.new.disk ≡ self.old.disk) × (self.new.document ≡ self.old.document) }
+        ensures shut { has_no_frame_for self.old change.entry.block.0 ≡ true → (result ≡ Err Fault.CacheFull)
+            × (self.new ≡ self.old) }
+    {
+        self.load_live(change.block)?;
+        if can_take_bytes(self.body(change.block), change) {
+            Ok(())
+        } else {
+            Err(Fault::Damaged)
+        }
+    }
+
+    // Changes the body of a block in memory in place: from now on the file may have another.
+    fn carry_out_bytes(&mut self, change: ByteChange<'_>)
+        requires loaded { is_loaded self.old change.block.0 ≡ true }
+        requires takes { AllowsPart (byte_part change) (block_at self.old.document change.block.0).body }
+        ensures { self.new ≡ record self.old {
+          document = after_part change.entry.block.0 (byte_part change.entry) self.old.document;
+        } }
+    {
+        let frame = self.frames.peek_mut(change.block.0).unwrap();
+        frame.changed = true;
+        replace_bytes(&mut frame.body, change);
+    }
+}
