@@ -1,5 +1,5 @@
 -- The entries that records of the log are.
-use Rattle.std.proofs.Common.{◌≡◌, ◌≢◌, ◌∷◌, ◌+◌, ◌-◌, ◌^◌, ◌++◌, ◌==◌, [], ℕ, zero, suc, Bool, List, Option, Some, None, true, false, drop, length, map, min, reverse, take, refl, sym, ap, ◌∙◌, arith}
+use Rattle.std.proofs.Common.{◌≡◌, ◌≢◌, ◌∷◌, ◌+◌, ◌-◌, ◌^◌, ◌++◌, ◌==◌, [], ℕ, zero, suc, Bool, List, Some, None, true, false, drop, length, min, reverse, take, refl, sym, ap, ◌∙◌, arith}
 use Rattle.std.specs.Prelude.{if◌then◌else◌, slice_get}
 use Rattle.std.specs.List.{sum_by}
 use Rattle.std.proofs.lemmas.List.{length-drop, length-take, take-map}

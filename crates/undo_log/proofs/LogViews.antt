@@ -1,14 +1,13 @@
 -- What a log is seen as, as its steps are made, undone, named, joined and forgotten.
-use Rattle.std.proofs.Common.{◌≡◌, ◌≢◌, ◌<◌, ◌≤◌, ◌+◌, ◌-◌, ◌==◌, ◌&&◌, ℕ, zero, suc, Bool, true, false, inl, inr, Vec, Global, List, [], ◌∷◌, length, reverse, take, drop, Option, Some, None, refl, sym, ap, subst, ◌∙◌, arith}
+use Rattle.std.proofs.Common.{◌≡◌, ◌≢◌, ◌<◌, ◌≤◌, ◌+◌, ◌-◌, ◌==◌, ◌&&◌, ℕ, zero, suc, Bool, true, false, inl, inr, Vec, Global, List, [], ◌∷◌, length, reverse, take, Option, Some, None, refl, sym, ap, subst, ◌∙◌, arith}
 use Rattle.std.proofs.lemmas.Bool.{and_parts, cases_Bool, eqb-true}
 use Rattle.std.specs.Option.{option_map}
 use Rattle.std.proofs.lemmas.List.{length-take-le, take-map}
 use Rattle.vm_blocks.specs.declared.change.Change.{Change}
 use Rattle.chunk_edits.specs.declared.direction.Direction.TheVariants.{Forwards, Backwards}
 use Rattle.geos_model.specs.Position.{Position, position_after_forget, position_after_join, position_after_redo, position_after_step, position_after_undo}
-use Rattle.geos_model.specs.Machine.{limited}
 use Rattle.undo_log.specs.Joining.{joined, with_joined}
-use Rattle.undo_log.specs.Logging.{Log, LogState, changes_in, forgotten_log, joined_log, limited_log, named, named_log, next_moved, open_changes, pushed_log, retold, reversed_entry, turned_over, with_named, without_redo}
+use Rattle.undo_log.specs.Logging.{Log, changes_in, forgotten_log, joined_log, limited_log, named, named_log, next_moved, open_changes, retold, reversed_entry, turned_over, with_named, without_redo}
 use Rattle.undo_log.specs.Marks.{AreMarksWithin, IsMarkWithin, both_marks, mark_from, mark_joined, mark_lowered, mark_up_to, position_of}
 use Rattle.undo_log.specs.Entries.{LogEntry, NamedEntry, entry_names, log_entries}
 use Rattle.undo_log.specs.Steps.{KeepsNewest, Steps, TurnsOver, with_first}

@@ -295,10 +295,7 @@ fn turn_newest(alloc: Global, log: &mut PackedLog<Head, NamedEntry>)
 }
 
 // The newest step is a whole one, if there is memory for it.
-fn make_newest_whole(
-    alloc: Global,
-    log: &mut PackedLog<Head, NamedEntry>,
-) -> Result<(), AllocError>
+fn make_newest_whole(alloc: Global, log: &mut PackedLog<Head, NamedEntry>) -> Result<(), AllocError>
     requires { log.old.before ≢ [] }
     ensures ok { OnOk result (is_whole (slice_get log.new.before 0) ≡ true) }
     ensures before { entries_of log.new.before ≡ entries_of log.old.before }

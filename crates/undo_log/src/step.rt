@@ -90,11 +90,7 @@ impl<'a> Step<'a> {
     }
 
     /// Tells those of so many of its newest changes, the newest one last.
-    pub(crate) fn tell_newest(
-        self,
-        count: usize,
-        places: &mut Vec<Place>,
-    ) -> Result<(), AllocError>
+    pub(crate) fn tell_newest(self, count: usize, places: &mut Vec<Place>) -> Result<(), AllocError>
         requires { IsCounted self }
         ensures ok { IfOk result (λ _. places.new.items ≡ places.old.items
             ++ all_places Forwards (reverse (take count (changes_in (step_entry self.entry).entry)))) }

@@ -1,4 +1,4 @@
-use Rattle.std.proofs.Common.{◌≡◌, take, ap, ◌∙◌}
+use Rattle.std.proofs.Common.{take, ap, ◌∙◌}
 use Rattle.undo_log.specs.Steps.{Steps, entries_of}
 use Rattle.undo_log.proofs.Entries.{taken}
 use Rattle.undo_log.proofs.kept_steps.KeptSteps.keep_newest.Goals as goal

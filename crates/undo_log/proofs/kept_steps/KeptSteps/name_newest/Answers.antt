@@ -1,4 +1,4 @@
-use Rattle.std.proofs.Common.{◌≡◌, ℕ, [], List, length, vec_len, eqb-true, sym, ap, ◌∙◌, arith}
+use Rattle.std.proofs.Common.{◌≡◌, ℕ, [], List, vec_len, eqb-true, sym, ap, ◌∙◌, arith}
 use Rattle.undo_log.specs.Logging.{named}
 use Rattle.undo_log.specs.Steps.{Steps, with_first}
 use Rattle.undo_log.proofs.Entries.{short_unnamed, without_items}

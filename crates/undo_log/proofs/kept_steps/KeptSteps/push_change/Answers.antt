@@ -1,4 +1,4 @@
-use Rattle.std.proofs.Common.{◌≡◌, [], sym, subst, ap, ◌∙◌}
+use Rattle.std.proofs.Common.{ap, ◌∙◌}
 use Rattle.undo_log.specs.Steps.{Steps}
 use Rattle.undo_log.proofs.Entries.{none_of}
 use Rattle.undo_log.proofs.kept_steps.KeptSteps.push_change.Goals as goal

@@ -1,4 +1,4 @@
-use Rattle.std.proofs.Common.{◌≡◌, [], List, Some, sym, ap, ◌∙◌}
+use Rattle.std.proofs.Common.{[], List, Some, sym, ap, ◌∙◌}
 use Rattle.std.specs.Option.{option_map}
 use Rattle.packed_log.specs.Lent.{record_of}
 use Rattle.vm_blocks.specs.ByteChanges.{byte_change}

@@ -1,6 +1,5 @@
-use Rattle.std.proofs.Common.{◌≡◌, ◌+◌, ◌-◌, ◌^◌, min, ap, ◌∙◌}
+use Rattle.std.proofs.Common.{◌+◌, ◌-◌, ◌^◌, min, ap, ◌∙◌}
 use Rattle.std.specs.List.{sum_by}
-use Rattle.packed_log.specs.Records.{log_wholes}
 use Rattle.undo_log.specs.Entries.{NamedEntry}
 use Rattle.undo_log.specs.Logging.{entry_weight}
 use Rattle.undo_log.specs.Steps.{Steps}

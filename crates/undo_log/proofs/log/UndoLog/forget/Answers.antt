@@ -1,6 +1,6 @@
-use Rattle.std.proofs.Common.{◌≡◌, ◌==◌, ◌&&◌, ◌-◌, length, sym, ap, subst, ◌∙◌, arith}
+use Rattle.std.proofs.Common.{◌==◌, ◌&&◌, ◌-◌, length, sym, ap, ◌∙◌, arith}
 use Rattle.undo_log.specs.Logging.{LogState, forgotten_log, open_changes}
-use Rattle.undo_log.specs.Marks.{both_marks, mark_from, mark_lowered}
+use Rattle.undo_log.specs.Marks.{both_marks, mark_lowered}
 use Rattle.undo_log.specs.declared.marks.Marks.{Marks}
 use Rattle.undo_log.proofs.LogViews.{forgotten_at, log_at, open_group}
 use Rattle.undo_log.proofs.log.UndoLog.forget.Goals as goal

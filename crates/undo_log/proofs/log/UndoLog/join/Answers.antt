@@ -1,4 +1,4 @@
-use Rattle.std.proofs.Common.{◌≡◌, ◌≤◌, ℕ, None, length, sym, ap, subst, ◌∙◌, arith}
+use Rattle.std.proofs.Common.{◌≡◌, ◌≤◌, ℕ, None, length, sym, ap, subst, ◌∙◌}
 use Rattle.undo_log.specs.Logging.{LogState, joined_log}
 use Rattle.undo_log.specs.Marks.{both_marks, mark_joined}
 use Rattle.undo_log.proofs.LogViews.{joined_at, log_at, open_group}

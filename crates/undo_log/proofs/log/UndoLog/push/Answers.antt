@@ -1,5 +1,4 @@
 use Rattle.std.proofs.Common.{◌≡◌, [], None, sym, ap, subst, ◌∙◌}
-use Rattle.undo_log.specs.Entries.{One, unnamed}
 use Rattle.undo_log.specs.Logging.{LogState, pushed_log}
 use Rattle.undo_log.proofs.LogViews.{no_entries, open_group, pushed_at}
 use Rattle.undo_log.proofs.log.UndoLog.push.Goals as goal

@@ -1,4 +1,3 @@
-use Rattle.std.proofs.Common.{◌≡◌}
 use Rattle.undo_log.proofs.log.UndoLog.tell_step.Goals as goal
 
 pub tell_next-requires : goal.tell_next-requires

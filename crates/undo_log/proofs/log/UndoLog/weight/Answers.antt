@@ -1,4 +1,4 @@
-use Rattle.std.proofs.Common.{◌≡◌, ◌+◌, ◌-◌, ◌^◌, min, sym, ap, ◌∙◌}
+use Rattle.std.proofs.Common.{◌+◌, ◌-◌, ◌^◌, min, sym, ap, ◌∙◌}
 use Rattle.undo_log.specs.Logging.{LogState, open_changes, to_redo, to_undo, total_weight}
 use Rattle.undo_log.proofs.LogViews.{open_group}
 use Rattle.undo_log.proofs.Weights.{log_weighs}
