@@ -22,9 +22,6 @@ pub mod CommitSteps
 pub mod SavingAs
 pub mod Beginnings
 pub mod Groups
-pub mod Moving
-pub mod RoomLemmas
 pub mod MarkLemmas
 pub mod Entries
-pub mod Segments
 pub mod LogViews

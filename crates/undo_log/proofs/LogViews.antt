@@ -1,38 +1,35 @@
--- What a log is seen as, as its entries are made, undone, joined, forgotten and moved down.
-use Rattle.std.proofs.Common.{◌≡◌, ◌<◌, ◌≤◌, ◌+◌, ◌-◌, ◌==◌, ◌&&◌, ℕ, zero, suc, Bool, false, inl, inr, Vec, Global, List, [], ◌∷◌, ◌++◌, length, reverse, take, drop, Option, Some, None, refl, sym, ap, subst, ◌∙◌, arith}
+-- What a log is seen as, as its steps are made, undone, named, joined and forgotten.
+use Rattle.std.proofs.Common.{◌≡◌, ◌≢◌, ◌<◌, ◌≤◌, ◌+◌, ◌-◌, ◌==◌, ◌&&◌, ℕ, zero, suc, Bool, true, false, inl, inr, Vec, Global, List, [], ◌∷◌, length, reverse, take, Option, Some, None, refl, sym, ap, subst, ◌∙◌, arith}
 use Rattle.std.proofs.lemmas.Bool.{and_parts, cases_Bool, eqb-true}
 use Rattle.std.specs.Option.{option_map}
-use Rattle.std.proofs.lemmas.List.{drop-append-le, drop_all, length-drop, length-take-le, length_push, reverse-append, take-append-drop, take-append-le, take-map, take_all}
+use Rattle.std.proofs.lemmas.List.{length-take-le, take-map}
 use Rattle.vm_blocks.specs.declared.change.Change.{Change}
 use Rattle.chunk_edits.specs.declared.direction.Direction.TheVariants.{Forwards, Backwards}
-use Rattle.geos_model.specs.Position.{Position, position_after_join, position_stepped, position_after_step}
-use Rattle.undo_log.specs.Joining.{JoinsAt, KeepsBefore, LeavesBehind, joined}
-use Rattle.geos_model.specs.Machine.{joined_names, limited}
-use Rattle.undo_log.specs.Logging.{Log, BecomesAt, changes_in, forgotten_log, joined_entries, joined_log, named, named_log, next_moved, open_changes, retold, reversed_entry, turned_over, with_named, without_redo}
+use Rattle.geos_model.specs.Position.{Position, position_after_forget, position_after_join, position_after_redo, position_after_step, position_after_undo}
+use Rattle.undo_log.specs.Joining.{joined, with_joined}
+use Rattle.undo_log.specs.Logging.{Log, changes_in, forgotten_log, joined_log, limited_log, named, named_log, next_moved, open_changes, retold, reversed_entry, turned_over, with_named, without_redo}
 use Rattle.undo_log.specs.Marks.{AreMarksWithin, IsMarkWithin, both_marks, mark_from, mark_joined, mark_lowered, mark_up_to, position_of}
 use Rattle.undo_log.specs.Entries.{LogEntry, NamedEntry, entry_names, log_entries}
+use Rattle.undo_log.specs.Steps.{KeepsNewest, Steps, TurnsOver, with_first}
 use Rattle.undo_log.specs.declared.marks.Marks.{Marks}
 use Rattle.geos_model.specs.declared.place.Place.{Place}
 use Rattle.undo_log.specs.Telling.{all_places, clipped, newest_changes, next_changes, told}
 use Rattle.undo_log.specs.declared.touched.Touched.{Touched}
 use Rattle.undo_log.specs.declared.touched.Touched.TheVariants as touched
-use Rattle.undo_log.proofs.Lists.{newest_first}
-use Rattle.undo_log.proofs.MarkLemmas.{cut_position, forget_position, join_position, kept_position, lower_position, none_forgotten, redo_position, step_position, undo_position}
-use Rattle.undo_log.proofs.Moving.{behind, last_before, within}
-use Rattle.undo_log.proofs.Telling.{newest-closed, newest-kept, newest-none, newest-nothing, newest-some, there, redone-tells, told-joined, undone-tells}
-use Rattle.undo_log.proofs.Segments.{all_of, all_pushed, between, drop_drop, newest_of, one_behind, one_taken, taken_out, two_behind, two_taken}
+use Rattle.undo_log.proofs.MarkLemmas.{cut_position, forget_position, join_position, lower_position, redo_position, step_position, undo_position, within_from}
+use Rattle.undo_log.proofs.Telling.{newest-closed, newest-kept, newest-none, newest-nothing, newest-some, redone-tells, told-joined, undone-tells}
 
--- the log of these entries, of which so many are forgotten, and so many can't be made again
-abbrev pub log_at : ℕ → ℕ → List NamedEntry → Option (List Change) → Marks → Touched → Option ℕ → Log
-log_at dead done es group marks last limit = record {
-  undo = log_entries (reverse (drop dead (take done es)));
-  redo = log_entries (drop done es);
-  undo_names = entry_names (reverse (drop dead (take done es)));
-  redo_names = entry_names (drop done es);
+-- the log of these entries
+abbrev pub log_at : List NamedEntry → List NamedEntry → Option (List Change) → Marks → Touched → Option ℕ → Log
+log_at undo redo group marks last limit = record {
+  undo = log_entries undo;
+  redo = log_entries redo;
+  undo_names = entry_names undo;
+  redo_names = entry_names redo;
   group = group;
-  updated_at = position_of done marks.updated;
-  saved_at = position_of done marks.saved;
-  touched = told last (newest_changes (log_entries (reverse (drop dead (take done es)))) group) (next_changes (log_entries (drop done es)));
+  updated_at = position_of (length undo) marks.updated;
+  saved_at = position_of (length undo) marks.saved;
+  touched = told last (newest_changes (log_entries undo) group) (next_changes (log_entries redo));
   limit = limit;
 }
 
@@ -49,224 +46,160 @@ log_is : (undo undo' redo redo' : List NamedEntry) (group : Option (List Change)
 log_is undo undo' redo redo' group updated updated' saved saved' touched touched' limit u r p q t =
     λ i. record { undo = log_entries (u i); redo = log_entries (r i); undo_names = entry_names (u i); redo_names = entry_names (r i); group = group; updated_at = p i; saved_at = q i; touched = t i; limit = limit }
 
--- what is told by the same entries
-same_told : (last : Touched) (undo undo' redo redo' : List NamedEntry) (group : Option (List Change)) → undo ≡ undo' → redo ≡ redo'
-    → told last (newest_changes (log_entries undo) group) (next_changes (log_entries redo)) ≡ told last (newest_changes (log_entries undo') group) (next_changes (log_entries redo'))
-same_told last undo undo' redo redo' group u r = λ i. told last (newest_changes (log_entries (u i)) group) (next_changes (log_entries (r i)))
-
 -- what is kept of entries
 kept_of : (most : ℕ) (es : List NamedEntry) (log : Log)
     → record log { undo = log_entries (take most es); undo_names = entry_names (take most es) } ≡ record log { undo = take most (log_entries es); undo_names = take most (entry_names es) }
 kept_of most es log = λ i. record log { undo = sym (take-map (λ (e : NamedEntry). e.entry) most es) i; undo_names = sym (take-map (λ (e : NamedEntry). e.name) most es) i }
 
--- and of the newest two that are joined
-abbrev joined_named : List NamedEntry → List NamedEntry
-joined_named (e ∷ f ∷ es) = joined e f ∷ es
-joined_named es = es
-
-joined_of : (es : List NamedEntry) (log : Log)
-    → record log { undo = log_entries (joined_named es); undo_names = entry_names (joined_named es) } ≡ record log { undo = joined_entries (log_entries es); undo_names = joined_names (entry_names es) }
-joined_of [] log = refl
-joined_of (e ∷ []) log = refl
-joined_of (e ∷ f ∷ es) log = refl
+next : (n : ℕ) → n + 1 ≡ suc n
+next n = omega arith
 
 module _ (group : Option (List Change)) (marks : Marks) (limit : Option ℕ) where
-  -- The place between what can be undone and what can be made again moves by one entry, which is turned over.
+  -- A step goes from one list to the other, and is turned over.
 
-  -- one more before the place is the newest
-  newest_at : (dead n : ℕ) (es others : List NamedEntry) (e : NamedEntry) → dead ≤ n → drop n es ≡ e ∷ others → reverse (drop dead (take (n + 1) es)) ≡ e ∷ reverse (drop dead (take n es))
-  newest_at dead n es others e before is =
-      let inside = within n es others e is in let long = length-take-le n es (omega (arith, inside)) in
-      newest_first (drop dead (take (n + 1) es)) (drop dead (take n es)) e (ap (drop dead) (last_before n es others e is) ∙ drop-append-le dead (take n es) (e ∷ []) (omega (arith, long)))
+  pub undone_at : (undo redo undo' redo' : List NamedEntry) (last : Touched) → TurnsOver undo redo undo' redo'
+      → log_at undo' redo' group marks touched.Undone limit ≡ next_moved Backwards (log_at undo redo group marks last limit)
+  undone_at undo redo undo' redo' last t =
+      let after : (mark : Option ℕ) → position_of (length undo') mark ≡ position_after_undo (position_of (suc (length undo')) mark) =
+      λ mark. undo_position (length undo') mark ∙ ap (λ (k : ℕ). position_after_undo (position_of k mark)) (next (length undo')) in
+      subst (λ (es : List NamedEntry). log_at undo' redo' group marks touched.Undone limit ≡ next_moved Backwards (log_at es redo group marks last limit)) (sym t.was)
+      (log_is undo' undo' redo' (turned_over t.entry ∷ redo) group _ _ _ _ _ _ limit refl t.is (after marks.updated) (after marks.saved)
+      (ap (λ (es : List NamedEntry). all_places Backwards (reverse (next_changes (log_entries es)))) t.is ∙ undone-tells t.entry.entry))
 
-  pub undone_at : (dead n done : ℕ) (old new : List NamedEntry) (last : Touched) → n + 1 ≡ done → dead ≤ n → BecomesAt turned_over n old new
-      → log_at dead n new group marks touched.Undone limit ≡ next_moved Backwards (log_at dead done old group marks last limit)
-  undone_at dead n done old new last next before t =
-      subst (λ (k : ℕ). log_at dead n new group marks touched.Undone limit ≡ next_moved Backwards (log_at dead k old group marks last limit)) next
-      (rw (newest_at dead n old t.others t.entry before t.was)
-      (log_is _ _ _ _ group _ _ _ _ _ _ limit (ap (λ (es : List NamedEntry). reverse (drop dead es)) t.before)
-      (t.is ∙ ap (λ (es : List NamedEntry). turned_over t.entry ∷ es) (sym (behind n old t.others t.entry t.was)))
-      (undo_position n marks.updated) (undo_position n marks.saved)
-      (ap (λ (es : List NamedEntry). all_places Backwards (reverse (next_changes (log_entries es)))) t.is ∙ undone-tells t.entry.entry)))
+  pub redone_at : (undo redo undo' redo' : List NamedEntry) (last : Touched) (count : ℕ) → group ≡ None → TurnsOver redo undo redo' undo' → count ≡ length (next_changes (log_entries undo'))
+      → log_at undo' redo' group marks (touched.Newest count) limit ≡ next_moved Forwards (log_at undo redo group marks last limit)
+  redone_at undo redo undo' redo' last count none t many =
+      let after : (mark : Option ℕ) → position_of (length undo') mark ≡ position_after_redo (position_of (length undo) mark) =
+      λ mark. ap (λ (es : List NamedEntry). position_of (length es) mark) t.is ∙ ap (λ (k : ℕ). position_of k mark) (sym (next (length undo))) ∙ redo_position (length undo) mark in
+      let count_is : count ≡ length (changes_in (reversed_entry t.entry.entry)) = many ∙ ap (λ (es : List NamedEntry). length (next_changes (log_entries es))) t.is in
+      subst (λ (es : List NamedEntry). log_at undo' redo' group marks (touched.Newest count) limit ≡ next_moved Forwards (log_at undo es group marks last limit)) (sym t.was)
+      (log_is undo' (turned_over t.entry ∷ undo) redo' redo' group _ _ _ _ _ _ limit t.is refl (after marks.updated) (after marks.saved)
+      (ap (λ (es : List NamedEntry). all_places Forwards (reverse (take count (newest_changes (log_entries es) group)))) t.is
+      ∙ ap (λ (cs : List Change). all_places Forwards (reverse (take count cs))) (newest-closed (reversed_entry t.entry.entry) (log_entries undo) group none)
+      ∙ redone-tells t.entry.entry count count_is))
 
-  pub redone_at : (dead n count : ℕ) (old new : List NamedEntry) (last : Touched) → group ≡ None → dead ≤ n → (t : BecomesAt turned_over n old new) → count ≡ length (changes_in (reversed_entry t.entry.entry))
-      → log_at dead (n + 1) new group marks (touched.Newest count) limit ≡ next_moved Forwards (log_at dead n old group marks last limit)
-  redone_at dead n count old new last none before t many =
-      let undo_is = newest_at dead n new t.others (turned_over t.entry) before t.is in
-      rw t.was
-      (log_is _ _ _ _ group _ _ _ _ _ _ limit
-      (undo_is ∙ ap (λ (es : List NamedEntry). turned_over t.entry ∷ reverse (drop dead es)) t.before)
-      (behind n new t.others (turned_over t.entry) t.is) (redo_position n marks.updated) (redo_position n marks.saved)
-      (ap (λ (es : List NamedEntry). all_places Forwards (reverse (take count (newest_changes (log_entries es) group)))) undo_is
-      ∙ ap (λ (cs : List Change). all_places Forwards (reverse (take count cs))) (newest-closed (reversed_entry t.entry.entry) (log_entries (reverse (drop dead (take n new)))) group none)
-      ∙ redone-tells t.entry.entry count many))
-
-  -- The newest entry gets a name.
-  pub named_at : (dead n done : ℕ) (name : List ℕ) (old new : List NamedEntry) (last : Touched) → n + 1 ≡ done → dead ≤ n → BecomesAt (named name) n old new
-      → log_at dead done new group marks last limit ≡ named_log name (log_at dead done old group marks last limit)
-  named_at dead n done name old new last next before t =
-      let undo_is = newest_at dead n new t.others (named name t.entry) before t.is ∙ ap (λ (es : List NamedEntry). named name t.entry ∷ reverse (drop dead es)) t.before in
-      let redo_is = behind n new t.others (named name t.entry) t.is ∙ sym (behind n old t.others t.entry t.was) in
-      subst (λ (k : ℕ). log_at dead k new group marks last limit ≡ named_log name (log_at dead k old group marks last limit)) next
-      (rw (newest_at dead n old t.others t.entry before t.was) (log_is _ _ _ _ group _ _ _ _ _ _ limit undo_is redo_is refl refl (same_told last _ _ _ _ group undo_is redo_is)))
+  -- The newest step gets a name.
+  pub named_at : (undo undo' redo : List NamedEntry) (last : Touched) (name : List ℕ) → log_entries undo ≢ [] → undo' ≡ with_first (named name) undo
+      → log_at undo' redo group marks last limit ≡ named_log name (log_at undo redo group marks last limit)
+  named_at undo undo' redo last name some is = ap (λ (es : List NamedEntry). log_at es redo group marks last limit) is ∙ by_first undo some
+    where
+      by_first : (es : List NamedEntry) → log_entries es ≢ [] → log_at (with_first (named name) es) redo group marks last limit ≡ named_log name (log_at es redo group marks last limit)
+      by_first [] some = absurd (some refl)
+      by_first (e ∷ es) some = refl
 
   -- What could be made again is gone.
-  pub cut_at : (dead done : ℕ) (es cut : List NamedEntry) (last : Touched) → done ≤ length es → cut ≡ take done es
-      → log_at dead done cut group (both_marks (mark_up_to done) marks) last limit ≡ retold last (without_redo (log_at dead done es group marks last limit))
-  cut_at dead done es cut last inside is =
-      let long = length-take-le done es inside in
-      let undo_is = ap (λ (xs : List NamedEntry). reverse (drop dead (take done xs))) is ∙ ap (λ (xs : List NamedEntry). reverse (drop dead xs)) (take_all done (take done es) (omega (arith, long))) in
-      let gone : drop done cut ≡ [] = ap (drop done) is ∙ drop_all done (take done es) (omega (arith, long)) in
-      log_is _ _ _ _ group _ _ _ _ _ _ limit undo_is gone (cut_position done marks.updated) (cut_position done marks.saved) (same_told last _ _ _ _ group undo_is gone)
+  pub cut_at : (undo redo : List NamedEntry) (last : Touched)
+      → log_at undo [] group (both_marks (mark_up_to (length undo)) marks) last limit ≡ retold last (without_redo (log_at undo redo group marks last limit))
+  cut_at undo redo last = log_is undo undo [] [] group _ _ _ _ _ _ limit refl refl (cut_position (length undo) marks.updated) (cut_position (length undo) marks.saved) refl
 
-  -- where nothing could be, nothing is
-  pub none_cut : (dead done : ℕ) (es : List NamedEntry) (last : Touched) → length es ≤ done → AreMarksWithin dead (length es) marks → done ≤ length es
-      → log_at dead done es group marks last limit ≡ retold last (without_redo (log_at dead done es group marks last limit))
-  none_cut dead done es last all marked inside =
-      let same : length es ≡ done = omega (arith, all, inside) in
-      let marked_here : AreMarksWithin dead done marks = subst (λ (n : ℕ). AreMarksWithin dead n marks) same marked in
-      let undo : List NamedEntry = reverse (drop dead (take done es)) in
-      let gone : drop done es ≡ [] = drop_all done es all in
-      log_is _ _ _ _ group _ _ _ _ _ _ limit refl gone (kept_position dead done marks.updated marked_here.updated) (kept_position dead done marks.saved marked_here.saved)
-      (same_told last undo undo (drop done es) [] group refl gone)
+  -- The oldest steps are forgotten.
 
-  -- Entries before a place are forgotten.
-  -- What is told is the same where it is told of the entries that are kept.
-  pub forgotten_at : (dead first most done : ℕ) (es left : List NamedEntry) (last last' : Touched) → dead ≤ first → first + most ≡ done → done ≤ length es → LeavesBehind first es left
-      → told last' (newest_changes (log_entries (take most (reverse (drop dead (take done es))))) group) (next_changes (log_entries (drop done es))) ≡ (log_at dead done es group marks last limit).touched
-      → log_at first done left group (both_marks (mark_from first) marks) last' limit ≡ forgotten_log most (log_at dead done es group marks last limit)
-  forgotten_at dead first most done es left last last' before is inside leaves tells =
-      let undo_is = ap reverse (between first most done left is ∙ ap (take most) leaves.behind ∙ sym (between first most done es is)) ∙ newest_of dead first most done es before is inside in
-      let redo_is = drop_drop first most done left is ∙ ap (drop most) leaves.behind ∙ sym (drop_drop first most done es is) in
-      log_is _ _ _ _ group _ _ _ _ _ _ limit
-      undo_is redo_is
-      (forget_position first most done marks.updated is) (forget_position first most done marks.saved is)
-      (same_told last' _ _ _ _ group undo_is redo_is ∙ tells)
-      ∙ kept_of most (reverse (drop dead (take done es))) (forgotten_log most (log_at dead done es group marks last limit))
-
-  -- What may be told of the newest entry is kept where no entry is.
-  pub kept_told : (dead first most done : ℕ) (es es' : List NamedEntry) (last last' : Touched) (is_told : Bool) → is_told ≡ (most == 0 && length (open_changes group) == 0)
-      → dead < first → first + most ≡ done → done ≤ length es → KeepsBefore first is_told last last' es es'
-      → told last' (newest_changes (log_entries (take most (reverse (drop dead (take done es))))) group) (next_changes (log_entries (drop done es))) ≡ (log_at dead done es group marks last limit).touched
-  kept_told dead first most done es es' last last' is_told when before is inside keeps = elim (cases_Bool (most == 0 && length (open_changes group) == 0)) [
+  -- what is told of the newest step is kept where no step is
+  kept_told : (most : ℕ) (old mid : Steps) (last last' : Touched) (is_told : Bool) → is_told ≡ (most == 0 && length (open_changes group) == 0)
+      → most < length old.undo → KeepsNewest is_told last last' old mid
+      → told last' (newest_changes (log_entries (take most old.undo)) group) (next_changes (log_entries old.redo)) ≡ (log_at old.undo old.redo group marks last limit).touched
+  kept_told most old mid last last' is_told when more keeps = elim (cases_Bool (most == 0 && length (open_changes group) == 0)) [
     | inl telling ↦
         let parts = and_parts (most == 0) (length (open_changes group) == 0) telling in
         let none : most ≡ 0 = eqb-true most 0 parts.0 in
-        let at = there (first - 1) es (omega (arith, before, is, none, inside)) in
-        let next : first - 1 + 1 ≡ done = omega (arith, before, is, none) in
-        let newest : reverse (drop dead (take done es)) ≡ at.0 ∷ reverse (drop dead (take (first - 1) es)) =
-        ap (λ (k : ℕ). reverse (drop dead (take k es))) (sym next) ∙ newest_at dead (first - 1) es at.1 at.0 (omega (arith, before)) at.2 in
-        ap (λ (k : ℕ). told last' (newest_changes (log_entries (take k (reverse (drop dead (take done es))))) group) (next_changes (log_entries (drop done es)))) none
-        ∙ ap (λ (cs : List Change). told last' cs (next_changes (log_entries (drop done es)))) (newest-nothing group parts.1)
-        ∙ keeps.tells (when ∙ telling) at.0 at.1 (next_changes (log_entries (drop done es))) at.2
-        ∙ sym (ap (λ (xs : List NamedEntry). told last (newest_changes (log_entries xs) group) (next_changes (log_entries (drop done es)))) newest
-        ∙ ap (λ (cs : List Change). told last cs (next_changes (log_entries (drop done es)))) (newest-none at.0.entry (log_entries (reverse (drop dead (take (first - 1) es)))) group parts.1))
+        ap (λ (k : ℕ). told last' (newest_changes (log_entries (take k old.undo)) group) (next_changes (log_entries old.redo))) none
+        ∙ ap (λ (cs : List Change). told last' cs (next_changes (log_entries old.redo))) (newest-nothing group parts.1)
+        ∙ keeps.tells (when ∙ telling) (next_changes (log_entries old.redo))
+        ∙ ap (λ (cs : List Change). told last cs (next_changes (log_entries old.redo))) (newest_of old.undo parts.1)
     | inr other ↦
-        ap (λ (l : Touched). told l (newest_changes (log_entries (take most (reverse (drop dead (take done es))))) group) (next_changes (log_entries (drop done es)))) (keeps.other (when ∙ other))
-        ∙ ap (λ (cs : List Change). told last cs (next_changes (log_entries (drop done es)))) (newest_same most (reverse (drop dead (take done es))) other)
+        ap (λ (l : Touched). told l (newest_changes (log_entries (take most old.undo)) group) (next_changes (log_entries old.redo))) (keeps.other (when ∙ other)).0
+        ∙ ap (λ (cs : List Change). told last cs (next_changes (log_entries old.redo))) (newest_same most old.undo other)
   ]
     where
+      newest_of : (es : List NamedEntry) → (length (open_changes group) == 0) ≡ true → next_changes (log_entries es) ≡ newest_changes (log_entries es) group
+      newest_of [] none = sym (newest-nothing group none)
+      newest_of (e ∷ es) none = sym (newest-none e.entry (log_entries es) group none)
+
       newest_same : (most : ℕ) (undo : List NamedEntry) → (most == 0 && length (open_changes group) == 0) ≡ false → newest_changes (log_entries (take most undo)) group ≡ newest_changes (log_entries undo) group
       newest_same zero undo other = newest-some [] (log_entries undo) group other
       newest_same (suc k) undo other = sym (ap (λ (es : List LogEntry). newest_changes es group) (take-map (λ (e : NamedEntry). e.entry) (suc k) undo)) ∙ newest-kept k (log_entries undo) group
 
-  pub kept_at : (dead most done : ℕ) (es : List NamedEntry) (last : Touched) → done ≤ dead + most → AreMarksWithin dead (length es) marks
-      → log_at dead done es group marks last limit ≡ forgotten_log most (log_at dead done es group marks last limit)
-  kept_at dead most done es last few marked =
-      log_is _ _ _ _ group _ _ _ _ _ _ limit (all_of dead most done es few) refl (none_forgotten dead most done (length es) marks.updated few marked.updated) (none_forgotten dead most done (length es) marks.saved few marked.saved) refl
-      ∙ kept_of most (reverse (drop dead (take done es))) (forgotten_log most (log_at dead done es group marks last limit))
+  -- and the others are the newest
+  pub kept_undo : (most : ℕ) (old mid : Steps) (last last' : Touched) (is_told : Bool) → is_told ≡ (most == 0 && length (open_changes group) == 0) → KeepsNewest is_told last last' old mid
+      → take most mid.undo ≡ take most old.undo
+  kept_undo most old mid last last' is_told when keeps = elim (cases_Bool (most == 0 && length (open_changes group) == 0)) [
+    | inl telling ↦ let none : most ≡ 0 = eqb-true most 0 (and_parts (most == 0) (length (open_changes group) == 0) telling).0 in ap (λ (k : ℕ). take k mid.undo) none ∙ ap (λ (k : ℕ). take k old.undo) (sym none)
+    | inr other ↦ ap (λ (s : Steps). take most s.undo) (keeps.other (when ∙ other)).1
+  ]
 
-  -- Entries that are forgotten are taken away.
-  pub lowered_at : (dead done live : ℕ) (es moved left : List NamedEntry) (last : Touched) → dead ≤ done → done ≤ length es → dead + live ≡ length es → AreMarksWithin dead (length es) marks
-      → moved ≡ drop dead es ++ take dead es → left ≡ take live moved
-      → log_at 0 (done - dead) left group (both_marks (mark_lowered dead) marks) last limit ≡ log_at dead done es group marks last limit
-  lowered_at dead done live es moved left last before inside all marked turned is =
-      let long = length-drop dead es in
-      let fits : length (drop dead es) ≡ live = omega (arith, long, all) in
-      let front : left ≡ drop dead es =
-      is ∙ ap (take live) turned ∙ take-append-le live (drop dead es) (take dead es) (omega (arith, fits)) ∙ take_all live (drop dead es) (omega (arith, fits)) in
-      let rest : dead + (done - dead) ≡ done = omega (arith, before) in
-      let undo_is = ap (λ (xs : List NamedEntry). reverse (take (done - dead) xs)) front ∙ ap reverse (sym (between dead (done - dead) done es rest)) in
-      let redo_is = ap (drop (done - dead)) front ∙ sym (drop_drop dead (done - dead) done es rest) in
-      log_is _ _ _ _ group _ _ _ _ _ _ limit
-      undo_is redo_is
-      (lower_position dead done (length es) marks.updated before marked.updated) (lower_position dead done (length es) marks.saved before marked.saved)
-      (same_told last _ _ _ _ group undo_is redo_is)
+  forgotten_mark : (first most count last : ℕ) (mark : Option ℕ) → first + most ≡ count → IsMarkWithin 0 last mark → position_of most (mark_lowered first (mark_from first mark)) ≡ position_after_forget most (position_of count mark)
+  forgotten_mark first most count last mark total within =
+      let left : most ≡ count - first = omega arith in
+      ap (λ (k : ℕ). position_of k (mark_lowered first (mark_from first mark))) left
+      ∙ lower_position first count last (mark_from first mark) (omega arith) (within_from 0 first last mark within)
+      ∙ forget_position first most count mark total
+
+  pub forgotten_at : (first most : ℕ) (old mid : Steps) (undo' redo' : List NamedEntry) (last last' : Touched) (is_told : Bool) → is_told ≡ (most == 0 && length (open_changes group) == 0)
+      → first ≡ length old.undo - most → most < length old.undo → AreMarksWithin 0 (length old.undo + length old.redo) marks → KeepsNewest is_told last last' old mid → undo' ≡ take most mid.undo → redo' ≡ mid.redo
+      → log_at undo' redo' group (both_marks (mark_lowered first) (both_marks (mark_from first) marks)) last' limit ≡ forgotten_log most (log_at old.undo old.redo group marks last limit)
+  forgotten_at first most old mid undo' redo' last last' is_told when is more marked keeps undo_is redo_is =
+      let total : first + most ≡ length old.undo = omega (arith, is, more) in
+      let undo_now : undo' ≡ take most old.undo = undo_is ∙ kept_undo most old mid last last' is_told when keeps in
+      let redo_now : redo' ≡ old.redo = redo_is ∙ keeps.redo in
+      let many : length undo' ≡ most = ap length undo_now ∙ length-take-le most old.undo (omega (arith, more)) in
+      let at : (mark : Option ℕ) → IsMarkWithin 0 (length old.undo + length old.redo) mark → position_of (length undo') (mark_lowered first (mark_from first mark)) ≡ position_after_forget most (position_of (length old.undo) mark) =
+      λ mark within. ap (λ (k : ℕ). position_of k (mark_lowered first (mark_from first mark))) many ∙ forgotten_mark first most (length old.undo) (length old.undo + length old.redo) mark total within in
+      log_is undo' (take most old.undo) redo' old.redo group _ _ _ _ _ _ limit undo_now redo_now (at marks.updated marked.updated) (at marks.saved marked.saved)
+      ((λ i. told last' (newest_changes (log_entries (undo_now i)) group) (next_changes (log_entries (redo_now i)))) ∙ kept_told most old mid last last' is_told when more keeps)
+      ∙ kept_of most old.undo (forgotten_log most (log_at old.undo old.redo group marks last limit))
 
   -- The newest two are one.
-  pub joined_at : (dead at next done : ℕ) (old mid new : List NamedEntry) (last : Touched) → group ≡ None → at + 1 ≡ next → next + 1 ≡ done → dead ≤ at → done ≤ length old → (joins : JoinsAt at old mid) → new ≡ take next mid ++ drop (next + 1) mid
-      → log_at dead next new group (both_marks (mark_joined next) marks) (clipped (length (changes_in joins.newer.entry)) last) limit ≡ joined_log (log_at dead done old group marks last limit)
-  joined_at dead at next done old mid new last none next_is done_is before inside joins is =
-      let p = take at old in
-      let long : length p ≡ at = length-take-le at old (omega (arith, next_is, done_is, inside)) in
-      let group_made : NamedEntry = joined joins.newer joins.older in
-      let was : old ≡ p ++ joins.older ∷ joins.newer ∷ joins.others = sym (take-append-drop at old) ∙ ap (λ (xs : List NamedEntry). p ++ xs) joins.was in
-      let then : mid ≡ p ++ group_made ∷ joins.rest ∷ joins.others = sym (take-append-drop at mid) ∙ ap (λ (xs : List NamedEntry). xs ++ drop at mid) joins.before ∙ ap (λ (xs : List NamedEntry). p ++ xs) joins.is in
-      let now : new ≡ (p ++ group_made ∷ []) ++ joins.others =
-      is ∙ ap (λ (k : ℕ). take next mid ++ drop k mid) done_is ∙ ap (λ (xs : List NamedEntry). take next xs ++ drop done xs) then ∙ taken_out p dead at next done long next_is done_is before group_made joins.rest joins.others in
-      let undo_was : reverse (drop dead (take done old)) ≡ joins.newer ∷ joins.older ∷ reverse (drop dead p) =
-      ap (λ (xs : List NamedEntry). reverse (drop dead (take done xs))) was ∙ ap reverse (two_taken p dead at next done long next_is done_is before joins.older joins.newer joins.others)
-      ∙ reverse-append (drop dead p) (joins.older ∷ joins.newer ∷ []) in
-      let undo_is : reverse (drop dead (take next new)) ≡ group_made ∷ reverse (drop dead p) =
-      ap (λ (xs : List NamedEntry). reverse (drop dead (take next xs))) now ∙ ap reverse (one_taken p dead at next done long next_is done_is before group_made joins.others) ∙ reverse-append (drop dead p) (group_made ∷ []) in
-      let redo_is = ap (drop next) now ∙ one_behind p dead at next done long next_is done_is before group_made joins.others ∙ sym (ap (drop done) was ∙ two_behind p dead at next done long next_is done_is before joins.older joins.newer joins.others) in
-      let a : List Change = changes_in joins.newer.entry in
-      log_is _ _ _ _ group _ _ _ _ _ _ limit
-      (undo_is ∙ sym (ap joined_named undo_was))
-      redo_is
-      (join_position next marks.updated ∙ ap (λ (k : ℕ). position_after_join (position_of k marks.updated)) done_is)
-      (join_position next marks.saved ∙ ap (λ (k : ℕ). position_after_join (position_of k marks.saved)) done_is)
-      (same_told (clipped (length a) last) _ _ _ _ group undo_is redo_is
-      ∙ ap (λ (cs : List Change). told (clipped (length a) last) cs (next_changes (log_entries (drop done old)))) (newest-closed group_made.entry (log_entries (reverse (drop dead p))) group none)
-      ∙ told-joined last a (changes_in joins.older.entry) (next_changes (log_entries (drop done old)))
-      ∙ sym (same_told last (reverse (drop dead (take done old))) (joins.newer ∷ joins.older ∷ reverse (drop dead p)) (drop done old) (drop done old) group undo_was refl ∙ ap (λ (cs : List Change). told last cs (next_changes (log_entries (drop done old)))) (newest-closed joins.newer.entry (joins.older.entry ∷ log_entries (reverse (drop dead p))) group none)))
-      ∙ joined_of (reverse (drop dead (take done old))) (joined_log (log_at dead done old group marks last limit))
+  pub joined_at : (undo undo' redo redo' : List NamedEntry) (last : Touched) (count : ℕ) → group ≡ None → 2 ≤ length (log_entries undo) → undo' ≡ with_joined undo → redo' ≡ redo → count ≡ length (next_changes (log_entries undo))
+      → log_at undo' redo' group (both_marks (mark_joined (length undo')) marks) (clipped count last) limit ≡ joined_log (log_at undo redo group marks last limit)
+  joined_at undo undo' redo redo' last count none two is redo_is many =
+      (λ i. log_at (is i) (redo_is i) group (both_marks (mark_joined (length (is i))) marks) (clipped (many i) last) limit) ∙ by_first undo two
+    where
+      by_first : (es : List NamedEntry) → 2 ≤ length (log_entries es)
+          → log_at (with_joined es) redo group (both_marks (mark_joined (length (with_joined es))) marks) (clipped (length (next_changes (log_entries es))) last) limit ≡ joined_log (log_at es redo group marks last limit)
+      by_first [] two = absurd (omega (arith, two))
+      by_first (e ∷ []) two = absurd (omega (arith, two))
+      by_first (e ∷ f ∷ es) two =
+          let at : (mark : Option ℕ) → position_of (suc (length es)) (mark_joined (suc (length es)) mark) ≡ position_after_join (position_of (suc (suc (length es))) mark) =
+          λ mark. join_position (suc (length es)) mark ∙ ap (λ (k : ℕ). position_after_join (position_of k mark)) (next (suc (length es))) in
+          log_is (joined e f ∷ es) (joined e f ∷ es) redo redo group _ _ _ _ _ _ limit refl refl (at marks.updated) (at marks.saved)
+          (ap (λ (cs : List Change). told (clipped (length (changes_in e.entry)) last) cs (next_changes (log_entries redo))) (newest-closed (joined e f).entry (log_entries es) group none)
+          ∙ told-joined last (changes_in e.entry) (changes_in f.entry) (next_changes (log_entries redo))
+          ∙ ap (λ (cs : List Change). told last cs (next_changes (log_entries redo))) (sym (newest-closed e.entry (f.entry ∷ log_entries es) group none)))
 
-no_entries : (es : List NamedEntry) → log_entries es ≡ [] → es ≡ []
+  -- An entry is made where nothing is left to make again: it is the newest,
+  stepped_at : (undo : List NamedEntry) (e : NamedEntry) (last : Touched) → group ≡ None → AreMarksWithin 0 (length undo) marks
+      → log_at (e ∷ undo) [] group marks last limit ≡ record (log_at undo [] group marks last limit) {
+        undo = e.entry ∷ log_entries undo;
+        undo_names = e.name ∷ entry_names undo;
+        updated_at = position_after_step (position_of (length undo) marks.updated);
+        saved_at = position_after_step (position_of (length undo) marks.saved);
+        touched = told last (changes_in e.entry) [];
+      }
+  stepped_at undo e last closed marked =
+      let at : (mark : Option ℕ) → IsMarkWithin 0 (length undo) mark → position_of (suc (length undo)) mark ≡ position_after_step (position_of (length undo) mark) =
+      λ mark within. ap (λ (k : ℕ). position_of k mark) (sym (next (length undo))) ∙ step_position 0 (length undo) mark within in
+      log_is (e ∷ undo) (e ∷ undo) [] [] group _ _ _ _ _ _ limit refl refl (at marks.updated marked.updated) (at marks.saved marked.saved)
+      (ap (λ (cs : List Change). told last cs []) (newest-closed e.entry (log_entries undo) group closed))
+
+pub no_entries : (es : List NamedEntry) → log_entries es ≡ [] → es ≡ []
 no_entries [] none = refl
 no_entries (e ∷ es) none = absurd (cc none)
 
--- An entry is made where nothing is left to make again: it is the newest,
-module _ (group : Option (List Change)) (closed : group ≡ None) (marks : Marks) (last : Touched) (limit : Option ℕ) (dead done made : ℕ) (es : List NamedEntry) (e : NamedEntry) (none : log_entries (drop done es) ≡ []) (before : dead ≤ done) (inside : done ≤ length es) (marked : AreMarksWithin dead (length es) marks)
-    (is : made ≡ length es + 1) where
-  nothing : drop done es ≡ []
-  nothing = no_entries (drop done es) none
-
-  all_done : length es ≡ done
-  all_done = let left = length-drop done es in let no = ap length nothing in omega (arith, left, no, inside)
-
-  marked_done : AreMarksWithin dead done marks
-  marked_done = subst (λ (n : ℕ). AreMarksWithin dead n marks) all_done marked
-
-  stepped : (mark : Option ℕ) → IsMarkWithin dead done mark → position_of made mark ≡ position_after_step (position_of done mark)
-  stepped mark at = ap (λ (n : ℕ). position_of n mark) (is ∙ ap (λ (n : ℕ). n + 1) all_done) ∙ step_position dead done mark at
-
-  abbrev pub stepped_log : Log
-  stepped_log = record (log_at dead done es group marks last limit) {
-    undo = e.entry ∷ log_entries (reverse (drop dead (take done es)));
-    undo_names = e.name ∷ entry_names (reverse (drop dead (take done es)));
-    updated_at = position_after_step (position_of done marks.updated);
-    saved_at = position_after_step (position_of done marks.saved);
-    touched = told last (changes_in e.entry) [];
-  }
-
-  pub stepped_at : log_at dead made (es ++ e ∷ []) group marks last limit ≡ stepped_log
-  stepped_at =
-      let taken : take done es ≡ es = take_all done es (let same = all_done in omega (arith, same)) in let long = length_push es e in
-      let undo_is = ap reverse (all_pushed dead made es e (sym is) (omega (arith, before, inside))) ∙ reverse-append (drop dead es) (e ∷ []) ∙ ap (λ (xs : List NamedEntry). e ∷ reverse (drop dead xs)) (sym taken) in
-      let gone : drop made (es ++ e ∷ []) ≡ [] = drop_all made (es ++ e ∷ []) (omega (arith, long, is)) in
-      log_is _ _ _ _ group _ _ _ _ _ _ limit
-      undo_is
-      (gone ∙ sym nothing)
-      (stepped marks.updated marked_done.updated) (stepped marks.saved marked_done.saved)
-      (same_told last _ _ _ _ group undo_is gone ∙ ap (λ (cs : List Change). told last cs []) (newest-closed e.entry (log_entries (reverse (drop dead (take done es)))) group closed))
-
 -- and a limit takes the oldest.
-pub all_kept : (log : Log) (e : NamedEntry) → log.limit ≡ None → record log { undo = e.entry ∷ log.undo; undo_names = e.name ∷ log.undo_names; updated_at = position_after_step log.updated_at; saved_at = position_after_step log.saved_at } ≡ with_named e log
-all_kept log e none = subst (λ (limit : Option ℕ). record log { undo = e.entry ∷ log.undo; undo_names = e.name ∷ log.undo_names; updated_at = position_after_step log.updated_at; saved_at = position_after_step log.saved_at }
-    ≡ record log { undo = limited limit (e.entry ∷ log.undo); undo_names = limited limit (e.name ∷ log.undo_names); updated_at = position_stepped limit log.updated_at; saved_at = position_stepped limit log.saved_at }) (sym none) refl
+limited_is : (log : Log) (e : NamedEntry) (limit : Option ℕ)
+    → limited_log limit (record log { undo = e.entry ∷ log.undo; undo_names = e.name ∷ log.undo_names; updated_at = position_after_step log.updated_at; saved_at = position_after_step log.saved_at; limit = limit })
+    ≡ with_named e (record log { limit = limit })
+limited_is log e None = refl
+limited_is log e (Some most) = refl
 
-pub newest_kept : (log : Log) (e : NamedEntry) (most : ℕ) → log.limit ≡ Some most
-    → forgotten_log most (record log { undo = e.entry ∷ log.undo; undo_names = e.name ∷ log.undo_names; updated_at = position_after_step log.updated_at; saved_at = position_after_step log.saved_at }) ≡ with_named e log
-newest_kept log e most some = subst (λ (limit : Option ℕ). forgotten_log most (record log { undo = e.entry ∷ log.undo; undo_names = e.name ∷ log.undo_names; updated_at = position_after_step log.updated_at; saved_at = position_after_step log.saved_at })
-    ≡ record log { undo = limited limit (e.entry ∷ log.undo); undo_names = limited limit (e.name ∷ log.undo_names); updated_at = position_stepped limit log.updated_at; saved_at = position_stepped limit log.saved_at }) (sym some) refl
+pub pushed_at : (group : Option (List Change)) (marks : Marks) (limit : Option ℕ) (undo redo undo' redo' : List NamedEntry) (e : NamedEntry) (last : Touched) → group ≡ None → log_entries redo ≡ []
+    → AreMarksWithin 0 (length undo + length redo) marks → undo' ≡ e ∷ undo → redo' ≡ []
+    → limited_log limit (log_at undo' redo' group marks last limit) ≡ record (with_named e (log_at undo redo group marks last limit)) { touched = told last (changes_in e.entry) [] }
+pushed_at group marks limit undo redo undo' redo' e last closed none marked undo_is redo_is =
+    let empty : redo ≡ [] = no_entries redo none in
+    let count : length undo + length redo ≡ length undo = let no = ap length empty in omega (arith, no) in
+    let within : AreMarksWithin 0 (length undo) marks = subst (λ (n : ℕ). AreMarksWithin 0 n marks) count marked in
+    (λ i. limited_log limit (log_at (undo_is i) (redo_is i) group marks last limit))
+    ∙ ap (limited_log limit) (stepped_at group marks limit undo e last closed within)
+    ∙ limited_is (record (log_at undo [] group marks last limit) { touched = told last (changes_in e.entry) [] }) e limit
+    ∙ ap (λ (es : List NamedEntry). record (with_named e (log_at undo es group marks last limit)) { touched = told last (changes_in e.entry) [] }) (sym empty)

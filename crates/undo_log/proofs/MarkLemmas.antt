@@ -154,7 +154,7 @@ within_up_to first last n (Some m) within = elim (cases_Bool (nat_le m n)) as (�
   | inr gone ↦ rw gone tt
 ]
 
-within_from : (dead first last : ℕ) (mark : Option ℕ) → IsMarkWithin dead last mark → IsMarkWithin first last (mark_from first mark)
+pub within_from : (dead first last : ℕ) (mark : Option ℕ) → IsMarkWithin dead last mark → IsMarkWithin first last (mark_from first mark)
 within_from dead first last None within = tt
 within_from dead first last (Some m) within = elim (cases_Bool (nat_le first m)) as (λ _. IsMarkWithin first last (mark_from first (Some m))) [
   | inl kept ↦ rw kept (leb-true first m kept, within.1)

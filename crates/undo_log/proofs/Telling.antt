@@ -119,6 +119,7 @@ told-joined touched.Nothing cs ds next = refl
 told-joined touched.All cs ds next = refl
 told-joined (touched.Newest n) cs ds next = ap (λ (l : List Change). all_places Forwards (reverse l)) (clipped-take n cs ds)
 told-joined touched.Undone cs ds next = refl
+told-joined (touched.At place) cs ds next = refl
 told-joined (touched.Forgotten e) cs ds next = refl
 told-joined (touched.Abandoned xs) cs ds next = refl
 

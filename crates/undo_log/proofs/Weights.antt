@@ -100,19 +100,11 @@ named_weights es = all_weights (log_entries es) ∙ without_names es
     without_names (e ∷ es) =
         sum_by-cons entry_weight e.entry (log_entries es) ∙ ap (λ (n : ℕ). entry_weight e.entry + n) (without_names es) ∙ sym (sum_by-cons (λ (x : NamedEntry). entry_weight x.entry) e es)
 
-reverse_weights : (es : List NamedEntry) → total_weight (all_changes (log_entries (reverse es))) ≡ sum_by (λ e. entry_weight e.entry) es
-reverse_weights es = named_weights (reverse es) ∙ sum_by-IsPermutation (λ (e : NamedEntry). entry_weight e.entry) es (reverse es) (IsPermutation-reverse es)
-
--- sums of sums, each of them cut
-cut_sums : (r s a b w g u v most : ℕ) → r ≡ min (s + w) most → s ≡ min (a + b) most → a ≡ min g most → b ≡ min u most → w ≡ min v most → r ≡ min (g + u + v) most
-cut_sums r s a b w g u v most e f h i j = grind (arith, e, f, h, i, j)
-
-pub log_weighs : (undo redo : List NamedEntry) (cs : List Change) (r s a b w : ℕ) → r ≡ min (s + w) (2 ^ 64 - 1) → s ≡ min (a + b) (2 ^ 64 - 1) → a ≡ min (total_weight cs) (2 ^ 64 - 1)
-    → b ≡ min (sum_by (λ e. entry_weight e.entry) undo) (2 ^ 64 - 1) → w ≡ min (sum_by (λ e. entry_weight e.entry) redo) (2 ^ 64 - 1)
-    → r ≡ min (total_weight (cs ++ all_changes (log_entries (reverse undo))) + total_weight (all_changes (log_entries redo))) (2 ^ 64 - 1)
-log_weighs undo redo cs r s a b w e f h i j =
-    let sums = cut_sums r s a b w (total_weight cs) (sum_by (λ e. entry_weight e.entry) undo) (sum_by (λ e. entry_weight e.entry) redo) (2 ^ 64 - 1) e f h i j in
-    let all = weight-append cs (all_changes (log_entries (reverse undo))) in
-    let first = reverse_weights undo in
+pub log_weighs : (undo redo : List NamedEntry) (cs : List Change) (r s w : ℕ) → r ≡ min (s + w) (2 ^ 64 - 1) → s ≡ min (total_weight cs) (2 ^ 64 - 1)
+    → w ≡ min (sum_by (λ e. entry_weight e.entry) undo + sum_by (λ e. entry_weight e.entry) redo) (2 ^ 64 - 1)
+    → r ≡ min (total_weight (cs ++ all_changes (log_entries undo)) + total_weight (all_changes (log_entries redo))) (2 ^ 64 - 1)
+log_weighs undo redo cs r s w e f g =
+    let all = weight-append cs (all_changes (log_entries undo)) in
+    let first = named_weights undo in
     let second = named_weights redo in
-    sums ∙ ap (λ (n : ℕ). min n (2 ^ 64 - 1)) (omega (arith, all, first, second))
+    grind (arith, e, f, g, all, first, second)

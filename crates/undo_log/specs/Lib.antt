@@ -6,6 +6,7 @@ pub mod Asking
 pub mod Rooms
 pub mod Marks
 pub mod Joining
+pub mod Steps
 pub mod Sessions
 pub mod Making
 pub mod Turning

@@ -41,14 +41,6 @@ turned_over e = record e { entry = reversed_entry e.entry }
 abbrev pub named : List ℕ → NamedEntry → NamedEntry
 named name e = record e { name = name }
 
--- the entry at a place becomes another
-pub record BecomesAt (other : NamedEntry → NamedEntry) (place : ℕ) (old new : List NamedEntry) : Type 0 where
-  pub entry : NamedEntry
-  pub others : List NamedEntry
-  pub was : drop place old ≡ entry ∷ others
-  pub is : drop place new ≡ other entry ∷ others
-  pub before : take place new ≡ take place old
-
 abbrev pub kind_of_entry : LogEntry → Kind
 kind_of_entry (entries.One c) = kind_of_change c
 kind_of_entry (entries.Group cs) = Group
@@ -296,6 +288,11 @@ abandoned_log log = record log { group = None; touched = all_places Backwards (o
 abbrev pub retold : Touched → Log → Log
 retold last log = record log { touched = told last (newest_changes log.undo log.group) (next_changes log.redo) }
 
+-- no more are left to be undone than a limit says
+abbrev pub limited_log : Option ℕ → Log → Log
+limited_log None log = log
+limited_log (Some most) log = forgotten_log most log
+
 -- A log, what it tells of, whether there is a place for an entry more, to which entries that can be made again give
 -- way, and how many changes more the open group has room for.
 pub record LogState : Type 0 where
@@ -303,3 +300,7 @@ pub record LogState : Type 0 where
   pub last : Touched
   pub place : Bool
   pub spare : ℕ
+
+-- the log once an entry is the newest, of which alone is told
+abbrev pub pushed_log : NamedEntry → LogState → Log
+pushed_log e s = record (with_named e s.lists) { touched = told s.last (changes_in e.entry) [] }

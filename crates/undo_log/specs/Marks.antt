@@ -1,5 +1,5 @@
 -- Where the committed documents stand among the entries of a log, each by a mark: how many entries lie before it, those
--- that can be undone, those that can be made again and those that are forgotten alike.
+-- that can be undone and those that can be made again alike.
 use Rattle.std.specs.Prelude.{◌≤◌, ℕ, ◌-◌, ◌==◌, nat_le, nat_lt, if◌then◌else◌, Option, Some, None}
 use Rattle.geos_model.specs.Position.{Position, Back, Ahead, Nowhere}
 use Rattle.undo_log.specs.declared.marks.Marks.{Marks}
@@ -34,7 +34,7 @@ mark_joined place None = None
 mark_joined place (Some mark) =
     if nat_lt place mark then Some (mark - 1) else if mark == place then None else Some mark
 
--- so many entries were taken away in front
+-- so many entries in front aren't counted any more
 abbrev pub mark_lowered : ℕ → Option ℕ → Option ℕ
 mark_lowered count None = None
 mark_lowered count (Some mark) = Some (mark - count)

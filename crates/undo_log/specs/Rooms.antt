@@ -1,10 +1,10 @@
--- Room in the vectors of a log. Of the group that is open, if one is, its length and its capacity are given.
-use Rattle.std.specs.Prelude.{ℕ, ◌-◌, min, Option, Some, None}
+-- Room in a log. Of the group that is open, if one is, its length and its capacity are given.
+use Rattle.std.specs.Prelude.{◌≡◌, ℕ, ◌-◌, ◌<◌, Bool, true, Option, Some, None}
 
--- whether a group is open that has changes, as a number: it is one entry more once it is closed
-abbrev pub waiting : Option (ℕ × ℕ) → ℕ
-waiting None = 0
-waiting (Some (length, capacity)) = min 1 length
+-- where a group is open that has changes, there is a place for the step that it becomes once it is closed
+abbrev pub KeepsPlace : Option (ℕ × ℕ) → Bool → Type 0
+KeepsPlace None place = Unit {0}
+KeepsPlace (Some (length, capacity)) place = 0 < length → place ≡ true
 
 -- how many changes more the group that is open has room for, if one is
 abbrev pub spare_room : Option (ℕ × ℕ) → ℕ

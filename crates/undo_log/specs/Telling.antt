@@ -47,6 +47,7 @@ told touched.Nothing newest next = []
 told touched.All newest next = place.All ∷ []
 told (touched.Newest n) newest next = all_places Forwards (reverse (take n newest))
 told touched.Undone newest next = all_places Backwards (reverse next)
+told (touched.At place) newest next = place ∷ []
 told (touched.Forgotten e) newest next = all_places Forwards (reverse (changes_in e.entry))
 told (touched.Abandoned cs) newest next = all_places Backwards cs
 

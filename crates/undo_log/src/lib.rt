@@ -3,11 +3,14 @@
 
 mod entry;
 mod growing;
+mod head;
 mod joining;
+mod kept_steps;
 mod log;
 mod making;
 mod marks;
 mod session;
+mod step;
 mod touched;
 mod turning;
 mod weighing;

@@ -1,20 +1,21 @@
 //! The log: what can be undone, what can be made again, the group that is open, and where the committed documents
 //! stand.
-ghost use Rattle.std.specs.Prelude.{◌≡◌, ◌≢◌, ◌<◌, ◌≤◌, ◌+◌, ◌-◌, ◌^◌, ◌++◌, [], ◌&&◌, ◌==◌, IfErr, IfOk, IsOk, true, Some, None, OnOk, MatchOption, MatchResult, is_some, length, min, reverse, vec_capacity, vec_len};
-ghost use Rattle.std.specs.Option.{option_map};
+ghost use Rattle.std.specs.Prelude.{◌≡◌, ◌≢◌, ◌≤◌, ◌+◌, ◌-◌, ◌^◌, ◌++◌, [], ◌&&◌, ◌==◌, IfErr, IfOk, IfSome, IsOk, true, Some, None, OnOk, MatchOption, MatchResult, is_some, length, min, reverse, take, vec_capacity, vec_len};
 ghost use Rattle.chunk_edits.specs.declared.direction.Direction.TheVariants.{Backwards, Forwards};
 ghost use Rattle.geos_model.specs.Machine.{first_name};
-ghost use Rattle.undo_log.specs.Entries.{entry_names, log_entries};
-ghost use Rattle.undo_log.specs.Logging.{AreExclusive, IsHead, BecomesAt, abandoned_log, changes_in, forgotten_log, fresh_log, is_at, joined_log, open_changes, named, named_log, next_entries, next_moved, next_names, retold, reverted_log, saved_log, to_redo, to_undo, total_weight, turned_over, updated_log, with_change, with_changes, with_group_closed, with_named, without_redo};
+ghost use Rattle.undo_log.specs.Entries.{One, unnamed};
+ghost use Rattle.undo_log.specs.Logging.{AreExclusive, IsHead, abandoned_log, forgotten_log, fresh_log, is_at, joined_log, limited_log, named_log, next_entries, next_moved, next_names, open_changes, pushed_log, retold, reverted_log, saved_log, to_redo, to_undo, total_weight, updated_log, with_change, with_changes, with_group_closed, without_redo};
 ghost use Rattle.undo_log.specs.Asking.{asked_places, places_ahead};
-ghost use Rattle.undo_log.specs.Telling.{newest_changes, next_changes, told};
+ghost use Rattle.undo_log.specs.Steps.{IsCounted, step_entry};
+ghost use Rattle.undo_log.specs.Telling.{all_places, newest_changes};
 
 use crate::entry::{Changes, NamedEntry};
 use crate::growing::reserve;
-use crate::joining::{empty_entries, join_at};
+use crate::kept_steps::KeptSteps;
 use crate::marks::Marks;
+use crate::step::Step;
 use crate::touched::{Touched, tell_made, tell_newest, tell_next};
-use crate::weighing::{entries_weight, total_weight};
+use crate::weighing::total_weight;
 use geos_model::{Place, PlacesLookUp};
 use std::alloc::{AllocError, Global};
 use std::marker::Model;
@@ -23,20 +24,15 @@ use vm_blocks::{Change, Direction};
 /// What is kept of the steps that can be undone or made again, and of the group that is open.
 #[derive(Drop)]
 pub struct UndoLog {
-    // Those that are forgotten, each without a change; those that can be undone, the newest last; and those that can be
-    // made again, the next first. There is room for the group that is open behind the ones that can be undone.
-    entries: Vec<NamedEntry>,
-    // How many of them are forgotten. They are fewer than the others, or a part of them is taken away.
-    dead: usize,
-    // How many of them can't be made again: those that are forgotten, and those that can be undone.
-    done: usize,
-    // The newest change of the open group is the last. While it has some, nothing is left to make again.
+    steps: KeptSteps,
+    // The newest change of the open group is the last. While it has some, nothing is left to make again, and there is a
+    // place for the step that it becomes.
     group: Option<Vec<Change>>,
-    // Where the committed documents stand among the entries, so that an undo or a redo needn't say.
+    // Where the committed documents stand among the steps, so that an undo or a redo needn't say.
     marks: Marks,
     // From what it is read where the document was changed last.
     last: Touched,
-    // How many entries are kept to be undone.
+    // How many steps are kept to be undone.
     limit: Option<u32>,
 }
 
@@ -46,42 +42,39 @@ impl Model for UndoLog {
     ghost use Rattle.undo_log.specs.Codes.{log_state_code};
     ghost use Rattle.undo_log.specs.Logging.{AreExclusive, open_changes};
     ghost use Rattle.undo_log.specs.Marks.{AreMarksWithin, position_of};
-    ghost use Rattle.undo_log.specs.Rooms.{spare_room, waiting};
+    ghost use Rattle.undo_log.specs.Rooms.{KeepsPlace, spare_room};
     ghost use Rattle.undo_log.specs.Telling.{newest_changes, next_changes, told};
 
     ghost Value = { LogState };
 
     ghost coded = { log_state_code };
 
-    ghost use Rattle.std.specs.Prelude.{◌+◌, ◌≤◌, drop, nat_lt, reverse, take, vec_len, vec_capacity};
+    ghost use Rattle.std.specs.Prelude.{◌+◌, length, reverse, vec_len, vec_capacity};
     ghost use Rattle.std.specs.Option.{option_map};
 
     ghost view = { λ l. record {
       lists = record {
-        undo = log_entries (reverse (drop l.dead (take l.done l.entries.items)));
-        redo = log_entries (drop l.done l.entries.items);
-        undo_names = entry_names (reverse (drop l.dead (take l.done l.entries.items)));
-        redo_names = entry_names (drop l.done l.entries.items);
+        undo = log_entries l.steps.undo;
+        redo = log_entries l.steps.redo;
+        undo_names = entry_names l.steps.undo;
+        redo_names = entry_names l.steps.redo;
         group = option_map (λ changes. reverse changes.items) l.group;
-        updated_at = position_of l.done l.marks.updated;
-        saved_at = position_of l.done l.marks.saved;
+        updated_at = position_of (length l.steps.undo) l.marks.updated;
+        saved_at = position_of (length l.steps.undo) l.marks.saved;
         touched = told l.last
-            (newest_changes (log_entries (reverse (drop l.dead (take l.done l.entries.items))))
-            (option_map (λ changes. reverse changes.items) l.group))
-            (next_changes (log_entries (drop l.done l.entries.items)));
+            (newest_changes (log_entries l.steps.undo) (option_map (λ changes. reverse changes.items) l.group))
+            (next_changes (log_entries l.steps.redo));
         limit = l.limit;
       };
       last = l.last;
-      place = nat_lt l.done (vec_capacity l.entries);
+      place = l.steps.place;
       spare = spare_room (option_map (λ changes. (vec_len changes, vec_capacity changes)) l.group);
     } };
 
-    ghost invariant = { λ l. (l.dead ≤ l.done) × (l.done ≤ vec_len l.entries)
-        × AreMarksWithin l.dead (vec_len l.entries) l.marks
-        × (l.done + waiting (option_map (λ changes. (vec_len changes, vec_capacity changes)) l.group)
-        ≤ vec_capacity l.entries)
+    ghost invariant = { λ l. AreMarksWithin 0 (length l.steps.undo + length l.steps.redo) l.marks
+        × KeepsPlace (option_map (λ changes. (vec_len changes, vec_capacity changes)) l.group) l.steps.place
         × AreExclusive (open_changes (option_map (λ changes. reverse changes.items) l.group))
-        (log_entries (drop l.done l.entries.items)) };
+        (log_entries l.steps.redo) };
 }
 
 impl UndoLog {
@@ -90,9 +83,7 @@ impl UndoLog {
         ensures { result.lists ≡ fresh_log one }
     {
         UndoLog {
-            entries: Vec::new(alloc),
-            dead: 0,
-            done: 0,
+            steps: KeptSteps::new(alloc),
             group: None,
             marks: Marks {
                 updated: Some(0),
@@ -109,10 +100,7 @@ impl UndoLog {
         ensures place { OnOk result (self.new.place ≡ true) }
         ensures spare { OnOk result (is_some self.old.lists.group ≡ true → count ≤ self.new.spare) }
     {
-        // An entry that could be made again gives its place to the change.
-        if self.done == self.entries.len() {
-            reserve(&mut self.entries, 1)?;
-        }
+        self.steps.reserve()?;
         if let Some(changes) = &mut self.group {
             reserve(changes, count)?;
         }
@@ -132,7 +120,7 @@ impl UndoLog {
             changes.push_reserved(change);
             return;
         }
-        self.push(alloc, NamedEntry::one(change));
+        self.push_change(alloc, change);
     }
 
     /// So are those of an edit of a large array together, in the order in which they were made.
@@ -159,42 +147,56 @@ impl UndoLog {
         ensures place { self.new.place ≡ self.old.place }
         ensures spare { self.new.spare ≡ self.old.spare }
     {
-        // Where nothing was, the vector needn't be asked.
-        if self.done < self.entries.len() {
-            self.entries.truncate(self.done);
-            self.marks.cut_behind(self.done);
+        // Where nothing was, no mark stands behind either.
+        if self.steps.redo_count() > 0 {
+            self.steps.cut_redo();
+            self.marks.cut_behind(self.steps.undo_count());
         }
     }
 
-    // An entry is the newest, and the limit may take the oldest.
+    // The change of an edit is the newest step, and the limit may take the oldest.
+    fn push_change(&mut self, alloc: Global, change: Change)
+        requires place { self.old.place ≡ true }
+        requires closed { self.old.lists.group ≡ None }
+        requires none { self.old.lists.redo ≡ [] }
+        ensures { self.new.lists ≡ pushed_log (unnamed (One change)) self.old }
+    {
+        self.steps.push_change(change);
+        self.keep_limit(alloc);
+    }
+
+    // So is an entry.
     fn push(&mut self, alloc: Global, entry: NamedEntry)
         requires place { self.old.place ≡ true }
         requires closed { self.old.lists.group ≡ None }
         requires none { self.old.lists.redo ≡ [] }
-        ensures { self.new.lists
-            ≡ record (with_named entry self.old.lists) { touched = told self.old.last (changes_in entry.entry) [] } }
+        ensures { self.new.lists ≡ pushed_log entry self.old }
     {
-        self.entries.push_reserved(entry);
-        self.done = self.entries.len();
+        self.steps.push_entry(entry);
+        self.keep_limit(alloc);
+    }
+
+    // No more are left to be undone than the limit says.
+    fn keep_limit(&mut self, alloc: Global)
+        ensures { self.new.lists ≡ limited_log self.old.lists.limit self.old.lists }
+    {
         if let Some(most) = self.limit {
             self.forget(alloc, most);
         }
     }
 
-    /// No more than so many entries are left to be undone, the newest.
+    /// No more than so many steps are left to be undone, the newest.
     pub(crate) fn forget(&mut self, alloc: Global, most: u32)
         ensures { self.new.lists ≡ forgotten_log most self.old.lists }
     {
         let most = most as usize;
-        if self.done - self.dead > most {
-            let first = self.done - most;
+        let count = self.steps.undo_count();
+        if count > most {
             let is_told = self.tells_entry(most);
-            self.last
-                .keep_before(alloc, self.entries.as_mut_slice(), first, is_told);
-            empty_entries(alloc, self.entries.as_mut_slice(), self.dead, first);
-            self.marks.cut_before(first);
-            self.dead = first;
-            self.take_dead_away();
+            self.last.keep_newest(alloc, &mut self.steps, is_told);
+            self.steps.keep_newest(alloc, most);
+            self.marks.cut_before(count - most);
+            self.marks.lower(count - most);
         }
     }
 
@@ -205,22 +207,7 @@ impl UndoLog {
         most == 0 && self.group().is_empty()
     }
 
-    // Where as many entries are forgotten as aren't, the others are moved down: the mean time of a call stays the same.
-    fn take_dead_away(&mut self)
-        ensures { self.new.lists ≡ self.old.lists }
-    {
-        let dead = self.dead;
-        let live = self.entries.len() - dead;
-        if dead >= live {
-            self.entries.rotate_left(dead);
-            self.entries.truncate(live);
-            self.marks.lower(dead);
-            self.done -= dead;
-            self.dead = 0;
-        }
-    }
-
-    /// The newest two entries are one, if there is memory for it. No time goes by but for the changes of the newest and
+    /// The newest two steps are one, if there is memory for it. No time goes by but for the changes of the newest and
     /// for what can be made again.
     pub(crate) fn join(&mut self, alloc: Global) -> Result<(), AllocError>
         requires two { 2 ≤ length self.old.lists.undo }
@@ -229,84 +216,80 @@ impl UndoLog {
             (λ _. self.new.lists ≡ joined_log self.old.lists)
             (λ _. self.new.lists ≡ self.old.lists) }
     {
-        let newest = self.done - 1;
-        let count = self.entries[newest].len();
-        join_at(alloc, self.entries.as_mut_slice(), newest - 1)?;
+        let count = self.steps.newest_len();
+        self.steps.join_newest(alloc)?;
         self.last.at_most(count);
-        let _emptied = self.entries.remove(newest);
-        self.marks.join_at(newest);
-        self.done = newest;
+        self.marks.join_at(self.steps.undo_count());
         Ok(())
     }
 
-    /// The next entry in a direction: to go backwards is to undo.
-    pub(crate) fn next_entry(&self, direction: Direction) -> Option<&NamedEntry>
+    /// The next step in a direction: to go backwards is to undo.
+    pub(crate) fn next_step(&self, direction: Direction) -> Option<Step<'_>>
         ensures next { MatchOption result (next_entries direction self.now.lists ≡ [])
-            (λ entry. IsHead entry.now.entry (next_entries direction self.now.lists)) }
+            (λ step. IsHead (step_entry step).entry (next_entries direction self.now.lists)) }
         ensures named { MatchOption result ([] ≡ first_name (next_names direction self.now.lists))
-            (λ entry. entry.now.name ≡ first_name (next_names direction self.now.lists)) }
+            (λ step. (step_entry step).name ≡ first_name (next_names direction self.now.lists)) }
+        ensures counted { IfSome result IsCounted }
     {
         match direction {
-            Direction::Backwards => self.made().last(),
-            Direction::Forwards => self.undone().first(),
+            Direction::Backwards => self.steps.newest(),
+            Direction::Forwards => self.steps.next(),
         }
     }
 
-    /// The name of the next entry in a direction; no bytes where it has none.
+    /// The name of the next step in a direction; no bytes where it has none.
     pub(crate) fn next_name(&self, direction: Direction) -> &[u8]
         ensures { result.now ≡ first_name (next_names direction self.now.lists) }
     {
-        match self.next_entry(direction) {
-            Some(entry) => entry.name(),
+        match self.next_step(direction) {
+            Some(step) => step.name(),
             None => &[],
         }
     }
 
-    /// The newest entry to be undone has this name, if there is memory for it; one without bytes takes none.
+    /// The newest step to be undone has this name, if there is memory for it; one without bytes takes none.
     pub(crate) fn name_newest(&mut self, alloc: Global, name: &[u8]) -> Result<(), AllocError>
-        requires { self.old.lists.undo ≢ [] }
+        requires some { self.old.lists.undo ≢ [] }
+        requires closed { self.old.lists.group ≡ None }
         ensures done { MatchResult result
             (λ _. self.new.lists ≡ named_log name.now self.old.lists)
             (λ _. self.new.lists ≡ self.old.lists) }
         ensures none { name.now ≡ [] → IsOk result }
     {
         let name = copy_of(alloc, name)?;
-        name_at(alloc, self.entries.as_mut_slice(), self.done - 1, name)?;
-        Ok(())
+        self.steps.name_newest(alloc, name)
     }
 
-    /// The next entry in a direction was made: it becomes the next in the opposite one. Without one, nothing changes.
-    pub(crate) fn move_next(&mut self, direction: Direction)
+    /// The next step in a direction was made: it becomes the next in the opposite one. Without one, nothing changes.
+    pub(crate) fn move_next(&mut self, alloc: Global, direction: Direction)
         requires { self.old.lists.group ≡ None }
         ensures { self.new.lists ≡ next_moved direction self.old.lists }
     {
         match direction {
-            Direction::Backwards => self.move_undone(),
-            Direction::Forwards => self.move_redone(),
+            Direction::Backwards => self.move_undone(alloc),
+            Direction::Forwards => self.move_redone(alloc),
         }
     }
 
-    // The newest entry was undone: it becomes the next that can be made again. Without one, nothing changes.
-    fn move_undone(&mut self)
+    // The newest step was undone: it becomes the next that can be made again. Without one, nothing changes.
+    fn move_undone(&mut self, alloc: Global)
         requires { self.old.lists.group ≡ None }
         ensures { self.new.lists ≡ next_moved Backwards self.old.lists }
     {
-        if self.done > self.dead {
-            self.done -= 1;
+        if self.steps.undo_count() > 0 {
+            self.steps.move_undone(alloc);
             self.last.be_undone();
-            turn_over_at(self.entries.as_mut_slice(), self.done);
         }
     }
 
-    // The next entry was made again: it becomes the newest that can be undone. Without one, nothing changes.
-    fn move_redone(&mut self)
+    // The next step was made again: it becomes the newest that can be undone. Without one, nothing changes.
+    fn move_redone(&mut self, alloc: Global)
         requires { self.old.lists.group ≡ None }
         ensures { self.new.lists ≡ next_moved Forwards self.old.lists }
     {
-        if self.done < self.entries.len() {
-            turn_over_at(self.entries.as_mut_slice(), self.done);
-            self.last = Touched::Newest(self.entries[self.done].len());
-            self.done += 1;
+        if self.steps.redo_count() > 0 {
+            self.steps.move_redone(alloc);
+            self.last.be_newest(self.steps.newest_len());
         }
     }
 
@@ -346,9 +329,7 @@ impl UndoLog {
     pub(crate) fn clear(&mut self)
         ensures { self.new.lists ≡ reverted_log self.old.lists }
     {
-        self.entries.clear();
-        self.dead = 0;
-        self.done = 0;
+        self.steps.clear();
         self.group = None;
         self.marks = Marks {
             updated: Some(0),
@@ -368,29 +349,30 @@ impl UndoLog {
     pub(crate) fn mark_updated(&mut self)
         ensures { self.new.lists ≡ updated_log self.old.lists }
     {
-        self.marks.updated = Some(self.done);
+        self.marks.updated = Some(self.steps.undo_count());
     }
 
     /// The document became the updated and the saved one.
     pub(crate) fn mark_saved(&mut self)
         ensures { self.new.lists ≡ saved_log self.old.lists }
     {
-        self.marks.updated = Some(self.done);
-        self.marks.saved = Some(self.done);
+        let count = self.steps.undo_count();
+        self.marks.updated = Some(count);
+        self.marks.saved = Some(count);
     }
 
     /// Whether the document is the updated one.
     pub(crate) fn is_updated(&self) -> bool
         ensures { result ≡ is_at self.now.lists.updated_at self.now.lists }
     {
-        self.marks.updated == Some(self.done) && self.group().is_empty()
+        self.marks.updated == Some(self.steps.undo_count()) && self.group().is_empty()
     }
 
     /// Whether the document is the saved one.
     pub(crate) fn is_saved(&self) -> bool
         ensures { result ≡ is_at self.now.lists.saved_at self.now.lists }
     {
-        self.marks.saved == Some(self.done) && self.group().is_empty()
+        self.marks.saved == Some(self.steps.undo_count()) && self.group().is_empty()
     }
 
     /// Tells what is asked for.
@@ -404,20 +386,20 @@ impl UndoLog {
     {
         match asked {
             PlacesLookUp::Touched => self.tell_touched(places),
-            PlacesLookUp::Undo => self.tell_entry(Direction::Backwards, places),
-            PlacesLookUp::Redo => self.tell_entry(Direction::Forwards, places),
+            PlacesLookUp::Undo => self.tell_step(Direction::Backwards, places),
+            PlacesLookUp::Redo => self.tell_step(Direction::Forwards, places),
             PlacesLookUp::Abandon => tell_next(self.group(), Direction::Backwards, places),
         }
     }
 
-    // Tells what the next entry in a direction would change.
-    fn tell_entry(&self, direction: Direction, places: &mut Vec<Place>) -> Result<(), AllocError>
+    // Tells what the next step in a direction would change.
+    fn tell_step(&self, direction: Direction, places: &mut Vec<Place>) -> Result<(), AllocError>
         ensures ok { IfOk result (λ _. places.new.items
             ≡ places.old.items ++ places_ahead direction (next_entries direction self.now.lists)) }
         ensures err { IfErr result (λ _. places_ahead direction (next_entries direction self.now.lists) ≢ []) }
     {
-        match self.next_entry(direction) {
-            Some(entry) => tell_next(entry.as_slice(), direction, places),
+        match self.next_step(direction) {
+            Some(step) => step.tell_next(direction, places),
             None => Ok(()),
         }
     }
@@ -433,11 +415,15 @@ impl UndoLog {
                 places.push(Place::All)?;
                 Ok(())
             }
-            Touched::Newest(count) => tell_newest(self.newest(), *count, places),
-            Touched::Undone => match self.undone().first() {
-                Some(entry) => tell_made(entry.as_slice(), Direction::Backwards, places),
+            Touched::Newest(count) => self.tell_newest(*count, places),
+            Touched::Undone => match self.steps.next() {
+                Some(step) => step.tell_made(Direction::Backwards, places),
                 None => Ok(()),
             },
+            Touched::At(place) => {
+                places.push(*place)?;
+                Ok(())
+            }
             Touched::Forgotten(entry) => tell_made(entry.as_slice(), Direction::Forwards, places),
             Touched::Abandoned(changes) => {
                 tell_next(changes.as_slice(), Direction::Backwards, places)
@@ -445,17 +431,21 @@ impl UndoLog {
         }
     }
 
-    // The newest changes, the newest last: of the open group or, where it has none, of the newest entry.
-    fn newest(&self) -> &[Change]
-        ensures { reverse result.now ≡ newest_changes self.now.lists.undo self.now.lists.group }
+    // Tells so many of the newest changes, the newest last: of the open group or, where it has none, of the newest
+    // step.
+    fn tell_newest(&self, count: usize, places: &mut Vec<Place>) -> Result<(), AllocError>
+        ensures ok { IfOk result (λ _. places.new.items ≡ places.old.items ++ all_places Forwards
+            (reverse (take count (newest_changes self.now.lists.undo self.now.lists.group)))) }
+        ensures err { IfErr result (λ _. all_places Forwards
+            (reverse (take count (newest_changes self.now.lists.undo self.now.lists.group))) ≢ []) }
     {
         let group = self.group();
         if !group.is_empty() {
-            return group;
+            return tell_newest(group, count, places);
         }
-        match self.made().last() {
-            Some(entry) => entry.as_slice(),
-            None => &[],
+        match self.steps.newest() {
+            Some(step) => step.tell_newest(count, places),
+            None => Ok(()),
         }
     }
 
@@ -476,18 +466,18 @@ impl UndoLog {
         self.group.is_some()
     }
 
-    /// How many entries can be undone.
+    /// How many steps can be undone.
     pub(crate) fn undo_count(&self) -> usize
         ensures { result ≡ length self.now.lists.undo }
     {
-        self.made().len()
+        self.steps.undo_count()
     }
 
-    /// How many entries can be made again.
+    /// How many steps can be made again.
     pub(crate) fn redo_count(&self) -> usize
         ensures { result ≡ length self.now.lists.redo }
     {
-        self.undone().len()
+        self.steps.redo_count()
     }
 
     /// How many content bytes it holds, 2^64 - 1 where these are more.
@@ -495,9 +485,7 @@ impl UndoLog {
         ensures { result
             ≡ min (total_weight (to_undo self.now.lists) + total_weight (to_redo self.now.lists)) (2 ^ 64 - 1) }
     {
-        self.group_weight()
-            .saturating_add(entries_weight(self.made()))
-            .saturating_add(entries_weight(self.undone()))
+        self.group_weight().saturating_add(self.steps.weight())
     }
 
     // How many those of the open group hold.
@@ -508,22 +496,6 @@ impl UndoLog {
             Some(changes) => total_weight(changes.as_slice()),
             None => 0,
         }
-    }
-
-    // The entries that can be undone, the newest last.
-    fn made(&self) -> &[NamedEntry]
-        ensures entries { log_entries (reverse result.now) ≡ self.now.lists.undo }
-        ensures names { entry_names (reverse result.now) ≡ self.now.lists.undo_names }
-    {
-        &self.entries.as_slice()[self.dead..self.done]
-    }
-
-    // The entries that can be made again, the next first.
-    fn undone(&self) -> &[NamedEntry]
-        ensures entries { log_entries result.now ≡ self.now.lists.redo }
-        ensures names { entry_names result.now ≡ self.now.lists.redo_names }
-    {
-        &self.entries.as_slice()[self.done..]
     }
 
     /// It does nothing: its caller learns that nothing is left to make again while the open group has changes.
@@ -544,30 +516,6 @@ fn push_all(stack: &mut Vec<Change>, mut changes: Vec<Change>)
     if stack.append(&mut changes).is_err() {
         unreachable!();
     }
-}
-
-// The entry at a place is turned over.
-fn turn_over_at(entries: &mut [NamedEntry], place: usize)
-    requires { place < length entries.old }
-    ensures { BecomesAt turned_over place entries.old entries.new }
-{
-    entries[place].turn_over();
-}
-
-// The entry at a place has a name, if there is memory for it; one without bytes takes none.
-fn name_at(
-    alloc: Global,
-    entries: &mut [NamedEntry],
-    place: usize,
-    name: Vec<u8>,
-) -> Result<(), AllocError>
-    requires { place < length entries.old }
-    ensures done { MatchResult result
-        (λ _. BecomesAt (named name.items) place entries.old entries.new)
-        (λ _. entries.new ≡ entries.old) }
-    ensures none { name.items ≡ [] → IsOk result }
-{
-    entries[place].set_name(alloc, name)
 }
 
 // Bytes of their own; none take no memory.

@@ -34,7 +34,7 @@ impl Marks {
         self.saved = joined(self.saved, place);
     }
 
-    /// So many entries, none of them behind a mark, were taken away in front.
+    /// So many entries in front, with no mark among them, aren't counted any more.
     pub(crate) fn lower(&mut self, count: usize)
         requires updated { IfSome self.old.updated (λ at. count ≤ at) }
         requires saved { IfSome self.old.saved (λ at. count ≤ at) }

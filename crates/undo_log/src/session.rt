@@ -32,7 +32,7 @@ mod steps;
 
 use crate::log::UndoLog;
 use crate::making::{is_barred, make, make_all};
-use crate::turning::{make_entry, nothing_to_turn, take_back};
+use crate::turning::{make_step, nothing_to_turn, take_back};
 use doc_edits::look_ups::Lists;
 use doc_edits::plan_large;
 use document_file::Refused;
@@ -408,11 +408,11 @@ impl<S: Store> Session<S> {
             // Before it is asked whether there is a step.
             return Err(fault);
         }
-        match self.log.next_entry(direction) {
+        match self.log.next_step(direction) {
             None => Err(nothing_to_turn(direction)),
-            Some(entry) => {
-                make_entry(&mut self.blocks, entry, direction)?;
-                self.log.move_next(direction);
+            Some(step) => {
+                make_step(&mut self.blocks, step, direction)?;
+                self.log.move_next(self.alloc, direction);
                 Ok(())
             }
         }

@@ -1,14 +1,14 @@
 //! Where the document was changed last, and what tells it.
-ghost use Rattle.std.specs.Prelude.{◌≡◌, ◌≢◌, ◌≤◌, ◌++◌, [], length, IfErr, IfOk, reverse, take};
+ghost use Rattle.std.specs.Prelude.{◌≡◌, ◌≢◌, ◌++◌, [], IfErr, IfOk, reverse, take};
 ghost use Rattle.chunk_edits.specs.declared.direction.Direction.TheVariants.{Forwards};
 ghost use Rattle.undo_log.specs.Telling.{all_places, clipped};
-ghost use Rattle.undo_log.specs.Joining.{KeepsBefore};
+ghost use Rattle.undo_log.specs.Steps.{KeepsNewest};
 ghost use Rattle.undo_log.specs.declared.touched.Touched.TheVariants.{Newest, Undone};
 
 use crate::entry::{Changes, NamedEntry};
+use crate::kept_steps::KeptSteps;
 use geos_model::Place;
 use std::alloc::{AllocError, Global};
-use std::mem::replace;
 use vm_blocks::{Change, Direction};
 
 /// From what it is read where the document was changed last: no place is kept beside the changes.
@@ -22,6 +22,8 @@ pub enum Touched {
     Newest(usize),
     /// By the next entry to be made again, which was undone.
     Undone,
+    /// Just there, by a short step that was forgotten since.
+    At(Place),
     /// By the changes of an entry that was forgotten since, or the newest of them.
     Forgotten(NamedEntry),
     /// By changes that were taken back with their group.
@@ -50,24 +52,16 @@ impl Touched {
         }
     }
 
-    /// The entry before a place is about to be forgotten. Where it may be told of, it is kept if it is.
-    pub(crate) fn keep_before(
-        &mut self,
-        alloc: Global,
-        entries: &mut [NamedEntry],
-        place: usize,
-        is_told: bool,
-    )
-        requires { (1 ≤ place) × (place ≤ length entries.old) }
-        ensures { KeepsBefore place is_told self.old self.new entries.old entries.new }
+    /// The newest step is about to be forgotten, and where it may be told of, it is kept if it is.
+    pub(crate) fn keep_newest(&mut self, alloc: Global, steps: &mut KeptSteps, is_told: bool)
+        ensures { KeepsNewest is_told self.old self.new steps.old steps.new }
     {
         if !is_told {
             return;
         }
         if let Touched::Newest(count) = self {
             let count = *count;
-            let entry = replace(&mut entries[place - 1], NamedEntry::empty(alloc));
-            *self = Touched::Forgotten(entry.into_next(alloc, count));
+            *self = steps.take_told(alloc, count);
         }
     }
 

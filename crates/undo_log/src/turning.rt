@@ -7,9 +7,11 @@ ghost use Rattle.vm_blocks.specs.Preparing.{AreInMemory, CanApplyAllByHandle, Ca
 ghost use Rattle.chunk_edits.specs.declared.direction.Direction.TheVariants.{Backwards};
 ghost use Rattle.undo_log.specs.Logging.{after_all, after_entry, changes_in};
 ghost use Rattle.undo_log.specs.Sessions.{CanApplyAllDirected};
+ghost use Rattle.undo_log.specs.Steps.{step_entry};
 ghost use Rattle.undo_log.specs.Turning.{CanApplyEntry, CantApplyEntry, IsEntryApplied, no_step_fault};
 
 use crate::entry::NamedEntry;
+use crate::step::Step;
 use geos_model::Fault;
 use vm_blocks::{Change, Direction, FileBlocks};
 use vm_store::Store;
@@ -24,8 +26,35 @@ pub fn nothing_to_turn(direction: Direction) -> Fault
     }
 }
 
-/// Makes the changes of an entry in a direction, all or none. No block is locked.
-pub fn make_entry<S: Store>(
+/// Makes the changes of a step in a direction, all or none. No block is locked.
+pub fn make_step<S: Store>(
+    blocks: &mut FileBlocks<S>,
+    step: Step<'_>,
+    direction: Direction,
+) -> Result<(), Fault>
+    // Asked of the caller.
+    requires unmarked { blocks.old.disk.marked ≡ None }
+    requires unlocked { nat_lt 0 (locked_count blocks.old.resident) ≡ false }
+    requires listed { CanApplyAllByHandle (map (directed direction) (changes_in (step_entry step).entry)) blocks.old.document }
+    // What is done.
+    ensures ok { OnOk result (IsEntryApplied S.facts direction (step_entry step.entry).entry blocks.old blocks.new) }
+    ensures err { OnErr result (KeepsBlocks S.facts blocks.old blocks.new) }
+    // Refusals.
+    ensures refusals { IfErr result (CantApplyEntry S.facts direction (step_entry step.entry).entry blocks.old blocks.new) }
+    // When the answer is known beforehand.
+    ensures sure { CanApplyEntry direction (step_entry step.entry).entry blocks.old
+        → IsOk result × (blocks.new.disk ≡ blocks.old.disk)
+        × (blocks.new.document ≡ after_entry direction (step_entry step.entry).entry blocks.old.document) }
+{
+    blocks.reveal_invariant();
+    match step {
+        Step::Bytes(change) => blocks.change_bytes(change, direction),
+        Step::Entry(entry) => make_entry(blocks, entry, direction),
+    }
+}
+
+// So of a whole one.
+fn make_entry<S: Store>(
     blocks: &mut FileBlocks<S>,
     entry: &NamedEntry,
     direction: Direction,

@@ -159,7 +159,7 @@ impl<S: Store> Session<S> {
         if self.log.in_group() {
             return Some(Fault::GroupOpen);
         }
-        match self.log.next_entry(direction) {
+        match self.log.next_step(direction) {
             Some(_) => None,
             None => Some(nothing_to_turn(direction)),
         }

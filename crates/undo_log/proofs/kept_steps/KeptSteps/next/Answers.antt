@@ -1,0 +1,19 @@
+use Rattle.std.proofs.Common.{◌≡◌, [], sym, subst, ap, ◌∙◌}
+use Rattle.std.specs.Prelude.{MatchOption}
+use Rattle.std.specs.Option.{option_map}
+use Rattle.packed_log.specs.Lent.{record_of}
+use Rattle.undo_log.specs.Steps.{IsFirst, Steps}
+use Rattle.undo_log.proofs.Entries.{is_first, none_first}
+use Rattle.undo_log.proofs.kept_steps.KeptSteps.next.Goals as goal
+
+pub returns-in_err-next : goal.returns-in_err-next
+returns-in_err-next c =
+    let first = sym (ap (option_map record_of) c.in_err-next.was) ∙ c.next.ensures.first in
+    subst (λ o. MatchOption o (c.args.self.now.redo ≡ []) (λ step. IsFirst step c.args.self.now.redo)) (sym c.from_residual.ensures)
+    (sym (ap (λ (s : Steps). s.redo) c.self.view_is) ∙ none_first c.self.inside.log.behind first)
+
+pub returns : goal.returns
+returns c =
+    let first = sym (ap (option_map record_of) c.in_ok-next.was) ∙ c.next.ensures.first in
+    subst (λ (s : Steps). IsFirst c.of.result s.redo) c.self.view_is
+    (is_first c.self.inside.log.behind (record_of c.in_ok-next.field-0) c.of.result first c.of.ensures.entry c.of.ensures.counted)
