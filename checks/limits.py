@@ -19,6 +19,7 @@ from large_array import ROOM, Root, branch_bytes, root_bytes
 COMMITS = 10_000 if "--long" in sys.argv else 2_000
 STEPS = 327_520
 GROUP = 20_000
+SMALL_STEPS = 100_000
 LIMITED = 10_000_000 if "--long" in sys.argv else 100_000
 LIMIT = 1000
 JOINED = 100_000
@@ -153,6 +154,24 @@ def limited_steps(geosvm, geosdoc, path):
     # that stand no more take 6,400 at least.
     assert many < few + 2000, f"{many} kB, and {few} for {3 * LIMIT} steps"
     return f"{LIMITED} steps of which {LIMIT} are kept, in {many} kB, and {3 * LIMIT} in {few}"
+
+
+def steps_of(count, size):
+    """The lines of so many steps, each a write of so many bytes, and their replies."""
+    yield from [("newheap 0", "block 0001"), ("alloc 0001 256", "chunk 0010")]
+    for number in range(count):
+        yield f"write 0001 0010 {number % 128} {number % 256:02x}{'5a' * (size - 1)}", "ok"
+
+
+def small_steps(geosvm, geosdoc, path):
+    """A step takes little memory beside its content, which is the bytes before and behind."""
+    told = []
+    for size, most in ((1, 24), (64, 160)):
+        few, many = (memory_of([geosvm, "--new", path], steps_of(count, size)) for count in (1_000, 1_000 + SMALL_STEPS))
+        taken = 1024 * (many - few) / SMALL_STEPS
+        assert taken < most, f"{taken:.0f} bytes a step that writes {size}"
+        told.append(f"{taken:.0f} bytes a step that writes {size}")
+    return ", ".join(told)
 
 
 def joined_steps(geosvm, geosdoc, path):
@@ -427,7 +446,7 @@ def largest_array(geosvm, geosdoc, path):
     return f"{total} bytes, in {most} kB of memory"
 
 
-TRIED = {it.__name__: it for it in (many_commits, many_steps, limited_steps, joined_steps, large_groups, large_file, long_replies,
+TRIED = {it.__name__: it for it in (many_commits, many_steps, limited_steps, small_steps, joined_steps, large_groups, large_file, long_replies,
                                     large_arrays, all_handles, largest_array)}
 LONG_ALONE = ["largest_array"]
 
