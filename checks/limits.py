@@ -108,7 +108,8 @@ def many_steps(geosvm, geosdoc, path):
 
 
 def steps_within_limit(count):
-    """The lines of so many steps, of which the newest are kept, and their replies: all of these are undone and made again."""
+    """The lines of so many steps, of which the newest are kept, and their replies: all of these are undone and made again. Each other one
+    has a name, or is a group."""
     yield "newraw 7 32", "block 0001"
     for number in range(1, count + 1):
         if number % 10 == 0:
@@ -116,10 +117,12 @@ def steps_within_limit(count):
         yield f"vwrite 0001 0 {word(number) * 8}", "ok"
         if number % 10 == 0:
             yield "end", "ok"
-        yield from [(f"name {word(0) * 16}", "ok"), (f"name {word(number) * 16}", "ok")]
+        if number % 2 == 0:
+            yield from [(f"name {word(0) * 16}", "ok"), (f"name {word(number) * 16}", "ok")]
     yield "undos", f"number {LIMIT}"
-    for number in range(count - 1, count - 1 - LIMIT, -1):
-        yield from [("undo", "ok"), ("vread 0001", f"bytes {word(number) * 8}"), ("redoname", f"bytes {word(number + 1) * 16}")]
+    for number in range(count, count - LIMIT, -1):
+        name = "-" if number % 2 else word(number) * 16
+        yield from [("undo", "ok"), ("vread 0001", f"bytes {word(number - 1) * 8}"), ("redoname", f"bytes {name}")]
     yield from [("undo", "no 22 NothingToUndo"), ("redos", f"number {LIMIT}")]
     yield from [("redo", "ok")] * LIMIT
     yield "vread 0001", f"bytes {word(count) * 8}"
@@ -150,8 +153,8 @@ def memory_of(words, lines):
 def limited_steps(geosvm, geosdoc, path):
     """Of any number of steps no more are kept than the limit says, and they take no more memory than a few more do."""
     few, many = most_memory(geosvm, path, 3 * LIMIT), most_memory(geosvm, path, LIMITED)
-    # Each step has 64 bytes of content, before and behind, beside its entry: 100,000 of them take 12,000 kB. So many names of 64 bytes
-    # that stand no more take 6,400 at least.
+    # Each step has 64 bytes of content, before and behind, beside what is kept of it: 100,000 of them take 6,400 kB at least, half of which
+    # have a name. So many names of 64 bytes that stand no more take 3,200 at least, and those that were given in their place as many.
     assert many < few + 2000, f"{many} kB, and {few} for {3 * LIMIT} steps"
     return f"{LIMITED} steps of which {LIMIT} are kept, in {many} kB, and {3 * LIMIT} in {few}"
 
@@ -172,6 +175,33 @@ def small_steps(geosvm, geosdoc, path):
         assert taken < most, f"{taken:.0f} bytes a step that writes {size}"
         told.append(f"{taken:.0f} bytes a step that writes {size}")
     return ", ".join(told)
+
+
+def sized_steps(geosvm, geosdoc, path):
+    """Steps of contents of all sizes, the largest among them, are undone and made again as they are, with a name, and joined."""
+    script = Script()
+    script.ask("newraw 7 65520", "block 0001")
+    sizes = [1, 12, 13, 127, 128, 129, 32_759, 32_760, 32_767, 32_768, 65_520]
+    for size in sizes:
+        before, first, second = (f"{byte:02x}" * size for byte in (0, size % 251 + 1, size % 241 + 2))
+        shown = ("vread 0001", lambda part: f"bytes {part}{'00' * (65_520 - size)}")
+        for named in (False, True):
+            script.ask(f"vwrite 0001 0 {first}")
+            if named:
+                script.ask("name 6f6e65")
+            script.ask("undo")
+            script.ask("redo")
+            script.ask(shown[0], shown[1](first))
+            script.ask(f"vwrite 0001 0 {second}")
+            script.ask("join")
+            script.ask("undoname", "bytes 6f6e65" if named else "bytes -")
+            script.ask("undo")
+            script.ask(shown[0], shown[1](before))
+            script.ask("redo")
+            script.ask(shown[0], shown[1](second))
+            script.ask("undo")
+    script.run(geosvm, "--new", path)
+    return f"steps of up to {2 * sizes[-1]} bytes of content"
 
 
 def joined_steps(geosvm, geosdoc, path):
@@ -446,7 +476,7 @@ def largest_array(geosvm, geosdoc, path):
     return f"{total} bytes, in {most} kB of memory"
 
 
-TRIED = {it.__name__: it for it in (many_commits, many_steps, limited_steps, small_steps, joined_steps, large_groups, large_file, long_replies,
+TRIED = {it.__name__: it for it in (many_commits, many_steps, limited_steps, small_steps, sized_steps, joined_steps, large_groups, large_file, long_replies,
                                     large_arrays, all_handles, largest_array)}
 LONG_ALONE = ["largest_array"]
 

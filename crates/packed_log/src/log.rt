@@ -100,6 +100,7 @@ impl<H: Copy, W> PackedLog<H, W> {
     {
         self.marks.cut_behind();
         self.bytes.cut_behind();
+        self.bytes.give_back();
         self.wholes.cut_behind();
     }
 
@@ -214,7 +215,10 @@ impl<H: Copy, W> PackedLog<H, W> {
         ensures place { self.old.place ≡ true → self.new.place ≡ true }
     {
         match self.marks.before()[0] {
-            Mark::Short { len, head: _ } => self.bytes.forget(len as usize),
+            Mark::Short { len, head: _ } => {
+                self.bytes.forget(len as usize);
+                self.bytes.give_back();
+            }
             Mark::Whole => {
                 let _forgotten = self.wholes.replace_oldest(instead);
                 self.wholes.forget(1);
@@ -260,6 +264,7 @@ impl<H: Copy, W> PackedLog<H, W> {
     {
         self.marks.clear();
         self.bytes.clear();
+        self.bytes.give_back();
         self.wholes.clear();
     }
 }

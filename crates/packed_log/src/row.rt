@@ -7,6 +7,9 @@ use std::alloc::{AllocError, Global};
 use std::marker::Model;
 use std::mem;
 
+/// Less room than for so many items isn't given back.
+const LEAST: usize = 1_024;
+
 /// Items before a cursor, and behind it. Those that are forgotten stay in front until they are as many as the others.
 #[derive(Drop)]
 pub(crate) struct Row<T> {
@@ -259,6 +262,17 @@ impl<T> Row<T> {
         ensures row { self.new ≡ record self.old { behind = item ∷ drop 1 self.old.behind } }
     {
         mem::replace(&mut self.items[self.cursor], item)
+    }
+
+    /// Where no more than a quarter of the room has items, three quarters go back.
+    pub(crate) fn give_back(&mut self)
+        ensures before { self.new.before ≡ self.old.before }
+        ensures behind { self.new.behind ≡ self.old.behind }
+    {
+        let wanted = self.items.capacity() / 4;
+        if wanted >= LEAST && wanted >= self.items.len() {
+            self.items.shrink_to(wanted);
+        }
     }
 
     /// No item is left.

@@ -18,15 +18,22 @@ pub struct Head {
     pub cut: u16,
 }
 
+/// The most bytes of a short step. More are kept whole: beside them an allocation of their own is little, and it goes back
+/// with the step at once.
+const MOST_BYTES: usize = 256;
+
 // Millions of short steps may be kept, each in so many bytes beside its own, and in four more of its mark.
 const _: () = prove!(size_of::<Head>() <= 8);
 
 impl Head {
-    /// The one of a change, if its numbers fit.
+    /// The one of a change, if that has few bytes, and its numbers fit.
     pub(crate) fn of(change: ByteChange<'_>) -> Option<Head>
         ensures { IfSome result
             (λ head. short_change head (change.entry.old.now ++ change.entry.new.now) ≡ byte_change change.entry) }
     {
+        if change.old.len() + change.new.len() > MOST_BYTES {
+            return None;
+        }
         let chunk = match change.chunk {
             Some(ChunkHandle(0)) => return None,
             Some(chunk) => chunk,
