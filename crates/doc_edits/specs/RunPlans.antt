@@ -41,12 +41,12 @@ is_run_edit (edits.Splice b c at n bytes) = true
 is_run_edit edit = false
 
 -- the run lies in this block or chunk, begins there, has so many bytes, and these come in its place
-pub record IsRun (run : Run) (b : VmHandle) (chunk : Option ChunkHandle) (at n : ℕ) (new : List ℕ) : Type 0 where
+pub record IsRun (run : Run) (b : VmHandle) (c : Option ChunkHandle) (from n : ℕ) (bytes : List ℕ) : Type 0 where
   pub block : run.block ≡ b
-  pub chunk : run.chunk ≡ chunk
-  pub at : run.at ≡ at
+  pub chunk : run.chunk ≡ c
+  pub at : run.at ≡ from
   pub count : run.count ≡ n
-  pub new : run.new.now ≡ new
+  pub new : run.new.now ≡ bytes
 
 -- the edit replaces this run
 abbrev pub ReplacesRun : Edit → Run → Type 0

@@ -159,10 +159,10 @@ fn test_in_chunk<S: Store>(
 /// Range where a run reaches past the end of a raw body, TooBig where the body can't have so many bytes as it gets.
 fn test_raw(body: &RawBody, run: Run<'_>) -> Result<(), Fault>
     ensures value { MatchResult result
-        (λ _. (run.at + run.count ≤ length body.now)
-        × (length (spliced body.now run.at run.count run.new.now) ≤ capacity))
-        (λ fault. first_refusal (past_end body.now (run.at + run.count)
-        ++ too_big (length (spliced body.now run.at run.count run.new.now))) ≡ Some fault) }
+        (λ _. (run.entry.at + run.entry.count ≤ length body.now)
+        × (length (spliced body.now run.entry.at run.entry.count run.entry.new.now) ≤ capacity))
+        (λ fault. first_refusal (past_end body.now (run.entry.at + run.entry.count)
+        ++ too_big (length (spliced body.now run.entry.at run.entry.count run.entry.new.now))) ≡ Some fault) }
     ensures short { length body.now ≤ capacity }
 {
     let bytes = body.bytes();
@@ -179,10 +179,10 @@ fn test_raw(body: &RawBody, run: Run<'_>) -> Result<(), Fault>
 fn test_chunk(heap: &Heap, chunk: ChunkHandle, bytes: &[u8], run: Run<'_>) -> Result<(), Fault>
     requires { IsChunkIn heap.now.chunks chunk.0 bytes.now }
     ensures { MatchResult result
-        (λ _. (run.at + run.count ≤ length bytes.now)
-        × (fits_with heap.now.chunks chunk.0 (spliced bytes.now run.at run.count run.new.now) ≡ true))
-        (λ fault. first_refusal (past_end bytes.now (run.at + run.count)
-        ++ no_room heap.now.chunks chunk.0 (spliced bytes.now run.at run.count run.new.now)) ≡ Some fault) }
+        (λ _. (run.entry.at + run.entry.count ≤ length bytes.now)
+        × (fits_with heap.now.chunks chunk.0 (spliced bytes.now run.entry.at run.entry.count run.entry.new.now) ≡ true))
+        (λ fault. first_refusal (past_end bytes.now (run.entry.at + run.entry.count)
+        ++ no_room heap.now.chunks chunk.0 (spliced bytes.now run.entry.at run.entry.count run.entry.new.now)) ≡ Some fault) }
 {
     if !lies_in(bytes, run) {
         return Err(Fault::Range);
@@ -195,7 +195,7 @@ fn test_chunk(heap: &Heap, chunk: ChunkHandle, bytes: &[u8], run: Run<'_>) -> Re
 
 /// Whether a run reaches no further than these bytes.
 fn lies_in(bytes: &[u8], run: Run<'_>) -> bool
-    ensures { MatchBool result (run.at + run.count ≤ length bytes.now) (length bytes.now < run.at + run.count) }
+    ensures { MatchBool result (run.entry.at + run.entry.count ≤ length bytes.now) (length bytes.now < run.entry.at + run.entry.count) }
 {
     run.at as usize <= bytes.len() && run.count <= bytes.len() - run.at as usize
 }
@@ -204,7 +204,7 @@ fn lies_in(bytes: &[u8], run: Run<'_>) -> bool
 fn has_room(heap: &Heap, chunk: ChunkHandle, bytes: &[u8], run: Run<'_>) -> bool
     requires found { IsChunkIn heap.now.chunks chunk.0 bytes.now }
     requires within { run.at + run.count ≤ length bytes.now }
-    ensures { result ≡ fits_with heap.now.chunks chunk.0 (spliced bytes.now run.at run.count run.new.now) }
+    ensures { result ≡ fits_with heap.now.chunks chunk.0 (spliced bytes.now run.entry.at run.entry.count run.entry.new.now) }
 {
     if run.new.len() <= run.count {
         return true;
@@ -219,13 +219,12 @@ pub fn lent_run<'a, S: Store>(blocks: &'a FileBlocks<S>, run: Run<'a>) -> ByteCh
     requires { CanCarryOut (run_change run blocks.now.document) blocks.now }
     ensures { byte_change result ≡ run_change run.entry blocks.now.document }
 {
-    let bytes = bytes_at(blocks, run);
-    let at = run.at as usize;
+    let rest = &bytes_at(blocks, run)[run.at as usize..];
     ByteChange {
         block: run.block,
         chunk: run.chunk,
         at: run.at,
-        old: &bytes[at..at + run.count],
+        old: &rest[..run.count.min(rest.len())],
         new: run.new,
     }
 }
