@@ -1,20 +1,21 @@
 -- Plans of edits that replace a run of bytes.
-use Rattle.std.proofs.Common.{◌≡◌, ◌≤◌, ◌<◌, ◌+◌, ◌-◌, ℕ, List, [], ◌∷◌, ◌++◌, Bool, true, false, not, Option, Some, None, Result, Ok, Err, MatchResult, length, take, drop, min, nat_lt, refl, sym, ap, subst, ◌∙◌, inl, inr, arith, length-drop}
+use Rattle.std.proofs.Common.{◌≡◌, ◌≤◌, ◌+◌, ◌-◌, ℕ, List, [], ◌∷◌, ◌++◌, Bool, true, false, not, Option, Some, None, Result, Ok, Err, MatchResult, length, take, drop, min, nat_lt, refl, sym, ap, subst, ◌∙◌, inl, inr, arith, length-drop}
 use Rattle.std.proofs.lemmas.Bool.{cases_lt, le-ltb, lt-ltb}
 use Rattle.std.proofs.lemmas.List.{length-take-le}
-use Rattle.std.specs.FinMap.{contains_key}
-use Rattle.std.specs.Result.{IsErrAnd, IfOk}
+use Rattle.std.specs.FinMap.{get, contains_key}
+use Rattle.std.specs.Option.{option_map}
+use Rattle.std.specs.Result.{IsErrAnd}
 use Rattle.geos_model.specs.Bytes.{resized, spliced}
 use Rattle.geos_model.specs.Cost.{cost}
-use Rattle.geos_model.specs.Document.{Document, chunks_of}
-use Rattle.geos_model.specs.Heap.{ChunkMap, chunk_bytes, fits_with, is_heap_map}
+use Rattle.geos_model.specs.Document.{Block, Document, chunks_of}
+use Rattle.geos_model.specs.Heap.{ChunkMap, capacity, chunk_bytes, fits_with, is_heap_map}
 use Rattle.geos_model.specs.Machine.{kind_of}
 use Rattle.geos_model.specs.Meaning.{chunk_at, conditions, effect, no_room, on_chunk, past_end, with_chunk}
 use Rattle.geos_model.specs.Places.{places_of}
 use Rattle.geos_model.specs.Refusal.{Conditions, first_refusal}
 use Rattle.geos_model.specs.Scope.{Scope, scope_of}
 use Rattle.geos_model.specs.Scope as scopes
-use Rattle.geos_model.specs.declared.command.Done.{Done}
+use Rattle.geos_model.specs.declared.command.Body.TheVariants.{Heap}
 use Rattle.geos_model.specs.declared.command.Done.TheVariants as done
 use Rattle.geos_model.specs.declared.command.Edit.{Edit}
 use Rattle.geos_model.specs.declared.command.Edit.TheVariants as edits
@@ -24,19 +25,22 @@ use Rattle.geos_model.specs.declared.fault.Fault.TheVariants.{Full, Range}
 use Rattle.geos_model.specs.declared.handle.ChunkHandle.{ChunkHandle}
 use Rattle.geos_model.specs.declared.handle.VmHandle.{VmHandle}
 use Rattle.geos_model.specs.declared.place.Place.TheVariants as place
-use Rattle.geos_model.proofs.HeapTables.{fits_with-fewer, fits_with-many, fits_with-same}
-use Rattle.chunk_edits.specs.Splicing.{Splice, OccursAt}
+use Rattle.geos_model.proofs.HeapTables.{chunk_bytes_le, fits_with-fewer, fits_with-many, fits_with-same}
+use Rattle.chunk_edits.specs.Splicing.{Splice, forwards}
 use Rattle.chunk_edits.proofs.SplicingLemmas.{length-splice}
 use Rattle.lmem_heap.proofs.PlacedLemmas.{length-resized}
+use Rattle.vm_blocks.specs.Allowing.{AllowsChunk}
 use Rattle.vm_blocks.specs.ByteChanges.{part_in}
+use Rattle.vm_blocks.specs.Parts.{AllowsPart}
+use Rattle.vm_blocks.specs.Preparing.{AllowsChange}
 use Rattle.vm_blocks.specs.declared.change.Change.{Change}
 use Rattle.vm_blocks.specs.declared.change.Change.TheVariants as changes
-use Rattle.vm_blocks.specs.declared.change.PartChange.TheVariants as parts
+use Rattle.vm_blocks.proofs.Preparing.{takes_body}
 use Rattle.doc_edits.specs.Found.{IsChunkAt, IsChunkLive, IsHeapAt}
 use Rattle.doc_edits.specs.Planning.{Plans, RefusesInMemory}
 use Rattle.doc_edits.specs.RunPlans.{IsRun, ReplacesRun, bytes_with_run, planned_as, run_change}
 use Rattle.doc_edits.specs.declared.run_plans.Run.{Run}
-use Rattle.doc_edits.proofs.ChunkParts.{plain_built}
+use Rattle.doc_edits.proofs.ChunkParts.{fits_short, plain_built}
 use Rattle.doc_edits.proofs.ChunkPlans as plans
 use Rattle.doc_edits.proofs.Documents.{chunks_are}
 
@@ -196,3 +200,13 @@ module _ (d : Document) (r : Result (Unit {0}) Fault) where
       → Tests m k.0 bytes run.at run.count run.new.now r → MatchResult r (λ _. Plans edit d (run_change run d) done.Nothing) (RefusesInMemory edit d)
   chunk_tested edit run k here is m live bytes there tested =
       replaced edit run k here is (tested_here run.block run.chunk k here run.at run.count run.new.now m live bytes there tested)
+
+-- Of a run whose change a chunk takes: the chunk is no longer than a heap, and so is what comes.
+pub short_there : (d : Document) (run : Run) (k : ChunkHandle) (m : ChunkMap) → run.chunk ≡ Some k → option_map (λ (b : Block). b.body) (get d.blocks run.block.0) ≡ Some (Heap m) → is_heap_map m ≡ true → AllowsChange (run_change run d) d
+    → (length (chunk_bytes m k.0) ≤ capacity) × (length run.new.now ≤ capacity)
+short_there d run k m here there valid takes =
+    let s : Splice = record { at = run.at; old = take run.count (drop run.at (bytes_with_run d run.block run.chunk)); new = run.new.now } in
+    let allows : AllowsChunk m k.0 s = subst (λ (o : Option ChunkHandle). AllowsPart (part_in o s) (Heap m)) here (takes_body d run.block.0 (part_in run.chunk s) (Heap m) there takes) in
+    let bytes = chunk_bytes m k.0 in
+    let within : s.at + length s.old ≤ length bytes = allows.within in
+    (chunk_bytes_le m k.0 valid allows.live, omega (arith, within, fits_short m k.0 (forwards s bytes) valid allows.live allows.fits, length-splice bytes s.new s.at (s.at + length s.old) (omega (arith, within))))

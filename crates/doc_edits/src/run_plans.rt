@@ -1,6 +1,6 @@
 //! Plans of edits that replace a run of bytes: the change is made of the run and of what comes, which stay where they
 //! lie.
-ghost use Rattle.std.specs.Prelude.{◌≡◌, ◌+◌, ◌<◌, ◌≤◌, ◌++◌, true, IfOk, MatchBool, MatchOption, MatchResult, None, Some, is_some, length};
+ghost use Rattle.std.specs.Prelude.{◌≡◌, ◌+◌, ◌<◌, ◌≤◌, ◌^◌, ◌++◌, true, IfOk, MatchBool, MatchOption, MatchResult, None, Some, is_some, length};
 ghost use Rattle.geos_model.specs.Bytes.{spliced};
 ghost use Rattle.geos_model.specs.Document.{is_heap, is_raw};
 ghost use Rattle.geos_model.specs.Heap.{capacity, fits_with};
@@ -182,7 +182,8 @@ fn test_chunk(heap: &Heap, chunk: ChunkHandle, bytes: &[u8], run: Run<'_>) -> Re
         (λ _. (run.entry.at + run.entry.count ≤ length bytes.now)
         × (fits_with heap.now.chunks chunk.0 (spliced bytes.now run.entry.at run.entry.count run.entry.new.now) ≡ true))
         (λ fault. first_refusal (past_end bytes.now (run.entry.at + run.entry.count)
-        ++ no_room heap.now.chunks chunk.0 (spliced bytes.now run.entry.at run.entry.count run.entry.new.now)) ≡ Some fault) }
+        ++ no_room heap.now.chunks chunk.0 (spliced bytes.now run.entry.at run.entry.count run.entry.new.now))
+        ≡ Some fault) }
 {
     if !lies_in(bytes, run) {
         return Err(Fault::Range);
@@ -195,7 +196,8 @@ fn test_chunk(heap: &Heap, chunk: ChunkHandle, bytes: &[u8], run: Run<'_>) -> Re
 
 /// Whether a run reaches no further than these bytes.
 fn lies_in(bytes: &[u8], run: Run<'_>) -> bool
-    ensures { MatchBool result (run.entry.at + run.entry.count ≤ length bytes.now) (length bytes.now < run.entry.at + run.entry.count) }
+    ensures { MatchBool result (run.entry.at + run.entry.count ≤ length bytes.now)
+        (length bytes.now < run.entry.at + run.entry.count) }
 {
     run.at as usize <= bytes.len() && run.count <= bytes.len() - run.at as usize
 }
@@ -204,7 +206,8 @@ fn lies_in(bytes: &[u8], run: Run<'_>) -> bool
 fn has_room(heap: &Heap, chunk: ChunkHandle, bytes: &[u8], run: Run<'_>) -> bool
     requires found { IsChunkIn heap.now.chunks chunk.0 bytes.now }
     requires within { run.at + run.count ≤ length bytes.now }
-    ensures { result ≡ fits_with heap.now.chunks chunk.0 (spliced bytes.now run.entry.at run.entry.count run.entry.new.now) }
+    ensures { result
+        ≡ fits_with heap.now.chunks chunk.0 (spliced bytes.now run.entry.at run.entry.count run.entry.new.now) }
 {
     if run.new.len() <= run.count {
         return true;
@@ -217,8 +220,11 @@ fn has_room(heap: &Heap, chunk: ChunkHandle, bytes: &[u8], run: Run<'_>) -> bool
 /// The change that replaces a run, with the bytes that go lent from their block, which is in memory.
 pub fn lent_run<'a, S: Store>(blocks: &'a FileBlocks<S>, run: Run<'a>) -> ByteChange<'a>
     requires { CanCarryOut (run_change run blocks.now.document) blocks.now }
-    ensures { byte_change result ≡ run_change run.entry blocks.now.document }
+    ensures change { byte_change result ≡ run_change run.entry blocks.now.document }
+    ensures old { length result.old.now < 2 ^ 16 }
+    ensures new { length result.new.now < 2 ^ 32 }
 {
+    // A run that was planned ends within them.
     let rest = &bytes_at(blocks, run)[run.at as usize..];
     ByteChange {
         block: run.block,
@@ -232,7 +238,9 @@ pub fn lent_run<'a, S: Store>(blocks: &'a FileBlocks<S>, run: Run<'a>) -> ByteCh
 /// The bytes of the raw block or of the chunk in which a run lies.
 fn bytes_at<'a, S: Store>(blocks: &'a FileBlocks<S>, run: Run<'a>) -> &'a [u8]
     requires { CanCarryOut (run_change run blocks.now.document) blocks.now }
-    ensures { result.now ≡ bytes_with_run blocks.now.document run.entry.block run.entry.chunk }
+    ensures value { result.now ≡ bytes_with_run blocks.now.document run.entry.block run.entry.chunk }
+    ensures old { length result.now ≤ capacity }
+    ensures new { length run.entry.new.now ≤ capacity }
 {
     match (blocks.body(run.block), run.chunk) {
         (BlockBody::Raw(body), None) => body.bytes(),

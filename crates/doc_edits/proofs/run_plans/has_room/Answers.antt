@@ -1,4 +1,4 @@
-use Rattle.std.proofs.Common.{◌≡◌, ◌-◌, ◌+◌, ℕ, length, ap, arith, sym, ◌∙◌}
+use Rattle.std.proofs.Common.{length, ap, arith, sym, ◌∙◌}
 use Rattle.geos_model.specs.Bytes.{spliced}
 use Rattle.geos_model.proofs.HeapTables.{fits_with-fewer}
 use Rattle.doc_edits.proofs.RunPlans.{length_after, room_for_size}

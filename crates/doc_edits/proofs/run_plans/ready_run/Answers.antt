@@ -1,4 +1,4 @@
-use Rattle.std.proofs.Common.{◌≡◌, None, Some, Err, Ok, ap, sym, ◌∙◌}
+use Rattle.std.proofs.Common.{◌≡◌, Err, Ok, ap, sym, ◌∙◌}
 use Rattle.geos_model.specs.Machine.{needs_of_scope}
 use Rattle.geos_model.specs.Scope.{Block, Chunk, Raw, scope_of}
 use Rattle.vm_blocks.specs.Keeping.{IsEnvironmentFault}
