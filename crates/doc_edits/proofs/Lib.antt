@@ -20,3 +20,4 @@ pub mod ChainPlans
 pub mod LargePlans
 pub mod Planned
 pub mod EditedArrays
+pub mod RunPlans

@@ -5,3 +5,4 @@ pub mod Building
 pub mod LookUps
 pub mod LentRuns
 pub mod Marking
+pub mod RunPlans

@@ -21,8 +21,10 @@ mod marking;
 mod planning;
 mod raw_plans;
 mod room;
+mod run_plans;
 
 pub use large_plans::plan_large;
 pub use lent_runs::prepare_run;
 pub use marking::mark_edited;
 pub use planning::plan;
+pub use run_plans::{Run, lent_run, plan_run};

@@ -6,7 +6,7 @@ ghost use Rattle.vm_blocks.specs.ByteChanges.{byte_change, byte_part};
 ghost use Rattle.vm_blocks.specs.Changes.{after_change, after_part, directed, incoming_blocks};
 ghost use Rattle.vm_blocks.specs.Keeping.{KeepsBlocks, is_loaded, has_no_frame_for};
 ghost use Rattle.vm_blocks.specs.Parts.{AllowsPart};
-ghost use Rattle.vm_blocks.specs.Preparing.{CanApplyByHandle, AllowsChange, IsInMemory, IsShutOut, CantPrepare, IsApplied, AppliesChange};
+ghost use Rattle.vm_blocks.specs.Preparing.{CanApplyByHandle, CanCarryOut, AllowsChange, IsInMemory, IsShutOut, CantPrepare, IsApplied, AppliesChange};
 
 use super::FileBlocks;
 use crate::part::{can_take_bytes, replace_bytes};
@@ -42,13 +42,24 @@ impl<S: Store> FileBlocks<S> {
         self.replace_bytes(change.towards(direction))
     }
 
-    // So it does forwards, in one word.
+    /// Makes a change of a run of bytes that can be made as things are, as the plan of an edit has just seen: the block
+    /// is in memory, and takes it. No memory is taken, no store is called, and it isn't refused.
+    pub fn carry_out_bytes(&mut self, change: ByteChange<'_>)
+        requires ready { CanCarryOut (byte_change change) self.old }
+        ensures made { IsApplied S.facts (byte_change change.entry) self.old self.new }
+        ensures sure { (self.new.disk ≡ self.old.disk)
+            × (self.new.document ≡ after_change (byte_change change.entry) self.old.document) }
+    {
+        self.put_bytes(change);
+    }
+
+    // `change_bytes` forwards, in one word.
     fn replace_bytes(&mut self, change: ByteChange<'_>) -> Result<(), Fault>
         requires { is_live self.old.document change.block.0 ≡ true }
         ensures { AppliesChange S.facts (byte_change change.entry) self.old self.new result }
     {
         self.ready_bytes(change)?;
-        self.carry_out_bytes(change);
+        self.put_bytes(change);
         Ok(())
     }
 
@@ -80,7 +91,7 @@ impl<S: Store> FileBlocks<S> {
     }
 
     // Changes the body of a block in memory in place: from now on the file may have another.
-    fn carry_out_bytes(&mut self, change: ByteChange<'_>)
+    fn put_bytes(&mut self, change: ByteChange<'_>)
         requires loaded { is_loaded self.old change.block.0 ≡ true }
         requires takes { AllowsPart (byte_part change) (block_at self.old.document change.block.0).body }
         ensures { self.new ≡ record self.old {

@@ -18,5 +18,5 @@ returns-in_err-ready_bytes g c =
 pub returns : goal.returns
 returns g c =
     let change = byte_change c.args.change in
-    turns_ready g.S.Store.facts change c.args.self.now c.ready_bytes.new.self c.ready_bytes.ensures.keeps c.carry_out_bytes.new.self c.in_ok-ready_bytes.ensures.loaded (λ far. cc (c.in_ok-ready_bytes.ensures.shut far).0)
-    (λ here takes. let sure = c.in_ok-ready_bytes.ensures.sure here takes in (sure.1, sure.2)) c.carry_out_bytes.ensures
+    turns_ready g.S.Store.facts change c.args.self.now c.ready_bytes.new.self c.ready_bytes.ensures.keeps c.put_bytes.new.self c.in_ok-ready_bytes.ensures.loaded (λ far. cc (c.in_ok-ready_bytes.ensures.shut far).0)
+    (λ here takes. let sure = c.in_ok-ready_bytes.ensures.sure here takes in (sure.1, sure.2)) c.put_bytes.ensures
