@@ -4,7 +4,6 @@ pub mod Telling
 pub mod Logging
 pub mod Asking
 pub mod Rooms
-pub mod RunStub
 pub mod Marks
 pub mod Joining
 pub mod Steps

@@ -9,7 +9,6 @@ mod kept_steps;
 mod log;
 mod making;
 mod marks;
-mod run_stub;
 mod session;
 mod step;
 mod touched;

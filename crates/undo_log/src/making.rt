@@ -8,9 +8,8 @@ ghost use Rattle.undo_log.specs.Locking.{bars};
 ghost use Rattle.undo_log.specs.Making.{MakesEdit, MakesRecorded, MakesRun};
 
 use crate::log::UndoLog;
-use crate::run_stub::{lent_run, plan_run};
 use crate::turning::carry_out;
-use doc_edits::{mark_edited, plan};
+use doc_edits::{lent_run, mark_edited, plan, plan_run};
 use geos_model::{BlockEdit, Done, Fault, Target};
 use std::alloc::Global;
 use vm_blocks::{Change, Direction, FileBlocks};

@@ -307,8 +307,7 @@ impl<S: Store> Session<S> {
             return Err(Fault::Locked);
         }
         self.log.reserve(1)?;
-        let done = make_recorded(self.alloc, &mut self.blocks, &mut self.log, target)?;
-        Ok(done)
+        make_recorded(self.alloc, &mut self.blocks, &mut self.log, target)
     }
 
     // Makes one of a large array, by several.

@@ -11,7 +11,6 @@ ghost use Rattle.undo_log.specs.Steps.{step_entry};
 ghost use Rattle.undo_log.specs.Turning.{CanApplyEntry, CanCarryOutEntry, CantApplyEntry, IsCarriedOut, IsEntryApplied, no_step_fault};
 
 use crate::entry::NamedEntry;
-use crate::run_stub::carry_out_bytes;
 use crate::step::Step;
 use geos_model::Fault;
 use vm_blocks::{Change, Direction, FileBlocks};
@@ -87,7 +86,7 @@ pub fn carry_out<S: Store>(blocks: &mut FileBlocks<S>, step: Step<'_>)
     ensures { IsCarriedOut S.facts (step_entry step.entry).entry blocks.old blocks.new }
 {
     match step {
-        Step::Bytes(change) => carry_out_bytes(blocks, change),
+        Step::Bytes(change) => blocks.carry_out_bytes(change),
         Step::Entry(entry) => carry_out_entry(blocks, entry),
     }
 }
