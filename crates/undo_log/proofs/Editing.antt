@@ -12,19 +12,24 @@ use Rattle.geos_model.specs.declared.command.Kind.TheVariants.{Made, Plain}
 use Rattle.geos_model.specs.declared.fault.Fault.{Fault}
 use Rattle.geos_model.specs.declared.fault.Fault.TheVariants.{Locked, Memory}
 use Rattle.vm_store.specs.Facts.{StoreFacts}
+use Rattle.document_file.specs.Disk.{IsFileDocument}
 use Rattle.document_file.proofs.PassingLemmas.{KeepsCommitted-refl}
 use Rattle.vm_blocks.specs.Keeping.{IsEnvironmentFault}
+use Rattle.vm_blocks.specs.State.{CacheState}
 use Rattle.vm_blocks.specs.declared.change.Change.{Change}
+use Rattle.chunk_edits.specs.declared.direction.Direction.TheVariants.{Backwards}
 use Rattle.vm_blocks.proofs.KeepingLaws.{keeps-passes, lacks-memory}
 use Rattle.doc_edits.specs.Planning.{IsManyBlocksFault, RefusesEdit, RefusesInMemory}
 use Rattle.doc_edits.specs.Room.{lacks_frames, IsRefusedUnseen, ReadsNothing}
 use Rattle.undo_log.specs.Editing.{EditsSession}
 use Rattle.undo_log.specs.Locking.{bars}
-use Rattle.undo_log.specs.Logging.{with_change}
-use Rattle.undo_log.specs.Making.{IsEditApplied, MakesEdit}
-use Rattle.undo_log.specs.Sessions.{SessionState, KeepsSession, cache_of}
+use Rattle.undo_log.specs.Logging.{Log, to_redo, to_undo, with_change}
+use Rattle.undo_log.specs.Making.{IsEditApplied, MakesEdit, MakesRecorded}
+use Rattle.undo_log.specs.Sessions.{SessionState, CanApplyBothByHandle, KeepsSession, cache_of}
 use Rattle.undo_log.proofs.Edited.{barred_fault, barred_step, edit_step, edit_refused, made_at_hand, not_barred}
-use Rattle.undo_log.proofs.Keeping.{keeps_refl}
+use Rattle.undo_log.proofs.Forgetting.{changed_listed}
+use Rattle.undo_log.proofs.Keeping.{Holds, keeps_refl, kept_invariant, none_marked}
+use Rattle.undo_log.proofs.Listing.{drifted, edited_listed}
 use Rattle.undo_log.proofs.LookUps.{same_session}
 
 module _ {S : Type 0} (facts : S → StoreFacts) where
@@ -110,6 +115,25 @@ module _ {S : Type 0} (facts : S → StoreFacts) where
       passes = made.makes.passes;
       already = λ other nothing. let unchanged = already other nothing in record { disk = unchanged.0; ok = unchanged.1; err = tt };
     }
+
+    -- made with its record, or refused
+    pub edited : (result : Result Done Fault) → MakesRecorded facts edit (cache_of old) (cache_of new) old.log new.log result → EditsSession facts edit old new result
+    edited (Ok done) records = edit_done records.change done records.makes.ok records.newest (λ unread. (records.makes.unseen unread).1) records.makes.already
+    edited (Err fault) refused = edit_fails fault (record { blocks = refused.0.err; log = refused.1 }) (not_made fault refused.0 refused.1)
+
+-- All changes of the log can be tried still.
+pub edited_holds : {S : Type 0} (facts : S → StoreFacts) (edit : Edit) (old new : CacheState S) (log log' : Log) (result : Result Done Fault) → IsFileDocument (facts old.disk.store).honest old.document
+    → MakesRecorded facts edit old new log log' result → Holds old log → Holds new log'
+edited_holds facts edit old new log log' (Ok done) known records holds =
+    let applied = records.makes.ok in let change = records.change in
+    let honest = (facts old.disk.store).honest in (
+      subst (λ (l : Log). CanApplyBothByHandle Backwards new.document (to_undo l) (to_redo l)) (sym records.newest)
+          (changed_listed log change new.document
+          (edited_listed honest old.document new.document change (to_undo log) (to_redo log) known (drifted honest _ new.document applied.makes.document) applied.listed holds.0)),
+      none_marked _ old.disk.marked new.disk.marked holds.1 applied.makes.passes.marked,
+    )
+edited_holds facts edit old new log log' (Err fault) known refused holds =
+    subst (λ (l : Log). Holds new l) (sym refused.1) (kept_invariant facts old new log refused.0.err holds)
 
 -- The fault that `?` hands on, of a session that is seen to be another one.
 pub carried : {S : Type 0} {facts : S → StoreFacts} {edit : Edit} {old s new : SessionState S} → old ≡ s → (fault : Fault) (r : Result Done Fault) → IsErrAnd r (λ x. x ≡ fault) → EditsSession facts edit old new (Err fault) → EditsSession facts edit s new r

@@ -11,6 +11,7 @@ pub mod Directions
 pub mod Answers
 pub mod LargeAnswers
 pub mod Edited
+pub mod Planned
 pub mod Turns
 pub mod Weights
 pub mod Asking
@@ -25,3 +26,4 @@ pub mod Groups
 pub mod MarkLemmas
 pub mod Entries
 pub mod LogViews
+pub mod Newest

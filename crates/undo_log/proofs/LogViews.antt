@@ -3,13 +3,14 @@ use Rattle.std.proofs.Common.{◌≡◌, ◌≢◌, ◌<◌, ◌≤◌, ◌+◌,
 use Rattle.std.proofs.lemmas.Bool.{and_parts, cases_Bool, eqb-true}
 use Rattle.std.specs.Option.{option_map}
 use Rattle.std.proofs.lemmas.List.{length-take-le, take-map}
+use Rattle.vm_blocks.specs.ChangePlaces.{change_places}
 use Rattle.vm_blocks.specs.declared.change.Change.{Change}
 use Rattle.chunk_edits.specs.declared.direction.Direction.TheVariants.{Forwards, Backwards}
 use Rattle.geos_model.specs.Position.{Position, position_after_forget, position_after_join, position_after_redo, position_after_step, position_after_undo}
 use Rattle.undo_log.specs.Joining.{joined, with_joined}
-use Rattle.undo_log.specs.Logging.{Log, changes_in, forgotten_log, joined_log, limited_log, named, named_log, next_moved, open_changes, retold, reversed_entry, turned_over, with_named, without_redo}
+use Rattle.undo_log.specs.Logging.{Log, changes_in, forgotten_log, joined_log, limited_log, named, named_log, next_moved, open_changes, added_to, retold, reversed_entry, turned_over, with_change, with_named, without_redo}
 use Rattle.undo_log.specs.Marks.{AreMarksWithin, IsMarkWithin, both_marks, mark_from, mark_joined, mark_lowered, mark_up_to, position_of}
-use Rattle.undo_log.specs.Entries.{LogEntry, NamedEntry, entry_names, log_entries}
+use Rattle.undo_log.specs.Entries.{LogEntry, NamedEntry, One, entry_names, log_entries, unnamed}
 use Rattle.undo_log.specs.Steps.{KeepsNewest, Steps, TurnsOver, with_first}
 use Rattle.undo_log.specs.declared.marks.Marks.{Marks}
 use Rattle.geos_model.specs.declared.place.Place.{Place}
@@ -17,7 +18,7 @@ use Rattle.undo_log.specs.Telling.{all_places, clipped, newest_changes, next_cha
 use Rattle.undo_log.specs.declared.touched.Touched.{Touched}
 use Rattle.undo_log.specs.declared.touched.Touched.TheVariants as touched
 use Rattle.undo_log.proofs.MarkLemmas.{cut_position, forget_position, join_position, lower_position, redo_position, step_position, undo_position, within_from}
-use Rattle.undo_log.proofs.Telling.{newest-closed, newest-kept, newest-none, newest-nothing, newest-some, redone-tells, told-joined, undone-tells}
+use Rattle.undo_log.proofs.Telling.{made-all, newest-closed, newest-kept, newest-none, newest-nothing, newest-some, redone-tells, told-joined, undone-tells}
 
 -- the log of these entries
 abbrev pub log_at : List NamedEntry → List NamedEntry → Option (List Change) → Marks → Touched → Option ℕ → Log
@@ -203,3 +204,14 @@ pushed_at group marks limit undo redo undo' redo' e last closed none marked undo
     ∙ ap (limited_log limit) (stepped_at group marks limit undo e last closed within)
     ∙ limited_is (record (log_at undo [] group marks last limit) { touched = told last (changes_in e.entry) [] }) e limit
     ∙ ap (λ (es : List NamedEntry). record (with_named e (log_at undo es group marks last limit)) { touched = told last (changes_in e.entry) [] }) (sym empty)
+
+-- So is the change of an edit.
+pub added_at : (group : Option (List Change)) (marks : Marks) (limit : Option ℕ) (undo redo undo' redo' : List NamedEntry) (c : Change) (last last' : Touched) → group ≡ None → log_entries redo ≡ []
+    → AreMarksWithin 0 (length undo + length redo) marks → undo' ≡ unnamed (One c) ∷ undo → redo' ≡ [] → last' ≡ touched.Newest 1
+    → limited_log limit (log_at undo' redo' group marks last' limit) ≡ with_change c (log_at undo redo group marks last limit)
+added_at group marks limit undo redo undo' redo' c last last' closed none marked undo_is redo_is newest =
+    let empty : redo ≡ [] = no_entries redo none in
+    pushed_at group marks limit undo redo undo' redo' (unnamed (One c)) last' closed none marked undo_is redo_is
+    ∙ (λ i. record (with_named (unnamed (One c)) (log_at undo (empty i) (closed i) marks last limit)) { touched = told (newest i) (c ∷ []) [] })
+    ∙ ap (λ (ps : List Place). record (with_named (unnamed (One c)) (log_at undo [] None marks last limit)) { touched = ps }) (made-all (One c))
+    ∙ sym (λ i. added_to (closed i) c (log_at undo (empty i) (closed i) marks last limit))

@@ -1,5 +1,5 @@
 -- What is kept of steps that can be undone or made again, and what a call makes of it.
-use Rattle.std.specs.Prelude.{◌≡◌, ℕ, Bool, true, not, ◌&&◌, ◌==◌, if◌then◌else◌, List, [], ◌∷◌, ◌++◌, drop, length, reverse, map, take, Option, Some, None}
+use Rattle.std.specs.Prelude.{◌≡◌, ◌≢◌, ℕ, Bool, true, not, ◌&&◌, ◌==◌, if◌then◌else◌, List, [], ◌∷◌, ◌++◌, drop, length, reverse, map, take, Option, Some, None}
 use Rattle.std.specs.List.{sum_by}
 use Rattle.std.specs.Option.{option_map_or}
 use Rattle.geos_model.specs.Document.{Document}
@@ -193,6 +193,13 @@ added_to (Some cs) c log = record (without_redo log) { group = Some (c ∷ cs); 
 
 abbrev pub with_change : Change → Log → Log
 with_change c log = added_to log.group c log
+
+-- The change of an edit is the first entry to be undone once it was added: no group is open, nothing is left to make
+-- again, and the limit leaves one at least.
+pub record TakesBytes (log : Log) : Type 0 where
+  pub closed : log.group ≡ None
+  pub none : log.redo ≡ []
+  pub leaves : log.limit ≢ Some 0
 
 -- So are those of an edit of a large array together, in the order in which they were made.
 abbrev pub all_added_to : Option (List Change) → List Change → Log → Log

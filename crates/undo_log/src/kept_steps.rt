@@ -73,6 +73,28 @@ impl KeptSteps {
         }
     }
 
+    /// So is a change of bytes that are lent. One of its own is made of it only where it can't be a short one.
+    pub(crate) fn push_bytes(
+        &mut self,
+        alloc: Global,
+        change: ByteChange<'_>,
+    ) -> Result<(), AllocError>
+        requires place { self.old.place ≡ true }
+        requires none { self.old.redo ≡ [] }
+        requires old { length change.old.now < 2 ^ 16 }
+        requires new { length change.new.now < 2 ^ 32 }
+        ensures undo { MatchResult result
+            (λ _. self.new.undo ≡ unnamed (One (byte_change change.entry)) ∷ self.old.undo)
+            (λ _. self.new.undo ≡ self.old.undo) }
+        ensures redo { self.new.redo ≡ [] }
+    {
+        if !push_short_bytes(&mut self.log, change) {
+            let change = change.to_change(alloc)?;
+            self.log.push_whole(NamedEntry::one(change));
+        }
+        Ok(())
+    }
+
     /// An entry is the newest step.
     pub(crate) fn push_entry(&mut self, entry: NamedEntry)
         requires place { self.old.place ≡ true }
@@ -237,13 +259,25 @@ fn push_short(log: &mut PackedLog<Head, NamedEntry>, change: &Change) -> bool
     ensures behind { log.new.behind ≡ [] }
     ensures stays { OnFalse result (log.new ≡ log.old) }
 {
-    let Some(change) = change.as_bytes() else {
-        return false;
-    };
-    let Some(head) = Head::of(change) else {
-        return false;
-    };
-    log.push_short(head, change.old, change.new)
+    match change.as_bytes() {
+        Some(change) => push_short_bytes(log, change),
+        None => false,
+    }
+}
+
+// So is one of bytes that are lent.
+fn push_short_bytes(log: &mut PackedLog<Head, NamedEntry>, change: ByteChange<'_>) -> bool
+    requires place { log.old.place ≡ true }
+    requires none { log.old.behind ≡ [] }
+    ensures done { OnTrue result
+        (entries_of log.new.before ≡ unnamed (One (byte_change change.entry)) ∷ entries_of log.old.before) }
+    ensures behind { log.new.behind ≡ [] }
+    ensures stays { OnFalse result (log.new ≡ log.old) }
+{
+    match Head::of(change) {
+        Some(head) => log.push_short(head, change.old, change.new),
+        None => false,
+    }
 }
 
 // Whether there is a newest step, and it is whole.

@@ -1,13 +1,15 @@
 //! The log: what can be undone, what can be made again, the group that is open, and where the committed documents
 //! stand.
-ghost use Rattle.std.specs.Prelude.{◌≡◌, ◌≢◌, ◌≤◌, ◌+◌, ◌-◌, ◌^◌, ◌++◌, [], ◌&&◌, ◌==◌, IfErr, IfOk, IfSome, IsOk, true, Some, None, OnOk, MatchOption, MatchResult, is_some, length, min, reverse, take, vec_capacity, vec_len};
+ghost use Rattle.std.specs.Prelude.{◌≡◌, ◌≢◌, ◌≤◌, ◌<◌, ◌+◌, ◌-◌, ◌^◌, ◌++◌, [], ◌&&◌, ◌==◌, IfErr, IfOk, IfSome, IsOk, true, Some, None, OnOk, MatchOption, MatchResult, is_some, length, min, reverse, take, vec_capacity, vec_len};
 ghost use Rattle.chunk_edits.specs.declared.direction.Direction.TheVariants.{Backwards, Forwards};
 ghost use Rattle.geos_model.specs.Machine.{first_name};
+ghost use Rattle.std.specs.Bool.{OnTrue};
 ghost use Rattle.undo_log.specs.Entries.{One, unnamed};
-ghost use Rattle.undo_log.specs.Logging.{AreExclusive, IsHead, abandoned_log, forgotten_log, fresh_log, is_at, joined_log, limited_log, named_log, next_entries, next_moved, next_names, open_changes, pushed_log, retold, reverted_log, saved_log, to_redo, to_undo, total_weight, updated_log, with_change, with_changes, with_group_closed, without_redo};
+ghost use Rattle.undo_log.specs.Logging.{AreExclusive, IsHead, TakesBytes, abandoned_log, forgotten_log, fresh_log, is_at, joined_log, limited_log, named_log, next_entries, next_moved, next_names, open_changes, pushed_log, retold, reverted_log, saved_log, to_redo, to_undo, total_weight, updated_log, with_change, with_changes, with_group_closed, without_redo};
 ghost use Rattle.undo_log.specs.Asking.{asked_places, places_ahead};
 ghost use Rattle.undo_log.specs.Steps.{IsCounted, step_entry};
 ghost use Rattle.undo_log.specs.Telling.{all_places, newest_changes};
+ghost use Rattle.vm_blocks.specs.ByteChanges.{byte_change};
 
 use crate::entry::{Changes, NamedEntry};
 use crate::growing::reserve;
@@ -19,7 +21,7 @@ use crate::weighing::total_weight;
 use geos_model::{Place, PlacesLookUp};
 use std::alloc::{AllocError, Global};
 use std::marker::Model;
-use vm_blocks::{Change, Direction};
+use vm_blocks::{ByteChange, Change, Direction};
 
 /// What is kept of the steps that can be undone or made again, and of the group that is open.
 #[derive(Drop)]
@@ -121,6 +123,39 @@ impl UndoLog {
             return;
         }
         self.push_change(alloc, change);
+    }
+
+    /// Whether a change of bytes that are lent can be added: no group is open, nothing is left to make again, and the
+    /// limit leaves the newest step.
+    pub(crate) fn takes_bytes(&self) -> bool
+        ensures { OnTrue result (TakesBytes self.now.lists) }
+    {
+        self.group.is_none() && self.steps.redo_count() == 0 && self.limit != Some(0)
+    }
+
+    /// The change of an edit of bytes that are lent is the newest, and is to be made from there on. Where it can't be a
+    /// short step, there may be no memory for it.
+    pub(crate) fn add_bytes(
+        &mut self,
+        alloc: Global,
+        change: ByteChange<'_>,
+    ) -> Result<(), AllocError>
+        requires place { self.old.place ≡ true }
+        requires takes { TakesBytes self.old.lists }
+        requires old { length change.old.now < 2 ^ 16 }
+        requires new { length change.new.now < 2 ^ 32 }
+        ensures { MatchResult result
+            (λ _. self.new.lists ≡ with_change (byte_change change.entry) self.old.lists)
+            (λ _. self.new.lists ≡ self.old.lists) }
+    {
+        match self.steps.push_bytes(alloc, change) {
+            Ok(()) => {
+                self.last.be_newest(1);
+                self.keep_limit(alloc);
+                Ok(())
+            }
+            Err(_) => Err(AllocError),
+        }
     }
 
     /// So are those of an edit of a large array together, in the order in which they were made.

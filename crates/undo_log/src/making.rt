@@ -1,13 +1,15 @@
 //! Edits that are planned and made, and which of them a lock bars.
-ghost use Rattle.std.specs.Prelude.{◌≡◌, false, None, nat_lt, IfErr, OnErr, OnOk};
+ghost use Rattle.std.specs.Prelude.{◌≡◌, ◌≤◌, true, false, None, is_some, nat_lt, IfErr, OnErr, OnOk};
 ghost use Rattle.geos_model.specs.Targets.{edit_of};
 ghost use Rattle.vm_blocks.specs.Keeping.{KeepsBlocks};
 ghost use Rattle.vm_blocks.specs.Preparing.{AreApplied, CanApplyAllByHandle, CantPrepareAll};
 ghost use Rattle.vm_blocks.specs.State.{locked_count};
 ghost use Rattle.undo_log.specs.Locking.{bars};
-ghost use Rattle.undo_log.specs.Making.{MakesEdit};
+ghost use Rattle.undo_log.specs.Making.{MakesEdit, MakesRecorded, MakesRun};
 
-use doc_edits::{mark_edited, plan};
+use crate::log::UndoLog;
+use crate::turning::carry_out;
+use doc_edits::{lent_run, mark_edited, plan, plan_run};
 use geos_model::{BlockEdit, Done, Fault, Target};
 use std::alloc::Global;
 use vm_blocks::{Change, Direction, FileBlocks};
@@ -25,8 +27,8 @@ pub fn is_barred<S: Store>(blocks: &FileBlocks<S>, target: Target<'_>) -> bool
     }
 }
 
-/// Plans an edit, and makes its change.
-pub fn make<S: Store>(
+// Plans an edit, and makes its change.
+fn make<S: Store>(
     alloc: Global,
     blocks: &mut FileBlocks<S>,
     target: Target<'_>,
@@ -38,6 +40,51 @@ pub fn make<S: Store>(
     blocks.carry_out(&change)?;
     mark_edited(blocks, target);
     Ok((change, done))
+}
+
+/// Makes an edit, and records its change as the newest of the log.
+pub fn make_recorded<S: Store>(
+    alloc: Global,
+    blocks: &mut FileBlocks<S>,
+    log: &mut UndoLog,
+    target: Target<'_>,
+) -> Result<Done, Fault>
+    requires free { bars blocks.old.resident (edit_of target) ≡ false }
+    requires place { log.old.place ≡ true }
+    requires spare { is_some log.old.lists.group ≡ true → 1 ≤ log.old.spare }
+    ensures { MakesRecorded S.facts (edit_of target.entry) blocks.old blocks.new log.old.lists log.new.lists result }
+{
+    if make_run(alloc, blocks, log, target)? {
+        return Ok(Done::Nothing);
+    }
+    let (change, done) = make(alloc, blocks, target)?;
+    log.add(alloc, change);
+    Ok(done)
+}
+
+// Makes an edit that replaces a run of bytes from its record, which is the newest of the log: the bytes that go, and
+// those that come in, are copied nowhere else. Whether it is such an edit.
+fn make_run<S: Store>(
+    alloc: Global,
+    blocks: &mut FileBlocks<S>,
+    log: &mut UndoLog,
+    target: Target<'_>,
+) -> Result<bool, Fault>
+    requires { log.old.place ≡ true }
+    ensures { MakesRun S.facts (edit_of target.entry) blocks.old blocks.new log.old log.new result }
+{
+    if !log.takes_bytes() {
+        return Ok(false);
+    }
+    let Some(run) = plan_run(blocks, target)? else {
+        return Ok(false);
+    };
+    log.add_bytes(alloc, lent_run(blocks, run))?;
+    match log.next_step(Direction::Backwards) {
+        Some(step) => carry_out(blocks, step),
+        None => unreachable!(),
+    }
+    Ok(true)
 }
 
 /// Makes changes one after another, the first one first, all or none. No block is locked.

@@ -31,7 +31,7 @@ mod look_ups;
 mod steps;
 
 use crate::log::UndoLog;
-use crate::making::{is_barred, make, make_all};
+use crate::making::{is_barred, make_all, make_recorded};
 use crate::turning::{make_step, nothing_to_turn, take_back};
 use doc_edits::look_ups::Lists;
 use doc_edits::plan_large;
@@ -307,9 +307,7 @@ impl<S: Store> Session<S> {
             return Err(Fault::Locked);
         }
         self.log.reserve(1)?;
-        let (change, done) = make(self.alloc, &mut self.blocks, target)?;
-        self.log.add(self.alloc, change);
-        Ok(done)
+        make_recorded(self.alloc, &mut self.blocks, &mut self.log, target)
     }
 
     // Makes one of a large array, by several.

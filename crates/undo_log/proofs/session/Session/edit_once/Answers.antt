@@ -1,15 +1,12 @@
-use Rattle.std.proofs.Common.{◌≡◌, Ok, refl, ap, sym, subst, ◌∙◌}
+use Rattle.std.proofs.Common.{refl, sym, subst, ◌∙◌}
 use Rattle.geos_model.specs.Targets.{edit_of}
 use Rattle.geos_model.specs.declared.fault.Fault.TheVariants.{Memory}
-use Rattle.chunk_edits.specs.declared.direction.Direction.TheVariants.{Backwards}
 use Rattle.vm_blocks.proofs.KeepingLaws.{keeps-refl}
 use Rattle.undo_log.specs.Editing.{EditsSession}
-use Rattle.undo_log.specs.Logging.{Log, to_redo, to_undo, with_change}
-use Rattle.undo_log.specs.Sessions.{SessionState, CanApplyBothByHandle}
-use Rattle.undo_log.proofs.Editing.{carried, edit_barred, edit_done, edit_fails, lacks_memory, not_made}
-use Rattle.undo_log.proofs.Forgetting.{changed_listed}
-use Rattle.undo_log.proofs.Keeping.{Holds, kept_invariant, none_marked}
-use Rattle.undo_log.proofs.Listing.{drifted, edited_listed}
+use Rattle.undo_log.specs.Logging.{Log}
+use Rattle.undo_log.specs.Making.{MakesRecorded}
+use Rattle.undo_log.specs.Sessions.{SessionState}
+use Rattle.undo_log.proofs.Editing.{carried, edit_barred, edit_fails, edited, edited_holds, lacks_memory}
 use Rattle.undo_log.proofs.LookUps.{same_session, session_with}
 use Rattle.undo_log.proofs.session.Session.edit_once.Goals as goal
 
@@ -34,43 +31,18 @@ returns-in_err-reserve g c =
     (edit_fails facts old new edit distinct free Memory (record { blocks = keeps-refl facts c.self.inside.blocks; log = c.in_err-reserve.ensures.lists })
     (lacks_memory facts old new edit distinct free (λ _. same) (λ _. same) (λ _ _. (refl, refl))))
 
--- the edit is refused
-pub invariant_of-self-in_err-change : goal.invariant_of-self-in_err-change
-invariant_of-self-in_err-change g c =
-    subst (λ (l : Log). Holds c.make.new.blocks l) (sym c.in_ok-reserve.ensures.lists)
-    (kept_invariant g.S.Store.facts c.self.inside.blocks c.make.new.blocks c.self.inside.log.lists c.in_err-change.ensures.err c.self.invariant)
-
-pub returns-in_err-change : goal.returns-in_err-change
-returns-in_err-change g c =
-    let facts = g.S.Store.facts in let edit = edit_of c.args.target in
-    let old = session_with c.self.inside.blocks c.self.inside.log.lists in
-    let new = session_with c.make.new.blocks c.reserve.new.self.lists in
-    let distinct = c.reveal_invariant.ensures.distinct in
-    let free = sym c.is_barred.ensures ∙ c.if-is_barred.false in
-    let log = c.in_ok-reserve.ensures.lists in
-    let fault = c.in_err-change.field-0.0 in
-    carried c.self.view_is fault c.from_residual-in_err-change.result c.from_residual-in_err-change.ensures.1
-    (edit_fails facts old new edit distinct free fault (record { blocks = c.in_err-change.ensures.err; log = log }) (not_made facts old new edit distinct free fault c.in_err-change.ensures log))
-
--- the edit is made
+-- the edit is made with its record, or refused
 pub invariant_of-self-2 : goal.invariant_of-self-2
 invariant_of-self-2 g c =
-    let facts = g.S.Store.facts in let made = c.in_ok-change.ensures.ok in let new = c.make.new.blocks in let change = c.in_ok-change.change in
-    let log = c.self.inside.log.lists in
-    let honest = (facts c.self.inside.blocks.disk.store).honest in
-    let is : c.add.new.self.lists ≡ with_change change log = c.add.ensures ∙ ap (λ (l : Log). with_change change l) c.in_ok-reserve.ensures.lists in (
-      subst (λ (l : Log). CanApplyBothByHandle Backwards new.document (to_undo l) (to_redo l)) (sym is)
-          (changed_listed log change new.document
-          (edited_listed honest c.self.inside.blocks.document new.document change (to_undo log) (to_redo log) c.reveal_invariant.ensures.listed (drifted honest _ new.document made.makes.document) made.listed c.self.invariant.0)),
-      none_marked _ c.self.inside.blocks.disk.marked new.disk.marked c.self.invariant.1 made.makes.passes.marked,
-    )
+    let facts = g.S.Store.facts in let edit = edit_of c.args.target in let old = c.self.inside.blocks in let new = c.make_recorded.new.blocks in
+    let records = subst (λ (l : Log). MakesRecorded facts edit old new l c.make_recorded.new.log.lists c.make_recorded.result) c.in_ok-reserve.ensures.lists c.make_recorded.ensures in
+    edited_holds facts edit old new c.self.inside.log.lists c.make_recorded.new.log.lists c.make_recorded.result c.reveal_invariant.ensures.listed records c.self.invariant
 
 pub returns : goal.returns
 returns g c =
-    let facts = g.S.Store.facts in let edit = edit_of c.args.target in let change = c.in_ok-change.change in let done = c.in_ok-change.done in
+    let facts = g.S.Store.facts in let edit = edit_of c.args.target in
     let old = session_with c.self.inside.blocks c.self.inside.log.lists in
-    let new = session_with c.make.new.blocks c.add.new.self.lists in
+    let new = session_with c.make_recorded.new.blocks c.make_recorded.new.log.lists in
     let free = sym c.is_barred.ensures ∙ c.if-is_barred.false in
-    let made = c.in_ok-change.ensures in
-    subst (λ (s : SessionState g.row.S.Denot). EditsSession facts edit s new (Ok done)) c.self.view_is
-    (edit_done facts old new edit c.reveal_invariant.ensures.distinct free change done made.ok (c.add.ensures ∙ ap (λ (l : Log). with_change change l) c.in_ok-reserve.ensures.lists) (λ unread. (made.unseen unread).1) made.already)
+    let records = subst (λ (l : Log). MakesRecorded facts edit c.self.inside.blocks c.make_recorded.new.blocks l c.make_recorded.new.log.lists c.make_recorded.result) c.in_ok-reserve.ensures.lists c.make_recorded.ensures in
+    subst (λ (s : SessionState g.row.S.Denot). EditsSession facts edit s new c.make_recorded.result) c.self.view_is (edited facts old new edit c.reveal_invariant.ensures.distinct free c.make_recorded.result records)
