@@ -1,4 +1,5 @@
--- A run of bytes that an edit replaces: its change is made of where it lies and of what comes, with no bytes of its own.
+-- A run of bytes that an edit replaces: its change is made of where it lies and of what comes, with no bytes of its
+-- own.
 use Rattle.std.specs.Prelude.{◌≡◌, ℕ, Bool, true, false, List, [], Option, None, Some, Result, Ok, Err, length, take, drop}
 use Rattle.geos_model.specs.Document.{Document, raw_bytes_of}
 use Rattle.geos_model.specs.Meaning.{chunk_at}

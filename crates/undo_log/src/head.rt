@@ -18,8 +18,8 @@ pub struct Head {
     pub cut: u16,
 }
 
-/// The most bytes of a short step. More are kept whole: beside them an allocation of their own is little, and it goes back
-/// with the step at once.
+/// The most bytes of a short step. More are kept whole: beside them an allocation of their own is little, and it goes
+/// back with the step at once.
 const MOST_BYTES: usize = 256;
 
 // Millions of short steps may be kept, each in so many bytes beside its own, and in four more of its mark.
