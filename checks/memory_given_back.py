@@ -24,10 +24,11 @@ ROUNDS = [
     ("one is made and freed in one step, undone, made again and forgotten", [],
      FULL_HEAP + ["vfree 0001", "join", "join", "undo", "redo", "forget 0"], "undos", "number 0"),
     ("steps with names are undone, and can't be made again", ["newraw 0 4"], (NAMED + ["undo"]) * 500, "undos", "number 1"),
+    ("steps without names are forgotten", ["newraw 0 100"], [f"vwrite 0001 0 {'61' * 100}"] * 500 + ["forget 0"], "undos", "number 0"),
     ("steps with names are joined, and forgotten", ["newraw 0 4"], (NAMED + NAMED + ["join", "name -", "forget 0"]) * 500, "undos",
      "number 0"),
 ]
-# In kB. A round that keeps a block adds 64 to it, one that keeps the names of 500 steps 32 at least.
+# In kB. A round that keeps a block adds 64 to it, one that keeps the names of 500 steps 32 at least, one that keeps their content 100.
 MORE = 16000
 
 
