@@ -298,7 +298,7 @@ awk 'BEGIN {
 }' >pairs
 bound "a million edits and undos in turn" 2000 --new document pairs "100002 block;100001 chunk;1 number;800000 ok;"
 
-# Each record has two bytes from before and two from behind, and no name. When this was written 29,500 kB were enough, 60 bytes for each;
+# Each record has two bytes from before and two from behind, and no name. When this was written 9,000 kB were enough, 18 bytes for each;
 # 8 bytes more for each would be 3,900 kB.
 awk 'BEGIN {
     print "newraw 7 100"
@@ -307,7 +307,7 @@ awk 'BEGIN {
     for (i = 0; i < 500000; i++) print "redo"
     print "undos"
 }' >many
-bound "half a million edits, as many undos and as many redos" 33000 --new document many "1 block;1 number;1500000 ok;"
+bound "half a million edits, as many undos and as many redos" 11000 --new document many "1 block;1 number;1500000 ok;"
 
 echo "$passed passed, $failed failed"
 [ "$failed" = 0 ]
