@@ -107,7 +107,8 @@ loaded() {
 }
 told "all five were linked, and the two that should load the shared library" "$prefix/lib/$soname $prefix/lib/$soname   " \
     "$(loaded ./c_shared) $(loaded ./cpp_shared) $(loaded ./c_archive) $(loaded ./cpp_archive) $(loaded ./c_static)"
-kit=$(sed -n 's/^Kit: \(rattle-[^ ]*\).*/\1/p' "$prefix/share/doc/geosvm/PROVED")
+# The programs name the kit without the letter of its version: they are proved with more than one.
+kit=$(sed -n 's/^Kit: \(rattle-kit-[0-9]*\).*/\1/p' "$prefix/share/doc/geosvm/PROVED")
 for name in geosvm geosdoc; do
     told "$name has the version of geosvm.h" "$name $version" "$("$prefix/bin/$name" --version | cut -d , -f 1)"
     told "$name tells the kit that PROVED has" "proved by $kit" "$("$prefix/bin/$name" --version | sed 's/.*, //')"
