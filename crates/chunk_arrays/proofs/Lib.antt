@@ -1,4 +1,5 @@
 pub mod DraftingLemmas
+pub mod EvenLemmas
 pub mod RewritingLemmas
 pub mod TableLemmas
 pub mod RewrittenLemmas

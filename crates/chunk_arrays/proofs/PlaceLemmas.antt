@@ -15,7 +15,7 @@ use Rattle.chunk_arrays.proofs.CutLemmas.{place-is}
 use Rattle.chunk_arrays.proofs.PartsLemmas.{length-elements_read, start_is, places_are, all-even, bytes-read}
 
 -- elements in two parts
-joined_parts : (xs : List (List ℕ)) (k : ℕ) → joined (take k xs) ++ joined (drop k xs) ≡ joined xs
+pub joined_parts : (xs : List (List ℕ)) (k : ℕ) → joined (take k xs) ++ joined (drop k xs) ≡ joined xs
 joined_parts xs k = sym (flat_map-append (λ x. x) (take k xs) (drop k xs)) ∙ ap joined (take-append-drop k xs)
 
 length-parts : (xs : List (List ℕ)) (k : ℕ) → length (joined (take k xs)) + length (joined (drop k xs)) ≡ length (joined xs)
@@ -43,7 +43,7 @@ pub bytes-front : (a : Array) → array_bytes a ≡ front_of a ++ joined a.eleme
 bytes-front a = array_bytes-spelled a ∙ ap (λ (l : List ℕ). head_of a ++ l) (sym (append_assoc a.extra (table_of a) (joined a.elements)))
 
 -- the bytes from an element on
-drop-place : (a : Array) (i : ℕ) → drop (element_place a i) (array_bytes a) ≡ joined (drop i a.elements)
+pub drop-place : (a : Array) (i : ℕ) → drop (element_place a i) (array_bytes a) ≡ joined (drop i a.elements)
 drop-place a i =
     let before : List ℕ = joined (take i a.elements) in
     let whole : array_bytes a ≡ (front_of a ++ before) ++ joined (drop i a.elements) =

@@ -8,6 +8,7 @@ ghost use Rattle.chunk_arrays.specs.Rewriting.{bytes_of};
 ghost use Rattle.chunk_edits.specs.Splicing.{RefusesToBuild};
 ghost use Rattle.chunk_arrays.specs.Replacing.{ReplacesAt, RefusesToReplace};
 
+use crate::even::set_even;
 use crate::rewriting::{NewElement, push_header, rewrite};
 use crate::view::check;
 use chunk_edits::ArrayPatch;
@@ -80,6 +81,9 @@ pub fn set(
     }
     if is_missized(view.element_size(), element) {
         return Err(Fault::Range);
+    }
+    if view.element_size() != 0 {
+        return set_even(alloc, &view, at, element);
     }
     rewrite(alloc, &view, &[], at, at + 1, Some(whole(element)))
 }

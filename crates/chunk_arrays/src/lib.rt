@@ -4,6 +4,7 @@
 mod draft;
 mod edits;
 mod empty;
+mod even;
 mod rewriting;
 mod runs;
 mod view;

@@ -1,10 +1,10 @@
 -- The pieces of spans: how many bytes they are of, and which ones come next.
-use Rattle.std.proofs.Common.{◌≡◌, ℕ, ◌+◌, ◌≤◌, ◌<◌, max, List, [], ◌∷◌, ◌++◌, length, take, drop, get_or, refl, sym, ap, ap₂, ◌∙◌, arith, add-one, append-nil, length-drop, length-take, length-take-le, drop-cons, subst}
+use Rattle.std.proofs.Common.{◌≡◌, ℕ, ◌+◌, ◌≤◌, ◌<◌, max, List, [], ◌∷◌, ◌++◌, length, take, drop, get_or, refl, sym, ap, ap₂, ◌∙◌, arith, add-one, append-nil, append_assoc, length-append, length-drop, length-take, length-take-le, drop-cons, subst}
 use Rattle.std.proofs.lemmas.List.{take-append-le, drop-append-le, take_at, drop_at, take_all}
 use Rattle.std.proofs.lemmas.List.Sums.{sum_by-cons}
 use Rattle.std.specs.Prelude.{◌↔◌}
 use Rattle.std.specs.List.{sum_by}
-use Rattle.chunk_edits.specs.Patching.{ArePiecesOf, IsPieceOf, PatchPiece, Put, taken, given, held_by, total_taken, peak, total_held, directed_piece, directed_pieces}
+use Rattle.chunk_edits.specs.Patching.{ArePiecesOf, IsPieceOf, PatchPiece, Keep, Put, taken, given, held_by, total_taken, peak, total_held, directed_piece, directed_pieces}
 use Rattle.chunk_edits.specs.Spans.{own, total_own, extent, piece_of, pieces_of}
 use Rattle.chunk_edits.specs.declared.direction.Direction.{Direction}
 use Rattle.chunk_edits.specs.declared.direction.Direction.TheVariants.{Forwards, Backwards}
@@ -136,3 +136,13 @@ module _ (ss : List Span) (i : ℕ) (less : i < length ss) where
           λ are. same.0 (subst (λ (X : Type 0). X) (sym next_standing) (begins, subst (λ (X : Type 0). X) at are)),
           λ f. subst (λ (X : Type 0). X) (sym at) (subst (λ (X : Type 0). X) next_standing (same.1 f)).1,
         )
+
+-- two pieces that hold bytes, each with bytes that stay behind it
+pub two-exchanged : (a b c d : List ℕ) (m n : ℕ) → pieces_of (spans.Put (length a) (length b) ∷ spans.Keep m ∷ spans.Put (length c) (length d) ∷ spans.Keep n ∷ []) (((a ++ b) ++ c) ++ d)
+    ≡ Put a b ∷ Keep m ∷ Put c d ∷ Keep n ∷ []
+two-exchanged a b c d m n =
+    ap (pieces_of (spans.Put (length a) (length b) ∷ spans.Keep m ∷ spans.Put (length c) (length d) ∷ spans.Keep n ∷ [])) (append_assoc (a ++ b) c d)
+    ∙ (ap₂ (λ (p : PatchPiece) (l : List ℕ). p ∷ Keep m ∷ pieces_of (spans.Put (length c) (length d) ∷ spans.Keep n ∷ []) l)
+    (piece_of-append (spans.Put (length a) (length b)) (a ++ b) (c ++ d) (omega (arith, length-append a b)) ∙ piece_of-put a b)
+    (drop_at (a ++ b) (c ++ d) (length a + length b) (length-append a b))
+    ∙ ap (λ (p : PatchPiece). Put a b ∷ Keep m ∷ p ∷ Keep n ∷ []) (piece_of-put c d))

@@ -1,4 +1,5 @@
 pub mod Directions
+pub mod Exchanging
 pub mod Found
 pub mod Holding
 pub mod Patching

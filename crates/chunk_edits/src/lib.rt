@@ -14,7 +14,7 @@ pub use chunk::{apply, apply_back, delete, insert, resize, splice, write};
 pub use direction::Direction;
 pub use law::{patch_law, splice_law};
 pub use parts::{Splice, copied};
-pub use patch::{Patch, apply_patch};
+pub use patch::{Exchange, Patch, apply_patch};
 pub use raw::{apply_raw, apply_raw_back, raw_replace, raw_splice, raw_write};
 pub use raw_patch::{RawPatch, apply_raw_patch};
 pub use runs::{ArrayPatch, ArrayRuns};

@@ -4,7 +4,9 @@ ghost use Rattle.std.specs.List.{splice};
 ghost use Rattle.std.specs.FinMap.{insert, contains_key};
 ghost use Rattle.geos_model.specs.Heap.{capacity, chunk_bytes, fits_with};
 ghost use Rattle.chunk_edits.specs.Patching.{ArePiecesOf, IsPieceOf, Keep, Put, Rebase, directed_piece, directed_pieces, given, total_held, patched, peak, rebased, taken, total_taken, with_piece};
+ghost use Rattle.chunk_edits.specs.Exchanging.{AreFew, exchanged};
 ghost use Rattle.chunk_edits.specs.Spans.{own, piece_of, pieces_of, total_own};
+ghost use Rattle.chunk_edits.specs.declared.patch.Span.TheVariants as spans;
 
 use crate::chunk::{chunk_of, put};
 use crate::direction::Direction;
@@ -83,6 +85,26 @@ impl Span {
     }
 }
 
+/// Bytes that go, and those that come in their place.
+#[derive(Clone, Copy)]
+pub struct Exchange<'a> {
+    pub old: &'a [u8],
+    pub new: &'a [u8],
+}
+
+impl Exchange<'_> {
+    /// The span of its piece.
+    fn span(&self) -> Span
+        requires { AreFew self.now }
+        ensures { result ≡ spans.Put (length self.now.old.now) (length self.now.new.now) }
+    {
+        Span::Put {
+            old: self.old.len() as u32,
+            new: self.new.len() as u32,
+        }
+    }
+}
+
 /// How many spans a patch holds in its one allocation, as many as an edit of an array of elements of one size has; for
 /// more it takes another.
 const FEW_SPANS: usize = 4;
@@ -128,6 +150,62 @@ impl Patch {
         let pieces = Pieces {
             spans: SmallVec::new(alloc),
             content: SmallVec::new(alloc),
+        };
+        Ok(Patch {
+            pieces: Box::new(alloc, pieces)?,
+        })
+    }
+
+    /// The patch of so many bytes that stay, of some behind them that go, with what comes in their place, and of so many
+    /// more that stay. It has no room for others.
+    pub fn replacing(
+        alloc: Global,
+        before: u32,
+        exchange: Exchange<'_>,
+        behind: u32,
+    ) -> Result<Patch, AllocError>
+        requires { AreFew exchange }
+        ensures { IfOk result (λ patch. patch ≡ Keep before ∷ exchanged exchange.entry ∷ Keep behind ∷ []) }
+    {
+        let put = exchange.span();
+        let mut content = SmallVec::with_capacity(alloc, put.own())?;
+        content.extend_from_slice(exchange.old)?;
+        content.extend_from_slice(exchange.new)?;
+        let spans = [Span::Keep(before), put, Span::Keep(behind), Span::Keep(0)];
+        let pieces = Pieces {
+            spans: SmallVec::from_buf_and_len(alloc, spans, 3),
+            content,
+        };
+        Ok(Patch {
+            pieces: Box::new(alloc, pieces)?,
+        })
+    }
+
+    /// The patch of some bytes that go, with what comes in their place, of so many that stay, of others that go, with
+    /// what comes in theirs, and of so many more that stay. It has no room for others.
+    pub fn replacing_two(
+        alloc: Global,
+        first: Exchange<'_>,
+        between: u32,
+        second: Exchange<'_>,
+        behind: u32,
+    ) -> Result<Patch, AllocError>
+        requires first { AreFew first }
+        requires second { AreFew second }
+        ensures { IfOk result
+            (λ patch. patch ≡ exchanged first.entry ∷ Keep between ∷ exchanged second.entry ∷ Keep behind ∷ []) }
+    {
+        let front = first.span();
+        let put = second.span();
+        let mut content = SmallVec::with_capacity(alloc, front.own() + put.own())?;
+        content.extend_from_slice(first.old)?;
+        content.extend_from_slice(first.new)?;
+        content.extend_from_slice(second.old)?;
+        content.extend_from_slice(second.new)?;
+        let spans = [front, Span::Keep(between), put, Span::Keep(behind)];
+        let pieces = Pieces {
+            spans: SmallVec::from_buf(alloc, spans),
+            content,
         };
         Ok(Patch {
             pieces: Box::new(alloc, pieces)?,

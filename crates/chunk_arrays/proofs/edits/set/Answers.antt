@@ -1,4 +1,4 @@
-use Rattle.std.proofs.Common.{◌≡◌, ◌+◌, [], ◌∷◌, List, ℕ, false, ap, sym, ◌∙◌, arith}
+use Rattle.std.proofs.Common.{◌≡◌, ◌+◌, [], ◌∷◌, List, ℕ, false, refl, ap, sym, ◌∙◌, arith}
 use Rattle.geos_model.specs.Array.{Array}
 use Rattle.geos_model.specs.ArrayEdits.{element_set, set_conditions, is_missized}
 use Rattle.geos_model.proofs.Arrays.{array_bytes-of}
@@ -20,3 +20,13 @@ returns c =
     let sized : is_missized a.size element ≡ false = ap (λ (n : ℕ). is_missized n c.args.element.now) (sym c.element_size.ensures) ∙ sym c.if-is_missized.ensures in
     elements_handed_on bytes a i (i + 1) _ (element ∷ []) (set_conditions bytes i element) c.in_ok-view.ensures (ap (λ (x : List ℕ). x ∷ []) c.whole.ensures)
     c.rewrite.result 1 (set_decides bytes a i element (element_set bytes i element) c.in_ok-view.ensures (omega arith) sized) c.rewrite.ensures
+
+pub returns-then-element_size-ne0 : goal.returns-then-element_size-ne0
+returns-then-element_size-ne0 c =
+    let a : Array = c.in_ok-view.view.array in
+    let bytes : List ℕ = c.args.bytes.now in
+    let i : ℕ = c.args.i in
+    let element : List ℕ = c.args.element.now in
+    let sized : is_missized a.size element ≡ false = ap (λ (n : ℕ). is_missized n c.args.element.now) (sym c.element_size.ensures) ∙ sym c.if-is_missized.ensures in
+    elements_handed_on bytes a i (i + 1) (element ∷ []) (element ∷ []) (set_conditions bytes i element) c.in_ok-view.ensures refl
+    c.set_even.result 1 (set_decides bytes a i element (element_set bytes i element) c.in_ok-view.ensures (omega arith) sized) c.set_even.ensures
