@@ -1,13 +1,13 @@
 -- How the entries of a pool follow from its keys, their slots and the values there.
-use Rattle.std.proofs.Common.{◌≡◌, ◌≢◌, ℕ, ◌+◌, ◌-◌, ◌<◌, ◌≤◌, Bool, true, false, cond, List, [], ◌∷◌, ◌++◌, length, take, Option, Some, None, is_some, nat_eq, slice_get, refl, sym, ap, subst, ◌∙◌, inl, inr, arith, eq-eqb, true≢false}
+use Rattle.std.proofs.Common.{◌≡◌, ◌≢◌, ℕ, ◌+◌, ◌<◌, ◌≤◌, Bool, true, false, cond, List, [], ◌∷◌, ◌++◌, length, Option, Some, None, is_some, nat_eq, slice_get, refl, sym, ap, subst, ◌∙◌, inl, inr, arith, true≢false}
 use Rattle.std.specs.List.{AllByRecursion, cons_option}
-use Rattle.std.specs.Option.{IfSome, IsSome, option_and_then, option_map, option_map_or}
+use Rattle.std.specs.Option.{IsSome, option_and_then, option_map, option_map_or}
 use Rattle.std.specs.Map.{keys_of, lookup, lookup_entry, remove_entry, set_value}
 use Rattle.std.proofs.lemmas.Bool.{cases_eq}
-use Rattle.std.proofs.lemmas.List.{length-map, take_all}
+use Rattle.std.proofs.lemmas.List.{length-map}
 use Rattle.std.proofs.lemmas.List.Sums.{sum_by-set}
 use Rattle.std.proofs.lemmas.List.Elements.{filter_map-append}
-use Rattle.lru.specs.LruCache.{LruCache, lru_cache, promoted, put_entries}
+use Rattle.lru.specs.LruCache.{LruCache, lru_cache, promoted}
 use Rattle.slab.specs.Slab.{Slab, get, slab_len, with_value, Updates, ContainsKey}
 use Rattle.slab.proofs.SlabLemmas.{ContainsKey-within, Updates-with_value}
 use Rattle.buffer_pool.specs.Seats.{seat_of, seated, AreApart, AreTaken, AreSeats}
@@ -15,25 +15,6 @@ use Rattle.buffer_pool.specs.Seats.{seat_of, seated, AreApart, AreTaken, AreSeat
 pub some_of : {X : Type 0} (o : Option X) → IsSome o → (x : X) × (o ≡ Some x)
 some_of None some = absurd (true≢false (sym some))
 some_of (Some x) some = (x, refl)
-
--- the key that was used last finds its slot, and stays the first
-pub record IsFirst (key slot : ℕ) (es : List (ℕ × ℕ)) : Type 0 where
-  pub found : Some slot ≡ lookup (nat_eq key) es
-  pub stays : promoted (nat_eq key) es ≡ es
-
-pub first_found : (key slot : ℕ) (es : List (ℕ × ℕ)) → Some (key, slot) ≡ slice_get es 0 → IsFirst key slot es
-first_found key slot [] is = absurd (cc is)
-first_found key slot (x ∷ es) is =
-    let same : (key, slot) ≡ x = cc is in
-    let at : nat_eq key x.0 ≡ true = eq-eqb key x.0 (ap (λ (p : ℕ × ℕ). p.0) same) in
-    record {
-      found = ap (λ (p : ℕ × ℕ). Some p.1) same ∙ sym (ap (λ b. cond b (Some x.1) (lookup (nat_eq key) es)) at);
-      stays = ap (λ b. option_map_or (λ (e : ℕ × ℕ). e ∷ cond b es (x ∷ remove_entry (nat_eq key) es)) (cond b (Some x) (lookup_entry (nat_eq key) es)) (x ∷ es)) at;
-    }
-
-pub first_by : (key : ℕ) (es : List (ℕ × ℕ)) (o : Option ℕ) → is_some o ≡ true → IfSome o (λ slot. Some (key, slot) ≡ slice_get es 0) → (slot : ℕ) × IsFirst key slot es
-first_by key es None wrong is = absurd (cc wrong)
-first_by key es (Some slot) some is = (slot, first_found key slot es is)
 
 pub first_taken : {V : Type 0} (s : Slab V) (es : List (ℕ × ℕ)) (e : ℕ × ℕ) → Some e ≡ slice_get es 0 → AreTaken s es → ContainsKey s e.1
 first_taken s [] e is taken = absurd (cc is)
@@ -288,12 +269,11 @@ module _ {V : Type 0} (order : LruCache ℕ ℕ) (s : Slab V) (seats : AreSeats 
     pub fits : slab_len s + 1 ≤ s.capacity
     fits = omega (arith, room, length-seated s order.entries seats.taken, seats.none_lost, seats.enough)
 
-    pub put_first : (new : LruCache ℕ ℕ) (told slot : ℕ) → told ≡ slot → new ≡ lru_cache (put_entries nat_eq order key told) order.cap → new ≡ lru_cache ((key, slot) ∷ order.entries) order.cap
-    put_first new told slot same is =
-        let none : lookup (nat_eq key) order.entries ≡ None = none_by _ (sym (has-seated s (nat_eq key) order.entries seats.taken) ∙ ap is_some absent) in
-        let all : take (order.cap - 1) order.entries ≡ order.entries = take_all (order.cap - 1) order.entries (omega (arith, room, length-seated s order.entries seats.taken)) in
-        let goes : put_entries nat_eq order key told ≡ (key, told) ∷ take (order.cap - 1) order.entries = ap (λ o. option_map_or (λ (e : ℕ × ℕ). (e.0, told) ∷ remove_entry (nat_eq key) order.entries) o ((key, told) ∷ take (order.cap - 1) order.entries)) (absent_entry (nat_eq key) order.entries none) in
-        is ∙ ap (λ es. lru_cache es order.cap) (goes ∙ (λ i. (key, same i) ∷ all i))
+    pub absent_too : lookup (nat_eq key) order.entries ≡ None
+    absent_too = none_by _ (sym (has-seated s (nat_eq key) order.entries seats.taken) ∙ ap is_some absent)
+
+    pub room_too : length order.entries < order.cap
+    room_too = omega (arith, room, length-seated s order.entries seats.taken)
 
   module _ (t : Slab V) (key slot : ℕ) (v : V) (free : get s slot ≡ None) (updates : Updates s t slot (Some v)) where
     pub inserted : seated t ((key, slot) ∷ order.entries) ≡ (key, v) ∷ seated s order.entries

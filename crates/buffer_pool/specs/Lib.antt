@@ -1,2 +1,4 @@
 pub mod Lends
+pub mod Orders
+pub mod Places
 pub mod Seats

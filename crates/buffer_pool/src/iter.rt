@@ -3,7 +3,7 @@ ghost use Rattle.std.specs.Prelude.{length};
 ghost use Rattle.std.specs.Iterator.{at_most};
 ghost use Rattle.std.specs.Map.Iter.{TakesFirst, TakesLast, deref_pair};
 
-use lru;
+use crate::seated::Seated;
 use slab::Slab;
 use std::marker::Model;
 
@@ -11,7 +11,7 @@ use std::marker::Model;
 /// least recently. Contracts see those that are left.
 #[derive(Drop)]
 pub struct Iter<'a, V> {
-    pub(crate) seats: lru::Iter<'a, u16, usize>,
+    pub(crate) seats: Seated<'a>,
     pub(crate) values: &'a Slab<V>,
 }
 

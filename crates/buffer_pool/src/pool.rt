@@ -8,7 +8,7 @@ ghost use Rattle.std.specs.Map.Iter.{deref_pair};
 ghost use Rattle.lru.specs.LruCache.{IsValid, lru_cache, promoted};
 
 use crate::iter::Iter;
-use lru::LruCache;
+use crate::order::Order;
 use slab::Slab;
 use std::alloc::{AllocError, Global};
 use std::marker::Model;
@@ -19,7 +19,7 @@ use std::num::NonZeroUsize;
 #[derive(Drop)]
 pub struct BufferPool<V> {
     // The keys in the order of their use, each with the slot of its value.
-    order: LruCache<u16, usize>,
+    order: Order,
     values: Slab<V>,
 }
 
@@ -38,26 +38,6 @@ impl<V> Model for BufferPool<V> {
     ghost invariant = { λ p. AreSeats p.order p.values };
 }
 
-// The slot of the key that was used last, if it is this one.
-fn first_slot(order: &LruCache<u16, usize>, key: u16) -> Option<usize>
-    ensures { IfSome result (λ slot. Some (key, slot) ≡ slice_get order.now.entries 0) }
-{
-    match order.peek_mru() {
-        Some((first, slot)) if key == *first => Some(*slot),
-        _ => None,
-    }
-}
-
-// The slot of a key. That of the key that was used last is found without a look-up.
-fn slot_of(order: &LruCache<u16, usize>, key: u16) -> Option<usize>
-    ensures { result ≡ lookup (nat_eq key) order.now.entries }
-{
-    match first_slot(order, key) {
-        Some(slot) => Some(slot),
-        None => order.peek(&key).copied(),
-    }
-}
-
 impl<V> BufferPool<V> {
     ghost use Rattle.buffer_pool.specs.Lends.{lends_value};
 
@@ -65,7 +45,7 @@ impl<V> BufferPool<V> {
     pub fn new(alloc: Global, cap: NonZeroUsize) -> Result<Self, AllocError>
         ensures { IfOk result (λ pool. pool ≡ lru_cache [] (non_zero_usize_get cap)) }
     {
-        let order = LruCache::new(alloc, cap)?;
+        let order = Order::new(alloc, cap)?;
         let values = Slab::with_capacity(alloc, cap.get())?;
         Ok(BufferPool { order, values })
     }
@@ -90,14 +70,14 @@ impl<V> BufferPool<V> {
     pub fn contains(&self, key: u16) -> bool
         ensures { result ≡ is_some (lookup (nat_eq key) self.now.entries) }
     {
-        slot_of(&self.order, key).is_some()
+        self.order.peek(key).is_some()
     }
 
     /// The value of a key. The order of use stays.
     pub fn peek(&self, key: u16) -> Option<&V>
         ensures { option_copied result ≡ lookup (nat_eq key) self.now.entries }
     {
-        self.values.get(slot_of(&self.order, key)?)
+        self.values.get(self.order.peek(key)?)
     }
 
     /// The value of a key to write to. The order of use stays.
@@ -105,7 +85,7 @@ impl<V> BufferPool<V> {
         ensures* writes_back { sem 𝓛 (lends_value V.row self.entry (nat_eq key) result) }
         ensures value { option_copied_mut result ≡ lookup (nat_eq key) self.old.entries }
     {
-        let slot = slot_of(&self.order, key)?;
+        let slot = self.order.peek(key)?;
         Some(&mut self.values[slot])
     }
 
@@ -122,11 +102,7 @@ impl<V> BufferPool<V> {
         ensures value { result ≡ is_some (lookup (nat_eq key) self.old.entries) }
         ensures entries { self.new ≡ lru_cache (promoted (nat_eq key) self.old.entries) self.old.cap }
     {
-        // The key that was used last stays the first: this is seen without a look-up, and nothing moves.
-        if first_slot(&self.order, key).is_some() {
-            return true;
-        }
-        self.order.promote(&key)
+        self.order.promote(key)
     }
 
     /// Puts in the value of a key that has none, which is the one that was used last from then on. Without memory for
@@ -139,7 +115,7 @@ impl<V> BufferPool<V> {
         ensures entries { OnOk result (self.new ≡ lru_cache ((key, value) ∷ self.old.entries) self.old.cap) }
         ensures err { OnErr result (self.new ≡ self.old) }
     {
-        self.order.put(key, self.values.vacant_key())?;
+        self.order.insert(key, self.values.vacant_key())?;
         self.values.insert_reserved(value);
         Ok(())
     }
@@ -149,7 +125,7 @@ impl<V> BufferPool<V> {
         ensures value { result ≡ lookup (nat_eq key) self.old.entries }
         ensures entries { self.new ≡ lru_cache (remove_entry (nat_eq key) self.old.entries) self.old.cap }
     {
-        let slot = self.order.pop(&key)?;
+        let slot = self.order.pop(key)?;
         Some(self.values.remove(slot))
     }
 

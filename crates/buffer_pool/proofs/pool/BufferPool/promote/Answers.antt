@@ -2,7 +2,7 @@ use Rattle.std.proofs.Common.{nat_eq, is_some, sym, ap, subst, ◌∙◌}
 use Rattle.std.specs.Map.{lookup}
 use Rattle.lru.specs.LruCache.{lru_cache, promoted}
 use Rattle.buffer_pool.specs.Seats.{seated, AreSeats}
-use Rattle.buffer_pool.proofs.SeatLemmas.{first_by, has-seated, promoted-seated, promoted_taken, promoted_apart, length_promoted}
+use Rattle.buffer_pool.proofs.SeatLemmas.{has-seated, promoted-seated, promoted_taken, promoted_apart, length_promoted}
 use Rattle.buffer_pool.proofs.pool.BufferPool.promote.Goals as goal
 
 pub invariant_of-self : goal.invariant_of-self
@@ -29,21 +29,3 @@ returns-clause-entries g c =
     ap (λ x. lru_cache (seated p.values x.entries) x.cap) c.promote.ensures.entries
     ∙ ap (λ es. lru_cache es p.order.cap) (promoted-seated p.values (nat_eq c.args.key) p.order.entries c.self.invariant.taken)
     ∙ ap (λ x. lru_cache (promoted (nat_eq c.args.key) x.entries) x.cap) c.self.view_is
-
--- it was used last
-
-pub returns-then-is_some-clause-value : goal.returns-then-is_some-clause-value
-returns-then-is_some-clause-value g c =
-    let p = c.self.inside in
-    let test = nat_eq c.args.key in
-    let found = first_by c.args.key p.order.entries c.first_slot.result (sym c.is_some.ensures ∙ c.if-is_some.true) c.first_slot.ensures in
-    ap is_some found.1.found ∙ sym (has-seated p.values test p.order.entries c.self.invariant.taken) ∙ ap (λ x. is_some (lookup test x.entries)) c.self.view_is
-
-pub returns-then-is_some-clause-entries : goal.returns-then-is_some-clause-entries
-returns-then-is_some-clause-entries g c =
-    let p = c.self.inside in
-    let test = nat_eq c.args.key in
-    let found = first_by c.args.key p.order.entries c.first_slot.result (sym c.is_some.ensures ∙ c.if-is_some.true) c.first_slot.ensures in
-    sym c.self.view_is ∙ ap (λ es. lru_cache (seated p.values es) p.order.cap) (sym found.1.stays)
-    ∙ ap (λ es. lru_cache es p.order.cap) (promoted-seated p.values test p.order.entries c.self.invariant.taken)
-    ∙ ap (λ x. lru_cache (promoted test x.entries) x.cap) c.self.view_is
