@@ -47,6 +47,7 @@ impl<H: Copy, W> PackedLog<H, W> {
     }
 
     /// Makes room for a record more before the cursor, to which those behind it give way.
+    #[inline(always)]
     pub fn reserve(&mut self) -> Result<(), AllocError>
         ensures before { self.new.before ≡ self.old.before }
         ensures behind { self.new.behind ≡ self.old.behind }
@@ -105,6 +106,7 @@ impl<H: Copy, W> PackedLog<H, W> {
     }
 
     /// The last record before the cursor.
+    #[inline(always)]
     pub fn newest(&self) -> Option<LentRecord<'_, H, W>>
         ensures first { option_map record_of result ≡ slice_get self.now.before 0 }
         ensures few { IfSome result (λ lent. length (bytes_of (record_of lent)) < 2 ^ 16) }
@@ -118,6 +120,7 @@ impl<H: Copy, W> PackedLog<H, W> {
     }
 
     /// The first record behind the cursor.
+    #[inline(always)]
     pub fn next(&self) -> Option<LentRecord<'_, H, W>>
         ensures first { option_map record_of result ≡ slice_get self.now.behind 0 }
         ensures few { IfSome result (λ lent. length (bytes_of (record_of lent)) < 2 ^ 16) }

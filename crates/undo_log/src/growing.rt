@@ -5,6 +5,8 @@ use std::alloc::AllocError;
 
 /// Makes room for so many items more. Where it lacks, the vector grows by a quarter at least: what is kept for long has
 /// little room to spare.
+// Inlined, since there mostly is room.
+#[inline(always)]
 pub fn reserve<T>(items: &mut Vec<T>, count: usize) -> Result<(), AllocError>
     ensures items { items.new.items ≡ items.old.items }
     ensures len { vec_len items.new ≡ vec_len items.old }
@@ -14,5 +16,17 @@ pub fn reserve<T>(items: &mut Vec<T>, count: usize) -> Result<(), AllocError>
     if count <= items.capacity() - items.len() {
         return Ok(());
     }
+    grow(items, count)
+}
+
+// Where there is none.
+#[cold]
+#[inline(never)]
+fn grow<T>(items: &mut Vec<T>, count: usize) -> Result<(), AllocError>
+    ensures items { items.new.items ≡ items.old.items }
+    ensures len { vec_len items.new ≡ vec_len items.old }
+    ensures ok { OnOk result (vec_len items.new + count ≤ vec_capacity items.new) }
+    ensures capacity { vec_capacity items.old ≤ vec_capacity items.new }
+{
     items.reserve_exact(count.max(items.len() / 4 + 4))
 }

@@ -52,6 +52,7 @@ impl KeptSteps {
     }
 
     /// Makes room for one more, to which those that can be made again give way.
+    #[inline(always)]
     pub(crate) fn reserve(&mut self) -> Result<(), AllocError>
         ensures undo { self.new.undo ≡ self.old.undo }
         ensures redo { self.new.redo ≡ self.old.redo }
@@ -115,6 +116,7 @@ impl KeptSteps {
     }
 
     /// The newest step that can be undone.
+    #[inline(always)]
     pub(crate) fn newest(&self) -> Option<Step<'_>>
         ensures { MatchOption result (self.now.undo ≡ []) (λ step. IsFirst step self.now.undo) }
     {
@@ -122,6 +124,7 @@ impl KeptSteps {
     }
 
     /// The next one that can be made again.
+    #[inline(always)]
     pub(crate) fn next(&self) -> Option<Step<'_>>
         ensures { MatchOption result (self.now.redo ≡ []) (λ step. IsFirst step self.now.redo) }
     {
@@ -317,15 +320,26 @@ fn told_of_bytes(change: ByteChange<'_>, count: usize) -> Touched
 }
 
 // The newest step is turned over. A short one stays as it is.
+#[inline(always)]
 fn turn_newest(alloc: Global, log: &mut PackedLog<Head, NamedEntry>)
     ensures before { entries_of log.new.before ≡ with_first turned_over (entries_of log.old.before) }
     ensures behind { log.new.behind ≡ log.old.behind }
 {
     if is_newest_whole(log) {
-        let mut entry = log.replace_newest(NamedEntry::empty(alloc));
-        entry.turn_over();
-        put_newest(log, entry);
+        turn_whole(alloc, log);
     }
+}
+
+// So is a whole one. Never inlined, since most steps are short.
+#[inline(never)]
+fn turn_whole(alloc: Global, log: &mut PackedLog<Head, NamedEntry>)
+    requires { is_whole (slice_get log.old.before 0) ≡ true }
+    ensures before { entries_of log.new.before ≡ with_first turned_over (entries_of log.old.before) }
+    ensures behind { log.new.behind ≡ log.old.behind }
+{
+    let mut entry = log.replace_newest(NamedEntry::empty(alloc));
+    entry.turn_over();
+    put_newest(log, entry);
 }
 
 // The newest step is a whole one, if there is memory for it.

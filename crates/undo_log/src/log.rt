@@ -97,6 +97,7 @@ impl UndoLog {
     }
 
     /// Makes room for so many changes more, of one edit.
+    #[inline(always)]
     pub(crate) fn reserve(&mut self, count: usize) -> Result<(), AllocError>
         ensures lists { self.new.lists ≡ self.old.lists }
         ensures place { OnOk result (self.new.place ≡ true) }
@@ -259,6 +260,7 @@ impl UndoLog {
     }
 
     /// The next step in a direction: to go backwards is to undo.
+    #[inline(always)]
     pub(crate) fn next_step(&self, direction: Direction) -> Option<Step<'_>>
         ensures next { MatchOption result (next_entries direction self.now.lists ≡ [])
             (λ step. IsHead (step_entry step).entry (next_entries direction self.now.lists)) }

@@ -23,6 +23,7 @@ pub enum Step<'a> {
 
 impl<'a> Step<'a> {
     /// The step that a record of the log is.
+    #[inline(always)]
     pub(crate) fn of(lent: LentRecord<'a, Head, NamedEntry>) -> Step<'a>
         requires { length (bytes_of (record_of lent)) < 2 ^ 16 }
         ensures entry { step_entry result ≡ entry_of (record_of lent.entry) }

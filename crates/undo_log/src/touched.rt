@@ -33,23 +33,33 @@ pub enum Touched {
 impl Touched {
     /// So many of the newest changes are told. Where some were told before, as from edit to edit, nothing has to be
     /// given back.
+    #[inline(always)]
     pub(crate) fn be_newest(&mut self, count: usize)
         ensures { self.new ≡ Newest count }
     {
         match self {
             Touched::Newest(told) => *told = count,
-            _ => *self = Touched::Newest(count),
+            _ => self.put(Touched::Newest(count)),
         }
     }
 
     /// The entry that was undone last is told.
+    #[inline(always)]
     pub(crate) fn be_undone(&mut self)
         ensures { self.new ≡ Undone }
     {
         match self {
             Touched::Undone => {}
-            _ => *self = Touched::Undone,
+            _ => self.put(Touched::Undone),
         }
+    }
+
+    // Something else is told. Never inlined, since what was told before may have to be given back.
+    #[inline(never)]
+    fn put(&mut self, other: Touched)
+        ensures { self.new ≡ other }
+    {
+        *self = other;
     }
 
     /// The newest step is about to be forgotten, and where it may be told of, it is kept if it is.

@@ -165,6 +165,7 @@ pub fn locks_of(frames: &BufferPool<Frame>, block: u16) -> u8
 }
 
 /// Whether each frame has a locked block, so that no other can come into memory.
+#[inline(never)]
 pub fn all_locked(frames: &BufferPool<Frame>) -> bool
     ensures { result ≡ all_frames_locked frames.now.cap (residents frames.now.entries) }
 {

@@ -91,6 +91,7 @@ impl<S: Store> FileBlocks<S> {
     }
 
     // Changes the body of a block in memory in place: from now on the file may have another.
+    #[inline(always)]
     fn put_bytes(&mut self, change: ByteChange<'_>)
         requires loaded { is_loaded self.old change.block.0 ≡ true }
         requires takes { AllowsPart (byte_part change) (block_at self.old.document change.block.0).body }

@@ -102,6 +102,8 @@ impl<S: Store> FileBlocks<S> {
     }
 
     /// Brings a live block into memory, if it isn't shut out, and makes it the most recently used.
+    // Inlined, since most blocks are the one that was used last, for which it is a comparison.
+    #[inline(always)]
     pub(crate) fn load_live(&mut self, handle: VmHandle) -> Result<(), Fault>
         requires { is_live self.old.document handle.0 ≡ true }
         ensures keeps { KeepsBlocks S.facts self.old self.new }
@@ -132,6 +134,7 @@ impl<S: Store> FileBlocks<S> {
 
     // Brings a block into memory that isn't there, and frees a frame for it if each one is taken. Refused as `fetch`
     // is.
+    #[inline(never)]
     fn bring(&mut self, handle: VmHandle) -> Result<(), Fault>
         // Asked of the caller.
         requires live { is_live self.old.document handle.0 ≡ true }
