@@ -7,6 +7,7 @@ ghost use Rattle.geos_model.specs.ElementArray.{all_distinct};
 ghost use Rattle.geos_model.specs.Reply.{found};
 ghost use Rattle.document_file.specs.Disk.{IsFileDocument, IsCrashConsistent};
 ghost use Rattle.document_file.specs.Documents.{has_one_directory};
+ghost use Rattle.document_file.specs.Listing.{IsListed};
 ghost use Rattle.vm_blocks.specs.Bodies.{body_value};
 ghost use Rattle.vm_blocks.specs.State.{is_resident, locks_of, locked_count, as_file};
 ghost use Rattle.vm_blocks.specs.Keeping.{is_full, is_loaded};
@@ -240,6 +241,14 @@ impl<S: Store> FileBlocks<S> {
         ensures { IfOk result (λ handles. map (λ h. h.0) handles.items ≡ keys self.now.document.blocks) }
     {
         self.file.list()
+    }
+
+    /// Puts the live handles, rising, in place of those that are there. No memory is taken where they have room; where
+    /// it lacks, the first of them are there.
+    pub fn list_into(&self, handles: &mut Vec<VmHandle>) -> Result<(), AllocError>
+        ensures { IsListed (keys self.now.document.blocks) handles.old handles.new result }
+    {
+        self.file.list_into(handles)
     }
 
     /// The least handle that isn't live.
