@@ -20,7 +20,7 @@ returns-in_err-push c =
     let before = c.loop-i.invariant.0 in
     let more = listed_front c.loop-i.i 1 places in
     let first : map (λ h. h.0) c.push.new.self.items ++ more.0 ≡ handles_from 1 places =
-        ap (λ hs. map (λ h. h.0) hs ++ more.0) c.in_err-push.ensures.items ∙ ap (λ hs. hs ++ more.0) before ∙ more.1 in
+    ap (λ hs. map (λ h. h.0) hs ++ more.0) c.in_err-push.ensures.items ∙ ap (λ hs. hs ++ more.0) before ∙ more.1 in
     let short = listed_short places c.loop-i.i c.loop-i-test.true _ refl (sym c.if-is_some.ensures) c.loop-i.handles.items before in
     let counted = c.loop-i.handles.ok.0 in let room = c.loop-i.invariant.1 in let full = c.in_err-push.ensures.full in
     let lacked : vec_capacity c.args.handles.now < length (handles_from 1 places) = omega (arith, short, counted, room, full) in
