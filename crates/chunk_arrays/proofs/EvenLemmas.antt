@@ -1,50 +1,20 @@
 -- An element of an array whose elements have one size, in whose place as many bytes come.
-use Rattle.std.proofs.Common.{◌≡◌, ℕ, ◌+◌, ◌<◌, ◌==◌, List, [], ◌∷◌, ◌++◌, None, length, take, drop, get_or, true, false, inl, inr, refl, sym, ap, ap₂, subst, ◌∙◌, arith, append_assoc, append-nil, length-append, length-drop, length-take-le, take_at, drop_at, eq-eqb, eqb-true}
+use Rattle.std.proofs.Common.{◌≡◌, ℕ, ◌+◌, ◌<◌, ◌==◌, List, [], ◌∷◌, ◌++◌, None, length, take, drop, get_or, true, false, inl, inr, refl, sym, ap, ap₂, subst, ◌∙◌, arith, append_assoc, append-nil, length-append, length-drop, length-take-le, take_at, eq-eqb, eqb-true}
 use Rattle.std.proofs.lemmas.Bool.{cases_Bool, and_from, or_right, true≢false}
-use Rattle.std.proofs.lemmas.List.{take-append-drop, drop-drop, take_all, drop_all}
+use Rattle.std.proofs.lemmas.List.{take-append-drop, drop-drop}
 use Rattle.std.proofs.lemmas.List.Folds.{list_all_at}
 use Rattle.geos_model.specs.Words.{word}
 use Rattle.geos_model.specs.Array.{Array, array_bytes, array_start, is_even}
 use Rattle.geos_model.specs.ArrayEdits.{with_elements}
 use Rattle.geos_model.proofs.Arrays.{joined, all_even, same_bytes-refl, table-even}
 use Rattle.geos_model.proofs.ArrayEdits.{even_with}
-use Rattle.chunk_edits.specs.Patching.{PatchPiece, Keep, Put, patched, ArePiecesOf, PatchLeads}
+use Rattle.chunk_edits.specs.Patching.{PatchPiece, Keep, Put, PatchLeads}
 use Rattle.chunk_edits.specs.Runs.{AreRuns}
-use Rattle.chunk_edits.proofs.PatchingLemmas.{peak-cons}
 use Rattle.chunk_arrays.specs.Reading.{element_place, elements_start}
+use Rattle.chunk_arrays.proofs.LedPieces.{middle-leads}
 use Rattle.chunk_arrays.proofs.PlaceLemmas.{bytes-front, length-front, front_of, joined_parts, drop-place, place-step, place-within, one-is}
 use Rattle.chunk_arrays.proofs.RewritingLemmas.{joined-splice, length-spliced}
 use Rattle.chunk_arrays.proofs.RunsLemmas.{length_between, runs_are}
-
--- Some bytes in the middle are others then.
-middle-leads : (a b c x : List ℕ) → PatchLeads (Keep (length a) ∷ Put b x ∷ Keep (length c) ∷ []) (a ++ (b ++ c)) (a ++ (x ++ c))
-middle-leads a b c x =
-    let p : List PatchPiece = Put b x ∷ Keep (length c) ∷ [] in
-    let q : List PatchPiece = Keep (length c) ∷ [] in
-    let first : take (length a) (a ++ (b ++ c)) ≡ a = take_at a (b ++ c) (length a) refl in
-    let rest : drop (length a) (a ++ (b ++ c)) ≡ b ++ c = drop_at a (b ++ c) (length a) refl in
-    let next : take (length b) (b ++ c) ≡ b = take_at b c (length b) refl in
-    let last : drop (length b) (b ++ c) ≡ c = drop_at b c (length b) refl in
-    let all : take (length c) c ≡ c = take_all (length c) c (omega arith) in
-    let none : drop (length c) c ≡ [] = drop_all (length c) c (omega arith) in
-    let end : ArePiecesOf q c = (ap length all, none) in
-    let back : ArePiecesOf p (b ++ c) = (next, subst (ArePiecesOf q) (sym last) end) in
-    let from = length-append a (b ++ c) in
-    let from_behind = length-append b c in
-    let to = length-append a (x ++ c) in
-    let to_behind = length-append x c in
-    let high = peak-cons (Keep (length a)) p in
-    let low = peak-cons (Put b x) q in
-    let least = peak-cons (Keep (length c)) [] in
-    record {
-      stands = (ap length first, subst (ArePiecesOf p) (sym rest) back);
-      gives =
-          ap₂ (λ (u v : List ℕ). u ++ patched p v) first rest
-          ∙ ap (λ (v : List ℕ). a ++ (x ++ patched q v)) last
-          ∙ ap₂ (λ (u v : List ℕ). a ++ (x ++ (u ++ v))) all none
-          ∙ ap (λ (v : List ℕ). a ++ (x ++ v)) (append-nil c);
-      peak = omega arith;
-    }
 
 -- each element has the size
 element-even : (a : Array) (i : ℕ) → is_even a ≡ true → (a.size == 0) ≡ false → i < length a.elements → length (get_or a.elements i []) ≡ a.size

@@ -1,5 +1,7 @@
 pub mod DraftingLemmas
 pub mod EvenLemmas
+pub mod LedPieces
+pub mod SplicedLemmas
 pub mod RewritingLemmas
 pub mod TableLemmas
 pub mod RewrittenLemmas

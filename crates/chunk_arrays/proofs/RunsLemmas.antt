@@ -169,7 +169,7 @@ module _ (a : Array) (first : List ℕ) (from to : ℕ) (ys : List (List ℕ)) (
 
     module _ (old_low : length (array_bytes a) < 65536) (new_low : length (array_bytes new) < 65536) where
       -- elements of one size, and as many, have as many bytes together
-      level_even : (a.size == 0) ≡ false → length new.elements ≡ length a.elements → length_between a.elements from to ≡ length (joined ys)
+      pub level_even : (a.size == 0) ≡ false → length new.elements ≡ length a.elements → length_between a.elements from to ≡ length (joined ys)
       level_even one level =
           let old = length-joined a.size a.elements (all_even a even one) in
           let all = length-joined a.size new.elements (all_even new even_new one) ∙ ap (λ (n : ℕ). n * a.size) level in

@@ -1,4 +1,5 @@
 pub mod Drafting
+pub mod Even
 pub mod Rewriting
 pub mod Parts
 pub mod Reading

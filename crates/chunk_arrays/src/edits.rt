@@ -1,18 +1,19 @@
 //! Edits of an array, each as a patch of all bytes of a chunk, and where it changes them.
-ghost use Rattle.std.specs.Prelude.{◌≡◌, ◌+◌, ◌++◌, None, MatchResult, length};
+ghost use Rattle.std.specs.Prelude.{◌≡◌, ◌≤◌, ◌+◌, ◌==◌, ◌++◌, None, true, false, MatchResult, length};
 ghost use Rattle.geos_model.specs.Refusal.{first_refusal};
 ghost use Rattle.geos_model.specs.Array.{array_bytes};
 ghost use Rattle.geos_model.specs.ArrayEdits.{array_in, new_array, element_inserted, element_set, element_resized, elements_deleted, array_zeroed, on_array, create_conditions, insert_conditions, set_conditions, resize_conditions, delete_conditions, too_long, is_missized};
 ghost use Rattle.geos_model.specs.Bytes.{resized};
+ghost use Rattle.geos_model.specs.Heap.{longest_chunk};
 ghost use Rattle.chunk_arrays.specs.Rewriting.{bytes_of};
 ghost use Rattle.chunk_edits.specs.Splicing.{RefusesToBuild};
 ghost use Rattle.chunk_arrays.specs.Replacing.{ReplacesAt, RefusesToReplace};
 
-use crate::even::set_even;
+use crate::even::{set_even, splice_even};
 use crate::rewriting::{NewElement, push_header, rewrite};
-use crate::view::check;
+use crate::view::{View, check};
 use chunk_edits::ArrayPatch;
-use geos_model::Fault;
+use geos_model::{Fault, LONGEST_CHUNK};
 use lmem_heap::KnownBytes;
 use std::alloc::Global;
 
@@ -57,6 +58,9 @@ pub fn insert(
     let at = i as usize;
     if at > view.count() || is_missized(view.element_size(), element) {
         return Err(Fault::Range);
+    }
+    if is_even(&view) {
+        return splice_even(alloc, &view, at, at, element, 1);
     }
     rewrite(alloc, &view, &[], at, at, Some(whole(element)))
 }
@@ -120,6 +124,9 @@ pub fn delete(alloc: Global, bytes: &KnownBytes<'_>, i: u32, k: u32) -> Result<A
     if to > view.count() {
         return Err(Fault::NoElement);
     }
+    if is_even(&view) {
+        return splice_even(alloc, &view, from, to, &[], 0);
+    }
     rewrite(alloc, &view, &[], from, to, None)
 }
 
@@ -139,6 +146,14 @@ pub fn is_missized(size: usize, element: &[u8]) -> bool
     ensures { result ≡ is_missized size element.now }
 {
     size != 0 && element.len() != size
+}
+
+/// Whether an array has elements of one size, and no more bytes than a chunk can have.
+fn is_even(view: &View<'_>) -> bool
+    ensures size { result ≡ true → (view.now.array.size == 0) ≡ false }
+    ensures short { result ≡ true → length (array_bytes view.now.array) ≤ longest_chunk }
+{
+    view.element_size() != 0 && view.bytes().len() <= LONGEST_CHUNK
 }
 
 /// An element of these bytes.
