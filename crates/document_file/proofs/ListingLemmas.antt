@@ -1,10 +1,10 @@
 -- Tables of places as listings.
-use Rattle.std.proofs.Common.{◌≡◌, ℕ, zero, suc, ◌+◌, ◌-◌, ◌<◌, ◌≤◌, ◌≢◌, ◌==◌, ◌&&◌, Bool, true, false, cond, nat_lt, List, [], ◌∷◌, ◌++◌, All, map, find, take, drop, set, length, get_or, Option, None, Some, is_some, refl, sym, ap, ◌∙◌, arith, add_assoc, drop-cons, length-set, inl, inr}
+use Rattle.std.proofs.Common.{◌≡◌, ℕ, zero, suc, ◌+◌, ◌-◌, ◌<◌, ◌≤◌, ◌≢◌, ◌==◌, ◌&&◌, Bool, true, false, cond, nat_lt, List, [], ◌∷◌, ◌++◌, All, map, find, take, drop, set, length, get_or, Option, None, Some, Result, Ok, Err, IsErr, Vec, Global, vec_capacity, is_some, refl, sym, ap, ◌∙◌, arith, add_assoc, drop-cons, length-set, inl, inr}
 use Rattle.std.specs.Option.{option_map}
 use Rattle.std.specs.FinMap.{get, keys}
 use Rattle.std.proofs.Math.Bool.{and-false}
 use Rattle.std.proofs.lemmas.Bool.{lt-ltb, le-ltb, eq-eqb, ne_eqb, cases_lt}
-use Rattle.std.proofs.lemmas.List.{take_more, drop_more, length-take-le, append-nil, map-append, drop_all, get_or-set_other}
+use Rattle.std.proofs.lemmas.List.{take_more, drop_more, length-take-le, length-append, length-map, append-nil, map-append, drop_all, get_or-set_other}
 use Rattle.geos_model.specs.Document.{Block, next_handle, most_blocks}
 use Rattle.geos_model.specs.Reply.{found}
 use Rattle.file_format.specs.declared.file.Extent.{Extent}
@@ -13,7 +13,7 @@ use Rattle.geos_model.proofs.Table.{table_entries, first_gap}
 use Rattle.geos_model.proofs.Tables.{slot_at, slot_at_past, keys-table_map, next_handle-table, first_gap_none, entries-table_map}
 use Rattle.document_file.specs.Calls.{IsPut}
 use Rattle.document_file.specs.Documents.{block_in, blocks_in}
-use Rattle.document_file.specs.Listing.{AreBounds, IsWidened, found_in}
+use Rattle.document_file.specs.Listing.{AreBounds, IsListed, IsWidened, found_in}
 use Rattle.document_file.specs.Writing.{placed_at, with_places, without_place, without_places}
 use Rattle.document_file.specs.declared.listing.Bounds.{Bounds}
 use Rattle.document_file.specs.declared.member.Member.{Member}
@@ -180,6 +180,29 @@ listed_free places i l o e free old before =
     before ∙ sym (append-nil (handles_from 1 (take i places)))
     ∙ ap (λ (b : Bool). handles_from 1 (take i places) ++ cond b ((1 + i) ∷ []) []) (sym free)
     ∙ sym (handles_from-more places i l o e)
+
+-- what a front of the places lists begins the listing of all
+pub listed_front : (n h : ℕ) (places : List (Option Place)) → (rest : List ℕ) × (handles_from h (take n places) ++ rest ≡ handles_from h places)
+listed_front zero h places = (handles_from h places, refl)
+listed_front (suc n) h [] = ([], refl)
+listed_front (suc n) h (None ∷ places) = listed_front n (h + 1) places
+listed_front (suc n) h (Some place ∷ places) = let more = listed_front n (h + 1) places in (more.0, ap (λ (t : List ℕ). h ∷ t) more.1)
+
+-- and before a place that has a block it isn't yet all
+pub listed_short : (places : List (Option Place)) (i : ℕ) → i < length places → (o : Option Place) → o ≡ get_or places i None → is_some o ≡ true → (handles : List VmHandle)
+    → map (λ h. h.0) handles ≡ handles_from 1 (take i places) → length handles < length (handles_from 1 places)
+listed_short places i l o e full handles before =
+    let more = listed_front (i + 1) 1 places in
+    let one : handles_from 1 (take (i + 1) places) ≡ handles_from 1 (take i places) ++ ((1 + i) ∷ []) = handles_from-more places i l o e ∙ ap (λ (b : Bool). handles_from 1 (take i places) ++ cond b ((1 + i) ∷ []) []) full in
+    let longer : length (handles_from 1 (take (i + 1) places)) ≡ length (handles_from 1 (take i places)) + 1 = ap length one ∙ length-append (handles_from 1 (take i places)) ((1 + i) ∷ []) in
+    let whole : length (handles_from 1 places) ≡ length (handles_from 1 (take (i + 1) places)) + length more.0 = ap length (sym more.1) ∙ length-append (handles_from 1 (take (i + 1) places)) more.0 in
+    let same : length handles ≡ length (handles_from 1 (take i places)) = sym (length-map handles (λ h. h.0)) ∙ ap length before in
+    omega (arith, longer, whole, same)
+
+-- where memory lacked
+pub listed_part : {T E : Type 0} (live : List ℕ) (old new : Vec VmHandle Global) (result : Result T E) → IsErr result → (rest : List ℕ) × (map (λ h. h.0) new.items ++ rest ≡ live) → vec_capacity old < length live → IsListed live old new result
+listed_part live old new (Ok done) is first full = absurd (cc is)
+listed_part live old new (Err fault) is first full = record { all = tt; first = first; room = λ all. absurd (omega (arith, full, all)) }
 
 -- One place more of a search.
 

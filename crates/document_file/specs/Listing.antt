@@ -1,5 +1,6 @@
 -- Where a table has blocks.
-use Rattle.std.specs.Prelude.{◌≡◌, ◌≤◌, ◌-◌, ◌<◌, ℕ, ◌==◌, ◌&&◌, nat_lt, List, [], All, Option, None, true, false, is_some, length, get_or, find}
+use Rattle.std.specs.Prelude.{◌≡◌, ◌≤◌, ◌-◌, ◌<◌, ◌++◌, ℕ, ◌==◌, ◌&&◌, nat_lt, List, [], All, Option, None, Result, IsOk, OnOk, OnErr, Vec, true, false, is_some, length, map, get_or, find, vec_capacity}
+use Rattle.std.specs.Global.{Global}
 use Rattle.std.specs.Option.{option_map}
 use Rattle.geos_model.specs.Document.{most_blocks}
 use Rattle.geos_model.specs.declared.handle.VmHandle.{VmHandle}
@@ -22,6 +23,14 @@ pub record IsWidened (puts : List Member) (removals : List VmHandle) (old new : 
   pub reached : All (λ p. p.handle.0 ≤ new.end) puts
   pub alone : puts ≡ [] → new.end ≡ old.end
   pub within : new.end ≤ most_blocks
+
+-- These handles stand in a lent vector in place of what was there; where memory lacked, the first of them. It lacks only
+-- where the vector hadn't room for all.
+pub record IsListed {T E : Type 0} (live : List ℕ) (old new : Vec VmHandle Global) (result : Result T E)
+    : Type 0 where
+  pub all : OnOk result (map (λ h. h.0) new.items ≡ live)
+  pub first : OnErr result ((rest : List ℕ) × (map (λ h. h.0) new.items ++ rest ≡ live))
+  pub room : length live ≤ vec_capacity old → IsOk result
 
 -- the least handle above the start whose block has the user ID
 abbrev pub found_in : List (Option Place) → ℕ → ℕ → Option ℕ

@@ -12,6 +12,7 @@ ghost use Rattle.document_file.specs.Disk.{FileState, ContentStands, SameUnlessC
 ghost use Rattle.document_file.specs.Effects.{IsFile, IsNewFile, IsTurned, KeepsSlot, SameStore, OnlyReads, LeavesDocument, IsCommit, Fails, NoFault, IsDamage, IsWorn};
 ghost use Rattle.document_file.specs.Documents.{has_checksums, has_one_directory, sequence_in};
 ghost use Rattle.document_file.specs.Fronts.{first_word};
+ghost use Rattle.document_file.specs.Listing.{IsListed};
 ghost use Rattle.document_file.specs.Images.{IsRawImage};
 ghost use Rattle.document_file.specs.Making.{first_directory, first_file, first_open, no_blocks};
 ghost use Rattle.file_format.specs.Reading.{IsResourceFault, IsOpenRefusal};
@@ -21,7 +22,7 @@ use crate::commit::{commit_pending, commit_summed, saved_beside};
 use crate::copying::copy_document;
 use crate::directory::{pending_directory_of, saved_anew};
 use crate::front::read_first_word;
-use crate::listing::{Bounds, bounds_of, find_from, first_free, live_handles, tightened, widened};
+use crate::listing::{Bounds, bounds_of, find_from, first_free, list_live, tightened, widened};
 use crate::making::make_empty;
 use crate::member::Member;
 use crate::placing::{follow_commit, known_space};
@@ -238,7 +239,17 @@ impl<S: Store> VmFile<S> {
     pub fn list(&self) -> Result<Vec<VmHandle>, AllocError>
         ensures { IfOk result (λ handles. map (λ h. h.0) handles.items ≡ keys self.now.document.blocks) }
     {
-        live_handles(self.alloc, &self.live.places[..self.bounds.end])
+        let mut handles = Vec::new(self.alloc);
+        self.list_into(&mut handles)?;
+        Ok(handles)
+    }
+
+    /// Puts the live handles, rising, in place of those that are there. No memory is taken where they have room; where
+    /// it lacks, the first of them are there.
+    pub fn list_into(&self, handles: &mut Vec<VmHandle>) -> Result<(), AllocError>
+        ensures { IsListed (keys self.now.document.blocks) handles.old handles.new result }
+    {
+        list_live(&self.live.places[..self.bounds.end], handles)
     }
 
     /// The least handle above `start` whose block has this user ID.

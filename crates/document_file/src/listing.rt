@@ -4,12 +4,12 @@ ghost use Rattle.std.specs.Option.{option_map};
 ghost use Rattle.geos_model.specs.Document.{most_blocks};
 ghost use Rattle.geos_model.proofs.Table.{table_entries, first_gap};
 ghost use Rattle.document_file.specs.Calls.{IsPut};
-ghost use Rattle.document_file.specs.Listing.{AreBounds, IsWidened, found_in};
+ghost use Rattle.document_file.specs.Listing.{AreBounds, IsListed, IsWidened, found_in};
 
 use crate::member::Member;
 use crate::table::Place;
 use geos_model::VmHandle;
-use std::alloc::{AllocError, Global};
+use std::alloc::AllocError;
 
 /// Where a table has blocks, so that a listing doesn't go through all its places.
 #[derive(Clone, Copy)]
@@ -110,18 +110,18 @@ pub fn widened(bounds: Bounds, puts: &[Member], removals: &[VmHandle]) -> Bounds
     }
 }
 
-/// The handles of the blocks of a table.
-pub fn live_handles(alloc: Global, places: &[Option<Place>]) -> Result<Vec<VmHandle>, AllocError>
+/// Puts the handles of the blocks of a table in place of those that are there. No memory is taken where they have room.
+pub fn list_live(places: &[Option<Place>], handles: &mut Vec<VmHandle>) -> Result<(), AllocError>
     requires { length places.now ≤ most_blocks }
-    ensures { IfOk result (λ handles. map (λ h. h.0) handles.items ≡ map (λ e. e.0) (table_entries 1 1 places.now)) }
+    ensures { IsListed (map (λ e. e.0) (table_entries 1 1 places.now)) handles.old handles.new result }
 {
-    let mut handles = Vec::new(alloc);
+    handles.clear();
     for (i, place) in places.iter().enumerate() {
         if place.is_some() {
             handles.push(VmHandle(i as u16 + 1))?;
         }
     }
-    Ok(handles)
+    Ok(())
 }
 
 /// The least handle above a start whose block has this user ID.

@@ -1,9 +1,9 @@
-use Rattle.std.proofs.Common.{◌≡◌, ℕ, map, take, ap, sym, ◌∙◌}
+use Rattle.std.proofs.Common.{◌≡◌, ℕ, List, map, take, ap, sym, subst, ◌∙◌}
 use Rattle.std.specs.FinMap.{keys}
-use Rattle.std.proofs.lemmas.Result.{IfOk-weaker}
+use Rattle.document_file.specs.Listing.{IsListed}
 use Rattle.document_file.specs.declared.table.Place.{Place}
 use Rattle.document_file.proofs.ListingLemmas.{handles_from, entries_past, keys_shown}
-use Rattle.document_file.proofs.file.VmFile.list.Goals as goal
+use Rattle.document_file.proofs.file.VmFile.list_into.Goals as goal
 
 pub returns : goal.returns
 returns g c =
@@ -14,4 +14,4 @@ returns g c =
     ∙ ap (map (λ (e : ℕ × Place). e.0)) (entries_past i.bounds.end 1 places c.self.invariant.bounded.past)
     ∙ sym (keys_shown (g.S.Store.facts i.store).content places i.live.map_block)
     ∙ ap (λ s. keys s.document.blocks) c.self.view_is in
-    IfOk-weaker c.live_handles.result _ _ (λ handles is. is ∙ listed) c.live_handles.ensures
+    subst (λ (live : List ℕ). IsListed live c.args.handles.now c.list_live.new.handles c.list_live.result) listed c.list_live.ensures
