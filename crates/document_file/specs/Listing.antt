@@ -24,16 +24,9 @@ pub record IsWidened (puts : List Member) (removals : List VmHandle) (old new : 
   pub alone : puts ≡ [] → new.end ≡ old.end
   pub within : new.end ≤ most_blocks
 
-<<<<<<< HEAD
 -- These are the handles that stand in a lent vector in place of those before; where memory lacked, the first of them. It
 -- lacks only where the vector hadn't room for all.
 pub record IsListed {T E : Type 0} (live : List ℕ) (old new : Vec VmHandle Global) (result : Result T E) : Type 0 where
-=======
--- These handles stand in a lent vector in place of what was there; where memory lacked, the first of them. It lacks only
--- where the vector hadn't room for all.
-pub record IsListed {T E : Type 0} (live : List ℕ) (old new : Vec VmHandle Global) (result : Result T E)
-    : Type 0 where
->>>>>>> 0e26d26f86011ddf7efd37464d17ce6365b78246
   pub all : OnOk result (map (λ h. h.0) new.items ≡ live)
   pub first : OnErr result ((rest : List ℕ) × (map (λ h. h.0) new.items ++ rest ≡ live))
   pub room : length live ≤ vec_capacity old → IsOk result

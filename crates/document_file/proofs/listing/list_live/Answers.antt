@@ -1,8 +1,4 @@
-<<<<<<< HEAD
 use Rattle.std.proofs.Common.{◌≡◌, ◌<◌, ◌++◌, ℕ, List, map, length, take, refl, sym, ap, ◌∙◌, vec_capacity, arith}
-=======
-use Rattle.std.proofs.Common.{◌≡◌, ◌<◌, ◌++◌, map, length, refl, sym, ap, ◌∙◌, vec_capacity, arith}
->>>>>>> 0e26d26f86011ddf7efd37464d17ce6365b78246
 use Rattle.document_file.proofs.ListingLemmas.{handles_from, listed_full, listed_free, listed_front, listed_part, listed_short}
 use Rattle.document_file.proofs.listing.list_live.Goals as goal
 use Rattle.document_file.proofs.listing.list_live.Goals.{then-is_some+in_ok-push, else-is_some}
