@@ -1,5 +1,6 @@
 -- What is looked up of a session's document is a step of its machine.
-use Rattle.std.proofs.Common.{◌≡◌, ◌∙◌, ℕ, Bool, true, false, length, IsTrue, Vec, Global, Option, Some, None, Result, Ok, Err, ◌∷◌, map, refl, sym, ap, subst, inl, inr}
+use Rattle.std.proofs.Common.{◌≡◌, ◌∙◌, ℕ, Bool, true, false, length, IsTrue, List, Vec, Global, Option, Some, None, Result, Ok, Err, ◌∷◌, map, refl, sym, ap, subst, inl, inr}
+use Rattle.std.specs.FinMap.{keys}
 use Rattle.std.specs.Option.{option_map, option_map_or}
 use Rattle.std.specs.Prelude.{unwrap_or}
 use Rattle.std.specs.Result.{IsErrAnd}
@@ -10,9 +11,9 @@ use Rattle.geos_model.specs.Forms.{Form, form_asked, has_form}
 use Rattle.geos_model.specs.LookUps.{block_look_up, chain_look_up, places_look_up}
 use Rattle.geos_model.specs.Machine as machine
 use Rattle.geos_model.specs.Machine.{Machine, ManyBodies, Needs, Step, takes_memory, calls_store, command_conditions, done_by, look_up_needs}
-use Rattle.geos_model.specs.Reply.{Reply, BlockIs, NumberIs, PlacesAre, Refused, found, look_up_conditions, look_up, reply_by, reply_of}
+use Rattle.geos_model.specs.Reply.{Reply, BlockIs, NumberIs, PlacesAre, Refused, blocks_are, found, look_up_conditions, look_up, reply_by, reply_of}
 use Rattle.geos_model.specs.declared.fault.Fault.{Fault}
-use Rattle.geos_model.specs.declared.fault.Fault.TheVariants.{CacheFull}
+use Rattle.geos_model.specs.declared.fault.Fault.TheVariants.{CacheFull, Memory}
 use Rattle.geos_model.specs.declared.command.Command.{Command}
 use Rattle.geos_model.specs.declared.command.Command.TheVariants as commands
 use Rattle.geos_model.specs.declared.handle.VmHandle.{VmHandle}
@@ -113,6 +114,14 @@ at_rest {S} new old c reply same step = ((λ target. subst (λ (s : SessionState
 pub answered_err : {T : Type 0} (P : Reply → Type 0) (f : T → Reply) (s : Result T Fault) → P (reply_by f s) → (fault : Fault) → s ≡ Err fault → (m : Result GivenReply Fault) → IsErrAnd m (λ x. x ≡ fault) → P (reply_by reply_of m)
 answered_err P f s looks fault was (Ok y) is = absurd is
 answered_err {T} P f s looks fault was (Err x) is = subst P (ap (λ (r : Result T Fault). reply_by f r) was ∙ ap Refused (sym is)) looks
+
+-- The live blocks are listed, or there is no memory for the list.
+
+pub blocks_listed : {S : Type 0} (s : SessionState S) (handles : List VmHandle) → map (λ h. h.0) handles ≡ keys s.document.blocks → StepsSo s commands.List (blocks_are handles)
+blocks_listed s handles is = ((λ target. inl (rw is refl)), refl)
+
+pub blocks_unlisted : {S : Type 0} (s : SessionState S) (m : Result GivenReply Fault) → m ≡ Err Memory → StepsSo s commands.List (reply_by reply_of m)
+blocks_unlisted s m is = rw is ((λ target. inr (record { fault = Memory; may = refl; says = refl; stays = refl })), refl)
 
 -- What is answered by a value, without a look into any block.
 

@@ -44,7 +44,7 @@ impl<S: Store> Session<S> {
     {
         match look_up {
             LookUp::List => {
-                self.lists.blocks = self.list()?;
+                self.blocks.list_into(&mut self.lists.blocks)?;
                 Ok(Reply::Blocks(&self.lists.blocks))
             }
             LookUp::Plain(asked) => self.plain(asked),

@@ -1,12 +1,11 @@
-use Rattle.std.proofs.Common.{ap, refl}
+use Rattle.std.proofs.Common.{Err, ap, map, refl, ◌∙◌}
+use Rattle.std.proofs.lemmas.Result.{err_from_is_err_and}
 use Rattle.geos_model.specs.Reply.{BytesAre, PlacesAre, blocks_are, chunks_are, reply_by, reply_of}
 use Rattle.geos_model.specs.LookUps.{places_look_up}
 use Rattle.geos_model.specs.declared.command.Command.TheVariants as commands
-use Rattle.geos_model.specs.Forms as forms
-use Rattle.doc_edits.proofs.Forms.{by_form}
 use Rattle.doc_edits.proofs.LookUps.{shown_ok}
 use Rattle.undo_log.proofs.Keeping.{kept_invariant}
-use Rattle.undo_log.proofs.LookUps.{StepsSo, along_chain_form, along_chain_looked, answered_err, at_rest, in_block_form, in_block_looked, places_steps, session_with, shows_err, shows_ok}
+use Rattle.undo_log.proofs.LookUps.{StepsSo, along_chain_form, along_chain_looked, answered_err, at_rest, blocks_listed, blocks_unlisted, in_block_form, in_block_looked, places_steps, session_with, shows_err, shows_ok}
 use Rattle.undo_log.proofs.session.Session.look_up.Goals as goal
 
 pub returns-in_err-prepared-in-InBlock : goal.returns-in_err-prepared-in-InBlock
@@ -111,14 +110,15 @@ returns-in_default-prepared g c =
 
 -- the list of blocks, and what is answered by a value
 
-pub returns-in_err-self-inside-in-List : goal.returns-in_err-self-inside-in-List
-returns-in_err-self-inside-in-List g c =
-    let steps = answered_err (StepsSo (session_with c.self.inside.blocks c.self.inside.log.lists) commands.List) (λ handles. blocks_are handles.items) c.list.result (c.list.ensures, by_form forms.Names (λ handles. blocks_are handles.items) (λ x. refl) c.list.result) _ c.in_err-self-inside-in-List.was c.from_residual.result c.from_residual.ensures.1 in
+pub returns-in_err-list_into-in-List : goal.returns-in_err-list_into-in-List
+returns-in_err-list_into-in-List g c =
+    let lacked = err_from_is_err_and c.from_residual.result c.from_residual.ensures.1 in
+    let steps = blocks_unlisted (session_with c.self.inside.blocks c.self.inside.log.lists) c.from_residual.result (lacked.1 ∙ ap Err lacked.2) in
     rw c.in-List.is ((refl, (λ _. tt), at_rest _ c.args.self.now commands.List _ c.self.view_is steps.0), record { leaves = tt; form = steps.1 })
 
-pub returns-in_ok-self-inside-in-List : goal.returns-in_ok-self-inside-in-List
-returns-in_ok-self-inside-in-List g c =
-    let steps = shown_ok (StepsSo (session_with c.self.inside.blocks c.self.inside.log.lists) commands.List) (λ handles. blocks_are handles.items) c.list.result (c.list.ensures, by_form forms.Names (λ handles. blocks_are handles.items) (λ x. refl) c.list.result) _ c.in_ok-self-inside-in-List.was (blocks_are c.deref.result.now) (ap blocks_are c.deref.ensures.value) in
+pub returns-in_ok-list_into-in-List : goal.returns-in_ok-list_into-in-List
+returns-in_ok-list_into-in-List g c =
+    let steps = blocks_listed (session_with c.self.inside.blocks c.self.inside.log.lists) c.deref.result.now (ap (map (λ h. h.0)) c.deref.ensures.value ∙ c.in_ok-list_into-in-List.ensures.all) in
     rw c.in-List.is ((refl, (λ _. tt), at_rest _ c.args.self.now commands.List _ c.self.view_is steps.0), record { leaves = tt; form = steps.1 })
 
 pub returns-in_err-self-inside-in-Places : goal.returns-in_err-self-inside-in-Places
