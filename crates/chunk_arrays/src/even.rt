@@ -90,7 +90,7 @@ pub(crate) fn splice_even(
     Ok(ArrayPatch { patch, runs })
 }
 
-/// The patch of an array's bytes that gives it this count, with these bytes in the place of those from `start` to `end`.
+/// The patch of an array's bytes that gives it this count, and these bytes in place of those from `start` to `end`.
 fn counted_patch(
     alloc: Global,
     bytes: &[u8],
