@@ -1,6 +1,7 @@
 -- Rows of the script's table: what is made of the words behind a name is what they mean.
-use Rattle.std.proofs.Common.{◌≡◌, ◌∙◌, ap, sym, subst, refl, ℕ, Bool, true, false, List, [], ◌∷◌, drop, Option, Some, None, Result, Ok, Err, inl, inr, if◌then◌else◌}
+use Rattle.std.proofs.Common.{◌==◌, ◌&&◌, ◌||◌, length, ◌≡◌, ◌∙◌, ap, sym, subst, refl, ℕ, Bool, true, false, List, [], ◌∷◌, drop, Option, Some, None, Result, Ok, Err, inl, inr, if◌then◌else◌}
 use Rattle.std.specs.Prelude.{IsTrue}
+use Rattle.std.proofs.lemmas.Bool.{and_parts, cases_Bool}
 use Rattle.std.specs.Option.{option_and_then, option_map}
 use Rattle.geos_model.specs.Script.{by_name, commands_by_name, operand, same_bytes, with_none, with_1, with_2, with_3, with_4, with_5}
 use Rattle.geos_model.proofs.Arrays.{same_bytes-is}
@@ -123,3 +124,28 @@ pub none_behind : (from : ℕ) (name : List ℕ) (operands : List (List ℕ)) �
     → ReadsAs command_has_bytes (named_from from name operands) (Err faults.BadCommand)
 unfolding named_from
 none_behind from name operands none = inl (refl, none)
+
+-- how many bytes a name has
+abbrev pub is_length : ℕ → Bool
+is_length n = n == 3 || n == 4 || n == 5 || n == 6 || n == 7 || n == 8 || n == 10 || n == 13
+
+abbrev have_lengths : List (List ℕ × (List (List ℕ) → Option Command)) → Bool
+have_lengths [] = true
+have_lengths (row ∷ rows) = is_length (length row.0) && have_lengths rows
+
+no_row : (name : List ℕ) (operands : List (List ℕ)) (rows : List (List ℕ × (List (List ℕ) → Option Command)))
+    → is_length (length name) ≡ false → have_lengths rows ≡ true → by_name name operands rows ≡ None
+no_row name operands [] differs all = refl
+no_row name operands (row ∷ rows) differs all =
+    let parts = and_parts (is_length (length row.0)) (have_lengths rows) all in
+    elim (cases_Bool (same_bytes name row.0)) [
+      | inl same ↦
+          let called : name ≡ row.0 = same_bytes-is name row.0 same in
+          cc (sym differs ∙ ap (λ (n : List ℕ). is_length (length n)) called ∙ parts.0)
+      | inr other ↦ ap (λ b. if b then row.1 operands else by_name name operands rows) other ∙ no_row name operands rows differs parts.1
+    ]
+
+-- a name of another length is in no row
+pub of_no_length : (name : List ℕ) (operands : List (List ℕ)) → is_length (length name) ≡ false → named_from 0 name operands ≡ None
+unfolding named_from
+of_no_length name operands differs = no_row name operands commands_by_name differs refl

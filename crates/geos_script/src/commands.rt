@@ -1,7 +1,7 @@
 //! The table of the commands: the name of each, its operands, and what makes it of words that spell these. A line is
 //! read by it, and a command printed.
 ghost use Rattle.std.specs.Prelude.{◌≡◌, ◌++◌, OnOk, OnErr, Some, drop, length};
-ghost use Rattle.geos_model.specs.Script.{block, bytes as spelled_bytes, chunk, is_set, same_bytes, with_5};
+ghost use Rattle.geos_model.specs.Script.{block, bytes as spelled_bytes, chunk, is_set, with_5};
 ghost use Rattle.geos_model.specs.declared.command.Command.TheVariants as commands;
 ghost use Rattle.geos_model.specs.declared.command.Edit.TheVariants as edits;
 ghost use Rattle.geos_model.specs.Script as script;
@@ -12,6 +12,7 @@ ghost use Rattle.geos_script.specs.Reading.{ReadsAs, command_has_bytes, putting}
 ghost use Rattle.geos_script.specs.Texts.{Extends};
 
 use crate::line::next_word;
+use crate::name::is;
 use crate::operands::{LastOperand, Operand, bytes_of, spells_bytes};
 use crate::shapes::{five, four, none, one, put, three, two};
 use crate::spare::Spare;
@@ -249,28 +250,34 @@ macro_rules! row_of {
     };
 }
 
-// Inlined, so that a name costs a compare or two of its length and its first bytes: a comparison of slices is a call
-// where the first bytes are the same.
-#[inline(always)]
-fn is(name: &[u8], text: &str) -> bool
-    ensures { result ≡ same_bytes name.now text.now }
+/// Puts the command that a name and the operands in the text behind it are in its place.
+// The rows are inlined for each length that a name has, so that few are left, whose names are numbers.
+pub(crate) fn command_of(
+    spare: &mut Spare,
+    place: &mut Command,
+    name: &[u8],
+    text: &[u8],
+) -> Result<(), Fault>
+    ensures { ReadsAs command_has_bytes (named_from 0 name.now (script.words text.now)) (putting result place.new) }
 {
-    let text = text.as_bytes();
-    if name.len() != text.len() {
-        return false;
+    match name.len() {
+        3 => from_blocks(spare, place, name, text),
+        4 => from_blocks(spare, place, name, text),
+        5 => from_blocks(spare, place, name, text),
+        6 => from_blocks(spare, place, name, text),
+        7 => from_blocks(spare, place, name, text),
+        8 => from_blocks(spare, place, name, text),
+        10 => from_blocks(spare, place, name, text),
+        13 => from_blocks(spare, place, name, text),
+        _ => Err(Fault::BadCommand),
     }
-    for i in 0..text.len() {
-        if name[i] != text[i] {
-            return false;
-        }
-    }
-    true
 }
 
-/// Puts the command that a name and the operands in the text behind it are in its place.
+/// The same by the rows from those of blocks on, which are all.
 // A part of the table after another, each inlined in the one before: a proof grows faster than a function's rows.
 #[tactic(none)]
-pub(crate) fn command_of(
+#[inline(always)]
+fn from_blocks(
     spare: &mut Spare,
     place: &mut Command,
     name: &[u8],

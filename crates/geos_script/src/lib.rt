@@ -4,6 +4,7 @@
 mod commands;
 mod hex_digits;
 mod line;
+mod name;
 mod operands;
 mod parser;
 mod replies;

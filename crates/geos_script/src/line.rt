@@ -5,8 +5,8 @@ ghost use Rattle.geos_script.specs.Making.{is_behind_word, is_no_word};
 
 use memchr::memchr3;
 
-/// How many bytes of a word are tested one by one: most words have fewer.
-const SHORT: usize = 8;
+/// How many bytes of a word are tested one by one, twice: most words have no more.
+const FEW: usize = 4;
 
 /// How many bytes at the front are blanks, or how many are none.
 #[inline(always)]
@@ -21,19 +21,36 @@ fn run_of(blank: bool, text: &[u8]) -> usize
 }
 
 /// How many bytes at the front are no blanks. A search by vectors costs more than a few bytes one by one, and less than
-/// many.
+/// many. The first four are tested without a loop, where there are so many.
 #[inline(always)]
 fn word_len(text: &[u8]) -> usize
     ensures within { result ≤ length text.now }
     ensures before { (k : ℕ) → k < result → script.is_blank (slice_index text.now k) ≡ false }
     ensures ends { result < length text.now → script.is_blank (slice_index text.now result) ≡ true }
 {
-    let front = text.len().min(SHORT);
-    let end = run_of(false, &text[..front]);
-    if end < SHORT {
+    if text.len() < FEW {
+        return run_of(false, text);
+    }
+    let end = run_of(false, &text[..FEW]);
+    if end < FEW {
         return end;
     }
-    SHORT + long_word_len(&text[SHORT..])
+    FEW + rest_len(&text[FEW..])
+}
+
+/// The same of what stands behind the first four bytes.
+#[inline(always)]
+fn rest_len(text: &[u8]) -> usize
+    ensures within { result ≤ length text.now }
+    ensures before { (k : ℕ) → k < result → script.is_blank (slice_index text.now k) ≡ false }
+    ensures ends { result < length text.now → script.is_blank (slice_index text.now result) ≡ true }
+{
+    let front = text.len().min(FEW);
+    let end = run_of(false, &text[..front]);
+    if end < FEW {
+        return end;
+    }
+    FEW + long_word_len(&text[FEW..])
 }
 
 // Never inlined, since it would set up its vectors for each word.
@@ -62,9 +79,20 @@ pub(crate) fn ends_word(text: &[u8]) -> bool
     matches!(text, [] | [b' ', ..])
 }
 
-/// A text from its first word on.
+/// A text from its first word on. Most begin with it.
 #[inline(always)]
 pub(crate) fn without_blanks(text: &[u8]) -> &[u8]
+    ensures words { script.words result.now ≡ script.words text.now }
+    ensures solid { 0 < length result.now → script.is_blank (slice_index result.now 0) ≡ false }
+{
+    match text {
+        [byte, ..] if !is_blank(*byte) => text,
+        _ => behind_blanks(text),
+    }
+}
+
+#[inline(never)]
+fn behind_blanks(text: &[u8]) -> &[u8]
     ensures words { script.words result.now ≡ script.words text.now }
     ensures solid { 0 < length result.now → script.is_blank (slice_index result.now 0) ≡ false }
 {
@@ -76,7 +104,7 @@ pub(crate) fn without_blanks(text: &[u8]) -> &[u8]
 pub(crate) fn has_no_word(text: &[u8]) -> bool
     ensures { result ≡ is_no_word (script.words text.now) }
 {
-    without_blanks(text).is_empty()
+    text.is_empty() || without_blanks(text).is_empty()
 }
 
 /// The next word, and what stands behind it.

@@ -116,6 +116,8 @@ fn next_number<const MOST: usize>(text: &[u8]) -> Result<(u32, &[u8]), Fault>
 impl Operand for u32 {
     ghost spelled = { script.number };
 
+    // Inlined, and so below: else the number comes by memory.
+    #[inline(always)]
     fn read(text: &[u8]) -> Result<(u32, &[u8]), Fault> {
         next_number::<MOST_DIGITS>(text)
     }
@@ -124,6 +126,7 @@ impl Operand for u32 {
 impl Operand for ElementCount {
     ghost spelled = { script.element_number };
 
+    #[inline(always)]
     fn read(text: &[u8]) -> Result<(ElementCount, &[u8]), Fault> {
         let (number, tail) = next_number::<MOST_ELEMENT_DIGITS>(text)?;
         Ok((ElementCount(number), tail))
@@ -133,6 +136,7 @@ impl Operand for ElementCount {
 impl Operand for u16 {
     ghost spelled = { script.user_id };
 
+    #[inline(always)]
     fn read(text: &[u8]) -> Result<(u16, &[u8]), Fault> {
         let (number, tail) = u32::read(text)?;
         let id = u16::try_from(number).ok().ok_or(Fault::BadCommand)?;

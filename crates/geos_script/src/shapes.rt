@@ -10,6 +10,7 @@ use crate::line::has_no_word;
 use crate::operands::{LastOperand, Operand};
 use crate::spare::Spare;
 use geos_model::{Command, Edit, Fault};
+use std::mem::{forget, replace};
 
 /// What is made of operands: a command, or an edit, which is one.
 pub(crate) trait Made {
@@ -35,12 +36,13 @@ impl Made for Edit {
     }
 }
 
-/// Puts a command in its place. Apart from what reads it, since what stood there is dropped, whatever that was.
+/// Puts a command in its place, where nothing stood that is to be dropped: it is a blank line before
+/// (`read_command`).
 #[inline(always)]
 pub(crate) fn put(place: &mut Command, made: Command)
     ensures { place.new ≡ made }
 {
-    *place = made;
+    forget(replace(place, made));
 }
 
 /// Puts what is made of no word in its place, which the caller lends: each return of a value as long as a command costs

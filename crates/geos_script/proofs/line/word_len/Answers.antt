@@ -1,4 +1,4 @@
-use Rattle.std.proofs.Common.{◌<◌, ◌-◌, length-take, inl, inr, arith}
+use Rattle.std.proofs.Common.{◌-◌, inl, inr, arith}
 use Rattle.std.proofs.lemmas.Bool.{cases_lt}
 use Rattle.geos_script.proofs.Words.{blank_tail, solid_head, solid_tail}
 use Rattle.geos_script.proofs.line.word_len.Goals as goal
@@ -6,13 +6,10 @@ use Rattle.geos_script.proofs.line.word_len.Goals as goal
 pub returns-clause-before : goal.returns-clause-before
 returns-clause-before c = λ k lt.
     let text = c.args.text.now in
-    let front = c.min-front.result in
-    elim (cases_lt k 8) [
-      | inl short ↦
-          let in_front : k < front = grind (arith, length-take front text, c.run_of-end.ensures.within) in
-          solid_head text front k in_front (c.run_of-end.ensures.before k (omega arith))
-      | inr long ↦ solid_tail text 8 k long (c.long_word_len.ensures.before (k - 8) (omega arith))
+    elim (cases_lt k 4) [
+      | inl short ↦ solid_head text 4 k short (c.run_of-end.ensures.before k (omega arith))
+      | inr long ↦ solid_tail text 4 k long (c.rest_len.ensures.before (k - 4) (omega arith))
     ]
 
 pub returns-clause-ends : goal.returns-clause-ends
-returns-clause-ends c = λ lt. blank_tail c.args.text.now 8 c.long_word_len.result (c.long_word_len.ensures.ends (omega arith))
+returns-clause-ends c = λ lt. blank_tail c.args.text.now 4 c.rest_len.result (c.rest_len.ensures.ends (omega arith))

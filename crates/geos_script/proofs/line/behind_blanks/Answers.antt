@@ -1,7 +1,7 @@
 use Rattle.std.proofs.Common.{sym, ap, ◌∙◌}
 use Rattle.geos_model.specs.Script.{words}
 use Rattle.geos_script.proofs.Words.{solid_front, take_rest, words-skip}
-use Rattle.geos_script.proofs.line.without_blanks.Goals as goal
+use Rattle.geos_script.proofs.line.behind_blanks.Goals as goal
 
 pub returns-clause-words : goal.returns-clause-words
 returns-clause-words c =

@@ -1,0 +1,18 @@
+use Rattle.std.proofs.Common.{◌<◌, ◌-◌, length-take, inl, inr, arith}
+use Rattle.std.proofs.lemmas.Bool.{cases_lt}
+use Rattle.geos_script.proofs.Words.{blank_tail, solid_head, solid_tail}
+use Rattle.geos_script.proofs.line.rest_len.Goals as goal
+
+pub returns-clause-before : goal.returns-clause-before
+returns-clause-before c = λ k lt.
+    let text = c.args.text.now in
+    let front = c.min-front.result in
+    elim (cases_lt k 4) [
+      | inl short ↦
+          let in_front : k < front = grind (arith, length-take front text, c.run_of-end.ensures.within) in
+          solid_head text front k in_front (c.run_of-end.ensures.before k (omega arith))
+      | inr long ↦ solid_tail text 4 k long (c.long_word_len.ensures.before (k - 4) (omega arith))
+    ]
+
+pub returns-clause-ends : goal.returns-clause-ends
+returns-clause-ends c = λ lt. blank_tail c.args.text.now 4 c.long_word_len.result (c.long_word_len.ensures.ends (omega arith))
