@@ -11,7 +11,7 @@ ghost use Rattle.vm_chains.specs.Comparing.{AreCompared, AreEqualIf, AreInStep, 
 ghost use Rattle.vm_chains.specs.Stepping.{IsBroken, IsOver};
 ghost use Rattle.vm_chains.specs.Walking.{Stops};
 
-use crate::reading::relinked_here;
+use crate::reading::relink_here;
 use crate::renaming::Renaming;
 use crate::stepping::Walk;
 use crate::walking::test_root;
@@ -112,19 +112,24 @@ fn are_alike<S: Store>(
     ensures refusals { IfErr result
         (λ fault. IsEnvironmentFault S.facts blocks.old.disk.store blocks.new.disk.store fault ⊎ (fault ≡ BadChain)) }
 {
+    // Each pair is read into the same two buffers.
+    let mut mine = Vec::new(alloc);
+    let mut other = Vec::new(alloc);
     loop {
-        if let Some(same) = compare_next(alloc, blocks, first, second)? {
+        if let Some(same) = compare_next(blocks, first, second, &mut mine, &mut other)? {
             return Ok(same);
         }
     }
 }
 
 /// Compares the next blocks of two walks. None where each has one and these are alike, so that the next ones decide.
+/// They are read into two buffers, whatever is in these.
 fn compare_next<S: Store>(
-    alloc: Global,
     blocks: &mut FileBlocks<S>,
     first: &mut Walk,
     second: &mut Walk,
+    mine: &mut Vec<u8>,
+    other: &mut Vec<u8>,
 ) -> Result<Option<bool>, Fault>
     // Asked of the caller.
     requires room { is_full blocks.old ≡ false }
@@ -142,39 +147,41 @@ fn compare_next<S: Store>(
     ensures refusals { IfErr result
         (λ fault. IsEnvironmentFault S.facts blocks.old.disk.store blocks.new.disk.store fault ⊎ (fault ≡ BadChain)) }
 {
-    let mine = next_marked(alloc, blocks, first)?;
-    let other = next_marked(alloc, blocks, second)?;
-    match mine {
-        Some(mine) => match other {
-            Some(other) => {
+    let first_block = next_marked(blocks, first, mine)?;
+    let second_block = next_marked(blocks, second, other)?;
+    match first_block {
+        Some(_) => match second_block {
+            Some(_) => {
                 let same = are_same(mine.as_slice(), other.as_slice());
                 Ok(if same { None } else { Some(false) })
             }
             None => Ok(Some(false)),
         },
-        None => Ok(Some(other.is_none())),
+        None => Ok(Some(second_block.is_none())),
     }
 }
 
-/// The bytes of a walk's next block, with a mark for each of its links; none at the end.
+/// A walk's next block, whose bytes, with a mark for each of its links, are put in place of what is in a buffer; none at
+/// the end.
 fn next_marked<S: Store>(
-    alloc: Global,
     blocks: &mut FileBlocks<S>,
     walk: &mut Walk,
-) -> Result<Option<Vec<u8>>, Fault>
+    bytes: &mut Vec<u8>,
+) -> Result<Option<VmHandle>, Fault>
     requires room { is_full blocks.old ≡ false }
     ensures keeps { KeepsBlocks S.facts blocks.old blocks.new }
     ensures value { MatchResult result
         (λ next. MatchOption next (IsOver walk.old walk.new)
-        (λ bytes. IsMarkedStep blocks.new.document bytes.items walk.old walk.new))
+        (λ _. IsMarkedStep blocks.new.document bytes.new.items walk.old walk.new))
         (Stops (IsEnvironmentFault S.facts blocks.old.disk.store blocks.new.disk.store)
         (IsBroken blocks.new.document walk.old)) }
 {
-    match walk.step(blocks)? {
-        // The step has just loaded it, so that its body is still the one whose links were followed.
-        Some(handle) => Ok(Some(relinked_here(alloc, blocks, handle, &Renaming::Marks)?)),
-        None => Ok(None),
-    }
+    let Some(handle) = walk.step(blocks)? else {
+        return Ok(None);
+    };
+    // The step has just loaded it, so that its body is still the one whose links were followed.
+    relink_here(blocks, handle, &Renaming::Marks, bytes)?;
+    Ok(Some(handle))
 }
 
 /// Whether these are the same bytes.

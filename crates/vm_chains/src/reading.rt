@@ -8,7 +8,7 @@ ghost use Rattle.vm_blocks.specs.Keeping.{KeepsBlocks, IsHonest, IsEnvironmentFa
 ghost use Rattle.vm_chains.specs.Naming.{name_in};
 
 use crate::links::links_of;
-use crate::renaming::{Renaming, relinked};
+use crate::renaming::{Renaming, relink};
 use geos_model::{Fault, VmHandle};
 use std::alloc::Global;
 use vm_blocks::{BlockBody, FileBlocks};
@@ -38,26 +38,29 @@ pub(crate) fn relinked_at<S: Store>(
     ensures raw { IfOk result (λ _. is_heap blocks.new.document handle.0 ≡ false) }
 {
     blocks.load(handle)?;
-    relinked_here(alloc, blocks, handle, names)
+    let mut bytes = Vec::new(alloc);
+    relink_here(blocks, handle, names, &mut bytes)?;
+    Ok(bytes)
 }
 
-/// The same of a block that is in memory. Damaged where its body is none that a block of a chain can have.
-pub(crate) fn relinked_here<S: Store>(
-    alloc: Global,
+/// Puts the same of a block that is in memory in place of what is in a buffer. Damaged where its body is none that a
+/// block of a chain can have.
+pub(crate) fn relink_here<S: Store>(
     blocks: &FileBlocks<S>,
     handle: VmHandle,
     names: &Renaming,
-) -> Result<Vec<u8>, Fault>
+    bytes: &mut Vec<u8>,
+) -> Result<(), Fault>
     requires { is_loaded blocks.now handle.0 ≡ true }
     ensures value { MatchResult result
-        (λ bytes. bytes.items ≡ relinked (name_in names.now) (raw_bytes_of blocks.now.document handle.0))
+        (λ _. bytes.new.items ≡ relinked (name_in names.now) (raw_bytes_of blocks.now.document handle.0))
         (λ fault. (fault ≡ Memory) ⊎ ((fault ≡ Damaged) × (is_member blocks.now.document handle.0 ≡ false))) }
-    ensures small { IfOk result (λ bytes. length bytes.items ≤ capacity) }
+    ensures small { IfOk result (λ _. length bytes.new.items ≤ capacity) }
     ensures raw { IfOk result (λ _. is_heap blocks.now.document handle.0 ≡ false) }
 {
     match blocks.body(handle) {
         BlockBody::Raw(body) => match links_of(body) {
-            Some(links) => Ok(relinked(alloc, body, links, names)?),
+            Some(links) => Ok(relink(body, links, names, bytes)?),
             None => Err(Fault::Damaged),
         },
         BlockBody::Heap(_) => Err(Fault::Damaged),

@@ -57,20 +57,23 @@ impl Renaming {
     }
 }
 
-/// The bytes of a body with each of its links renamed.
-pub(crate) fn relinked(
-    alloc: Global,
+/// Puts the bytes of a body, with each of its links renamed, in place of what is in a buffer.
+pub(crate) fn relink(
     body: &RawBody,
     links: Links,
     names: &Renaming,
-) -> Result<Vec<u8>, AllocError>
+    bytes: &mut Vec<u8>,
+) -> Result<(), AllocError>
     requires { AreLinks body.now links }
-    ensures value { IfOk result (λ bytes. bytes.items ≡ relinked (name_in names.now) body.now) }
-    ensures small { IfOk result (λ bytes. length bytes.items ≤ capacity) }
+    ensures value { IfOk result (λ _. bytes.new.items ≡ relinked (name_in names.now) body.now) }
+    ensures small { IfOk result (λ _. length bytes.new.items ≤ capacity) }
 {
-    let mut bytes = body.bytes().to_vec(alloc)?;
-    rename_links(body, links, names, &mut bytes);
-    Ok(bytes)
+    bytes.clear();
+    // Room for one more, since the image of a raw block has a byte before its own.
+    bytes.reserve(body.bytes().len() + 1)?;
+    bytes.extend_from_slice(body.bytes())?;
+    rename_links(body, links, names, bytes);
+    Ok(())
 }
 
 /// Renames each link of a body in a copy of its bytes.

@@ -11,25 +11,25 @@ use Rattle.vm_chains.proofs.comparing.next_marked.Goals as goal
 pub returns-in_err-handle-clause-value : goal.returns-in_err-handle-clause-value
 returns-in_err-handle-clause-value g c = carried c.from_residual.result c.in_err-handle.field-0.0 _ _ c.from_residual.ensures.1 c.in_err-handle.ensures.value
 
-pub relinked_here-requires : goal.relinked_here-requires
-relinked_here-requires g c = at_some c.in_ok-handle.field-0 c.in-Some.handle _ (λ h. is_loaded c.step.new.blocks h.0 ≡ true) c.in-Some.is c.in_ok-handle.ensures.loaded
+pub relink_here-requires : goal.relink_here-requires
+relink_here-requires g c = at_some c.in_ok-handle.field-0 c.in-Some.handle _ (λ h. is_loaded c.step.new.blocks h.0 ≡ true) c.in-Some.is c.in_ok-handle.ensures.loaded
 
-pub returns-in_err-relinked_here-in-Some-clause-value : goal.returns-in_err-relinked_here-in-Some-clause-value
-returns-in_err-relinked_here-in-Some-clause-value g c =
+pub returns-in_err-relink_here-clause-value : goal.returns-in_err-relink_here-clause-value
+returns-in_err-relink_here-clause-value g c =
     let e = c.step.new.blocks in let lacks = IsEnvironmentFault g.S.Store.facts c.args.blocks.now.disk.store e.disk.store in
-    let fault = c.in_err-relinked_here-in-Some.field-0.0 in let broken = IsBroken e.document c.args.walk.now in
+    let fault = c.in_err-relink_here.field-0.0 in let broken = IsBroken e.document c.args.walk.now in
     let step = stepped e.document c.args.walk.now c.step.new.self c.in_ok-handle.field-0 c.in-Some.handle c.in-Some.is c.in_ok-handle.ensures.value in
-    carried c.from_residual-in_err-relinked_here-in-Some.result fault _ _ c.from_residual-in_err-relinked_here-in-Some.ensures.1
-    (elim c.in_err-relinked_here-in-Some.ensures.value as (λ _. Stops lacks broken fault) [
+    carried c.from_residual-in_err-relink_here.result fault _ _ c.from_residual-in_err-relink_here.ensures.1
+    (elim c.in_err-relink_here.ensures.value as (λ _. Stops lacks broken fault) [
       | inl memory ↦ inl (subst lacks (sym memory) (lacks-memory g.S.Store.facts c.args.blocks.now.disk.store e.disk.store))
       | inr bad ↦ absurd (true≢false (sym step.goes_on.member ∙ bad.1))
     ])
 
-pub returns-in_ok-relinked_here-in-Some-clause-value : goal.returns-in_ok-relinked_here-in-Some-clause-value
-returns-in_ok-relinked_here-in-Some-clause-value g c =
+pub returns-clause-value : goal.returns-clause-value
+returns-clause-value g c =
     let e = c.step.new.blocks in
     record {
       block = c.in-Some.handle.0;
       step = stepped e.document c.args.walk.now c.step.new.self c.in_ok-handle.field-0 c.in-Some.handle c.in-Some.is c.in_ok-handle.ensures.value;
-      marked = c.in_ok-relinked_here-in-Some.ensures.value;
+      marked = c.in_ok-relink_here.ensures.value;
     }

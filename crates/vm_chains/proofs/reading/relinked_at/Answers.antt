@@ -1,5 +1,4 @@
 use Rattle.std.proofs.Common.{sym, subst, inl, inr}
-use Rattle.std.proofs.lemmas.Result.{MatchResult-weaker}
 use Rattle.geos_model.specs.Chain.{is_member}
 use Rattle.vm_blocks.specs.Keeping.{IsEnvironmentFault}
 use Rattle.vm_blocks.proofs.KeepingLaws.{lacks-memory}
@@ -11,11 +10,12 @@ returns-in_err-load-clause-value g c =
     carried c.from_residual.result c.in_err-load.field-0.0 _ _ c.from_residual.ensures.1
     (load_lacks g.S.Store.facts c.args.blocks.now c.load.new.self c.load.ensures.keeps c.args.handle.0 c.in_err-load.field-0.0 c.requires.room c.requires.live c.in_err-load.ensures.err)
 
-pub returns-clause-value : goal.returns-clause-value
-returns-clause-value g c =
+pub returns-in_err-relink_here-clause-value : goal.returns-in_err-relink_here-clause-value
+returns-in_err-relink_here-clause-value g c =
     let a = c.args.blocks.now in let e = c.load.new.self in let lacks = IsEnvironmentFault g.S.Store.facts a.disk.store e.disk.store in
-    MatchResult-weaker c.relinked_here.result c.relinked_here.ensures.value (λ bytes is. is)
-    (λ fault why. elim why as (λ _. lacks fault) [
+    let fault = c.in_err-relink_here.field-0.0 in
+    carried c.from_residual-in_err-relink_here.result fault _ _ c.from_residual-in_err-relink_here.ensures.1
+    (elim c.in_err-relink_here.ensures.value as (λ _. lacks fault) [
       | inl memory ↦ subst lacks (sym memory) (lacks-memory g.S.Store.facts a.disk.store e.disk.store)
       | inr bad ↦ subst lacks (sym bad.0) (other_now g.S.Store.facts a e c.load.ensures.keeps (λ d. is_member d c.args.handle.0) c.requires.member bad.1)
     ])
