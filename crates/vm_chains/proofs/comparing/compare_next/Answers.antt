@@ -8,7 +8,6 @@ use Rattle.vm_chains.proofs.Loading.{carried, carried_so, still_room}
 use Rattle.vm_chains.proofs.PairedWalks.{alike_is, first_longer, first_over, marked_at, pair_alike, pair_differs, still_in, stops_later}
 use Rattle.vm_chains.proofs.StepLemmas.{at_end, stops_so}
 use Rattle.vm_chains.proofs.comparing.compare_next.Goals as goal
-use Rattle.vm_chains.proofs.comparing.compare_next.Goals.{then-same, else-same}
 
 pub returns-in_err-first_block-clause-value : goal.returns-in_err-first_block-clause-value
 returns-in_err-first_block-clause-value g c = λ f s steady old.
@@ -41,17 +40,20 @@ returns-in_err-second_block-clause-refusals g c =
     carried_so c.from_residual-in_err-second_block.result c.in_err-second_block.field-0.0 _ c.from_residual-in_err-second_block.ensures.1
     (stops_so g.S.Store.facts c.args.blocks.now c.next_marked.new.blocks c.next_marked-2.new.blocks c.in_err-second_block.field-0.0 _ c.next_marked.ensures.keeps c.in_err-second_block.ensures.value)
 
-pub returns-in-Some-second_block-clause-keeps : goal.returns-in-Some-second_block-clause-keeps
-returns-in-Some-second_block-clause-keeps g c = keeps-trans g.S.Store.facts c.args.blocks.now c.next_marked.new.blocks c.next_marked-2.new.blocks c.next_marked.ensures.keeps c.next_marked-2.ensures.keeps
+pub returns-then-same-clause-keeps : goal.returns-then-same-clause-keeps
+returns-then-same-clause-keeps g c = keeps-trans g.S.Store.facts c.args.blocks.now c.next_marked.new.blocks c.next_marked-2.new.blocks c.next_marked.ensures.keeps c.next_marked-2.ensures.keeps
 
-pub returns-in-Some-clause-keeps : goal.returns-in-Some-clause-keeps
-returns-in-Some-clause-keeps g c = keeps-trans g.S.Store.facts c.args.blocks.now c.next_marked.new.blocks c.next_marked-2.new.blocks c.next_marked.ensures.keeps c.next_marked-2.ensures.keeps
+pub returns-else-same-clause-keeps : goal.returns-else-same-clause-keeps
+returns-else-same-clause-keeps g c = keeps-trans g.S.Store.facts c.args.blocks.now c.next_marked.new.blocks c.next_marked-2.new.blocks c.next_marked.ensures.keeps c.next_marked-2.ensures.keeps
 
-pub returns-clause-keeps : goal.returns-clause-keeps
-returns-clause-keeps g c = keeps-trans g.S.Store.facts c.args.blocks.now c.next_marked.new.blocks c.next_marked-2.new.blocks c.next_marked.ensures.keeps c.next_marked-2.ensures.keeps
+pub returns-in-None-second_block-clause-keeps : goal.returns-in-None-second_block-clause-keeps
+returns-in-None-second_block-clause-keeps g c = keeps-trans g.S.Store.facts c.args.blocks.now c.next_marked.new.blocks c.next_marked-2.new.blocks c.next_marked.ensures.keeps c.next_marked-2.ensures.keeps
 
-pub returns-in-Some-second_block-clause-value : goal.returns-in-Some-second_block-clause-value
-returns-in-Some-second_block-clause-value g c = λ f s steady old.
+pub returns-in-None-clause-keeps : goal.returns-in-None-clause-keeps
+returns-in-None-clause-keeps g c = keeps-trans g.S.Store.facts c.args.blocks.now c.next_marked.new.blocks c.next_marked-2.new.blocks c.next_marked.ensures.keeps c.next_marked-2.ensures.keeps
+
+pub returns-then-same-clause-value : goal.returns-then-same-clause-value
+returns-then-same-clause-value g c = λ f s steady old.
     let a = c.args.blocks.now in let b = c.next_marked.new.blocks in let e = c.next_marked-2.new.blocks in let once = c.next_marked.ensures.keeps in let again = c.next_marked-2.ensures.keeps in
     let first = c.args.first.now in let second = c.args.second.now in let first_then = c.next_marked.new.walk in let second_then = c.next_marked-2.new.walk in
     let now = still_in g.S.Store.facts a e (keeps-trans g.S.Store.facts a b e once again) (λ d. AreInStep d f s first second) steady old in
@@ -60,23 +62,22 @@ returns-in-Some-second_block-clause-value g c = λ f s steady old.
     let other = marked_at (λ _. c.next_marked-2.new.bytes.items) e.document second second_then c.in_ok-second_block.second_block c.in-Some-second_block.field-0 c.in-Some-second_block.is c.in_ok-second_block.ensures.value in
     let tested : are_alike e.document mine.block other.block ≡ c.are_same-same.result =
     alike_is e.document mine.block other.block c.as_slice.result.now c.as_slice-in-Some-second_block.result.now c.next_marked.new.bytes.items c.next_marked-2.new.bytes.items c.are_same-same.result c.as_slice.ensures.value c.as_slice-in-Some-second_block.ensures.value mine.marked other.marked c.are_same-same.ensures in
-    let P = AreInStep e.document f s first_then second_then in let Q : Bool → Type 0 = λ same. AreCompared e.document f s same first_then second_then in
-    elim c.if-same.branch as (λ _. MatchOption c.if-same.result P Q) [
-      | then-same w ↦ subst (λ (o : Option Bool). MatchOption o P Q) (sym w.result-is) (pair_alike e.document f s first second first_then second_then now mine.block other.block mine.step other.step (tested ∙ w.if-same.true))
-      | else-same w ↦ subst (λ (o : Option Bool). MatchOption o P Q) (sym w.result-is) (pair_differs e.document f s first second first_then second_then now mine.block other.block mine.step other.step (tested ∙ w.if-same.false))
-    ]
+    pair_alike e.document f s first second first_then second_then now mine.block other.block mine.step other.step (tested ∙ c.if-same.true)
 
-pub returns-in-Some-second_block-clause-fewer : goal.returns-in-Some-second_block-clause-fewer
-returns-in-Some-second_block-clause-fewer g c =
-    let first = c.args.first.now in let first_then = c.next_marked.new.walk in
-    let mine = marked_at (λ _. c.next_marked.new.bytes.items) c.next_marked.new.blocks.document first first_then c.in_ok-first_block.first_block c.in-Some.field-0 c.in-Some.is c.in_ok-first_block.ensures.value in
-    elim c.if-same.branch as (λ _. MatchOption c.if-same.result (first_then.left < first.left) (λ _. Unit {0})) [
-      | then-same w ↦ subst (λ (o : Option Bool). MatchOption o (first_then.left < first.left) (λ _. Unit {0})) (sym w.result-is) (omega (arith, mine.step.left))
-      | else-same w ↦ subst (λ (o : Option Bool). MatchOption o (first_then.left < first.left) (λ _. Unit {0})) (sym w.result-is) tt
-    ]
+pub returns-else-same-clause-value : goal.returns-else-same-clause-value
+returns-else-same-clause-value g c = λ f s steady old.
+    let a = c.args.blocks.now in let b = c.next_marked.new.blocks in let e = c.next_marked-2.new.blocks in let once = c.next_marked.ensures.keeps in let again = c.next_marked-2.ensures.keeps in
+    let first = c.args.first.now in let second = c.args.second.now in let first_then = c.next_marked.new.walk in let second_then = c.next_marked-2.new.walk in
+    let now = still_in g.S.Store.facts a e (keeps-trans g.S.Store.facts a b e once again) (λ d. AreInStep d f s first second) steady old in
+    let mine = still_in g.S.Store.facts b e again (λ d. IsMarkedStep d c.next_marked.new.bytes.items first first_then) (keeps-steady g.S.Store.facts a b once steady)
+    (marked_at (λ _. c.next_marked.new.bytes.items) b.document first first_then c.in_ok-first_block.first_block c.in-Some.field-0 c.in-Some.is c.in_ok-first_block.ensures.value) in
+    let other = marked_at (λ _. c.next_marked-2.new.bytes.items) e.document second second_then c.in_ok-second_block.second_block c.in-Some-second_block.field-0 c.in-Some-second_block.is c.in_ok-second_block.ensures.value in
+    let tested : are_alike e.document mine.block other.block ≡ c.are_same-same.result =
+    alike_is e.document mine.block other.block c.as_slice.result.now c.as_slice-in-Some-second_block.result.now c.next_marked.new.bytes.items c.next_marked-2.new.bytes.items c.are_same-same.result c.as_slice.ensures.value c.as_slice-in-Some-second_block.ensures.value mine.marked other.marked c.are_same-same.ensures in
+    pair_differs e.document f s first second first_then second_then now mine.block other.block mine.step other.step (tested ∙ c.if-same.false)
 
-pub returns-in-Some-clause-value : goal.returns-in-Some-clause-value
-returns-in-Some-clause-value g c = λ f s steady old.
+pub returns-in-None-second_block-clause-value : goal.returns-in-None-second_block-clause-value
+returns-in-None-second_block-clause-value g c = λ f s steady old.
     let a = c.args.blocks.now in let b = c.next_marked.new.blocks in let e = c.next_marked-2.new.blocks in let once = c.next_marked.ensures.keeps in let again = c.next_marked-2.ensures.keeps in
     let first = c.args.first.now in let second = c.args.second.now in let first_then = c.next_marked.new.walk in let second_then = c.next_marked-2.new.walk in
     let now = still_in g.S.Store.facts a e (keeps-trans g.S.Store.facts a b e once again) (λ d. AreInStep d f s first second) steady old in
@@ -84,8 +85,8 @@ returns-in-Some-clause-value g c = λ f s steady old.
     (marked_at (λ _. c.next_marked.new.bytes.items) b.document first first_then c.in_ok-first_block.first_block c.in-Some.field-0 c.in-Some.is c.in_ok-first_block.ensures.value) in
     first_longer e.document f s first second first_then second_then now mine.block mine.step (at_end c.in_ok-second_block.second_block (IsOver second second_then) _ c.in-None-second_block.is c.in_ok-second_block.ensures.value)
 
-pub returns-clause-value : goal.returns-clause-value
-returns-clause-value g c = λ f s steady old.
+pub returns-in-None-clause-value : goal.returns-in-None-clause-value
+returns-in-None-clause-value g c = λ f s steady old.
     let a = c.args.blocks.now in let b = c.next_marked.new.blocks in let e = c.next_marked-2.new.blocks in let once = c.next_marked.ensures.keeps in let again = c.next_marked-2.ensures.keeps in
     let first = c.args.first.now in let second = c.args.second.now in let first_then = c.next_marked.new.walk in let second_then = c.next_marked-2.new.walk in
     let now = still_in g.S.Store.facts a e (keeps-trans g.S.Store.facts a b e once again) (λ d. AreInStep d f s first second) steady old in
