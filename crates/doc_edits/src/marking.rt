@@ -32,6 +32,26 @@ pub(crate) fn array_kind(edit: ArrayEdit<'_>) -> ArrayKind
     }
 }
 
+/// Tests the chunk of an array that an edit is for, in a heap in memory. An edit of a chunk array looks at its elements
+/// itself, and but once, so that nothing is gained by a test before it: what the edit leaves is kept in mind.
+pub(crate) fn test_edited<S: Store>(
+    blocks: &mut FileBlocks<S>,
+    block: VmHandle,
+    chunk: ChunkHandle,
+    edit: ArrayEdit<'_>,
+)
+    requires loaded { is_loaded blocks.old block.0 ≡ true }
+    requires heap { is_heap blocks.old.document block.0 ≡ true }
+    ensures { blocks.new ≡ blocks.old }
+{
+    match array_kind(edit) {
+        ArrayKind::Chunk => {}
+        kind => {
+            let _ = test_array(blocks, block, chunk, kind);
+        }
+    }
+}
+
 /// Tests a chunk of a heap in memory, unless it is known to be an array of the kind, and keeps in mind if it is one.
 /// NoChunk where it isn't live.
 pub(crate) fn test_array<S: Store>(

@@ -6,7 +6,7 @@ use crate::block_plans::{plan_block, plan_new_block, plan_setting};
 use crate::chain_plans::plan_chain;
 use crate::chunk_plans::{plan_array, plan_bytes, plan_free_chunk, plan_new_chunk};
 use crate::large_plans::plan_new_large;
-use crate::marking::{array_kind, test_array};
+use crate::marking::test_edited;
 use crate::raw_plans::plan_raw;
 use geos_model::{
     BlockEdit, ChunkEdit, ChunkHandle, Done, Fault, NewChunk, RawEdit, Target, VmHandle,
@@ -93,7 +93,7 @@ fn plan_in_chunk<S: Store>(
         ChunkEdit::Free => plan_free_chunk(alloc, blocks, handle, chunk),
         ChunkEdit::Bytes(edit) => plan_bytes(alloc, blocks, handle, chunk, edit),
         ChunkEdit::Array(edit) => {
-            let _ = test_array(blocks, handle, chunk, array_kind(edit));
+            test_edited(blocks, handle, chunk, edit);
             plan_array(alloc, blocks, handle, chunk, edit)
         }
     }

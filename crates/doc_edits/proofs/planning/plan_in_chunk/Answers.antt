@@ -31,8 +31,8 @@ returns-in-Bytes g c =
 -- the test leaves the blocks as they are
 pub returns-in-Array : goal.returns-in-Array
 returns-in-Array g c =
-    let a = c.args.blocks.now in let b = c.load_heap.new.self in let h = c.args.handle in let k = c.args.chunk in let load = c.in_ok-load_heap.ensures in let r = c.plan_array.result in let edit : ChunkEdit = chunk_edits.Array c.in-Array.edit in let same = c.test_array.ensures.same in
+    let a = c.args.blocks.now in let b = c.load_heap.new.self in let h = c.args.handle in let k = c.args.chunk in let load = c.in_ok-load_heap.ensures in let r = c.plan_array.result in let edit : ChunkEdit = chunk_edits.Array c.in-Array.edit in let same = c.test_edited.ensures in
     let planned = subst (λ (x : CacheState g.row.S.Denot). MatchResult r (λ p. Plans (chunk_edit h k edit) x.document p.0 p.1) (RefusesInMemory (chunk_edit h k edit) x.document)) same c.plan_array.ensures in
-    subst (λ (e : ChunkEdit). PlansEdit g.S.Store.facts a c.test_array.new.blocks (chunk_edit h k e) r) (sym c.in-Array.is)
+    subst (λ (e : ChunkEdit). PlansEdit g.S.Store.facts a c.test_edited.new.blocks (chunk_edit h k e) r) (sym c.in-Array.is)
     (subst (λ (x : CacheState g.row.S.Denot). PlansEdit g.S.Store.facts a x (chunk_edit h k edit) r) (sym same)
     (plans_chunk g.S.Store.facts h k edit a b load.keeps (chunk_brought (IsEnvironmentFault g.S.Store.facts a.disk.store b.disk.store) (chunk_edit h k edit) a b h (Ok tt) k (chunk_scope h k edit) load.early load.shut load.err load.already) load.ok.0 r planned))
