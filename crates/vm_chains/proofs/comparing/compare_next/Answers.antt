@@ -1,8 +1,8 @@
-use Rattle.std.proofs.Common.{◌≡◌, ◌⊎◌, ◌<◌, Option, None, MatchOption, Bool, sym, subst, ◌∙◌, inl, inr, arith}
+use Rattle.std.proofs.Common.{◌≡◌, ◌⊎◌, None, ◌∙◌, inl, inr}
 use Rattle.geos_model.specs.Chain.{chain}
 use Rattle.vm_blocks.proofs.KeepingLaws.{keeps-refl, keeps-steady, keeps-trans}
 use Rattle.vm_chains.specs.Alike.{are_alike}
-use Rattle.vm_chains.specs.Comparing.{AreCompared, AreInStep, IsMarkedStep}
+use Rattle.vm_chains.specs.Comparing.{AreInStep, IsMarkedStep}
 use Rattle.vm_chains.specs.Stepping.{IsOver}
 use Rattle.vm_chains.proofs.Loading.{carried, carried_so, still_room}
 use Rattle.vm_chains.proofs.PairedWalks.{alike_is, first_longer, first_over, marked_at, pair_alike, pair_differs, still_in, stops_later}
