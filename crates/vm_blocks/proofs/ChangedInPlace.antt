@@ -21,7 +21,7 @@ use Rattle.vm_blocks.proofs.ChangedBodies.{is_lent, kept_lent, state_lent}
 use Rattle.vm_blocks.proofs.KeepingLaws.{loaded-live, loaded-resident}
 use Rattle.vm_blocks.proofs.OrderOfUse.{resident_is, seats_kept}
 use Rattle.vm_blocks.proofs.PartLemmas.{part_kind}
-use Rattle.vm_blocks.proofs.Preparing.{takes_body}
+use Rattle.vm_blocks.proofs.Preparing.{body_of_option, takes_body}
 use Rattle.vm_blocks.proofs.StateValidity.{sound_part}
 use Rattle.vm_blocks.proofs.Tables.{body_under}
 
@@ -30,6 +30,12 @@ module _ {S : Type 0} (file : FileState S) (es : List (ℕ × Frame)) (cap : ℕ
   pub frame_lent : (o : Option (MutBor Frame)) → option_copied_mut o ≡ frame_of es h → is_loaded state h ≡ true → IsSome o
   frame_lent o value loaded =
       is_lent o (ap is_some value ∙ sym (resident_is h es) ∙ ap (λ (s : CacheState S). is_resident s.resident h) view ∙ loaded-resident state h loaded)
+
+  -- its body is that of the document
+  pub body_seen : (f : Frame) → frame_of es h ≡ Some f → (block_at state.document h).body ≡ body_value f.body
+  body_seen f here =
+      ap (λ (s : CacheState S). (block_at s.document h).body) (sym view)
+      ∙ body_of_option (get (overlay es file.document).blocks h) (body_value f.body) (body_under es file.document h f.body (ap (option_map (λ (x : Frame). x.body)) here))
 
   module _ (f : Frame) (here : frame_of es h ≡ Some f) (p : PartChange) (takes : AllowsPart p (block_at state.document h).body) where
     there : option_map (λ (b : Block). b.body) (get (overlay es file.document).blocks h) ≡ Some (body_value f.body)

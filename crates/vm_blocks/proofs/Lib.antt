@@ -28,9 +28,11 @@ pub mod OrderOfUse
 pub mod PartLemmas
 pub mod Preparing
 pub mod ReadImages
+pub mod ReplacedRuns
 pub mod Residents
 pub mod Reversing
 pub mod RoomLemmas
+pub mod RunLemmas
 pub mod SavedAs
 pub mod StateValidity
 pub mod Tables

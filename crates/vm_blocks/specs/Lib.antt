@@ -17,3 +17,4 @@ pub mod SavingAs
 pub mod Sound
 pub mod State
 pub mod ChangeCosts
+pub mod Runs

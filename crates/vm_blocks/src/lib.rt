@@ -12,6 +12,8 @@ mod law;
 mod member;
 mod part;
 mod places;
+mod recorder;
+mod run;
 mod saved;
 mod transfers;
 
@@ -23,4 +25,6 @@ pub use document_file::{BlockImage, Member};
 pub use file_blocks::FileBlocks;
 pub use law::{by_handle_law, change_law};
 pub use member::{MOST_BLOCKS, Members};
+pub use recorder::Recorder;
+pub use run::Run;
 pub use saved::imaged_block;

@@ -6,11 +6,13 @@ ghost use Rattle.vm_blocks.specs.ByteChanges.{byte_change, byte_part};
 ghost use Rattle.vm_blocks.specs.Changes.{after_change, after_part, directed, incoming_blocks};
 ghost use Rattle.vm_blocks.specs.Keeping.{KeepsBlocks, is_loaded, has_no_frame_for};
 ghost use Rattle.vm_blocks.specs.Parts.{AllowsPart};
+ghost use Rattle.vm_blocks.specs.Runs.{IsKindOfRun, TriesRun};
 ghost use Rattle.vm_blocks.specs.Preparing.{CanApplyByHandle, CanCarryOut, AllowsChange, IsInMemory, IsShutOut, CantPrepare, IsApplied, AppliesChange};
 
 use super::FileBlocks;
 use crate::part::{can_take_bytes, replace_bytes};
-use crate::{ByteChange, Direction};
+use crate::run::replace_in_frame;
+use crate::{ByteChange, Direction, Recorder, Run};
 use geos_model::Fault;
 use vm_store::Store;
 
@@ -51,6 +53,23 @@ impl<S: Store> FileBlocks<S> {
             × (self.new.document ≡ after_change (byte_change change.entry) self.old.document) }
     {
         self.put_bytes(change);
+    }
+
+    /// Replaces a run of bytes of a block in memory: its change is told to a recorder, with the bytes that go lent from
+    /// where they lie, and then made. Refused as `lent_change` is, and Memory where the recorder has none for it; then
+    /// nothing changes here. No store is called.
+    pub fn replace_run<R: Recorder>(
+        &mut self,
+        run: Run<'_>,
+        recorder: &mut R,
+    ) -> Result<(), Fault>
+        requires loaded { is_loaded self.old run.block.0 ≡ true }
+        requires kind { IsKindOfRun run (block_at self.old.document run.block.0).body }
+        requires ready { R.ready recorder.old }
+        ensures { TriesRun S.facts R.records R.keeps run.entry self.old self.new recorder.old recorder.new result }
+    {
+        let frame = self.frames.peek_mut(run.block.0).unwrap();
+        replace_in_frame(self.alloc, frame, run, recorder)
     }
 
     // `change_bytes` forwards, in one word.
