@@ -15,7 +15,7 @@ use Rattle.vm_store.specs.Facts.{StoreFacts}
 use Rattle.vm_blocks.specs.Bodies.{body_value}
 use Rattle.vm_blocks.specs.ByteChanges.{part_in}
 use Rattle.vm_blocks.specs.Changes.{after_change}
-use Rattle.vm_blocks.specs.Parts.{body_after_part}
+use Rattle.vm_blocks.specs.Parts.{AllowsPart, body_after_part}
 use Rattle.vm_blocks.specs.Preparing.{IsApplied}
 use Rattle.vm_blocks.specs.State.{CacheState}
 use Rattle.vm_blocks.specs.declared.change.Change.{Change}
@@ -90,11 +90,15 @@ abbrev pub IsRunRefused : {R : Type 0} → (R → R → Type 0) → Run → Body
 IsRunRefused keeps run body old new fault =
     ((fault ≡ Memory) × keeps old new) ⊎ ((new ≡ old) × RefusesRun run body fault)
 
--- A frame has the run replaced, and is marked as changed.
-pub record PutsRun (run : Run) (old new : Frame) : Type 0 where
-  pub allows : AllowsRun run (body_value old.body)
-  pub body : body_value new.body ≡ body_after_part (run_part run (body_value old.body)) (body_value old.body)
+-- The body of a frame took the change of a part, and is marked as changed.
+pub record PutsPart (part : PartChange) (old new : Frame) : Type 0 where
+  pub allows : AllowsPart part (body_value old.body)
+  pub body : body_value new.body ≡ body_after_part part (body_value old.body)
   pub marks : (new.changed ≡ true) × (new.locks ≡ old.locks)
+
+-- that of a run, which is allowed
+abbrev pub PutsRun : Run → Frame → Frame → Type 0
+PutsRun run old new = AllowsRun run (body_value old.body) × PutsPart (run_part run (body_value old.body)) old new
 
 -- A run of a block in memory was replaced: its change was recorded, and made.
 pub record IsRunReplaced {S R : Type 0} (facts : S → StoreFacts) (records : R → Change → R → Type 0) (run : Run)

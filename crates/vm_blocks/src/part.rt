@@ -1,5 +1,5 @@
 //! Changes of a part of a body: whether a body takes one, and its carrying out in place.
-ghost use Rattle.std.specs.Prelude.{◌≡◌, ◌+◌, ◌-◌, ◌≤◌, ◌↔◌, ℕ, List, IsTrue, None, Some, true, length, replicate, take};
+ghost use Rattle.std.specs.Prelude.{◌≡◌, ◌+◌, ◌-◌, ◌≤◌, ◌↔◌, ℕ, List, IsTrue, MatchBool, None, Some, true, length, replicate, take};
 ghost use Rattle.std.specs.FinMap.{get, insert, contains_key};
 ghost use Rattle.geos_model.specs.Document.{is_valid_body};
 ghost use Rattle.geos_model.specs.Heap.{chunk_bytes, fits_with, is_chunk_handle, is_heap_map};
@@ -12,7 +12,9 @@ ghost use Rattle.vm_blocks.specs.Allowing.{AllowsRaw, AllowsRawPatch, AllowsChun
 ghost use Rattle.vm_blocks.specs.Changes.{content_bytes, directed_part};
 ghost use Rattle.vm_blocks.specs.Exactness.{HeapHolds, HoldsPart, IsExactPart, RawHolds};
 ghost use Rattle.vm_blocks.specs.Parts.{AllowsPart, RawAllowsPart, HeapAllowsPart, body_after_part};
+ghost use Rattle.vm_blocks.specs.Runs.{PutsPart};
 
+use crate::frame::Frame;
 use crate::{BlockBody, ByteChange, Content, Direction, PartChange};
 use chunk_edits::{
     Patch, apply, apply_back, apply_patch, apply_raw, apply_raw_back, apply_raw_patch,
@@ -77,7 +79,7 @@ fn heap_can_take(heap: &Heap, change: &PartChange, direction: Direction) -> bool
 }
 
 /// Whether a body takes a change of a run of its bytes, as `can_take` says of other changes.
-pub(crate) fn can_take_bytes(body: &BlockBody, change: ByteChange<'_>) -> bool
+fn can_take_bytes(body: &BlockBody, change: ByteChange<'_>) -> bool
     ensures { IsTrue result ↔ AllowsPart (byte_part change.entry) (body_value body.now) }
 {
     let (at, old, new) = (change.at, change.old, change.new);
@@ -86,6 +88,20 @@ pub(crate) fn can_take_bytes(body: &BlockBody, change: ByteChange<'_>) -> bool
         (BlockBody::Heap(heap), Some(chunk)) => chunk_allows(heap, chunk, at, old, new),
         (BlockBody::Raw(_), Some(_)) | (BlockBody::Heap(_), None) => false,
     }
+}
+
+/// Makes a change of a run of bytes of a block in memory, if its body takes it, and says whether: from then on the file
+/// may have another body.
+pub(crate) fn change_in_frame(frame: &mut Frame, change: ByteChange<'_>) -> bool
+    ensures { MatchBool result (PutsPart (byte_part change.entry) frame.old frame.new)
+        ((AllowsPart (byte_part change.entry) (body_value frame.old.body) → ⊥) × (frame.new ≡ frame.old)) }
+{
+    if !can_take_bytes(&frame.body, change) {
+        return false;
+    }
+    frame.changed = true;
+    replace_bytes(&mut frame.body, change);
+    true
 }
 
 /// Whether a body takes a change of a part and has what goes, so that the same the other way round gives it back.
@@ -345,7 +361,7 @@ pub(crate) fn carry_out_heap(heap: &mut Heap, change: &PartChange, direction: Di
 }
 
 /// Replaces a run of the bytes of a body in place.
-pub(crate) fn replace_bytes(body: &mut BlockBody, change: ByteChange<'_>)
+fn replace_bytes(body: &mut BlockBody, change: ByteChange<'_>)
     requires { AllowsPart (byte_part change) (body_value body.old) }
     ensures { body_value body.new ≡ body_after_part (byte_part change.entry) (body_value body.old) }
 {

@@ -1,16 +1,16 @@
 //! Changes of a run of bytes that lie with the caller: they are carried out as the change that they are, with no change
 //! of their own.
-ghost use Rattle.std.specs.Prelude.{◌≡◌, [], Err, true, IsOk, IfErr, OnOk, OnErr};
+ghost use Rattle.std.specs.Prelude.{◌≡◌, [], Err, true, IsOk, IfErr, MatchBool, OnOk, OnErr};
 ghost use Rattle.geos_model.specs.Document.{block_at, is_live};
 ghost use Rattle.vm_blocks.specs.ByteChanges.{byte_change, byte_part};
 ghost use Rattle.vm_blocks.specs.Changes.{after_change, after_part, directed, incoming_blocks};
 ghost use Rattle.vm_blocks.specs.Keeping.{KeepsBlocks, is_loaded, has_no_frame_for};
 ghost use Rattle.vm_blocks.specs.Parts.{AllowsPart};
 ghost use Rattle.vm_blocks.specs.Runs.{IsKindOfRun, TriesRun};
-ghost use Rattle.vm_blocks.specs.Preparing.{CanApplyByHandle, CanCarryOut, AllowsChange, IsInMemory, IsShutOut, CantPrepare, IsApplied, AppliesChange};
+ghost use Rattle.vm_blocks.specs.Preparing.{CanApplyByHandle, AllowsChange, IsInMemory, IsShutOut, CantPrepare, IsApplied, AppliesChange};
 
 use super::FileBlocks;
-use crate::part::{can_take_bytes, replace_bytes};
+use crate::part::change_in_frame;
 use crate::run::replace_in_frame;
 use crate::{ByteChange, Direction, Recorder, Run};
 use geos_model::Fault;
@@ -44,17 +44,6 @@ impl<S: Store> FileBlocks<S> {
         self.replace_bytes(change.towards(direction))
     }
 
-    /// Makes a change of a run of bytes that can be made as things are, as the plan of an edit has just seen: the block
-    /// is in memory, and takes it. No memory is taken, no store is called, and it isn't refused.
-    pub fn carry_out_bytes(&mut self, change: ByteChange<'_>)
-        requires ready { CanCarryOut (byte_change change) self.old }
-        ensures made { IsApplied S.facts (byte_change change.entry) self.old self.new }
-        ensures sure { (self.new.disk ≡ self.old.disk)
-            × (self.new.document ≡ after_change (byte_change change.entry) self.old.document) }
-    {
-        self.put_bytes(change);
-    }
-
     /// Replaces a run of bytes of a block in memory: its change is told to a recorder, with the bytes that go lent from
     /// where they lie, and then made. Refused as `lent_change` is, and Memory where the recorder has none for it; then
     /// nothing changes here. No store is called.
@@ -77,49 +66,27 @@ impl<S: Store> FileBlocks<S> {
         requires { is_live self.old.document change.block.0 ≡ true }
         ensures { AppliesChange S.facts (byte_change change.entry) self.old self.new result }
     {
-        self.ready_bytes(change)?;
-        self.put_bytes(change);
-        Ok(())
-    }
-
-    // Brings the block into memory, and tests that its body takes the change.
-    fn ready_bytes(&mut self, change: ByteChange<'_>) -> Result<(), Fault>
-        // Asked of the caller.
-        requires { is_live self.old.document change.block.0 ≡ true }
-        // What stays.
-        ensures keeps { KeepsBlocks S.facts self.old self.new }
-        // What is done.
-        ensures loaded { OnOk result (is_loaded self.new change.entry.block.0 ≡ true) }
-        ensures takes { OnOk result
-            (AllowsPart (byte_part change.entry) (block_at self.new.document change.entry.block.0).body) }
-        // Refusals.
-        ensures err { IfErr result (CantPrepare S.facts (byte_change change.entry) self.old self.new) }
-        // When the answer is known beforehand.
-        ensures sure { is_loaded self.old change.entry.block.0 ≡ true
-            → AllowsPart (byte_part change.entry) (block_at self.old.document change.entry.block.0).body
-            → IsOk result × (self.new.disk ≡ self.old.disk) × (self.new.document ≡ self.old.document) }
-        ensures shut { has_no_frame_for self.old change.entry.block.0 ≡ true → (result ≡ Err Fault.CacheFull)
-            × (self.new ≡ self.old) }
-    {
         self.load_live(change.block)?;
-        if can_take_bytes(self.body(change.block), change) {
+        if self.change_loaded(change) {
             Ok(())
         } else {
             Err(Fault::Damaged)
         }
     }
 
-    // Changes the body of a block in memory in place: from now on the file may have another.
+    // Makes it in a block that is in memory, if the body takes it, and says whether.
     #[inline(always)]
-    fn put_bytes(&mut self, change: ByteChange<'_>)
-        requires loaded { is_loaded self.old change.block.0 ≡ true }
-        requires takes { AllowsPart (byte_part change) (block_at self.old.document change.block.0).body }
-        ensures { self.new ≡ record self.old {
-          document = after_part change.entry.block.0 (byte_part change.entry) self.old.document;
-        } }
+    fn change_loaded(&mut self, change: ByteChange<'_>) -> bool
+        requires { is_loaded self.old change.block.0 ≡ true }
+        ensures { MatchBool result
+            (AllowsPart (byte_part change.entry) (block_at self.old.document change.entry.block.0).body
+            × (self.new ≡ record self.old {
+              document = after_part change.entry.block.0 (byte_part change.entry) self.old.document;
+            }))
+            ((AllowsPart (byte_part change.entry) (block_at self.old.document change.entry.block.0).body → ⊥)
+            × (self.new ≡ self.old)) }
     {
         let frame = self.frames.peek_mut(change.block.0).unwrap();
-        frame.changed = true;
-        replace_bytes(&mut frame.body, change);
+        change_in_frame(frame, change)
     }
 }

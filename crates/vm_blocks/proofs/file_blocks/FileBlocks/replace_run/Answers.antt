@@ -1,9 +1,11 @@
 use Rattle.std.proofs.Common.{◌≡◌, Some, sym, ap, ◌∙◌}
 use Rattle.std.specs.Option.{option_copied_mut}
+use Rattle.vm_blocks.specs.Bodies.{body_value}
 use Rattle.vm_blocks.specs.Frames.{frame_of}
+use Rattle.vm_blocks.specs.Runs.{run_part}
 use Rattle.vm_blocks.specs.State.{locked_count}
 use Rattle.vm_blocks.proofs.ChangedInPlace.{frame_lent}
-use Rattle.vm_blocks.proofs.ReplacedRuns.{blocks_left, kind_here, seats_left, tried}
+use Rattle.vm_blocks.proofs.ReplacedRuns.{blocks_left, kind_here, put_or_left, seats_left, tried}
 use Rattle.vm_blocks.proofs.file_blocks.FileBlocks.replace_run.Goals as goal
 
 pub unwrap-frame-requires : goal.unwrap-frame-requires
@@ -19,15 +21,18 @@ replace_in_frame-requires-clause-kind g c =
 pub invariant_of-self : goal.invariant_of-self
 invariant_of-self g c =
     let facts = g.S.Store.facts in let file = c.self.inside.file in let es = c.self.inside.frames.entries in let cap = c.self.inside.frames.cap in let s = c.args.self.now in
-    let run = c.args.run in let f = c.unwrap-frame.result.now in let new = c.replace_in_frame.new.frame in let done = c.replace_in_frame.ensures in let r = c.replace_in_frame.result in
-    let here : frame_of es run.block.0 ≡ Some f = sym c.peek_mut.ensures.value ∙ ap option_copied_mut c.unwrap-frame.ensures in (
-      blocks_left facts file es cap s c.self.view_is run f here c.requires.kind new _ r done.ok done.err c.requires.loaded c.self.invariant.0,
-      c.self.invariant.1 ∙ sym (ap locked_count (seats_left facts file es cap s c.self.view_is run f here c.requires.kind new _ r done.ok done.err)),
+    let run = c.args.run in let h = run.block.0 in let f = c.unwrap-frame.result.now in let new = c.replace_in_frame.new.frame in let done = c.replace_in_frame.ensures in
+    let here : frame_of es h ≡ Some f = sym c.peek_mut.ensures.value ∙ ap option_copied_mut c.unwrap-frame.ensures in
+    let left = put_or_left facts file es cap s c.self.view_is run f here c.requires.kind new _ c.replace_in_frame.result done.ok done.err in
+    let part = run_part run (body_value f.body) in (
+      blocks_left facts file es cap s c.self.view_is h f here part new left c.requires.loaded c.self.invariant.0,
+      c.self.invariant.1 ∙ sym (ap locked_count (seats_left facts file es cap s c.self.view_is h f here part new left)),
     )
 
 pub returns : goal.returns
 returns g c =
     let facts = g.S.Store.facts in let file = c.self.inside.file in let es = c.self.inside.frames.entries in let cap = c.self.inside.frames.cap in let s = c.args.self.now in
-    let run = c.args.run in let f = c.unwrap-frame.result.now in let new = c.replace_in_frame.new.frame in let done = c.replace_in_frame.ensures in let r = c.replace_in_frame.result in
+    let run = c.args.run in let f = c.unwrap-frame.result.now in let new = c.replace_in_frame.new.frame in let done = c.replace_in_frame.ensures in
     let here : frame_of es run.block.0 ≡ Some f = sym c.peek_mut.ensures.value ∙ ap option_copied_mut c.unwrap-frame.ensures in
-    tried facts file es cap s c.self.view_is run f here c.requires.kind new g.R.Recorder.records g.R.Recorder.keeps c.args.recorder.now c.replace_in_frame.new.recorder r done.ok done.recorded done.err c.requires.loaded
+    tried facts file es cap s c.self.view_is run f here c.requires.kind new g.R.Recorder.records g.R.Recorder.keeps c.args.recorder.now c.replace_in_frame.new.recorder
+    c.replace_in_frame.result done.ok done.recorded done.err c.requires.loaded
