@@ -1,61 +1,52 @@
 -- Plans of edits that replace a run of bytes.
-use Rattle.std.proofs.Common.{◌≡◌, ◌≤◌, ◌+◌, ◌-◌, ℕ, List, [], ◌∷◌, ◌++◌, Bool, true, false, not, Option, Some, None, Result, Ok, Err, MatchResult, length, take, drop, min, nat_lt, refl, sym, ap, subst, ◌∙◌, inl, inr, arith, length-drop}
-use Rattle.std.proofs.lemmas.Bool.{cases_lt, le-ltb, lt-ltb}
-use Rattle.std.proofs.lemmas.List.{length-take-le}
+use Rattle.std.proofs.Common.{◌≡◌, ◌≢◌, ◌≤◌, ◌+◌, ◌⊎◌, ℕ, List, [], ◌∷◌, ◌++◌, Bool, true, false, not, Option, Some, None, Result, Ok, Err, MatchResult, is_some, unwrap_or, length, take, drop, nat_lt, refl, sym, ap, subst, ◌∙◌, inl, inr, arith, length-drop, rules}
+use Rattle.std.proofs.lemmas.Bool.{cases_lt, le-ltb, leb-true, lt-ltb}
 use Rattle.std.specs.FinMap.{get, contains_key}
-use Rattle.std.specs.Option.{option_map}
+use Rattle.std.specs.Option.{option_map, option_map_or}
 use Rattle.std.specs.Result.{IsErrAnd}
-use Rattle.geos_model.specs.Bytes.{resized, spliced}
+use Rattle.geos_model.specs.Bytes.{spliced}
 use Rattle.geos_model.specs.Cost.{cost}
-use Rattle.geos_model.specs.Document.{Block, Document, chunks_of}
-use Rattle.geos_model.specs.Heap.{ChunkMap, capacity, chunk_bytes, fits_with, is_heap_map}
-use Rattle.geos_model.specs.Machine.{kind_of}
-use Rattle.geos_model.specs.Meaning.{chunk_at, conditions, effect, no_room, on_chunk, past_end, with_chunk}
-use Rattle.geos_model.specs.Places.{places_of}
+use Rattle.geos_model.specs.Document.{Block, Document, block_at, chunks_of, is_heap_body, is_live, is_valid_body, no_block, raw_bytes_of, with_body}
+use Rattle.geos_model.specs.Heap.{ChunkMap, capacity, chunk_bytes, fits_with}
+use Rattle.geos_model.specs.Machine.{OneBody, edit_needs, kind_of}
+use Rattle.geos_model.specs.Meaning.{chunk_at, conditions, effect, no_room, on_chunk, on_raw, past_end, too_big, with_chunk}
+use Rattle.geos_model.specs.Places.{places_of, raw_run}
 use Rattle.geos_model.specs.Refusal.{Conditions, first_refusal}
 use Rattle.geos_model.specs.Scope.{Scope, scope_of}
 use Rattle.geos_model.specs.Scope as scopes
-use Rattle.geos_model.specs.declared.command.Body.TheVariants.{Heap}
+use Rattle.geos_model.specs.declared.command.Body.{Body}
+use Rattle.geos_model.specs.declared.command.Body.TheVariants.{Heap, Raw}
+use Rattle.geos_model.specs.declared.command.Done.{Done}
 use Rattle.geos_model.specs.declared.command.Done.TheVariants as done
 use Rattle.geos_model.specs.declared.command.Edit.{Edit}
 use Rattle.geos_model.specs.declared.command.Edit.TheVariants as edits
 use Rattle.geos_model.specs.declared.command.Kind.TheVariants.{In}
 use Rattle.geos_model.specs.declared.fault.Fault.{Fault}
-use Rattle.geos_model.specs.declared.fault.Fault.TheVariants.{Full, Range}
+use Rattle.geos_model.specs.declared.fault.Fault.TheVariants.{Full, Memory, NoChunk, Range, TooBig}
 use Rattle.geos_model.specs.declared.handle.ChunkHandle.{ChunkHandle}
 use Rattle.geos_model.specs.declared.handle.VmHandle.{VmHandle}
 use Rattle.geos_model.specs.declared.place.Place.TheVariants as place
-use Rattle.geos_model.proofs.HeapTables.{chunk_bytes_le, fits_with-fewer, fits_with-many, fits_with-same}
-use Rattle.chunk_edits.specs.Splicing.{Splice, forwards}
-use Rattle.chunk_edits.proofs.SplicingLemmas.{length-splice}
-use Rattle.lmem_heap.proofs.PlacedLemmas.{length-resized}
-use Rattle.vm_blocks.specs.Allowing.{AllowsChunk}
+use Rattle.geos_model.proofs.HeapTables.{fits_with-fewer}
+use Rattle.chunk_edits.specs.Splicing.{Splice}
+use Rattle.vm_store.specs.Facts.{StoreFacts}
 use Rattle.vm_blocks.specs.ByteChanges.{part_in}
-use Rattle.vm_blocks.specs.Parts.{AllowsPart}
-use Rattle.vm_blocks.specs.Preparing.{AllowsChange}
+use Rattle.vm_blocks.specs.Keeping.{IsEnvironmentFault, KeepsBlocks, is_loaded}
+use Rattle.vm_blocks.specs.Runs.{AllowsRunAt, IsKindOfRun, RefusesRunAt, TriesRun, bytes_with_run, run_change}
+use Rattle.vm_blocks.specs.State.{CacheState}
 use Rattle.vm_blocks.specs.declared.change.Change.{Change}
 use Rattle.vm_blocks.specs.declared.change.Change.TheVariants as changes
-use Rattle.vm_blocks.proofs.Preparing.{takes_body}
-use Rattle.doc_edits.specs.Found.{IsChunkAt, IsChunkLive, IsHeapAt}
-use Rattle.doc_edits.specs.Planning.{Plans, RefusesInMemory}
-use Rattle.doc_edits.specs.RunPlans.{IsRun, ReplacesRun, bytes_with_run, planned_as, run_change}
-use Rattle.doc_edits.specs.declared.run_plans.Run.{Run}
-use Rattle.doc_edits.proofs.ChunkParts.{fits_short, plain_built}
+use Rattle.vm_blocks.specs.declared.run.Run.{Run}
+use Rattle.vm_blocks.proofs.KeepingLaws.{loaded-live}
+use Rattle.vm_blocks.proofs.RunLemmas.{gone, length_after}
+use Rattle.doc_edits.specs.Found.{AreLate, IsChunkAt, IsChunkLive, IsHeapAt, IsRawAt}
+use Rattle.doc_edits.specs.Planning.{Plans, PlansEdit, RefusesInMemory}
+use Rattle.doc_edits.specs.RunPlans.{IsRun, ReplacesRun, TriesEdit, planned_as}
+use Rattle.doc_edits.proofs.ChunkParts.{plain_built}
 use Rattle.doc_edits.proofs.ChunkPlans as plans
-use Rattle.doc_edits.proofs.Documents.{chunks_are}
-
--- a size that is cut where no heap has room
-pub room_for_size : (m : ChunkMap) (h n : ℕ) (bytes : List ℕ) → is_heap_map m ≡ true → contains_key m h ≡ true → n ≡ min (length bytes) 4294967295 → fits_with m h (resized (chunk_bytes m h) n) ≡ fits_with m h bytes
-room_for_size m h n bytes valid live cut =
-    let size = length-resized (chunk_bytes m h) n in
-    elim (cases_lt (length bytes) 4294967295) [
-      | inl l ↦ fits_with-same m h (resized (chunk_bytes m h) n) bytes valid live (omega arith)
-      | inr l ↦ fits_with-many m h (resized (chunk_bytes m h) n) valid live (omega arith) ∙ sym (fits_with-many m h bytes valid live (omega arith))
-    ]
-
--- how many bytes there are after others came in the place of a run
-pub length_after : (bytes new : List ℕ) (at n : ℕ) → at + n ≤ length bytes → length (spliced bytes at n new) ≡ length bytes - n + length new
-length_after bytes new at n within = omega (arith, within, length-splice bytes new at (at + n) (omega (arith, within)))
+use Rattle.doc_edits.proofs.Documents.{body_at, chunks_are}
+use Rattle.doc_edits.proofs.Loading.{IsBrought}
+use Rattle.doc_edits.proofs.Planned.{plans_brought}
+use Rattle.doc_edits.proofs.Refusals.{no_chunk}
 
 -- in which part of the document a run lies
 abbrev pub scope_of_run : VmHandle → Option ChunkHandle → Scope
@@ -79,10 +70,6 @@ pub planned_so : (change : Change) (edit : Edit) (d : Document) (r : Result (Uni
     → MatchResult (planned_as change r) (λ p. Plans edit d p.0 p.1) (RefusesInMemory edit d)
 planned_so change edit d (Ok x) is = is
 planned_so change edit d (Err fault) is = is
-
-pub refused_as : (change : Change) (r : Result (Unit {0}) Fault) (fault : Fault) → IsErrAnd r (λ e. e ≡ fault) → IsErrAnd (planned_as change r) (λ e. e ≡ fault)
-refused_as change (Ok x) fault is = absurd is
-refused_as change (Err e) fault is = is
 
 -- the run that these numbers tell
 abbrev pub change_at : VmHandle → Option ChunkHandle → ℕ → ℕ → List ℕ → Document → Change
@@ -115,9 +102,6 @@ module _ (d : Document) (b : VmHandle) (c : ChunkHandle) (bytes : List ℕ) (the
   abbrev room : Conditions
   room = no_room (chunks_of d b.0) c.0 (spliced old at n new)
 
-  gone : at + n ≤ length old → length (take n (drop at old)) ≡ n
-  gone within = length-take-le n (drop at old) (omega (arith, within, length-drop at old))
-
   no_longer : length new ≤ n → nat_lt (length old) (at + n) ≡ false → not (fits_with (chunks_of d b.0) c.0 (spliced old at n new)) ≡ false
   no_longer fewer within = elim (cases_lt (length old) (at + n)) [
     | inl far ↦ let no : false ≡ true = sym within ∙ lt-ltb (length old) (at + n) far in absurd (cc no)
@@ -131,7 +115,7 @@ module _ (d : Document) (b : VmHandle) (c : ChunkHandle) (bytes : List ℕ) (the
     pub run_tested : (r : Result (Unit {0}) Fault) → Tests (chunks_of d b.0) c.0 old at n new r → MatchResult r (λ _. Plans edit d (change_at b (Some c) at n new d) done.Nothing) (RefusesInMemory edit d)
     run_tested (Ok x) tested =
         let within : at + n ≤ length old = tested.0 in
-        let size = gone within in
+        let size = gone old at n within in
         let accepted : first_refusal rest ≡ None = same ∙ rw (tested.1, le-ltb (length old) (at + n) within) refl in
         plans.spliced edit d b c (chunks_of d b.0) there.heap bytes there made
         (plain_built edit d b c rest (spliced old at n new) (n + length new) there.heap there.live there.valid refusals does kind costs at n (length new) places (Ok made)
@@ -201,12 +185,197 @@ module _ (d : Document) (r : Result (Unit {0}) Fault) where
   chunk_tested edit run k here is m live bytes there tested =
       replaced edit run k here is (tested_here run.block run.chunk k here run.at run.count run.new.now m live bytes there tested)
 
--- Of a run whose change a chunk takes: the chunk is no longer than a heap, and so is what comes.
-pub short_there : (d : Document) (run : Run) (k : ChunkHandle) (m : ChunkMap) → run.chunk ≡ Some k → option_map (λ (b : Block). b.body) (get d.blocks run.block.0) ≡ Some (Heap m) → is_heap_map m ≡ true → AllowsChange (run_change run d) d
-    → (length (chunk_bytes m k.0) ≤ capacity) × (length run.new.now ≤ capacity)
-short_there d run k m here there valid takes =
-    let s : Splice = record { at = run.at; old = take run.count (drop run.at (bytes_with_run d run.block run.chunk)); new = run.new.now } in
-    let allows : AllowsChunk m k.0 s = subst (λ (o : Option ChunkHandle). AllowsPart (part_in o s) (Heap m)) here (takes_body d run.block.0 (part_in run.chunk s) (Heap m) there takes) in
-    let bytes = chunk_bytes m k.0 in
-    let within : s.at + length s.old ≤ length bytes = allows.within in
-    (chunk_bytes_le m k.0 valid allows.live, omega (arith, within, fits_short m k.0 (forwards s bytes) valid allows.live allows.fits, length-splice bytes s.new s.at (s.at + length s.old) (omega (arith, within))))
+-- Of a raw body: what a test of it tells.
+
+abbrev TestsRaw : List ℕ → ℕ → ℕ → List ℕ → Result (Unit {0}) Fault → Type 0
+TestsRaw bytes at n new r =
+    MatchResult r (λ _. (at + n ≤ length bytes) × (length (spliced bytes at n new) ≤ capacity))
+    (λ fault. first_refusal (past_end bytes (at + n) ++ too_big (length (spliced bytes at n new))) ≡ Some fault)
+
+past_raw : (d : Document) (h : ℕ) (bytes : List ℕ) (rest : Conditions) → IsRawAt d h bytes → first_refusal (on_raw d h ++ rest) ≡ first_refusal rest
+past_raw d h bytes rest live = rw live refl
+
+-- where what stays within the end isn't too big, size refuses nothing
+only_long : (past big : Bool) → (past ≡ false → big ≡ false) → first_refusal ((Range, past) ∷ (TooBig, big) ∷ []) ≡ first_refusal ((Range, past) ∷ [])
+only_long true true holds = refl
+only_long true false holds = refl
+only_long false true holds = let no : true ≡ false = holds refl in absurd (cc no)
+only_long false false holds = refl
+
+module _ (d : Document) (b : VmHandle) (bytes : List ℕ) (live : IsRawAt d b.0 bytes) (at n : ℕ) (new : List ℕ) where
+  abbrev all : List ℕ
+  all = raw_bytes_of d b.0
+
+  all_is : all ≡ bytes
+  all_is = rw live refl
+
+  -- an edit with these refusals that does this
+  module _ (edit : Edit) (rest : Conditions) (same : first_refusal rest ≡ first_refusal (past_end all (at + n) ++ too_big (length (spliced all at n new)))) (refusals : conditions edit d ≡ on_raw d b.0 ++ rest)
+      (does : effect edit d ≡ (with_body d b.0 (Raw (spliced all at n new)), done.Nothing)) (kind : kind_of edit ≡ In b) (costs : n + length new ≡ cost edit d (effect edit d).0)
+      (places : places_of edit d ≡ raw_run b at n (length new)) where
+    first : first_refusal (conditions edit d) ≡ first_refusal (past_end all (at + n) ++ too_big (length (spliced all at n new)))
+    first = ap first_refusal refusals ∙ past_raw d b.0 bytes rest live ∙ same
+
+    raw_planned : (r : Result (Unit {0}) Fault) → TestsRaw all at n new r → MatchResult r (λ _. Plans edit d (change_at b None at n new d) done.Nothing) (RefusesInMemory edit d)
+    raw_planned (Ok x) tested =
+        let within : at + n ≤ length all = tested.0 in let size = gone all at n within in
+        record {
+          accepted = first ∙ rw (le-ltb (length all) (at + n) within, le-ltb capacity (length (spliced all at n new)) tested.1) refl;
+          applies = record {
+            raw = rw live refl;
+            stands = record { within = omega (arith, within, size); same = ap (λ (k : ℕ). take k (drop at all)) size };
+            fits = subst (λ (k : ℕ). length (spliced all at k new) ≤ capacity) (sym size) tested.1;
+          };
+          document = ap (λ (k : ℕ). with_body d b.0 (Raw (spliced all at k new))) size ∙ sym (ap (λ (p : Document × Done). p.0) does);
+          answer = sym (ap (λ (p : Document × Done). p.1) does);
+          kind = sym kind;
+          cost = ap (λ (k : ℕ). k + length new) size ∙ costs;
+          places = ap (λ (k : ℕ). raw_run b at k (length new)) size ∙ sym places;
+        }
+    raw_planned (Err fault) tested = inr (first ∙ tested)
+
+-- So of the edit that replaces a run in a raw block.
+
+no_bigger : (bytes new : List ℕ) (at : ℕ) → length bytes ≤ capacity → nat_lt (length bytes) (at + length new) ≡ false → nat_lt capacity (length (spliced bytes at (length new) new)) ≡ false
+no_bigger bytes new at short within = elim (cases_lt (length bytes) (at + length new)) [
+  | inl far ↦ let no : false ≡ true = sym within ∙ lt-ltb (length bytes) (at + length new) far in absurd (cc no)
+  | inr near ↦ le-ltb capacity (length (spliced bytes at (length new) new)) (omega (arith, short, near, length_after bytes new at (length new) near))
+]
+
+module _ (d : Document) (r : Result (Unit {0}) Fault) where
+  splice_raw : (b : VmHandle) (at n : ℕ) (new bytes : List ℕ) → IsRawAt d b.0 bytes → TestsRaw (raw_bytes_of d b.0) at n new r
+      → MatchResult r (λ _. Plans (edits.SpliceRaw b at n new) d (change_at b None at n new d) done.Nothing) (RefusesInMemory (edits.SpliceRaw b at n new) d)
+  splice_raw b at n new bytes live tested = raw_planned d b bytes live at n new (edits.SpliceRaw b at n new) _ refl refl refl refl refl refl r tested
+
+  write_raw : (b : VmHandle) (at : ℕ) (new bytes : List ℕ) → IsRawAt d b.0 bytes → length (raw_bytes_of d b.0) ≤ capacity → TestsRaw (raw_bytes_of d b.0) at (length new) new r
+      → MatchResult r (λ _. Plans (edits.WriteRaw b at new) d (change_at b None at (length new) new d) done.Nothing) (RefusesInMemory (edits.WriteRaw b at new) d)
+  write_raw b at new bytes live short tested =
+      raw_planned d b bytes live at (length new) new (edits.WriteRaw b at new) _ (sym (only_long _ _ (no_bigger (raw_bytes_of d b.0) new at short))) refl refl refl (omega arith) refl r tested
+
+  -- what was tested of a run there
+  abbrev IsTestedRaw : VmHandle → ℕ → ℕ → List ℕ → Type 0
+  IsTestedRaw b at n new = ((bytes : List ℕ) × IsRawAt d b.0 bytes) × ((length (raw_bytes_of d b.0) ≤ capacity) × TestsRaw (raw_bytes_of d b.0) at n new r)
+
+  moved_raw : (run : Run) (b : VmHandle) (o : Option ChunkHandle) (at n : ℕ) (new : List ℕ) → IsRun run b o at n new → IsTestedRaw run.block run.at run.count run.new.now → IsTestedRaw b at n new
+  moved_raw run b o at n new is tested =
+      subst (λ (p : VmHandle × (ℕ × (ℕ × List ℕ))). IsTestedRaw p.0 p.1.0 p.1.1.0 p.1.1.1) (λ i. (is.block i, (is.at i, (is.count i, is.new i)))) tested
+
+  raw_tested : (edit : Edit) (run : Run) → run.chunk ≡ None → ReplacesRun edit run → IsTestedRaw run.block run.at run.count run.new.now
+      → MatchResult r (λ _. Plans edit d (run_change run d) done.Nothing) (RefusesInMemory edit d)
+  raw_tested (edits.SpliceRaw b at n new) run here is tested =
+      let w = moved_raw run b None at n new is tested in plans_run d r (edits.SpliceRaw b at n new) run b None at n new is (splice_raw b at n new w.0.0 w.0.1 w.1.1)
+  raw_tested (edits.WriteRaw b at new) run here is tested =
+      let w = moved_raw run b None at (length new) new is tested in plans_run d r (edits.WriteRaw b at new) run b None at (length new) new is (write_raw b at new w.0.0 w.0.1 w.1.0 w.1.1)
+  raw_tested (edits.Splice b c at n new) run here is tested = let no : Some c ≡ None = sym is.chunk ∙ here in absurd (cc no)
+  raw_tested (edits.Write b c at new) run here is tested = let no : Some c ≡ None = sym is.chunk ∙ here in absurd (cc no)
+  raw_tested (edits.Delete b c at n) run here is tested = let no : Some c ≡ None = sym is.chunk ∙ here in absurd (cc no)
+  raw_tested _ run here is tested = absurd is
+
+-- What replacing a run in memory comes to is the plan of the edit.
+
+live_there : (o : Option Block) → is_some o ≡ true → option_map (λ (b : Block). b.body) o ≡ Some (unwrap_or o no_block).body
+live_there None live = absurd (cc live)
+live_there (Some block) live = refl
+
+abbrev Tried : Option ChunkHandle → Body → Run → Result (Unit {0}) Fault → Type 0
+Tried o body run r = MatchResult r (λ _. AllowsRunAt o body run) (λ fault. (fault ≡ Memory) ⊎ RefusesRunAt o body run fault)
+
+module _ (edit : Edit) (run : Run) (is : ReplacesRun edit run) (d : Document) where
+  abbrev Judged : Result (Unit {0}) Fault → Type 0
+  Judged r = MatchResult r (λ _. Plans edit d (run_change run d) done.Nothing) (RefusesInMemory edit d)
+
+  -- a chunk that isn't there
+  absent : (k : ChunkHandle) → run.chunk ≡ Some k → (m : ChunkMap) → IsHeapAt d run.block.0 m → contains_key m k.0 ≡ false → first_refusal (conditions edit d) ≡ Some NoChunk
+  absent k here m live gone =
+      plans.chunk_refused edit d run.block k (run_scope edit run is ∙ ap (scope_of_run run.block) here) NoChunk (λ rest late. no_chunk d run.block.0 k.0 m rest live gone late)
+
+  in_heap : (k : ChunkHandle) → run.chunk ≡ Some k → (m : ChunkMap) → IsHeapAt d run.block.0 m → is_valid_body (Heap m) ≡ true → contains_key m k.0 ≡ true
+      → (r : Result (Unit {0}) Fault) → Tests m k.0 (chunk_bytes m k.0) run.at run.count run.new.now r → Judged r
+  in_heap k here m live valid there r tested =
+      let same : m ≡ chunks_of d run.block.0 = sym (chunks_are d run.block.0 m live) in
+      chunk_tested d r edit run k here is m live (chunk_bytes m k.0)
+      (record {
+        heap = subst (IsHeapAt d run.block.0) same live;
+        live = subst (λ (x : ChunkMap). contains_key x k.0 ≡ true) same there;
+        valid = subst (λ (x : ChunkMap). is_valid_body (Heap x) ≡ true) same valid;
+        value = ap (λ (x : ChunkMap). chunk_bytes x k.0) same;
+      }) tested
+
+  in_raw : run.chunk ≡ None → (bytes : List ℕ) → IsRawAt d run.block.0 bytes → is_valid_body (Raw bytes) ≡ true
+      → (r : Result (Unit {0}) Fault) → TestsRaw bytes run.at run.count run.new.now r → Judged r
+  in_raw here bytes live valid r tested =
+      let same : bytes ≡ raw_bytes_of d run.block.0 = rw live refl in
+      raw_tested d r edit run here is
+      ((bytes, live), (subst (λ (x : List ℕ). length x ≤ capacity) same (leb-true _ _ valid), subst (λ (x : List ℕ). TestsRaw x run.at run.count run.new.now r) same tested))
+
+  judged_at : (o : Option ChunkHandle) → run.chunk ≡ o → (body : Body) → option_map (λ (b : Block). b.body) (get d.blocks run.block.0) ≡ Some body → is_valid_body body ≡ true → IsKindOfRun run body
+      → (r : Result (Unit {0}) Fault) → Tried o body run r → Judged r
+  judged_at None here (Raw bytes) there valid kind (Ok x) tried = in_raw here bytes (body_at d run.block.0 (Raw bytes) there) valid (Ok x) (tried.within, tried.room)
+  judged_at None here (Raw bytes) there valid kind (Err fault) (inl lacks) = inl lacks
+  judged_at None here (Raw bytes) there valid kind (Err fault) (inr refused) = in_raw here bytes (body_at d run.block.0 (Raw bytes) there) valid (Err fault) refused
+  judged_at (Some k) here (Heap m) there valid kind (Ok x) tried = in_heap k here m (body_at d run.block.0 (Heap m) there) valid tried.0 (Ok x) (tried.1.within, tried.1.room)
+  judged_at (Some k) here (Heap m) there valid kind (Err fault) (inl lacks) = inl lacks
+  judged_at (Some k) here (Heap m) there valid kind (Err fault) (inr (inl none)) =
+      inr (absent k here m (body_at d run.block.0 (Heap m) there) none.1 ∙ ap (λ (x : Fault). Some x) (sym none.0))
+  judged_at (Some k) here (Heap m) there valid kind (Err fault) (inr (inr refused)) = in_heap k here m (body_at d run.block.0 (Heap m) there) valid refused.0 (Err fault) refused.1
+  judged_at (Some k) here (Raw bytes) there valid kind r tried = let no : false ≡ true = kind ∙ ap is_some here in absurd (cc no)
+  judged_at None here (Heap m) there valid kind r tried = let no : true ≡ false = kind ∙ ap is_some here in absurd (cc no)
+
+  pub judged : is_live d run.block.0 ≡ true → is_valid_body (block_at d run.block.0).body ≡ true → IsKindOfRun run (block_at d run.block.0).body
+      → (r : Result (Unit {0}) Fault) → Tried run.chunk (block_at d run.block.0).body run r → Judged r
+  judged live valid kind r tried = judged_at run.chunk refl (block_at d run.block.0).body (live_there (get d.blocks run.block.0) live) valid kind r tried
+
+-- the kind of a block that was brought in
+
+pub kind_raw : (o : Option Block) → option_map_or (λ (b : Block). not (is_heap_body b.body)) o false ≡ true → is_heap_body (unwrap_or o no_block).body ≡ false
+kind_raw None raw = absurd (cc raw)
+kind_raw (Some block) raw = by_kind (is_heap_body block.body) raw
+  where
+    by_kind : (b : Bool) → not b ≡ true → b ≡ false
+    by_kind true is = absurd (cc is)
+    by_kind false is = refl
+
+pub kind_heap : (o : Option Block) → option_map_or (λ (b : Block). is_heap_body b.body) o false ≡ true → is_heap_body (unwrap_or o no_block).body ≡ true
+kind_heap None heap = absurd (cc heap)
+kind_heap (Some block) heap = heap
+
+-- What replacing a run in a block that was brought in comes to is what making its edit comes to.
+module _ {S R : Type 0} (facts : S → StoreFacts) (records : R → Change → R → Type 0) (keeps : R → R → Type 0) (edit : Edit) (run : Run) (a b new : CacheState S) (log log' : R) where
+  abbrev change : Change
+  change = run_change run b.document
+
+  tried_so : (r : Result (Unit {0}) Fault) → TriesRun facts records keeps run b new log log' r → Tried run.chunk (block_at b.document run.block.0).body run r
+  tried_so (Ok x) tries = tries.allows
+  tried_so (Err fault) (same, inl lacks) = inl lacks.0
+  tried_so (Err fault) (same, inr refused) = inr refused.1
+
+  made_so : (r : Result (Unit {0}) Fault) → PlansEdit facts a b edit (planned_as change r) → TriesRun facts records keeps run b new log log' r → TriesEdit facts records keeps edit a new log log' r
+  made_so (Ok x) plans tries = record {
+    loaded = b;
+    change = change;
+    plans = plans;
+    makes = tries.makes;
+    disk = ap (λ (s : CacheState S). s.disk) tries.document;
+    document = ap (λ (s : CacheState S). s.document) tries.document;
+    recorded = tries.recorded;
+  }
+  made_so (Err fault) plans (same, inl lacks) = (subst (λ (s : CacheState S). PlansEdit facts a s edit (Err fault)) (sym same) plans, inr lacks.1)
+  made_so (Err fault) plans (same, inr refused) = (subst (λ (s : CacheState S). PlansEdit facts a s edit (Err fault)) (sym same) plans, inl refused.0)
+
+  module _ (is : ReplacesRun edit run) (kept : KeepsBlocks facts a b) (loaded : is_loaded b run.block.0 ≡ true) (brought : IsBrought (IsEnvironmentFault facts a.disk.store b.disk.store) edit a b (Ok tt))
+      (kind : IsKindOfRun run (block_at b.document run.block.0).body) (needs : edit_needs edit ≡ OneBody run.block.0) (r : Result (Unit {0}) Fault)
+      (tries : TriesRun facts records keeps run b new log log' r) (valid : is_valid_body (block_at b.document run.block.0).body ≡ true) where
+    tested : MatchResult r (λ _. Plans edit b.document change done.Nothing) (RefusesInMemory edit b.document)
+    tested = judged edit run is b.document (loaded-live b run.block.0 loaded) valid kind r (tried_so r tries)
+
+    pub replaced_in : TriesEdit facts records keeps edit a new log log' r
+    replaced_in =
+        made_so r
+        (plans_brought facts edit run.block needs a b kept brought loaded (planned_as change r) (planned_so change edit b.document r tested)
+        (λ x freed. absurd (subst (λ (e : Edit). ReplacesRun e run) freed is))) tries
+
+-- where it isn't brought in
+pub not_replaced : {S R : Type 0} (facts : S → StoreFacts) (records : R → Change → R → Type 0) (keeps : R → R → Type 0) (edit : Edit) (a b : CacheState S) (log : R) (fault : Fault)
+    → PlansEdit facts a b edit (Err fault) → (r : Result (Unit {0}) Fault) → IsErrAnd r (λ e. e ≡ fault) → TriesEdit facts records keeps edit a b log log r
+not_replaced facts records keeps edit a b log fault plans (Ok x) is = absurd is
+not_replaced facts records keeps edit a b log fault plans (Err e) is = (subst (λ (x : Fault). PlansEdit facts a b edit (Err x)) (sym is) plans, inl refl)

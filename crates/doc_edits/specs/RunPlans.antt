@@ -1,8 +1,5 @@
--- A run of bytes that an edit replaces: its change is made of where it lies and of what comes, with no bytes of its
--- own.
-use Rattle.std.specs.Prelude.{◌≡◌, ℕ, Bool, true, false, List, [], Option, None, Some, Result, Ok, Err, length, take, drop}
-use Rattle.geos_model.specs.Document.{Document, raw_bytes_of}
-use Rattle.geos_model.specs.Meaning.{chunk_at}
+-- Edits that replace a run of bytes: how they are planned, recorded and made in one.
+use Rattle.std.specs.Prelude.{◌≡◌, ◌⊎◌, ℕ, Bool, true, false, List, [], MatchResult, Option, None, Some, Result, Ok, Err, length}
 use Rattle.geos_model.specs.declared.command.Done.{Done}
 use Rattle.geos_model.specs.declared.command.Done.TheVariants.{Nothing}
 use Rattle.geos_model.specs.declared.command.Edit.{Edit}
@@ -11,25 +8,12 @@ use Rattle.geos_model.specs.declared.fault.Fault.{Fault}
 use Rattle.geos_model.specs.declared.handle.ChunkHandle.{ChunkHandle}
 use Rattle.geos_model.specs.declared.handle.VmHandle.{VmHandle}
 use Rattle.vm_store.specs.Facts.{StoreFacts}
-use Rattle.vm_blocks.specs.ByteChanges.{part_in}
+use Rattle.vm_blocks.specs.Changes.{after_change}
+use Rattle.vm_blocks.specs.Preparing.{IsApplied}
 use Rattle.vm_blocks.specs.State.{CacheState}
 use Rattle.vm_blocks.specs.declared.change.Change.{Change}
-use Rattle.vm_blocks.specs.declared.change.Change.TheVariants as changes
+use Rattle.vm_blocks.specs.declared.run.Run.{Run}
 use Rattle.doc_edits.specs.Planning.{PlansEdit}
-use Rattle.doc_edits.specs.declared.run_plans.Run.{Run}
-
--- the bytes of a raw block, or of a chunk of a heap
-abbrev pub bytes_with_run : Document → VmHandle → Option ChunkHandle → List ℕ
-bytes_with_run d b None = raw_bytes_of d b.0
-bytes_with_run d b (Some c) = chunk_at d b.0 c.0
-
--- the change that replaces the bytes which the run has in a document
-abbrev pub run_change : Run → Document → Change
-run_change run d = changes.Part run.block (part_in run.chunk (record {
-  at = run.at;
-  old = take run.count (drop run.at (bytes_with_run d run.block run.chunk));
-  new = run.new.now;
-}))
 
 -- whether an edit replaces a run of bytes by bytes that it brings
 
@@ -63,10 +47,43 @@ abbrev pub planned_as : Change → Result (Unit {0}) Fault → Result (Change ×
 planned_as change (Ok _) = Ok (change, Nothing)
 planned_as change (Err fault) = Err fault
 
--- What planning an edit as a run comes to: its change, in the document as it is held from then on, is the plan of the
--- edit; or the edit replaces no run, and nothing is done.
-abbrev pub PlansRun : {S : Type 0} → (S → StoreFacts) → CacheState S → CacheState S → Edit
-    → Result (Option Run) Fault → Type 0
-PlansRun facts old new edit (Ok None) = new ≡ old
-PlansRun facts old new edit (Ok (Some run)) = PlansEdit facts old new edit (Ok (run_change run new.document, Nothing))
-PlansRun facts old new edit (Err fault) = PlansEdit facts old new edit (Err fault)
+-- An edit was made so: once its block was loaded its change was its plan, and was recorded and made.
+pub record IsMadeAsRun {S R : Type 0} (facts : S → StoreFacts) (records : R → Change → R → Type 0) (edit : Edit)
+    (old new : CacheState S) (log log' : R) : Type 0 where
+  pub loaded : CacheState S
+  pub change : Change
+  pub plans : PlansEdit facts old loaded edit (Ok (change, Nothing))
+  pub makes : IsApplied facts change loaded new
+  pub disk : new.disk ≡ loaded.disk
+  pub document : new.document ≡ after_change change loaded.document
+  pub recorded : records log change log'
+
+-- What making an edit comes to that replaces a run. Where it is refused, as its plan is, nothing is recorded; that there
+-- is no memory for the record is one of the refusals.
+
+abbrev pub IsRefusedAsRun : {S R : Type 0} → (S → StoreFacts) → (R → R → Type 0) → Edit → CacheState S → CacheState S
+    → R → R → Fault → Type 0
+IsRefusedAsRun facts keeps edit old new log log' fault =
+    PlansEdit facts old new edit (Err fault) × ((log' ≡ log) ⊎ keeps log log')
+
+abbrev pub TriesEdit : {S R : Type 0} → (S → StoreFacts) → (R → Change → R → Type 0) → (R → R → Type 0) → Edit
+    → CacheState S → CacheState S → R → R → Result (Unit {0}) Fault → Type 0
+TriesEdit facts records keeps edit old new log log' result =
+    MatchResult result
+    (λ _. IsMadeAsRun facts records edit old new log log')
+    (IsRefusedAsRun facts keeps edit old new log log')
+
+-- So of any edit: of one that replaces no run that is said, and nothing is done.
+
+abbrev pub IsMadeAsRunOrNone : {S R : Type 0} → (S → StoreFacts) → (R → Change → R → Type 0) → Edit → CacheState S
+    → CacheState S → R → R → Bool → Type 0
+IsMadeAsRunOrNone facts records edit old new log log' true =
+    (is_run_edit edit ≡ true) × IsMadeAsRun facts records edit old new log log'
+IsMadeAsRunOrNone facts records edit old new log log' false = (is_run_edit edit ≡ false) × (new ≡ old) × (log' ≡ log)
+
+abbrev pub MakesAsRun : {S R : Type 0} → (S → StoreFacts) → (R → Change → R → Type 0) → (R → R → Type 0) → Edit
+    → CacheState S → CacheState S → R → R → Result Bool Fault → Type 0
+MakesAsRun facts records keeps edit old new log log' result =
+    MatchResult result
+    (IsMadeAsRunOrNone facts records edit old new log log')
+    (IsRefusedAsRun facts keeps edit old new log log')

@@ -27,4 +27,4 @@ pub use large_plans::plan_large;
 pub use lent_runs::prepare_run;
 pub use marking::mark_edited;
 pub use planning::plan;
-pub use run_plans::{Run, lent_run, plan_run};
+pub use run_plans::make_run;

@@ -26,4 +26,3 @@ pub mod Groups
 pub mod MarkLemmas
 pub mod Entries
 pub mod LogViews
-pub mod Newest

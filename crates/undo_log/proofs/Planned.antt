@@ -1,9 +1,10 @@
 -- From the plan of an edit to what making it comes to.
-use Rattle.std.proofs.Common.{◌≡◌, Err, Ok, Result, inl, inr, refl, sym, ap, ◌∙◌}
+use Rattle.std.proofs.Common.{◌≡◌, Bool, true, false, Err, Ok, Result, inl, inr, refl, sym, ap, ◌∙◌}
 use Rattle.std.proofs.lemmas.Bool.{true≢false}
 use Rattle.geos_model.specs.Machine.{kind_of}
 use Rattle.geos_model.specs.Meaning.{conditions}
 use Rattle.geos_model.specs.declared.command.Done.{Done}
+use Rattle.geos_model.specs.declared.command.Done.TheVariants.{Nothing}
 use Rattle.geos_model.specs.declared.command.Edit.{Edit}
 use Rattle.geos_model.specs.declared.command.Kind.TheVariants.{Made, Plain}
 use Rattle.geos_model.specs.declared.fault.Fault.{Fault}
@@ -15,7 +16,9 @@ use Rattle.vm_blocks.specs.State.{CacheState}
 use Rattle.vm_blocks.specs.declared.change.Change.{Change}
 use Rattle.vm_blocks.proofs.KeepingLaws.{honest-steady, keeps-trans, lacks-later, lacks-memory}
 use Rattle.doc_edits.specs.Planning.{PlansEdit}
-use Rattle.undo_log.specs.Making.{MakesEdit}
+use Rattle.doc_edits.specs.RunPlans.{MakesAsRun}
+use Rattle.undo_log.specs.Logging.{LogState, with_change}
+use Rattle.undo_log.specs.Making.{MakesEdit, MakesRun}
 use Rattle.undo_log.proofs.Edited.{IsSurelyMade, made_at_rest, made_of_plan, never_refused, none_come_in, reads_chain}
 
 module _ {S : Type 0} (facts : S → StoreFacts) (old mid : CacheState S) (edit : Edit) where
@@ -79,3 +82,15 @@ module _ {S : Type 0} (facts : S → StoreFacts) (old mid : CacheState S) (edit 
             let planned = plan.planned (λ chain. absurd (reads_chain old edit (conditions edit old.document) nothing chain)) in
             made_at_rest facts old mid plan.keeps edit change done new result unchanged.0 unchanged.1 other planned sure;
       }
+
+-- An edit that replaces a run, as it was made.
+pub as_run : {S : Type 0} (facts : S → StoreFacts) (old new : CacheState S) (edit : Edit) (log log' : LogState) (r : Result Bool Fault)
+    → MakesAsRun facts (λ from change to. to.lists ≡ with_change change from.lists) (λ from to. to.lists ≡ from.lists) edit old new log log' r → MakesRun facts edit old new log log' r
+as_run facts old new edit log log' (Ok true) (run, made_so) = record {
+  change = made_so.change;
+  makes = made facts old made_so.loaded edit made_so.change Nothing made_so.plans new (Ok tt) (λ _. (refl, made_so.disk, made_so.document)) made_so.makes;
+  newest = made_so.recorded;
+}
+as_run facts old new edit log log' (Ok false) (none, same) = (same.0, same.1)
+as_run facts old new edit log log' (Err fault) (plans, inl same) = (unplanned facts old new edit fault plans, ap (λ (l : LogState). l.lists) same)
+as_run facts old new edit log log' (Err fault) (plans, inr same) = (unplanned facts old new edit fault plans, same)

@@ -12,7 +12,7 @@ use Rattle.vm_store.specs.Facts.{StoreFacts}
 use Rattle.vm_blocks.specs.State.{CacheState}
 use Rattle.vm_blocks.specs.Changes.{after_change, directed, incoming_blocks}
 use Rattle.vm_blocks.specs.Keeping.{IsHonest, IsEnvironmentFault, is_loaded}
-use Rattle.vm_blocks.specs.Preparing.{CanCarryOut, CantPrepareAll, AllowsChange, AreUnlocked, AreInMemory, IsInMemory, IsApplied, AreApplied, NoneComesIn}
+use Rattle.vm_blocks.specs.Preparing.{CantPrepareAll, AllowsChange, AreInMemory, IsInMemory, IsApplied, AreApplied, NoneComesIn}
 use Rattle.vm_blocks.specs.declared.change.Change.{Change}
 use Rattle.chunk_edits.specs.declared.direction.Direction.{Direction}
 use Rattle.chunk_edits.specs.declared.direction.Direction.TheVariants.{Forwards, Backwards}
@@ -51,18 +51,6 @@ CanApplyEntry direction (entries.One c) blocks =
 CanApplyEntry direction (entries.Group cs) blocks =
     NoneComesIn (map (directed direction) cs) × AreInMemory (map (directed direction) cs) blocks
     × CanApplyAllDirected direction cs blocks.document
-
--- The change of an entry of one edit can be made at once, without memory, and was.
-
-abbrev pub CanCarryOutEntry : {S : Type 0} → LogEntry → CacheState S → Type 0
-CanCarryOutEntry (entries.One c) blocks =
-    CanCarryOut c blocks × AreUnlocked c blocks.resident × (incoming_blocks c ≡ [])
-CanCarryOutEntry (entries.Group cs) blocks = ⊥
-
-abbrev pub IsCarriedOut : {S : Type 0} → (S → StoreFacts) → LogEntry → CacheState S → CacheState S → Type 0
-IsCarriedOut facts (entries.One c) old new =
-    IsApplied facts c old new × (new.disk ≡ old.disk) × (new.document ≡ after_change c old.document)
-IsCarriedOut facts (entries.Group cs) old new = ⊥
 
 -- the newest entry of a list is made, and is the newest of the other
 pub record MovesEntry {S : Type 0} (facts : S → StoreFacts) (direction : Direction) (old new : CacheState S)

@@ -21,7 +21,7 @@ use crate::weighing::total_weight;
 use geos_model::{Place, PlacesLookUp};
 use std::alloc::{AllocError, Global};
 use std::marker::Model;
-use vm_blocks::{ByteChange, Change, Direction};
+use vm_blocks::{ByteChange, Change, Direction, Recorder};
 
 /// What is kept of the steps that can be undone or made again, and of the group that is open.
 #[derive(Drop)]
@@ -540,6 +540,21 @@ impl UndoLog {
         ensures { AreExclusive (open_changes self.now.lists.group) self.now.lists.redo }
     {
         let _group = &self.group;
+    }
+}
+
+impl Recorder for UndoLog {
+    ghost use Rattle.std.specs.Prelude.{◌≡◌, true};
+    ghost use Rattle.undo_log.specs.Logging.{TakesBytes, with_change};
+
+    ghost ready = { λ log. (log.place ≡ true) × TakesBytes log.lists };
+
+    ghost records = { λ old change new. new.lists ≡ with_change change old.lists };
+
+    ghost keeps = { λ old new. new.lists ≡ old.lists };
+
+    fn record(&mut self, alloc: Global, change: ByteChange<'_>) -> Result<(), AllocError> {
+        self.add_bytes(alloc, change)
     }
 }
 

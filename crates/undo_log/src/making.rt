@@ -8,8 +8,7 @@ ghost use Rattle.undo_log.specs.Locking.{bars};
 ghost use Rattle.undo_log.specs.Making.{MakesEdit, MakesRecorded, MakesRun};
 
 use crate::log::UndoLog;
-use crate::turning::carry_out;
-use doc_edits::{lent_run, mark_edited, plan, plan_run};
+use doc_edits::{mark_edited, plan};
 use geos_model::{BlockEdit, Done, Fault, Target};
 use std::alloc::Global;
 use vm_blocks::{Change, Direction, FileBlocks};
@@ -54,7 +53,7 @@ pub fn make_recorded<S: Store>(
     requires spare { is_some log.old.lists.group ≡ true → 1 ≤ log.old.spare }
     ensures { MakesRecorded S.facts (edit_of target.entry) blocks.old blocks.new log.old.lists log.new.lists result }
 {
-    if make_run(alloc, blocks, log, target)? {
+    if make_run(blocks, log, target)? {
         return Ok(Done::Nothing);
     }
     let (change, done) = make(alloc, blocks, target)?;
@@ -62,10 +61,9 @@ pub fn make_recorded<S: Store>(
     Ok(done)
 }
 
-// Makes an edit that replaces a run of bytes from its record, which is the newest of the log: the bytes that go, and
-// those that come in, are copied nowhere else. Whether it is such an edit.
+// Makes an edit that replaces a run of bytes, and records it as the newest of the log: the bytes that go, and those that
+// come in, are copied nowhere else. Whether it is such an edit.
 fn make_run<S: Store>(
-    alloc: Global,
     blocks: &mut FileBlocks<S>,
     log: &mut UndoLog,
     target: Target<'_>,
@@ -73,18 +71,11 @@ fn make_run<S: Store>(
     requires { log.old.place ≡ true }
     ensures { MakesRun S.facts (edit_of target.entry) blocks.old blocks.new log.old log.new result }
 {
-    if !log.takes_bytes() {
-        return Ok(false);
+    if log.takes_bytes() {
+        doc_edits::make_run(blocks, target, log)
+    } else {
+        Ok(false)
     }
-    let Some(run) = plan_run(blocks, target)? else {
-        return Ok(false);
-    };
-    log.add_bytes(alloc, lent_run(blocks, run))?;
-    match log.next_step(Direction::Backwards) {
-        Some(step) => carry_out(blocks, step),
-        None => unreachable!(),
-    }
-    Ok(true)
 }
 
 /// Makes changes one after another, the first one first, all or none. No block is locked.

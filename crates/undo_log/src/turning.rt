@@ -8,7 +8,7 @@ ghost use Rattle.chunk_edits.specs.declared.direction.Direction.TheVariants.{Bac
 ghost use Rattle.undo_log.specs.Logging.{after_all, after_entry, changes_in};
 ghost use Rattle.undo_log.specs.Sessions.{CanApplyAllDirected};
 ghost use Rattle.undo_log.specs.Steps.{step_entry};
-ghost use Rattle.undo_log.specs.Turning.{CanApplyEntry, CanCarryOutEntry, CantApplyEntry, IsCarriedOut, IsEntryApplied, no_step_fault};
+ghost use Rattle.undo_log.specs.Turning.{CanApplyEntry, CantApplyEntry, IsEntryApplied, no_step_fault};
 
 use crate::entry::NamedEntry;
 use crate::step::Step;
@@ -77,28 +77,6 @@ fn make_entry<S: Store>(
     match entry.edit() {
         Some(change) => blocks.change(change, direction),
         None => blocks.change_all(entry.as_slice(), direction),
-    }
-}
-
-/// Makes the change of a step of one edit, which was recorded just now, and can be made as things are.
-pub fn carry_out<S: Store>(blocks: &mut FileBlocks<S>, step: Step<'_>)
-    requires { CanCarryOutEntry (step_entry step).entry blocks.old }
-    ensures { IsCarriedOut S.facts (step_entry step.entry).entry blocks.old blocks.new }
-{
-    match step {
-        Step::Bytes(change) => blocks.carry_out_bytes(change),
-        Step::Entry(entry) => carry_out_entry(blocks, entry),
-    }
-}
-
-// So of a whole one.
-fn carry_out_entry<S: Store>(blocks: &mut FileBlocks<S>, entry: &NamedEntry)
-    requires { CanCarryOutEntry entry.now.entry blocks.old }
-    ensures { IsCarriedOut S.facts entry.now.entry blocks.old blocks.new }
-{
-    match entry.edit() {
-        Some(change) if blocks.carry_out(change).is_ok() => {}
-        _ => unreachable!(),
     }
 }
 

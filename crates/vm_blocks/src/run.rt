@@ -1,6 +1,7 @@
 //! A run of bytes that is replaced: whether its body takes what comes in its place, and the change that it is.
 ghost use Rattle.std.specs.Prelude.{◌≡◌, ◌+◌, ◌<◌, ◌≤◌, ◌^◌, ◌++◌, true, IfErr, IfOk, MatchBool, MatchResult, OnOk, None, Some, is_some, length};
 ghost use Rattle.geos_model.specs.Bytes.{spliced};
+ghost use Rattle.geos_model.specs.Document.{is_valid_body};
 ghost use Rattle.geos_model.specs.Heap.{capacity, fits_with};
 ghost use Rattle.geos_model.specs.Meaning.{no_room, past_end, too_big};
 ghost use Rattle.geos_model.specs.Refusal.{first_refusal};
@@ -47,6 +48,7 @@ pub(crate) fn replace_in_frame<R: Recorder>(
         (changes.Part run.entry.block (run_part run.entry (body_value frame.old.body))) recorder.new) }
     ensures err { IfErr result (λ fault. (frame.new ≡ frame.old)
         × IsRunRefused R.keeps run.entry (body_value frame.old.body) recorder.old recorder.new fault) }
+    ensures valid { is_valid_body (body_value frame.old.body) ≡ true }
 {
     let change = lent_change(&frame.body, run)?;
     recorder.record(alloc, change)?;
@@ -65,6 +67,7 @@ fn lent_change<'a>(body: &'a BlockBody, run: Run<'a>) -> Result<ByteChange<'a>, 
         × (byte_part change ≡ run_part run.entry (body_value body.now)))
         (RefusesRun run.entry (body_value body.now)) }
     ensures lengths { IfOk result (λ change. (length change.old.now < 2 ^ 16) × (length change.new.now < 2 ^ 32)) }
+    ensures valid { is_valid_body (body_value body.now) ≡ true }
 {
     match (body, run.chunk) {
         (BlockBody::Raw(body), None) => lent_in_raw(body, run),
@@ -81,6 +84,7 @@ fn lent_in_raw<'a>(body: &'a RawBody, run: Run<'a>) -> Result<ByteChange<'a>, Fa
         × (byte_part change ≡ run_part run.entry (bodies.Raw body.now)))
         (RefusesRun run.entry (bodies.Raw body.now)) }
     ensures lengths { IfOk result (λ change. (length change.old.now < 2 ^ 16) × (length change.new.now < 2 ^ 32)) }
+    ensures valid { is_valid_body (bodies.Raw body.now) ≡ true }
 {
     test_raw(body, run)?;
     Ok(change_of(body.bytes(), run))
@@ -98,6 +102,7 @@ fn lent_in_chunk<'a>(
         × (byte_part change ≡ run_part run.entry (bodies.Heap heap.now.chunks)))
         (RefusesRun run.entry (bodies.Heap heap.now.chunks)) }
     ensures lengths { IfOk result (λ change. (length change.old.now < 2 ^ 16) × (length change.new.now < 2 ^ 32)) }
+    ensures valid { is_valid_body (bodies.Heap heap.now.chunks) ≡ true }
 {
     let bytes = heap.chunk(chunk).ok_or(Fault::NoChunk)?;
     test_chunk(heap, chunk, bytes, run)?;

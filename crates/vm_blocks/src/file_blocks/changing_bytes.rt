@@ -1,7 +1,7 @@
 //! Changes of a run of bytes that lie with the caller: they are carried out as the change that they are, with no change
 //! of their own.
 ghost use Rattle.std.specs.Prelude.{◌≡◌, [], Err, true, IsOk, IfErr, MatchBool, OnOk, OnErr};
-ghost use Rattle.geos_model.specs.Document.{block_at, is_live};
+ghost use Rattle.geos_model.specs.Document.{block_at, is_live, is_valid_body};
 ghost use Rattle.vm_blocks.specs.ByteChanges.{byte_change, byte_part};
 ghost use Rattle.vm_blocks.specs.Changes.{after_change, after_part, directed, incoming_blocks};
 ghost use Rattle.vm_blocks.specs.Keeping.{KeepsBlocks, is_loaded, has_no_frame_for};
@@ -55,7 +55,8 @@ impl<S: Store> FileBlocks<S> {
         requires loaded { is_loaded self.old run.block.0 ≡ true }
         requires kind { IsKindOfRun run (block_at self.old.document run.block.0).body }
         requires ready { R.ready recorder.old }
-        ensures { TriesRun S.facts R.records R.keeps run.entry self.old self.new recorder.old recorder.new result }
+        ensures tries { TriesRun S.facts R.records R.keeps run.entry self.old self.new recorder.old recorder.new result }
+        ensures valid { is_valid_body (block_at self.old.document run.entry.block.0).body ≡ true }
     {
         let frame = self.frames.peek_mut(run.block.0).unwrap();
         replace_in_frame(self.alloc, frame, run, recorder)
