@@ -91,6 +91,6 @@ as_run facts old new edit log log' (Ok true) (run, made_so) = record {
   makes = made facts old made_so.loaded edit made_so.change Nothing made_so.plans new (Ok tt) (λ _. (refl, made_so.disk, made_so.document)) made_so.makes;
   newest = made_so.recorded;
 }
-as_run facts old new edit log log' (Ok false) (none, same) = (same.0, same.1)
+as_run facts old new edit log log' (Ok false) (none, same, kept) = (same, kept)
 as_run facts old new edit log log' (Err fault) (plans, inl same) = (unplanned facts old new edit fault plans, ap (λ (l : LogState). l.lists) same)
 as_run facts old new edit log log' (Err fault) (plans, inr same) = (unplanned facts old new edit fault plans, same)
