@@ -163,6 +163,7 @@ impl Order {
     }
 
     /// Takes a key out, and returns its slot.
+    #[inline(always)]
     pub(crate) fn pop(&mut self, key: u16) -> Option<usize>
         ensures value { result ≡ lookup (nat_eq key) self.old.entries }
         ensures entries { self.new ≡ lru_cache (remove_entry (nat_eq key) self.old.entries) self.old.cap }
