@@ -70,6 +70,7 @@ fn move_first(seats: &mut LruCache<usize, (u16, usize)>, seat: usize)
 }
 
 /// Makes a seat the last in the order, in the same way.
+#[inline(always)]
 fn move_last(seats: &mut LruCache<usize, (u16, usize)>, seat: usize)
     requires { AreApart seats.old.entries }
     ensures { seats.new ≡ lru_cache (demoted (nat_eq seat) seats.old.entries) seats.old.cap }
