@@ -1,8 +1,10 @@
 -- What a block links to, by its first word, or by its bytes.
-use Rattle.std.proofs.Common.{◌≡◌, ◌≢◌, ◌≤◌, ℕ, Bool, true, false, not, cond, ◌==◌, ◌||◌, ◌&&◌, nat_lt, List, ◌∷◌, ◌++◌, Some, None, length, sym, ap, ◌∙◌, inl, inr}
+use Rattle.std.proofs.Common.{◌≡◌, ◌≢◌, ◌≤◌, ℕ, Bool, true, false, not, cond, ◌==◌, ◌||◌, ◌&&◌, nat_lt, List, ◌∷◌, ◌++◌, Some, None, length, Option, refl, sym, ap, ◌∙◌, inl, inr}
 use Rattle.std.proofs.lemmas.Bool.{and_from, cases_Bool, cond-true, cond-false, ltb-false, ne_eqb, or_parts}
+use Rattle.std.specs.FinMap.{get}
+use Rattle.std.specs.Option.{option_map_or}
 use Rattle.geos_model.specs.Chain.{is_linked, is_member, links, relinked, tree_mark}
-use Rattle.geos_model.specs.Document.{Document, is_raw, raw_bytes_of}
+use Rattle.geos_model.specs.Document.{Block, Document, is_heap, is_heap_body, is_raw, raw_bytes_of}
 use Rattle.geos_model.specs.Words.{word_at}
 use Rattle.document_file.specs.Fronts.{first_word}
 use Rattle.vm_chains.specs.Alike.{mark_of}
@@ -35,3 +37,11 @@ module _ (d : Document) (h : ℕ) (bytes : List ℕ) (is : bytes ≡ raw_bytes_o
   -- it has none
   pub goes_nowhere : is_linked bytes ≡ false → is_member d h ≡ false
   goes_nowhere none = ap (λ (l : Bool). is_raw d h && l) (ap is_linked (sym is) ∙ none) ∙ and_false (is_raw d h)
+
+-- no heap is one of a chain
+pub heap_nowhere : (d : Document) (h : ℕ) → is_heap d h ≡ true → is_member d h ≡ false
+heap_nowhere d h heap = ap (λ (b : Bool). b && is_linked (raw_bytes_of d h)) (by (get d.blocks h) heap)
+  where
+    by : (o : Option Block) → option_map_or (λ (b : Block). is_heap_body b.body) o false ≡ true → option_map_or (λ (b : Block). not (is_heap_body b.body)) o false ≡ false
+    by None is = refl
+    by (Some b) is = ap not is
