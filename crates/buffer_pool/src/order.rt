@@ -70,6 +70,7 @@ fn move_first(seats: &mut LruCache<usize, (u16, usize)>, seat: usize)
 }
 
 /// Makes a seat the last in the order, in the same way.
+#[inline(always)]
 fn move_last(seats: &mut LruCache<usize, (u16, usize)>, seat: usize)
     requires { AreApart seats.old.entries }
     ensures { seats.new ≡ lru_cache (demoted (nat_eq seat) seats.old.entries) seats.old.cap }
@@ -163,6 +164,7 @@ impl Order {
     }
 
     /// Takes a key out, and returns its slot.
+    #[inline(always)]
     pub(crate) fn pop(&mut self, key: u16) -> Option<usize>
         ensures value { result ≡ lookup (nat_eq key) self.old.entries }
         ensures entries { self.new ≡ lru_cache (remove_entry (nat_eq key) self.old.entries) self.old.cap }

@@ -121,6 +121,8 @@ impl<V> BufferPool<V> {
     }
 
     /// Takes a key out, and returns its value.
+    // Inlined, so that only what a caller uses of the value is copied.
+    #[inline(always)]
     pub fn pop(&mut self, key: u16) -> Option<V>
         ensures value { result ≡ lookup (nat_eq key) self.old.entries }
         ensures entries { self.new ≡ lru_cache (remove_entry (nat_eq key) self.old.entries) self.old.cap }

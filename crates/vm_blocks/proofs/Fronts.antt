@@ -1,18 +1,22 @@
 -- What is known of a block without its bytes.
-use Rattle.std.proofs.Common.{◌≡◌, ℕ, ◌+◌, Bool, true, false, not, ◌&&◌, List, [], length, Option, None, Some, is_some, unwrap_or, refl, sym, ap, ◌∙◌, inl, inr, arith}
+use Rattle.std.proofs.Common.{◌≡◌, ◌⊎◌, Result, Ok, Err, IfErr, IsErrAnd, subst, ℕ, ◌+◌, Bool, true, false, not, ◌&&◌, List, [], length, Option, None, Some, is_some, unwrap_or, refl, sym, ap, ◌∙◌, inl, inr, arith}
 use Rattle.std.proofs.lemmas.Bool.{cases_Bool, true≢false, not-true}
 use Rattle.std.specs.Option.{option_map, option_map_or}
 use Rattle.std.specs.FinMap.{get}
 use Rattle.geos_model.specs.Document.{Block, Document, block_at, bytes_of_body, is_heap, is_heap_body, is_live, is_raw, no_block, raw_bytes_of}
+use Rattle.vm_store.specs.Facts.{StoreFacts, FailedSince}
 use Rattle.geos_model.specs.Image.{image}
+use Rattle.geos_model.specs.declared.fault.Fault.{Fault}
+use Rattle.geos_model.specs.declared.fault.Fault.TheVariants.{Memory, File}
+use Rattle.document_file.specs.Effects.{Fails, IsDamage}
 use Rattle.geos_model.specs.declared.command.Body.{Body}
 use Rattle.geos_model.specs.declared.command.Body.TheVariants.{Raw, Heap}
 use Rattle.vm_blocks.specs.Frames.{frame_of, overlay, residents}
-use Rattle.vm_blocks.specs.Keeping.{is_loaded}
+use Rattle.vm_blocks.specs.Keeping.{IsEnvironmentFault, is_loaded}
 use Rattle.vm_blocks.specs.State.{CacheState, is_resident}
 use Rattle.vm_blocks.specs.declared.frame.Frame.{Frame}
 use Rattle.vm_blocks.proofs.DocumentUnderFrames.{cover, get-overlay}
-use Rattle.vm_blocks.proofs.KeepingLaws.{loaded-by}
+use Rattle.vm_blocks.proofs.KeepingLaws.{lacks-memory, loaded-by}
 use Rattle.vm_blocks.proofs.OrderOfUse.{none_held, resident_is}
 
 pub and-false : (b : Bool) → (b && false) ≡ false
@@ -71,6 +75,31 @@ image-bytes d h n raw size = by (get d.blocks h) raw ∙ size
     by : (o : Option Block) → option_map_or (λ (b : Block). is_heap_body b.body) o false ≡ false → length (option_map_or (λ (b : Block). bytes_of_body b.body) o []) + 1 ≡ length (image (unwrap_or o no_block).body)
     by None is = raw_size (Raw []) refl
     by (Some b) is = raw_size b.body is
+
+-- the bytes of a raw block that is live, by its body
+pub raw-read : (d : Document) (h : ℕ) (bytes : List ℕ) → is_live d h ≡ true → (block_at d h).body ≡ Raw bytes → bytes ≡ raw_bytes_of d h
+raw-read d h bytes live is = by (get d.blocks h) live is
+  where
+    by : (o : Option Block) → is_some o ≡ true → (unwrap_or o no_block).body ≡ Raw bytes → bytes ≡ option_map_or (λ (b : Block). bytes_of_body b.body) o []
+    by None there has = absurd (cc there)
+    by (Some b) there has = sym (ap bytes_of_body has)
+
+-- what is lacking where a body can't be read
+pub lacks-read : {S A : Type 0} (facts : S → StoreFacts) (r : Result A Fault) (a b : S) → Fails facts (IsDamage (facts a).honest) a b r → IfErr r (IsEnvironmentFault facts a b)
+unfolding IsEnvironmentFault
+lacks-read facts (Ok done) a b fails = tt
+lacks-read facts (Err fault) a b fails = elim fails.faults as (λ _. (fault ≡ Memory) ⊎ (((fault ≡ File) × FailedSince (facts a) (facts b)) ⊎ IsDamage (facts a).honest fault)) [
+  | inl supply ↦ elim supply as (λ _. (fault ≡ Memory) ⊎ (((fault ≡ File) × FailedSince (facts a) (facts b)) ⊎ IsDamage (facts a).honest fault)) [
+    | inl memory ↦ inl memory
+    | inr file ↦ inr (inl (file, fails.file (ap Err file)))
+  ]
+  | inr damage ↦ inr (inr damage)
+]
+
+-- or where there is no memory to read it into
+pub lacks-room : {S A : Type 0} (facts : S → StoreFacts) (r : Result A Fault) (a b : S) → IsErrAnd r (λ e. e ≡ Memory) → IfErr r (IsEnvironmentFault facts a b)
+lacks-room facts (Ok done) a b is = absurd is
+lacks-room facts (Err fault) a b is = subst (IsEnvironmentFault facts a b) (sym is) (lacks-memory facts a b)
 
 -- A block that isn't in memory.
 

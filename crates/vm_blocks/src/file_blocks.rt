@@ -22,7 +22,7 @@ mod loads;
 mod locking;
 
 use crate::BlockBody;
-use crate::frame::{Frame, all_locked, body_in, locks_of};
+use crate::frame::{Frame, body_in, locks_of};
 use buffer_pool::BufferPool;
 use document_file::{Refused, VmFile};
 use geos_model::{Attributes, Fault, VmHandle};
@@ -179,7 +179,7 @@ impl<S: Store> FileBlocks<S> {
     pub fn all_locked(&self) -> bool
         ensures { result ≡ is_full self.now }
     {
-        all_locked(&self.frames)
+        self.frames.cap().get() <= self.locked
     }
 
     /// Whether a block has this handle, in memory or not.

@@ -11,7 +11,7 @@ ghost use Rattle.vm_blocks.specs.Bodies.{body_value};
 ghost use Rattle.vm_blocks.specs.Changes.{directed_part};
 ghost use Rattle.vm_blocks.specs.Frames.{bytes_in_frames, chunks_in_frames, frame_of, overlay, residents, with_frame, AreFramesOf};
 ghost use Rattle.vm_blocks.specs.Parts.{AllowsPart, body_after_part};
-ghost use Rattle.vm_blocks.specs.State.{locks_of, all_frames_locked, victim};
+ghost use Rattle.vm_blocks.specs.State.{locks_of, victim};
 
 use crate::body::BlockBody;
 use crate::part::{carry_out_heap, carry_out_raw};
@@ -161,19 +161,5 @@ pub fn locks_of(frames: &BufferPool<Frame>, block: u16) -> u8
     match frames.peek(block) {
         Some(frame) => frame.locks,
         None => 0,
-    }
-}
-
-/// Whether each frame has a locked block, so that no other can come into memory.
-#[inline(never)]
-pub fn all_locked(frames: &BufferPool<Frame>) -> bool
-    ensures { result ≡ all_frames_locked frames.now.cap (residents frames.now.entries) }
-{
-    if frames.len() < frames.cap().get() {
-        return false;
-    }
-    match victim(frames) {
-        Some(_) => false,
-        None => true,
     }
 }

@@ -34,6 +34,7 @@ fn put_of<S: Store>(file: &VmFile<S>, block: VmHandle, heap: &Heap) -> Result<Me
 
 // Puts a body of a block, of the kind that it has in the file, there. A raw one is written from where it lies. Memory,
 // File.
+#[inline(never)]
 fn put_body<S: Store>(file: &mut VmFile<S>, block: VmHandle, body: &BlockBody) -> Result<(), Fault>
     requires live { is_live file.old.document block.0 ≡ true }
     requires kind { is_heap_body (body_value body.now) ≡ is_heap file.old.document block.0 }
@@ -70,6 +71,8 @@ fn changed_body(frames: &BufferPool<Frame>, block: u16) -> Option<&BlockBody>
 }
 
 /// Puts a block in memory into the file, if it is changed. Memory, File.
+// Inlined, since most blocks that go from memory aren't changed.
+#[inline(always)]
 pub fn write_back<S: Store>(
     file: &mut VmFile<S>,
     frames: &mut BufferPool<Frame>,

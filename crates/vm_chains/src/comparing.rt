@@ -7,15 +7,13 @@ ghost use Rattle.geos_model.specs.Refusal.{first_refusal};
 ghost use Rattle.geos_model.specs.declared.fault.Fault.TheVariants.{BadChain};
 ghost use Rattle.vm_blocks.specs.Keeping.{KeepsBlocks, IsHonest, IsEnvironmentFault, is_full};
 ghost use Rattle.vm_chains.specs.Answers.{AnswersChain, IsWrongRoot, IsWalkRefusal};
-ghost use Rattle.vm_chains.specs.Comparing.{AreCompared, AreEqualIf, AreInStep, IsMarkedStep};
-ghost use Rattle.vm_chains.specs.Stepping.{IsBroken, IsOver};
+ghost use Rattle.vm_chains.specs.Comparing.{AreCompared, AreEqualIf, AreInStep};
 ghost use Rattle.vm_chains.specs.Walking.{Stops};
 
-use crate::reading::relink_here;
-use crate::renaming::Renaming;
 use crate::stepping::Walk;
 use crate::walking::test_root;
 use geos_model::{Fault, VmHandle};
+use raw_region::Region;
 use std::alloc::Global;
 use vm_blocks::FileBlocks;
 use vm_store::Store;
@@ -61,7 +59,7 @@ pub fn test_roots<S: Store>(
     test_root(blocks, second)
 }
 
-/// Whether the chains of two raw blocks are equal. They are walked side by side, so that each block is loaded once.
+/// Whether the chains of two raw blocks are equal. They are walked side by side, so that each block is read once.
 fn have_same_shape<S: Store>(
     alloc: Global,
     blocks: &mut FileBlocks<S>,
@@ -98,8 +96,6 @@ fn are_alike<S: Store>(
     first: &mut Walk,
     second: &mut Walk,
 ) -> Result<bool, Fault>
-    // Asked of the caller.
-    requires room { is_full blocks.old ≡ false }
     // What stays.
     ensures keeps { KeepsBlocks S.facts blocks.old blocks.new }
     // What is answered.
@@ -112,27 +108,29 @@ fn are_alike<S: Store>(
     ensures refusals { IfErr result
         (λ fault. IsEnvironmentFault S.facts blocks.old.disk.store blocks.new.disk.store fault ⊎ (fault ≡ BadChain)) }
 {
-    // Each pair is read into the same two buffers.
+    // Each pair is read in the same region and put into the same two buffers.
+    let mut spare = None;
     let mut mine = Vec::new(alloc);
     let mut other = Vec::new(alloc);
     loop {
-        if let Some(same) = compare_next(blocks, first, second, &mut mine, &mut other)? {
+        if let Some(same) = compare_next(
+            blocks, first, second, &mut spare, &mut mine, &mut other,
+        )? {
             return Ok(same);
         }
     }
 }
 
 /// Compares the next blocks of two walks. None where each has one and these are alike, so that the next ones decide.
-/// They are read into two buffers, whatever is in these.
+/// They are put into two buffers, whatever is in these.
 fn compare_next<S: Store>(
     blocks: &mut FileBlocks<S>,
     first: &mut Walk,
     second: &mut Walk,
+    spare: &mut Option<Region>,
     mine: &mut Vec<u8>,
     other: &mut Vec<u8>,
 ) -> Result<Option<bool>, Fault>
-    // Asked of the caller.
-    requires room { is_full blocks.old ≡ false }
     // What stays.
     ensures keeps { KeepsBlocks S.facts blocks.old blocks.new }
     // What is answered.
@@ -147,8 +145,8 @@ fn compare_next<S: Store>(
     ensures refusals { IfErr result
         (λ fault. IsEnvironmentFault S.facts blocks.old.disk.store blocks.new.disk.store fault ⊎ (fault ≡ BadChain)) }
 {
-    let first_block = next_marked(blocks, first, mine)?;
-    let second_block = next_marked(blocks, second, other)?;
+    let first_block = first.step_aside(blocks, spare, mine)?;
+    let second_block = second.step_aside(blocks, spare, other)?;
     match first_block {
         Some(_) => match second_block {
             Some(_) => {
@@ -159,29 +157,6 @@ fn compare_next<S: Store>(
         },
         None => Ok(Some(second_block.is_none())),
     }
-}
-
-/// A walk's next block, whose bytes, with a mark for each of its links, are put in place of what is in a buffer; none at
-/// the end.
-fn next_marked<S: Store>(
-    blocks: &mut FileBlocks<S>,
-    walk: &mut Walk,
-    bytes: &mut Vec<u8>,
-) -> Result<Option<VmHandle>, Fault>
-    requires room { is_full blocks.old ≡ false }
-    ensures keeps { KeepsBlocks S.facts blocks.old blocks.new }
-    ensures value { MatchResult result
-        (λ next. MatchOption next (IsOver walk.old walk.new)
-        (λ _. IsMarkedStep blocks.new.document bytes.new.items walk.old walk.new))
-        (Stops (IsEnvironmentFault S.facts blocks.old.disk.store blocks.new.disk.store)
-        (IsBroken blocks.new.document walk.old)) }
-{
-    let Some(handle) = walk.step(blocks)? else {
-        return Ok(None);
-    };
-    // The step has just loaded it, so that its body is still the one whose links were followed.
-    relink_here(blocks, handle, &Renaming::Marks, bytes)?;
-    Ok(Some(handle))
 }
 
 /// Whether these are the same bytes.

@@ -153,7 +153,6 @@ fn copies<S: Store>(
     new: &[VmHandle],
 ) -> Result<Members, Fault>
     // Asked of the caller.
-    requires room { is_full blocks.old ≡ false }
     requires live { AreBlocks blocks.old.document handles.now }
     requires members { IsHonest S.facts blocks.old.disk.store → CanBeMembers blocks.old.document handles.now }
     requires new { length handles.now ≡ length new.now }
@@ -167,9 +166,10 @@ fn copies<S: Store>(
     ensures refusals { IfErr result (IsEnvironmentFault S.facts blocks.old.disk.store blocks.new.disk.store) }
 {
     let names = Renaming::new(alloc, handles, new)?;
+    let mut spare = None;
     let mut plan = Vec::new(alloc);
     for i in 0..handles.len() {
-        let bytes = relinked_at(alloc, blocks, handles[i], &names)?;
+        let bytes = relinked_at(alloc, blocks, handles[i], &names, &mut spare)?;
         let block = BlockImage::raw(blocks.attributes(handles[i]), bytes)?;
         plan.push(Member {
             handle: new[i],

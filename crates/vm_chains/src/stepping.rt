@@ -1,9 +1,11 @@
 //! Steps of a walk along a chain.
 ghost use Rattle.std.specs.Prelude.{◌≡◌, ◌≤◌, ◌+◌, ◌⊎◌, ◌∷◌, ◌++◌, [], ℕ, None, Some, true, false, IfOk, IfErr, IfSome, OnOk, MatchOption, MatchResult};
-ghost use Rattle.geos_model.specs.Chain.{chain, is_member};
-ghost use Rattle.geos_model.specs.Document.{Document, is_live, is_vm_handle};
-ghost use Rattle.geos_model.specs.declared.fault.Fault.TheVariants.{BadChain};
+ghost use Rattle.geos_model.specs.Chain.{chain, is_linked, is_member, links, relinked};
+ghost use Rattle.geos_model.specs.Document.{Document, is_live, is_vm_handle, raw_bytes_of};
+ghost use Rattle.geos_model.specs.declared.fault.Fault.TheVariants.{BadChain, Memory};
 ghost use Rattle.vm_blocks.specs.Keeping.{KeepsBlocks, IsHonest, IsEnvironmentFault, is_full, is_loaded};
+ghost use Rattle.vm_chains.specs.Alike.{mark_of};
+ghost use Rattle.vm_chains.specs.Comparing.{IsMarkedStep};
 ghost use Rattle.vm_chains.specs.Numbers.{numbers};
 ghost use Rattle.vm_chains.specs.Stepping.{IsAtRoot, IsAlong, IsBroken, IsOver, IsTaken, IsWalkStep, HasMet, HasMetAll, HasPassed};
 ghost use Rattle.vm_chains.specs.Walking.{GoesOn, Stops};
@@ -11,7 +13,9 @@ ghost use Rattle.vm_chains.specs.Walking.{GoesOn, Stops};
 use crate::links::{TREE_MARK, links_of, push_link, push_links};
 use crate::met::Met;
 use crate::pending::Pending;
+use crate::renaming::{Renaming, relink};
 use geos_model::{Fault, VmHandle};
+use raw_region::{RawBody, Region};
 use std::alloc::{AllocError, Global};
 use vm_blocks::{BlockBody, FileBlocks, MOST_BLOCKS};
 use vm_store::Store;
@@ -60,6 +64,37 @@ impl Walk {
         };
         blocks.reveal_invariant();
         follow(blocks, handle, &mut self.pending)?;
+        self.meet(handle)?;
+        Ok(Some(handle))
+    }
+
+    /// The next block, whose bytes, with a mark for each of its links, are put in place of what is in a buffer; none at
+    /// the end. Refused as a step is. The block stays where it is, and is read in a spare region.
+    pub(crate) fn step_aside<S: Store>(
+        &mut self,
+        blocks: &mut FileBlocks<S>,
+        spare: &mut Option<Region>,
+        bytes: &mut Vec<u8>,
+    ) -> Result<Option<VmHandle>, Fault>
+        // What stays.
+        ensures keeps { KeepsBlocks S.facts blocks.old blocks.new }
+        // What is answered.
+        ensures value { IsHonest S.facts blocks.old.disk.store → MatchResult result
+            (λ next. MatchOption next (IsOver self.old self.new)
+            (λ _. IsMarkedStep blocks.new.document bytes.new.items self.old self.new))
+            (Stops (IsEnvironmentFault S.facts blocks.old.disk.store blocks.new.disk.store)
+            (IsBroken blocks.new.document self.old)) }
+        ensures fewer { IfOk result (λ next. IfSome next (λ _. self.old.left ≡ self.new.left + 1)) }
+        // Refusals.
+        ensures refusals { IfErr result
+            (λ fault. IsEnvironmentFault S.facts blocks.old.disk.store blocks.new.disk.store fault
+            ⊎ (fault ≡ BadChain)) }
+    {
+        let Some(handle) = self.take_next()? else {
+            return Ok(None);
+        };
+        blocks.reveal_invariant();
+        follow_aside(blocks, handle, spare, &mut self.pending, bytes)?;
         self.meet(handle)?;
         Ok(Some(handle))
     }
@@ -207,4 +242,51 @@ fn follow_link<S: Store>(
         Some(link) if link != TREE_MARK => Ok(push_link(link, pending)?),
         _ => follow(blocks, handle, pending),
     }
+}
+
+/// Reads a block in a spare region, puts what it links to before all that is pending, and its bytes, with a mark for
+/// each of its links, in place of what is in a buffer. BadChain where the block is none of a chain.
+fn follow_aside<S: Store>(
+    blocks: &mut FileBlocks<S>,
+    handle: VmHandle,
+    spare: &mut Option<Region>,
+    pending: &mut Pending,
+    bytes: &mut Vec<u8>,
+) -> Result<(), Fault>
+    // What stays.
+    ensures keeps { KeepsBlocks S.facts blocks.old blocks.new }
+    // What is answered.
+    ensures value { IsHonest S.facts blocks.old.disk.store → MatchResult result
+        (λ _. GoesOn blocks.new.document handle.0 pending.old pending.new
+        × (bytes.new.items ≡ relinked mark_of (raw_bytes_of blocks.new.document handle.0)))
+        (Stops (IsEnvironmentFault S.facts blocks.old.disk.store blocks.new.disk.store)
+        (is_member blocks.new.document handle.0 ≡ false)) }
+    ensures live { OnOk result (is_live blocks.new.document handle.0 ≡ true) }
+    // Refusals.
+    ensures refusals { IfErr result
+        (λ fault. IsEnvironmentFault S.facts blocks.old.disk.store blocks.new.disk.store fault ⊎ (fault ≡ BadChain)) }
+{
+    if !blocks.is_live(handle) || blocks.is_heap(handle) {
+        return Err(Fault::BadChain);
+    }
+    let body = blocks.read_aside(handle, spare)?;
+    mark_links(&body, pending, bytes)?;
+    *spare = Some(body.into_region());
+    Ok(())
+}
+
+/// Puts what a body links to before all that is pending, and its bytes, with a mark for each of its links, in place of
+/// what is in a buffer. BadChain where it is none that a block of a chain can have.
+fn mark_links(body: &RawBody, pending: &mut Pending, bytes: &mut Vec<u8>) -> Result<(), Fault>
+    ensures { MatchResult result
+        (λ _. (is_linked body.now ≡ true) × ((pending.new ≡ links body.now ++ pending.old)
+        × (bytes.new.items ≡ relinked mark_of body.now)))
+        (λ fault. (fault ≡ Memory) ⊎ ((fault ≡ BadChain) × (is_linked body.now ≡ false))) }
+{
+    let Some(found) = links_of(body) else {
+        return Err(Fault::BadChain);
+    };
+    push_links(body, &found, pending)?;
+    relink(body, found, &Renaming::Marks, bytes)?;
+    Ok(())
 }

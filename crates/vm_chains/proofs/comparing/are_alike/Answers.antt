@@ -2,16 +2,13 @@ use Rattle.std.proofs.Common.{◌≡◌, ◌⊎◌, ◌<◌, None}
 use Rattle.geos_model.specs.Chain.{chain}
 use Rattle.vm_blocks.proofs.KeepingLaws.{keeps-refl, keeps-steady, keeps-trans}
 use Rattle.vm_chains.specs.Comparing.{AreCompared, AreInStep}
-use Rattle.vm_chains.proofs.Loading.{carried, carried_so, still_room}
+use Rattle.vm_chains.proofs.Loading.{carried, carried_so}
 use Rattle.vm_chains.proofs.PairedWalks.{stops_later}
 use Rattle.vm_chains.proofs.StepLemmas.{at_none, at_some, refused_then}
 use Rattle.vm_chains.proofs.comparing.are_alike.Goals as goal
 
 pub loop-other-init : goal.loop-other-init
 loop-other-init g c = record { in_step = λ f s steady old. old; keeps = keeps-refl g.S.Store.facts c.args.blocks.now }
-
-pub compare_next-requires : goal.compare_next-requires
-compare_next-requires g c = record { room = still_room g.S.Store.facts c.args.blocks.now c.loop-other.blocks c.loop-other.invariant.keeps c.requires.room }
 
 pub returns-in_err-same-clause-keeps : goal.returns-in_err-same-clause-keeps
 returns-in_err-same-clause-keeps g c = keeps-trans g.S.Store.facts c.args.blocks.now c.loop-other.blocks c.compare_next.new.blocks c.loop-other.invariant.keeps c.compare_next.ensures.keeps

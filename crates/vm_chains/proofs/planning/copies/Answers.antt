@@ -12,10 +12,10 @@ use Rattle.vm_chains.specs.Naming.{name_in}
 use Rattle.document_file.specs.Members.{imaged_blocks}
 use Rattle.vm_chains.specs.Numbers.{numbers}
 use Rattle.document_file.specs.declared.member.Member.{Member}
-use Rattle.vm_blocks.proofs.KeepingLaws.{keeps-refl, keeps-same, keeps-trans, lacks-later, lacks-memory}
+use Rattle.vm_blocks.proofs.KeepingLaws.{keeps-refl, keeps-same, keeps-steady, keeps-trans, lacks-later, lacks-memory}
 use Rattle.vm_chains.proofs.CopyLemmas.{copies_from, copies_more}
 use Rattle.vm_chains.proofs.ChainLemmas.{renamed_block}
-use Rattle.vm_chains.proofs.Loading.{carried_so, still_live, still_room, still_then}
+use Rattle.vm_chains.proofs.Loading.{carried_so, still_live, still_then}
 use Rattle.vm_chains.proofs.Planned.{handles_more}
 use Rattle.vm_chains.proofs.planning.copies.Goals as goal
 
@@ -45,9 +45,6 @@ loop-i-init g c =
       keeps = keeps-refl g.S.Store.facts c.args.blocks.now;
     }
 
-pub relinked_at-requires-clause-room : goal.relinked_at-requires-clause-room
-relinked_at-requires-clause-room g c = still_room g.S.Store.facts c.args.blocks.now c.loop-i.blocks c.loop-i.invariant.keeps c.requires.room
-
 pub relinked_at-requires-clause-live : goal.relinked_at-requires-clause-live
 relinked_at-requires-clause-live g c =
     still_live g.S.Store.facts c.args.blocks.now c.loop-i.blocks c.loop-i.invariant.keeps (get_or c.args.handles.now c.loop-i.i no_handle).0 (c.requires.live.live c.loop-i.i no_handle (omega arith))
@@ -63,7 +60,7 @@ returns-in_err-bytes-clause-keeps g c = keeps-trans g.S.Store.facts c.args.block
 pub returns-in_err-bytes-clause-refusals : goal.returns-in_err-bytes-clause-refusals
 returns-in_err-bytes-clause-refusals g c =
     carried_so c.from_residual-in_err-bytes.result c.in_err-bytes.field-0.0 _ c.from_residual-in_err-bytes.ensures.1
-    (lacks-later g.S.Store.facts c.args.blocks.now c.loop-i.blocks c.relinked_at.new.blocks.disk.store c.in_err-bytes.field-0.0 c.loop-i.invariant.keeps c.in_err-bytes.ensures.value)
+    (lacks-later g.S.Store.facts c.args.blocks.now c.loop-i.blocks c.relinked_at.new.blocks.disk.store c.in_err-bytes.field-0.0 c.loop-i.invariant.keeps c.in_err-bytes.ensures.refusals)
 
 pub attributes-requires : goal.attributes-requires
 attributes-requires g c =
@@ -100,7 +97,7 @@ loop-i-preserved g c =
       plan = λ steady.
           let same : e.document ≡ d = keeps-same g.S.Store.facts a e keeps steady in
           let attributes_are : c.attributes.result ≡ attributes_of d h = c.attributes.ensures.value ∙ ap (λ (x : Document). attributes_of x h) same in
-          let block = c.in_ok-block.ensures ∙ block_is e.document d h c.attributes.result c.in_ok-bytes.bytes.items _ (name_of (zip (numbers hs) (numbers new))) attributes_are c.in_ok-bytes.ensures.value same c.loop-i.invariant.named in
+          let block = c.in_ok-block.ensures ∙ block_is e.document d h c.attributes.result c.in_ok-bytes.bytes.items _ (name_of (zip (numbers hs) (numbers new))) attributes_are (c.in_ok-bytes.ensures.value (keeps-steady g.S.Store.facts a c.loop-i.blocks c.loop-i.invariant.keeps steady)) same c.loop-i.invariant.named in
           ap (λ (ms : List Member). imaged_blocks ms ++ copies_from d hs new (drop (i + 1) hs) (drop (i + 1) new)) pushed
           ∙ copies_more d hs new c.loop-i.plan.items m i no_handle no_handle _ within there refl block (c.loop-i.invariant.plan steady);
       handles = ap (λ (ms : List Member). handles_of (imaged_blocks ms)) pushed ∙ handles_more c.loop-i.plan.items m i new no_handle there refl c.loop-i.invariant.handles;

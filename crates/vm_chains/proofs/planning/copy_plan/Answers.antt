@@ -57,9 +57,6 @@ returns-in_err-new-clause-value g c = λ steady. carried c.from_residual-in_err-
 pub returns-in_err-new-clause-refusals : goal.returns-in_err-new-clause-refusals
 returns-in_err-new-clause-refusals g c = carried_so c.from_residual-in_err-new.result Memory _ c.from_residual-in_err-new.ensures.1 (inl (lacks-memory g.S.Store.facts c.args.blocks.now.disk.store c.walk.new.blocks.disk.store))
 
-pub copies-requires-clause-room : goal.copies-requires-clause-room
-copies-requires-clause-room g c = still_room g.S.Store.facts c.args.blocks.now c.walk.new.blocks c.walk.ensures.keeps c.requires.room
-
 pub copies-requires-clause-live : goal.copies-requires-clause-live
 copies-requires-clause-live g c = subst (AreBlocks c.walk.new.blocks.document) (sym c.deref.ensures.value) c.in_ok-handles.ensures.live
 
