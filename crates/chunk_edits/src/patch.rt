@@ -103,6 +103,38 @@ impl Exchange<'_> {
             new: self.new.len() as u32,
         }
     }
+
+    /// The bytes that go, and behind them those that come. Few of them are put in their place at once, with no room to
+    /// be asked for.
+    #[inline(always)]
+    fn joined(&self, alloc: Global) -> Result<SmallVec<u8, FEW_BYTES>, AllocError>
+        requires { AreFew self.now }
+        ensures { IfOk result (λ row. row.items ≡ self.now.old.now ++ self.now.new.now) }
+    {
+        let count = self.old.len() + self.new.len();
+        if count > FEW_BYTES {
+            return self.joined_many(alloc, count);
+        }
+        let mut bytes = [0; FEW_BYTES];
+        bytes[..self.old.len()].copy_from_slice(self.old);
+        bytes[self.old.len()..count].copy_from_slice(self.new);
+        Ok(SmallVec::from_buf_and_len(alloc, bytes, count))
+    }
+
+    // The same of more bytes, which take an allocation. Never inlined, since most are few.
+    #[inline(never)]
+    fn joined_many(
+        &self,
+        alloc: Global,
+        count: usize,
+    ) -> Result<SmallVec<u8, FEW_BYTES>, AllocError>
+        ensures { IfOk result (λ row. row.items ≡ self.now.old.now ++ self.now.new.now) }
+    {
+        let mut row = SmallVec::with_capacity(alloc, count)?;
+        row.extend_from_slice(self.old)?;
+        row.extend_from_slice(self.new)?;
+        Ok(row)
+    }
 }
 
 /// How many spans a patch holds in its one allocation, as many as an edit of an array of elements of one size has; for
@@ -168,9 +200,7 @@ impl Patch {
         ensures { IfOk result (λ patch. patch ≡ Keep before ∷ exchanged exchange.entry ∷ Keep behind ∷ []) }
     {
         let put = exchange.span();
-        let mut content = SmallVec::with_capacity(alloc, put.own())?;
-        content.extend_from_slice(exchange.old)?;
-        content.extend_from_slice(exchange.new)?;
+        let content = exchange.joined(alloc)?;
         let spans = [Span::Keep(before), put, Span::Keep(behind), Span::Keep(0)];
         let pieces = Pieces {
             spans: SmallVec::from_buf_and_len(alloc, spans, 3),

@@ -2,7 +2,7 @@
 ghost use Rattle.std.specs.Prelude.{◌≡◌, ◌<◌, ◌≤◌, true, false, IsTrue, MatchOption, MatchResult, None, Some, length};
 ghost use Rattle.std.specs.FinMap.{contains_key, get};
 ghost use Rattle.geos_model.specs.Document.{is_heap};
-ghost use Rattle.geos_model.specs.Heap.{chunk_bytes, fits_with, fits_new, is_chunk_handle, next_chunk};
+ghost use Rattle.geos_model.specs.Heap.{chunk_bytes, fits_with, fits_new, is_chunk_handle, is_heap_map, next_chunk};
 ghost use Rattle.geos_model.specs.Targets.{array_edit, byte_edit, new_chunk};
 ghost use Rattle.geos_model.specs.declared.command.Edit.TheVariants as edits;
 ghost use Rattle.chunk_edits.specs.Patching.{patched};
@@ -60,21 +60,28 @@ pub fn plan_array<S: Store>(
     let heap = heap_at(blocks, handle);
     let bytes = known_in(heap, chunk)?;
     let (built, done) = build_patch(alloc, &bytes, edit)?;
-    if !has_room(heap, chunk, &built) {
+    if !has_room(heap, chunk, bytes.bytes().len(), &built) {
         return Err(Fault::Full);
     }
     let part = PartChange::Patch(chunk, built.patch, built.runs);
     Ok((Change::Part(handle, part), done))
 }
 
-/// Whether the heap has room for what a patch makes of the bytes of a chunk.
-fn has_room(heap: &Heap, chunk: ChunkHandle, built: &ArrayPatch) -> bool
+/// Whether the heap has room for what a patch makes of the bytes of a chunk, of which there are so many: it has for no
+/// more than these, without being asked.
+fn has_room(heap: &Heap, chunk: ChunkHandle, len: usize, built: &ArrayPatch) -> bool
     requires live { IsTrue (contains_key heap.now.chunks chunk.0) }
+    requires valid { is_heap_map heap.now.chunks ≡ true }
+    requires len { len ≡ length (chunk_bytes heap.now.chunks chunk.0) }
     requires built { IsBuilt (parts.Patch chunk built.now.patch built.now.runs) (chunk_bytes heap.now.chunks chunk.0) }
     ensures { result
         ≡ fits_with heap.now.chunks chunk.0 (patched built.now.patch (chunk_bytes heap.now.chunks chunk.0)) }
 {
-    heap.fits_resize(chunk, built.patch.size_before(Direction::Backwards) as u32)
+    let size = built.patch.size_before(Direction::Backwards);
+    if size <= len {
+        return true;
+    }
+    heap.fits_resize(chunk, size as u32)
 }
 
 /// Of an edit that makes a chunk: Full where the heap has no handle or no room for it.
