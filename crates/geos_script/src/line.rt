@@ -86,6 +86,7 @@ pub(crate) fn without_blanks(text: &[u8]) -> &[u8]
     ensures solid { 0 < length result.now → script.is_blank (slice_index result.now 0) ≡ false }
 {
     match text {
+        [] => text,
         [byte, ..] if !is_blank(*byte) => text,
         _ => behind_blanks(text),
     }

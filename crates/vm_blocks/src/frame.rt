@@ -106,6 +106,7 @@ pub fn mark_root(frames: &mut BufferPool<Frame>, block: u16)
 }
 
 /// Makes a block the one that was used last, and says whether it is in memory; where it isn't nothing changes.
+#[inline(always)]
 pub fn use_again(frames: &mut BufferPool<Frame>, block: u16) -> bool
     ensures value { result ≡ is_some (frame_of frames.old.entries block) }
     ensures moves { frames.new ≡ lru_cache (promoted (nat_eq block) frames.old.entries) frames.old.cap }
