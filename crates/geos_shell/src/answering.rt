@@ -168,9 +168,9 @@ fn answer<S: Store>(
     ensures cause { IfErr result (λ fault. HasCause fault ⊥ ⊥) }
 {
     let start = out.len();
-    match push_lines(spare, manner.echoes, session, target, former, line, out) {
-        Ok(is_refusal) if is_refusal && manner.bails => Err(RunFault::Refused(number)),
-        Ok(_) => Ok(()),
+    match push_lines(spare, manner, session, target, former, line, out) {
+        Ok(true) => Err(RunFault::Refused(number)),
+        Ok(false) => Ok(()),
         Err(_) => {
             out.truncate(start);
             Err(RunFault::Memory)
@@ -179,10 +179,11 @@ fn answer<S: Store>(
 }
 
 /// Puts the line behind `out`, if it is to be echoed, and its reply line behind that, and says whether this is a
-/// refusal. Where memory runs out, a part of them may stand there.
+/// refusal that the run ends with: a run that doesn't bail isn't looked at for one. Where memory runs out, a part of them
+/// may stand there.
 fn push_lines<S: Store>(
     spare: &mut Spare,
-    echoes: bool,
+    manner: ScriptOptions,
     session: &mut Session<S>,
     target: &mut Option<S>,
     former: &mut Option<S>,
@@ -190,20 +191,20 @@ fn push_lines<S: Store>(
     out: &mut Vec<u8>,
 ) -> Result<bool, AllocError>
     ensures ok { OnOk result (Responds S.facts (holding session.old target.old former.old) (command line.now)
-        (holding session.new target.new former.new) (out.old.items ++ lead echoes line.now) out.new.items) }
-    ensures refused { IfOk result (λ is_refused.
-        is_refused ≡ begins_with_no (drop (length (out.old.items ++ lead echoes line.now)) out.new.items)) }
+        (holding session.new target.new former.new) (out.old.items ++ lead manner.echoes line.now) out.new.items) }
+    ensures refused { IfOk result (λ ends. ends ≡ (manner.bails
+        && begins_with_no (drop (length (out.old.items ++ lead manner.echoes line.now)) out.new.items))) }
     ensures may { OnErr result (MayServe S.facts (holding session.old target.old former.old) (command line.now)
         (holding session.new target.new former.new)) }
     ensures err { OnErr result (Extends out.old.items out.new.items) }
 {
-    if echoes {
+    if manner.echoes {
         out.extend_from_slice(&line[..line.len().min(LONGEST_KEPT)])?;
         out.push(b'\n')?;
     }
     let reply = out.len();
     answer_line(spare, session, target, former, line, out)?;
-    Ok(out[reply..].starts_with(b"no "))
+    Ok(manner.bails && out[reply..].starts_with(b"no "))
 }
 
 /// Puts a part of a line behind what is kept of it.
