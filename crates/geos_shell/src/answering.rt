@@ -1,5 +1,5 @@
 //! The lines of a script and their replies, as the script comes piece by piece.
-ghost use Rattle.std.specs.Prelude.{◌≡◌, ◌++◌, ◌∷◌, [], ◌≤◌, ◌<◌, ◌+◌, ◌^◌, ℕ, List, drop, take, length, IfOk, IfErr, OnOk, OnErr};
+ghost use Rattle.std.specs.Prelude.{◌≡◌, ◌++◌, ◌∷◌, [], ◌≤◌, ◌<◌, ◌+◌, ◌^◌, ◌&&◌, ℕ, List, drop, take, length, IfOk, IfErr, OnOk, OnErr};
 ghost use Rattle.geos_model.specs.Script.{command, line_feed};
 ghost use Rattle.geos_replies.specs.Holdings.{MayServe, holding};
 ghost use Rattle.geos_shell.specs.Manners.{begins_with_no, lead};
