@@ -100,6 +100,11 @@ begins_with_no-refusal (PlacesAre ps) = refl
 begins_with_no-refusal (AreEqual true) = refl
 begins_with_no-refusal (AreEqual false) = refl
 
+pub both_so : (a b : Bool) → (a && b) ≡ true → (a ≡ true) × (b ≡ true)
+both_so true true is = (refl, refl)
+both_so true false is = absurd (cc is)
+both_so false b is = absurd (cc is)
+
 pub none_so : (bails : Bool) → (bails && false) ≡ false
 none_so true = refl
 none_so false = refl
