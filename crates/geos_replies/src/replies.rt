@@ -65,6 +65,8 @@ fn save_as<S: Store>(
     }
 }
 
+// Inlined, since an undo or a redo says no more.
+#[inline(always)]
 fn push_accepted(out: &mut Vec<u8>, done: Result<(), Fault>) -> Result<(), AllocError>
     ensures ok { OnOk result (out.new.items ≡ out.old.items ++ reply_text (reply_by (λ _. Accepted) done)) }
     ensures err { OnErr result (Extends out.old.items out.new.items) }
