@@ -1,2 +1,3 @@
 pub mod PlacingLemmas
 pub mod SpaceLemmas
+pub mod StretchLemmas

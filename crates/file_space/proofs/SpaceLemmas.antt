@@ -242,6 +242,17 @@ run_fits taken counts count from n page few is_length are hint is =
       in_reach = λ longs. omega (arith, near, wanted, few, longs);
     }
 
+-- So many are free before a page that doesn't lie far, so that no hint does.
+pub hint_near : (taken : List Extent) (counts : List ℕ) (count n hint : ℕ) → IsLength n → AreTaken taken (record { counts = counts; count = count }) → IsHint counts (pages_of n) hint → hint ≤ 2 + 449 * (count + count_by is_long taken)
+hint_near taken counts count n hint is_length are is =
+    let found = free_window taken n are.extents is_length in
+    let size = are.count in
+    let within = found.1 in
+    elim (cases_lt (2 + 449 * found.0) hint) [
+      | inr near ↦ omega (arith, near, within, size)
+      | inl past ↦ absurd (is.none (2 + 449 * found.0) (omega arith) past (free_run taken counts (2 + 449 * found.0) n are.pages found.2))
+    ]
+
 -- Hints, when pages are taken and when they are given back.
 pub run_less : (start end n page : ℕ) (old new : List ℕ) → AreCountsRaised start end old new → IsRun new n page → IsRun old n page
 run_less start end n page old new raised run k low high = (let is = raised k in let none = run k low high in omega (arith, is, none))
@@ -316,16 +327,19 @@ pub up_to-none : AreHintsUpTo 0 (replicate 322 2)
 up_to-none = record { few = omega arith; others = λ n past l. get_or-replicate {A = ℕ} 322 n 2 0 l }
 
 -- A hint that was found: those pages are taken now, and before them no others were free.
-pub sound-hinted : (old new hints : List ℕ) (from n page count : ℕ) → IsSpaceSound new hints count → AreCountsRaised page (page + n) old new → IsHint old n from → IsFirstRun old from n page → 1 ≤ n → n < 322 → IsSpaceSound new (set hints n (page + n)) count
-sound-hinted old new hints from n page count sound raised hint is some l = record {
+pub sound-hinted : (new hints : List ℕ) (n next count : ℕ) → IsSpaceSound new hints count → IsHint new n next → n < 322 → IsSpaceSound new (set hints n next) count
+sound-hinted new hints n next count sound found l = record {
   taken = sound.taken;
   are = sound.are;
-  hint_count = length-set hints n (page + n) ∙ sound.hint_count;
+  hint_count = length-set hints n next ∙ sound.hint_count;
   hint = λ m below. elim (cases_eq m n) [
-    | inl at ↦ subst (λ h. IsHint new m h) (sym (ap (λ i. get_or (set hints n (page + n)) i 0) at ∙ get_or-set_same hints n (page + n) 0 (omega (arith, l, sound.hint_count)))) (subst (λ i. IsHint new i (page + n)) (sym at) found)
-    | inr other ↦ subst (λ h. IsHint new m h) (sym (get_or-set_other hints n m (page + n) 0 other)) (sound.hint m below)
+    | inl at ↦ subst (λ h. IsHint new m h) (sym (ap (λ i. get_or (set hints n next) i 0) at ∙ get_or-set_same hints n next 0 (omega (arith, l, sound.hint_count)))) (subst (λ i. IsHint new i next) (sym at) found)
+    | inr other ↦ subst (λ h. IsHint new m h) (sym (get_or-set_other hints n m next 0 other)) (sound.hint m below)
   ];
 }
+
+pub hint-found : (old new : List ℕ) (from n page : ℕ) → AreCountsRaised page (page + n) old new → IsHint old n from → IsFirstRun old from n page → 1 ≤ n → IsHint new n (page + n)
+hint-found old new from n page raised hint is some = found
   where
     before_page : (q : ℕ) → 2 ≤ q → q < page → IsRun new n q → ⊥
     before_page q low before run = (let old_run = run_less page (page + n) n q old new raised run in elim (cases_lt q from) [

@@ -1,10 +1,12 @@
 //! The pages that are free while extents come and go: for each page on how many of the taken extents it lies.
-ghost use Rattle.std.specs.Prelude.{◌≡◌, ◌∷◌, [], ◌+◌, ◌^◌, ◌<◌, ◌≤◌, ◌≢◌, List, All, ℕ, length, min, replicate, false, IfOk, IsOk, OnOk, OnErr, slice_index, MatchOption};
+ghost use Rattle.std.specs.Prelude.{◌≡◌, ◌∷◌, [], ◌+◌, ◌-◌, ◌^◌, ◌<◌, ◌≤◌, ◌≢◌, List, All, ℕ, length, min, replicate, false, IfOk, IsOk, OnOk, OnErr, slice_index, MatchOption};
 ghost use Rattle.file_format.specs.File.{end_page};
 ghost use Rattle.file_format.specs.declared.file.Extent.{Extent};
 ghost use Rattle.file_space.specs.Placing.{IsFirstFit, IsLength};
-ghost use Rattle.file_space.specs.Space.{AreCountsRaised, AreTaken, IsFirstRun, IsLargestHint, IsTaken, lowest};
+ghost use Rattle.file_space.specs.Space.{AreCountsRaised, AreTaken, IsFirstRun, IsHint, IsLargestHint, IsTaken, lowest};
+ghost use Rattle.file_space.specs.Stretches.{IsFull};
 
+use crate::full_stretch::FullStretch;
 use crate::limit::{MOST_EXTENTS, MOST_PAGES};
 use file_format::{Extent, FIRST_PAGE, page_behind, page_count};
 use std::alloc::{AllocError, Global};
@@ -25,16 +27,20 @@ pub struct FreeSpace {
     // The most pages that were taken at once: the hints for more are those of an empty space.
     longest: usize,
     count: usize,
+    // What is known to be full behind the pages that were given back last.
+    full: FullStretch,
 }
 
 impl Model for FreeSpace {
     ghost use Rattle.file_space.specs.Space.{Space, AreHintsUpTo, IsSpaceSound};
+    ghost use Rattle.file_space.specs.Stretches.{IsFull};
 
     ghost Value = { Space };
 
     ghost view = { λ f. record { counts = f.counts.items; count = f.count } };
 
-    ghost invariant = { λ f. IsSpaceSound f.counts.items f.hints.items f.count × AreHintsUpTo f.longest f.hints.items };
+    ghost invariant = { λ f. IsSpaceSound f.counts.items f.hints.items f.count
+        × (AreHintsUpTo f.longest f.hints.items × IsFull f.counts.items f.full) };
 }
 
 impl FreeSpace {
@@ -47,6 +53,7 @@ impl FreeSpace {
             hints: first_hints(alloc)?,
             longest: 0,
             count: 0,
+            full: FullStretch::empty(),
         })
     }
 
@@ -81,11 +88,11 @@ impl FreeSpace {
     {
         let pages = page_count(u64::from(len)) as usize;
         let from = largest_hint(&self.hints, pages) as usize;
-        let page = first_run(&self.counts, from, pages) as u32;
+        let page = first_run(&self.counts, self.full, from, pages) as u32;
         let extent = Extent { page, length: len };
         self.hold(extent)?;
-        // So many are free nowhere before the page, and its own are taken now.
-        self.hints[pages] = page + pages as u32;
+        // So many are free nowhere before the page, its own are taken now, and those behind it may be known to be.
+        self.hints[pages] = self.full.behind(page as usize + pages, pages) as u32;
         self.longest = self.longest.max(pages);
         Ok(extent)
     }
@@ -101,6 +108,7 @@ impl FreeSpace {
         count_down(&mut self.counts, start, end);
         self.count -= 1;
         if has_free(&self.counts, start, end) {
+            self.full = full_behind(self.full, &self.hints, start, end);
             lower(&mut self.hints, self.longest, extent.page);
         }
     }
@@ -180,6 +188,30 @@ fn lower(hints: &mut [u32], longest: usize, page: u32)
     }
 }
 
+// What is full behind pages that were given back: up to the hint for so many, or else what was known.
+fn full_behind(full: FullStretch, hints: &[u32], start: usize, end: usize) -> FullStretch
+    requires behind_slots { 2 ≤ end }
+    requires order { start ≤ end }
+    requires known { end - start < length hints.now }
+    ensures { (old new : List ℕ) → IsFull old full → IsHint old (end - start) (slice_index hints.now (end - start))
+        → AreCountsRaised start end new old → IsFull new result }
+{
+    let pages = end - start;
+    let hint = hints[pages] as usize;
+    if end < hint {
+        FullStretch {
+            pages,
+            from: end,
+            to: hint,
+        }
+    } else {
+        FullStretch {
+            from: full.from.max(end),
+            ..full
+        }
+    }
+}
+
 // The largest hint for so many pages or fewer: where fewer aren't free, so many aren't either.
 fn largest_hint(hints: &[u32], pages: usize) -> u32
     requires known { pages < length hints.now }
@@ -209,15 +241,16 @@ fn last_taken(counts: &[u16], start: usize, end: usize) -> Option<usize>
 }
 
 // The first page from one on at which so many are free. Each look begins at the last page of a place, so that most
-// pages are passed over unseen.
-fn first_run(counts: &[u16], from: usize, pages: usize) -> usize
+// pages are passed over unseen, and so are those that are known to be full.
+fn first_run(counts: &[u16], full: FullStretch, from: usize, pages: usize) -> usize
+    requires full { IsFull counts.now full }
     requires near { from < 2 ^ 32 }
     requires few { pages ≤ MOST_PAGES }
     ensures { IsFirstRun counts.now from pages result }
 {
-    let mut start = from;
+    let mut start = full.behind(from, pages);
     while let Some(page) = last_taken(counts, start, (start + pages).min(counts.len())) {
-        start = page + 1;
+        start = full.behind(page + 1, pages);
     }
     start
 }

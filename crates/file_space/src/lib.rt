@@ -2,6 +2,7 @@
 #![tactic(auto)]
 
 mod free_space;
+mod full_stretch;
 mod limit;
 
 pub use free_space::FreeSpace;

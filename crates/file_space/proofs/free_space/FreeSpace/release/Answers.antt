@@ -3,7 +3,10 @@ use Rattle.std.proofs.lemmas.List.{with_items_is}
 use Rattle.std.specs.Vec.{with_items}
 use Rattle.file_format.specs.File.{end_page}
 use Rattle.file_format.specs.declared.file.Extent.{Extent}
-use Rattle.file_space.specs.Space.{Space, AreCountsRaised, AreTaken, AreHintsUpTo, IsSpaceSound, lowest}
+use Rattle.file_space.specs.Space.{Space, AreCountsRaised, AreTaken, AreHintsUpTo, IsHint, IsSpaceSound, lowest}
+use Rattle.file_space.specs.Stretches.{IsFull}
+use Rattle.file_space.proofs.PlacingLemmas.{pages_few}
+use Rattle.file_space.proofs.StretchLemmas.{full-kept}
 use Rattle.file_space.proofs.SpaceLemmas.{lowered_from, taken-less, sound-less, sound-fewer, taken_there, up_to-lowered}
 use Rattle.file_space.proofs.free_space.FreeSpace.release.Goals.{After-count_down}
 use Rattle.file_space.proofs.free_space.FreeSpace.release.Goals as goal
@@ -42,11 +45,21 @@ invariant_of-self c =
     subst (λ (l : List ℕ). (n : ℕ) → n ≤ c.self.inside.longest → get_or c.lower.new.hints n 0 ≡ min (get_or l n 0) (lowest e.page n)) hints.ensures.value c.lower.ensures.lower in
     let same : (n : ℕ) → c.self.inside.longest < n → get_or c.lower.new.hints n 0 ≡ get_or was n 0 =
     subst (λ (l : List ℕ). (n : ℕ) → c.self.inside.longest < n → get_or c.lower.new.hints n 0 ≡ get_or l n 0) hints.ensures.value c.lower.ensures.same in
+    let behind : ℕ = c.page_behind-end.result in
+    let n : ℕ = behind - e.page in
+    let sound = c.self.invariant.0 in
+    let ends = c.page_behind-end.ensures in
+    let is = c.requires.1.extents 0 e (omega arith) in
+    let few = pages_few e.length is.1 in
+    let seen = c.deref-then-has_free.ensures.value in
+    let hint : IsHint old n (get_or c.deref-then-has_free.result.now n 0) = subst (λ (l : List ℕ). IsHint old n (get_or l n 0)) (sym seen) (sound.hint n (omega (arith, few, ends))) in
+    let less : AreCountsRaised e.page behind new old = subst (λ (b : ℕ). AreCountsRaised e.page b new old) (sym ends) raised in
+    let full : IsFull new c.full_behind-self-inside.result = c.full_behind-self-inside.ensures old new c.self.invariant.1.1 hint less in
     let as_long : length c.lower.new.hints ≡ length was = c.lower.auto.hints ∙ ap (λ (l : List ℕ). length l) hints.ensures.value in
-    subst (λ (counts : List ℕ). IsSpaceSound counts (with_items c.self.inside.hints c.lower.new.hints).items (c.self.inside.count - 1) × AreHintsUpTo c.self.inside.longest (with_items c.self.inside.hints c.lower.new.hints).items) (sym (with_items_is c.self.inside.counts new (c.count_down.auto.counts ∙ c.deref_mut.ensures.len)))
-    (subst (λ (l : List ℕ). IsSpaceSound new l (c.self.inside.count - 1) × AreHintsUpTo c.self.inside.longest l) (sym (with_items_is c.self.inside.hints c.lower.new.hints (c.lower.auto.hints ∙ hints.ensures.len))) (
-      sound-less old new was c.lower.new.hints c.self.inside.longest c.self.inside.count e c.requires.0 c.self.invariant.0 c.self.invariant.1 before raised (as_long ∙ c.self.invariant.0.hint_count) lower same,
-      up_to-lowered was c.lower.new.hints c.self.inside.longest c.self.invariant.1 same,
+    subst (λ (counts : List ℕ). IsSpaceSound counts (with_items c.self.inside.hints c.lower.new.hints).items (c.self.inside.count - 1) × (AreHintsUpTo c.self.inside.longest (with_items c.self.inside.hints c.lower.new.hints).items × IsFull counts c.full_behind-self-inside.result)) (sym (with_items_is c.self.inside.counts new (c.count_down.auto.counts ∙ c.deref_mut.ensures.len)))
+    (subst (λ (l : List ℕ). IsSpaceSound new l (c.self.inside.count - 1) × (AreHintsUpTo c.self.inside.longest l × IsFull new c.full_behind-self-inside.result)) (sym (with_items_is c.self.inside.hints c.lower.new.hints (c.lower.auto.hints ∙ hints.ensures.len))) (
+      sound-less old new was c.lower.new.hints c.self.inside.longest c.self.inside.count e c.requires.0 c.self.invariant.0 c.self.invariant.1.0 before raised (as_long ∙ c.self.invariant.0.hint_count) lower same,
+      (up_to-lowered was c.lower.new.hints c.self.inside.longest c.self.invariant.1.0 same, full),
     ))
 
 pub invariant_of-self-else-has_free : goal.invariant_of-self-else-has_free
@@ -60,8 +73,8 @@ invariant_of-self-else-has_free c =
     let as_file : c.deref.result.now ≡ new = c.deref.ensures.value ∙ items in
     let held : (page : ℕ) → e.page ≤ page → page < end_page e → 1 ≤ get_or new page 0 = λ page low high.
     subst (λ (counts : List ℕ). 1 ≤ get_or counts page 0) as_file (c.has_free.ensures c.if-has_free.false page low (omega (arith, high, c.page_behind-end.ensures))) in
-    subst (λ (counts : List ℕ). IsSpaceSound counts c.self.inside.hints.items (c.self.inside.count - 1) × AreHintsUpTo c.self.inside.longest c.self.inside.hints.items) (sym items)
-    (sound-fewer old new c.self.inside.hints.items c.self.inside.count e c.requires.0 c.self.invariant.0 before raised held, c.self.invariant.1)
+    subst (λ (counts : List ℕ). IsSpaceSound counts c.self.inside.hints.items (c.self.inside.count - 1) × (AreHintsUpTo c.self.inside.longest c.self.inside.hints.items × IsFull counts c.self.inside.full)) (sym items)
+    (sound-fewer old new c.self.inside.hints.items c.self.inside.count e c.requires.0 c.self.invariant.0 before raised held, (c.self.invariant.1.0, full-kept e.page (end_page e) old new c.self.inside.full raised held c.self.invariant.1.1))
 
 pub returns-then-has_free-clause-left : goal.returns-then-has_free-clause-left
 returns-then-has_free-clause-left c = λ rest are.
