@@ -73,7 +73,8 @@ pub struct Pair {
 pub fn copy_table(alloc: Global, table: &BlockTable) -> Result<BlockTable, AllocError>
     ensures { IfOk result (λ copy. IsCopy copy table.now) }
 {
-    let places = table.places.to_vec(alloc)?;
+    let mut places = Vec::with_capacity(alloc, table.places.len())?;
+    places.extend_from_slice(&table.places)?;
     Ok(BlockTable {
         map_block: table.map_block,
         places,
