@@ -1,5 +1,5 @@
 -- The bytes of a chunk are read, written over where they lie, and put in the place of others.
-use Rattle.std.proofs.Common.{◌≡◌, ℕ, ◌+◌, ◌-◌, ◌*◌, ◌<◌, ◌≤◌, List, [], ◌∷◌, ◌++◌, length, get_or, set, slice_range, Option, Some, None, unwrap_or, ◌==◌, nat_lt, if◌then◌else◌, refl, sym, ap, subst, ◌∙◌, inl, inr, arith, take, replicate}
+use Rattle.std.proofs.Common.{◌≡◌, ℕ, ◌+◌, ◌-◌, ◌*◌, ◌<◌, ◌≤◌, List, [], ◌∷◌, ◌++◌, length, get_or, set, slice_range, Option, Some, None, unwrap_or, nat_lt, refl, sym, ap, subst, ◌∙◌, inl, inr, arith, take, replicate}
 use Rattle.std.proofs.lemmas.Bool.{cases_lt, cond-true, cond-false, lt-ltb, le-ltb}
 use Rattle.raw_region.specs.Bytes.{put}
 use Rattle.raw_region.proofs.Puts.{length-put, spliced, put_is}
@@ -9,7 +9,7 @@ use Rattle.lmem_heap.specs.Pieces.{word_in, entry, Used, size_head, Lies, IsFres
 use Rattle.lmem_heap.specs.Tiled.{IsTiled, chunks_in, offset_under}
 use Rattle.lmem_heap.specs.Space.{IsWellFormed}
 use Rattle.lmem_heap.proofs.PieceLemmas.{lies_split, shaped_split}
-use Rattle.lmem_heap.proofs.TiledLemmas.{piece_size, piece_bytes, piece_chunk, piece_others, under_dead, chunk_in, length-chunks_in, IsEdit, edited, edited_set, spares_edited, chain_edited, Each, each_all, IsLinkKept, count_edited, frees_edited}
+use Rattle.lmem_heap.proofs.TiledLemmas.{piece_size, piece_bytes, piece_chunk, piece_others, chunk_in, length-chunks_in, IsEdit, edited, edited_set, spares_edited, chain_edited, Each, each_all, IsLinkKept, count_edited, frees_edited}
 use Rattle.lmem_heap.proofs.EntryLemmas.{live_slot, IsLivePiece, entry_ends}
 use Rattle.std.proofs.lemmas.List.{get_or-set_same, set-set, take_all, append-nil, take_at, length-take}
 use Rattle.geos_model.specs.Bytes.{resized}
@@ -27,16 +27,6 @@ offset_some e l = sym (cond-true (nat_lt 1 e) (Some (e + 2)) None (lt-ltb 1 e l)
 pub offset_none : (e : ℕ) → e ≤ 1 → None ≡ offset_under e
 unfolding offset_under
 offset_none e l = sym (cond-false (nat_lt 1 e) (Some (e + 2)) None (le-ltb 1 e l))
-
-pub chunk_none : (xs : List ℕ) (t i p : ℕ) → i < t → p ≡ entry xs i → p ≡ 0 → None ≡ get_or (chunks_in xs t) i None
-chunk_none xs t i p l is none =
-    let e : entry xs i ≡ 0 = sym is ∙ none in
-    sym (chunk_in xs t i l ∙ (under_dead xs (entry xs i) (omega arith) ∙ ap (λ (k : ℕ). if k == 0 then None else Some []) e))
-
-pub chunk_empty : (xs : List ℕ) (t i p : ℕ) → i < t → p ≡ entry xs i → p ≡ 1 → Some [] ≡ get_or (chunks_in xs t) i None
-chunk_empty xs t i p l is one =
-    let e : entry xs i ≡ 1 = sym is ∙ one in
-    sym (chunk_in xs t i l ∙ (under_dead xs (entry xs i) (omega arith) ∙ ap (λ (k : ℕ). if k == 0 then None else Some []) e))
 
 pub chunk_some : (s : Space) (k : IsWellFormed s) (i p n : ℕ) → i < s.slots → p ≡ entry s.region i → 1 < p → n ≡ word_in s.region p → Some (slice_range s.region (p + 2) (p + 2 + n)) ≡ get_or (chunks_in s.region s.slots) i None
 chunk_some s k i p n l is live value =

@@ -12,6 +12,7 @@ pub mod MarkLemmas
 pub mod ChunkBytesLemmas
 pub mod ResizingLemmas
 pub mod LendsChunkLemmas
+pub mod FoundLemmas
 pub mod MovingLemmas
 pub mod MergingLemmas
 pub mod ClosingLemmas

@@ -1,8 +1,8 @@
 -- A heap over its table: what each call does to the table is what it does to the finite map.
-use Rattle.std.proofs.Common.{◌≡◌, ℕ, zero, suc, ◌+◌, ◌-◌, ◌*◌, ◌/◌, ◌<◌, ◌≤◌, ◌≢◌, true, false, nat_le, max, min, List, [], ◌∷◌, ◌++◌, map, length, get_or, set, take, drop, replicate, Option, Some, None, is_some, unwrap_or, flat_map, ◌==◌, refl, sym, ap, subst, ◌∙◌, inl, inr, arith, length-append}
-use Rattle.std.proofs.lemmas.Bool.{cases_lt, cases_eq, cond-true, cond-false, lt-ltb, le-ltb, leb-true, ne_eqb}
+use Rattle.std.proofs.Common.{◌≡◌, ℕ, zero, suc, ◌+◌, ◌-◌, ◌*◌, ◌/◌, ◌<◌, ◌≤◌, ◌≢◌, true, false, nat_le, max, min, List, [], ◌∷◌, ◌++◌, map, length, get_or, set, take, drop, replicate, Option, Some, None, is_some, unwrap_or, flat_map, refl, sym, ap, subst, ◌∙◌, inl, inr, arith, length-append}
+use Rattle.std.proofs.lemmas.Bool.{cases_lt, cases_eq, cond-true, cond-false, lt-ltb, le-ltb, leb-true}
 use Rattle.std.proofs.lemmas.List.{length-replicate, length-set, append-nil, take_more, take_all, length-take, length-take-le, length-drop}
-use Rattle.std.proofs.lemmas.List.Sums.{sum_by-set, sum_by_more}
+use Rattle.std.proofs.lemmas.List.Sums.{sum_by-set}
 use Rattle.std.specs.Option.{option_map, option_map_or}
 use Rattle.std.specs.Ordering.{nat_cmp}
 use Rattle.std.specs.FinMap.{FinMap, get, insert, remove, keys, contains_key}
@@ -10,7 +10,7 @@ use Rattle.geos_model.proofs.Table.{slot_space, table_entries, table_map, first_
 use Rattle.geos_model.specs.Heap.{ChunkMap, need, next_chunk, fits, fits_with, fits_new, space_of, is_chunk_handle, is_heap_map, chunk_bytes}
 use Rattle.geos_model.specs.Bytes.{resized}
 use Rattle.geos_model.proofs.Tables.{slot_at_within, slots_to, length-slots_to, slot_at-slots_to, put_at, put_at-within, length-put_at, table_map-same, table_map-cut, table_map-put, table_map-clear, next_chunk-table, get-table_map_at, get-table_map_off, first_gap_none, first_gap-take, first_gap-clear, first_gap-put_other, first_gap-put_first, first_gap_below, keys-table_map}
-use Rattle.geos_model.proofs.HeapTables.{need-table, trimmed-put, is_heap_map-trimmed, live_handle, space-same, slot_space_le, is_chunk_handle-parts, space_of_ge, image-table, slot_size_word, slot_bytes}
+use Rattle.geos_model.proofs.HeapTables.{trimmed-put, live_handle, space-same, slot_space_le, space_of_ge, image-table, slot_size_word, slot_bytes}
 use Rattle.raw_region.specs.Bytes.{put}
 use Rattle.raw_region.proofs.Puts.{put_is}
 use Rattle.lmem_heap.specs.Stored.{Stored}
@@ -119,10 +119,6 @@ get_other t h off = get-table_map_off (omega arith) 16 t h off
 -- a live handle is a chunk handle
 pub live_is : (t : PackedSlots) (h : ℕ) (m : ChunkMap) → table_map 2 16 t ≡ m → IsTrimmed t → need_in t ≤ 65520 → contains_key m h ≡ true → is_chunk_handle h ≡ true
 live_is t h m shows trimmed room live = live_handle m h (ap is_heap_map (sym shows) ∙ is_heap t trimmed room) live
-
--- so it is one of a slot
-pub live_at : (t : PackedSlots) (h : ℕ) (m : ChunkMap) → table_map 2 16 t ≡ m → IsTrimmed t → need_in t ≤ 65520 → contains_key m h ≡ true → (i : ℕ) × (h ≡ 16 + 2 * i)
-live_at t h m shows trimmed room live = let parts = is_chunk_handle-parts h (live_is t h m shows trimmed room live) in ((h - 16) / 2, omega (arith, parts.0, parts.2))
 
 -- a slot that has this chunk
 pub record Live (t : PackedSlots) (i : ℕ) (b : List ℕ) : Type 0 where

@@ -225,15 +225,6 @@ module _ (s : Space) (m : Stored) (i : ℕ) (stored : IsStoredHeap s) (is : stor
   pub live_entry : 0 < length (unwrap_or (get_or m.chunks i None) []) → 1 < entry s.region i
   live_entry some = live_of s i stored.well_formed the_slot (omega (arith, bytes_are))
 
-  -- a chunk is no longer than the region
-  pub chunk_small : length (unwrap_or (get_or m.chunks i None) []) ≤ 65520
-  chunk_small = elim (cases_lt 1 (entry s.region i)) [
-    | inl live ↦
-        let f = live_piece s stored.well_formed i (entry s.region i) (word_in s.region (entry s.region i)) the_slot live refl refl in
-        omega (arith, bytes_are, size_is s i stored.well_formed the_slot live, f.ends)
-    | inr dead ↦ omega (arith, bytes_are, ap (λ (o : Option (List ℕ)). length (unwrap_or o [])) (under_dead s.region (entry s.region i) dead), no_bytes (entry s.region i == 0))
-  ]
-
   -- what the table needs with another chunk in the slot
   pub need_shown : (b : List ℕ) → need_in (set m.chunks i (Some b)) + slot_space (chunk_under s.region (entry s.region i)) ≡ table_end s.slots + s.total + space_of (length b)
   need_shown b =

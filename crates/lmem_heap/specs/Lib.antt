@@ -6,5 +6,6 @@ pub mod Tiled
 pub mod Space
 pub mod Stored
 pub mod Placed
+pub mod Found
 pub mod LendsChunk
 pub mod LendsHeapChunk

@@ -10,8 +10,10 @@ ghost use Rattle.geos_model.specs.Image.{image};
 ghost use Rattle.geos_model.specs.declared.command.Body.TheVariants as bodies;
 ghost use Rattle.geos_model.proofs.Table.{first_gap};
 ghost use Rattle.heap_images.specs.HeapImage.{HasHeapTable};
+ghost use Rattle.lmem_heap.specs.Found.{IsFoundIn, handle_found};
 ghost use Rattle.lmem_heap.specs.Known.{is_array_of};
 
+use crate::found::FoundChunk;
 use crate::image::{image_len, push_chunks, push_sizes, unpack};
 use crate::known::{ArrayKind, KnownBytes};
 use crate::marks::Marks;
@@ -122,17 +124,26 @@ impl Heap {
         requires { IsTrue (contains_key self.now.chunks h.0) }
         ensures { result ≡ fits_with self.now.chunks h.0 (resized (chunk_bytes self.now.chunks h.0) n) }
     {
-        let size = self.size(h);
-        let others = self.table.space() - space_of(size);
+        self.fits_found(self.find_live(h), n)
+    }
+
+    /// So of a chunk that was found.
+    pub fn fits_found(&self, found: FoundChunk, n: u32) -> bool
+        requires { IsFoundIn self.now found }
+        ensures { let h = handle_found found in
+            result ≡ fits_with self.now.chunks h (resized (chunk_bytes self.now.chunks h) n) }
+    {
+        let others = self.table.space() - space_of(found.run.size);
         need_of(self.table.len(), others + space_of(n as usize)) <= SIZE
     }
 
-    /// The size of a chunk.
-    fn size(&self, h: ChunkHandle) -> usize
+    /// The chunk of a live handle.
+    fn find_live(&self, h: ChunkHandle) -> FoundChunk
         requires { IsTrue (contains_key self.now.chunks h.0) }
-        ensures { result ≡ length (chunk_bytes self.now.chunks h.0) }
+        ensures handle { handle_found result ≡ h.0 }
+        ensures found { IsFoundIn self.now result }
     {
-        self.table.size(slot(h)).unwrap()
+        self.table.find_live(self.live_slot(h))
     }
 
     /// The slot of a live handle.
@@ -219,9 +230,22 @@ impl Heap {
         ensures { self.new.chunks ≡
             insert self.old.chunks h.0 (splice (chunk_bytes self.old.chunks h.0) at (at + k) new.now) }
     {
-        let i = self.live_slot(h);
-        self.table.replace(i, at, k, new);
-        self.marks.forget(i);
+        let found = self.find_live(h);
+        self.replace_found(found, at, k, new);
+    }
+
+    /// So in a chunk that was found. Where as many bytes come as go, they are written over where they lie.
+    #[inline(always)]
+    pub fn replace_found(&mut self, found: FoundChunk, at: usize, k: usize, new: &[u8])
+        requires found { IsFoundIn self.old found }
+        requires range { at + k ≤ length (chunk_bytes self.old.chunks (handle_found found)) }
+        requires fits { let h = handle_found found in IsTrue
+            (fits_with self.old.chunks h (splice (chunk_bytes self.old.chunks h) at (at + k) new.now)) }
+        ensures { let h = handle_found found in self.new.chunks ≡
+            insert self.old.chunks h (splice (chunk_bytes self.old.chunks h) at (at + k) new.now) }
+    {
+        self.table.replace(found, at, k, new);
+        self.marks.forget(found.slot);
     }
 
     /// Joins all free room into one piece. The chunks stay as they are.
@@ -244,6 +268,25 @@ impl Heap {
     {
         let i = slot_of(h, self.table.len())?;
         self.table.offset(i)
+    }
+
+    /// A chunk, to be read, tested and changed with no further look-up; None where there is no such chunk. What was
+    /// found serves until the heap changes.
+    pub fn find_chunk(&self, h: ChunkHandle) -> Option<FoundChunk>
+        ensures value { MatchOption result (get self.now.chunks h.0 ≡ None)
+            (λ found. (handle_found found ≡ h.0) × IsFoundIn self.now found) }
+        ensures valid { is_heap_map self.now.chunks ≡ true }
+    {
+        let i = slot_of(h, self.table.len())?;
+        self.table.find(i)
+    }
+
+    /// The bytes of a chunk that was found.
+    pub fn found_bytes(&self, found: FoundChunk) -> &[u8]
+        requires { IsFoundIn self.now found }
+        ensures { result.now ≡ chunk_bytes self.now.chunks (handle_found found) }
+    {
+        self.table.bytes(found)
     }
 
     /// The bytes of a chunk.

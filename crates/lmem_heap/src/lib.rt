@@ -3,6 +3,7 @@
 
 mod compaction;
 mod entries;
+mod found;
 mod heap;
 mod image;
 mod known;
@@ -16,5 +17,6 @@ mod table;
 mod windows;
 mod words;
 
+pub use found::FoundChunk;
 pub use heap::Heap;
 pub use known::{ArrayKind, KnownBytes};

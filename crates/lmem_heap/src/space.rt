@@ -1,7 +1,7 @@
 //! A region with its table, its pieces and the list of the free ones, and what is read there of a slot's chunk.
 ghost use Rattle.std.specs.Prelude.{◌≡◌, ◌+◌, ◌≤◌, ◌<◌, ℕ, Some, None, IfSome, is_some, slice_range, length, get_or};
 ghost use Rattle.lmem_heap.specs.Pieces.{word_in, entry, piece_space};
-ghost use Rattle.std.specs.Option.{option_map, option_copied};
+ghost use Rattle.std.specs.Option.{option_map};
 ghost use Rattle.lmem_heap.specs.Tiled.{chunks_in, offset_under};
 ghost use Rattle.lmem_heap.specs.Space.{IsRunOf, IsWellFormed, IsWellFormedBut};
 
@@ -76,23 +76,6 @@ impl Space {
         if p > EMPTY { Some(p + 2) } else { None }
     }
 
-    /// The bytes of a slot's chunk.
-    pub(crate) fn chunk(&self, i: usize) -> Option<&[u8]>
-        requires well_formed { IsWellFormed self.now }
-        requires slot { i < length (chunks_in self.now.region self.now.slots) }
-        ensures { option_copied result ≡ get_or (chunks_in self.now.region self.now.slots) i None }
-    {
-        let p = entry(&self.region, i);
-        if p == NO_CHUNK {
-            None
-        } else if p == EMPTY {
-            Some(self.region.slice(0, 0))
-        } else {
-            let n = word_in(&self.region, p);
-            Some(self.region.slice(p + 2, n))
-        }
-    }
-
     /// The piece of a slot whose chunk has bytes: where it lies, and how many bytes it holds.
     pub(crate) fn live_piece(&self, i: usize) -> LivePiece
         // A slot whose chunk has bytes.
@@ -139,7 +122,7 @@ pub(crate) struct LivePiece {
 }
 
 /// A run of bytes in a region.
-#[derive(Clone, Copy)]
+#[derive(Clone, Copy, Debug)]
 pub(crate) struct Run {
     pub(crate) from: usize,
     pub(crate) size: usize,

@@ -1,5 +1,5 @@
 //! Chunks in a region under slots, seen as a list of what each slot has and one of where its bytes lie.
-ghost use Rattle.std.specs.Prelude.{◌≡◌, ◌+◌, ◌-◌, ◌≤◌, ◌<◌, ℕ, [], ◌++◌, Some, None, IfOk, IfSome, IsSome, length, replicate, take, set, get_or, unwrap_or, slice_range, is_some, nat_lt, true, ◌==◌, if◌then◌else◌};
+ghost use Rattle.std.specs.Prelude.{◌≡◌, ◌≢◌, ◌+◌, ◌-◌, ◌≤◌, ◌<◌, ℕ, [], ◌++◌, Some, None, IfOk, IfSome, IsSome, MatchOption, length, replicate, take, set, get_or, unwrap_or, slice_range, is_some, nat_lt, true, ◌==◌, if◌then◌else◌};
 ghost use Rattle.std.specs.Borrow.{sem};
 ghost use Rattle.std.specs.List.{splice};
 ghost use Rattle.std.specs.Option.{option_copied, option_map};
@@ -8,6 +8,7 @@ ghost use Rattle.geos_model.proofs.Table.{IsTrimmed};
 ghost use Rattle.raw_region.specs.Bytes.{put};
 ghost use Rattle.heap_images.specs.Slots.{space_in, need_in, need_of};
 
+use crate::found::FoundChunk;
 use crate::space::Space;
 use crate::words::EMPTY;
 use raw_region::Region;
@@ -30,6 +31,7 @@ impl Model for ChunkTable {
 }
 
 impl ChunkTable {
+    ghost use Rattle.lmem_heap.specs.Found.{IsFoundAt};
     ghost use Rattle.lmem_heap.specs.LendsChunk.{lends_table_chunk};
     ghost use Rattle.lmem_heap.specs.Stored.{AreLast, AreStoredDisjoint, AreBehind, StoredHoldsChunks};
 
@@ -96,12 +98,47 @@ impl ChunkTable {
         self.space.offset(i)
     }
 
+    /// The chunk of a slot; None where it has none.
+    pub(crate) fn find(&self, i: usize) -> Option<FoundChunk>
+        requires { i < length self.now.chunks }
+        ensures { MatchOption result (get_or self.now.chunks i None ≡ None)
+            (λ found. (found.slot ≡ i) × IsFoundAt self.now found) }
+    {
+        if self.has_chunk(i) {
+            Some(self.find_live(i))
+        } else {
+            None
+        }
+    }
+
+    /// The chunk of a slot that has one.
+    pub(crate) fn find_live(&self, i: usize) -> FoundChunk
+        requires slot { i < length self.now.chunks }
+        requires live { IsSome (get_or self.now.chunks i None) }
+        ensures slot { result.slot ≡ i }
+        ensures found { IsFoundAt self.now result }
+    {
+        FoundChunk {
+            slot: i,
+            run: self.space.find_run(i),
+        }
+    }
+
+    /// The bytes of a chunk.
+    pub(crate) fn bytes(&self, found: FoundChunk) -> &[u8]
+        requires { IsFoundAt self.now found }
+        ensures { result.now ≡ unwrap_or (get_or self.now.chunks found.slot None) [] }
+    {
+        self.space.region.slice(found.run.from, found.run.size)
+    }
+
     /// The bytes of a slot's chunk.
     pub(crate) fn chunk(&self, i: usize) -> Option<&[u8]>
         requires { i < length self.now.chunks }
         ensures { option_copied result ≡ get_or self.now.chunks i None }
     {
-        self.space.chunk(i)
+        let found = self.find(i)?;
+        Some(self.bytes(found))
     }
 
     /// Sees that there are `n` slots. New ones have no chunk.
@@ -174,17 +211,19 @@ impl ChunkTable {
             set self.old.chunks i (Some (put (unwrap_or (get_or self.old.chunks i None) []) at bytes.now)) }
         ensures offsets { self.new.offsets ≡ self.old.offsets }
     {
-        let run = self.space.find_run(i);
-        self.space.region.copy_in(run.from + at, bytes);
+        let found = self.find_live(i);
+        self.write_found(found, at, bytes);
     }
 
-    /// How many bytes a slot's chunk has.
-    fn size_of(&self, i: usize) -> usize
-        requires { i < length self.now.chunks }
-        ensures value { result ≡ length (unwrap_or (get_or self.now.chunks i None) []) }
-        ensures small { result ≤ 65520 }
+    /// So of a chunk that was found.
+    fn write_found(&mut self, found: FoundChunk, at: usize, bytes: &[u8])
+        requires found { IsFoundAt self.old found }
+        requires range { at + length bytes.now ≤ length (unwrap_or (get_or self.old.chunks found.slot None) []) }
+        ensures chunks { let i = found.slot in self.new.chunks ≡
+            set self.old.chunks i (Some (put (unwrap_or (get_or self.old.chunks i None) []) at bytes.now)) }
+        ensures offsets { self.new.offsets ≡ self.old.offsets }
     {
-        self.space.find_run(i).size
+        self.space.region.copy_in(found.run.from + at, bytes);
     }
 
     /// A slot's chunk becomes one of `n` bytes: those that it had, cut or with zeros behind them.
@@ -205,61 +244,78 @@ impl ChunkTable {
         }
     }
 
-    /// Puts `new` in the place of the `k` bytes from `at` on of a slot's chunk; what stands behind them slides.
-    pub(crate) fn replace(&mut self, i: usize, at: usize, k: usize, new: &[u8])
-        requires slot { i < length self.old.chunks }
-        requires live { IsSome (get_or self.old.chunks i None) }
-        requires range { at + k ≤ length (unwrap_or (get_or self.old.chunks i None) []) }
-        requires room { need_in (set self.old.chunks i
-            (Some (splice (unwrap_or (get_or self.old.chunks i None) []) at (at + k) new.now))) ≤ 65520 }
-        ensures { self.new.chunks ≡ set self.old.chunks i
+    /// Puts `new` in the place of the `k` bytes from `at` on of a chunk; what stands behind them slides.
+    #[inline(always)]
+    pub(crate) fn replace(&mut self, found: FoundChunk, at: usize, k: usize, new: &[u8])
+        requires found { IsFoundAt self.old found }
+        requires range { at + k ≤ length (unwrap_or (get_or self.old.chunks found.slot None) []) }
+        requires room { need_in (set self.old.chunks found.slot
+            (Some (splice (unwrap_or (get_or self.old.chunks found.slot None) []) at (at + k) new.now))) ≤ 65520 }
+        ensures { let i = found.slot in self.new.chunks ≡ set self.old.chunks i
             (Some (splice (unwrap_or (get_or self.old.chunks i None) []) at (at + k) new.now)) }
     {
-        let size = self.size_of(i);
-        let end = size - k + new.len();
-        if end == size {
-            self.write(i, at, new);
-        } else if end > size {
-            self.resize(i, end);
-            self.overlay(i, at, at + k, size, new);
+        if new.len() == k {
+            self.write_found(found, at, new);
         } else {
-            self.overlay(i, at, at + k, size, new);
-            self.resize(i, end);
+            self.replace_resized(found, at, k, new);
         }
     }
 
-    /// Moves the bytes of a slot's chunk between two places behind what comes at `at`, and writes that.
-    fn overlay(&mut self, i: usize, at: usize, from: usize, to: usize, new: &[u8])
+    /// So where not as many bytes come as go.
+    #[inline(never)]
+    fn replace_resized(&mut self, found: FoundChunk, at: usize, k: usize, new: &[u8])
         // The chunk.
-        requires slot { i < length self.old.chunks }
-        requires live { IsSome (get_or self.old.chunks i None) }
+        requires found { IsFoundAt self.old found }
+        // What comes in the place of what goes.
+        requires range { at + k ≤ length (unwrap_or (get_or self.old.chunks found.slot None) []) }
+        requires room { need_in (set self.old.chunks found.slot
+            (Some (splice (unwrap_or (get_or self.old.chunks found.slot None) []) at (at + k) new.now))) ≤ 65520 }
+        requires other { length new.now ≢ k }
+        // What the chunk becomes.
+        ensures { let i = found.slot in self.new.chunks ≡ set self.old.chunks i
+            (Some (splice (unwrap_or (get_or self.old.chunks i None) []) at (at + k) new.now)) }
+    {
+        let FoundChunk { slot, run } = found;
+        let end = run.size - k + new.len();
+        if end > run.size {
+            self.resize(slot, end);
+            let longer = self.find_live(slot);
+            self.overlay(longer, at, at + k, run.size, new);
+        } else {
+            self.overlay(found, at, at + k, run.size, new);
+            self.resize(slot, end);
+        }
+    }
+
+    /// Moves the bytes of a chunk between two places behind what comes at `at`, and writes that.
+    fn overlay(&mut self, found: FoundChunk, at: usize, from: usize, to: usize, new: &[u8])
+        // The chunk.
+        requires found { IsFoundAt self.old found }
         // What moves, and where to.
         requires order { at ≤ from }
         requires forward { from ≤ to }
-        requires within { to ≤ length (unwrap_or (get_or self.old.chunks i None) []) }
-        requires room { at + length new.now + (to - from) ≤ length (unwrap_or (get_or self.old.chunks i None) []) }
+        requires within { to ≤ length (unwrap_or (get_or self.old.chunks found.slot None) []) }
+        requires room { at + length new.now + (to - from)
+            ≤ length (unwrap_or (get_or self.old.chunks found.slot None) []) }
         // What the chunk becomes.
-        ensures { let b = unwrap_or (get_or self.old.chunks i None) [] in
+        ensures { let i = found.slot in let b = unwrap_or (get_or self.old.chunks i None) [] in
             self.new.chunks ≡
             set self.old.chunks i (Some (put (put b (at + length new.now) (slice_range b from to)) at new.now)) }
     {
-        // What is always so of the fields is known where one is named: a chunk is no longer than the region.
-        let _ = &self.space;
-        self.slide(i, from, at + new.len(), to - from);
-        self.write(i, at, new);
+        self.slide(found, from, at + new.len(), to - from);
+        self.write_found(found, at, new);
     }
 
-    /// Moves `n` bytes of a slot's chunk from one place in it to another, as if they were copied aside first.
-    fn slide(&mut self, i: usize, from: usize, to: usize, n: usize)
-        requires slot { i < length self.old.chunks }
-        requires live { IsSome (get_or self.old.chunks i None) }
-        requires source { from + n ≤ length (unwrap_or (get_or self.old.chunks i None) []) }
-        requires target { to + n ≤ length (unwrap_or (get_or self.old.chunks i None) []) }
-        ensures chunks { let b = unwrap_or (get_or self.old.chunks i None) [] in
+    /// Moves `n` bytes of a chunk from one place in it to another, as if they were copied aside first.
+    fn slide(&mut self, found: FoundChunk, from: usize, to: usize, n: usize)
+        requires found { IsFoundAt self.old found }
+        requires source { from + n ≤ length (unwrap_or (get_or self.old.chunks found.slot None) []) }
+        requires target { to + n ≤ length (unwrap_or (get_or self.old.chunks found.slot None) []) }
+        ensures chunks { let i = found.slot in let b = unwrap_or (get_or self.old.chunks i None) [] in
             self.new.chunks ≡ set self.old.chunks i (Some (put b to (slice_range b from (from + n)))) }
         ensures offsets { self.new.offsets ≡ self.old.offsets }
     {
-        let run = self.space.find_run(i);
+        let run = found.run;
         self.space.region.slide(run.from + from, run.from + to, n);
     }
 
