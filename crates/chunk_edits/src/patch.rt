@@ -1,11 +1,11 @@
 //! A patch: all bytes of a chunk or a raw body in pieces, of which some stay and others change.
-ghost use Rattle.std.specs.Prelude.{◌≡◌, ◌≤◌, ◌+◌, ◌-◌, ◌*◌, ◌/◌, ◌%◌, ◌^◌, ◌<◌, ◌++◌, ◌↔◌, [], ◌∷◌, IsTrue, OnOk, OnErr, IfOk, length, min, take, drop, replicate};
-ghost use Rattle.std.specs.List.{splice};
+ghost use Rattle.std.specs.Prelude.{◌≡◌, ◌≤◌, ◌+◌, ◌-◌, ◌*◌, ◌/◌, ◌%◌, ◌^◌, ◌<◌, ◌++◌, ◌↔◌, [], ◌∷◌, true, IsTrue, MatchOption, OnOk, OnErr, IfOk, length, min, take, drop, replicate};
+ghost use Rattle.std.specs.List.{splice, sum_by};
 ghost use Rattle.std.specs.FinMap.{insert, contains_key};
 ghost use Rattle.geos_model.specs.Heap.{capacity, chunk_bytes, fits_with};
 ghost use Rattle.chunk_edits.specs.Patching.{ArePiecesOf, IsPieceOf, Keep, Put, Rebase, directed_piece, directed_pieces, given, total_held, patched, peak, rebased, taken, total_taken, with_piece};
 ghost use Rattle.chunk_edits.specs.Exchanging.{AreFew, exchanged};
-ghost use Rattle.chunk_edits.specs.Spans.{own, piece_of, pieces_of, total_own};
+ghost use Rattle.chunk_edits.specs.Spans.{IsShort, IsSound, extent, has_allocation, most, own, piece_of, pieces_of, row_in, spans_in, total_own};
 ghost use Rattle.chunk_edits.specs.declared.patch.Span.TheVariants as spans;
 
 use crate::chunk::{chunk_of, put};
@@ -39,8 +39,6 @@ impl Default for Span {
 }
 
 impl Span {
-    ghost use Rattle.chunk_edits.specs.Spans.{extent};
-
     /// How many bytes it is of in a direction.
     fn extent(self, direction: Direction) -> usize
         ensures { result ≡ extent direction self }
@@ -104,47 +102,60 @@ impl Exchange<'_> {
         }
     }
 
-    /// The bytes that go, and behind them those that come. Few of them are put in their place at once, with no room to
-    /// be asked for.
+    /// How many bytes go or come.
+    fn count(&self) -> usize
+        requires { AreFew self.now }
+        ensures { result ≡ length self.now.old.now + length self.now.new.now }
+    {
+        self.old.len() + self.new.len()
+    }
+
+    /// It alone, of few bytes, behind so many that stay, and in front of so many more.
     #[inline(always)]
+    fn alone(&self, alloc: Global, before: u16, behind: u16) -> Held
+        requires { length self.now.old.now + length self.now.new.now ≤ 16 }
+        ensures spans { spans_in result ≡ spans.Keep before
+            ∷ spans.Put (length self.now.old.now) (length self.now.new.now) ∷ spans.Keep behind ∷ [] }
+        ensures row { row_in result ≡ self.now.old.now ++ self.now.new.now }
+        ensures short { IsShort result }
+    {
+        let count = self.old.len() + self.new.len();
+        let mut bytes = [0; ALONE_BYTES];
+        bytes[..self.old.len()].copy_from_slice(self.old);
+        bytes[self.old.len()..count].copy_from_slice(self.new);
+        Held::Alone {
+            old: self.old.len() as u8,
+            new: self.new.len() as u8,
+            before,
+            behind,
+            bytes,
+            alloc,
+        }
+    }
+
+    /// The bytes that go, and behind them those that come.
     fn joined(&self, alloc: Global) -> Result<SmallVec<u8, FEW_BYTES>, AllocError>
         requires { AreFew self.now }
         ensures { IfOk result (λ row. row.items ≡ self.now.old.now ++ self.now.new.now) }
     {
-        let count = self.old.len() + self.new.len();
-        if count > FEW_BYTES {
-            return self.joined_many(alloc, count);
-        }
-        let mut bytes = [0; FEW_BYTES];
-        bytes[..self.old.len()].copy_from_slice(self.old);
-        bytes[self.old.len()..count].copy_from_slice(self.new);
-        Ok(SmallVec::from_buf_and_len(alloc, bytes, count))
-    }
-
-    // The same of more bytes, which take an allocation. Never inlined, since most are few.
-    #[inline(never)]
-    fn joined_many(
-        &self,
-        alloc: Global,
-        count: usize,
-    ) -> Result<SmallVec<u8, FEW_BYTES>, AllocError>
-        ensures { IfOk result (λ row. row.items ≡ self.now.old.now ++ self.now.new.now) }
-    {
-        let mut row = SmallVec::with_capacity(alloc, count)?;
+        let mut row = SmallVec::with_capacity(alloc, self.count())?;
         row.extend_from_slice(self.old)?;
         row.extend_from_slice(self.new)?;
         Ok(row)
     }
 }
 
-/// How many spans a patch holds in its one allocation, as many as an edit of an array of elements of one size has; for
+/// How many bytes that go or come a patch holds without an allocation, if it is of one exchange.
+const ALONE_BYTES: usize = 16;
+
+/// How many spans any other holds in its one allocation, as many as an edit of an array of elements of one size has; for
 /// more it takes another.
 const FEW_SPANS: usize = 4;
 
 /// How many bytes that go or come it holds there too; for more it takes another.
 const FEW_BYTES: usize = 24;
 
-/// What a patch holds.
+/// What a patch holds in its allocation.
 #[derive(Drop)]
 struct Pieces {
     spans: SmallVec<Span, FEW_SPANS>,
@@ -152,26 +163,236 @@ struct Pieces {
     content: SmallVec<u8, FEW_BYTES>,
 }
 
+/// How a patch holds its pieces.
+#[derive(Drop)]
+enum Held {
+    /// One exchange of few bytes, without an allocation: how many go and come, how many stay before them and behind
+    /// them, and the bytes that go, with those that come behind them. The numbers share a word with the tag.
+    Alone {
+        old: u8,
+        new: u8,
+        before: u16,
+        behind: u16,
+        bytes: [u8; ALONE_BYTES],
+        alloc: Global,
+    },
+    /// Any pieces.
+    Many(Box<Pieces>),
+}
+
+impl Held {
+    /// How many bytes it is of in a direction; 2^64 - 1 where these are more.
+    fn size_before(&self, direction: Direction) -> usize
+        ensures { result ≡ min (sum_by (extent direction) (spans_in self.now)) (2 ^ 64 - 1) }
+    {
+        match self {
+            Held::Alone {
+                old,
+                new,
+                before,
+                behind,
+                ..
+            } => {
+                let part = match direction {
+                    Direction::Forwards => *old,
+                    Direction::Backwards => *new,
+                };
+                usize::from(*before) + usize::from(part) + usize::from(*behind)
+            }
+            Held::Many(pieces) => size_of_spans(pieces.spans.as_slice(), direction),
+        }
+    }
+
+    /// How many bytes there are at most while it is carried out; 2^64 - 1 where these are more.
+    fn peak(&self) -> usize
+        ensures { result ≡ min (sum_by most (spans_in self.now)) (2 ^ 64 - 1) }
+    {
+        match self {
+            Held::Alone {
+                old,
+                new,
+                before,
+                behind,
+                ..
+            } => {
+                let part = (*old).max(*new);
+                usize::from(*before) + usize::from(part) + usize::from(*behind)
+            }
+            Held::Many(pieces) => peak_of_spans(pieces.spans.as_slice()),
+        }
+    }
+
+    /// How many bytes go and come.
+    fn byte_count(&self) -> usize
+        requires { IsSound self.now }
+        ensures { result ≡ length (row_in self.now) }
+    {
+        match self {
+            Held::Alone { old, new, .. } => usize::from(*old) + usize::from(*new),
+            Held::Many(pieces) => pieces.content.len(),
+        }
+    }
+
+    /// A span more, which has no bytes in the row.
+    fn push(&mut self, span: Span) -> Result<(), AllocError>
+        requires { IsSound self.old }
+        ensures ok { OnOk result (spans_in self.new ≡ spans_in self.old ++ (span ∷ [])) }
+        ensures err { OnErr result (spans_in self.new ≡ spans_in self.old) }
+        ensures row { row_in self.new ≡ row_in self.old }
+        ensures short { IsShort self.new }
+    {
+        self.take_allocation()?;
+        match self {
+            Held::Many(pieces) => {
+                pieces.spans.push(span)?;
+                Ok(())
+            }
+            Held::Alone { .. } => unreachable!(),
+        }
+    }
+
+    /// A span more, with the bytes that go and come.
+    fn put(&mut self, span: Span, old: &[u8], new: &[u8]) -> Result<(), AllocError>
+        requires sound { IsSound self.old }
+        requires own { own span ≡ length old.now + length new.now }
+        ensures ok { OnOk result ((spans_in self.new ≡ spans_in self.old ++ (span ∷ []))
+            × (row_in self.new ≡ row_in self.old ++ (old.now ++ new.now))) }
+        ensures err { OnErr result ((spans_in self.new ≡ spans_in self.old) × (row_in self.new ≡ row_in self.old)) }
+        ensures short { IsShort self.new }
+    {
+        self.take_allocation()?;
+        match self {
+            Held::Many(pieces) => {
+                put_behind(pieces, span, old, new)?;
+                Ok(())
+            }
+            Held::Alone { .. } => unreachable!(),
+        }
+    }
+
+    /// It has its pieces in an allocation from now on.
+    fn take_allocation(&mut self) -> Result<(), AllocError>
+        requires { IsSound self.old }
+        ensures spans { spans_in self.new ≡ spans_in self.old }
+        ensures row { row_in self.new ≡ row_in self.old }
+        ensures short { IsShort self.new }
+        ensures many { OnOk result (has_allocation self.new ≡ true) }
+    {
+        if let Some(pieces) = self.allocated()? {
+            *self = Held::Many(pieces);
+        }
+        Ok(())
+    }
+
+    /// Its pieces in an allocation, if it has none.
+    fn allocated(&self) -> Result<Option<Box<Pieces>>, AllocError>
+        requires { IsSound self.now }
+        ensures { IfOk result (λ made. MatchOption made (has_allocation self.now ≡ true)
+            (λ pieces. (pieces.value.spans.items ≡ spans_in self.now)
+            × (pieces.value.content.items ≡ row_in self.now))) }
+    {
+        match self {
+            Held::Alone {
+                old,
+                new,
+                before,
+                behind,
+                bytes,
+                alloc,
+            } => {
+                let spans = alone_spans(*before, *old, *new, *behind);
+                let count = usize::from(*old) + usize::from(*new);
+                let pieces = Pieces {
+                    spans: SmallVec::from_slice(*alloc, spans.as_slice())?,
+                    content: SmallVec::from_slice(*alloc, &bytes[..count])?,
+                };
+                Ok(Some(Box::new(*alloc, pieces)?))
+            }
+            Held::Many(_) => Ok(None),
+        }
+    }
+}
+
+/// The spans of one exchange with bytes that stay before it and behind it.
+fn alone_spans(before: u16, old: u8, new: u8, behind: u16) -> [Span; 3]
+    ensures { result ≡ spans.Keep before ∷ spans.Put old new ∷ spans.Keep behind ∷ [] }
+{
+    [
+        Span::Keep(u32::from(before)),
+        put_span(old, new),
+        Span::Keep(u32::from(behind)),
+    ]
+}
+
+/// The span of so many bytes that go, and so many that come in their place.
+fn put_span(old: u8, new: u8) -> Span
+    ensures { result ≡ spans.Put old new }
+{
+    Span::Put {
+        old: u32::from(old),
+        new: u32::from(new),
+    }
+}
+
+/// A span more, with the bytes that go and come.
+fn put_behind(pieces: &mut Pieces, span: Span, old: &[u8], new: &[u8]) -> Result<(), AllocError>
+    requires { own span ≡ length old.now + length new.now }
+    ensures ok { OnOk result ((pieces.new.spans.items ≡ pieces.old.spans.items ++ (span ∷ []))
+        × (pieces.new.content.items ≡ pieces.old.content.items ++ (old.now ++ new.now))) }
+    ensures err { OnErr result ((pieces.new.spans.items ≡ pieces.old.spans.items)
+        × (pieces.new.content.items ≡ pieces.old.content.items)) }
+{
+    pieces.spans.reserve(1)?;
+    pieces.content.reserve(span.own())?;
+    pieces.spans.push_reserved(span);
+    pieces.content.extend_from_slice(old)?;
+    pieces.content.extend_from_slice(new)?;
+    Ok(())
+}
+
+/// How many bytes spans are of in a direction; 2^64 - 1 where these are more.
+fn size_of_spans(spans: &[Span], direction: Direction) -> usize
+    ensures { result ≡ min (sum_by (extent direction) spans.now) (2 ^ 64 - 1) }
+{
+    let mut size: usize = 0;
+    for span in spans {
+        size = size.saturating_add(span.extent(direction));
+    }
+    size
+}
+
+/// How many bytes there are of spans at most, in either direction; 2^64 - 1 where these are more.
+fn peak_of_spans(spans: &[Span]) -> usize
+    ensures { result ≡ min (sum_by most spans.now) (2 ^ 64 - 1) }
+{
+    let mut peak: usize = 0;
+    for span in spans {
+        let before = span.extent(Direction::Forwards);
+        peak = peak.saturating_add(before.max(span.extent(Direction::Backwards)));
+    }
+    peak
+}
+
 /// All bytes of a chunk or a raw body in pieces, of which some stay and others change. Contracts see it as the pieces,
 /// the first one first.
 #[derive(Drop)]
 pub struct Patch {
-    pieces: Box<Pieces>,
+    held: Held,
 }
 
 // Each step of the log keeps a patch in itself.
-const _: () = prove!(size_of::<Patch>() == 8);
+const _: () = prove!(size_of::<Patch>() <= 24);
 
 impl Model for Patch {
-    ghost use Rattle.std.specs.Prelude.{◌≡◌, List, length};
+    ghost use Rattle.std.specs.Prelude.{List};
     ghost use Rattle.chunk_edits.specs.Patching.{PatchPiece};
-    ghost use Rattle.chunk_edits.specs.Spans.{pieces_of, total_own};
+    ghost use Rattle.chunk_edits.specs.Spans.{IsSound, pieces_of, row_in, spans_in};
 
     ghost Value = { List PatchPiece };
 
-    ghost view = { λ p. pieces_of p.pieces.value.spans.items p.pieces.value.content.items };
+    ghost view = { λ p. pieces_of (spans_in p.held) (row_in p.held) };
 
-    ghost invariant = { λ p. total_own p.pieces.value.spans.items ≡ length p.pieces.value.content.items };
+    ghost invariant = { λ p. IsSound p.held };
 }
 
 impl Patch {
@@ -179,13 +400,21 @@ impl Patch {
     pub fn new(alloc: Global) -> Result<Patch, AllocError>
         ensures { IfOk result (λ patch. patch ≡ []) }
     {
-        let pieces = Pieces {
-            spans: SmallVec::new(alloc),
-            content: SmallVec::new(alloc),
-        };
-        Ok(Patch {
-            pieces: Box::new(alloc, pieces)?,
-        })
+        Patch::many(alloc, SmallVec::new(alloc), SmallVec::new(alloc))
+    }
+
+    // The patch of these spans, whose pieces hold these bytes.
+    fn many(
+        alloc: Global,
+        spans: SmallVec<Span, FEW_SPANS>,
+        content: SmallVec<u8, FEW_BYTES>,
+    ) -> Result<Patch, AllocError>
+        requires { total_own spans.items ≡ length content.items }
+        ensures { IfOk result (λ patch. patch ≡ pieces_of spans.items content.items) }
+    {
+        let pieces = Pieces { spans, content };
+        let held = Held::Many(Box::new(alloc, pieces)?);
+        Ok(Patch { held })
     }
 
     /// The patch of so many bytes that stay, of some behind them that go, with what comes in their place, and of so many
@@ -199,16 +428,28 @@ impl Patch {
         requires { AreFew exchange }
         ensures { IfOk result (λ patch. patch ≡ Keep before ∷ exchanged exchange.entry ∷ Keep behind ∷ []) }
     {
+        if exchange.count() <= ALONE_BYTES && before <= 0xffff && behind <= 0xffff {
+            let held = exchange.alone(alloc, before as u16, behind as u16);
+            return Ok(Patch { held });
+        }
+        Patch::replacing_many(alloc, before, exchange, behind)
+    }
+
+    // The same of any bytes. Never inlined, since most are few.
+    #[inline(never)]
+    fn replacing_many(
+        alloc: Global,
+        before: u32,
+        exchange: Exchange<'_>,
+        behind: u32,
+    ) -> Result<Patch, AllocError>
+        requires { AreFew exchange }
+        ensures { IfOk result (λ patch. patch ≡ Keep before ∷ exchanged exchange.entry ∷ Keep behind ∷ []) }
+    {
         let put = exchange.span();
         let content = exchange.joined(alloc)?;
         let spans = [Span::Keep(before), put, Span::Keep(behind), Span::Keep(0)];
-        let pieces = Pieces {
-            spans: SmallVec::from_buf_and_len(alloc, spans, 3),
-            content,
-        };
-        Ok(Patch {
-            pieces: Box::new(alloc, pieces)?,
-        })
+        Patch::many(alloc, SmallVec::from_buf_and_len(alloc, spans, 3), content)
     }
 
     /// The patch of some bytes that go, with what comes in their place, of so many that stay, of others that go, with
@@ -233,13 +474,8 @@ impl Patch {
         content.extend_from_slice(second.old)?;
         content.extend_from_slice(second.new)?;
         let spans = [front, Span::Keep(between), put, Span::Keep(behind)];
-        let pieces = Pieces {
-            spans: SmallVec::from_buf(alloc, spans),
-            content,
-        };
-        Ok(Patch {
-            pieces: Box::new(alloc, pieces)?,
-        })
+        let patch = Patch::many(alloc, SmallVec::from_buf(alloc, spans), content)?;
+        Ok(patch)
     }
 
     /// So many bytes more, which stay.
@@ -247,7 +483,7 @@ impl Patch {
         ensures ok { OnOk result (self.new ≡ self.old ++ (Keep n ∷ [])) }
         ensures err { OnErr result (self.new ≡ self.old) }
     {
-        self.pieces.spans.push(Span::Keep(n))?;
+        self.held.push(Span::Keep(n))?;
         Ok(())
     }
 
@@ -262,12 +498,7 @@ impl Patch {
             old: old.len() as u32,
             new: new.len() as u32,
         };
-        let pieces = &mut *self.pieces;
-        pieces.spans.reserve(1)?;
-        pieces.content.reserve(span.own())?;
-        pieces.spans.push_reserved(span);
-        pieces.content.extend_from_slice(old)?;
-        pieces.content.extend_from_slice(new)?;
+        self.held.put(span, old, new)?;
         Ok(())
     }
 
@@ -276,7 +507,7 @@ impl Patch {
         ensures ok { OnOk result (self.new ≡ self.old ++ (Rebase words from to ∷ [])) }
         ensures err { OnErr result (self.new ≡ self.old) }
     {
-        self.pieces.spans.push(Span::Rebase { words, from, to })?;
+        self.held.push(Span::Rebase { words, from, to })?;
         Ok(())
     }
 
@@ -284,15 +515,22 @@ impl Patch {
     pub fn shrink_to_fit(&mut self)
         ensures { self.new ≡ self.old }
     {
-        self.pieces.spans.shrink_to_fit();
-        self.pieces.content.shrink_to_fit();
+        if let Held::Many(pieces) = &mut self.held {
+            pieces.spans.shrink_to_fit();
+            pieces.content.shrink_to_fit();
+        }
+    }
+
+    /// Whether it takes an allocation: not where it was made as one exchange of few bytes.
+    pub fn has_allocation(&self) -> bool {
+        matches!(self.held, Held::Many(_))
     }
 
     /// How many bytes it holds: those that go, and those that come.
     pub fn byte_count(&self) -> u64
         ensures { result ≡ total_held self.now }
     {
-        self.pieces.content.len() as u64
+        self.held.byte_count() as u64
     }
 
     /// How many bytes a chunk or a raw body has before the patch is carried out in a direction; 2^64 - 1 where these
@@ -300,11 +538,7 @@ impl Patch {
     pub fn size_before(&self, direction: Direction) -> usize
         ensures { result ≡ min (total_taken (directed_pieces direction self.now)) (2 ^ 64 - 1) }
     {
-        let mut size: usize = 0;
-        for span in self.pieces.spans.as_slice() {
-            size = size.saturating_add(span.extent(direction));
-        }
-        size
+        self.held.size_before(direction)
     }
 
     /// For how many bytes there must be room while it is carried out, in either direction; 2^64 - 1 where these are
@@ -312,25 +546,33 @@ impl Patch {
     pub fn peak(&self) -> usize
         ensures { result ≡ min (peak self.now) (2 ^ 64 - 1) }
     {
-        let mut peak: usize = 0;
-        for span in self.pieces.spans.as_slice() {
-            let before = span.extent(Direction::Forwards);
-            peak = peak.saturating_add(before.max(span.extent(Direction::Backwards)));
-        }
-        peak
+        self.held.peak()
     }
 
     /// Whether these are the bytes that it is of in a direction, so that it leads from them, and back to them.
     pub fn is_of(&self, bytes: &[u8], direction: Direction) -> bool
         ensures { IsTrue result ↔ ArePiecesOf (directed_pieces direction self.now) bytes.now }
     {
-        let pieces = &*self.pieces;
-        are_of(
-            pieces.spans.as_slice(),
-            pieces.content.as_slice(),
-            bytes,
-            direction,
-        )
+        match &self.held {
+            Held::Alone {
+                old,
+                new,
+                before,
+                behind,
+                bytes: row,
+                ..
+            } => {
+                let spans = alone_spans(*before, *old, *new, *behind);
+                let count = usize::from(*old) + usize::from(*new);
+                are_of(spans.as_slice(), &row[..count], bytes, direction)
+            }
+            Held::Many(pieces) => are_of(
+                pieces.spans.as_slice(),
+                pieces.content.as_slice(),
+                bytes,
+                direction,
+            ),
+        }
     }
 }
 
@@ -359,9 +601,49 @@ pub fn apply_patch(heap: &mut Heap, h: ChunkHandle, patch: &Patch, direction: Di
     ensures { heap.new.chunks ≡ insert heap.old.chunks h.0
         (patched (directed_pieces direction patch.now) (chunk_bytes heap.old.chunks h.0)) }
 {
-    let pieces = &*patch.pieces;
-    let content = pieces.content.as_slice();
-    apply_spans(heap, h, pieces.spans.as_slice(), content, direction);
+    match &patch.held {
+        Held::Alone {
+            old,
+            new,
+            before,
+            behind,
+            bytes,
+            ..
+        } => {
+            let span = put_span(*old, *new);
+            let count = usize::from(*old) + usize::from(*new);
+            apply_alone(heap, h, *before, span, *behind, &bytes[..count], direction);
+        }
+        Held::Many(pieces) => {
+            let content = pieces.content.as_slice();
+            apply_spans(heap, h, pieces.spans.as_slice(), content, direction);
+        }
+    }
+}
+
+/// The same of one span, with so many bytes before it and behind it that stay.
+fn apply_alone(
+    heap: &mut Heap,
+    h: ChunkHandle,
+    before: u16,
+    span: Span,
+    behind: u16,
+    row: &[u8],
+    direction: Direction,
+)
+    requires live { IsTrue (contains_key heap.old.chunks h.0) }
+    requires whole { own span ≤ length row.now }
+    requires size { total_taken (directed_pieces direction (Keep before ∷ piece_of span row.now ∷ Keep behind ∷ [])) ≡
+        length (chunk_bytes heap.old.chunks h.0) }
+    requires fits { IsTrue (fits_with heap.old.chunks h.0
+        (replicate (peak (Keep before ∷ piece_of span row.now ∷ Keep behind ∷ [])) 0)) }
+    ensures { heap.new.chunks ≡ insert heap.old.chunks h.0
+        (patched (directed_pieces direction (Keep before ∷ piece_of span row.now ∷ Keep behind ∷ []))
+        (chunk_bytes heap.old.chunks h.0)) }
+{
+    // Any live chunk is of a heap that can be, in which fewer bytes fit where more do.
+    let _all = chunk_of(heap, h);
+    let _end = apply_span(heap, h, usize::from(before), span, row, direction);
 }
 
 /// The same by the patch's spans, and the bytes that their pieces hold in a row.
@@ -471,9 +753,24 @@ pub(crate) fn patch_raw(body: &mut RawBody, patch: &Patch, direction: Direction)
     requires room { peak patch.now ≤ capacity }
     ensures { body.new ≡ patched (directed_pieces direction patch.now) body.old }
 {
-    let pieces = &*patch.pieces;
-    let content = pieces.content.as_slice();
-    apply_raw_spans(body, pieces.spans.as_slice(), content, direction);
+    match &patch.held {
+        Held::Alone {
+            old,
+            new,
+            before,
+            behind,
+            bytes,
+            ..
+        } => {
+            let spans = alone_spans(*before, *old, *new, *behind);
+            let count = usize::from(*old) + usize::from(*new);
+            apply_raw_spans(body, spans.as_slice(), &bytes[..count], direction);
+        }
+        Held::Many(pieces) => {
+            let content = pieces.content.as_slice();
+            apply_raw_spans(body, pieces.spans.as_slice(), content, direction);
+        }
+    }
 }
 
 /// The same by the patch's spans, and the bytes that their pieces hold in a row.
