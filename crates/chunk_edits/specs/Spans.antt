@@ -4,10 +4,10 @@ use Rattle.std.specs.List.{sum_by}
 use Rattle.chunk_edits.specs.Patching.{PatchPiece, Keep, Put, Rebase}
 use Rattle.chunk_edits.specs.declared.direction.Direction.{Direction}
 use Rattle.chunk_edits.specs.declared.direction.Direction.TheVariants.{Forwards, Backwards}
-use Rattle.chunk_edits.specs.declared.patch.Held.{Held}
-use Rattle.chunk_edits.specs.declared.patch.Held.TheVariants as forms
-use Rattle.chunk_edits.specs.declared.patch.Span.{Span}
-use Rattle.chunk_edits.specs.declared.patch.Span.TheVariants as spans
+use Rattle.chunk_edits.specs.declared.held.Held.{Held}
+use Rattle.chunk_edits.specs.declared.held.Held.TheVariants as forms
+use Rattle.chunk_edits.specs.declared.held.Span.{Span}
+use Rattle.chunk_edits.specs.declared.held.Span.TheVariants as spans
 
 -- how many bytes of the row are a span's, and how many are those of all spans
 abbrev pub own : Span → ℕ

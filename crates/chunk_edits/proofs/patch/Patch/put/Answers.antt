@@ -1,8 +1,8 @@
 use Rattle.std.proofs.Common.{◌∙◌, ◌++◌, ◌∷◌, [], ℕ, List, length, ap₂}
 use Rattle.chunk_edits.specs.Patching.{PatchPiece}
 use Rattle.chunk_edits.specs.Spans.{pieces_of, row_in, spans_in}
-use Rattle.chunk_edits.specs.declared.patch.Span.{Span}
-use Rattle.chunk_edits.specs.declared.patch.Span.TheVariants as spans
+use Rattle.chunk_edits.specs.declared.held.Span.{Span}
+use Rattle.chunk_edits.specs.declared.held.Span.TheVariants as spans
 use Rattle.chunk_edits.proofs.SpanLemmas.{pieces_of-pushed, piece_of-put}
 use Rattle.chunk_edits.proofs.patch.Patch.put.Goals as goal
 

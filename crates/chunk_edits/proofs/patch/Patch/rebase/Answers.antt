@@ -1,7 +1,7 @@
 use Rattle.std.proofs.Common.{◌∙◌, ◌++◌, ◌∷◌, [], List, ap, ap₂}
 use Rattle.chunk_edits.specs.Patching.{PatchPiece, Rebase}
 use Rattle.chunk_edits.specs.Spans.{pieces_of, row_in, spans_in}
-use Rattle.chunk_edits.specs.declared.patch.Span.TheVariants as spans
+use Rattle.chunk_edits.specs.declared.held.Span.TheVariants as spans
 use Rattle.chunk_edits.proofs.SpanLemmas.{pieces_of-kept}
 use Rattle.chunk_edits.proofs.patch.Patch.rebase.Goals as goal
 

@@ -1,6 +1,6 @@
 use Rattle.std.proofs.Common.{◌≡◌, ◌∙◌, ◌++◌, ◌∷◌, [], ℕ, List, ap, append_assoc}
-use Rattle.chunk_edits.specs.declared.patch.Span.{Span}
-use Rattle.chunk_edits.proofs.patch.put_behind.Goals as goal
+use Rattle.chunk_edits.specs.declared.held.Span.{Span}
+use Rattle.chunk_edits.proofs.held.put_behind.Goals as goal
 
 pub returns-clause-ok : goal.returns-clause-ok
 returns-clause-ok c =

@@ -1,6 +1,6 @@
 use Rattle.std.proofs.Common.{ℕ, List}
 use Rattle.chunk_edits.proofs.SplicingLemmas.{row_of_both}
-use Rattle.chunk_edits.proofs.patch.Exchange.alone.Goals as goal
+use Rattle.chunk_edits.proofs.held.Exchange.alone.Goals as goal
 
 pub returns-clause-row : goal.returns-clause-row
 returns-clause-row c =
