@@ -1,5 +1,5 @@
 -- A patch on its way: which bytes a chunk has once some of its pieces are carried out, and that there is room for them.
-use Rattle.std.proofs.Common.{◌≡◌, ℕ, ◌+◌, ◌≤◌, max, true, false, List, [], ◌∷◌, ◌++◌, length, take, drop, replicate, unwrap_or, is_some, Option, Some, None, refl, sym, ap, ap₂, ◌∙◌, arith, inl, inr, append_assoc, length-append, length-drop, length-take-le, take-append-drop, take_at, drop_at, drop-drop}
+use Rattle.std.proofs.Common.{◌≡◌, ℕ, ◌+◌, ◌≤◌, max, true, false, List, [], ◌∷◌, ◌++◌, length, take, drop, replicate, unwrap_or, is_some, Option, Some, None, refl, sym, ap, ap₂, subst, ◌∙◌, arith, inl, inr, append_assoc, length-append, length-drop, length-take-le, take-append-drop, take_at, drop_at, drop-drop}
 use Rattle.std.proofs.lemmas.Bool.{cases_eq, cases_lt}
 use Rattle.std.proofs.lemmas.List.{length-replicate}
 use Rattle.std.specs.Cmp.{nat_cmp_total}
@@ -79,6 +79,36 @@ kept_as n at bytes =
 pub kept : (d : Direction) (n at : ℕ) (bytes : List ℕ) → with_piece (directed_piece d (Keep n)) at bytes ≡ bytes
 kept Forwards n at bytes = kept_as n at bytes
 kept Backwards n at bytes = kept_as n at bytes
+
+-- One piece with bytes that stay before it and behind it.
+module _ (p : PatchPiece) (before behind : ℕ) (bytes : List ℕ)
+    (size : total_taken (Keep before ∷ p ∷ Keep behind ∷ []) ≡ length bytes) where
+  abbrev all_three : List PatchPiece
+  all_three = Keep before ∷ p ∷ Keep behind ∷ []
+
+  come_to : IsUnderWay all_three (p ∷ Keep behind ∷ []) bytes bytes before
+  come_to =
+      let at : 0 + before ≡ before = omega arith in
+      subst (λ (l : List ℕ). IsUnderWay all_three (p ∷ Keep behind ∷ []) bytes l before) (kept_as before 0 bytes)
+      (subst (λ (n : ℕ). IsUnderWay all_three (p ∷ Keep behind ∷ []) bytes (with_piece (Keep before) 0 bytes) n) at
+      (goes_on (Keep before) all_three (p ∷ Keep behind ∷ []) bytes bytes 0 (begins all_three bytes size)))
+
+  pub alone_within : before + taken p ≤ length bytes
+  alone_within = next_within p all_three (Keep behind ∷ []) bytes bytes before come_to
+
+  pub alone_room : before + max (taken p) (given p) ≤ peak all_three
+  alone_room = next_room p all_three (Keep behind ∷ []) bytes bytes before come_to
+
+  pub alone_fits : length (with_piece p before bytes) ≤ peak all_three
+  alone_fits = next_fits p all_three (Keep behind ∷ []) bytes bytes before come_to
+
+  pub alone_done : with_piece p before bytes ≡ patched all_three bytes
+  alone_done =
+      let made = with_piece p before bytes in let at = before + given p in
+      let past = goes_on p all_three (Keep behind ∷ []) bytes bytes before come_to in
+      let end = goes_on (Keep behind) all_three [] bytes made at past in
+      sym (kept_as behind at made)
+      ∙ (sym (take-append-drop (at + behind) (with_piece (Keep behind) at made)) ∙ end.comes)
 
 -- The heap.
 

@@ -8,8 +8,8 @@ use Rattle.chunk_edits.specs.Patching.{ArePiecesOf, IsPieceOf, PatchPiece, Keep,
 use Rattle.chunk_edits.specs.Spans.{own, total_own, extent, piece_of, pieces_of}
 use Rattle.chunk_edits.specs.declared.direction.Direction.{Direction}
 use Rattle.chunk_edits.specs.declared.direction.Direction.TheVariants.{Forwards, Backwards}
-use Rattle.chunk_edits.specs.declared.patch.Span.{Span}
-use Rattle.chunk_edits.specs.declared.patch.Span.TheVariants as spans
+use Rattle.chunk_edits.specs.declared.held.Span.{Span}
+use Rattle.chunk_edits.specs.declared.held.Span.TheVariants as spans
 use Rattle.chunk_edits.proofs.PatchingLemmas.{piece-length, taken-cons, peak-cons, held-cons, taken-reversed}
 
 pub own-cons : (s : Span) (ss : List Span) → total_own (s ∷ ss) ≡ own s + total_own ss

@@ -1,7 +1,7 @@
 -- Bytes that go, and those that come in their place, as a piece of a patch.
 use Rattle.std.specs.Prelude.{◌<◌, ◌^◌, length}
 use Rattle.chunk_edits.specs.Patching.{PatchPiece, Put}
-use Rattle.chunk_edits.specs.declared.patch.Exchange.{Exchange}
+use Rattle.chunk_edits.specs.declared.held.Exchange.{Exchange}
 
 -- as few of each as a piece can have
 abbrev pub AreFew : Exchange → Type 0

@@ -3,6 +3,7 @@
 
 mod chunk;
 mod direction;
+mod held;
 mod law;
 mod parts;
 mod patch;
@@ -12,9 +13,10 @@ mod runs;
 
 pub use chunk::{apply, apply_back, delete, insert, resize, splice, write};
 pub use direction::Direction;
+pub use held::Exchange;
 pub use law::{patch_law, splice_law};
 pub use parts::{Splice, copied};
-pub use patch::{Exchange, Patch, apply_patch};
+pub use patch::{Patch, apply_patch};
 pub use raw::{apply_raw, apply_raw_back, raw_replace, raw_splice, raw_write};
 pub use raw_patch::{RawPatch, apply_raw_patch};
 pub use runs::{ArrayPatch, ArrayRuns};

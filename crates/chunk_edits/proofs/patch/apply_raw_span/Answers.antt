@@ -1,7 +1,7 @@
 use Rattle.std.proofs.Common.{◌∙◌, ap, sym}
 use Rattle.chunk_edits.specs.Patching.{directed_piece, with_piece}
 use Rattle.chunk_edits.specs.Spans.{piece_of}
-use Rattle.chunk_edits.specs.declared.patch.Span.{Span}
+use Rattle.chunk_edits.specs.declared.held.Span.{Span}
 use Rattle.chunk_edits.proofs.CarryingLemmas.{kept}
 use Rattle.chunk_edits.proofs.patch.apply_raw_span.Goals as goal
 

@@ -2,8 +2,8 @@ use Rattle.std.proofs.Common.{◌≡◌, ◌≤◌, ◌<◌, ◌+◌, ◌-◌, �
 use Rattle.std.proofs.lemmas.List.{take_rest}
 use Rattle.chunk_edits.specs.Patching.{PatchPiece, taken, given, peak, directed_piece, directed_pieces}
 use Rattle.chunk_edits.specs.Spans.{own, piece_of, pieces_of, total_own}
-use Rattle.chunk_edits.specs.declared.patch.Span.{Span}
-use Rattle.chunk_edits.specs.declared.patch.Span.TheVariants as spans
+use Rattle.chunk_edits.specs.declared.held.Span.{Span}
+use Rattle.chunk_edits.specs.declared.held.Span.TheVariants as spans
 use Rattle.chunk_edits.proofs.SpanLemmas.{next_own, next_pieces}
 use Rattle.chunk_edits.proofs.CarryingLemmas.{IsUnderWay, begins, next_within, next_room, next_fits, goes_on, directed_peak}
 use Rattle.chunk_edits.proofs.patch.apply_raw_spans.Goals.{In-loop-span}

@@ -3,7 +3,7 @@ use Rattle.std.specs.FinMap.{insert}
 use Rattle.geos_model.specs.Heap.{chunk_bytes}
 use Rattle.chunk_edits.specs.Patching.{directed_piece, with_piece}
 use Rattle.chunk_edits.specs.Spans.{piece_of}
-use Rattle.chunk_edits.specs.declared.patch.Span.{Span}
+use Rattle.chunk_edits.specs.declared.held.Span.{Span}
 use Rattle.chunk_edits.proofs.CarryingLemmas.{insert_own, kept}
 use Rattle.chunk_edits.proofs.patch.apply_span.Goals as goal
 

@@ -4,8 +4,8 @@ use Rattle.std.specs.FinMap.{insert, contains_key}
 use Rattle.geos_model.specs.Heap.{ChunkMap, chunk_bytes, fits_with}
 use Rattle.chunk_edits.specs.Patching.{PatchPiece, taken, given, peak, directed_piece, directed_pieces, with_piece}
 use Rattle.chunk_edits.specs.Spans.{own, piece_of, pieces_of, total_own}
-use Rattle.chunk_edits.specs.declared.patch.Span.{Span}
-use Rattle.chunk_edits.specs.declared.patch.Span.TheVariants as spans
+use Rattle.chunk_edits.specs.declared.held.Span.{Span}
+use Rattle.chunk_edits.specs.declared.held.Span.TheVariants as spans
 use Rattle.chunk_edits.proofs.SpanLemmas.{next_own, next_pieces}
 use Rattle.chunk_edits.proofs.CarryingLemmas.{IsUnderWay, begins, next_within, next_room, next_fits, goes_on, directed_peak, insert_own, insert_again, chunk_again, live_again, fits_within, room_le}
 use Rattle.chunk_edits.proofs.patch.apply_spans.Goals.{In-loop-span}

@@ -1,10 +1,10 @@
-use Rattle.std.proofs.Common.{◌∙◌, length, sym, ap}
+use Rattle.std.proofs.Common.{◌∙◌, sym, ap}
 use Rattle.chunk_edits.specs.Patching.{total_held}
-use Rattle.chunk_edits.specs.declared.patch.Pieces.{Pieces}
+use Rattle.chunk_edits.specs.Spans.{row_in, spans_in}
 use Rattle.chunk_edits.proofs.SpanLemmas.{pieces-held}
 use Rattle.chunk_edits.proofs.patch.Patch.byte_count.Goals as goal
 
 pub returns : goal.returns
 returns c =
-    let all = pieces-held c.self.inside.pieces.value.spans.items c.self.inside.pieces.value.content.items c.self.invariant in
-    c.len.ensures.value ∙ (ap (λ (p : Pieces). length p.content.items) c.deref.ensures ∙ (sym all ∙ ap total_held c.self.view_is))
+    let held = c.self.inside.held in
+    c.byte_count.ensures ∙ (sym (pieces-held (spans_in held) (row_in held) c.self.invariant.0) ∙ ap total_held c.self.view_is)

@@ -1,16 +1,13 @@
 use Rattle.std.proofs.Common.{◌∙◌, ◌++◌, ◌∷◌, [], List, ap, ap₂}
 use Rattle.chunk_edits.specs.Patching.{PatchPiece, Keep}
-use Rattle.chunk_edits.specs.Spans.{pieces_of}
-use Rattle.chunk_edits.specs.declared.patch.Pieces.{Pieces}
-use Rattle.chunk_edits.specs.declared.patch.Span.TheVariants as spans
+use Rattle.chunk_edits.specs.Spans.{pieces_of, row_in, spans_in}
+use Rattle.chunk_edits.specs.declared.held.Span.TheVariants as spans
 use Rattle.chunk_edits.proofs.SpanLemmas.{pieces_of-kept}
 use Rattle.chunk_edits.proofs.patch.Patch.keep.Goals as goal
 
 pub returns-clause-ok : goal.returns-clause-ok
 returns-clause-ok c =
-    let row = c.self.inside.pieces.value.content.items in
-    let was = c.deref_mut.ensures.value in
-    ap₂ pieces_of (c.in_ok-push.ensures.ok ∙ ap (λ (p : Pieces). p.spans.items ++ spans.Keep c.args.n ∷ []) was)
-    (ap (λ (p : Pieces). p.content.items) was)
-    ∙ (pieces_of-kept c.self.inside.pieces.value.spans.items (spans.Keep c.args.n) row c.self.invariant
+    let held = c.self.inside.held in
+    ap₂ pieces_of c.in_ok-push.ensures.ok c.push.ensures.row
+    ∙ (pieces_of-kept (spans_in held) (spans.Keep c.args.n) (row_in held) c.self.invariant.0
     ∙ ap (λ (ps : List PatchPiece). ps ++ Keep c.args.n ∷ []) c.self.view_is)

@@ -1,8 +1,7 @@
 use Rattle.std.proofs.Common.{◌≡◌, ◌∙◌, ◌++◌, ◌∷◌, [], ℕ, List, length, ap, ap₂}
 use Rattle.chunk_edits.specs.Spans.{pieces_of}
-use Rattle.chunk_edits.specs.declared.patch.Pieces.{Pieces}
-use Rattle.chunk_edits.specs.declared.patch.Span.{Span}
-use Rattle.chunk_edits.specs.declared.patch.Span.TheVariants as spans
+use Rattle.chunk_edits.specs.declared.held.Span.{Span}
+use Rattle.chunk_edits.specs.declared.held.Span.TheVariants as spans
 use Rattle.chunk_edits.proofs.SpanLemmas.{two-exchanged}
 use Rattle.chunk_edits.proofs.patch.Patch.replacing_two.Goals as goal
 
@@ -19,5 +18,4 @@ returns c =
     let ss : c.from_buf.result.items ≡ spans.Put (length a) (length b) ∷ spans.Keep c.args.between ∷ spans.Put (length d) (length e) ∷ spans.Keep c.args.behind ∷ [] =
     c.from_buf.ensures.items
     ∙ ap₂ (λ (s t : Span). s ∷ spans.Keep c.args.between ∷ t ∷ spans.Keep c.args.behind ∷ []) c.span-front.ensures c.span-put.ensures in
-    ap (λ (p : Pieces). pieces_of p.spans.items p.content.items) c.in_ok-new.ensures.ok
-    ∙ (ap₂ pieces_of ss row ∙ two-exchanged a b d e c.args.between c.args.behind)
+    c.in_ok-patch.ensures ∙ (ap₂ pieces_of ss row ∙ two-exchanged a b d e c.args.between c.args.behind)
