@@ -90,6 +90,15 @@ abbrev pub IsRunRefused : {R : Type 0} → (R → R → Type 0) → Run → Body
 IsRunRefused keeps run body old new fault =
     ((fault ≡ Memory) × keeps old new) ⊎ ((new ≡ old) × RefusesRun run body fault)
 
+-- A body took the change of a part.
+pub record TakesPart (part : PartChange) (old new : Body) : Type 0 where
+  pub allows : AllowsPart part old
+  pub body : new ≡ body_after_part part old
+
+-- that of a run, which is allowed
+abbrev pub TakesRun : Run → Body → Body → Type 0
+TakesRun run old new = AllowsRun run old × TakesPart (run_part run old) old new
+
 -- The body of a frame took the change of a part, and is marked as changed.
 pub record PutsPart (part : PartChange) (old new : Frame) : Type 0 where
   pub allows : AllowsPart part (body_value old.body)

@@ -1,18 +1,20 @@
 //! Changes of a part of a body: whether a body takes one, and its carrying out in place.
 ghost use Rattle.std.specs.Prelude.{◌≡◌, ◌+◌, ◌-◌, ◌≤◌, ◌↔◌, ℕ, List, IsTrue, MatchBool, None, Some, true, length, replicate, take};
-ghost use Rattle.std.specs.FinMap.{get, insert, contains_key};
+ghost use Rattle.std.specs.FinMap.{get, insert};
+ghost use Rattle.std.specs.List.{splice};
 ghost use Rattle.geos_model.specs.Document.{is_valid_body};
-ghost use Rattle.geos_model.specs.Heap.{chunk_bytes, fits_with, is_chunk_handle, is_heap_map};
+ghost use Rattle.geos_model.specs.Heap.{capacity, chunk_bytes, fits_with, is_chunk_handle, is_heap_map};
 ghost use Rattle.geos_model.specs.declared.command.Body.TheVariants as bodies;
 ghost use Rattle.chunk_edits.specs.Patching.{directed_pieces};
 ghost use Rattle.chunk_edits.specs.Splicing.{OccursAt};
+ghost use Rattle.lmem_heap.specs.Found.{IsFoundIn, handle_found};
 ghost use Rattle.vm_blocks.specs.Bodies.{body_value};
 ghost use Rattle.vm_blocks.specs.ByteChanges.{byte_part};
 ghost use Rattle.vm_blocks.specs.Allowing.{AllowsRaw, AllowsRawPatch, AllowsChunk, AllowsPatch, AllowsNewChunk};
 ghost use Rattle.vm_blocks.specs.Changes.{content_bytes, directed_part};
 ghost use Rattle.vm_blocks.specs.Exactness.{HeapHolds, HoldsPart, IsExactPart, RawHolds};
 ghost use Rattle.vm_blocks.specs.Parts.{AllowsPart, RawAllowsPart, HeapAllowsPart, body_after_part};
-ghost use Rattle.vm_blocks.specs.Runs.{PutsPart};
+ghost use Rattle.vm_blocks.specs.Runs.{PutsPart, TakesPart};
 
 use crate::frame::Frame;
 use crate::{BlockBody, ByteChange, Content, Direction, PartChange};
@@ -20,7 +22,7 @@ use chunk_edits::{
     Patch, apply, apply_back, apply_patch, apply_raw, apply_raw_back, apply_raw_patch,
 };
 use geos_model::ChunkHandle;
-use lmem_heap::Heap;
+use lmem_heap::{FoundChunk, Heap};
 use raw_region::{RawBody, SIZE};
 
 /// Whether a body takes a change of a part of it: it is of the kind, and has the range, the room and the chunk.
@@ -78,30 +80,60 @@ fn heap_can_take(heap: &Heap, change: &PartChange, direction: Direction) -> bool
     }
 }
 
-/// Whether a body takes a change of a run of its bytes, as `can_take` says of other changes.
-fn can_take_bytes(body: &BlockBody, change: ByteChange<'_>) -> bool
-    ensures { IsTrue result ↔ AllowsPart (byte_part change.entry) (body_value body.now) }
-{
-    let (at, old, new) = (change.at, change.old, change.new);
-    match (body, change.chunk) {
-        (BlockBody::Raw(body), None) => raw_allows(body, at, old, new),
-        (BlockBody::Heap(heap), Some(chunk)) => chunk_allows(heap, chunk, at, old, new),
-        (BlockBody::Raw(_), Some(_)) | (BlockBody::Heap(_), None) => false,
-    }
-}
-
 /// Makes a change of a run of bytes of a block in memory, if its body takes it, and says whether: from then on the file
 /// may have another body.
 pub(crate) fn change_in_frame(frame: &mut Frame, change: ByteChange<'_>) -> bool
     ensures { MatchBool result (PutsPart (byte_part change.entry) frame.old frame.new)
         ((AllowsPart (byte_part change.entry) (body_value frame.old.body) → ⊥) × (frame.new ≡ frame.old)) }
 {
-    if !can_take_bytes(&frame.body, change) {
-        return false;
+    let is_made = change_body(&mut frame.body, change);
+    if is_made {
+        frame.changed = true;
     }
-    frame.changed = true;
-    replace_bytes(&mut frame.body, change);
-    true
+    is_made
+}
+
+/// Makes it in a body that takes it.
+fn change_body(body: &mut BlockBody, change: ByteChange<'_>) -> bool
+    ensures { MatchBool result (TakesPart (byte_part change.entry) (body_value body.old) (body_value body.new))
+        ((AllowsPart (byte_part change.entry) (body_value body.old) → ⊥) × (body.new ≡ body.old)) }
+{
+    match (body, change.chunk) {
+        (BlockBody::Raw(raw), None) => change_raw(raw, change),
+        (BlockBody::Heap(heap), Some(chunk)) => change_chunk(heap, chunk, change),
+        (BlockBody::Raw(_), Some(_)) | (BlockBody::Heap(_), None) => false,
+    }
+}
+
+/// Of a raw body.
+fn change_raw(body: &mut RawBody, change: ByteChange<'_>) -> bool
+    requires { change.chunk ≡ None }
+    ensures { MatchBool result (TakesPart (byte_part change.entry) (bodies.Raw body.old) (bodies.Raw body.new))
+        ((AllowsPart (byte_part change.entry) (bodies.Raw body.old) → ⊥) × (body.new ≡ body.old)) }
+{
+    let is_taken = raw_allows(body, change.at, change.old, change.new);
+    if is_taken {
+        put_in_raw(body, change.at as usize, change.old.len(), change.new);
+    }
+    is_taken
+}
+
+/// Of a chunk of a heap, which is looked up once.
+fn change_chunk(heap: &mut Heap, chunk: ChunkHandle, change: ByteChange<'_>) -> bool
+    requires { change.chunk ≡ Some chunk }
+    ensures { MatchBool result
+        (TakesPart (byte_part change.entry) (bodies.Heap heap.old.chunks) (bodies.Heap heap.new.chunks))
+        ((AllowsPart (byte_part change.entry) (bodies.Heap heap.old.chunks) → ⊥) × (heap.new ≡ heap.old)) }
+{
+    let found = match heap.find_chunk(chunk) {
+        Some(found) => found,
+        None => return false,
+    };
+    let is_taken = found_allows(heap, found, change.at, change.old, change.new);
+    if is_taken {
+        heap.replace_found(found, change.at as usize, change.old.len(), change.new);
+    }
+    is_taken
 }
 
 /// Whether a body takes a change of a part and has what goes, so that the same the other way round gives it back.
@@ -221,7 +253,7 @@ fn are_zeros(bytes: &[u8]) -> bool
 }
 
 /// Whether so many bytes have a part of `k` bytes at a place.
-fn is_within(size: usize, at: usize, k: usize) -> bool
+pub(crate) fn is_within(size: usize, at: usize, k: usize) -> bool
     ensures { IsTrue result ↔ at + k ≤ size }
 {
     at <= size && k <= size - at
@@ -246,45 +278,52 @@ fn raw_patch_allows(body: &RawBody, patch: &Patch, direction: Direction) -> bool
 fn chunk_allows(heap: &Heap, chunk: ChunkHandle, at: u32, old: &[u8], new: &[u8]) -> bool
     ensures { IsTrue result ↔ AllowsChunk heap.now.chunks chunk.0 (record { at = at; old = old.now; new = new.now }) }
 {
-    match heap.chunk(chunk) {
-        Some(bytes) => {
-            let size = bytes.len();
-            is_within(size, at as usize, old.len())
-                && has_room(heap, chunk, size, old.len(), new.len())
-        }
+    match heap.find_chunk(chunk) {
+        Some(found) => found_allows(heap, found, at, old, new),
         None => false,
     }
+}
+
+/// So of one that was found.
+fn found_allows(heap: &Heap, found: FoundChunk, at: u32, old: &[u8], new: &[u8]) -> bool
+    requires found { IsFoundIn heap.now found }
+    requires valid { IsTrue (is_heap_map heap.now.chunks) }
+    ensures { IsTrue result
+        ↔ AllowsChunk heap.now.chunks (handle_found found) (record { at = at; old = old.now; new = new.now }) }
+{
+    let size = heap.found_bytes(found).len();
+    is_within(size, at as usize, old.len()) && has_room(heap, found, size, old.len(), new.len())
 }
 
 /// Whether a chunk is of as many bytes as a patch, and its heap has room for as many as there are on the way.
 fn patch_allows(heap: &Heap, chunk: ChunkHandle, patch: &Patch, direction: Direction) -> bool
     ensures { IsTrue result ↔ AllowsPatch heap.now.chunks chunk.0 (directed_pieces direction patch.now) }
 {
-    match heap.chunk(chunk) {
-        Some(bytes) => {
-            let size = bytes.len();
+    match heap.find_chunk(chunk) {
+        Some(found) => {
+            let size = heap.found_bytes(found).len();
             let is_sized = size == patch.size_before(direction);
-            is_sized && has_room(heap, chunk, size, size, patch.peak())
+            is_sized && has_room(heap, found, size, size, patch.peak())
         }
         None => false,
     }
 }
 
-/// Whether a heap has room for a live chunk of `size` bytes with `new` ones in place of `old` of them.
-fn has_room(heap: &Heap, chunk: ChunkHandle, size: usize, old: usize, new: usize) -> bool
-    requires live { IsTrue (contains_key heap.now.chunks chunk.0) }
+/// Whether a heap has room for a chunk of `size` bytes with `new` ones in place of `old` of them.
+pub(crate) fn has_room(heap: &Heap, found: FoundChunk, size: usize, old: usize, new: usize) -> bool
+    requires found { IsFoundIn heap.now found }
     requires valid { IsTrue (is_heap_map heap.now.chunks) }
-    requires size { size ≡ length (chunk_bytes heap.now.chunks chunk.0) }
+    requires size { size ≡ length (chunk_bytes heap.now.chunks (handle_found found)) }
     requires old { old ≤ size }
     ensures { (bytes : List ℕ) → length bytes ≡ size - old + new
-        → result ≡ fits_with heap.now.chunks chunk.0 bytes }
+        → result ≡ fits_with heap.now.chunks (handle_found found) bytes }
 {
     // As many bytes as go, or fewer, have the room that those had.
     if new <= old {
         return true;
     }
     // No heap has room for more, whatever else is in it.
-    new <= SIZE && heap.fits_resize(chunk, (size - old + new) as u32)
+    new <= SIZE && heap.fits_found(found, (size - old + new) as u32)
 }
 
 /// Whether a heap takes a new chunk of this content: its handle can be one and is free, and there is room.
@@ -360,38 +399,16 @@ pub(crate) fn carry_out_heap(heap: &mut Heap, change: &PartChange, direction: Di
     }
 }
 
-/// Replaces a run of the bytes of a body in place.
-fn replace_bytes(body: &mut BlockBody, change: ByteChange<'_>)
-    requires { AllowsPart (byte_part change) (body_value body.old) }
-    ensures { body_value body.new ≡ body_after_part (byte_part change.entry) (body_value body.old) }
+/// Puts `new` in the place of `count` bytes of a raw body. As many are written over without a move of others.
+pub(crate) fn put_in_raw(body: &mut RawBody, at: usize, count: usize, new: &[u8])
+    requires within { at + count ≤ length body.old }
+    requires room { length body.old + length new.now ≤ capacity + count }
+    ensures { body.new ≡ splice body.old at (at + count) new.now }
 {
-    match body {
-        BlockBody::Raw(raw) => replace_in_raw(raw, change),
-        BlockBody::Heap(heap) => replace_in_heap(heap, change),
-    }
-}
-
-/// Of a raw body. As many are written over without a move of others.
-fn replace_in_raw(body: &mut RawBody, change: ByteChange<'_>)
-    requires { RawAllowsPart (byte_part change) body.old }
-    ensures { bodies.Raw body.new ≡ body_after_part (byte_part change.entry) (bodies.Raw body.old) }
-{
-    let (at, old) = (change.at as usize, change.old.len());
-    if change.new.len() == old {
-        body.copy_in(at, change.new);
+    if new.len() == count {
+        body.copy_in(at, new);
     } else {
-        body.replace(at, old, change.new);
-    }
-}
-
-/// Of a chunk of a heap.
-fn replace_in_heap(heap: &mut Heap, change: ByteChange<'_>)
-    requires { HeapAllowsPart (byte_part change) heap.old.chunks }
-    ensures { bodies.Heap heap.new.chunks ≡ body_after_part (byte_part change.entry) (bodies.Heap heap.old.chunks) }
-{
-    match change.chunk {
-        Some(chunk) => heap.replace(chunk, change.at as usize, change.old.len(), change.new),
-        None => unreachable!(),
+        body.replace(at, count, new);
     }
 }
 

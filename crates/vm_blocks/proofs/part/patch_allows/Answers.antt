@@ -1,7 +1,7 @@
-use Rattle.std.proofs.Common.{◌≡◌, ◌+◌, ◌-◌, ◌^◌, ◌<◌, ℕ, List, [], Bool, true, Option, Some, length, min, replicate, unwrap_or, is_some, inl, inr, sym, ap, ◌∙◌, arith}
+use Rattle.std.proofs.Common.{◌≡◌, ◌+◌, ◌-◌, ◌^◌, ◌<◌, ℕ, List, Bool, true, length, min, replicate, inl, inr, sym, ap, subst, ◌∙◌, arith}
 use Rattle.std.proofs.lemmas.Bool.{cases_lt}
 use Rattle.std.proofs.lemmas.List.{length-replicate}
-use Rattle.std.specs.FinMap.{get, contains_key}
+use Rattle.std.specs.FinMap.{contains_key}
 use Rattle.geos_model.specs.Heap.{ChunkMap, chunk_bytes, fits_with, is_heap_map}
 use Rattle.geos_model.proofs.HeapTables.{chunk_bytes_le, fits_with-many}
 use Rattle.chunk_edits.specs.Patching.{directed_pieces, peak, total_taken}
@@ -26,12 +26,13 @@ pub returns-then-is_sized : goal.returns-then-is_sized
 returns-then-is_sized c =
     let m = c.args.heap.now.chunks in let h = c.args.chunk.0 in
     let ps = directed_pieces c.args.direction c.args.patch.now in
-    let there : get m h ≡ Some c.in-Some.bytes.now = sym c.in-Some.ensures.value in
-    let live : contains_key m h ≡ true = ap is_some there in
-    let bytes : chunk_bytes m h ≡ c.in-Some.bytes.now = ap (λ (o : Option (List ℕ)). unwrap_or o []) there in
-    let size : total_taken ps ≡ length (chunk_bytes m h) =
-    size_cut m h c.in-Some.ensures.valid live c.size_before.result (total_taken ps) c.size_before.ensures (ap length bytes ∙ c.if-is_sized.true) in
+    let valid = c.in-Some.ensures.valid in
+    let same = c.in-Some.ensures.value.0 in
+    let is = c.in-Some.ensures.value.1 in
+    let live : contains_key m h ≡ true = subst (λ (k : ℕ). contains_key m k ≡ true) same is.live in
+    let bytes : chunk_bytes m h ≡ c.found_bytes-size.result.now = ap (λ (k : ℕ). chunk_bytes m k) (sym same) ∙ sym c.found_bytes-size.ensures in
+    let size : total_taken ps ≡ length (chunk_bytes m h) = size_cut m h valid live c.size_before.result (total_taken ps) c.size_before.ensures (ap length bytes ∙ c.if-is_sized.true) in
     let room : c.has_room.result ≡ fits_with m h (replicate (peak ps) 0) =
-    room_cut m h c.in-Some.ensures.valid live c.peak.result (peak c.args.patch.now) c.peak.ensures c.has_room.result (λ bs long. c.has_room.ensures bs (omega (arith, long)))
+    room_cut m h valid live c.peak.result (peak c.args.patch.now) c.peak.ensures c.has_room.result (λ bs long. c.has_room.ensures bs (omega (arith, long)) ∙ ap (λ (k : ℕ). fits_with m k bs) same)
     ∙ ap (λ (k : ℕ). fits_with m h (replicate k 0)) (sym (directed_peak c.args.direction c.args.patch.now)) in
     (λ fit. record { live = live; size = size; fits = sym room ∙ fit }, λ allows. room ∙ allows.fits)
