@@ -10,3 +10,4 @@ pub mod CutLemmas
 pub mod PartsLemmas
 pub mod PlaceLemmas
 pub mod RunsLemmas
+pub mod AlikeLemmas

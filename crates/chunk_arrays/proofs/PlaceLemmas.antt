@@ -1,7 +1,7 @@
 -- Where the elements of an array lie: in its bytes, and by the numbers that a view reads.
-use Rattle.std.proofs.Common.{◌≡◌, ◌≢◌, ℕ, zero, suc, ◌+◌, ◌*◌, ◌-◌, ◌<◌, ◌≤◌, true, ◌==◌, List, [], ◌∷◌, ◌++◌, length, take, drop, get_or, sym, ap, ◌∙◌, inl, inr, arith, length-append, append_assoc, append-nil, take_at, drop_at}
-use Rattle.std.proofs.lemmas.Bool.{cases_Bool, and_parts, cond-true, cond-false, eq-eqb, ne_eqb, eqb-true}
-use Rattle.std.proofs.lemmas.List.{take-append-drop, take-take, drop-take}
+use Rattle.std.proofs.Common.{◌≡◌, ◌≢◌, ℕ, zero, suc, ◌+◌, ◌*◌, ◌-◌, ◌<◌, ◌≤◌, true, ◌==◌, List, [], ◌∷◌, ◌++◌, length, take, drop, get_or, sym, ap, ap₂, ◌∙◌, inl, inr, arith, length-append, append_assoc, append-nil, take_at, drop_at}
+use Rattle.std.proofs.lemmas.Bool.{cases_Bool, and_parts, cond-true, cond-false, eq-eqb, ne_eqb, eqb-true, cases_lt}
+use Rattle.std.proofs.lemmas.List.{take-append-drop, take-take, drop-take, get_or-take, get_or-drop}
 use Rattle.std.proofs.lemmas.List.FromFn.{get_or-map-range_with_len}
 use Rattle.std.proofs.lemmas.Grind.{flat_map-append}
 use Rattle.std.proofs.Math.Seq.{drop-cons, take-length}
@@ -10,7 +10,7 @@ use Rattle.geos_model.specs.Words.{word_at}
 use Rattle.geos_model.specs.Array.{Array, array_start, array_bytes, array_read}
 use Rattle.geos_model.proofs.Arrays.{joined, head_of, table_of, array_bytes-spelled, table-even, length_table-any}
 use Rattle.chunk_arrays.specs.Parts.{place_at, HasParts}
-use Rattle.chunk_arrays.specs.Reading.{elements_start, element_place}
+use Rattle.chunk_arrays.specs.Reading.{NoneEnds, elements_start, element_place}
 use Rattle.chunk_arrays.proofs.CutLemmas.{place-is}
 use Rattle.chunk_arrays.proofs.PartsLemmas.{length-elements_read, start_is, places_are, all-even, bytes-read}
 
@@ -96,6 +96,33 @@ one-is xs i l =
     ap (λ (n : ℕ). joined (take n (drop i xs))) one
     ∙ ap (λ (ys : List (List ℕ)). joined (take 1 ys)) (drop-cons xs i [] l)
     ∙ append-nil (get_or xs i [])
+
+-- the last byte of an element stands before the place of the next
+pub end-of : (a : Array) (k : ℕ) → k < length a.elements → 0 < length (get_or a.elements k [])
+    → get_or (get_or a.elements k []) (length (get_or a.elements k []) - 1) 0 ≡ get_or (array_bytes a) (element_place a (k + 1) - 1) 0
+end-of a k low some =
+    let n : ℕ = element_place a (k + 1) - element_place a k in
+    let rest : List ℕ = drop (element_place a k) (array_bytes a) in
+    let step = place-step a k (k + 1) (omega arith) in
+    let one = one-is a.elements k low in
+    let bytes = ap length one in
+    let is : get_or a.elements k [] ≡ take n rest = sym (run-is a k (k + 1) (omega arith) ∙ one) in
+    let last : length (get_or a.elements k []) - 1 ≡ n - 1 = omega (arith, step, bytes) in
+    let at : element_place a k + (n - 1) ≡ element_place a (k + 1) - 1 = omega (arith, step, bytes, some) in
+    ap₂ (λ (l : List ℕ) (i : ℕ). get_or l i 0) is last
+    ∙ get_or-take n rest (n - 1) 0 (omega (arith, step, bytes, some))
+    ∙ get_or-drop (element_place a k) (array_bytes a) (n - 1) 0
+    ∙ ap (λ (i : ℕ). get_or (array_bytes a) i 0) at
+
+-- one element more that ends in another byte
+pub none_more : (a : Array) (from k byte : ℕ) → k < length a.elements → NoneEnds a from k byte → (get_or (array_bytes a) (element_place a (k + 1) - 1) 0 ≡ byte → ⊥)
+    → NoneEnds a from (k + 1) byte
+none_more a from k byte low none other j le lt some same = elim (cases_lt j k) [
+  | inl less ↦ none j le less some same
+  | inr last ↦ (
+      let is : k ≡ j = omega (arith, last, lt) in
+      other (ap (λ (n : ℕ). get_or (array_bytes a) (element_place a (n + 1) - 1) 0) is ∙ sym (end-of a j (omega (arith, low, is)) some) ∙ same))
+]
 
 -- elements of one size
 length-some : (size : ℕ) (xs : List (List ℕ)) (i : ℕ) → list_all (λ x. length x == size) xs ≡ true → i ≤ length xs → length (joined (take i xs)) ≡ i * size

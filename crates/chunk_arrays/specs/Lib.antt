@@ -6,3 +6,4 @@ pub mod Reading
 pub mod Viewed
 pub mod Viewing
 pub mod Replacing
+pub mod Differing

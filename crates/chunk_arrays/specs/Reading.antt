@@ -1,5 +1,5 @@
 -- Where the elements of an array lie in its bytes.
-use Rattle.std.specs.Prelude.{ℕ, List, Bool, ◌+◌, ◌*◌, ◌==◌, ◌&&◌, if◌then◌else◌, length, nat_le, nat_lt, take}
+use Rattle.std.specs.Prelude.{◌≢◌, ◌≤◌, ◌<◌, ℕ, List, [], Bool, ◌+◌, ◌-◌, ◌*◌, ◌==◌, ◌&&◌, if◌then◌else◌, length, get_or, nat_le, nat_lt, take}
 use Rattle.std.specs.List.{flat_map}
 use Rattle.geos_model.specs.Words.{word, word_at}
 use Rattle.geos_model.specs.Array.{Array, array_start, places_from}
@@ -19,3 +19,8 @@ words_from at xs = flat_map word (places_from at xs)
 -- whether a header says that all elements have one size
 abbrev pub has_one_size : List ℕ → Bool
 has_one_size bytes = nat_le 4 (length bytes) && nat_lt 0 (word_at bytes 2)
+
+-- of the elements from one up to another none with bytes ends in this one
+abbrev pub NoneEnds : Array → ℕ → ℕ → ℕ → Type 0
+NoneEnds a from to byte = (k : ℕ) → from ≤ k → k < to → 0 < length (get_or a.elements k [])
+    → get_or (get_or a.elements k []) (length (get_or a.elements k []) - 1) 0 ≢ byte

@@ -1,5 +1,5 @@
 -- An array with other extra bytes, and with an element or none in the place of some.
-use Rattle.std.specs.Prelude.{ℕ, List, [], ◌∷◌, ◌++◌, length, drop, replicate, Option, Some, None}
+use Rattle.std.specs.Prelude.{◌≡◌, ◌≤◌, ◌+◌, ℕ, List, [], ◌∷◌, ◌++◌, length, drop, get_or, replicate, Option, Some, None}
 use Rattle.std.specs.List.{splice}
 use Rattle.geos_model.specs.Array.{Array}
 use Rattle.chunk_arrays.specs.declared.rewriting.NewElement.{NewElement}
@@ -23,3 +23,16 @@ elements_after a from to new = splice a.elements from to (elements_of new)
 
 abbrev pub rewritten : Array → List ℕ → ℕ → ℕ → Option NewElement → Array
 rewritten a extra from to new = record a { extra = extra; elements = elements_after a from to new }
+
+-- few bytes, of which none is a zero behind its parts
+pub record HasFew (e : NewElement) : Type 0 where
+  pub none : e.zeros ≡ 0
+  pub few : length (bytes_of e) ≤ 64
+
+-- A new element of few bytes takes the place of one of as many, and the extra bytes stay.
+pub record IsAlike (a : Array) (first : List ℕ) (from to : ℕ) (new : Option NewElement) (e : NewElement) : Type 0 where
+  pub comes : new ≡ Some e
+  pub one : to ≡ from + 1
+  pub long : length (bytes_of e) ≡ length (get_or a.elements from [])
+  pub few : HasFew e
+  pub extra : extra_after a first ≡ a.extra

@@ -2,6 +2,7 @@
 ghost use Rattle.std.specs.Prelude.{◌≡◌, ◌+◌, ◌/◌, ◌%◌, ◌^◌, ◌<◌, [], IfOk, length};
 ghost use Rattle.chunk_edits.specs.Patching.{rebased};
 
+use crate::difference::compare;
 use chunk_edits::Patch;
 use std::alloc::{AllocError, Global};
 
@@ -15,6 +16,9 @@ pub(crate) struct Draft {
 
 /// Of how many bytes a piece is at most that puts some in their place.
 const LONGEST_PUT: usize = 0xffff_ffff;
+
+/// How many bytes a patch holds that is left with the room that it has.
+const FEW_BYTES: u64 = 24;
 
 impl Draft {
     ghost use Rattle.chunk_arrays.specs.Drafting.{Adds, settled};
@@ -46,6 +50,26 @@ impl Draft {
             self.keep(old);
             return Ok(());
         }
+        self.exchange(old, new)
+    }
+
+    /// The same, where what both have at their ends stays.
+    pub fn put_changes(&mut self, old: &[u8], new: &[u8]) -> Result<(), AllocError>
+        requires { self.old.kept + length new.now < 2 ^ 32 }
+        ensures { IfOk result (λ _. Adds self.old self.new old.now new.now) }
+    {
+        let changed = compare(old, new);
+        self.keep(&old[..changed.front]);
+        self.put(changed.old, changed.new)?;
+        self.keep(&old[old.len() - changed.back..]);
+        Ok(())
+    }
+
+    /// These bytes more, and others in their place.
+    fn exchange(&mut self, old: &[u8], new: &[u8]) -> Result<(), AllocError>
+        requires { length new.now < 2 ^ 32 }
+        ensures { IfOk result (λ _. Adds self.old self.new old.now new.now) }
+    {
         let (first, rest) = old.split_at(old.len().min(LONGEST_PUT));
         self.replace(first, new)?;
         self.cut(rest)?;
@@ -64,12 +88,15 @@ impl Draft {
         Ok(())
     }
 
-    /// The patch that was drawn up, with no room for more.
+    /// The patch that was drawn up, with no room for more bytes where it holds many.
     pub fn finish(mut self) -> Result<Patch, AllocError>
         ensures { IfOk result (λ patch. patch ≡ settled self) }
     {
         self.settle()?;
-        self.patch.shrink_to_fit();
+        // Of few bytes it is only some pieces that there is room for, which isn't worth an allocation.
+        if self.patch.byte_count() > FEW_BYTES {
+            self.patch.shrink_to_fit();
+        }
         Ok(self.patch)
     }
 

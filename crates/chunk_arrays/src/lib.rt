@@ -1,6 +1,7 @@
 //! Chunk arrays: a row of elements of one size, or of any, in a chunk's bytes; an edit of one is built as a patch.
 #![tactic(auto)]
 
+mod difference;
 mod draft;
 mod edits;
 mod empty;

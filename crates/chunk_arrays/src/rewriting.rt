@@ -1,18 +1,21 @@
 //! The patch that leaves an array with other extra bytes, and with an element or none in the place of some.
-ghost use Rattle.std.specs.Prelude.{◌≡◌, ◌≤◌, ◌<◌, ◌+◌, ◌-◌, ◌*◌, ◌^◌, ◌++◌, [], true, IsSome, IfSome, MatchResult, IfOk, length, take, drop, min, ◌==◌, if◌then◌else◌};
+ghost use Rattle.std.specs.Prelude.{◌≡◌, ◌≤◌, ◌<◌, ◌+◌, ◌-◌, ◌*◌, ◌^◌, ◌++◌, [], ◌∷◌, true, IsSome, IfSome, MatchResult, IfOk, length, take, drop, min, ◌==◌, if◌then◌else◌, get_or};
 ghost use Rattle.std.specs.List.{flat_map};
 ghost use Rattle.geos_model.specs.Words.{word};
 ghost use Rattle.geos_model.specs.Array.{array_bytes, array_start, is_even, place_table};
+ghost use Rattle.geos_model.specs.ArrayEdits.{with_elements};
 ghost use Rattle.geos_model.specs.Heap.{longest_chunk};
+ghost use Rattle.chunk_edits.specs.Patching.{PatchLeads};
 ghost use Rattle.chunk_arrays.specs.Drafting.{Adds};
 ghost use Rattle.chunk_arrays.specs.Reading.{element_place, words_from};
-ghost use Rattle.chunk_arrays.specs.Rewriting.{elements_after, elements_of, extra_after, rewritten};
+ghost use Rattle.chunk_arrays.specs.Rewriting.{HasFew, IsAlike, bytes_of, elements_after, elements_of, extra_after, rewritten};
 ghost use Rattle.chunk_arrays.specs.Replacing.{Replaces, ReplacesAt, RefusesToReplace};
 
 use crate::View;
+use crate::difference::compare;
 use crate::draft::Draft;
 use crate::runs::runs_of;
-use chunk_edits::{ArrayPatch, Patch};
+use chunk_edits::{ArrayPatch, Exchange, Patch};
 use geos_model::{Fault, LONGEST_CHUNK};
 use std::alloc::{AllocError, Global};
 
@@ -24,6 +27,9 @@ pub struct NewElement<'a> {
     pub tail: &'a [u8],
     pub zeros: usize,
 }
+
+/// Of how many bytes a new element is at most that is put together without an allocation.
+const FEW_BYTES: usize = 64;
 
 /// The patch that leaves an array with these bytes as the first of its extra bytes, of which it has as many as before,
 /// and with an element or none in the place of those from `from` to `to`, of which there is one at most where one
@@ -59,6 +65,120 @@ pub fn rewrite(
 
 /// The patch alone.
 fn patch_of(
+    alloc: Global,
+    view: &View<'_>,
+    first: &[u8],
+    from: usize,
+    to: usize,
+    new: Option<NewElement<'_>>,
+) -> Result<Patch, Fault>
+    // Which elements go.
+    requires order { from ≤ to }
+    requires within { to ≤ length view.now.array.elements }
+    requires one { IsSome new → to ≤ from + 1 }
+    // What comes.
+    requires extra { length first.now ≤ length view.now.array.extra }
+    requires even { is_even (rewritten view.now.array (extra_after view.now.array first.now) from to new) ≡ true }
+    // What the bytes become.
+    ensures { MatchResult result
+        (Replaces [] (array_bytes view.now.array)
+        (array_bytes (rewritten view.now.array (extra_after view.now.array first.now) from to new.entry)))
+        (RefusesToReplace []
+        (array_bytes (rewritten view.now.array (extra_after view.now.array first.now) from to new.entry))) }
+{
+    match alike(view, first, from, to, new) {
+        Some(element) => patch_alike(alloc, view, from, element),
+        None => patch_drawn(alloc, view, first, from, to, new),
+    }
+}
+
+/// The element that comes, where it takes the place of one of as many bytes, which are few, and the extra bytes stay.
+fn alike<'a>(
+    view: &View<'_>,
+    first: &[u8],
+    from: usize,
+    to: usize,
+    new: Option<NewElement<'a>>,
+) -> Option<NewElement<'a>>
+    requires order { from ≤ to }
+    requires within { to ≤ length view.now.array.elements }
+    requires extra { length first.now ≤ length view.now.array.extra }
+    ensures { IfSome result (λ element. IsAlike view.now.array first.now from to new.entry element) }
+{
+    let Some(element) = new else {
+        return None;
+    };
+    if to != from + 1 || !first.is_empty() || !are_few(element) {
+        return None;
+    }
+    if new_len(new) == view.element(from).len() {
+        Some(element)
+    } else {
+        None
+    }
+}
+
+/// Whether an element has few bytes, of which none is a zero behind its parts.
+fn are_few(element: NewElement<'_>) -> bool
+    ensures { result ≡ true → HasFew element.entry }
+{
+    element.zeros == 0 && new_len(Some(element)) <= FEW_BYTES
+}
+
+/// The patch of an array in which a new element of few bytes takes the place of one of as many.
+fn patch_alike(
+    alloc: Global,
+    view: &View<'_>,
+    at: usize,
+    element: NewElement<'_>,
+) -> Result<Patch, Fault>
+    requires within { at < length view.now.array.elements }
+    requires alike { length (bytes_of element) ≡ length (get_or view.now.array.elements at []) }
+    requires few { HasFew element }
+    ensures { MatchResult result
+        (Replaces [] (array_bytes view.now.array)
+        (array_bytes (with_elements view.now.array at (at + 1) (bytes_of element.entry ∷ []))))
+        (RefusesToReplace []
+        (array_bytes (with_elements view.now.array at (at + 1) (bytes_of element.entry ∷ [])))) }
+{
+    if view.bytes().len() > LONGEST_CHUNK {
+        return Err(Fault::Full);
+    }
+    let bytes = joined_few(element);
+    let len = new_len(Some(element));
+    let patch = exchange_at(alloc, view, at, &bytes[..len])?;
+    Ok(patch)
+}
+
+/// The patch of an array in which these bytes take the place of an element of as many. Those that stay aren't in it.
+fn exchange_at(
+    alloc: Global,
+    view: &View<'_>,
+    at: usize,
+    element: &[u8],
+) -> Result<Patch, AllocError>
+    requires within { at < length view.now.array.elements }
+    requires alike { length element.now ≡ length (get_or view.now.array.elements at []) }
+    requires short { length (array_bytes view.now.array) ≤ longest_chunk }
+    ensures { IfOk result
+        (λ patch. PatchLeads patch (array_bytes view.now.array)
+        (array_bytes (with_elements view.now.array at (at + 1) (element.now ∷ [])))) }
+{
+    let (front, rest) = view.bytes().split_at(view.place(at));
+    let (old, behind) = rest.split_at(element.len());
+    let changed = compare(old, element);
+    let exchange = Exchange {
+        old: changed.old,
+        new: changed.new,
+    };
+    let before = front.len() + changed.front;
+    let after = changed.back + behind.len();
+    let patch = Patch::replacing(alloc, before as u32, exchange, after as u32)?;
+    Ok(patch)
+}
+
+/// The patch alone, drawn up from the first byte on.
+fn patch_drawn(
     alloc: Global,
     view: &View<'_>,
     first: &[u8],
@@ -277,7 +397,7 @@ fn draft_elements(
     Ok(())
 }
 
-/// Adds the elements that go, with the new element in their place. One that is whole is taken as it stands.
+/// Adds the elements that go, with the new element in their place. Few bytes are put together without an allocation.
 fn draft_new(
     draft: &mut Draft,
     alloc: Global,
@@ -287,11 +407,32 @@ fn draft_new(
     requires { draft.old.kept + length (flat_map (λ x. x) (elements_of new)) < 2 ^ 32 }
     ensures { IfOk result (λ _. Adds draft.old draft.new gone.now (flat_map (λ x. x) (elements_of new.entry))) }
 {
+    let Some(element) = new else {
+        return draft.put(gone, &[]);
+    };
+    if !are_few(element) {
+        return draft_long(draft, alloc, gone, new);
+    }
+    let bytes = joined_few(element);
+    let len = new_len(new);
+    draft.put_changes(gone, &bytes[..len])
+}
+
+/// The same of an element of any length. One that is whole is taken as it stands.
+fn draft_long(
+    draft: &mut Draft,
+    alloc: Global,
+    gone: &[u8],
+    new: Option<NewElement<'_>>,
+) -> Result<(), AllocError>
+    requires { draft.old.kept + length (flat_map (λ x. x) (elements_of new)) < 2 ^ 32 }
+    ensures { IfOk result (λ _. Adds draft.old draft.new gone.now (flat_map (λ x. x) (elements_of new.entry))) }
+{
     match whole_of(new) {
-        Some(bytes) => draft.put(gone, bytes),
+        Some(bytes) => draft.put_changes(gone, bytes),
         None => {
             let bytes = new_bytes(alloc, new)?;
-            draft.put(gone, bytes.as_slice())
+            draft.put_changes(gone, bytes.as_slice())
         }
     }
 }
@@ -308,6 +449,21 @@ fn whole_of(new: Option<NewElement<'_>>) -> Option<&[u8]>
     } else {
         None
     }
+}
+
+/// The bytes of a new element that has few, and zeros behind them.
+fn joined_few(element: NewElement<'_>) -> [u8; FEW_BYTES]
+    requires { HasFew element }
+    ensures { take (length (bytes_of element.entry)) result ≡ bytes_of element.entry }
+{
+    let mut bytes = [0; FEW_BYTES];
+    let middle = element.head.len();
+    let tail = middle + element.middle.len();
+    let end = tail + element.tail.len();
+    bytes[..middle].copy_from_slice(element.head);
+    bytes[middle..tail].copy_from_slice(element.middle);
+    bytes[tail..end].copy_from_slice(element.tail);
+    bytes
 }
 
 /// The bytes of the new element, none where none comes.

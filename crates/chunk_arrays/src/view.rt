@@ -1,11 +1,11 @@
 //! An array that is read where it lies.
-ghost use Rattle.std.specs.Prelude.{◌≡◌, ◌^◌, ◌<◌, ◌≤◌, ◌+◌, ◌-◌, ◌↔◌, Some, None, [], true, IsTrue, MatchResult, length, take, drop, get_or};
+ghost use Rattle.std.specs.Prelude.{◌≡◌, ◌^◌, ◌<◌, ◌≤◌, ◌+◌, ◌-◌, ◌↔◌, Some, None, [], true, IsTrue, MatchOption, MatchResult, length, take, drop, get_or};
 ghost use Rattle.std.specs.List.{flat_map};
 ghost use Rattle.geos_model.specs.Words.{word_at};
 ghost use Rattle.geos_model.specs.Array.{array_bytes, array_of, array_read, is_even};
 ghost use Rattle.lmem_heap.specs.Known.{is_array_of};
 ghost use Rattle.chunk_arrays.specs.Parts.{AreByteValues, IsPlaceTable, HasElements};
-ghost use Rattle.chunk_arrays.specs.Reading.{element_place, has_one_size, words_from};
+ghost use Rattle.chunk_arrays.specs.Reading.{NoneEnds, element_place, has_one_size, words_from};
 
 use byteorder::{ByteOrder, LittleEndian};
 use geos_model::Fault;
@@ -221,6 +221,29 @@ impl<'a> View<'a> {
         let next = self.place(i + 1);
         let bytes = &self.bytes[place..next];
         (bytes, next)
+    }
+
+    /// The first element from one on that ends in a byte. One without bytes may be taken for such a one. Of the others
+    /// no more is read than where they end.
+    pub fn first_ending(&self, from: usize, byte: u8) -> Option<usize>
+        requires { from ≤ length self.now.array.elements }
+        ensures { MatchOption result
+            (NoneEnds self.now.array from (length self.now.array.elements) byte)
+            (λ i. (from ≤ i) × (i < length self.now.array.elements) × NoneEnds self.now.array from i byte) }
+    {
+        let bytes = self.bytes();
+        let count = self.count();
+        if from == count {
+            return None;
+        }
+        for i in from + 1..count {
+            let last = bytes[self.place(i) - 1];
+            if last == byte {
+                return Some(i - 1);
+            }
+        }
+        let end = bytes[bytes.len() - 1];
+        if end == byte { Some(count - 1) } else { None }
     }
 
     /// Where an element begins among the array's bytes, or where the last one ends. A table of places gives only places

@@ -5,6 +5,7 @@ use Rattle.std.proofs.lemmas.List.{get_or-map, get_or-drop, length-map, length-r
 use Rattle.std.proofs.lemmas.List.Sums.{count_by-le-length, sum_by-cons, position_or_len_is}
 use Rattle.std.proofs.lemmas.List.Folds.{list_all-map}
 use Rattle.std.proofs.lemmas.List.FromFn.{length-enumerate_from, get_or-enumerate_from}
+use Rattle.std.specs.Option.{MatchOption}
 use Rattle.std.specs.List.{list_all, enumerate_from, position, position_or_len}
 use Rattle.byteorder.specs.Endian.{little_bytes, little_number}
 use Rattle.geos_model.specs.Words.{word, word_at}
@@ -15,11 +16,12 @@ use Rattle.geos_model.proofs.Arrays.{head_of, table_of, joined, array_bytes-spel
 use Rattle.geos_model.proofs.FreeLists.{links, are_tokens, distinct_walk, all_free_met, walk_ends, length-walked, first_token-walked, links-walked, all-walked, walk_ends-links, token_after-link}
 use Rattle.geos_model.proofs.ElementArrays.{IsSound, sound_parts, sound_from, same_array-is, same_array-refl, size_read_le, elements_from, link_in, first_token-lt, links-token_after, links-same, free_read-walked, free_tokens, link-slots, all-weaker}
 use Rattle.chunk_arrays.specs.Parts.{AreByteValues}
+use Rattle.chunk_arrays.specs.Reading.{NoneEnds}
 use Rattle.chunk_arrays.specs.Viewed.{Viewed}
 use Rattle.chunk_arrays.proofs.PlaceLemmas.{place-step, place-within, one-is}
 use Rattle.geos_model.specs.Bytes.{same_bytes}
 use Rattle.geos_model.proofs.Arrays.{same_bytes-is}
-use Rattle.element_arrays.specs.Tested.{is_freed, is_freed_at, is_slot, is_slot_within, are_slots_within, has_length, has_bytes, is_walk}
+use Rattle.element_arrays.specs.Tested.{NoneHas, is_freed, is_freed_at, is_slot, is_slot_within, are_slots_within, has_length, has_bytes, is_walk}
 
 bytes_left : (xs ys : List ℕ) (i : ℕ) → AreByteValues (xs ++ ys) → get_or xs i 0 < 256
 bytes_left [] ys i h = omega arith
@@ -464,6 +466,29 @@ other_last xs ys some other n = elim (cases_Bool (same_bytes (drop n xs) ys)) [
   | inl so ↦ absurd (other (last_of xs ys n some (same_bytes-is (drop n xs) ys so)))
   | inr others ↦ others
 ]
+
+-- Slots none of which ends in the last of some bytes.
+pub none_has : (a : Array) (from to byte : ℕ) (bytes : List ℕ) → to ≤ length a.elements → ((k : ℕ) → k < length a.elements → 3 ≤ length (get_or a.elements k []))
+    → 0 < length bytes → byte ≡ get_or bytes (length bytes - 1) 0 → NoneEnds a from to byte → NoneHas (map slot_read a.elements) from to bytes
+none_has a from to byte bytes within long some is none k low up skip =
+    let less : k < length a.elements = omega (arith, within, up) in
+    let e : List ℕ = get_or a.elements k [] in
+    let enough = long k less in
+    ap (has_bytes skip bytes) (get_or-map slot_read a.elements k [] None less)
+    ∙ other_end skip e bytes (other_last e bytes some (λ same. none k low up (omega (arith, enough)) (same ∙ sym is)))
+
+pub candidates : (a : Array) (from byte : ℕ) (bytes : List ℕ) (found : Option ℕ) → ((k : ℕ) → k < length a.elements → 3 ≤ length (get_or a.elements k []))
+    → 0 < length bytes → byte ≡ get_or bytes (length bytes - 1) 0
+    → MatchOption found (NoneEnds a from (length a.elements) byte) (λ i. (from ≤ i) × (i < length a.elements) × NoneEnds a from i byte)
+    → MatchOption found (NoneHas (map slot_read a.elements) from (length (map slot_read a.elements)) bytes)
+    (λ i. (from ≤ i) × (i < length (map slot_read a.elements)) × NoneHas (map slot_read a.elements) from i bytes)
+candidates a from byte bytes None long some is none =
+    let same = length-map a.elements slot_read in
+    λ k low up. none_has a from (length a.elements) byte bytes (omega arith) long some is none k low (omega (arith, same, up))
+candidates a from byte bytes (Some i) long some is h =
+    let same = length-map a.elements slot_read in
+    let low = h.1 in
+    (h.0, omega (arith, same, low), none_has a from i byte bytes (omega (arith, low)) long some is h.2)
 
 -- a view's first word, and its elements, are within
 pub extra_long : (more : List ℕ) (s : Slots) (a : Array) → slots_array more s ≡ a → 2 ≤ length a.extra

@@ -1,5 +1,5 @@
 -- What the elements of an array must be so that it is one of slots.
-use Rattle.std.specs.Prelude.{ℕ, List, [], zero, suc, ◌+◌, ◌==◌, ◌&&◌, Bool, true, false, nat_lt, nat_le, length, drop, get_or, if◌then◌else◌, Option, is_some}
+use Rattle.std.specs.Prelude.{◌≡◌, ◌≤◌, ◌<◌, ℕ, List, [], zero, suc, ◌+◌, ◌==◌, ◌&&◌, Bool, true, false, nat_lt, nat_le, length, drop, get_or, if◌then◌else◌, Option, None, is_some}
 use Rattle.std.specs.List.{list_all}
 use Rattle.std.specs.Option.{option_map_or}
 use Rattle.byteorder.specs.Endian.{little_number}
@@ -28,6 +28,10 @@ has_length least most slot =
 -- a used element with these bytes behind its first ones
 abbrev pub has_bytes : ℕ → List ℕ → Option Element → Bool
 has_bytes skip bytes slot = option_map_or (λ e. same_bytes (drop skip e.bytes) bytes) slot false
+
+-- none of the slots from one up to another has these bytes, behind however many
+abbrev pub NoneHas : List (Option Element) → ℕ → ℕ → List ℕ → Type 0
+NoneHas slots from to bytes = (k : ℕ) → from ≤ k → k < to → (skip : ℕ) → has_bytes skip bytes (get_or slots k None) ≡ false
 
 abbrev pub is_slot_within : ℕ → ℕ → ℕ → List ℕ → Bool
 is_slot_within size least most bytes = is_slot size bytes && has_length least most (slot_read bytes)

@@ -6,9 +6,8 @@ ghost use Rattle.geos_model.specs.Bytes.{same_bytes};
 ghost use Rattle.geos_model.specs.Words.{word_at};
 ghost use Rattle.geos_model.specs.ElementArray.{slots_of, slots_read, slot_read, element_at, is_sound};
 ghost use Rattle.geos_model.specs.ElementEdits.{token_of};
-ghost use Rattle.chunk_arrays.specs.Reading.{element_place};
 ghost use Rattle.element_arrays.specs.Slotted.{slotted_array, slotted_bytes};
-ghost use Rattle.element_arrays.specs.Tested.{is_freed, is_freed_at, is_slot_within, are_slots_within, has_length, has_bytes, is_walk};
+ghost use Rattle.element_arrays.specs.Tested.{NoneHas, is_freed, is_freed_at, is_slot_within, are_slots_within, has_length, has_bytes, is_walk};
 ghost use Rattle.element_arrays.specs.Used.{used_element};
 
 use byteorder::{ByteOrder, LittleEndian};
@@ -285,23 +284,14 @@ impl<'a> SlotView<'a> {
         used_in(self.view.element(i))
     }
 
-    /// The bytes of the slot of a token that begins at this place, and where the next one begins, or where the last one
-    /// ends. A walk over the tokens looks each place up but once.
-    fn slot_from(&self, token: Token, place: usize) -> (&'a [u8], usize)
-        requires within { token.0 < length self.now.slots.slots }
-        requires place { place ≡ element_place (slotted_array self.now) token.0 }
-        ensures read { slot_read result.0.now ≡ element_at self.now.slots token.0 }
-        ensures long { 3 ≤ length result.0.now }
-        ensures next { result.1 ≡ element_place (slotted_array self.now) (token.0 + 1) }
+    /// The bytes of the slot of a token.
+    fn slot(&self, token: usize) -> &'a [u8]
+        requires { token < length self.now.slots.slots }
+        ensures read { slot_read result.now ≡ get_or self.now.slots.slots token None }
+        ensures long { 3 ≤ length result.now }
+        ensures near { token < 2 ^ 16 }
     {
-        self.view.element_from(usize::from(token.0), place)
-    }
-
-    /// Where the element of the first token begins among the array's bytes, or where they end without tokens.
-    fn first_place(&self) -> usize
-        ensures { result ≡ element_place (slotted_array self.now) 0 }
-    {
-        self.view.place(0)
+        self.view.element(token)
     }
 
     /// The lowest token whose element has these bytes behind its first `skip` ones.
@@ -309,15 +299,32 @@ impl<'a> SlotView<'a> {
         ensures { option_map (λ t. t.0) result ≡
             token_of (λ e. same_bytes (drop skip e.bytes) bytes.now) self.now.slots }
     {
-        let mut place = self.first_place();
-        for t in 0..self.len() {
-            let (slot, next) = self.slot_from(Token(t), place);
-            place = next;
-            if has_bytes(slot, skip, bytes) {
-                return Some(Token(t));
+        let mut from = 0;
+        while let Some(i) = self.candidate(from, bytes) {
+            if has_bytes(self.slot(i), skip, bytes) {
+                return Some(Token(i as u16));
             }
+            from = i + 1;
         }
         None
+    }
+
+    /// The first slot from one on that ends as these bytes do, or any slot where these are none. Hardly any other does,
+    /// so that no more is read of most slots.
+    fn candidate(&self, from: usize, bytes: &[u8]) -> Option<usize>
+        requires { from ≤ length self.now.slots.slots }
+        ensures { MatchOption result
+            (NoneHas self.now.slots.slots from (length self.now.slots.slots) bytes.now)
+            (λ i. (from ≤ i) × (i < length self.now.slots.slots) × NoneHas self.now.slots.slots from i bytes.now) }
+    {
+        if !bytes.is_empty() {
+            return self.view.first_ending(from, bytes[bytes.len() - 1]);
+        }
+        if from < self.view.count() {
+            Some(from)
+        } else {
+            None
+        }
     }
 }
 
@@ -347,20 +354,8 @@ fn has_bytes(slot: &[u8], skip: usize, bytes: &[u8]) -> bool
     requires { 3 ≤ length slot.now }
     ensures { result ≡ has_bytes skip bytes.now (slot_read slot.now) }
 {
-    if !may_end_in(slot, bytes) {
-        return false;
-    }
     match used_in(slot) {
         Some(used) => behind(used.bytes, skip) == bytes,
         None => false,
     }
-}
-
-/// Whether the last byte is that of the others, if they have any. Of most elements it is another, so that nothing else
-/// is read of them.
-fn may_end_in(bytes: &[u8], others: &[u8]) -> bool
-    requires { 1 ≤ length bytes.now }
-    ensures { result ≡ false → (n : ℕ) → same_bytes (drop n bytes.now) others.now ≡ false }
-{
-    others.is_empty() || bytes[bytes.len() - 1] == others[others.len() - 1]
 }

@@ -8,7 +8,7 @@ use Rattle.chunk_arrays.specs.declared.rewriting.NewElement.{NewElement}
 use Rattle.chunk_arrays.proofs.RewritingLemmas.{cut, head_room}
 use Rattle.chunk_arrays.proofs.ReplacingLemmas.{refused-long, accepted-short}
 use Rattle.chunk_arrays.proofs.RewrittenLemmas.{length-head_after, rewritten_leads, as_long, few_elements}
-use Rattle.chunk_arrays.proofs.rewriting.patch_of.Goals as goal
+use Rattle.chunk_arrays.proofs.rewriting.patch_drawn.Goals as goal
 
 pub returns-then-len-gt-LONGEST_CHUNK : goal.returns-then-len-gt-LONGEST_CHUNK
 returns-then-len-gt-LONGEST_CHUNK c =

@@ -1,6 +1,6 @@
 use Rattle.std.proofs.Common.{◌≡◌, ◌∙◌, ◌++◌, ◌+◌, ℕ, List, [], length, max, ap₂, arith, append-nil, take-append-drop}
 use Rattle.chunk_arrays.proofs.DraftingLemmas.{adds-as, adds-then}
-use Rattle.chunk_arrays.proofs.draft.Draft.put.Goals as goal
+use Rattle.chunk_arrays.proofs.draft.Draft.exchange.Goals as goal
 
 pub returns : goal.returns
 returns c =
