@@ -128,7 +128,7 @@ pub struct NamedEntry {
 }
 
 // Millions of entries may be kept, each in so many bytes.
-const _: () = prove!(size_of::<NamedEntry>() <= 56);
+const _: () = prove!(size_of::<NamedEntry>() <= 72);
 
 impl Model for NamedEntry {
     ghost use Rattle.undo_log.specs.Entries.{NamedEntry, named_entry_code};
