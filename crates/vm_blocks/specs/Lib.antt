@@ -17,4 +17,5 @@ pub mod SavingAs
 pub mod Sound
 pub mod State
 pub mod ChangeCosts
+pub mod FoundRuns
 pub mod Runs

@@ -1,5 +1,5 @@
 //! A run of bytes that is replaced: whether its body takes what comes in its place, and the change that it is.
-ghost use Rattle.std.specs.Prelude.{◌≡◌, ◌+◌, ◌≤◌, true, IfErr, MatchResult, OnOk, None, Some, length};
+ghost use Rattle.std.specs.Prelude.{◌≡◌, ◌+◌, ◌≤◌, true, IfErr, MatchResult, OnOk, length};
 ghost use Rattle.geos_model.specs.Document.{is_valid_body};
 ghost use Rattle.geos_model.specs.Heap.{capacity, chunk_bytes, fits_with, is_heap_map};
 ghost use Rattle.geos_model.specs.Meaning.{no_room, too_big};
@@ -7,7 +7,8 @@ ghost use Rattle.geos_model.specs.declared.command.Body.TheVariants as bodies;
 ghost use Rattle.lmem_heap.specs.Found.{IsFoundIn, handle_found};
 ghost use Rattle.vm_blocks.specs.Bodies.{body_value};
 ghost use Rattle.vm_blocks.specs.ByteChanges.{byte_part};
-ghost use Rattle.vm_blocks.specs.Runs.{AllowsRunIn, IsKindOfRun, IsRunRefused, PutsRun, RefusesRunIn, TakesRun, part_of_run, run_part};
+ghost use Rattle.vm_blocks.specs.FoundRuns.{IsRunFound};
+ghost use Rattle.vm_blocks.specs.Runs.{AllowsRun, AllowsRunIn, IsKindOfRun, IsRunRefused, PutsRun, RefusesRun, RefusesRunIn, TakesRun, bytes_in_body, part_of_run, run_part};
 ghost use Rattle.vm_blocks.specs.declared.change.Change.TheVariants as changes;
 
 use crate::frame::Frame;
@@ -30,9 +31,16 @@ pub struct Run<'a> {
     pub new: &'a [u8],
 }
 
+/// Where a run lies: in a raw body, or in a chunk, which was looked up.
+#[derive(Clone, Copy)]
+enum FoundRun {
+    Raw,
+    Chunk(FoundChunk),
+}
+
 /// Replaces a run of a block in memory: its change is told to a recorder, with the bytes that go lent from where they
-/// lie, and then made, so that from now on the file may have another body. Refused as `replace_in_body` is, and Memory
-/// where the recorder has none for it.
+/// lie, and then made, so that from now on the file may have another body. Refused as `find_run` is, and Memory where
+/// the recorder has none for it.
 pub(crate) fn replace_in_frame<R: Recorder>(
     alloc: Global,
     frame: &mut Frame,
@@ -48,81 +56,70 @@ pub(crate) fn replace_in_frame<R: Recorder>(
         × IsRunRefused R.keeps run.entry (body_value frame.old.body) recorder.old recorder.new fault) }
     ensures valid { is_valid_body (body_value frame.old.body) ≡ true }
 {
-    replace_in_body(alloc, &mut frame.body, run, recorder)?;
+    let found = find_run(&frame.body, run)?;
+    recorder.record(alloc, change_of(bytes_of(&frame.body, found, run), run))?;
     frame.changed = true;
+    put_run(&mut frame.body, found, run);
     Ok(())
 }
 
-/// So in a body. NoChunk where the run's chunk isn't live; Range where it reaches past the end; TooBig where a raw body
-/// can't have so many bytes as it gets, Full where the heap of a chunk has no room for them.
-fn replace_in_body<R: Recorder>(
-    alloc: Global,
-    body: &mut BlockBody,
-    run: Run<'_>,
-    recorder: &mut R,
-) -> Result<(), Fault>
-    requires kind { IsKindOfRun run (body_value body.old) }
-    requires ready { R.ready recorder.old }
-    ensures ok { OnOk result (TakesRun run.entry (body_value body.old) (body_value body.new)) }
-    ensures recorded { OnOk result (R.records recorder.old
-        (changes.Part run.entry.block (run_part run.entry (body_value body.old))) recorder.new) }
-    ensures err { IfErr result (λ fault. (body.new ≡ body.old)
-        × IsRunRefused R.keeps run.entry (body_value body.old) recorder.old recorder.new fault) }
-    ensures valid { is_valid_body (body_value body.old) ≡ true }
+/// Where a run lies in a body. NoChunk where its chunk isn't live; Range where it reaches past the end; TooBig where a
+/// raw body can't have so many bytes as it gets, Full where the heap of a chunk has no room for them.
+fn find_run(body: &BlockBody, run: Run<'_>) -> Result<FoundRun, Fault>
+    requires { IsKindOfRun run (body_value body.now) }
+    ensures value { MatchResult result
+        (λ found. AllowsRun run.entry (body_value body.now) × IsRunFound run.entry.chunk body.now found)
+        (RefusesRun run.entry (body_value body.now)) }
+    ensures short { OnOk result ((length (bytes_in_body run.entry.chunk (body_value body.now)) ≤ capacity)
+        × (length run.entry.new.now ≤ capacity)) }
+    ensures valid { is_valid_body (body_value body.now) ≡ true }
 {
     match (body, run.chunk) {
-        (BlockBody::Raw(raw), None) => replace_in_raw(alloc, raw, run, recorder),
+        (BlockBody::Raw(raw), None) => {
+            test_raw(raw, run)?;
+            Ok(FoundRun::Raw)
+        }
         (BlockBody::Heap(heap), Some(chunk)) => {
-            replace_in_chunk(alloc, heap, chunk, run, recorder)
+            let found = heap.find_chunk(chunk).ok_or(Fault::NoChunk)?;
+            test_chunk(heap, found, run)?;
+            Ok(FoundRun::Chunk(found))
         }
         (BlockBody::Raw(_), Some(_)) | (BlockBody::Heap(_), None) => unreachable!(),
     }
 }
 
-/// Of a raw body.
-fn replace_in_raw<R: Recorder>(
-    alloc: Global,
-    body: &mut RawBody,
-    run: Run<'_>,
-    recorder: &mut R,
-) -> Result<(), Fault>
-    requires raw { run.chunk ≡ None }
-    requires ready { R.ready recorder.old }
-    ensures ok { OnOk result (TakesRun run.entry (bodies.Raw body.old) (bodies.Raw body.new)) }
-    ensures recorded { OnOk result (R.records recorder.old
-        (changes.Part run.entry.block (run_part run.entry (bodies.Raw body.old))) recorder.new) }
-    ensures err { IfErr result (λ fault. (body.new ≡ body.old)
-        × IsRunRefused R.keeps run.entry (bodies.Raw body.old) recorder.old recorder.new fault) }
-    ensures valid { is_valid_body (bodies.Raw body.old) ≡ true }
+/// The bytes among which a run lies.
+fn bytes_of<'a>(body: &'a BlockBody, found: FoundRun, run: Run<'_>) -> &'a [u8]
+    requires { IsRunFound run.chunk body.now found }
+    ensures { result.now ≡ bytes_in_body run.entry.chunk (body_value body.now) }
 {
-    test_raw(body, run)?;
-    recorder.record(alloc, change_of(body.bytes(), run))?;
-    put_in_raw(body, run.at as usize, run.count, run.new);
-    Ok(())
+    match (body, found) {
+        (BlockBody::Raw(raw), FoundRun::Raw) => raw.bytes(),
+        (BlockBody::Heap(heap), FoundRun::Chunk(found)) => heap.found_bytes(found),
+        (BlockBody::Raw(_), FoundRun::Chunk(_)) | (BlockBody::Heap(_), FoundRun::Raw) =>
+            unreachable!(),
+    }
 }
 
-/// Of a chunk of a heap, which is looked up once.
-fn replace_in_chunk<R: Recorder>(
-    alloc: Global,
-    heap: &mut Heap,
-    chunk: ChunkHandle,
-    run: Run<'_>,
-    recorder: &mut R,
-) -> Result<(), Fault>
-    requires chunk { run.chunk ≡ Some chunk }
-    requires ready { R.ready recorder.old }
-    ensures ok { OnOk result (TakesRun run.entry (bodies.Heap heap.old.chunks) (bodies.Heap heap.new.chunks)) }
-    ensures recorded { OnOk result (R.records recorder.old
-        (changes.Part run.entry.block (run_part run.entry (bodies.Heap heap.old.chunks))) recorder.new) }
-    ensures err { IfErr result (λ fault. (heap.new ≡ heap.old)
-        × IsRunRefused R.keeps run.entry (bodies.Heap heap.old.chunks) recorder.old recorder.new fault) }
-    ensures valid { is_valid_body (bodies.Heap heap.old.chunks) ≡ true }
+/// Replaces a run in place.
+fn put_run(body: &mut BlockBody, found: FoundRun, run: Run<'_>)
+    requires takes { AllowsRun run (body_value body.old) }
+    requires found { IsRunFound run.chunk body.old found }
+    ensures { TakesRun run.entry (body_value body.old) (body_value body.new) }
 {
-    let found = heap.find_chunk(chunk).ok_or(Fault::NoChunk)?;
-    test_chunk(heap, found, run)?;
-    recorder.record(alloc, change_of(heap.found_bytes(found), run))?;
-    heap.replace_found(found, run.at as usize, run.count, run.new);
-    Ok(())
+    match (body, found) {
+        (BlockBody::Raw(raw), FoundRun::Raw) => put_in_raw(
+            raw,
+            run.at as usize,
+            run.count,
+            run.new,
+        ),
+        (BlockBody::Heap(heap), FoundRun::Chunk(found)) => {
+            heap.replace_found(found, run.at as usize, run.count, run.new);
+        }
+        (BlockBody::Raw(_), FoundRun::Chunk(_)) | (BlockBody::Heap(_), FoundRun::Raw) =>
+            unreachable!(),
+    }
 }
 
 /// The change that replaces a run of these bytes.
@@ -167,8 +164,8 @@ fn test_chunk(heap: &Heap, found: FoundChunk, run: Run<'_>) -> Result<(), Fault>
     ensures value { let m = heap.now.chunks in let h = handle_found found in MatchResult result
         (λ _. AllowsRunIn (chunk_bytes m h) run.entry (λ bytes. fits_with m h bytes ≡ true))
         (RefusesRunIn (chunk_bytes m h) run.entry (no_room m h)) }
-    ensures short { OnOk result ((length (chunk_bytes heap.now.chunks (handle_found found)) ≤ capacity)
-        × (length run.entry.new.now ≤ capacity)) }
+    ensures short { OnOk result
+        ((length (chunk_bytes heap.now.chunks (handle_found found)) ≤ capacity) × (length run.entry.new.now ≤ capacity)) }
 {
     let size = heap.found_bytes(found).len();
     if !is_within(size, run.at as usize, run.count) {
