@@ -102,6 +102,24 @@ module _ (test : ℕ → Bool) where
   pub length_promoted : (es : List (ℕ × ℕ)) → length (promoted test es) ≡ length es
   length_promoted es = length_promoted_by es (lookup_entry test es) refl
 
+  -- a key that isn't there is not used
+  pub absent_promoted : (es : List (ℕ × ℕ)) → lookup test es ≡ None → promoted test es ≡ es
+  absent_promoted es is = ap (λ o. option_map_or (λ (e : ℕ × ℕ). e ∷ remove_entry test es) o es) (absent_entry es is)
+
+  passes : (es : List (ℕ × ℕ)) (e : ℕ × ℕ) → lookup_entry test es ≡ Some e → test e.0 ≡ true
+  passes [] e is = absurd (cc is)
+  passes (x ∷ es) e is = (elim (test x.0) as (λ b. test x.0 ≡ b → cond b (Some x) (lookup_entry test es) ≡ Some e → test e.0 ≡ true) [
+    | true ↦ λ here at. let same : x ≡ e = cc at in subst (λ (y : ℕ × ℕ). test y.0 ≡ true) same here
+    | false ↦ λ other more. passes es e more
+  ]) refl is
+
+  -- a key that is used keeps its slot
+  pub slot_promoted : (es : List (ℕ × ℕ)) (slot : ℕ) → lookup test es ≡ Some slot → lookup test (promoted test es) ≡ Some slot
+  slot_promoted es slot is =
+      let e = entry_at es slot is in
+      ap (λ o. lookup test (option_map_or (λ (f : ℕ × ℕ). f ∷ remove_entry test es) o es)) e.1
+      ∙ ap (λ b. cond b (Some e.0.1) (lookup test (remove_entry test es))) (passes es e.0 e.1) ∙ ap Some e.2
+
 -- keys with values
 
 module _ {V : Type 0} (s : Slab V) where
@@ -264,6 +282,15 @@ module _ {V : Type 0} (order : LruCache ℕ ℕ) (s : Slab V) (seats : AreSeats 
       let present = taken_at s test order.entries slot seats.taken is in
       seated-write test s (with_value s slot w) slot w (Updates-with_value s slot w present) order.entries seats.taken seats.apart is
 
+  -- a key is used
+  pub promoted_seats : (test : ℕ → Bool) → AreSeats (lru_cache (promoted test order.entries) order.cap) s
+  promoted_seats test = record {
+    taken = promoted_taken s test order.entries seats.taken;
+    apart = promoted_apart test order.entries seats.apart;
+    none_lost = seats.none_lost ∙ sym (length_promoted test order.entries);
+    enough = seats.enough;
+  }
+
   -- a key comes in that isn't there
   module _ (key : ℕ) (absent : lookup (nat_eq key) (seated s order.entries) ≡ None) (room : length (seated s order.entries) < order.cap) where
     pub fits : slab_len s + 1 ≤ s.capacity
@@ -305,3 +332,16 @@ module _ {V : Type 0} (order : LruCache ℕ ℕ) (s : Slab V) (seats : AreSeats 
           none_lost = omega (arith, less, seats.none_lost, length_removed test order.entries e.0 e.1);
           enough = omega (arith, same, seats.enough);
         }
+
+-- the value of a key that is used is written
+module _ {V : Type 0} (order : LruCache ℕ ℕ) (s : Slab V) (seats : AreSeats order s) (test : ℕ → Bool) (slot : ℕ) (w : V) (is : lookup test order.entries ≡ Some slot) where
+  abbrev used : LruCache ℕ ℕ
+  used = lru_cache (promoted test order.entries) order.cap
+
+  pub used_seats : AreSeats used (with_value s slot w)
+  used_seats = written_seats used s (promoted_seats order s seats test) test slot w (slot_promoted test order.entries slot is)
+
+  pub used_written : seated (with_value s slot w) (promoted test order.entries) ≡ set_value test (promoted test (seated s order.entries)) w
+  used_written =
+      written used s (promoted_seats order s seats test) test slot w (slot_promoted test order.entries slot is)
+      ∙ ap (λ xs. set_value test xs w) (promoted-seated s test order.entries seats.taken)

@@ -1,5 +1,5 @@
 //! The order of use of the keys, and the slot of each.
-ghost use Rattle.std.specs.Prelude.{◌≡◌, ◌<◌, ◌^◌, ◌≤◌, ℕ, [], ◌∷◌, None, IfOk, OnOk, OnErr, is_some, length, nat_eq, option_map, slice_get};
+ghost use Rattle.std.specs.Prelude.{◌≡◌, ◌<◌, ◌^◌, ◌≤◌, ℕ, [], ◌∷◌, None, IfOk, OnOk, OnErr, length, nat_eq, option_map, slice_get};
 ghost use Rattle.std.specs.List.{AllByRecursion};
 ghost use Rattle.std.specs.NonZero.{non_zero_usize_get};
 ghost use Rattle.std.specs.Map.{lookup, remove_entry};
@@ -58,15 +58,23 @@ fn vacant_seat(seats: &LruCache<usize, (u16, usize)>, taken: usize) -> usize
 }
 
 /// Makes a seat the first in the order. Where it is the first already this is seen without a hash.
+// Inlined, since most seats are the first, for which it is a comparison.
+#[inline(always)]
 fn move_first(seats: &mut LruCache<usize, (u16, usize)>, seat: usize)
     ensures { seats.new ≡ lru_cache (promoted (nat_eq seat) seats.old.entries) seats.old.cap }
 {
     match seats.peek_mru() {
         Some((first, _)) if *first == seat => {}
-        _ => {
-            seats.promote(&seat);
-        }
+        _ => move_up(seats, seat),
     }
+}
+
+/// Makes a seat the first that isn't.
+#[inline(never)]
+fn move_up(seats: &mut LruCache<usize, (u16, usize)>, seat: usize)
+    ensures { seats.new ≡ lru_cache (promoted (nat_eq seat) seats.old.entries) seats.old.cap }
+{
+    seats.promote(&seat);
 }
 
 /// Makes a seat the last in the order, in the same way.
@@ -133,18 +141,15 @@ impl Order {
         Some((key, slot))
     }
 
-    /// Makes a key the one that was used last, and says whether it is there.
-    pub(crate) fn promote(&mut self, key: u16) -> bool
-        ensures value { result ≡ is_some (lookup (nat_eq key) self.old.entries) }
+    /// Makes a key the one that was used last, and returns its slot.
+    #[inline(always)]
+    pub(crate) fn get(&mut self, key: u16) -> Option<usize>
+        ensures value { result ≡ lookup (nat_eq key) self.old.entries }
         ensures entries { self.new ≡ lru_cache (promoted (nat_eq key) self.old.entries) self.old.cap }
     {
-        match self.places.get(key) {
-            Some(place) => {
-                move_first(&mut self.seats, place.seat);
-                true
-            }
-            None => false,
-        }
+        let place = self.places.get(key)?;
+        move_first(&mut self.seats, place.seat);
+        Some(place.slot)
     }
 
     /// Puts in a key that isn't there, with its slot; it is the one that was used last from then on. Without memory for

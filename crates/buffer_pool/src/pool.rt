@@ -82,10 +82,21 @@ impl<V> BufferPool<V> {
 
     /// The value of a key to write to. The order of use stays.
     pub fn peek_mut(&mut self, key: u16) -> Option<&mut V>
-        ensures* writes_back { sem 𝓛 (lends_value V.row self.entry (nat_eq key) result) }
+        ensures* writes_back { sem 𝓛 (lends_value V.row self.entry (nat_eq key) self.old.entries result) }
         ensures value { option_copied_mut result ≡ lookup (nat_eq key) self.old.entries }
     {
         let slot = self.order.peek(key)?;
+        Some(&mut self.values[slot])
+    }
+
+    /// The value of a key to write to, which is the key that was used last from then on.
+    #[inline(always)]
+    pub fn get_mut(&mut self, key: u16) -> Option<&mut V>
+        ensures* writes_back { sem 𝓛 (lends_value V.row self.entry (nat_eq key)
+            (promoted (nat_eq key) self.old.entries) result) }
+        ensures value { option_copied_mut result ≡ lookup (nat_eq key) self.old.entries }
+    {
+        let slot = self.order.get(key)?;
         Some(&mut self.values[slot])
     }
 
@@ -98,11 +109,12 @@ impl<V> BufferPool<V> {
     }
 
     /// Makes a key the one that was used last, and says whether it has a value.
+    #[inline(always)]
     pub fn promote(&mut self, key: u16) -> bool
         ensures value { result ≡ is_some (lookup (nat_eq key) self.old.entries) }
         ensures entries { self.new ≡ lru_cache (promoted (nat_eq key) self.old.entries) self.old.cap }
     {
-        self.order.promote(key)
+        self.order.get(key).is_some()
     }
 
     /// Puts in the value of a key that has none, which is the one that was used last from then on. Without memory for

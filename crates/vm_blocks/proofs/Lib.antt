@@ -37,3 +37,4 @@ pub mod SavedAs
 pub mod StateValidity
 pub mod Tables
 pub mod UsedAgain
+pub mod UsedInPlace

@@ -27,22 +27,6 @@ entry_passes test (x ∷ ss) s is = (elim (test x.0) as (λ b. test x.0 ≡ b �
 abbrev promoted : ℕ → List ResidentBlock → List ResidentBlock
 promoted h ss = option_map_or (λ s. s ∷ remove_entry (nat_eq h) ss) (lookup_entry (nat_eq h) ss) ss
 
-promoted_there : (h : ℕ) (ss : List ResidentBlock) → is_resident ss h ≡ true → is_resident (promoted h ss) h ≡ true
-promoted_there h ss there = by (lookup_entry (nat_eq h) ss) refl
-  where
-    by : (o : Option ResidentBlock) → lookup_entry (nat_eq h) ss ≡ o → is_resident (option_map_or (λ s. s ∷ remove_entry (nat_eq h) ss) o ss) h ≡ true
-    by None is = there
-    by (Some s) is = ap (λ b. is_some (cond b (Some s.1) (lookup (nat_eq h) (remove_entry (nat_eq h) ss)))) (entry_passes (nat_eq h) ss s is)
-
-pub seated_there : (frames h : ℕ) (ss : List ResidentBlock) → is_resident (after_load frames h ss) h ≡ true
-seated_there frames h ss = by (is_resident ss h) refl
-  where
-    by : (b : Bool) → is_resident ss h ≡ b → is_resident (cond b (promoted h ss) ((h, 0) ∷ cond (nat_lt (length ss) frames) ss (evicted ss))) h ≡ true
-    by true is = promoted_there h ss is
-    by false is = ap (λ b. is_some (cond b (Some 0) (lookup (nat_eq h) (cond (nat_lt (length ss) frames) ss (evicted ss))))) (eq-eqb h h refl)
-
--- Any other that was in memory stays there where the block was in memory too.
-
 removed_other : (h k : ℕ) (ss : List ResidentBlock) → nat_eq k h ≡ false → lookup (nat_eq k) (remove_entry (nat_eq h) ss) ≡ lookup (nat_eq k) ss
 removed_other h k [] other = refl
 removed_other h k (s ∷ ss) other = by (nat_eq h s.0) refl (removed_other h k ss other)
@@ -53,19 +37,40 @@ removed_other h k (s ∷ ss) other = by (nat_eq h s.0) refl (removed_other h k s
         sym (ap (λ b. cond b (Some s.1) (lookup (nat_eq k) ss)) (ap (nat_eq k) (sym same) ∙ other))
     by false is later = ap (λ o. cond (nat_eq k s.0) (Some s.1) o) later
 
-promoted_stays : (h k : ℕ) (ss : List ResidentBlock) → is_resident ss k ≡ true → is_resident (promoted h ss) k ≡ true
-promoted_stays h k ss there = by (lookup_entry (nat_eq h) ss) refl
-  where
-    first : (s : ResidentBlock) (b : Bool) → nat_eq k s.0 ≡ b → h ≡ s.0 → is_resident (s ∷ remove_entry (nat_eq h) ss) k ≡ true
-    first s true is same = ap (λ b. is_some (cond b (Some s.1) (lookup (nat_eq k) (remove_entry (nat_eq h) ss)))) is
-    first s false is same =
-        ap (λ b. is_some (cond b (Some s.1) (lookup (nat_eq k) (remove_entry (nat_eq h) ss)))) is
-        ∙ ap is_some (removed_other h k ss (ap (nat_eq k) same ∙ is)) ∙ there
+-- what is found of each block stays where one is used
 
-    by : (o : Option ResidentBlock) → lookup_entry (nat_eq h) ss ≡ o → is_resident (option_map_or (λ s. s ∷ remove_entry (nat_eq h) ss) o ss) k ≡ true
-    by None is = there
-    by (Some s) is = first s (nat_eq k s.0) refl (eqb-true h s.0 (entry_passes (nat_eq h) ss s is))
+value_found : (test : ℕ → Bool) (ss : List ResidentBlock) (s : ResidentBlock) → lookup_entry test ss ≡ Some s → lookup test ss ≡ Some s.1
+value_found test [] s is = absurd (cc is)
+value_found test (x ∷ ss) s is = (elim (test x.0) as (λ b. cond b (Some x) (lookup_entry test ss) ≡ Some s → cond b (Some x.1) (lookup test ss) ≡ Some s.1) [
+  | true ↦ λ here. ap (λ (o : Option ResidentBlock). Some (unwrap_or o x).1) here
+  | false ↦ λ on. value_found test ss s on
+]) is
+
+pub promoted_held : (h k : ℕ) (ss : List ResidentBlock) → lookup (nat_eq k) (promoted h ss) ≡ lookup (nat_eq k) ss
+promoted_held h k ss = by (lookup_entry (nat_eq h) ss) refl
+  where
+    first : (s : ResidentBlock) (b : Bool) → nat_eq k s.0 ≡ b → lookup_entry (nat_eq h) ss ≡ Some s → lookup (nat_eq k) (s ∷ remove_entry (nat_eq h) ss) ≡ lookup (nat_eq k) ss
+    first s true is found =
+        let key : h ≡ s.0 = eqb-true h s.0 (entry_passes (nat_eq h) ss s found) in
+        let same : h ≡ k = key ∙ sym (eqb-true k s.0 is) in
+        ap (λ b. cond b (Some s.1) (lookup (nat_eq k) (remove_entry (nat_eq h) ss))) is ∙ sym (value_found (nat_eq h) ss s found) ∙ ap (λ q. lookup (nat_eq q) ss) same
+    first s false is found =
+        let key : h ≡ s.0 = eqb-true h s.0 (entry_passes (nat_eq h) ss s found) in
+        ap (λ b. cond b (Some s.1) (lookup (nat_eq k) (remove_entry (nat_eq h) ss))) is ∙ removed_other h k ss (ap (nat_eq k) key ∙ is)
+
+    by : (o : Option ResidentBlock) → lookup_entry (nat_eq h) ss ≡ o → lookup (nat_eq k) (option_map_or (λ s. s ∷ remove_entry (nat_eq h) ss) o ss) ≡ lookup (nat_eq k) ss
+    by None is = refl
+    by (Some s) is = first s (nat_eq k s.0) refl is
+
+pub seated_there : (frames h : ℕ) (ss : List ResidentBlock) → is_resident (after_load frames h ss) h ≡ true
+seated_there frames h ss = by (is_resident ss h) refl
+  where
+    by : (b : Bool) → is_resident ss h ≡ b → is_resident (cond b (promoted h ss) ((h, 0) ∷ cond (nat_lt (length ss) frames) ss (evicted ss))) h ≡ true
+    by true is = ap is_some (promoted_held h h ss) ∙ is
+    by false is = ap (λ b. is_some (cond b (Some 0) (lookup (nat_eq h) (cond (nat_lt (length ss) frames) ss (evicted ss))))) (eq-eqb h h refl)
+
+-- Any other that was in memory stays there where the block was in memory too.
 
 pub seated_stays : (frames h k : ℕ) (ss : List ResidentBlock) → is_resident ss h ≡ true → is_resident ss k ≡ true → is_resident (after_load frames h ss) k ≡ true
 seated_stays frames h k ss here there =
-    ap (λ b. is_resident (cond b (promoted h ss) ((h, 0) ∷ cond (nat_lt (length ss) frames) ss (evicted ss))) k) here ∙ promoted_stays h k ss there
+    ap (λ b. is_resident (cond b (promoted h ss) ((h, 0) ∷ cond (nat_lt (length ss) frames) ss (evicted ss))) k) here ∙ ap is_some (promoted_held h k ss) ∙ there

@@ -6,6 +6,7 @@ pub mod Changes
 pub mod Exactness
 pub mod Frames
 pub mod InMemory
+pub mod InPlace
 pub mod Incoming
 pub mod Keeping
 pub mod Kinds

@@ -1,5 +1,5 @@
 //! The blocks in memory, in the order of their use.
-ghost use Rattle.std.specs.Prelude.{◌≡◌, ◌<◌, ◌+◌, ◌-◌, ℕ, Bool, true, false, nat_eq, is_some, Some, IfSome, MatchOption};
+ghost use Rattle.std.specs.Prelude.{◌≡◌, ◌<◌, ◌+◌, ◌-◌, ℕ, Bool, true, false, nat_eq, is_some, Some, IfSome, MatchBool, MatchOption};
 ghost use Rattle.std.specs.FinMap.{contains_key};
 ghost use Rattle.std.specs.Option.{option_map};
 ghost use Rattle.geos_model.specs.Document.{Document, IsValid, is_live, is_valid_body, is_vm_handle};
@@ -11,10 +11,11 @@ ghost use Rattle.vm_blocks.specs.Bodies.{body_value};
 ghost use Rattle.vm_blocks.specs.Changes.{directed_part};
 ghost use Rattle.vm_blocks.specs.Frames.{bytes_in_frames, chunks_in_frames, frame_of, overlay, residents, with_frame, AreFramesOf};
 ghost use Rattle.vm_blocks.specs.Parts.{AllowsPart, body_after_part};
+ghost use Rattle.vm_blocks.specs.Runs.{PutsPart};
 ghost use Rattle.vm_blocks.specs.State.{locks_of, victim};
 
 use crate::body::BlockBody;
-use crate::part::{carry_out_heap, carry_out_raw};
+use crate::part::{can_take, carry_out_heap, carry_out_raw};
 use crate::{Direction, PartChange};
 use buffer_pool::BufferPool;
 use geos_model::{ChunkHandle, MOST_BLOCKS};
@@ -44,6 +45,24 @@ impl Frame {
             BlockBody::Heap(heap) => carry_out_heap(heap, part, direction),
         }
     }
+}
+
+/// Makes a change of a part of the body of a block in memory, if the body takes it, and says whether: from then on the
+/// file may have another.
+pub(crate) fn change_part_in_frame(
+    frame: &mut Frame,
+    part: &PartChange,
+    direction: Direction,
+) -> bool
+    ensures { MatchBool result (PutsPart (directed_part direction part.now) frame.old frame.new)
+        ((AllowsPart (directed_part direction part.now) (body_value frame.old.body) → ⊥)
+        × (frame.new ≡ frame.old)) }
+{
+    if !can_take(&frame.body, part, direction) {
+        return false;
+    }
+    frame.carry_out(part, direction);
+    true
 }
 
 /// Says whether a block in memory may differ from what the file has of it.

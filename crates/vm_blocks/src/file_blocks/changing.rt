@@ -7,13 +7,14 @@ ghost use Rattle.document_file.specs.Effects.{Fails, NoFault};
 ghost use Rattle.document_file.specs.Members.{imaged_blocks};
 ghost use Rattle.vm_blocks.specs.State.{locks_of, locked_count, KeepsDocument, KeepsLocks, Marks};
 ghost use Rattle.vm_blocks.specs.Changes.{attributes_for_kind, after_change, after_part, directed, directed_all, directed_part, incoming_blocks, AreFree};
-ghost use Rattle.vm_blocks.specs.Keeping.{KeepsBlocks, IsEnvironmentFault, is_loaded, has_no_frame_for};
+ghost use Rattle.vm_blocks.specs.InPlace.{TriesPart, TriesPartInMemory};
+ghost use Rattle.vm_blocks.specs.Keeping.{KeepsBlocks, IsEnvironmentFault, is_loaded};
 ghost use Rattle.vm_blocks.specs.Parts.{AllowsPart};
 ghost use Rattle.vm_blocks.specs.Preparing.{after_changes, CanRemoveByHandle, CanApplyAll, CanApplyByHandle, CanCarryOut, CanApplyAllByHandle, AreInMemory, NoneComesIn, AreUnlocked, AllowsChange, IsInMemory, IsShutOut, CantPrepare, CantPrepareAll, IsApplied, AreApplied, AppliesChange};
 
 use super::FileBlocks;
+use crate::frame::change_part_in_frame;
 use crate::in_memory::{Obstacle, change_in_memory};
-use crate::part::can_take;
 use crate::transfers::flush;
 use crate::{Change, Direction, Members, PartChange};
 use geos_model::{Attributes, Fault, VmHandle};
@@ -271,7 +272,7 @@ impl<S: Store> FileBlocks<S> {
         Ok(())
     }
 
-    // Brings the block of a part into memory, and changes its body if that takes the change.
+    // Changes the body of a block, which is brought into memory, if the body takes the change.
     fn change_part(
         &mut self,
         handle: VmHandle,
@@ -282,42 +283,61 @@ impl<S: Store> FileBlocks<S> {
         ensures { AppliesChange S.facts (Change.Part handle (directed_part direction part.now)) self.old self.new
             result }
     {
-        self.ready_part(handle, part, direction)?;
-        self.carry_out_part(handle, part, direction);
-        Ok(())
+        self.reveal_invariant();
+        match self.change_resident_part(handle, part, direction) {
+            Some(true) => Ok(()),
+            Some(false) => Err(Fault::Damaged),
+            None => self.bring_and_change_part(handle, part, direction),
+        }
     }
 
-    // Brings the block of a part into memory, and tests that its body takes the change.
-    fn ready_part(
+    // Changes the body of a block in memory, if it takes the change, and says whether; None where it isn't there.
+    #[inline(always)]
+    fn change_resident_part(
+        &mut self,
+        handle: VmHandle,
+        part: &PartChange,
+        direction: Direction,
+    ) -> Option<bool>
+        ensures { TriesPartInMemory handle.0 (directed_part direction part.now) self.old self.new result }
+    {
+        let _count = self.frames.len();
+        let frame = self.frames.get_mut(handle.0)?;
+        Some(change_part_in_frame(frame, part, direction))
+    }
+
+    // Changes the body of a block that is brought into memory first.
+    #[inline(never)]
+    fn bring_and_change_part(
         &mut self,
         handle: VmHandle,
         part: &PartChange,
         direction: Direction,
     ) -> Result<(), Fault>
-        // Asked of the caller.
         requires { is_live self.old.document handle.0 ≡ true }
-        // What stays.
-        ensures keeps { KeepsBlocks S.facts self.old self.new }
-        // What is done.
-        ensures loaded { OnOk result (is_loaded self.new handle.0 ≡ true) }
-        ensures takes { OnOk result
-            (AllowsPart (directed_part direction part.now) (block_at self.new.document handle.0).body) }
-        // Refusals.
-        ensures err { IfErr result
-            (CantPrepare S.facts (Change.Part handle (directed_part direction part.now)) self.old self.new) }
-        // When the answer is known beforehand.
-        ensures sure { is_loaded self.old handle.0 ≡ true
-            → AllowsPart (directed_part direction part.now) (block_at self.old.document handle.0).body
-            → IsOk result × (self.new.disk ≡ self.old.disk) × (self.new.document ≡ self.old.document) }
-        ensures shut { has_no_frame_for self.old handle.0 ≡ true → (result ≡ Err Fault.CacheFull)
-            × (self.new ≡ self.old) }
+        ensures { AppliesChange S.facts (Change.Part handle (directed_part direction part.now)) self.old self.new
+            result }
     {
         self.load_live(handle)?;
-        if can_take(self.body(handle), part, direction) {
+        if self.change_loaded_part(handle, part, direction) {
             Ok(())
         } else {
             Err(Fault::Damaged)
         }
+    }
+
+    // Changes the body of a block in memory, if it takes the change, and says whether.
+    fn change_loaded_part(
+        &mut self,
+        handle: VmHandle,
+        part: &PartChange,
+        direction: Direction,
+    ) -> bool
+        requires { is_loaded self.old handle.0 ≡ true }
+        ensures { TriesPart handle.0 (directed_part direction part.now) self.old self.new result }
+    {
+        let frame = self.frames.peek_mut(handle.0).unwrap();
+        change_part_in_frame(frame, part, direction)
     }
 
     /// Changes the body of a block in memory in place.

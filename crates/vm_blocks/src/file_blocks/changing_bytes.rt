@@ -1,11 +1,11 @@
 //! Changes of a run of bytes that lie with the caller: they are carried out as the change that they are, with no change
 //! of their own.
-ghost use Rattle.std.specs.Prelude.{◌≡◌, [], Err, true, IsOk, IfErr, MatchBool, OnOk, OnErr};
+ghost use Rattle.std.specs.Prelude.{◌≡◌, [], Err, true, IsOk, IfErr, OnOk, OnErr};
 ghost use Rattle.geos_model.specs.Document.{block_at, is_live, is_valid_body};
 ghost use Rattle.vm_blocks.specs.ByteChanges.{byte_change, byte_part};
-ghost use Rattle.vm_blocks.specs.Changes.{after_change, after_part, directed, incoming_blocks};
-ghost use Rattle.vm_blocks.specs.Keeping.{KeepsBlocks, is_loaded, has_no_frame_for};
-ghost use Rattle.vm_blocks.specs.Parts.{AllowsPart};
+ghost use Rattle.vm_blocks.specs.Changes.{after_change, directed, incoming_blocks};
+ghost use Rattle.vm_blocks.specs.InPlace.{TriesPart, TriesPartInMemory};
+ghost use Rattle.vm_blocks.specs.Keeping.{KeepsBlocks, is_loaded};
 ghost use Rattle.vm_blocks.specs.Runs.{IsKindOfRun, TriesRun};
 ghost use Rattle.vm_blocks.specs.Preparing.{CanApplyByHandle, AllowsChange, IsInMemory, IsShutOut, CantPrepare, IsApplied, AppliesChange};
 
@@ -63,6 +63,30 @@ impl<S: Store> FileBlocks<S> {
         requires { is_live self.old.document change.block.0 ≡ true }
         ensures { AppliesChange S.facts (byte_change change.entry) self.old self.new result }
     {
+        self.reveal_invariant();
+        match self.change_resident(change) {
+            Some(true) => Ok(()),
+            Some(false) => Err(Fault::Damaged),
+            None => self.bring_and_change(change),
+        }
+    }
+
+    // Makes it in a block that is in memory, if the body takes it, and says whether; None where the block isn't there.
+    #[inline(always)]
+    fn change_resident(&mut self, change: ByteChange<'_>) -> Option<bool>
+        ensures { TriesPartInMemory change.entry.block.0 (byte_part change.entry) self.old self.new result }
+    {
+        let _count = self.frames.len();
+        let frame = self.frames.get_mut(change.block.0)?;
+        Some(change_in_frame(frame, change))
+    }
+
+    // Makes it in a block that is brought into memory first.
+    #[inline(never)]
+    fn bring_and_change(&mut self, change: ByteChange<'_>) -> Result<(), Fault>
+        requires { is_live self.old.document change.block.0 ≡ true }
+        ensures { AppliesChange S.facts (byte_change change.entry) self.old self.new result }
+    {
         self.load_live(change.block)?;
         if self.change_loaded(change) {
             Ok(())
@@ -72,16 +96,9 @@ impl<S: Store> FileBlocks<S> {
     }
 
     // Makes it in a block that is in memory, if the body takes it, and says whether.
-    #[inline(always)]
     fn change_loaded(&mut self, change: ByteChange<'_>) -> bool
         requires { is_loaded self.old change.block.0 ≡ true }
-        ensures { MatchBool result
-            (AllowsPart (byte_part change.entry) (block_at self.old.document change.entry.block.0).body
-            × (self.new ≡ record self.old {
-              document = after_part change.entry.block.0 (byte_part change.entry) self.old.document;
-            }))
-            ((AllowsPart (byte_part change.entry) (block_at self.old.document change.entry.block.0).body → ⊥)
-            × (self.new ≡ self.old)) }
+        ensures { TriesPart change.entry.block.0 (byte_part change.entry) self.old self.new result }
     {
         let frame = self.frames.peek_mut(change.block.0).unwrap();
         change_in_frame(frame, change)

@@ -1,23 +1,18 @@
-use Rattle.std.proofs.Common.{sym, ap, subst, ◌∙◌}
-use Rattle.std.specs.Prelude.{Result, Err}
-use Rattle.std.proofs.lemmas.Result.{err_from_is_err_and}
-use Rattle.geos_model.specs.declared.fault.Fault.{Fault}
+use Rattle.std.proofs.Common.{subst}
+use Rattle.std.specs.Prelude.{Bool}
 use Rattle.vm_blocks.specs.Changes.{directed_part}
-use Rattle.vm_blocks.specs.Preparing.{AppliesChange}
-use Rattle.vm_blocks.specs.declared.change.Change.TheVariants as changes
-use Rattle.vm_blocks.proofs.ChangeOutcomes.{turns_ready, turns_unready}
+use Rattle.vm_blocks.specs.InPlace.{TriesPart, used_last}
+use Rattle.vm_blocks.proofs.UsedInPlace.{turns_made, turns_refused}
 use Rattle.vm_blocks.proofs.file_blocks.FileBlocks.change_part.Goals as goal
 
-pub returns-in_err-ready_part : goal.returns-in_err-ready_part
-returns-in_err-ready_part g c =
-    let change = changes.Part c.args.handle (directed_part c.args.direction c.args.part.now) in
-    let p = err_from_is_err_and c.from_residual.result c.from_residual.ensures.1 in
-    subst (λ (r : Result (Unit {0}) Fault). AppliesChange g.S.Store.facts change c.args.self.now c.ready_part.new.self r) (sym (p.1 ∙ ap Err p.2))
-    (turns_unready g.S.Store.facts change c.args.self.now c.ready_part.new.self c.ready_part.ensures.keeps c.in_err-ready_part.field-0.0 c.in_err-ready_part.ensures.err
-    (λ here takes. absurd (cc (c.in_err-ready_part.ensures.sure here takes).0)) (λ far. let shut = c.in_err-ready_part.ensures.shut far in (cc shut.0, shut.1)))
+pub returns-in-Some-true : goal.returns-in-Some-true
+returns-in-Some-true g c =
+    let old = c.args.self.now in let new = c.change_resident_part.new.self in let b = c.args.handle in let part = directed_part c.args.direction c.args.part.now in let tried = c.in-Some-true.ensures in
+    turns_made g.S.Store.facts b part old new c.reveal_invariant.ensures.few tried.0
+    (subst (λ (made : Bool). TriesPart b.0 part (used_last old b.0) new made) c.in-Some-true.field-0-test tried.1)
 
-pub returns : goal.returns
-returns g c =
-    let change = changes.Part c.args.handle (directed_part c.args.direction c.args.part.now) in
-    turns_ready g.S.Store.facts change c.args.self.now c.ready_part.new.self c.ready_part.ensures.keeps c.carry_out_part.new.self c.in_ok-ready_part.ensures.loaded (λ far. cc (c.in_ok-ready_part.ensures.shut far).0)
-    (λ here takes. let sure = c.in_ok-ready_part.ensures.sure here takes in (sure.1, sure.2)) c.carry_out_part.ensures
+pub returns-in-Some-false : goal.returns-in-Some-false
+returns-in-Some-false g c =
+    let old = c.args.self.now in let new = c.change_resident_part.new.self in let b = c.args.handle in let part = directed_part c.args.direction c.args.part.now in let tried = c.in-Some-false.ensures in
+    turns_refused g.S.Store.facts b part old new c.reveal_invariant.ensures.few tried.0
+    (subst (λ (made : Bool). TriesPart b.0 part (used_last old b.0) new made) c.in-Some-false.field-0-test tried.1)
