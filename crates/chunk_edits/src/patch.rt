@@ -171,11 +171,6 @@ impl Patch {
         }
     }
 
-    /// Whether it takes an allocation: not where it was made as one exchange of few bytes.
-    pub fn has_allocation(&self) -> bool {
-        matches!(self.held, Held::Many(_))
-    }
-
     /// How many bytes it holds: those that go, and those that come.
     pub fn byte_count(&self) -> u64
         ensures { result ≡ total_held self.now }
