@@ -261,7 +261,24 @@ impl Held {
     }
 
     /// It has its pieces in an allocation from now on.
+    // Inlined, since most that get another piece have one.
+    #[inline(always)]
     fn take_allocation(&mut self) -> Result<(), AllocError>
+        requires { IsSound self.old }
+        ensures spans { spans_in self.new ≡ spans_in self.old }
+        ensures row { row_in self.new ≡ row_in self.old }
+        ensures short { IsShort self.new }
+        ensures many { OnOk result (has_allocation self.new ≡ true) }
+    {
+        match self {
+            Held::Many(_) => Ok(()),
+            Held::Alone { .. } => self.move_out(),
+        }
+    }
+
+    /// The same where it may have none.
+    #[inline(never)]
+    fn move_out(&mut self) -> Result<(), AllocError>
         requires { IsSound self.old }
         ensures spans { spans_in self.new ≡ spans_in self.old }
         ensures row { row_in self.new ≡ row_in self.old }
