@@ -45,8 +45,9 @@ impl<S: Store> FileBlocks<S> {
     }
 
     /// Replaces a run of bytes of a block in memory: its change is told to a recorder, with the bytes that go lent from
-    /// where they lie, and then made. Refused as `lent_change` is, and Memory where the recorder has none for it; then
-    /// nothing changes here. No store is called.
+    /// where they lie, and then made. NoChunk where its chunk isn't live; Range where it reaches past the end; TooBig
+    /// where a raw body, Full where the heap of a chunk has no room for what comes; Memory where the recorder has none
+    /// for it. Then nothing changes here. No store is called.
     pub fn replace_run<R: Recorder>(&mut self, run: Run<'_>, recorder: &mut R) -> Result<(), Fault>
         requires loaded { is_loaded self.old run.block.0 ≡ true }
         requires kind { IsKindOfRun run (block_at self.old.document run.block.0).body }
