@@ -8,7 +8,7 @@ use Rattle.geos_model.specs.Bytes.{spliced}
 use Rattle.geos_model.specs.Cost.{cost}
 use Rattle.geos_model.specs.Document.{Block, Document, block_at, chunks_of, is_heap_body, is_live, is_valid_body, no_block, raw_bytes_of, with_body}
 use Rattle.geos_model.specs.Heap.{ChunkMap, capacity, chunk_bytes, fits_with}
-use Rattle.geos_model.specs.Machine.{OneBody, edit_needs, kind_of}
+use Rattle.geos_model.specs.Machine.{OneBody, edit_needs, kind_of, needs_of_scope}
 use Rattle.geos_model.specs.Meaning.{chunk_at, conditions, effect, no_room, on_chunk, on_raw, past_end, too_big, with_chunk}
 use Rattle.geos_model.specs.Places.{places_of, raw_run}
 use Rattle.geos_model.specs.Refusal.{Conditions, first_refusal}
@@ -31,6 +31,7 @@ use Rattle.chunk_edits.specs.Splicing.{Splice}
 use Rattle.vm_store.specs.Facts.{StoreFacts}
 use Rattle.vm_blocks.specs.ByteChanges.{part_in}
 use Rattle.vm_blocks.specs.Keeping.{IsEnvironmentFault, KeepsBlocks, is_loaded}
+use Rattle.vm_blocks.specs.LoadedRuns.{LoadsAndReplaces, LoadsKind, is_kind_of_run}
 use Rattle.vm_blocks.specs.Runs.{AllowsRunAt, IsKindOfRun, RefusesRunAt, TriesRun, bytes_with_run, run_change}
 use Rattle.vm_blocks.specs.State.{CacheState}
 use Rattle.vm_blocks.specs.declared.change.Change.{Change}
@@ -44,8 +45,8 @@ use Rattle.doc_edits.specs.RunPlans.{IsRun, ReplacesRun, TriesEdit, planned_as}
 use Rattle.doc_edits.proofs.ChunkParts.{plain_built}
 use Rattle.doc_edits.proofs.ChunkPlans as plans
 use Rattle.doc_edits.proofs.Documents.{body_at, chunks_are}
-use Rattle.doc_edits.proofs.Loading.{IsBrought}
-use Rattle.doc_edits.proofs.Planned.{plans_brought}
+use Rattle.doc_edits.proofs.Loading.{IsBrought, chunk_brought, raw_brought}
+use Rattle.doc_edits.proofs.Planned.{plans_brought, plans_missed}
 use Rattle.doc_edits.proofs.Refusals.{no_chunk}
 
 -- in which part of the document a run lies
@@ -374,8 +375,45 @@ module _ {S R : Type 0} (facts : S → StoreFacts) (records : R → Change → R
         (plans_brought facts edit run.block needs a b kept brought loaded (planned_as change r) (planned_so change edit b.document r tested)
         (λ x freed. absurd (subst (λ (e : Edit). ReplacesRun e run) freed is))) tries
 
--- where it isn't brought in
-pub not_replaced : {S R : Type 0} (facts : S → StoreFacts) (records : R → Change → R → Type 0) (keeps : R → R → Type 0) (edit : Edit) (a b : CacheState S) (log : R) (fault : Fault)
-    → PlansEdit facts a b edit (Err fault) → (r : Result (Unit {0}) Fault) → IsErrAnd r (λ e. e ≡ fault) → TriesEdit facts records keeps edit a b log log r
-not_replaced facts records keeps edit a b log fault plans (Ok x) is = absurd is
-not_replaced facts records keeps edit a b log fault plans (Err e) is = (subst (λ (x : Fault). PlansEdit facts a b edit (Err x)) (sym is) plans, inl refl)
+-- What replacing it comes to in any block, which is brought in for it or isn't, is that.
+module _ {S R : Type 0} (facts : S → StoreFacts) (records : R → Change → R → Type 0) (keeps : R → R → Type 0) (edit : Edit) (run : Run) (a new : CacheState S) (log log' : R) (is : ReplacesRun edit run)
+    (r : Result (Unit {0}) Fault) where
+  abbrev block : VmHandle
+  block = run.block
+
+  abbrev Replaces : CacheState S → Result (Unit {0}) Fault → Type 0
+  Replaces b load =
+      MatchResult load (λ _. TriesRun facts records keeps run b new log log' r × (is_valid_body (block_at b.document block.0).body ≡ true))
+      (λ fault. (r ≡ Err fault) × (new ≡ b) × (log' ≡ log))
+
+  missed : (b : CacheState S) (fault : Fault) → PlansEdit facts a b edit (Err fault) → Replaces b (Err fault) → TriesEdit facts records keeps edit a new log log' r
+  missed b fault plans (err, same, kept) =
+      subst (λ (x : Result (Unit {0}) Fault). TriesEdit facts records keeps edit a new log log' x) (sym err) (subst (λ (s : CacheState S). PlansEdit facts a s edit (Err fault)) (sym same) plans, inl kept)
+
+  in_kind : (o : Option ChunkHandle) → run.chunk ≡ o → (b : CacheState S) (load : Result (Unit {0}) Fault) → LoadsKind facts (is_kind_of_run o) block.0 a b load → Replaces b load
+      → TriesEdit facts records keeps edit a new log log' r
+  in_kind None here b (Ok x) loads (tries, valid) =
+      let scope : scope_of edit ≡ scopes.Raw block = run_scope edit run is ∙ ap (scope_of_run block) here in
+      replaced_in facts records keeps edit run a b new log log' is loads.keeps loads.ok.0
+      (raw_brought (IsEnvironmentFault facts a.disk.store b.disk.store) edit a b block (Ok tt) scope loads.early loads.shut loads.err loads.already)
+      (kind_raw (get b.document.blocks block.0) loads.ok.1 ∙ sym (ap is_some here)) (ap needs_of_scope scope) r tries valid
+  in_kind None here b (Err fault) loads replaces =
+      let scope : scope_of edit ≡ scopes.Raw block = run_scope edit run is ∙ ap (scope_of_run block) here in
+      missed b fault
+      (plans_missed facts edit block (ap needs_of_scope scope) a b loads.keeps fault
+      (raw_brought (IsEnvironmentFault facts a.disk.store b.disk.store) edit a b block (Err fault) scope loads.early loads.shut loads.err loads.already) (Err fault) refl)
+      replaces
+  in_kind (Some k) here b (Ok x) loads (tries, valid) =
+      let scope : scope_of edit ≡ scopes.Chunk block k = run_scope edit run is ∙ ap (scope_of_run block) here in
+      replaced_in facts records keeps edit run a b new log log' is loads.keeps loads.ok.0
+      (chunk_brought (IsEnvironmentFault facts a.disk.store b.disk.store) edit a b block (Ok tt) k scope loads.early loads.shut loads.err loads.already)
+      (kind_heap (get b.document.blocks block.0) loads.ok.1 ∙ sym (ap is_some here)) (ap needs_of_scope scope) r tries valid
+  in_kind (Some k) here b (Err fault) loads replaces =
+      let scope : scope_of edit ≡ scopes.Chunk block k = run_scope edit run is ∙ ap (scope_of_run block) here in
+      missed b fault
+      (plans_missed facts edit block (ap needs_of_scope scope) a b loads.keeps fault
+      (chunk_brought (IsEnvironmentFault facts a.disk.store b.disk.store) edit a b block (Err fault) k scope loads.early loads.shut loads.err loads.already) (Err fault) refl)
+      replaces
+
+  pub tried_edit : LoadsAndReplaces facts records keeps run a new log log' r → TriesEdit facts records keeps edit a new log log' r
+  tried_edit all = in_kind run.chunk refl all.loaded all.load all.loads all.replaces

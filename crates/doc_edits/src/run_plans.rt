@@ -2,8 +2,7 @@
 //! where they lie.
 ghost use Rattle.std.specs.Prelude.{◌≡◌, MatchOption, is_some};
 ghost use Rattle.geos_model.specs.Targets.{byte_edit, edit_of, raw_edit};
-ghost use Rattle.geos_model.specs.declared.command.Edit.{Edit};
-ghost use Rattle.doc_edits.specs.RunPlans.{MakesAsRun, ReplacesRun, TriesEdit, is_run_edit};
+ghost use Rattle.doc_edits.specs.RunPlans.{MakesAsRun, ReplacesRun, is_run_edit};
 
 use geos_model::{ByteEdit, ChunkEdit, ChunkHandle, Fault, RawEdit, Target, VmHandle};
 use vm_blocks::{FileBlocks, Recorder, Run};
@@ -25,30 +24,8 @@ pub fn make_run<S: Store, R: Recorder>(
     let Some(run) = run_of(target) else {
         return Ok(false);
     };
-    replace_run(blocks, run, recorder)?;
+    blocks.replace_run(run, recorder)?;
     Ok(true)
-}
-
-/// Brings the block of a run into memory, and replaces it there, unless the edit which does that is refused.
-fn replace_run<S: Store, R: Recorder>(
-    blocks: &mut FileBlocks<S>,
-    run: Run<'_>,
-    recorder: &mut R,
-) -> Result<(), Fault>
-    requires { R.ready recorder.old }
-    ensures { (edit : Edit) → ReplacesRun edit run.entry
-        → TriesEdit S.facts R.records R.keeps edit blocks.old blocks.new recorder.old recorder.new result }
-{
-    match run.chunk {
-        None => {
-            blocks.load_raw(run.block)?;
-            blocks.replace_run(run, recorder)
-        }
-        Some(_) => {
-            blocks.load_heap(run.block)?;
-            blocks.replace_run(run, recorder)
-        }
-    }
 }
 
 /// The run that an edit of a target replaces, if it does.

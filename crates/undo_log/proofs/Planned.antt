@@ -1,5 +1,5 @@
 -- From the plan of an edit to what making it comes to.
-use Rattle.std.proofs.Common.{◌≡◌, Bool, true, false, Err, Ok, Result, inl, inr, refl, sym, ap, ◌∙◌}
+use Rattle.std.proofs.Common.{◌≡◌, Bool, true, false, Err, MatchResult, Ok, Result, inl, inr, refl, sym, ap, ◌∙◌}
 use Rattle.std.proofs.lemmas.Bool.{true≢false}
 use Rattle.geos_model.specs.Machine.{kind_of}
 use Rattle.geos_model.specs.Meaning.{conditions}
@@ -18,7 +18,7 @@ use Rattle.vm_blocks.proofs.KeepingLaws.{honest-steady, keeps-trans, lacks-later
 use Rattle.doc_edits.specs.Planning.{PlansEdit}
 use Rattle.doc_edits.specs.RunPlans.{MakesAsRun}
 use Rattle.undo_log.specs.Logging.{LogState, with_change}
-use Rattle.undo_log.specs.Making.{MakesEdit, MakesRun}
+use Rattle.undo_log.specs.Making.{MakesEdit, RecordsEdit}
 use Rattle.undo_log.proofs.Edited.{IsSurelyMade, made_at_rest, made_of_plan, never_refused, none_come_in, reads_chain}
 
 module _ {S : Type 0} (facts : S → StoreFacts) (old mid : CacheState S) (edit : Edit) where
@@ -83,7 +83,16 @@ module _ {S : Type 0} (facts : S → StoreFacts) (old mid : CacheState S) (edit 
             made_at_rest facts old mid plan.keeps edit change done new result unchanged.0 unchanged.1 other planned sure;
       }
 
--- An edit that replaces a run, as it was made.
+-- An edit that replaces a run is made and recorded in one; any other changes nothing.
+
+abbrev IsRunMade : {S : Type 0} → (S → StoreFacts) → Edit → CacheState S → CacheState S → LogState → LogState → Bool → Type 0
+IsRunMade facts edit old new log log' true = RecordsEdit facts edit old new log.lists log'.lists Nothing
+IsRunMade facts edit old new log log' false = (new ≡ old) × (log' ≡ log)
+
+abbrev pub MakesRun : {S : Type 0} → (S → StoreFacts) → Edit → CacheState S → CacheState S → LogState → LogState → Result Bool Fault → Type 0
+MakesRun facts edit old new log log' result =
+    MatchResult result (IsRunMade facts edit old new log log') (λ fault. MakesEdit facts edit old new (Err fault) × (log'.lists ≡ log.lists))
+
 pub as_run : {S : Type 0} (facts : S → StoreFacts) (old new : CacheState S) (edit : Edit) (log log' : LogState) (r : Result Bool Fault)
     → MakesAsRun facts (λ from change to. to.lists ≡ with_change change from.lists) (λ from to. to.lists ≡ from.lists) edit old new log log' r → MakesRun facts edit old new log log' r
 as_run facts old new edit log log' (Ok true) (run, made_so) = record {

@@ -194,12 +194,11 @@ added_to (Some cs) c log = record (without_redo log) { group = Some (c ∷ cs); 
 abbrev pub with_change : Change → Log → Log
 with_change c log = added_to log.group c log
 
--- The change of an edit is the first entry to be undone once it was added: no group is open, nothing is left to make
--- again, and the limit leaves one at least.
+-- A change that is added is an entry of its own, and nothing goes for it but by the limit: no group is open, and
+-- nothing is left to make again.
 pub record TakesBytes (log : Log) : Type 0 where
   pub closed : log.group ≡ None
   pub none : log.redo ≡ []
-  pub leaves : log.limit ≢ Some 0
 
 -- So are those of an edit of a large array together, in the order in which they were made.
 abbrev pub all_added_to : Option (List Change) → List Change → Log → Log

@@ -1,12 +1,11 @@
 -- An edit that was planned, and whose change was made.
-use Rattle.std.specs.Prelude.{◌≡◌, ◌≢◌, ◌⊎◌, ◌<◌, ◌∷◌, Bool, true, false, IsTrue, List, Some, length, Result, Ok, Err, IfErr, IfOk, MatchResult, OnErr}
+use Rattle.std.specs.Prelude.{◌≡◌, ◌≢◌, ◌⊎◌, ◌<◌, ◌∷◌, true, false, IsTrue, List, Some, length, Result, Ok, Err, IfErr, IfOk, MatchResult, OnErr}
 use Rattle.std.specs.Result.{IsErrAnd}
 use Rattle.geos_model.specs.Document.{Document}
 use Rattle.geos_model.specs.Machine.{edit_needs, kind_of}
 use Rattle.geos_model.specs.Meaning.{conditions, effect}
 use Rattle.geos_model.specs.Refusal.{first_refusal}
 use Rattle.geos_model.specs.declared.command.Done.{Done}
-use Rattle.geos_model.specs.declared.command.Done.TheVariants.{Nothing}
 use Rattle.geos_model.specs.declared.command.Edit.{Edit}
 use Rattle.geos_model.specs.declared.command.Kind.TheVariants.{Made, Plain}
 use Rattle.geos_model.specs.declared.fault.Fault.{Fault}
@@ -19,7 +18,7 @@ use Rattle.vm_blocks.specs.Preparing.{CanApplyAllByHandle, CanApplyByHandle, Are
 use Rattle.vm_blocks.specs.declared.change.Change.{Change}
 use Rattle.doc_edits.specs.Planning.{is_of_chain, kind_of_change, IsManyBlocksFault, Plans, PlansAll, RefusesEdit, RefusesInMemory}
 use Rattle.doc_edits.specs.Room.{lacks_frames, IsRefusedUnseen, ReadsNothing}
-use Rattle.undo_log.specs.Logging.{Log, LogState, with_change}
+use Rattle.undo_log.specs.Logging.{Log, with_change}
 
 -- What a change means that was made, over any store: the edit, of the document as it was held once its block was
 -- loaded, and the answer. Where no block comes in, the document from then on is just what the edit makes of that one.
@@ -90,17 +89,3 @@ MakesRecorded facts edit old new log log' result =
     MatchResult result
     (RecordsEdit facts edit old new log log')
     (λ fault. MakesEdit facts edit old new (Err fault) × (log' ≡ log))
-
--- An edit that replaces a run of bytes is made so; any other changes nothing.
-
-abbrev pub IsRunMade : {S : Type 0} → (S → StoreFacts) → Edit → CacheState S → CacheState S → LogState → LogState
-    → Bool → Type 0
-IsRunMade facts edit old new log log' true = RecordsEdit facts edit old new log.lists log'.lists Nothing
-IsRunMade facts edit old new log log' false = (new ≡ old) × (log' ≡ log)
-
-abbrev pub MakesRun : {S : Type 0} → (S → StoreFacts) → Edit → CacheState S → CacheState S → LogState → LogState
-    → Result Bool Fault → Type 0
-MakesRun facts edit old new log log' result =
-    MatchResult result
-    (IsRunMade facts edit old new log log')
-    (λ fault. MakesEdit facts edit old new (Err fault) × (log'.lists ≡ log.lists))

@@ -126,21 +126,17 @@ impl UndoLog {
         self.push_change(alloc, change);
     }
 
-    /// Whether a change of bytes that are lent can be added: no group is open, nothing is left to make again, and the
-    /// limit leaves the newest step.
-    pub(crate) fn takes_bytes(&self) -> bool
+    // Whether a change of bytes that are lent can be added with no change of its own: no group is open, and nothing is
+    // left to make again.
+    fn takes_bytes(&self) -> bool
         ensures { OnTrue result (TakesBytes self.now.lists) }
     {
-        self.group.is_none() && self.steps.redo_count() == 0 && self.limit != Some(0)
+        self.group.is_none() && self.steps.redo_count() == 0
     }
 
-    /// The change of an edit of bytes that are lent is the newest, and is to be made from there on. Where it can't be a
-    /// short step, there may be no memory for it.
-    pub(crate) fn add_bytes(
-        &mut self,
-        alloc: Global,
-        change: ByteChange<'_>,
-    ) -> Result<(), AllocError>
+    // The change of an edit of bytes that are lent is the newest. Where it can't be a short step, there may be no memory
+    // for it.
+    fn add_bytes(&mut self, alloc: Global, change: ByteChange<'_>) -> Result<(), AllocError>
         requires place { self.old.place ≡ true }
         requires takes { TakesBytes self.old.lists }
         requires old { length change.old.now < 2 ^ 16 }
@@ -544,17 +540,23 @@ impl UndoLog {
 }
 
 impl Recorder for UndoLog {
-    ghost use Rattle.std.specs.Prelude.{◌≡◌, true};
-    ghost use Rattle.undo_log.specs.Logging.{TakesBytes, with_change};
+    ghost use Rattle.std.specs.Prelude.{◌≡◌, ◌≤◌, true, is_some};
+    ghost use Rattle.undo_log.specs.Logging.{with_change};
 
-    ghost ready = { λ log. (log.place ≡ true) × TakesBytes log.lists };
+    ghost ready = { λ log. (log.place ≡ true) × (is_some log.lists.group ≡ true → 1 ≤ log.spare) };
 
     ghost records = { λ old change new. new.lists ≡ with_change change old.lists };
 
     ghost keeps = { λ old new. new.lists ≡ old.lists };
 
     fn record(&mut self, alloc: Global, change: ByteChange<'_>) -> Result<(), AllocError> {
-        self.add_bytes(alloc, change)
+        if self.takes_bytes() {
+            return self.add_bytes(alloc, change);
+        }
+        // What can be made again goes no sooner than there is memory for the change.
+        let change = change.to_change(alloc)?;
+        self.add(alloc, change);
+        Ok(())
     }
 }
 

@@ -5,10 +5,10 @@ ghost use Rattle.vm_blocks.specs.Keeping.{KeepsBlocks};
 ghost use Rattle.vm_blocks.specs.Preparing.{AreApplied, CanApplyAllByHandle, CantPrepareAll};
 ghost use Rattle.vm_blocks.specs.State.{locked_count};
 ghost use Rattle.undo_log.specs.Locking.{bars};
-ghost use Rattle.undo_log.specs.Making.{MakesEdit, MakesRecorded, MakesRun};
+ghost use Rattle.undo_log.specs.Making.{MakesEdit, MakesRecorded};
 
 use crate::log::UndoLog;
-use doc_edits::{mark_edited, plan};
+use doc_edits::{make_run, mark_edited, plan};
 use geos_model::{BlockEdit, Done, Fault, Target};
 use std::alloc::Global;
 use vm_blocks::{Change, Direction, FileBlocks};
@@ -53,29 +53,13 @@ pub fn make_recorded<S: Store>(
     requires spare { is_some log.old.lists.group ≡ true → 1 ≤ log.old.spare }
     ensures { MakesRecorded S.facts (edit_of target.entry) blocks.old blocks.new log.old.lists log.new.lists result }
 {
-    if make_run(blocks, log, target)? {
+    // Of a run of bytes those that go, and those that come in, are copied nowhere but into the log.
+    if make_run(blocks, target, log)? {
         return Ok(Done::Nothing);
     }
     let (change, done) = make(alloc, blocks, target)?;
     log.add(alloc, change);
     Ok(done)
-}
-
-// Makes an edit that replaces a run of bytes, and records it as the newest of the log: the bytes that go, and those that
-// come in, are copied nowhere else. Whether it is such an edit.
-fn make_run<S: Store>(
-    blocks: &mut FileBlocks<S>,
-    log: &mut UndoLog,
-    target: Target<'_>,
-) -> Result<bool, Fault>
-    requires { log.old.place ≡ true }
-    ensures { MakesRun S.facts (edit_of target.entry) blocks.old blocks.new log.old log.new result }
-{
-    if log.takes_bytes() {
-        doc_edits::make_run(blocks, target, log)
-    } else {
-        Ok(false)
-    }
 }
 
 /// Makes changes one after another, the first one first, all or none. No block is locked.

@@ -19,6 +19,7 @@ pub mod Incoming
 pub mod KeepingLaws
 pub mod KindLemmas
 pub mod Listing
+pub mod LoadedRuns
 pub mod Locking
 pub mod Locks
 pub mod ManyBlocks

@@ -51,13 +51,13 @@ module _ {S : Type 0} (facts : S → StoreFacts) (file : FileState S) (es : List
       abbrev first : List (ℕ × Frame)
       first = promoted (nat_eq h) es
 
-      here_first : frame_of first h ≡ Some f
+      pub here_first : frame_of first h ≡ Some f
       here_first = first_frame facts file es cap state view h distinct sound ∙ here
 
-      seen_first : shown file first cap ≡ used_last state h
+      pub seen_first : shown file first cap ≡ used_last state h
       seen_first = first_shown facts file es cap state view h distinct sound
 
-      loaded_first : is_loaded (used_last state h) h ≡ true
+      pub loaded_first : is_loaded (used_last state h) h ≡ true
       loaded_first = last_loaded state h present
 
       -- a part is changed

@@ -10,6 +10,7 @@ pub mod InPlace
 pub mod Incoming
 pub mod Keeping
 pub mod Kinds
+pub mod LoadedRuns
 pub mod Locking
 pub mod Opening
 pub mod Parts

@@ -301,6 +301,7 @@ impl<S: Store> FileBlocks<S> {
     ) -> Option<bool>
         ensures { TriesPartInMemory handle.0 (directed_part direction part.now) self.old self.new result }
     {
+        // That no block has two frames is known where they are counted.
         let _count = self.frames.len();
         let frame = self.frames.get_mut(handle.0)?;
         Some(change_part_in_frame(frame, part, direction))

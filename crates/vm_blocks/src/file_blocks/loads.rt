@@ -89,8 +89,8 @@ impl<S: Store> FileBlocks<S> {
         self.load_live(handle)
     }
 
-    // Whether the block under a handle is a heap; none where no block is live there.
-    fn kind(&self, handle: VmHandle) -> Option<bool>
+    /// Whether the block under a handle is a heap; none where no block is live there.
+    pub(crate) fn kind(&self, handle: VmHandle) -> Option<bool>
         ensures { MatchOption result (is_live self.now.document handle.0 ≡ false)
             (λ kind. (is_live self.now.document handle.0 ≡ true)
             × (is_heap self.now.document handle.0 ≡ kind)) }
