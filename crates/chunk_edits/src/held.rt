@@ -138,12 +138,12 @@ impl Exchange<'_> {
 /// How many bytes that go or come a patch holds without an allocation, if it is of one exchange.
 pub(crate) const ALONE_BYTES: usize = 16;
 
-/// How many spans any other holds in its one allocation, as many as an edit of an array of elements of one size has; for
-/// more it takes another.
+/// How many spans any other holds in its one allocation, as many as an edit of an array of elements of one size has;
+/// for more it takes another.
 pub(crate) const FEW_SPANS: usize = 4;
 
 /// How many bytes that go or come it holds there too; for more it takes another.
-pub(crate) const FEW_BYTES: usize = 24;
+pub const FEW_BYTES: usize = 24;
 
 /// What a patch holds in its allocation.
 #[derive(Drop)]

@@ -13,7 +13,7 @@ mod runs;
 
 pub use chunk::{apply, apply_back, delete, insert, resize, splice, write};
 pub use direction::Direction;
-pub use held::Exchange;
+pub use held::{Exchange, FEW_BYTES};
 pub use law::{patch_law, splice_law};
 pub use parts::{Splice, copied};
 pub use patch::{Patch, apply_patch};

@@ -67,8 +67,8 @@ impl Patch {
         Ok(Patch { held })
     }
 
-    /// The patch of so many bytes that stay, of some behind them that go, with what comes in their place, and of so many
-    /// more that stay. It has no room for others.
+    /// The patch of so many bytes that stay, of some behind them that go, with what comes in their place, and of so
+    /// many more that stay. It takes no allocation where few bytes go and come.
     pub fn replacing(
         alloc: Global,
         before: u32,
