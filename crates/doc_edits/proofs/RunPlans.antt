@@ -3,7 +3,6 @@ use Rattle.std.proofs.Common.{◌≡◌, ◌≢◌, ◌≤◌, ◌+◌, ◌⊎�
 use Rattle.std.proofs.lemmas.Bool.{cases_lt, le-ltb, leb-true, lt-ltb}
 use Rattle.std.specs.FinMap.{get, contains_key}
 use Rattle.std.specs.Option.{option_map, option_map_or}
-use Rattle.std.specs.Result.{IsErrAnd}
 use Rattle.geos_model.specs.Bytes.{spliced}
 use Rattle.geos_model.specs.Cost.{cost}
 use Rattle.geos_model.specs.Document.{Block, Document, block_at, chunks_of, is_heap_body, is_live, is_valid_body, no_block, raw_bytes_of, with_body}

@@ -63,6 +63,7 @@ impl KeptSteps {
     }
 
     /// The change of an edit is the newest step: a short one where it can be, if there is memory for its bytes.
+    #[inline(always)]
     pub(crate) fn push_change(&mut self, change: Change)
         requires place { self.old.place ≡ true }
         requires none { self.old.redo ≡ [] }

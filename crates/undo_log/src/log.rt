@@ -111,6 +111,7 @@ impl UndoLog {
     }
 
     /// The change of an edit that was made is the newest.
+    #[inline(always)]
     pub(crate) fn add(&mut self, alloc: Global, change: Change)
         requires place { self.old.place ≡ true }
         requires spare { is_some self.old.lists.group ≡ true → 1 ≤ self.old.spare }
@@ -155,6 +156,23 @@ impl UndoLog {
         }
     }
 
+    // So is it with bytes of its own, in a group too, and where something is left to make again. That goes no sooner than
+    // there is memory for the change.
+    #[inline(never)]
+    fn add_copy(&mut self, alloc: Global, change: ByteChange<'_>) -> Result<(), AllocError>
+        requires place { self.old.place ≡ true }
+        requires spare { is_some self.old.lists.group ≡ true → 1 ≤ self.old.spare }
+        requires old { length change.old.now < 2 ^ 16 }
+        requires new { length change.new.now < 2 ^ 32 }
+        ensures { MatchResult result
+            (λ _. self.new.lists ≡ with_change (byte_change change.entry) self.old.lists)
+            (λ _. self.new.lists ≡ self.old.lists) }
+    {
+        let change = change.to_change(alloc)?;
+        self.add(alloc, change);
+        Ok(())
+    }
+
     /// So are those of an edit of a large array together, in the order in which they were made.
     pub(crate) fn add_all(&mut self, alloc: Global, changes: Vec<Change>)
         requires place { self.old.place ≡ true }
@@ -187,6 +205,7 @@ impl UndoLog {
     }
 
     // The change of an edit is the newest step, and the limit may take the oldest.
+    #[inline(always)]
     fn push_change(&mut self, alloc: Global, change: Change)
         requires place { self.old.place ≡ true }
         requires closed { self.old.lists.group ≡ None }
@@ -551,12 +570,10 @@ impl Recorder for UndoLog {
 
     fn record(&mut self, alloc: Global, change: ByteChange<'_>) -> Result<(), AllocError> {
         if self.takes_bytes() {
-            return self.add_bytes(alloc, change);
+            self.add_bytes(alloc, change)
+        } else {
+            self.add_copy(alloc, change)
         }
-        // What can be made again goes no sooner than there is memory for the change.
-        let change = change.to_change(alloc)?;
-        self.add(alloc, change);
-        Ok(())
     }
 }
 
