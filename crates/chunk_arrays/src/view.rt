@@ -236,14 +236,64 @@ impl<'a> View<'a> {
         if from == count {
             return None;
         }
+        if let Some(i) = self.first_inner(from, byte) {
+            return Some(i);
+        }
+        let end = bytes[bytes.len() - 1];
+        if end == byte { Some(count - 1) } else { None }
+    }
+
+    /// The same of all elements but the last, each of which ends where another begins.
+    fn first_inner(&self, from: usize, byte: u8) -> Option<usize>
+        requires { from < length self.now.array.elements }
+        ensures { MatchOption result
+            (NoneEnds self.now.array from (length self.now.array.elements - 1) byte)
+            (λ i. (from ≤ i) × (i < length self.now.array.elements) × NoneEnds self.now.array from i byte) }
+    {
+        if self.element_size() == 0 {
+            self.first_listed(from, byte)
+        } else {
+            self.first_placed(from, byte)
+        }
+    }
+
+    /// The same where sizes vary, by the table of places alone. A search spends nearly all of its time here.
+    fn first_listed(&self, from: usize, byte: u8) -> Option<usize>
+        requires any { self.now.array.size ≡ 0 }
+        requires within { from < length self.now.array.elements }
+        ensures { MatchOption result
+            (NoneEnds self.now.array from (length self.now.array.elements - 1) byte)
+            (λ i. (from ≤ i) × (i < length self.now.array.elements) × NoneEnds self.now.array from i byte) }
+    {
+        let bytes = self.bytes;
+        let start = self.start;
+        let count = self.count;
+        for i in from + 1..count {
+            let place = word(bytes, start + 2 * i);
+            let last = bytes[place - 1];
+            if last == byte {
+                return Some(i - 1);
+            }
+        }
+        None
+    }
+
+    /// The same of elements of any sizes.
+    fn first_placed(&self, from: usize, byte: u8) -> Option<usize>
+        requires { from < length self.now.array.elements }
+        ensures { MatchOption result
+            (NoneEnds self.now.array from (length self.now.array.elements - 1) byte)
+            (λ i. (from ≤ i) × (i < length self.now.array.elements) × NoneEnds self.now.array from i byte) }
+    {
+        let bytes = self.bytes();
+        let count = self.count();
         for i in from + 1..count {
             let last = bytes[self.place(i) - 1];
             if last == byte {
                 return Some(i - 1);
             }
         }
-        let end = bytes[bytes.len() - 1];
-        if end == byte { Some(count - 1) } else { None }
+        None
     }
 
     /// Where an element begins among the array's bytes, or where the last one ends. A table of places gives only places
@@ -256,9 +306,19 @@ impl<'a> View<'a> {
         if i == self.count {
             self.bytes.len()
         } else if self.size == 0 {
-            word(self.bytes, self.start + 2 * i)
+            self.listed_place(i)
         } else {
             self.start + i * self.size
         }
+    }
+
+    /// Where an element begins by the table of places.
+    fn listed_place(&self, i: usize) -> usize
+        requires any { self.now.array.size ≡ 0 }
+        requires within { i < length self.now.array.elements }
+        ensures place { result ≡ element_place self.now.array i }
+        ensures near { result < 2 ^ 16 }
+    {
+        word(self.bytes, self.start + 2 * i)
     }
 }
