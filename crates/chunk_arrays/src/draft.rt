@@ -60,6 +60,9 @@ impl Draft {
         requires { self.old.kept + length new.now < 2 ^ 32 }
         ensures { IfOk result (λ _. Adds self.old self.new old.now new.now) }
     {
+        if old.is_empty() {
+            return self.put(old, new);
+        }
         let changed = compare(old, new);
         self.keep(&old[..changed.front]);
         self.put(changed.old, changed.new)?;

@@ -296,12 +296,15 @@ fn draft_head(
     Ok(())
 }
 
-/// Adds the first of the extra bytes, with others in their place. Most often these are a word.
+/// Adds the first of the extra bytes, with others in their place. Most often these are none, or a word.
 fn draft_first(draft: &mut Draft, old: &[u8], new: &[u8]) -> Result<(), AllocError>
     requires alike { length old.now ≡ length new.now }
     requires room { draft.old.kept + length new.now < 2 ^ 32 }
     ensures { IfOk result (λ _. Adds draft.old draft.new old.now new.now) }
 {
+    if new.is_empty() {
+        return Ok(());
+    }
     if new.len() != 2 {
         return draft.put(old, new);
     }

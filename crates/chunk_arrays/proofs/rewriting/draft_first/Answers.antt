@@ -1,7 +1,14 @@
-use Rattle.std.proofs.Common.{◌∙◌, ℕ, List, ap, refl}
+use Rattle.std.proofs.Common.{◌≡◌, ◌∙◌, ℕ, List, [], length, sym, ap, refl}
+use Rattle.std.proofs.lemmas.Bool.{eqb-true}
 use Rattle.geos_model.specs.Words.{word}
-use Rattle.chunk_arrays.proofs.DraftingLemmas.{adds-as, word_again}
+use Rattle.chunk_arrays.proofs.DraftingLemmas.{adds-as, adds-none, no_bytes, word_again}
 use Rattle.chunk_arrays.proofs.rewriting.draft_first.Goals as goal
+
+-- none of either
+pub returns-then-is_empty : goal.returns-then-is_empty
+returns-then-is_empty c =
+    let none : length c.args.new.now ≡ 0 = eqb-true (length c.args.new.now) 0 (sym c.if-is_empty.ensures) in
+    adds-as c.args.draft.now c.args.draft.now [] [] _ _ (sym (no_bytes c.args.old.now (c.requires.alike ∙ none))) (sym (no_bytes c.args.new.now none)) (adds-none c.args.draft.now)
 
 pub put_word-requires-clause-two : goal.put_word-requires-clause-two
 put_word-requires-clause-two c = c.requires.alike ∙ c.if-new-ne2.false
