@@ -1,10 +1,11 @@
 -- Patches that are drawn up a piece at a time.
-use Rattle.std.proofs.Common.{◌≡◌, ℕ, ◌+◌, ◌/◌, ◌%◌, ◌<◌, ◌≤◌, ◌==◌, max, List, [], ◌∷◌, ◌++◌, length, take, drop, get_or, inl, inr, refl, sym, ap, ap₂, subst, ◌∙◌, arith, length-append, append_assoc, append-nil}
+use Rattle.std.proofs.Common.{◌≡◌, ℕ, ◌+◌, ◌-◌, ◌*◌, ◌/◌, ◌%◌, ◌^◌, ◌<◌, ◌≤◌, ◌==◌, max, List, [], ◌∷◌, ◌++◌, length, take, drop, get_or, inl, inr, refl, sym, ap, ap₂, subst, ◌∙◌, arith, length-append, append_assoc, append-nil}
 use Rattle.std.proofs.lemmas.Bool.{cases_Bool, cond-true, cond-false, eqb-true, eq-eqb}
 use Rattle.std.proofs.lemmas.List.{take_all, drop_all, take-append-drop, take-append-le, drop-append-le, get_or_default}
 use Rattle.std.proofs.lemmas.List.Sums.{sum_by-append}
-use Rattle.chunk_edits.specs.Patching.{PatchPiece, Keep, Put, Rebase, taken, given, peak, piece_after, patched, IsPieceOf, ArePiecesOf, PatchLeads}
-use Rattle.chunk_edits.proofs.PatchingLemmas.{taken-cons, peak-cons, pieces_length, piece_after-length}
+use Rattle.chunk_edits.specs.Patching.{PatchPiece, Keep, Put, Rebase, taken, given, peak, piece_after, patched, rebased, IsPieceOf, ArePiecesOf, PatchLeads}
+use Rattle.geos_model.specs.Words.{word, word_at}
+use Rattle.chunk_edits.proofs.PatchingLemmas.{taken-cons, peak-cons, pieces_length, piece_after-length, word-of_bytes, word-same}
 use Rattle.chunk_arrays.specs.Drafting.{drawn, settled, Draws, Adds}
 use Rattle.chunk_arrays.specs.declared.draft.Draft.{Draft}
 
@@ -222,3 +223,16 @@ words_piece bytes words from to is whole all = (omega arith, λ i d l. subst (λ
 pub no_bytes : (bytes : List ℕ) → length bytes ≡ 0 → bytes ≡ []
 no_bytes [] none = refl
 no_bytes (b ∷ bytes) none = absurd (omega arith)
+
+-- two bytes are the word that they spell
+pub word_again : (bytes : List ℕ) → length bytes ≡ 2 → ((i : ℕ) → get_or bytes i 0 < 256) → word (word_at bytes 0) ≡ bytes
+word_again [] two all = absurd (omega arith)
+word_again (a ∷ []) two all = absurd (omega arith)
+word_again (a ∷ b ∷ []) two all =
+    let is : word_at (a ∷ b ∷ []) 0 ≡ a + 256 * b = omega arith in
+    ap word is ∙ word-of_bytes a b (all 0) (all 1)
+word_again (a ∷ b ∷ d ∷ bytes) two all = absurd (omega arith)
+
+-- one word, rebased from what it is
+pub rebased_one : (bytes : List ℕ) (from to : ℕ) → from ≡ word_at bytes 0 → rebased 1 from to bytes ≡ word to
+rebased_one bytes from to is = word-same (word_at bytes 0 + to + (2 ^ 16 - from % 2 ^ 16)) to (omega (arith, is))

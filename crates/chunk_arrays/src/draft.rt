@@ -1,8 +1,10 @@
 //! A patch that is drawn up from the first byte of a chunk on.
 ghost use Rattle.std.specs.Prelude.{◌≡◌, ◌+◌, ◌/◌, ◌%◌, ◌^◌, ◌<◌, [], IfOk, length};
 ghost use Rattle.chunk_edits.specs.Patching.{rebased};
+ghost use Rattle.geos_model.specs.Words.{word};
 
 use crate::difference::compare;
+use byteorder::{ByteOrder, LittleEndian};
 use chunk_edits::Patch;
 use std::alloc::{AllocError, Global};
 
@@ -58,6 +60,9 @@ impl Draft {
         requires { self.old.kept + length new.now < 2 ^ 32 }
         ensures { IfOk result (λ _. Adds self.old self.new old.now new.now) }
     {
+        if old.is_empty() {
+            return self.put(old, new);
+        }
         let changed = compare(old, new);
         self.keep(&old[..changed.front]);
         self.put(changed.old, changed.new)?;
@@ -74,6 +79,20 @@ impl Draft {
         self.replace(first, new)?;
         self.cut(rest)?;
         Ok(())
+    }
+
+    /// A word more, and another in its place. The patch holds no bytes of them.
+    pub fn put_word(&mut self, old: &[u8], new: u16) -> Result<(), AllocError>
+        requires two { length old.now ≡ 2 }
+        requires room { self.old.kept + 2 < 2 ^ 32 }
+        ensures { IfOk result (λ _. Adds self.old self.new old.now (word new)) }
+    {
+        let from = LittleEndian::read_u16(old);
+        if from == new {
+            self.keep(old);
+            return Ok(());
+        }
+        self.rebase(old, from, new)
     }
 
     /// These words more, of which each becomes as far behind `to`, modulo 2^16, as it is behind `from`.

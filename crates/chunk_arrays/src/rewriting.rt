@@ -15,6 +15,7 @@ use crate::View;
 use crate::difference::compare;
 use crate::draft::Draft;
 use crate::runs::runs_of;
+use byteorder::{ByteOrder, LittleEndian};
 use chunk_edits::{ArrayPatch, Exchange, Patch};
 use geos_model::{Fault, LONGEST_CHUNK};
 use std::alloc::{AllocError, Global};
@@ -288,11 +289,26 @@ fn draft_head(
 {
     let header = view.bytes();
     let extra = view.extra();
-    let number = count as u16;
-    draft.put(&header[..2], number.to_le_bytes().as_slice())?;
+    draft.put_word(&header[..2], count as u16)?;
     draft.keep(&header[2..8]);
-    draft.put(&extra[..first.len()], first)?;
+    draft_first(draft, &extra[..first.len()], first)?;
     draft.keep(&extra[first.len()..]);
+    Ok(())
+}
+
+/// Adds the first of the extra bytes, with others in their place. Most often these are none, or a word.
+fn draft_first(draft: &mut Draft, old: &[u8], new: &[u8]) -> Result<(), AllocError>
+    requires alike { length old.now ≡ length new.now }
+    requires room { draft.old.kept + length new.now < 2 ^ 32 }
+    ensures { IfOk result (λ _. Adds draft.old draft.new old.now new.now) }
+{
+    if new.is_empty() {
+        return Ok(());
+    }
+    if new.len() != 2 {
+        return draft.put(old, new);
+    }
+    draft.put_word(old, LittleEndian::read_u16(new))?;
     Ok(())
 }
 

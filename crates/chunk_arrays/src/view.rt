@@ -1,5 +1,5 @@
 //! An array that is read where it lies.
-ghost use Rattle.std.specs.Prelude.{◌≡◌, ◌^◌, ◌<◌, ◌≤◌, ◌+◌, ◌-◌, ◌↔◌, Some, None, [], true, IsTrue, MatchOption, MatchResult, length, take, drop, get_or};
+ghost use Rattle.std.specs.Prelude.{◌≡◌, ◌^◌, ◌<◌, ◌≤◌, ◌+◌, ◌-◌, ◌*◌, ◌↔◌, Some, None, [], true, false, IsTrue, MatchOption, MatchResult, length, take, drop, get_or};
 ghost use Rattle.std.specs.List.{flat_map};
 ghost use Rattle.geos_model.specs.Words.{word_at};
 ghost use Rattle.geos_model.specs.Array.{array_bytes, array_of, array_read, is_even};
@@ -236,14 +236,103 @@ impl<'a> View<'a> {
         if from == count {
             return None;
         }
+        if let Some(i) = self.first_inner(from, byte) {
+            return Some(i);
+        }
+        let end = bytes[bytes.len() - 1];
+        if end == byte { Some(count - 1) } else { None }
+    }
+
+    /// The same of all elements but the last, each of which ends where another begins.
+    fn first_inner(&self, from: usize, byte: u8) -> Option<usize>
+        requires { from < length self.now.array.elements }
+        ensures { MatchOption result
+            (NoneEnds self.now.array from (length self.now.array.elements - 1) byte)
+            (λ i. (from ≤ i) × (i < length self.now.array.elements) × NoneEnds self.now.array from i byte) }
+    {
+        if self.element_size() == 0 {
+            self.first_listed(from, byte)
+        } else {
+            self.first_placed(from, byte)
+        }
+    }
+
+    /// The same where sizes vary, by the table of places alone.
+    fn first_listed(&self, from: usize, byte: u8) -> Option<usize>
+        requires any { self.now.array.size ≡ 0 }
+        requires within { from < length self.now.array.elements }
+        ensures { MatchOption result
+            (NoneEnds self.now.array from (length self.now.array.elements - 1) byte)
+            (λ i. (from ≤ i) × (i < length self.now.array.elements) × NoneEnds self.now.array from i byte) }
+    {
+        let near = self.skip_listed(from, byte);
+        for i in near + 1..self.count() {
+            if self.ends_before(i, byte) {
+                return Some(i - 1);
+            }
+        }
+        None
+    }
+
+    /// An element from one on, before which none may end in a byte, and which is one of the last four, or of four of
+    /// which one may. A search spends nearly all of its time here: what a step costs is shared by four elements.
+    fn skip_listed(&self, from: usize, byte: u8) -> usize
+        requires any { self.now.array.size ≡ 0 }
+        requires within { from < length self.now.array.elements }
+        ensures order { from ≤ result }
+        ensures within { result < length self.now.array.elements }
+        ensures none { NoneEnds self.now.array from result byte }
+    {
+        let steps = (self.count() - 1 - from) / 4;
+        for k in 0..steps {
+            let at = from + 4 * k;
+            if self.ends_among(at, byte) {
+                return at;
+            }
+        }
+        from + 4 * steps
+    }
+
+    /// Whether one of four elements may end in a byte.
+    fn ends_among(&self, at: usize, byte: u8) -> bool
+        requires any { self.now.array.size ≡ 0 }
+        requires within { at + 4 < length self.now.array.elements }
+        ensures { result ≡ false → NoneEnds self.now.array at (at + 4) byte }
+    {
+        self.ends_before(at + 1, byte)
+            || self.ends_before(at + 2, byte)
+            || self.ends_before(at + 3, byte)
+            || self.ends_before(at + 4, byte)
+    }
+
+    /// Whether the element before one may end in a byte.
+    fn ends_before(&self, i: usize, byte: u8) -> bool
+        requires any { self.now.array.size ≡ 0 }
+        requires some { 1 ≤ i }
+        requires within { i < length self.now.array.elements }
+        ensures { result ≡ false → NoneEnds self.now.array (i - 1) i byte }
+    {
+        let bytes = self.bytes();
+        let last = bytes[self.listed_place(i) - 1];
+        last == byte
+    }
+
+    /// The same of elements of any sizes.
+    fn first_placed(&self, from: usize, byte: u8) -> Option<usize>
+        requires { from < length self.now.array.elements }
+        ensures { MatchOption result
+            (NoneEnds self.now.array from (length self.now.array.elements - 1) byte)
+            (λ i. (from ≤ i) × (i < length self.now.array.elements) × NoneEnds self.now.array from i byte) }
+    {
+        let bytes = self.bytes();
+        let count = self.count();
         for i in from + 1..count {
             let last = bytes[self.place(i) - 1];
             if last == byte {
                 return Some(i - 1);
             }
         }
-        let end = bytes[bytes.len() - 1];
-        if end == byte { Some(count - 1) } else { None }
+        None
     }
 
     /// Where an element begins among the array's bytes, or where the last one ends. A table of places gives only places
@@ -256,9 +345,19 @@ impl<'a> View<'a> {
         if i == self.count {
             self.bytes.len()
         } else if self.size == 0 {
-            word(self.bytes, self.start + 2 * i)
+            self.listed_place(i)
         } else {
             self.start + i * self.size
         }
+    }
+
+    /// Where an element begins by the table of places.
+    fn listed_place(&self, i: usize) -> usize
+        requires any { self.now.array.size ≡ 0 }
+        requires within { i < length self.now.array.elements }
+        ensures place { result ≡ element_place self.now.array i }
+        ensures near { result < 2 ^ 16 }
+    {
+        word(self.bytes, self.start + 2 * i)
     }
 }

@@ -130,14 +130,26 @@ fn count_free(view: &View<'_>, size: usize, least: usize, most: usize) -> Option
         (λ free. (list_all (is_slot_within size least most) view.now.array.elements ≡ true) ×
         (free ≡ count_by is_freed view.now.array.elements)) }
 {
+    let count = view.count();
+    if count == 0 {
+        return Some(0);
+    }
     let mut free = 0;
     let mut place = view.place(0);
-    for i in 0..view.count() {
+    // each but the last ends where another begins, so that no more is asked of most
+    for i in 0..count - 1 {
         let (bytes, next) = view.element_from(i, place);
         place = next;
+        if is_plain(bytes, least, most) {
+            continue;
+        }
         if is_free(bytes, size, least, most)? {
             free += 1;
         }
+    }
+    let (last, _) = view.element_from(count - 1, place);
+    if is_free(last, size, least, most)? {
+        free += 1;
     }
     Some(free)
 }
@@ -156,20 +168,6 @@ fn is_plain(bytes: &[u8], least: usize, most: usize) -> bool
 /// Whether a slot is free, if these are the bytes of one, where each has so many behind the first three, 0 where sizes
 /// vary, and a used element so many at least and at most.
 fn is_free(bytes: &[u8], size: usize, least: usize, most: usize) -> Option<bool>
-    requires order { least ≤ most }
-    requires room { most + 3 < 2 ^ 64 }
-    ensures { MatchOption result
-        (is_slot_within size least most bytes.now ≡ false)
-        (λ free. (is_slot_within size least most bytes.now ≡ true) × (free ≡ is_freed bytes.now)) }
-{
-    if is_plain(bytes, least, most) {
-        return Some(false);
-    }
-    is_free_slot(bytes, size, least, most)
-}
-
-/// The same, by all bytes of the slot.
-fn is_free_slot(bytes: &[u8], size: usize, least: usize, most: usize) -> Option<bool>
     requires { least ≤ most }
     ensures { MatchOption result
         (is_slot_within size least most bytes.now ≡ false)

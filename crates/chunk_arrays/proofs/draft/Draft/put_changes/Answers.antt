@@ -13,7 +13,7 @@ returns c =
     let front = first-is old new d differs in
     let back = take_rest old (length old - d.back) ∙ last-is old new d differs in
     adds-as c.args.self.now c.keep-2.new.self _ _ old new (sym differs.old_is) (sym differs.new_is)
-    (adds-around c.args.self.now c.keep.new.self c.put.new.self c.keep-2.new.self differs.first differs.first d.old.now d.new.now differs.last differs.last refl refl
+    (adds-around c.args.self.now c.keep.new.self c.put-2.new.self c.keep-2.new.self differs.first differs.first d.old.now d.new.now differs.last differs.last refl refl
     (adds-as c.args.self.now c.keep.new.self _ _ differs.first differs.first front front c.keep.ensures)
     c.in_ok-put.ensures
-    (adds-as c.put.new.self c.keep-2.new.self _ _ differs.last differs.last back back c.keep-2.ensures))
+    (adds-as c.put-2.new.self c.keep-2.new.self _ _ differs.last differs.last back back c.keep-2.ensures))

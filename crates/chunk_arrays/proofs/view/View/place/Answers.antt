@@ -1,34 +1,24 @@
-use Rattle.std.proofs.Common.{◌≡◌, ◌≢◌, ◌≤◌, ◌<◌, ◌+◌, ◌*◌, ◌∙◌, sym, ap, arith, ℕ, length}
+use Rattle.std.proofs.Common.{◌≡◌, ◌≢◌, ◌≤◌, ◌+◌, ◌*◌, ◌∙◌, sym, ap, arith, ℕ, length}
 use Rattle.std.proofs.Math.Nat.{mul-le-mul_right}
 use Rattle.geos_model.specs.Words.{word_at}
 use Rattle.chunk_arrays.specs.Reading.{element_place}
 use Rattle.chunk_arrays.proofs.CutLemmas.{word_at-lt}
 use Rattle.chunk_arrays.proofs.PartsLemmas.{length-elements_read}
-use Rattle.chunk_arrays.proofs.PlaceLemmas.{place-last, place-any, place-even}
+use Rattle.chunk_arrays.proofs.PlaceLemmas.{place-last, place-even}
 use Rattle.chunk_arrays.specs.Viewed.{Viewed}
 use Rattle.chunk_arrays.proofs.view.View.place.Goals as goal
 
-pub overflow_mul-i : goal.overflow_mul-i
-overflow_mul-i c = let few = c.args.self.now.few in omega (arith, few)
+pub listed_place-requires-clause-any : goal.listed_place-requires-clause-any
+listed_place-requires-clause-any c =
+    sym (ap (λ (v : Viewed). v.array.size) c.self.view_is) ∙ sym c.self.invariant.size ∙ c.if-self-eq0.true
 
-pub overflow_add-self-inside : goal.overflow_add-self-inside
-overflow_add-self-inside c =
-    let few = c.args.self.now.few in
-    let near = word_at-lt c.self.inside.bytes.now c.self.invariant.parts.are_bytes 6 in
-    let start = c.self.invariant.start in
-    omega (arith, few, near, start)
-
-pub word-requires : goal.word-requires
-word-requires c =
-    let any : word_at c.self.inside.bytes.now 2 ≡ 0 = sym c.self.invariant.size ∙ c.if-self-eq0.true in
-    let room = (c.self.invariant.parts.elements.table any).room in
-    let start = c.self.invariant.start in
+pub listed_place-requires-clause-within : goal.listed_place-requires-clause-within
+listed_place-requires-clause-within c =
     let there = c.self.invariant.count in
     let count : length c.args.self.now.array.elements ≡ word_at c.self.inside.bytes.now 0 = ap (λ (v : Viewed). length v.array.elements) (sym c.self.view_is) ∙ length-elements_read c.self.inside.bytes.now in
     let least = c.requires in
     let other = c.if-i-self.false in
-    let below : c.args.i < word_at c.self.inside.bytes.now 0 = omega (arith, there, count, least, other) in
-    omega (arith, room, start, below)
+    omega (arith, there, count, least, other)
 
 pub overflow_mul-result : goal.overflow_mul-result
 overflow_mul-result c =
@@ -50,19 +40,6 @@ overflow_add-result c =
 
 pub returns-then-i-self-clause-place : goal.returns-then-i-self-clause-place
 returns-then-i-self-clause-place c = sym (place-last c.self.inside.bytes.now c.self.invariant.parts c.args.i (c.if-i-self.true ∙ c.self.invariant.count)) ∙ ap (λ (v : Viewed). element_place v.array c.args.i) c.self.view_is
-
-pub returns-then-self-eq0-clause-place : goal.returns-then-self-eq0-clause-place
-returns-then-self-eq0-clause-place c =
-    let any : word_at c.self.inside.bytes.now 2 ≡ 0 = sym c.self.invariant.size ∙ c.if-self-eq0.true in
-    let there = c.self.invariant.count in
-    let count : length c.args.self.now.array.elements ≡ word_at c.self.inside.bytes.now 0 = ap (λ (v : Viewed). length v.array.elements) (sym c.self.view_is) ∙ length-elements_read c.self.inside.bytes.now in
-    let least = c.requires in
-    let other = c.if-i-self.false in
-    let below : c.args.i < word_at c.self.inside.bytes.now 0 = omega (arith, there, count, least, other) in
-    c.word.ensures.value
-    ∙ ap (λ (s : ℕ). word_at c.self.inside.bytes.now (s + 2 * c.args.i)) c.self.invariant.start
-    ∙ sym (place-any c.self.inside.bytes.now c.self.invariant.parts any c.args.i below)
-    ∙ ap (λ (v : Viewed). element_place v.array c.args.i) c.self.view_is
 
 pub returns-else-self-eq0-clause-place : goal.returns-else-self-eq0-clause-place
 returns-else-self-eq0-clause-place c =
