@@ -14,7 +14,7 @@ pub(crate) struct Difference<'a> {
 }
 
 /// How many bytes are compared at each end at most: what differs in long ones is found no further.
-const MOST_COMPARED: usize = 64;
+pub(crate) const MOST_COMPARED: usize = 64;
 
 /// Where bytes differ from others, as far as a few bytes at each end tell.
 pub(crate) fn compare<'a>(old: &'a [u8], new: &'a [u8]) -> Difference<'a>

@@ -5,7 +5,7 @@ ghost use Rattle.geos_model.specs.Words.{word};
 
 use crate::difference::compare;
 use byteorder::{ByteOrder, LittleEndian};
-use chunk_edits::Patch;
+use chunk_edits::{FEW_BYTES, Patch};
 use std::alloc::{AllocError, Global};
 
 /// A patch that is drawn up from the first byte of a chunk on. Bytes that stay side by side become one piece of it.
@@ -18,9 +18,6 @@ pub(crate) struct Draft {
 
 /// Of how many bytes a piece is at most that puts some in their place.
 const LONGEST_PUT: usize = 0xffff_ffff;
-
-/// How many bytes a patch holds that is left with the room that it has.
-const FEW_BYTES: u64 = 24;
 
 impl Draft {
     ghost use Rattle.chunk_arrays.specs.Drafting.{Adds, settled};
@@ -113,7 +110,7 @@ impl Draft {
     {
         self.settle()?;
         // Of few bytes it is only some pieces that there is room for, which isn't worth an allocation.
-        if self.patch.byte_count() > FEW_BYTES {
+        if self.patch.byte_count() > FEW_BYTES as u64 {
             self.patch.shrink_to_fit();
         }
         Ok(self.patch)

@@ -12,7 +12,7 @@ ghost use Rattle.chunk_arrays.specs.Rewriting.{HasFew, IsAlike, bytes_of, elemen
 ghost use Rattle.chunk_arrays.specs.Replacing.{Replaces, ReplacesAt, RefusesToReplace};
 
 use crate::View;
-use crate::difference::compare;
+use crate::difference::{MOST_COMPARED, compare};
 use crate::draft::Draft;
 use crate::runs::runs_of;
 use byteorder::{ByteOrder, LittleEndian};
@@ -29,8 +29,9 @@ pub struct NewElement<'a> {
     pub zeros: usize,
 }
 
-/// Of how many bytes a new element is at most that is put together without an allocation.
-const FEW_BYTES: usize = 64;
+/// Of how many bytes a new element is at most that is put together without an allocation: as many as are compared, so
+/// that no more of it is kept than what differs.
+const JOINED_BYTES: usize = MOST_COMPARED;
 
 /// The patch that leaves an array with these bytes as the first of its extra bytes, of which it has as many as before,
 /// and with an element or none in the place of those from `from` to `to`, of which there is one at most where one
@@ -123,7 +124,7 @@ fn alike<'a>(
 fn are_few(element: NewElement<'_>) -> bool
     ensures { result ≡ true → HasFew element.entry }
 {
-    element.zeros == 0 && new_len(Some(element)) <= FEW_BYTES
+    element.zeros == 0 && new_len(Some(element)) <= JOINED_BYTES
 }
 
 /// The patch of an array in which a new element of few bytes takes the place of one of as many.
@@ -468,11 +469,11 @@ fn whole_of(new: Option<NewElement<'_>>) -> Option<&[u8]>
 }
 
 /// The bytes of a new element that has few, and zeros behind them.
-fn joined_few(element: NewElement<'_>) -> [u8; FEW_BYTES]
+fn joined_few(element: NewElement<'_>) -> [u8; JOINED_BYTES]
     requires { HasFew element }
     ensures { take (length (bytes_of element.entry)) result ≡ bytes_of element.entry }
 {
-    let mut bytes = [0; FEW_BYTES];
+    let mut bytes = [0; JOINED_BYTES];
     let middle = element.head.len();
     let tail = middle + element.middle.len();
     let end = tail + element.tail.len();

@@ -223,8 +223,8 @@ impl<'a> View<'a> {
         (bytes, next)
     }
 
-    /// The first element from one on that ends in a byte. One without bytes may be taken for such a one. Of the others
-    /// no more is read than where they end.
+    /// The first element from one on that may end in a byte: it does, or it has no bytes. Of those before it no more is
+    /// read than where they end.
     pub fn first_ending(&self, from: usize, byte: u8) -> Option<usize>
         requires { from ≤ length self.now.array.elements }
         ensures { MatchOption result
