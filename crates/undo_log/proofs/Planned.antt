@@ -85,7 +85,7 @@ module _ {S : Type 0} (facts : S → StoreFacts) (old mid : CacheState S) (edit 
 
 -- An edit that replaces a run is made and recorded in one; any other changes nothing.
 
-abbrev IsRunMade : {S : Type 0} → (S → StoreFacts) → Edit → CacheState S → CacheState S → LogState → LogState → Bool → Type 0
+abbrev pub IsRunMade : {S : Type 0} → (S → StoreFacts) → Edit → CacheState S → CacheState S → LogState → LogState → Bool → Type 0
 IsRunMade facts edit old new log log' true = RecordsEdit facts edit old new log.lists log'.lists Nothing
 IsRunMade facts edit old new log log' false = (new ≡ old) × (log' ≡ log)
 
