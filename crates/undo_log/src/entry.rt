@@ -235,14 +235,16 @@ impl NamedEntry {
         ensures changes { changes_in result.entry ≡ take count (changes_in self.entry) }
         ensures name { result.name ≡ [] }
     {
+        if count == 0 {
+            return NamedEntry::empty(alloc);
+        }
         match self.kept {
             Kept::Group(mut changes, _) => {
                 changes.keep_next(count);
                 NamedEntry::group(changes, Vec::new(alloc))
             }
-            Kept::One(change) if count > 0 => NamedEntry::one(change),
-            Kept::NamedOne(change, _) if count > 0 => NamedEntry::one(Box::into_inner(change)),
-            _ => NamedEntry::empty(alloc),
+            Kept::One(change) => NamedEntry::one(change),
+            Kept::NamedOne(change, _) => NamedEntry::one(Box::into_inner(change)),
         }
     }
 
